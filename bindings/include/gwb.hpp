@@ -179,18 +179,64 @@ enum class Problem {
     absent,   ///< the number is not in use
     changed,  ///< the model has changed since a walk over it began
     crossed,  ///< loops of the face cross or touch, so it has no triangles
+    impossible, ///< a feature isn't possible (gwb_machining.hpp): a Misfit
 };
+
+/// Why a feature isn't possible, where it is no condition of a command. X is the value that goes with it.
+enum class Misfit : std::uint32_t {
+    no_area = 1,         ///< the outline has no area, or crosses itself
+    not_in_plane,        ///< point X of the outline lies off the plane of the others, or of the face
+    outline_crossed,     ///< side X of the outline crosses or touches another one
+    along_plane,         ///< the vector lies in the plane of the points
+    outline_outside,     ///< the outline crosses or touches the boundary of face X, or doesn't lie inside
+    outline_around_ring, ///< a ring of face X lies inside the outline
+    off_lattice,         ///< a point or a vector at face X would not be whole
+    meets,               ///< what is made at face X would meet or touch the solid elsewhere
+    no_opposite,         ///< there is no face behind the outline in face X
+    not_parallel,        ///< face X, behind the outline, isn't parallel
+    not_of_face,         ///< edge X is none of the face
+    flat_edge,           ///< the faces of edge X lie in one plane
+    nothing_left,        ///< nothing of solid X would be left
+};
+
+/// The name of what isn't possible, as Python's session has it.
+[[nodiscard]] constexpr const char *misfit_name(Misfit misfit)
+{
+    switch (misfit) {
+    case Misfit::no_area: return "NoArea";
+    case Misfit::not_in_plane: return "NotInPlane";
+    case Misfit::outline_crossed: return "OutlineCrossed";
+    case Misfit::along_plane: return "AlongPlane";
+    case Misfit::outline_outside: return "OutlineOutside";
+    case Misfit::outline_around_ring: return "OutlineAroundRing";
+    case Misfit::off_lattice: return "OffLattice";
+    case Misfit::meets: return "Meets";
+    case Misfit::no_opposite: return "NoOpposite";
+    case Misfit::not_parallel: return "NotParallel";
+    case Misfit::not_of_face: return "NotOfFace";
+    case Misfit::flat_edge: return "FlatEdge";
+    case Misfit::nothing_left: return "NothingLeft";
+    }
+    return "";
+}
 
 /// Why a call has no value, with its numbers. The model is as it was.
 struct Failure {
     Problem problem = Problem::closed;
-    std::uint32_t number = 0; ///< of the condition (gwb_names.h) or of the fault
+    std::uint32_t number = 0; ///< of the condition (gwb_names.h), of the fault or of the Misfit
     std::uint32_t value = 0;  ///< that goes with the condition, or the number that is not in use
 
     /// Whether this condition is false.
     [[nodiscard]] constexpr bool is(gwb_why why) const { return problem == Problem::refused && number == static_cast<std::uint32_t>(why); }
-    /// The name of the condition; "" where it is none.
-    [[nodiscard]] const char *name() const { return problem == Problem::refused ? gwb_why_name(number) : ""; }
+    /// Whether a feature isn't possible for this.
+    [[nodiscard]] constexpr bool is(Misfit misfit) const { return problem == Problem::impossible && number == static_cast<std::uint32_t>(misfit); }
+    /// The name of the condition or the Misfit; "" where it is none.
+    [[nodiscard]] const char *name() const
+    {
+        if (problem == Problem::impossible)
+            return misfit_name(static_cast<Misfit>(number));
+        return problem == Problem::refused ? gwb_why_name(number) : "";
+    }
     /// What the condition says, in which X stands for the value; "" where it is none.
     [[nodiscard]] const char *text() const { return problem == Problem::refused ? gwb_why_text(number) : ""; }
 };
@@ -309,6 +355,22 @@ private:
     std::uint32_t face_;
 };
 
+/// A feature isn't possible: why, and the value that goes with it.
+class Impossible : public Complaint {
+public:
+    Impossible(std::string_view feature, Misfit misfit, std::uint32_t value)
+        : Complaint(feature, misfit_name(misfit), value), misfit_(misfit), value_(value)
+    {
+    }
+    [[nodiscard]] Misfit misfit() const { return misfit_; }
+    [[nodiscard]] std::uint32_t value() const { return value_; }
+    [[nodiscard]] const char *name() const { return misfit_name(misfit_); }
+
+private:
+    Misfit misfit_;
+    std::uint32_t value_;
+};
+
 /// A call that its caller had no right to make; nothing has changed.
 class Misused : public std::logic_error {
 public:
@@ -398,6 +460,7 @@ private:
         case Problem::absent: throw std::out_of_range("there is no " + std::string(command) + " " + std::to_string(failure.value));
         case Problem::changed: throw Changed();
         case Problem::crossed: throw Crossed(command, failure.value);
+        case Problem::impossible: throw Impossible(command, static_cast<Misfit>(failure.number), failure.value);
         case Problem::closed: break;
         }
         throw Closed();

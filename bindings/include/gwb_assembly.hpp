@@ -1,0 +1,476 @@
+/// @file gwb_assembly.hpp A closed surface of regions, known by the points of their sides, put together as the model of a solid, for
+/// gwb_shaping.hpp. What was there before keeps its numbers, as far as it still is.
+#ifndef GWB_ASSEMBLY_HPP
+#define GWB_ASSEMBLY_HPP
+#include "gwb_sheets.hpp"
+#include <unordered_map>
+
+namespace gwb_session::sheets {
+
+// ---- the solid that is held
+
+/// A face as it is read: its cycles, the outline first, which is empty where the outer loop is one vertex, and its lone rings.
+struct HeldFace {
+    Face face;
+    std::vector<Cycle> cycles;
+    std::vector<LoneRing> lone;
+
+    [[nodiscard]] Box box() const
+    {
+        Path points;
+        for (const Side &side : cycles[0])
+            points.push_back(side.start);
+        return Box::around(points);
+    }
+};
+
+/// A solid as it is read: its faces, and numbers by places.
+class Held {
+public:
+    struct Row {
+        Vertex start;
+        Loop loop;
+        Vector at;
+    };
+
+    Held(const Attempts &bench, Solid number) : solid(number)
+    {
+        for (const gwb_half_edge_row &row : bench.half_edge_rows(solid)) {
+            const Vertex start(row.start);
+            const Row read{start, Loop(row.loop), vector(*bench.vertex(start))};
+            rows.emplace(row.half_edge, read);
+            vertices_at_[read.at].insert(start);
+            degrees_[start]++;
+        }
+        for (Face face : bench.faces(solid)) {
+            HeldFace &made = faces.emplace_back(HeldFace{face, {}, {}});
+            for (Loop loop : bench.loops_of(face))
+                put(bench, loop, made);
+        }
+    }
+
+    [[nodiscard]] const Vector &at(HalfEdge half_edge) const { return rows.at(half_edge.code()).at; }
+    /// Whether the side is all of a half-edge.
+    [[nodiscard]] bool is_whole(const Side &side) const { return side.is_old() && at(side.half) == side.start && at(side.half.twin()) == side.end; }
+    [[nodiscard]] std::set<Vertex> vertices_at(const Vector &point) const
+    {
+        const auto found = vertices_at_.find(point);
+        return found != vertices_at_.end() ? found->second : std::set<Vertex>();
+    }
+    /// Whether a vertex with two edges is at the point: one that somebody wanted there.
+    [[nodiscard]] bool has_bend(const Vector &point) const
+    {
+        const std::set<Vertex> found = vertices_at(point);
+        return std::any_of(found.begin(), found.end(), [&](Vertex vertex) { return degrees_.at(vertex) == 2; });
+    }
+
+    Solid solid;
+    std::unordered_map<std::uint32_t, Row> rows; ///< by the codes of half-edges
+    std::vector<HeldFace> faces;
+
+private:
+    void put(const Attempts &bench, Loop loop, HeldFace &face) const
+    {
+        const std::optional<Vertex> vertex = *bench.lone_vertex(loop);
+        if (vertex && !face.cycles.empty()) {
+            face.lone.push_back({loop, *vertex, vector(*bench.vertex(*vertex))});
+            return;
+        }
+        Cycle &cycle = face.cycles.emplace_back();
+        for (HalfEdge half_edge : bench.around(loop))
+            cycle.push_back({at(half_edge), at(half_edge.twin()), half_edge});
+    }
+
+    std::map<Vector, std::set<Vertex>> vertices_at_;
+    std::unordered_map<Vertex, int> degrees_;
+};
+
+// ---- a closed surface of regions
+
+/// A solid as a model of its own.
+struct Model {
+    Solid solid;
+    std::map<Face, std::vector<Loop>> faces; ///< their loops, the outer one first
+    std::map<Loop, std::vector<HalfEdge>> loops;
+    std::map<Loop, Vertex> lone;
+    std::map<Edge, std::pair<Vertex, Vertex>> edges;
+    std::map<Vertex, Vector> vertices;
+    std::vector<Face> of_regions; ///< the face that each region is in it
+
+    /// A face with its loops as cycles.
+    [[nodiscard]] HeldFace held(Face face) const
+    {
+        HeldFace found{face, {}, {}};
+        for (Loop loop : faces.at(face))
+            if (const auto halves = loops.find(loop); halves != loops.end()) {
+                Cycle &cycle = found.cycles.emplace_back();
+                for (HalfEdge half : halves->second)
+                    cycle.push_back({vertices.at(start(half)), vertices.at(start(half.twin())), half});
+            }
+        return found;
+    }
+    [[nodiscard]] Vertex start(HalfEdge half) const
+    {
+        const auto &ends = edges.at(half.edge());
+        return half.is_second() ? ends.second : ends.first;
+    }
+    [[nodiscard]] std::string listing() const
+    {
+        std::string text = "solid " + std::to_string(solid.number()) + "\n";
+        for (const auto &[face, row] : faces) {
+            text += "face " + std::to_string(face.number()) + " " + std::to_string(solid.number());
+            for (Loop loop : row)
+                text += " " + std::to_string(loop.number());
+            text += "\n";
+        }
+        return text + loop_lines() + vertex_lines();
+    }
+
+private:
+    [[nodiscard]] std::string loop_lines() const
+    {
+        std::map<Loop, std::string> lines;
+        for (const auto &[loop, halves] : loops)
+            for (HalfEdge half : halves)
+                lines[loop] += (half.is_second() ? " -" : " +") + std::to_string(half.edge().number());
+        for (const auto &[loop, vertex] : lone)
+            lines[loop] = " at " + std::to_string(vertex.number());
+        std::string text;
+        for (const auto &[loop, line] : lines)
+            text += "loop " + std::to_string(loop.number()) + line + "\n";
+        return text;
+    }
+    [[nodiscard]] std::string vertex_lines() const
+    {
+        std::string text;
+        for (const auto &[edge, ends] : edges)
+            text += "edge " + std::to_string(edge.number()) + " " + std::to_string(ends.first.number()) + " " +
+                    std::to_string(ends.second.number()) + "\n";
+        for (const auto &[vertex, at] : vertices) {
+            const Point place = point(at);
+            text += "vertex " + std::to_string(vertex.number()) + " " + std::to_string(place.x) + " " + std::to_string(place.y) + " " +
+                    std::to_string(place.z) + "\n";
+        }
+        return text;
+    }
+};
+
+/// Numbers for things of a kind: old ones while they are free, else new ones.
+template <class Kind> class Names {
+public:
+    explicit Names(const Attempts &bench) : next_(bench.next_free<Kind>()->number()) {}
+    template <class Numbers> Kind one(const Numbers &wanted)
+    {
+        for (Kind number : wanted)
+            if (number != Kind() && used_.insert(number).second)
+                return number;
+        return Kind(next_++);
+    }
+
+private:
+    std::uint32_t next_;
+    std::set<Kind> used_;
+};
+
+/// A closed surface of regions put together: sides by places, what follows each in its loop, and the mate of each. What was there before keeps
+/// its numbers, as far as it still is.
+class Assembly {
+public:
+    Assembly(const Attempts &bench, const Held &held, const std::vector<Region> &regions)
+        : held_(held), regions_(regions), faces_(bench), loops_(bench), edges_(bench), vertices_(bench)
+    {
+        for (std::size_t region = 0; region < regions.size(); region++) {
+            starts_.emplace_back();
+            for (const Cycle &cycle : regions[region].cycles)
+                starts_.back().push_back(put(cycle, region));
+        }
+    }
+
+    /// The model; none where the surface isn't closed, or faces lie back to back at an edge.
+    std::optional<Model> model()
+    {
+        pair_whole();
+        if (!pair_along_lines())
+            return std::nullopt;
+        straighten();
+        Model made;
+        made.solid = held_.solid;
+        name_vertices(made);
+        name_edges(made);
+        for (std::size_t region = 0; region < regions_.size(); region++)
+            name_face(made, region);
+        return made;
+    }
+
+private:
+    static constexpr std::size_t none = std::numeric_limits<std::size_t>::max();
+    struct Placed {
+        Side side;
+        std::size_t after, mate, region, into;
+        std::vector<Side> parts; ///< where it is longer than one side
+    };
+
+    /// The sides of a cycle get places: the first one's.
+    std::size_t put(const Cycle &cycle, std::size_t region)
+    {
+        const std::size_t first = sides_.size();
+        for (std::size_t at = 0; at < cycle.size(); at++)
+            sides_.push_back({cycle[at], at + 1 < cycle.size() ? first + at + 1 : first, none, region, none, {}});
+        return first;
+    }
+
+    /// Sides that are both half-edges of an old edge are mates.
+    void pair_whole()
+    {
+        std::unordered_map<std::uint32_t, std::size_t> whole;
+        for (std::size_t at = 0; at < sides_.size(); at++)
+            if (held_.is_whole(sides_[at].side))
+                whole[sides_[at].side.half.code()] = at;
+        for (const auto &[code, at] : whole)
+            if (const auto mate = whole.find(code ^ 1u); mate != whole.end())
+                sides_[at].mate = mate->second;
+    }
+
+    /// The other sides are cut where the sides on one line end, and pair up.
+    bool pair_along_lines()
+    {
+        std::map<std::pair<Vector, Vector>, std::vector<std::size_t>> lines;
+        for (std::size_t at = 0; at < sides_.size(); at++)
+            if (sides_[at].mate == none) {
+                const Vector along = reduced(sides_[at].side.way()), way = std::max(along, negative(along));
+                lines[{way, cross(sides_[at].side.start, way)}].push_back(at);
+            }
+        return std::all_of(lines.begin(), lines.end(), [&](const auto &line) { return pair_on_line(line.first.first, line.second); });
+    }
+
+    bool pair_on_line(const Vector &way, const std::vector<std::size_t> &held)
+    {
+        std::map<Wide, Vector> stops;
+        for (std::size_t at : held)
+            for (const Vector &end : {sides_[at].side.start, sides_[at].side.end})
+                stops.emplace(dot(way, end), end);
+        std::map<Wide, std::vector<std::size_t>> parts; // by where they begin along the line
+        for (std::size_t at : held)
+            cut(at, way, stops, parts);
+        return std::all_of(parts.begin(), parts.end(), [&](const auto &part) { return pair(part.second, way); });
+    }
+
+    /// A side becomes parts that end where sides of its line do.
+    void cut(std::size_t at, const Vector &way, const std::map<Wide, Vector> &stops, std::map<Wide, std::vector<std::size_t>> &parts)
+    {
+        const Side side = sides_[at].side;
+        const Wide first = dot(way, side.start), last = dot(way, side.end);
+        Path points;
+        for (auto stop = stops.find(std::min(first, last)); stop != stops.end() && stop->first <= std::max(first, last); ++stop)
+            points.push_back(stop->second);
+        if (first > last)
+            std::reverse(points.begin(), points.end());
+        std::size_t place = at;
+        for (std::size_t part = 1; part < points.size(); part++) {
+            if (part > 1) {
+                sides_.push_back({side, sides_[place].after, none, sides_[at].region, none, {}});
+                sides_[place].after = sides_.size() - 1;
+                place = sides_.size() - 1;
+            }
+            sides_[place].side = {points[part - 1], points[part], side.half};
+            parts[std::min(dot(way, points[part - 1]), dot(way, points[part]))].push_back(place);
+        }
+    }
+
+    [[nodiscard]] bool runs_back(std::size_t at, const Vector &way) const { return dot(way, sides_[at].side.way()) < 0; }
+
+    /// Mates among sides between the same two points: each that runs back with the next one round the line that runs along, which has the same
+    /// room of the solid between.
+    bool pair(std::vector<std::size_t> places, const Vector &way)
+    {
+        const auto back = std::count_if(places.begin(), places.end(), [&](std::size_t at) { return runs_back(at, way); });
+        if (2 * static_cast<std::size_t>(back) != places.size())
+            return false;
+        if (places.size() > 2)
+            std::sort(places.begin(), places.end(), [&](std::size_t one, std::size_t other) { return comes_before(one, other, way); });
+        for (std::size_t at = 0; at < places.size(); at++) {
+            const std::size_t place = places[at], following = places[(at + 1) % places.size()];
+            if (runs_back(place, way) == runs_back(following, way))
+                return false;
+            if (runs_back(place, way)) {
+                sides_[place].mate = following;
+                sides_[following].mate = place;
+            }
+        }
+        return true;
+    }
+
+    /// Whether a side comes before another one of its line by the turn of their faces about it, counterclockwise as seen from where the way
+    /// points: so do their normals, those of sides that run back turned round. They lie across the way, so that they are looked at along an axis.
+    [[nodiscard]] bool comes_before(std::size_t one, std::size_t other, const Vector &way) const
+    {
+        const Axes axes = flat_axes(way);
+        const auto seen = [&](std::size_t at) {
+            const Vector &across = regions_[sides_[at].region].across;
+            const Wide turn = runs_back(at, way) ? -1 : 1;
+            return std::pair(turn * across[axes[0]], turn * across[axes[1]]);
+        };
+        const auto half = [](const std::pair<Wide, Wide> &way_to) { return way_to.second < 0 || (way_to.second == 0 && way_to.first < 0); };
+        const auto first = seen(one), second = seen(other);
+        if (half(first) != half(second))
+            return half(second);
+        return compare_products(first.first, second.second, first.second, second.first) > 0;
+    }
+
+    /// The sides that leave one vertex, from this one on.
+    [[nodiscard]] std::vector<std::size_t> around(std::size_t at) const
+    {
+        std::vector<std::size_t> found = {at};
+        for (std::size_t side = sides_[sides_[at].mate].after; side != at; side = sides_[sides_[side].mate].after)
+            found.push_back(side);
+        return found;
+    }
+
+    /// A vertex that only divides an edge goes, unless it was there for no other reason before.
+    void straighten()
+    {
+        std::vector<std::size_t> before(sides_.size());
+        for (std::size_t at = 0; at < sides_.size(); at++)
+            before[sides_[at].after] = at;
+        for (std::size_t at = 0; at < sides_.size(); at++)
+            if (sides_[at].into == none && divides(at)) {
+                const std::size_t onward = sides_[sides_[at].mate].after, first = before[at], other = before[onward];
+                lengthen(first, at, before);
+                lengthen(other, onward, before);
+                sides_[first].mate = other;
+                sides_[other].mate = first;
+            }
+    }
+
+    [[nodiscard]] bool divides(std::size_t at) const
+    {
+        const std::size_t onward = sides_[sides_[at].mate].after;
+        if (onward == at || sides_[sides_[onward].mate].after != at || held_.has_bend(sides_[at].side.start))
+            return false;
+        const Vector one = sides_[at].side.way(), other = sides_[onward].side.way();
+        return are_parallel(one, other) && dot(one, other) < 0;
+    }
+
+    /// The second side becomes part of the first one.
+    void lengthen(std::size_t first, std::size_t second, std::vector<std::size_t> &before)
+    {
+        Placed &kept = sides_[first], &gone = sides_[second];
+        if (kept.parts.empty())
+            kept.parts = {kept.side};
+        if (gone.parts.empty())
+            gone.parts = {gone.side};
+        kept.parts.insert(kept.parts.end(), gone.parts.begin(), gone.parts.end());
+        kept.side = {kept.side.start, gone.side.end, kept.side.is_old() ? kept.side.half : gone.side.half};
+        kept.after = gone.after;
+        before[gone.after] = first;
+        gone.into = first;
+    }
+
+    void name_vertices(Model &made)
+    {
+        start_.assign(sides_.size(), Vertex());
+        for (std::size_t at = 0; at < sides_.size(); at++)
+            if (sides_[at].into == none && start_[at] == Vertex()) {
+                const std::vector<std::size_t> fan = around(at);
+                const std::set<Vertex> old = held_.vertices_at(sides_[at].side.start);
+                std::set<Vertex> tails;
+                for (std::size_t side : fan)
+                    if (sides_[side].side.is_old())
+                        tails.insert(held_.rows.at(sides_[side].side.half.code()).start);
+                std::vector<Vertex> wanted;
+                std::set_intersection(tails.begin(), tails.end(), old.begin(), old.end(), std::back_inserter(wanted));
+                wanted.insert(wanted.end(), old.begin(), old.end());
+                const Vertex vertex = vertices_.one(wanted);
+                made.vertices[vertex] = sides_[at].side.start;
+                for (std::size_t side : fan)
+                    start_[side] = vertex;
+            }
+    }
+
+    /// A new edge starts at the vertex of the lesser number. Sides that are all of an old one come first.
+    void name_edges(Model &made)
+    {
+        half_.assign(sides_.size(), HalfEdge());
+        for (bool is_whole : {true, false})
+            for (std::size_t at = 0; at < sides_.size(); at++)
+                if (sides_[at].into == none && half_[at] == HalfEdge() && (!is_whole || held_.is_whole(sides_[at].side)))
+                    name_edge(made, at);
+    }
+
+    void name_edge(Model &made, std::size_t at)
+    {
+        const std::size_t mate = sides_[at].mate;
+        const std::vector<HalfEdge> halves = old_halves(at);
+        std::vector<Edge> wanted;
+        std::transform(halves.begin(), halves.end(), std::back_inserter(wanted), [](HalfEdge half) { return half.edge(); });
+        const Edge edge = edges_.one(wanted);
+        const auto old = std::find_if(halves.begin(), halves.end(), [&](HalfEdge half) { return half.edge() == edge; });
+        const bool is_second = old != halves.end() ? old->is_second() : start_[mate] < start_[at];
+        half_[at] = is_second ? minus(edge) : plus(edge);
+        half_[mate] = half_[at].twin();
+        made.edges[edge] = is_second ? std::pair(start_[mate], start_[at]) : std::pair(start_[at], start_[mate]);
+    }
+
+    /// The old half-edges that the edge of a side is made of, as it runs: those that it is all of first.
+    [[nodiscard]] std::vector<HalfEdge> old_halves(std::size_t at) const
+    {
+        const auto parts_of = [&](std::size_t place) {
+            return sides_[place].parts.empty() ? std::vector<Side>{sides_[place].side} : sides_[place].parts;
+        };
+        std::vector<Side> parts = parts_of(at);
+        for (const Side &side : parts_of(sides_[at].mate))
+            parts.push_back(side.turned());
+        std::stable_sort(parts.begin(), parts.end(), [&](const Side &a, const Side &b) {
+            const bool first = held_.is_whole(a), second = held_.is_whole(b);
+            return first != second ? first : first && a.half < b.half;
+        });
+        std::vector<HalfEdge> halves;
+        for (const Side &side : parts)
+            if (side.is_old())
+                halves.push_back(side.half);
+        return halves;
+    }
+
+    void name_face(Model &made, std::size_t region)
+    {
+        std::vector<Loop> row;
+        for (std::size_t start : starts_[region]) {
+            while (sides_[start].into != none) // it may have gone into the one before it
+                start = sides_[start].into;
+            std::vector<Loop> wanted;
+            std::vector<HalfEdge> halves;
+            std::size_t at = start;
+            do {
+                if (sides_[at].side.is_old())
+                    wanted.push_back(held_.rows.at(sides_[at].side.half.code()).loop);
+                halves.push_back(half_[at]);
+                at = sides_[at].after;
+            } while (at != start);
+            std::rotate(halves.begin(), std::min_element(halves.begin(), halves.end()), halves.end());
+            row.push_back(loops_.one(wanted));
+            made.loops[row.back()] = halves;
+        }
+        for (const LoneRing &ring : regions_[region].lone) {
+            row.push_back(ring.loop);
+            made.lone[ring.loop] = ring.vertex;
+            made.vertices[ring.vertex] = ring.at;
+        }
+        std::sort(row.begin() + 1, row.end());
+        made.of_regions.push_back(faces_.one(regions_[region].owners));
+        made.faces[made.of_regions.back()] = row;
+    }
+
+    const Held &held_;
+    const std::vector<Region> &regions_;
+    Names<Face> faces_;
+    Names<Loop> loops_;
+    Names<Edge> edges_;
+    Names<Vertex> vertices_;
+    std::vector<Placed> sides_;
+    std::vector<std::vector<std::size_t>> starts_;
+    std::vector<Vertex> start_;
+    std::vector<HalfEdge> half_;
+};
+
+} // namespace gwb_session::sheets
+#endif

@@ -1,0 +1,242 @@
+/// @file gwb_exact.hpp Exact arithmetic on whole points, in space and in planes: for gwb_machining.hpp and gwb_shaping.hpp.
+///
+/// Coordinates lie within 1,000,000,000, so normals, heights and their products with one more coordinate fit in 128 bits; where two of
+/// those are multiplied, only which product is the greater one is asked, in 256. It takes a compiler with integers of 128 bits.
+#ifndef GWB_EXACT_HPP
+#define GWB_EXACT_HPP
+#include "gwb.hpp"
+#if !defined(__SIZEOF_INT128__)
+#error "the features take integers of 128 bits, as GCC and Clang have them"
+#endif
+
+namespace gwb_session::exact {
+
+__extension__ typedef __int128 Wide;
+__extension__ typedef unsigned __int128 Unsigned;
+using Vector = std::array<Wide, 3>;
+/// Two axes, in the order in which a plane is looked at.
+using Axes = std::array<std::size_t, 2>;
+
+/// No coordinate lies farther out.
+constexpr std::int64_t farthest = 1'000'000'000;
+
+// ---- numbers
+
+constexpr int sign(Wide a) { return (a > 0) - (a < 0); }
+constexpr Wide magnitude(Wide a) { return a < 0 ? -a : a; }
+constexpr Wide greatest_divisor(Wide a, Wide b)
+{
+    while (b != 0)
+        a = std::exchange(b, a % b);
+    return magnitude(a);
+}
+
+/// A product of 256 bits, its upper half first.
+constexpr std::pair<Unsigned, Unsigned> product(Unsigned a, Unsigned b)
+{
+    const Unsigned half = ~std::uint64_t{0}, least = (a & half) * (b & half);
+    const Unsigned one = (a >> 64) * (b & half) + (least >> 64), other = (a & half) * (b >> 64) + (one & half);
+    return {(a >> 64) * (b >> 64) + (one >> 64) + (other >> 64), other << 64 | (least & half)};
+}
+
+/// The sign of a b - c d, however large these are.
+inline int compare_products(Wide a, Wide b, Wide c, Wide d)
+{
+    Wide first = 0, second = 0;
+    if (!__builtin_mul_overflow(a, b, &first) && !__builtin_mul_overflow(c, d, &second))
+        return (first > second) - (first < second);
+    const int one = sign(a) * sign(b), other = sign(c) * sign(d);
+    if (one != other)
+        return one < other ? -1 : 1;
+    const auto unsigned_product = [](Wide x, Wide y) { return product(static_cast<Unsigned>(magnitude(x)), static_cast<Unsigned>(magnitude(y))); };
+    const auto large = unsigned_product(a, b), beside = unsigned_product(c, d);
+    return one * ((large > beside) - (large < beside));
+}
+
+/// The whole square root of a number that isn't negative, rounded down.
+constexpr Wide square_root(Wide number)
+{
+    Wide root = 0;
+    for (Wide bit = Wide{1} << 62; bit != 0; bit >>= 1)
+        if ((root + bit) * (root + bit) <= number)
+            root += bit;
+    return root;
+}
+
+// ---- vectors
+
+constexpr Vector vector(Point point) { return {point.x, point.y, point.z}; }
+constexpr Point point(const Vector &a)
+{
+    return {static_cast<std::int64_t>(a[0]), static_cast<std::int64_t>(a[1]), static_cast<std::int64_t>(a[2])};
+}
+constexpr Vector add(const Vector &a, const Vector &b) { return {a[0] + b[0], a[1] + b[1], a[2] + b[2]}; }
+constexpr Vector subtract(const Vector &a, const Vector &b) { return {a[0] - b[0], a[1] - b[1], a[2] - b[2]}; }
+constexpr Vector times(const Vector &a, Wide factor) { return {a[0] * factor, a[1] * factor, a[2] * factor}; }
+constexpr Vector negative(const Vector &a) { return times(a, -1); }
+constexpr Wide dot(const Vector &a, const Vector &b) { return a[0] * b[0] + a[1] * b[1] + a[2] * b[2]; }
+constexpr Vector cross(const Vector &a, const Vector &b)
+{
+    return {a[1] * b[2] - a[2] * b[1], a[2] * b[0] - a[0] * b[2], a[0] * b[1] - a[1] * b[0]};
+}
+constexpr bool is_zero(const Vector &a) { return a[0] == 0 && a[1] == 0 && a[2] == 0; }
+constexpr Wide longest(const Vector &a) { return std::max({magnitude(a[0]), magnitude(a[1]), magnitude(a[2])}); }
+constexpr bool is_in_range(const Vector &a) { return longest(a) <= farthest; }
+/// Whether two vectors lie on one line, however long they are.
+inline bool are_parallel(const Vector &a, const Vector &b)
+{
+    return compare_products(a[1], b[2], a[2], b[1]) == 0 && compare_products(a[2], b[0], a[0], b[2]) == 0 &&
+           compare_products(a[0], b[1], a[1], b[0]) == 0;
+}
+/// The shortest whole vector in the direction of one that isn't zero.
+constexpr Vector reduced(const Vector &a)
+{
+    const Wide divisor = greatest_divisor(greatest_divisor(a[0], a[1]), a[2]);
+    return {a[0] / divisor, a[1] / divisor, a[2] / divisor};
+}
+
+/// Twice the area that the closed path through points goes round, as a vector.
+inline Vector area_vector(const std::vector<Vector> &points)
+{
+    Vector sum{};
+    for (std::size_t at = 2; at < points.size(); at++)
+        sum = add(sum, cross(subtract(points[at - 1], points[0]), subtract(points[at], points[0])));
+    return sum;
+}
+
+/// The axes in which a plane with this normal is seen from its front, undistorted enough to be exact.
+constexpr Axes flat_axes(const Vector &normal)
+{
+    std::size_t widest = 0;
+    for (std::size_t axis = 1; axis < 3; axis++)
+        if (magnitude(normal[axis]) > magnitude(normal[widest]))
+            widest = axis;
+    const std::size_t first = (widest + 1) % 3, second = (widest + 2) % 3;
+    return normal[widest] > 0 ? Axes{first, second} : Axes{second, first};
+}
+
+/// The least box around points.
+struct Box {
+    Vector low{}, high{};
+
+    static Box around(const std::vector<Vector> &points)
+    {
+        Box box{points[0], points[0]};
+        for (const Vector &at : points)
+            box.take(at);
+        return box;
+    }
+    static Box between(const Vector &a, const Vector &b)
+    {
+        Box box{a, a};
+        box.take(b);
+        return box;
+    }
+    void take(const Vector &at)
+    {
+        for (std::size_t axis = 0; axis < 3; axis++) {
+            low[axis] = std::min(low[axis], at[axis]);
+            high[axis] = std::max(high[axis], at[axis]);
+        }
+    }
+    [[nodiscard]] bool meets(const Box &other) const
+    {
+        for (std::size_t axis = 0; axis < 3; axis++)
+            if (low[axis] > other.high[axis] || other.low[axis] > high[axis])
+                return false;
+        return true;
+    }
+};
+
+// ---- planes
+
+/// Where a point lies against an outline.
+enum class Place { inside, outside, on };
+
+/// A point of a plane: its coordinates are x and y divided by the scale, which is above zero.
+struct Spot {
+    Wide x = 0, y = 0, scale = 1;
+
+    /// Negative where it comes before another one, from the left, and below where both are as far left.
+    [[nodiscard]] int compare(const Spot &other) const
+    {
+        const int first = compare_products(x, other.scale, other.x, scale);
+        return first != 0 ? first : compare_products(y, other.scale, other.y, scale);
+    }
+};
+
+/// A segment of a plane, and the way along it, which stays exact where the ends have a scale. Of a segment and a point, or of two segments,
+/// one alone has ends with a scale.
+struct Segment {
+    Spot start, end;
+    Wide x, y;
+
+    Segment(const Spot &from, const Spot &to) : start(from), end(to), x(to.x - from.x), y(to.y - from.y) {}
+    /// A part of another one.
+    Segment(const Spot &from, const Spot &to, const Segment &whole) : start(from), end(to), x(whole.x), y(whole.y) {}
+
+    /// Positive where the point lies left of the segment's line, negative right of it, zero on it.
+    [[nodiscard]] int turn(const Spot &point) const
+    {
+        return compare_products(x, point.y * start.scale - start.y * point.scale, y, point.x * start.scale - start.x * point.scale);
+    }
+    /// Whether the point lies on the segment, its ends included.
+    [[nodiscard]] bool holds(const Spot &point) const
+    {
+        return turn(point) == 0 && start.compare(point) * point.compare(end) >= 0;
+    }
+    /// Whether they pass through each other between their ends.
+    [[nodiscard]] bool crosses(const Segment &other) const
+    {
+        return turn(other.start) * turn(other.end) < 0 && other.turn(start) * other.turn(end) < 0;
+    }
+    /// Whether both have a point in common.
+    [[nodiscard]] bool meets(const Segment &other) const
+    {
+        return holds(other.start) || holds(other.end) || other.holds(start) || other.holds(end) || crosses(other);
+    }
+    /// Whether both lie in boxes that meet, where the ends have no scale.
+    [[nodiscard]] bool is_near(const Segment &other) const
+    {
+        const auto overlap = [](Wide a, Wide b, Wide c, Wide d) { return std::max(a, b) >= std::min(c, d) && std::max(c, d) >= std::min(a, b); };
+        return overlap(start.x, end.x, other.start.x, other.end.x) && overlap(start.y, end.y, other.start.y, other.end.y);
+    }
+};
+
+using Outline = std::vector<Segment>;
+
+/// The sides of a closed path: from each point to the next.
+inline Outline outline_of(const std::vector<Spot> &path)
+{
+    Outline sides;
+    sides.reserve(path.size());
+    for (std::size_t at = 0; at < path.size(); at++)
+        sides.emplace_back(path[at], path[(at + 1) % path.size()]);
+    return sides;
+}
+
+/// Where a point lies against an outline of sides without a scale, by the parity of crossings of a ray to the right.
+inline Place locate(const Outline &sides, const Spot &point)
+{
+    bool is_within = false;
+    for (const Segment &side : sides) {
+        if (side.holds(point))
+            return Place::on;
+        const bool is_above = side.start.y * point.scale > point.y;
+        if (is_above != (side.end.y * point.scale > point.y) && (side.turn(point) > 0) == (side.end.y > side.start.y))
+            is_within = !is_within;
+    }
+    return is_within ? Place::inside : Place::outside;
+}
+
+/// Twice the area of a closed path without a scale, negative where it runs clockwise.
+inline Wide twice_area(const Outline &sides)
+{
+    Wide sum = 0;
+    for (const Segment &side : sides)
+        sum += (side.start.x - sides[0].start.x) * side.y - (side.start.y - sides[0].start.y) * side.x;
+    return sum;
+}
+
+} // namespace gwb_session::exact
+#endif

@@ -1,0 +1,765 @@
+/// @file gwb_machining.hpp Features of outlines, for C++17: profiles, rings, pockets, bosses and holes. Each is one command, or steps of the draft
+/// that is open; what isn't possible is refused before anything is given.
+///
+///     using namespace gwb_session;
+///     const Profile plate = profile(bench, {{0, 0, 0}, {40, 0, 0}, {40, 20, 0}, {0, 20, 0}}, {0, 0, 10});
+///     const Pocket made = pocket(bench, plate.far, {{5, 5, 10}, {15, 5, 10}, {10, 15, 10}}, 4);
+///     hole(bench, made.face, {{9, 7, 6}, {11, 7, 6}, {10, 9, 6}});
+///
+/// Outlines may run either way round; what belongs to their points comes in the order of the points: the first of `sides` lies between the
+/// first two. A feature reads the solid of its face once, and compares what lies near.
+#ifndef GWB_MACHINING_HPP
+#define GWB_MACHINING_HPP
+#include "gwb_exact.hpp"
+#include "gwb_features.hpp"
+#include <set>
+
+namespace gwb_session {
+
+/// What profile makes: the face that was moved, the one that stayed, and for each point the side from it to the next.
+struct Profile {
+    Solid solid;
+    Face far, base;
+    std::vector<Face> sides;
+};
+
+/// What ring makes: the face inside the outline, the ring around it, and for each point the edge from it to the next, and the vertex there.
+struct Ring {
+    Face face;
+    Loop loop;
+    std::vector<Edge> edges;
+    std::vector<Vertex> vertices;
+};
+
+/// What pocket and boss make: the floor or top, the ring in the face, and for each point the side from it to the next.
+struct Pocket {
+    Face face;
+    Loop loop;
+    std::vector<Face> sides;
+};
+
+/// What hole makes: the face that it ends in, the ring at its start, and for each point the side from it to the next.
+struct Hole {
+    Face other;
+    Loop loop;
+    std::vector<Face> sides;
+};
+
+namespace machining {
+
+using namespace exact;
+using Path = std::vector<Vector>;
+
+inline Failure impossible(Misfit why, std::uint32_t value) { return {Problem::impossible, static_cast<std::uint32_t>(why), value}; }
+inline Failure refused(gwb_why why, std::uint32_t value) { return {Problem::refused, static_cast<std::uint32_t>(why), value}; }
+/// The number of a place in a list, from 1 on.
+inline std::uint32_t place(std::size_t at) { return static_cast<std::uint32_t>(at) + 1; }
+
+// ---- outlines
+
+/// Points of the caller; refused where one lies out of range.
+inline Result<Path> path_of(Items<Point> points)
+{
+    Path path;
+    path.reserve(points.size());
+    for (const Point &at : points)
+        path.push_back(vector(at));
+    return std::all_of(path.begin(), path.end(), is_in_range) ? Result<Path>(path) : Result<Path>(refused(GWB_WHY_POINT_RANGE, 0));
+}
+
+inline Outline flattened(const Path &path, Axes axes)
+{
+    std::vector<Spot> spots;
+    spots.reserve(path.size());
+    for (const Vector &at : path)
+        spots.push_back({at[axes[0]], at[axes[1]]});
+    return outline_of(spots);
+}
+
+/// Whether two sides of an outline meet otherwise than neighbours do, at their common end.
+inline bool clash(const Segment &side, const Segment &other, bool are_neighbours)
+{
+    if (!are_neighbours)
+        return side.meets(other);
+    const bool is_after = side.end.compare(other.start) == 0;
+    const Spot &far = is_after ? side.start : side.end, &beyond = is_after ? other.end : other.start;
+    return other.holds(far) || side.holds(beyond);
+}
+
+/// Refuses an outline that crosses or touches itself.
+inline Result<void> require_simple(const Outline &sides)
+{
+    for (std::size_t at = 0; at < sides.size(); at++)
+        for (std::size_t beyond = at + 1; beyond < sides.size(); beyond++) {
+            const bool are_neighbours = beyond - at == 1 || beyond - at == sides.size() - 1;
+            if (sides[at].is_near(sides[beyond]) && clash(sides[at], sides[beyond], are_neighbours))
+                return impossible(Misfit::outline_crossed, place(at));
+        }
+    return {};
+}
+
+/// The normal of the flat simple outline through points.
+inline Result<Vector> simple_normal(const Path &path)
+{
+    if (path.size() < 3)
+        return refused(GWB_WHY_FEW_POINTS, static_cast<std::uint32_t>(path.size()));
+    std::set<Vector> seen;
+    for (std::size_t at = 0; at < path.size(); at++)
+        if (!seen.insert(path[at]).second)
+            return refused(GWB_WHY_REPEATED_POINT, place(at));
+    const Vector across = area_vector(path);
+    if (is_zero(across))
+        return impossible(Misfit::no_area, 0);
+    for (std::size_t at = 0; at < path.size(); at++)
+        if (dot(across, subtract(path[at], path[0])) != 0)
+            return impossible(Misfit::not_in_plane, place(at));
+    const Result<void> simple = require_simple(flattened(path, flat_axes(across)));
+    return simple ? Result<Vector>(across) : Result<Vector>(simple.error());
+}
+
+/// The path the other way round, from the same point on.
+inline Path turned(Path path)
+{
+    std::reverse(path.begin() + 1, path.end());
+    return path;
+}
+
+/// What belongs to the segments of a path, in the order of the points that were given.
+template <class Item> std::vector<Item> by_points(std::vector<Item> along, bool is_turned)
+{
+    if (is_turned)
+        std::reverse(along.begin(), along.end());
+    return along;
+}
+
+/// The whole vector of this length along a normal that is as short as it can be, where there is one that reaches from one point to another.
+inline std::optional<Vector> steps_along(const Vector &across, std::int64_t length)
+{
+    if (longest(across) > 2 * farthest)
+        return std::nullopt;
+    const Wide square = dot(across, across), root = square_root(square);
+    if (root * root != square || length % root != 0)
+        return std::nullopt;
+    return times(across, length / root);
+}
+
+// ---- faces
+
+/// The points of the loops of a face, the outer one first. A lone loop has one.
+inline std::vector<Path> loops_at(const Attempts &bench, Face face)
+{
+    std::vector<Path> loops;
+    for (Loop loop : bench.loops_of(face)) {
+        Path &path = loops.emplace_back();
+        for (HalfEdge half_edge : bench.around(loop))
+            path.push_back(vector(*bench.vertex(*bench.start_of(half_edge))));
+        if (path.empty())
+            path.push_back(vector(*bench.vertex(bench.lone_vertex(loop)->value_or(Vertex()))));
+    }
+    return loops;
+}
+
+/// A flat face as a region of its plane.
+class Region {
+public:
+    /// None where a loop is lone, the face has no area, a vertex lies off its plane or an edge has no length.
+    static std::optional<Region> of(const std::vector<Path> &loops)
+    {
+        Vector sum{};
+        for (const Path &path : loops)
+            sum = add(sum, area_vector(path));
+        if (is_zero(sum))
+            return std::nullopt;
+        const Region region(reduced(sum), loops);
+        return std::all_of(loops.begin(), loops.end(), [&](const Path &path) { return region.has(path); }) ? std::optional(region) : std::nullopt;
+    }
+
+    /// Its normal, as short as it can be.
+    [[nodiscard]] const Vector &across() const { return across_; }
+    /// Positive where the point lies before the face's plane, negative behind it.
+    [[nodiscard]] Wide height(const Vector &at) const { return dot(across_, subtract(at, origin_)); }
+
+    /// Where the point of a segment that lies on the face's plane lies against the face: so far along as its start's height says of the
+    /// difference to that of its end.
+    [[nodiscard]] Place locate_between(const Vector &start, const Vector &end) const
+    {
+        const Wide before = height(start), scale = before == height(end) ? 1 : magnitude(before - height(end));
+        const Wide along = before == height(end) ? 0 : magnitude(before);
+        const auto part = [&](std::size_t axis) { return start[axis] * scale + along * (end[axis] - start[axis]); };
+        return locate({part(axes_[0]), part(axes_[1]), scale});
+    }
+
+    /// The points of an outline strictly inside the face, which has this number, turned so that they run as a ring does; the first stays the
+    /// first.
+    [[nodiscard]] Result<Path> ring_path(Face face, const Path &path) const
+    {
+        for (std::size_t at = 0; at < path.size(); at++)
+            if (height(path[at]) != 0)
+                return impossible(Misfit::not_in_plane, place(at));
+        const Result<Vector> normal = simple_normal(path);
+        if (!normal)
+            return normal.error();
+        const Outline own = flattened(path, axes_);
+        const Result<void> inside = require_inside(face, path, own);
+        if (!inside)
+            return inside.error();
+        return twice_area(own) < 0 ? path : turned(path);
+    }
+
+private:
+    struct FlatLoop {
+        Outline sides;
+        Box box;
+    };
+
+    Region(const Vector &across, const std::vector<Path> &loops) : across_(across), origin_(loops[0][0]), axes_(flat_axes(across))
+    {
+        for (const Path &path : loops)
+            loops_.push_back({flattened(path, axes_), Box::around(path)});
+    }
+
+    /// Whether a loop lies on the plane, and none of its edges has no length.
+    [[nodiscard]] bool has(const Path &path) const
+    {
+        for (std::size_t at = 0; at < path.size(); at++)
+            if (height(path[at]) != 0 || path[at] == path[(at + 1) % path.size()])
+                return false;
+        return true;
+    }
+
+    [[nodiscard]] Place locate(const Spot &spot) const
+    {
+        bool is_within = false;
+        for (const FlatLoop &loop : loops_) {
+            const Place at = exact::locate(loop.sides, spot);
+            if (at == Place::on)
+                return at;
+            is_within = is_within != (at == Place::inside);
+        }
+        return is_within ? Place::inside : Place::outside;
+    }
+
+    [[nodiscard]] Result<void> require_inside(Face face, const Path &path, const Outline &own) const
+    {
+        const Box box = Box::around(path);
+        bool is_around = false, is_within = false;
+        for (const FlatLoop &loop : loops_) {
+            if (!loop.box.meets(box))
+                continue;
+            for (const Segment &side : loop.sides)
+                for (const Segment &other : own)
+                    if (side.is_near(other) && side.meets(other))
+                        return impossible(Misfit::outline_outside, face.number());
+            is_within = is_within != (exact::locate(loop.sides, own[0].start) == Place::inside);
+            is_around = is_around || exact::locate(own, loop.sides[0].start) == Place::inside;
+        }
+        if (!is_within)
+            return impossible(Misfit::outline_outside, face.number());
+        return is_around ? Result<void>(impossible(Misfit::outline_around_ring, face.number())) : Result<void>();
+    }
+
+    Vector across_, origin_;
+    Axes axes_;
+    std::vector<FlatLoop> loops_;
+};
+
+/// The region of a face. Refused: NoFace, NotFlat.
+inline Result<Region> region_of(const Attempts &bench, Face face)
+{
+    if (!bench.face(face))
+        return bench.is_open() ? refused(GWB_WHY_NO_FACE, face.number()) : Failure{Problem::closed};
+    std::optional<Region> region = Region::of(loops_at(bench, face));
+    return region ? Result<Region>(*region) : Result<Region>(refused(GWB_WHY_NOT_FLAT, face.number()));
+}
+
+// ---- what lies near
+
+/// The loops of a solid with their points, read at once.
+class Surface {
+public:
+    Surface(const Attempts &bench, Solid solid)
+    {
+        for (const gwb_half_edge_row &row : bench.half_edge_rows(solid)) {
+            if (loops_.empty() || loops_.back().loop != row.loop)
+                loops_.push_back({Face(row.face), row.loop, points_.size(), points_.size()});
+            loops_.back().last++;
+            points_.push_back(vector(*bench.vertex(Vertex(row.start))));
+            is_first_.push_back(row.half_edge % 2 == 0);
+        }
+        for (Face face : bench.faces(solid))
+            for (Loop loop : bench.loops_of(face))
+                if (auto vertex = *bench.lone_vertex(loop))
+                    lone_.push_back(vector(*bench.vertex(*vertex)));
+    }
+
+    /// A box around the part of a ray that lies in the box around the solid.
+    [[nodiscard]] Box box_of_ray(const Vector &start, const Vector &way) const
+    {
+        const Box around = Box::around(points_);
+        Box ray{start, start};
+        for (std::size_t axis = 0; axis < 3; axis++) {
+            if (way[axis] > 0)
+                ray.high[axis] = around.high[axis];
+            if (way[axis] < 0)
+                ray.low[axis] = around.low[axis];
+        }
+        return ray;
+    }
+
+    /// Whether the test holds for an edge that meets a box, by its ends; a lone vertex stands for both.
+    template <class Test> [[nodiscard]] bool any_edge(const Box &box, Test test) const
+    {
+        for (const LoopPoints &loop : loops_)
+            for (std::size_t at = loop.first; at < loop.last; at++) {
+                const Vector &start = points_[at], &end = points_[at + 1 < loop.last ? at + 1 : loop.first];
+                if (is_first_[at] && Box::between(start, end).meets(box) && test(start, end))
+                    return true;
+            }
+        return std::any_of(lone_.begin(), lone_.end(), [&](const Vector &at) { return test(at, at); });
+    }
+
+    /// Calls for each plain flat face that meets a box but for two, rising.
+    template <class Call> void for_faces(const Box &box, const std::array<Face, 2> &but, Call call) const
+    {
+        for (std::size_t first = 0, last = 0; first < loops_.size(); first = last) {
+            const Face face = loops_[first].face;
+            while (last < loops_.size() && loops_[last].face == face)
+                last++;
+            if (face == but[0] || face == but[1] || !Box::around(path(loops_[first])).meets(box))
+                continue;
+            std::vector<Path> loops;
+            for (std::size_t at = first; at < last; at++)
+                loops.push_back(path(loops_[at]));
+            if (std::optional<Region> region = Region::of(loops))
+                call(face, *region, loops);
+        }
+    }
+
+private:
+    struct LoopPoints {
+        Face face;
+        std::uint32_t loop;
+        std::size_t first, last; ///< of the points
+    };
+
+    [[nodiscard]] Path path(const LoopPoints &loop) const { return Path(&points_[loop.first], &points_[loop.first] + (loop.last - loop.first)); }
+
+    std::vector<LoopPoints> loops_;
+    Path points_, lone_;
+    std::vector<bool> is_first_;
+};
+
+/// Points as seen along a vector: as spots, exactly.
+class Sight {
+public:
+    Sight(const Vector &along, const Vector &origin) : along_(along), origin_(origin), axes_(flat_axes(along))
+    {
+        third_ = 3 - axes_[0] - axes_[1];
+    }
+    [[nodiscard]] Spot spot(const Vector &at) const
+    {
+        const Vector way = subtract(at, origin_);
+        return {way[axes_[0]] * along_[third_] - way[third_] * along_[axes_[0]], way[axes_[1]] * along_[third_] - way[third_] * along_[axes_[1]]};
+    }
+    [[nodiscard]] Outline outline(const Path &path) const
+    {
+        std::vector<Spot> spots;
+        std::transform(path.begin(), path.end(), std::back_inserter(spots), [&](const Vector &at) { return spot(at); });
+        return outline_of(spots);
+    }
+
+private:
+    Vector along_, origin_;
+    Axes axes_;
+    std::size_t third_;
+};
+
+/// An outline in a face moved along the face's normal, away from the face; `is_open` where it ends in another face.
+class Prism {
+public:
+    Prism(const Vector &across, const Path &path, const Vector &way, bool is_open)
+        : path_(path), up_(dot(across, way) > 0 ? across : negative(across)), top_(dot(up_, way)), is_open_(is_open), sight_(up_, path[0]),
+          sides_(sight_.outline(path)), box_(Box::around(path))
+    {
+        for (const Vector &at : path) {
+            far_.push_back(add(at, way));
+            box_.take(far_.back());
+        }
+    }
+
+    [[nodiscard]] const Box &box() const { return box_; }
+
+    /// Whether a point of the segment lies in the prism or on it; in the face, and in the other one, only what is on the outline counts.
+    [[nodiscard]] bool meets_edge(Vector start, Vector end) const
+    {
+        Wide low = height(start), high = height(end);
+        if (low > high) {
+            std::swap(start, end);
+            std::swap(low, high);
+        }
+        if (high < 0 || low > top_)
+            return false;
+        const bool only_outline = high == 0 || (is_open_ && low == top_);
+        const Segment part = within(sight_.spot(start), sight_.spot(end), low, high);
+        if (!only_outline && locate(sides_, part.start) != Place::outside)
+            return true;
+        return std::any_of(sides_.begin(), sides_.end(), [&](const Segment &side) { return side.meets(part); });
+    }
+
+    /// Whether an edge of the prism meets a face none of whose edges meets the prism.
+    [[nodiscard]] bool meets_face(const Region &region) const
+    {
+        for (std::size_t at = 0; at < path_.size(); at++) {
+            const std::size_t after = (at + 1) % path_.size();
+            if (meets(region, path_[at], path_[after]) || meets(region, far_[at], far_[after]) || meets(region, path_[at], far_[at]))
+                return true;
+        }
+        return false;
+    }
+
+private:
+    [[nodiscard]] Wide height(const Vector &at) const { return dot(up_, subtract(at, path_[0])); }
+
+    /// The part of a segment between these heights that lies between the prism's ends.
+    [[nodiscard]] Segment within(const Spot &start, const Spot &end, Wide low, Wide high) const
+    {
+        const Segment whole(start, end);
+        const Wide length = high - low;
+        const auto on_way = [&](Wide height) {
+            return Spot{start.x * length + (height - low) * whole.x, start.y * length + (height - low) * whole.y, length};
+        };
+        return Segment(low < 0 ? on_way(0) : start, high > top_ ? on_way(top_) : end, whole);
+    }
+
+    static bool meets(const Region &region, const Vector &start, const Vector &end)
+    {
+        return sign(region.height(start)) * sign(region.height(end)) <= 0 && region.locate_between(start, end) != Place::outside;
+    }
+
+    Path path_, far_;
+    Vector up_;
+    Wide top_;
+    bool is_open_;
+    Sight sight_;
+    Outline sides_;
+    Box box_;
+};
+
+/// Refuses a feature that would meet or touch the solid elsewhere than in the face, or in the other one where it ends there.
+inline Result<void> require_room(const Surface &surface, const Prism &prism, Face face, Face other = Face())
+{
+    bool meets = surface.any_edge(prism.box(), [&](const Vector &start, const Vector &end) { return prism.meets_edge(start, end); });
+    if (!meets)
+        surface.for_faces(prism.box(), {face, other}, [&](Face, const Region &region, const std::vector<Path> &) {
+            meets = meets || prism.meets_face(region);
+        });
+    return meets ? Result<void>(impossible(Misfit::meets, face.number())) : Result<void>();
+}
+
+/// The face that a ray from a point of a face goes out through, which is parallel, and the way to it.
+struct Opposite {
+    Face face;
+    Vector way;
+};
+
+/// How far along a vector a face lies.
+struct Reach {
+    Wide height, slope; ///< the first divided by the second, which is above zero
+    Face face;
+    Vector across;
+
+    [[nodiscard]] bool is_before(const Reach &reach) const { return compare_products(height, reach.slope, reach.height, slope) < 0; }
+};
+
+/// Whether a point that the sight begins at lies in the face that has these loops, as seen along it, or on its outline.
+inline bool is_seen(const Sight &sight, const std::vector<Path> &loops)
+{
+    bool is_within = false;
+    for (const Path &path : loops) {
+        const Place at = locate(sight.outline(path), Spot());
+        if (at == Place::on)
+            return true;
+        is_within = is_within != (at == Place::inside);
+    }
+    return is_within;
+}
+
+inline Result<Opposite> opposite(const Surface &surface, Face face, const Vector &across, const Vector &start)
+{
+    if (longest(across) > 2 * farthest)
+        return impossible(Misfit::off_lattice, face.number());
+    const Sight sight(across, start);
+    const Vector back = negative(across);
+    std::optional<Reach> nearest;
+    surface.for_faces(surface.box_of_ray(start, back), {face, Face()}, [&](Face other, const Region &region, const std::vector<Path> &loops) {
+        const Wide slope = dot(region.across(), back), height = region.height(start);
+        if (sign(height) * sign(slope) >= 0 || !is_seen(sight, loops))
+            return;
+        const Reach reach{magnitude(height), magnitude(slope), other, region.across()};
+        if (!nearest || reach.is_before(*nearest))
+            nearest = reach;
+    });
+    if (!nearest)
+        return impossible(Misfit::no_opposite, face.number());
+    if (!are_parallel(nearest->across, back))
+        return impossible(Misfit::not_parallel, nearest->face.number());
+    if (nearest->height % nearest->slope != 0)
+        return impossible(Misfit::off_lattice, nearest->face.number());
+    return Opposite{nearest->face, times(back, nearest->height / nearest->slope)};
+}
+
+// ---- what is drawn and moved
+
+/// A path of edges through points, closed: the face inside, where the points run clockwise, the edges in their order, and the vertices of all
+/// points but the first.
+struct ClosedPath {
+    Face inside;
+    std::vector<Edge> edges;
+    std::vector<Vertex> vertices;
+};
+
+/// Draws a closed path from the lone vertex of a loop, where its first point lies.
+inline Result<ClosedPath> close_path(Attempts bench, Loop loop, const Path &path)
+{
+    ClosedPath made;
+    for (std::size_t at = 1; at < path.size(); at++) {
+        const Corner corner = at == 1 ? lone(loop) : Corner(minus(made.edges.back()));
+        const Result<NewVertex> grown = bench.mev(corner, corner, point(path[at]));
+        if (!grown)
+            return grown.error();
+        made.edges.push_back(grown->edge);
+        made.vertices.push_back(grown->vertex);
+    }
+    const Result<NewFace> closing = bench.mef(minus(made.edges.back()), plus(made.edges.front()));
+    if (!closing)
+        return closing.error();
+    made.inside = closing->face;
+    made.edges.push_back(closing->edge);
+    return made;
+}
+
+/// The ring through points that run as a ring does, and the face inside it, whose half-edges are the second ones of the edges.
+inline Result<Ring> draw(Attempts bench, Face face, const Path &path)
+{
+    const HalfEdge start = *bench.around(bench.face(face)->outer_loop).begin();
+    const Result<NewVertex> spur = bench.mev(start, start, point(path[0]));
+    if (!spur)
+        return spur.error();
+    const Result<Loop> loop = bench.kemr(plus(spur->edge));
+    if (!loop)
+        return loop.error();
+    const Result<ClosedPath> made = close_path(bench, *loop, path);
+    if (!made)
+        return made.error();
+    Ring ring{made->inside, *loop, made->edges, {spur->vertex}};
+    ring.vertices.insert(ring.vertices.end(), made->vertices.begin(), made->vertices.end());
+    return ring;
+}
+
+/// Moves a face, and finds the sides over half-edges of it.
+inline Result<std::vector<Face>> sides_of_sweep(Attempts bench, Face face, const Vector &way, const std::vector<Edge> &edges, bool of_first)
+{
+    const Result<void> swept = bench.sweep(face, point(way));
+    if (!swept)
+        return swept.error();
+    std::vector<Face> sides;
+    for (Edge edge : edges)
+        sides.push_back(*bench.face_of(of_first ? plus(edge) : minus(edge)));
+    return sides;
+}
+
+/// A solid of two faces back to back through points: the first looks to where they run counterclockwise, along the first half-edges of the
+/// edges, from the points on.
+struct FlatSolid {
+    Face front, back;
+    std::vector<Edge> edges;
+};
+
+inline Result<FlatSolid> flat_solid(Attempts bench, const Path &path, Solid solid)
+{
+    const Result<Face> face = bench.next_free<Face>();
+    const Result<Loop> loop = bench.next_free<Loop>();
+    const Result<Vertex> vertex = bench.next_free<Vertex>();
+    if (!face || !loop || !vertex)
+        return face.error();
+    const Result<void> start = bench.mvfs(solid, *face, *loop, *vertex, point(path[0]));
+    if (!start)
+        return start.error();
+    const Result<ClosedPath> made = close_path(bench, *loop, path);
+    return made ? Result<FlatSolid>(FlatSolid{*face, made->inside, made->edges}) : Result<FlatSolid>(made.error());
+}
+
+inline Result<Profile> make_profile(Attempts bench, Solid solid, Items<Point> points, Point along)
+{
+    const Result<Path> path = path_of(points);
+    if (!path)
+        return path.error();
+    const Result<Vector> across = simple_normal(*path);
+    if (!across)
+        return across.error();
+    const Vector way = vector(along);
+    if (longest(way) > 2 * farthest)
+        return refused(GWB_WHY_POINT_RANGE, 0);
+    const int side = sign(dot(*across, way));
+    if (side == 0)
+        return impossible(Misfit::along_plane, 0);
+    const Result<FlatSolid> flat = flat_solid(bench, side > 0 ? *path : turned(*path), solid);
+    if (!flat)
+        return flat.error();
+    const Result<std::vector<Face>> sides = sides_of_sweep(bench, flat->front, way, flat->edges, true);
+    return sides ? Result<Profile>(Profile{solid, flat->front, flat->back, by_points(*sides, side < 0)}) : Result<Profile>(sides.error());
+}
+
+/// An outline that is ready to be drawn in a face.
+struct Drawing {
+    Solid solid;
+    Vector across;
+    Path path;
+    bool is_turned;
+};
+
+inline Result<Drawing> drawing(const Attempts &bench, Face face, Items<Point> points)
+{
+    const Result<Region> region = region_of(bench, face);
+    if (!region)
+        return region.error();
+    const Result<Path> given = path_of(points);
+    if (!given)
+        return given.error();
+    const Result<Path> path = region->ring_path(face, *given);
+    return path ? Result<Drawing>(Drawing{bench.face(face)->solid, region->across(), *path, *path != *given}) : Result<Drawing>(path.error());
+}
+
+inline Result<Ring> make_ring(Attempts bench, Face face, Items<Point> points)
+{
+    const Result<Drawing> drawn = drawing(bench, face, points);
+    if (!drawn)
+        return drawn.error();
+    Result<Ring> made = draw(bench, face, drawn->path);
+    if (made && drawn->is_turned) {
+        std::reverse(made->edges.begin(), made->edges.end());
+        std::reverse(made->vertices.begin() + 1, made->vertices.end());
+    }
+    return made;
+}
+
+/// Draws an outline and moves the face inside it.
+inline Result<Pocket> draw_and_sweep(Attempts bench, Face face, const Drawing &drawn, const Vector &way)
+{
+    const Result<Ring> ring = draw(bench, face, drawn.path);
+    if (!ring)
+        return ring.error();
+    const Result<std::vector<Face>> sides = sides_of_sweep(bench, ring->face, way, ring->edges, false);
+    return sides ? Result<Pocket>(Pocket{ring->face, ring->loop, by_points(*sides, drawn.is_turned)}) : Result<Pocket>(sides.error());
+}
+
+/// Moves an outline in a face along the face's normal: by a length that is below zero for a pocket.
+inline Result<Pocket> raise(Attempts bench, Face face, Items<Point> points, std::int64_t length)
+{
+    const Result<Drawing> drawn = drawing(bench, face, points);
+    if (!drawn)
+        return drawn.error();
+    const std::optional<Vector> way = steps_along(drawn->across, length);
+    if (!way)
+        return impossible(Misfit::off_lattice, face.number());
+    if (std::any_of(drawn->path.begin(), drawn->path.end(), [&](const Vector &at) { return !is_in_range(add(at, *way)); }))
+        return length < 0 ? impossible(Misfit::meets, face.number()) : refused(GWB_WHY_POINT_RANGE, 0);
+    const Result<void> room = require_room(Surface(bench, drawn->solid), Prism(drawn->across, drawn->path, *way, false), face);
+    return room ? draw_and_sweep(bench, face, *drawn, *way) : Result<Pocket>(room.error());
+}
+
+inline Result<Hole> make_hole(Attempts bench, Face face, Items<Point> points)
+{
+    const Result<Drawing> drawn = drawing(bench, face, points);
+    if (!drawn)
+        return drawn.error();
+    const Surface surface(bench, drawn->solid);
+    const Result<Opposite> end = opposite(surface, face, drawn->across, drawn->path[0]);
+    if (!end)
+        return end.error();
+    Path far;
+    std::transform(drawn->path.begin(), drawn->path.end(), std::back_inserter(far), [&](const Vector &at) { return add(at, end->way); });
+    const Result<Path> there = region_of(bench, end->face)->ring_path(end->face, far);
+    if (!there)
+        return there.error();
+    const Result<void> room = require_room(surface, Prism(drawn->across, drawn->path, end->way, true), face, end->face);
+    if (!room)
+        return room.error();
+    const Result<Pocket> made = draw_and_sweep(bench, face, *drawn, end->way);
+    if (!made)
+        return made.error();
+    const Result<void> joined = bench.kfmrh(end->face, made->face);
+    return joined ? Result<Hole>(Hole{end->face, made->loop, made->sides}) : Result<Hole>(joined.error());
+}
+
+/// What a feature gives, as one command.
+template <class Policy, class Make> auto as_one(Commands<Policy> &bench, const char *command, Make make)
+{
+    Together commands(bench.attempt());
+    using Made = decltype(make(bench.attempt()));
+    Result<void> done = commands.begun();
+    Made made = done ? make(bench.attempt()) : Made(done.error());
+    if (made)
+        done = commands.keep();
+    return returned<Policy>(command, made && !done ? Made(done.error()) : made);
+}
+
+} // namespace machining
+
+// ---- features
+
+/// A new solid: the outline through the points, moved along the vector. It is never inside out, whichever way the points run.
+///
+/// Refused: FewPoints, RepeatedPoint; NoArea, NotInPlane, OutlineCrossed; AlongPlane: the vector lies in the plane of the points; PointRange.
+template <class Policy>
+typename Policy::template Returned<Profile> profile(Commands<Policy> &bench, Solid solid, Items<Point> points, Point along)
+{
+    return machining::as_one(bench, "profile", [&](const Attempts &attempt) { return machining::make_profile(attempt, solid, points, along); });
+}
+template <class Policy> typename Policy::template Returned<Profile> profile(Commands<Policy> &bench, Items<Point> points, Point along)
+{
+    const Result<Solid> solid = bench.attempt().template next_free<Solid>();
+    return profile(bench, solid ? *solid : Solid(), points, along);
+}
+
+/// A face inside the face, with the outline through the points, and a ring around it.
+///
+/// Refused: NoFace, NotFlat; FewPoints, RepeatedPoint; NoArea, NotInPlane, OutlineCrossed; OutlineOutside: the outline crosses or touches the
+/// boundary of the face, or doesn't lie inside; OutlineAroundRing: a ring of the face lies inside it.
+template <class Policy> typename Policy::template Returned<Ring> ring(Commands<Policy> &bench, Face face, Items<Point> points)
+{
+    return machining::as_one(bench, "ring", [&](const Attempts &attempt) { return machining::make_ring(attempt, face, points); });
+}
+
+/// A pocket so deep behind the outline in the face.
+///
+/// Refused as ring is; SizeRange: the depth is below 1; OffLattice: no whole vector along the normal is so long; Meets: the pocket would come
+/// through, or meet or touch something of the solid.
+template <class Policy>
+typename Policy::template Returned<Pocket> pocket(Commands<Policy> &bench, Face face, Items<Point> points, std::int64_t depth)
+{
+    return machining::as_one(bench, "pocket", [&](const Attempts &attempt) {
+        return depth < 1 ? Result<Pocket>(machining::refused(GWB_WHY_SIZE_RANGE, 1)) : machining::raise(attempt, face, points, -depth);
+    });
+}
+
+/// A boss so high on the outline in the face. Refused as pocket is; PointRange: it would lie past 1,000,000,000.
+template <class Policy>
+typename Policy::template Returned<Pocket> boss(Commands<Policy> &bench, Face face, Items<Point> points, std::int64_t height)
+{
+    return machining::as_one(bench, "boss", [&](const Attempts &attempt) {
+        return height < 1 ? Result<Pocket>(machining::refused(GWB_WHY_SIZE_RANGE, 1)) : machining::raise(attempt, face, points, height);
+    });
+}
+
+/// A hole from the outline in the face through to the opposite face.
+///
+/// Refused as ring is, also at the opposite face; NoOpposite: there is no face behind the outline; NotParallel: the one behind it isn't
+/// parallel; OffLattice: its plane lies off the lattice behind the face; Meets: the hole would meet or touch something else of the solid.
+template <class Policy> typename Policy::template Returned<Hole> hole(Commands<Policy> &bench, Face face, Items<Point> points)
+{
+    return machining::as_one(bench, "hole", [&](const Attempts &attempt) { return machining::make_hole(attempt, face, points); });
+}
+
+} // namespace gwb_session
+#endif

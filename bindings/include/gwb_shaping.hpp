@@ -1,0 +1,488 @@
+/// @file gwb_shaping.hpp Features that reach the edges of faces, for C++17: notches, slots, grooves, shoulders and chamfers. Each is one command,
+/// or steps of the draft that is open; what isn't possible is refused before anything is given.
+///
+///     using namespace gwb_session;
+///     const Solid block = bench.block({0, 0, 0}, {40, 20, 10});       // its top is face 1
+///     slot(bench, Face(1), {20, 0, 10}, {20, 20, 10}, 6, 4);
+///     shoulder(bench, Face(1), Edge(8), 5, 3);
+///
+/// A part is cut out of the solid, or put on it: its faces are added to those of the solid (gwb_sheets.hpp), which is taken apart and made anew,
+/// with the numbers that it has. That takes as many operators as it has edges, twice, whatever else there is.
+#ifndef GWB_SHAPING_HPP
+#define GWB_SHAPING_HPP
+#include "gwb_contacts.hpp"
+
+namespace gwb_session {
+
+/// What a notch, slot, groove or shoulder leaves: its floor, in as many faces as there are, none where it goes through, and its walls.
+struct Notch {
+    std::vector<Face> floor, walls;
+};
+
+namespace shaping {
+
+using namespace contacts;
+using sheets::Region;
+
+/// A part that is cut out, or put on: the face that lies on the solid's, the one opposite to it, and the others, all seen from outside.
+struct Tool {
+    Path lid, floor; ///< there may be no floor
+    std::vector<Path> walls;
+};
+
+/// An end of an edge, and the points beside it in the two faces of the edge.
+struct Corner {
+    Vector point, first, second;
+};
+
+inline Path backwards(Path path)
+{
+    std::reverse(path.begin(), path.end());
+    return path;
+}
+
+/// The prism under an outline, as deep as the vector says.
+inline Tool prism(const Path &outline, const Vector &way)
+{
+    const Path path = dot(area_vector(outline), way) < 0 ? outline : backwards(outline);
+    Tool tool{path, {}, {}};
+    for (const Vector &at : path)
+        tool.floor.insert(tool.floor.begin(), add(at, way));
+    for (std::size_t at = 0; at < path.size(); at++) {
+        const Vector &before = path[(at + path.size() - 1) % path.size()];
+        tool.walls.push_back({path[at], before, add(before, way), add(path[at], way)});
+    }
+    return tool;
+}
+
+/// The faces of a wedge between two triangles, seen from outside: the sides at its edge, the slope opposite to it, and its ends.
+struct Wedge {
+    Path first, second, slope, start, end;
+};
+
+inline Wedge wedge(const Corner &start, const Corner &end)
+{
+    const Wedge made{{start.point, end.point, end.first, start.first},
+                     {start.second, end.second, end.point, start.point},
+                     {start.first, end.first, end.second, start.second},
+                     {start.point, start.first, start.second},
+                     {end.point, end.second, end.first}};
+    if (dot(area_vector(made.slope), subtract(start.first, start.point)) > 0)
+        return made;
+    return {backwards(made.first), backwards(made.second), backwards(made.slope), backwards(made.start), backwards(made.end)};
+}
+
+/// The shortest normal of a face that is plain and flat.
+inline Result<Vector> flat_normal(const Attempts &bench, Face face)
+{
+    const Result<machining::Region> region = region_of(bench, face);
+    return region ? Result<Vector>(region->across()) : Result<Vector>(region.error());
+}
+
+/// The whole vector of a length along a direction.
+inline Result<Vector> along(const Vector &way, std::int64_t length, Face face)
+{
+    const std::optional<Vector> found = steps_along(way, length);
+    return found ? Result<Vector>(*found) : Result<Vector>(impossible(Misfit::off_lattice, face.number()));
+}
+
+inline Result<Tool> notch_tool(const Attempts &bench, Face face, const Path &points, std::int64_t depth)
+{
+    const Result<machining::Region> region = region_of(bench, face);
+    if (!region)
+        return region.error();
+    for (std::size_t at = 0; at < points.size(); at++)
+        if (region->height(points[at]) != 0)
+            return impossible(Misfit::not_in_plane, place(at));
+    const Result<Vector> normal = simple_normal(points);
+    if (!normal)
+        return normal.error();
+    const Result<Vector> way = along(negative(region->across()), depth, face);
+    return way ? Result<Tool>(prism(points, *way)) : Result<Tool>(way.error());
+}
+
+/// The way from a line in a face to the right side of a strip around it.
+inline Result<Vector> beside(const Vector &across, Face face, const Path &ends, std::int64_t width)
+{
+    const Vector line = subtract(ends[1], ends[0]);
+    if (is_zero(line))
+        return refused(GWB_WHY_REPEATED_POINT, 2);
+    if (dot(line, across) != 0)
+        return impossible(Misfit::not_in_plane, 2);
+    if (width % 2 != 0)
+        return impossible(Misfit::off_lattice, face.number());
+    return along(reduced(cross(across, line)), width / 2, face);
+}
+
+inline Result<Tool> slot_tool(const Attempts &bench, Face face, const Path &ends, std::int64_t width, std::int64_t depth)
+{
+    const Result<Vector> across = flat_normal(bench, face);
+    if (!across)
+        return across.error();
+    const Result<Vector> side = beside(*across, face, ends, width);
+    if (!side)
+        return side.error();
+    return notch_tool(bench, face, {subtract(ends[0], *side), subtract(ends[1], *side), add(ends[1], *side), add(ends[0], *side)}, depth);
+}
+
+inline Result<Tool> groove_tool(const Attempts &bench, Face face, const Path &ends, std::int64_t width, std::int64_t depth)
+{
+    const Result<Vector> across = flat_normal(bench, face);
+    if (!across)
+        return across.error();
+    const Result<Vector> side = beside(*across, face, ends, width);
+    if (!side)
+        return side.error();
+    const Result<Vector> way = along(negative(*across), depth, face);
+    if (!way)
+        return way.error();
+    const auto corner = [&](const Vector &at) { return Corner{add(at, *way), subtract(at, *side), add(at, *side)}; };
+    const Wedge made = wedge(corner(ends[0]), corner(ends[1]));
+    return Tool{made.slope, {}, {made.first, made.second, made.start, made.end}};
+}
+
+/// The point on the way from a corner to the end of the side there, as far in as the step is; where the side runs the other way, square.
+inline Result<Vector> on_side(Face face, const Vector &corner, const Vector &end, const Vector &step)
+{
+    const Vector side = subtract(end, corner);
+    const Wide rise = dot(step, side), square = dot(step, step);
+    if (rise <= 0)
+        return add(corner, step);
+    if (square > rise)
+        return impossible(Misfit::outline_outside, face.number());
+    const Vector way = times(side, square);
+    if (std::any_of(way.begin(), way.end(), [&](Wide part) { return part % rise != 0; }))
+        return impossible(Misfit::off_lattice, face.number());
+    return add(corner, {way[0] / rise, way[1] / rise, way[2] / rise});
+}
+
+/// The points where the line at a distance from a half-edge, in its face, meets the sides before and after it.
+inline Result<std::array<Vector, 2>> setbacks(const Attempts &bench, HalfEdge half, std::int64_t width)
+{
+    const Face face = *bench.face_of(half);
+    const Result<Vector> across = flat_normal(bench, face);
+    if (!across)
+        return across.error();
+    const auto at = [&](HalfEdge of) { return vector(*bench.vertex(*bench.start_of(of))); };
+    const Vector start = at(half), end = at(half.twin());
+    const Result<Vector> step = along(reduced(cross(*across, subtract(end, start))), width, face);
+    if (!step)
+        return step.error();
+    const Result<Vector> first = on_side(face, start, at(*bench.previous(half)), *step);
+    if (!first)
+        return first.error();
+    const Result<Vector> last = on_side(face, end, at(bench.next(half)->twin()), *step);
+    return last ? Result<std::array<Vector, 2>>(std::array{*first, *last}) : Result<std::array<Vector, 2>>(last.error());
+}
+
+/// The prism under the strip of a face along one of its half-edges.
+inline Result<Tool> shoulder_tool(const Attempts &bench, HalfEdge half, std::int64_t width, std::int64_t depth)
+{
+    const Face face = *bench.face_of(half);
+    const auto ends = setbacks(bench, half, width);
+    if (!ends)
+        return ends.error();
+    const Result<Vector> across = flat_normal(bench, face);
+    const Result<Vector> way = along(negative(*across), depth, face);
+    if (!way)
+        return way.error();
+    const auto at = [&](HalfEdge of) { return vector(*bench.vertex(*bench.start_of(of))); };
+    return prism({at(half), at(half.twin()), (*ends)[1], (*ends)[0]}, *way);
+}
+
+/// The wedge along an edge, so far into the face of the half-edge and into that of its mate. Its lid lies in the first of them.
+inline Result<Tool> chamfer_tool(const Attempts &bench, HalfEdge half, std::int64_t first, std::int64_t second)
+{
+    const auto near = setbacks(bench, half, first);
+    if (!near)
+        return near.error();
+    const auto far = setbacks(bench, half.twin(), second);
+    if (!far)
+        return far.error();
+    const auto at = [&](HalfEdge of) { return vector(*bench.vertex(*bench.start_of(of))); };
+    const Wedge made = wedge({at(half), (*near)[0], (*far)[1]}, {at(half.twin()), (*near)[1], (*far)[0]});
+    return Tool{made.first, made.slope, {made.second, made.start, made.end}};
+}
+
+/// Whether the solid has less than half of the room around an edge; refused where its faces lie in one plane.
+inline Result<bool> bends_outwards(const Attempts &bench, HalfEdge half)
+{
+    const Result<Vector> across = flat_normal(bench, *bench.face_of(half));
+    if (!across)
+        return across.error();
+    const Face other = *bench.face_of(half.twin());
+    const Result<machining::Region> beyond = region_of(bench, other);
+    if (!beyond)
+        return beyond.error();
+    if (are_parallel(*across, beyond->across()))
+        return impossible(Misfit::flat_edge, half.edge().number());
+    const auto at = [&](HalfEdge of) { return vector(*bench.vertex(*bench.start_of(of))); };
+    // (what is across both normals runs along the edge, so one part of it tells which way)
+    const Axes axes = flat_axes(subtract(at(half.twin()), at(half)));
+    const Vector &one = *across, &other_one = beyond->across();
+    return compare_products(one[axes[0]], other_one[axes[1]], one[axes[1]], other_one[axes[0]]) > 0;
+}
+
+// ---- what is changed
+
+/// The faces of a tool as sheets, the lid first and then the floor, if there is one: seen from outside, or from inside where they cut.
+inline Result<std::vector<Sheet>> sheets_of(const Tool &tool, bool are_cut)
+{
+    std::vector<Path> paths = {tool.lid};
+    if (!tool.floor.empty())
+        paths.push_back(tool.floor);
+    paths.insert(paths.end(), tool.walls.begin(), tool.walls.end());
+    for (const Path &path : paths)
+        if (!std::all_of(path.begin(), path.end(), is_in_range))
+            return refused(GWB_WHY_POINT_RANGE, 0);
+    std::vector<Sheet> sheets;
+    for (const Path &seen : paths) {
+        const Path path = are_cut ? backwards(seen) : seen;
+        const Vector across = area_vector(path);
+        if (is_zero(across) || !std::all_of(path.begin(), path.end(), [&](const Vector &at) { return dot(across, subtract(at, path[0])) == 0; }))
+            return refused(GWB_WHY_NOT_FLAT, 0);
+        Cycle cycle;
+        for (std::size_t at = 0; at < path.size(); at++)
+            cycle.push_back({path[at], path[(at + 1) % path.size()]});
+        sheets.push_back({Face(), reduced(across), {cycle}, sheets.size()});
+    }
+    return sheets;
+}
+
+/// A normal within this fits, with heights above its plane, where faces are compared.
+constexpr Wide steepest = Wide{farthest} * farthest;
+
+/// The faces of a solid near a box as sheets, and the others as regions that stay. Refused: NotFlat: a face near has no area, a lone loop or an
+/// edge without a length.
+struct Parted {
+    std::vector<Sheet> near;
+    std::vector<Region> far;
+    std::vector<HeldFace> faces; ///< those near
+};
+
+inline Result<Parted> parted(const Held &held, const Box &box)
+{
+    Parted found;
+    for (const HeldFace &face : held.faces) {
+        if (face.cycles[0].empty())
+            return refused(GWB_WHY_NOT_FLAT, face.face.number());
+        if (!face.box().meets(box)) {
+            found.far.push_back({{face.face}, {}, {}, face.cycles, face.lone});
+            continue;
+        }
+        Vector sum{};
+        bool has_lengths = true;
+        for (const Cycle &cycle : face.cycles)
+            for (const Side &side : cycle) {
+                sum = add(sum, cross(subtract(side.start, face.cycles[0][0].start), subtract(side.end, face.cycles[0][0].start)));
+                has_lengths = has_lengths && side.start != side.end;
+            }
+        if (is_zero(sum) || !has_lengths || !face.lone.empty() || longest(reduced(sum)) > steepest)
+            return refused(GWB_WHY_NOT_FLAT, face.face.number());
+        found.near.push_back({face.face, reduced(sum), face.cycles, no_mark});
+        found.faces.push_back(face);
+    }
+    return found;
+}
+
+/// Whether near what is added the solid meets or touches itself as it didn't, or sheets pass through each other.
+inline bool has_contact(const Held &held, const Parted &before, const std::vector<Sheet> &added, const Model &after)
+{
+    const Box box = box_of(added);
+    std::vector<HeldFace> faces;
+    for (const auto &[face, loops] : after.faces)
+        if (const HeldFace made = after.held(face); !made.cycles.empty() && made.box().meets(box))
+            faces.push_back(made);
+    const Findings known(before.faces, box, [&](HalfEdge half) { return held.rows.at(half.code()).start; });
+    const Findings found(faces, box, [&](HalfEdge half) { return after.start(half); });
+    if (!std::includes(known.all().begin(), known.all().end(), found.all().begin(), found.all().end()))
+        return true;
+    std::vector<Shape> walls, flat;
+    for (const Sheet &sheet : added)
+        walls.emplace_back(sheet.cycles, sheet.across);
+    for (const Sheet &sheet : before.near)
+        if (Shape shape(sheet.cycles, sheet.across); shape.is_flat())
+            flat.push_back(shape);
+    return comes_into(flat, walls);
+}
+
+/// The faces that an added sheet went into.
+inline std::vector<Face> marked(const Model &model, const std::vector<Region> &regions, std::size_t mark)
+{
+    std::set<Face> found;
+    for (std::size_t at = 0; at < regions.size(); at++)
+        if (std::find(regions[at].marks.begin(), regions[at].marks.end(), mark) != regions[at].marks.end())
+            found.insert(model.of_regions[at]);
+    return {found.begin(), found.end()};
+}
+
+/// A solid that is to become another one.
+struct Change {
+    Model model;
+    std::vector<Region> regions;
+};
+
+inline Result<Change> changed(const Attempts &bench, Face face, const std::vector<Sheet> &added)
+{
+    const Failure meets = impossible(Misfit::meets, face.number());
+    const Held held(bench, bench.face(face)->solid);
+    const Result<Parted> parts = parted(held, box_of(added));
+    if (!parts)
+        return parts.error();
+    Result<std::vector<Region>> regions = overlaid(parts->near, added);
+    if (!regions)
+        return regions.error().is(Misfit::off_lattice) ? regions.error() : meets;
+    regions->insert(regions->end(), parts->far.begin(), parts->far.end());
+    if (regions->empty())
+        return impossible(Misfit::nothing_left, held.solid.number());
+    std::optional<Model> model = Assembly(bench, held, *regions).model();
+    if (!model)
+        return meets;
+    if (!marked(*model, *regions, 0).empty())
+        return impossible(Misfit::outline_outside, face.number());
+    if (has_contact(held, *parts, added, *model))
+        return meets;
+    return Change{*std::move(model), *std::move(regions)};
+}
+
+/// Cuts a tool out of the solid of a face, in which its lid lies, or puts it on.
+inline Result<Notch> change(Attempts bench, Face face, const Result<Tool> &tool, bool is_cut)
+{
+    if (!tool)
+        return tool.error();
+    const Result<std::vector<Sheet>> added = sheets_of(*tool, is_cut);
+    if (!added)
+        return added.error();
+    const Result<Change> change = changed(bench, face, *added);
+    if (!change)
+        return change.error();
+    Result<void> done = TakenApart(bench).take(change->model.solid);
+    if (done)
+        done = bench.load(change->model.listing());
+    if (!done)
+        return done.error();
+    Notch made;
+    const std::size_t first_wall = tool->floor.empty() ? 1 : 2;
+    if (first_wall == 2)
+        made.floor = marked(change->model, change->regions, 1);
+    std::set<Face> walls;
+    for (std::size_t mark = first_wall; mark < added->size(); mark++)
+        for (Face wall : marked(change->model, change->regions, mark))
+            walls.insert(wall);
+    made.walls.assign(walls.begin(), walls.end());
+    return made;
+}
+
+/// Refuses sizes below 1, and a face that isn't there.
+inline Result<void> given(const Attempts &bench, Face face, std::initializer_list<std::int64_t> sizes)
+{
+    std::uint32_t number = 0;
+    for (std::int64_t size : sizes)
+        if (number++; size < 1)
+            return refused(GWB_WHY_SIZE_RANGE, number);
+    const Result<machining::Region> region = region_of(bench, face);
+    return region ? Result<void>() : Result<void>(region.error());
+}
+
+/// A feature in a face by a tool that is made of points and sizes.
+template <class MakeTool>
+Result<Notch> cut_in_face(const Attempts &bench, Face face, Items<Point> points, std::initializer_list<std::int64_t> sizes, MakeTool make)
+{
+    const Result<void> allowed = given(bench, face, sizes);
+    if (!allowed)
+        return allowed.error();
+    const Result<Path> path = path_of(points);
+    return path ? change(bench, face, make(*path), true) : Result<Notch>(path.error());
+}
+
+inline Result<Notch> cut_shoulder(const Attempts &bench, Face face, Edge edge, std::int64_t width, std::int64_t depth)
+{
+    const Result<void> allowed = given(bench, face, {width, depth});
+    if (!allowed)
+        return allowed.error();
+    const auto faces = bench.faces_of(edge);
+    if (!faces)
+        return refused(GWB_WHY_NO_EDGE, edge.number());
+    if ((*faces)[0] != face && (*faces)[1] != face)
+        return impossible(Misfit::not_of_face, edge.number());
+    return change(bench, face, shoulder_tool(bench, (*faces)[0] == face ? plus(edge) : minus(edge), width, depth), true);
+}
+
+inline Result<Face> make_chamfer(const Attempts &bench, Edge edge, std::int64_t width, std::int64_t other)
+{
+    if (width < 1 || other < 1)
+        return refused(GWB_WHY_SIZE_RANGE, width < 1 ? 1 : 2);
+    if (!bench.edge(edge))
+        return bench.is_open() ? refused(GWB_WHY_NO_EDGE, edge.number()) : Failure{Problem::closed};
+    const Result<bool> is_outer = bends_outwards(bench, plus(edge));
+    if (!is_outer)
+        return is_outer.error();
+    const Result<Notch> made = change(bench, *bench.face_of(plus(edge)), chamfer_tool(bench, plus(edge), width, other), *is_outer);
+    return made ? Result<Face>(made->floor.front()) : Result<Face>(made.error());
+}
+
+} // namespace shaping
+
+/// A pocket so deep behind the face whose outline may reach the edges of the face; there it is open, and where it is as deep as the solid it goes
+/// through.
+///
+/// Refused: NoFace; NotFlat: the face, or one near, isn't flat; SizeRange; PointRange, FewPoints, RepeatedPoint, NoArea, NotInPlane,
+/// OutlineCrossed; OutlineOutside: the outline reaches beyond the face; OffLattice: no whole vector along the normal is so long, or edges would
+/// cross between whole coordinates; Meets: what is cut out reaches out of the solid elsewhere, or the solid would touch itself; NothingLeft.
+template <class Policy>
+typename Policy::template Returned<Notch> notch(Commands<Policy> &bench, Face face, Items<Point> points, std::int64_t depth)
+{
+    return machining::as_one(bench, "notch", [&](const Attempts &attempt) {
+        return shaping::cut_in_face(attempt, face, points, {depth}, [&](const machining::Path &path) {
+            return shaping::notch_tool(attempt, face, path, depth);
+        });
+    });
+}
+
+/// A slot with a flat floor, so wide and deep, whose middle line runs in the face from one point to another. Refused as notch is; OffLattice:
+/// half of the width isn't whole across the line.
+template <class Policy>
+typename Policy::template Returned<Notch> slot(Commands<Policy> &bench, Face face, Point start, Point end, std::int64_t width, std::int64_t depth)
+{
+    return machining::as_one(bench, "slot", [&](const Attempts &attempt) {
+        return shaping::cut_in_face(attempt, face, {start, end}, {width, depth}, [&](const machining::Path &ends) {
+            return shaping::slot_tool(attempt, face, ends, width, depth);
+        });
+    });
+}
+
+/// A groove like a V, so wide at the face and so deep under its middle line, which runs from one point to another; it has no floor. Refused as
+/// slot is.
+template <class Policy>
+typename Policy::template Returned<Notch> groove(Commands<Policy> &bench, Face face, Point start, Point end, std::int64_t width, std::int64_t depth)
+{
+    return machining::as_one(bench, "groove", [&](const Attempts &attempt) {
+        return shaping::cut_in_face(attempt, face, {start, end}, {width, depth}, [&](const machining::Path &ends) {
+            return shaping::groove_tool(attempt, face, ends, width, depth);
+        });
+    });
+}
+
+/// A step along an edge of the face: so wide in the face, from the edge on, and so deep behind it. Refused as notch is; NoEdge; NotOfFace: the
+/// edge isn't one of the face.
+template <class Policy>
+typename Policy::template Returned<Notch> shoulder(Commands<Policy> &bench, Face face, Edge edge, std::int64_t width, std::int64_t depth)
+{
+    return machining::as_one(bench, "shoulder", [&](const Attempts &attempt) { return shaping::cut_shoulder(attempt, face, edge, width, depth); });
+}
+
+/// The edge becomes a sloping face, which begins so far from it in the face of its first half-edge, and in the other one as far, or so far as
+/// `other` says: the face. At an edge that bends inwards the room is filled.
+///
+/// Refused: NoEdge; SizeRange; NotFlat: a face of the edge isn't flat, or the slope wouldn't be; FlatEdge: both lie in one plane; OffLattice: a
+/// corner wouldn't be whole; OutlineOutside, Meets: there is no room for it.
+template <class Policy>
+typename Policy::template Returned<Face> chamfer(Commands<Policy> &bench, Edge edge, std::int64_t width, std::optional<std::int64_t> other = {})
+{
+    return machining::as_one(bench, "chamfer", [&](const Attempts &attempt) {
+        return shaping::make_chamfer(attempt, edge, width, other.value_or(width));
+    });
+}
+
+} // namespace gwb_session
+#endif
