@@ -1051,7 +1051,8 @@ public:
     Returned<void> sweep(Face face, Point along) { return told("sweep", gwb_sweep(held(), face.number(), along.x, along.y, along.z)); }
     /// The two solids of the faces become one along them. The faces go through the same points in opposite directions.
     Returned<void> glue(Face face, Face other) { return told("glue", gwb_glue(held(), face.number(), other.number())); }
-    /// What lies above the plane a x + b y + c z + d = 0, where the sum is greater than 0, becomes solid `above`.
+    /// What lies above the plane a x + b y + c z + d = 0, where the sum is greater than 0, becomes solid `above`. Where it is refused
+    /// NotLattice, off_lattice of gwb_off_lattice.hpp says what would do.
     Returned<void> split(Solid solid, std::int64_t a, std::int64_t b, std::int64_t c, std::int64_t d, Solid above)
     {
         return told("split", gwb_split(held(), solid.number(), a, b, c, d, above.number()));

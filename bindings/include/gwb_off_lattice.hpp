@@ -1,0 +1,589 @@
+/// @file gwb_off_lattice.hpp What is to be said of a split that is refused since its points aren't whole (NotLattice), for C++17: where the
+/// plane cuts edges, by how much the model would have to be scaled, and which planes nearby would do.
+///
+///     if (Result<Solid> above = bench.attempt().split(block, 2, 0, 0, -3); above.error().is(GWB_WHY_NOT_LATTICE))
+///         std::cout << off_lattice(bench, block, {2, 0, 0, -3}).advice(Solid(2));
+///
+/// It takes time by the edges of the solid for each of some 14,000 planes at most, of which nearly all are given up at their first edge.
+#ifndef GWB_OFF_LATTICE_HPP
+#define GWB_OFF_LATTICE_HPP
+#include "gwb_exact.hpp"
+#include <cmath>
+#include <limits>
+#include <set>
+
+namespace gwb_session {
+
+/// The plane a x + b y + c z + d = 0; above it the sum is greater than 0.
+struct CutPlane {
+    std::int64_t a, b, c, d;
+};
+
+/// A fraction by its least terms, of which the second is above zero.
+struct Fraction {
+    exact::Wide numerator = 0, denominator = 1;
+
+    [[nodiscard]] bool is_whole() const { return denominator == 1; }
+    [[nodiscard]] double value() const { return static_cast<double>(numerator) / static_cast<double>(denominator); }
+    /// As 7/2, or 7 where it is whole.
+    [[nodiscard]] std::string text() const { return is_whole() ? digits(numerator) : digits(numerator) + "/" + digits(denominator); }
+
+    /// A whole number in decimal digits.
+    static std::string digits(exact::Wide number)
+    {
+        std::string text;
+        for (exact::Wide left = exact::magnitude(number); left != 0 || text.empty(); left /= 10)
+            text.insert(text.begin(), static_cast<char>('0' + static_cast<int>(left % 10)));
+        return number < 0 ? "-" + text : text;
+    }
+};
+
+/// Where a plane cuts an edge between its ends.
+struct EdgeCut {
+    Edge edge;
+    std::array<Fraction, 3> point;
+
+    [[nodiscard]] bool is_whole() const { return point[0].is_whole() && point[1].is_whole() && point[2].is_whole(); }
+};
+
+/// A plane that cuts the solid at whole points alone.
+struct NearPlane {
+    CutPlane plane;
+    bool is_parallel; ///< else it is tilted
+    double moved;     ///< how far it moves the cut along an edge at most, rounded up to hundredths
+};
+
+/// A cut of a solid by a plane, of which some points may not be whole.
+struct OffLattice {
+    Solid solid;
+    CutPlane plane;
+    std::vector<EdgeCut> cuts; ///< of all edges that the plane cuts, rising
+    /// The least by which the model must be multiplied for all points of the cut to be whole: 1 where they are, 0 where it passes 10^36.
+    exact::Wide factor = 1;
+    /// Whether the model times the factor stays within 1,000,000,000, and the plane in its range: then the plane a, b, c, d times the factor
+    /// cuts it at whole points.
+    bool fits = true;
+    std::vector<NearPlane> near; ///< the nearest parallel plane, where there is one, and then tilted ones, the nearest first
+
+    /// Lines of a script: comments, and the splits that would do, with the number for the solid above the plane.
+    [[nodiscard]] std::string advice(Solid above) const
+    {
+        std::string text;
+        for (const EdgeCut &cut : cuts)
+            if (!cut.is_whole())
+                text += "# edge " + std::to_string(cut.edge.number()) + " is cut at " + cut.point[0].text() + " " + cut.point[1].text() + " " +
+                        cut.point[2].text() + "\n";
+        return text + scaled(above) + nearby(above);
+    }
+
+private:
+    [[nodiscard]] std::string scaled(Solid above) const
+    {
+        const std::string times = "# times " + (factor != 0 ? Fraction::digits(factor) : "more than 10^36");
+        if (!fits)
+            return times + " all points are whole, but the model would lie past 1,000,000,000\n";
+        if (factor == 1)
+            return "";
+        const auto offset = static_cast<std::int64_t>(plane.d * factor);
+        return times + " (gwb-script --scale " + Fraction::digits(factor) + ") all points are whole:\n" +
+               split({plane.a, plane.b, plane.c, offset}, above);
+    }
+    [[nodiscard]] std::string nearby(Solid above) const
+    {
+        const bool has_parallel = !near.empty() && near.front().is_parallel;
+        std::string text = has_parallel || factor == 1 ? "" : "# no parallel plane cuts at whole points\n";
+        for (const NearPlane &beside : near) {
+            const auto hundredths = std::llround(beside.moved * 100);
+            const std::string rest = std::to_string(hundredths % 100);
+            text += std::string(beside.is_parallel ? "# parallel" : "# tilted") + ", the cut moves by at most " + std::to_string(hundredths / 100) +
+                    (rest.size() < 2 ? ".0" : ".") + rest + " along an edge:\n" + split(beside.plane, above);
+        }
+        return text;
+    }
+    [[nodiscard]] std::string split(const CutPlane &by, Solid above) const
+    {
+        std::string text = "split " + std::to_string(solid.number());
+        for (std::int64_t part : {by.a, by.b, by.c, by.d, static_cast<std::int64_t>(above.number())})
+            text += " " + std::to_string(part);
+        return text + "\n";
+    }
+};
+
+namespace cutting {
+
+using namespace exact;
+
+/// The offset of a plane lies within this.
+constexpr Wide farthest_offset = 3 * Wide{farthest} * farthest;
+
+struct Plane {
+    Vector across;
+    Wide offset;
+
+    [[nodiscard]] Wide height(const Vector &at) const { return dot(across, at) + offset; }
+    [[nodiscard]] CutPlane numbers() const
+    {
+        const Point way = point(across);
+        return {way.x, way.y, way.z, static_cast<std::int64_t>(offset)};
+    }
+};
+
+/// A fraction by its least terms.
+inline Fraction fraction(Wide numerator, Wide denominator)
+{
+    const Wide divisor = denominator < 0 ? -greatest_divisor(numerator, denominator) : greatest_divisor(numerator, denominator);
+    return {numerator / divisor, denominator / divisor};
+}
+
+struct Ends {
+    Edge edge;
+    Vector start, end;
+
+    [[nodiscard]] Vector along() const { return subtract(end, start); }
+    /// In how many parts whole points divide it: 0 where it has no length.
+    [[nodiscard]] Wide parts() const { return greatest_divisor(greatest_divisor(along()[0], along()[1]), along()[2]); }
+    [[nodiscard]] bool is_cut(const Plane &plane) const { return sign(plane.height(start)) * sign(plane.height(end)) < 0; }
+    /// How far along it the plane meets it: 0 at its start, 1 at its end.
+    [[nodiscard]] Fraction met(const Plane &plane) const { return fraction(plane.height(start), plane.height(start) - plane.height(end)); }
+    [[nodiscard]] EdgeCut cut(const Plane &plane) const
+    {
+        const Fraction way = met(plane);
+        const auto part = [&](std::size_t axis) { return fraction(start[axis] * way.denominator + along()[axis] * way.numerator, way.denominator); };
+        return {edge, {part(0), part(1), part(2)}};
+    }
+};
+
+/// The whole numbers remainder + k modulus, whose modulus is 1 or more.
+struct Congruence {
+    Wide remainder = 0, modulus = 1;
+
+    friend bool operator<(const Congruence &a, const Congruence &b)
+    {
+        return std::pair(a.modulus, a.remainder) < std::pair(b.modulus, b.remainder);
+    }
+    [[nodiscard]] static Wide rest(Wide number, Wide modulus) { return (number % modulus + modulus) % modulus; }
+    [[nodiscard]] bool has(Wide number) const { return rest(number - remainder, modulus) == 0; }
+    /// The greatest of the numbers that is at most the wanted one.
+    [[nodiscard]] Wide at_most(Wide wanted) const { return wanted - rest(wanted - remainder, modulus); }
+
+    /// The numbers in both, by the Chinese remainder theorem.
+    [[nodiscard]] std::optional<Congruence> and_also(const Congruence &other) const
+    {
+        const Wide shared = greatest_divisor(modulus, other.modulus), step = other.modulus / shared;
+        if ((other.remainder - remainder) % shared != 0)
+            return std::nullopt;
+        const Wide times = rest((other.remainder - remainder) / shared, step) * inverse(rest(modulus / shared, step), step) % step;
+        return Congruence{rest(remainder + modulus * times, modulus * step), modulus * step};
+    }
+
+private:
+    /// What times the number leaves 1, where both have no divisor in common.
+    static Wide inverse(Wide number, Wide modulus)
+    {
+        Wide before = modulus, now = number, old = 0, found = 1;
+        while (now > 1) {
+            const Wide times = before / now;
+            before = std::exchange(now, before % now);
+            old = std::exchange(found, old - times * found);
+        }
+        return rest(found, modulus);
+    }
+};
+
+/// Offsets, both ends among them, at which planes of one normal cut the same edges.
+struct Band {
+    Wide low, high;
+
+    /// How far the fraction lies beside the band, times its denominator.
+    [[nodiscard]] Wide gap(const Fraction &offset) const
+    {
+        return std::max({low * offset.denominator - offset.numerator, offset.numerator - high * offset.denominator, Wide{0}});
+    }
+};
+
+/// The offsets at which planes of one normal meet the ends of an edge, and those at which they meet a whole point of it.
+struct Span {
+    Wide low, high;
+    Congruence whole;
+
+    [[nodiscard]] bool crosses(const Band &band) const { return low < band.low && band.high < high; }
+};
+
+/// An edge that isn't level between its ends has whole points at every so many offsets; a level one is never cut.
+inline Span span_of(const Vector &normal, const Ends &ends)
+{
+    const Wide first = -dot(normal, ends.start), last = -dot(normal, ends.end);
+    const Wide step = first != last ? magnitude(last - first) / ends.parts() : 1;
+    return {std::min(first, last), std::max(first, last), {Congruence::rest(first, step), step}};
+}
+
+/// The heights of vertices between the lowest and the highest, and the ranges between them that hold a whole offset; the nearest first.
+inline std::vector<Band> bands_of(const std::vector<Span> &spans, const Fraction &offset)
+{
+    std::set<Wide> levels;
+    for (const Span &span : spans)
+        levels.insert({span.low, span.high});
+    std::vector<Band> bands;
+    for (auto low = levels.begin(), high = std::next(low); high != levels.end(); low = high++) {
+        if (*low + 1 < *high)
+            bands.push_back({*low + 1, *high - 1});
+        if (std::next(high) != levels.end())
+            bands.push_back({*high, *high});
+    }
+    std::stable_sort(bands.begin(), bands.end(), [&](const Band &a, const Band &b) { return a.gap(offset) < b.gap(offset); });
+    return bands;
+}
+
+/// The whole offset of the band nearest a given one that all edges which are cut there ask for.
+inline std::optional<Wide> nearest_in(const Band &band, const Fraction &offset, const std::set<Congruence> &asked)
+{
+    constexpr Wide wide_enough = Wide{1} << 62; // so that a band has two such numbers at most
+    std::optional<Congruence> common = Congruence();
+    for (auto it = asked.begin(); it != asked.end() && common && common->modulus <= wide_enough; ++it)
+        common = common->and_also(*it);
+    if (!common)
+        return std::nullopt;
+    const Wide whole = (offset.numerator - Congruence::rest(offset.numerator, offset.denominator)) / offset.denominator;
+    const Wide below = common->at_most(std::min(band.high, std::max(band.low - 1, whole)));
+    std::optional<Wide> found;
+    for (Wide beside : {below, below + common->modulus}) {
+        const bool is_asked = std::all_of(asked.begin(), asked.end(), [&](const Congruence &one) { return one.has(beside); });
+        if (band.low <= beside && beside <= band.high && is_asked && (!found || Band{beside, beside}.gap(offset) < Band{*found, *found}.gap(offset)))
+            found = beside;
+    }
+    return found;
+}
+
+/// How often a loop with corners at these heights passes through the plane; none where it only touches it somewhere.
+inline std::optional<int> cut_places(const std::vector<int> &heights)
+{
+    int count = 0;
+    for (std::size_t at = 0; at < heights.size(); at++) {
+        const int before = heights[(at + heights.size() - 1) % heights.size()], level = heights[at], after = heights[(at + 1) % heights.size()];
+        if (level == 0 && before * after >= 0)
+            return std::nullopt;
+        count += level == 0 || level * after < 0;
+    }
+    return count;
+}
+
+/// Whether a face lies on one side of a plane, or can be cut by it: given on which side the corners of its loops lie, the outer one first.
+inline bool is_drawn(const std::vector<std::vector<int>> &loops)
+{
+    bool is_below = false, is_above = false;
+    for (const std::vector<int> &loop : loops) {
+        is_below = is_below || *std::min_element(loop.begin(), loop.end()) < 0;
+        is_above = is_above || *std::max_element(loop.begin(), loop.end()) > 0;
+    }
+    if (!is_below || !is_above)
+        return true;
+    int sum = 0;
+    bool is_missed = false;
+    for (const std::vector<int> &loop : loops) {
+        const std::optional<int> count = cut_places(loop);
+        if (!count || (&loop == &loops.front() && *count == 0))
+            return false;
+        sum += *count;
+        is_missed = is_missed || *count == 0;
+    }
+    return !is_missed || sum == 2;
+}
+
+/// The square of how far a cut moves: as a fraction where that fits, and as what is nearest.
+struct SquareMoved {
+    Fraction exact;
+    double value = 0;
+    bool fits = true;
+
+    /// So far along an edge whose square length is this.
+    SquareMoved(const Fraction &way, Wide square) : value(way.value() * way.value() * static_cast<double>(square))
+    {
+        Wide length = 0;
+        fits = !__builtin_mul_overflow(way.numerator, way.numerator, &length) && !__builtin_mul_overflow(length, square, &exact.numerator) &&
+               !__builtin_mul_overflow(way.denominator, way.denominator, &exact.denominator);
+    }
+    [[nodiscard]] int compare(const SquareMoved &other) const
+    {
+        if (fits && other.fits)
+            return compare_products(exact.numerator, other.exact.denominator, other.exact.numerator, exact.denominator);
+        return (value > other.value) - (value < other.value);
+    }
+};
+
+/// Looks for planes near one that cuts a solid.
+class NearPlanes {
+public:
+    NearPlanes(const Attempts &bench, Solid solid, const Plane &plane) : plane_(plane)
+    {
+        std::set<Edge> edges;
+        for (Face face : bench.faces(solid)) {
+            faces_.emplace_back();
+            for (Loop loop : bench.loops_of(face))
+                faces_.back().push_back(points_of(bench, loop, edges));
+        }
+        for (Edge edge : edges) {
+            const EdgeRow row = *bench.edge(edge);
+            edges_.push_back({edge, vector(*bench.vertex(row.from)), vector(*bench.vertex(row.to))});
+        }
+        std::copy_if(edges_.begin(), edges_.end(), std::back_inserter(cuts_), [&](const Ends &ends) { return ends.is_cut(plane); });
+        std::stable_partition(edges_.begin(), edges_.end(), [&](const Ends &ends) { return ends.is_cut(plane); });
+    }
+
+    [[nodiscard]] const std::vector<Ends> &cuts() const { return cuts_; }
+    /// How far a coordinate of the solid lies out at most.
+    [[nodiscard]] Wide reach() const
+    {
+        Wide reach = 0;
+        for (const std::vector<std::vector<Vector>> &face : faces_)
+            for (const std::vector<Vector> &loop : face)
+                for (const Vector &at : loop)
+                    reach = std::max(reach, longest(at));
+        return reach;
+    }
+
+    /// The nearest plane with the same normal.
+    [[nodiscard]] std::optional<NearPlane> parallel() const
+    {
+        const Vector normal = reduced(plane_.across);
+        const std::size_t axis = widest(normal);
+        const Fraction offset = fraction(plane_.offset * normal[axis], plane_.across[axis]);
+        std::vector<Span> spans;
+        for (const Ends &ends : edges_)
+            spans.push_back(span_of(normal, ends));
+        std::optional<Wide> best;
+        for (const Band &band : bands_of(spans, offset)) {
+            if (best && band.gap(offset) >= Band{*best, *best}.gap(offset))
+                break;
+            std::set<Congruence> asked;
+            for (const Span &span : spans)
+                if (span.crosses(band))
+                    asked.insert(span.whole);
+            const std::optional<Wide> found = nearest_in(band, offset, asked);
+            if (found && (!best || Band{*found, *found}.gap(offset) < Band{*best, *best}.gap(offset)) && is_cuttable({normal, *found}))
+                best = found;
+        }
+        return best ? near({normal, *best}, true) : std::nullopt;
+    }
+
+    /// The nearest of those through whole points of three cut edges, nearest first; at most so many.
+    [[nodiscard]] std::vector<NearPlane> tilted(std::size_t most) const
+    {
+        struct Ranked {
+            SquareMoved square;
+            Wide size;
+            Plane plane;
+        };
+        std::vector<Ranked> ranked;
+        for (const Plane &plane : candidates())
+            if (const std::optional<SquareMoved> square = is_whole(plane) ? square_moved(plane) : std::nullopt)
+                ranked.push_back({*square, size(plane), plane});
+        std::stable_sort(ranked.begin(), ranked.end(), [](const Ranked &a, const Ranked &b) {
+            const int nearer = a.square.compare(b.square);
+            return nearer != 0 ? nearer < 0 : a.size < b.size;
+        });
+        std::vector<NearPlane> found;
+        for (std::size_t at = 0; at < ranked.size() && found.size() < most; at++)
+            if (is_cuttable(ranked[at].plane))
+                found.push_back(*near(ranked[at].plane, false));
+        return found;
+    }
+
+private:
+    static std::vector<Vector> points_of(const Attempts &bench, Loop loop, std::set<Edge> &edges)
+    {
+        std::vector<Vector> points;
+        for (HalfEdge half_edge : bench.around(loop)) {
+            edges.insert(half_edge.edge());
+            points.push_back(vector(*bench.vertex(*bench.start_of(half_edge))));
+        }
+        if (points.empty())
+            points.push_back(vector(*bench.vertex(bench.lone_vertex(loop)->value_or(Vertex()))));
+        return points;
+    }
+
+    static std::size_t widest(const Vector &normal)
+    {
+        const Axes axes = flat_axes(normal);
+        return 3 - axes[0] - axes[1];
+    }
+
+    static Wide size(const Plane &plane)
+    {
+        return magnitude(plane.across[0]) + magnitude(plane.across[1]) + magnitude(plane.across[2]) + magnitude(plane.offset);
+    }
+
+    /// Some of the cuts, that lie apart: each is the farthest from those before it.
+    [[nodiscard]] std::vector<Ends> spread() const
+    {
+        constexpr std::size_t most = 12;
+        std::vector<std::array<double, 3>> points;
+        for (const Ends &ends : cuts_) {
+            const EdgeCut cut = ends.cut(plane_);
+            points.push_back({cut.point[0].value(), cut.point[1].value(), cut.point[2].value()});
+        }
+        std::vector<double> gaps(cuts_.size(), std::numeric_limits<double>::infinity());
+        std::vector<Ends> found;
+        while (found.size() < std::min(most, cuts_.size())) {
+            const auto farthest_one = static_cast<std::size_t>(std::max_element(gaps.begin(), gaps.end()) - gaps.begin());
+            found.push_back(cuts_[farthest_one]);
+            for (std::size_t at = 0; at < gaps.size(); at++) {
+                const auto square = [&](std::size_t axis) { return std::pow(points[at][axis] - points[farthest_one][axis], 2); };
+                gaps[at] = std::min(gaps[at], square(0) + square(1) + square(2));
+            }
+            gaps[farthest_one] = -1;
+        }
+        return found;
+    }
+
+    /// The whole points of an edge, its ends among them, next to where it is cut: two on either side.
+    [[nodiscard]] std::vector<Vector> whole_points(const Ends &ends) const
+    {
+        const Fraction way = ends.met(plane_);
+        const Wide parts = ends.parts(), last = parts * way.numerator / way.denominator;
+        const Vector step = reduced(ends.along());
+        std::vector<Vector> points;
+        for (Wide place = std::max(Wide{0}, last - 1); place <= std::min(parts, last + 2); place++)
+            points.push_back(add(ends.start, times(step, place)));
+        return points;
+    }
+
+    /// The planes through whole points of three cut edges that lie apart, each once, looking the way of the plane but not parallel to it.
+    [[nodiscard]] std::vector<Plane> candidates() const
+    {
+        std::vector<std::vector<Vector>> points;
+        for (const Ends &ends : spread())
+            points.push_back(whole_points(ends));
+        std::vector<Plane> found;
+        std::set<std::pair<Vector, Wide>> seen;
+        for (std::size_t i = 0; i < points.size(); i++)
+            for (std::size_t j = i + 1; j < points.size(); j++)
+                for (std::size_t k = j + 1; k < points.size(); k++)
+                    through_each(points[i], points[j], points[k], seen, found);
+        return found;
+    }
+
+    void through_each(const std::vector<Vector> &firsts, const std::vector<Vector> &seconds, const std::vector<Vector> &thirds,
+                      std::set<std::pair<Vector, Wide>> &seen, std::vector<Plane> &found) const
+    {
+        for (const Vector &first : firsts)
+            for (const Vector &second : seconds)
+                for (const Vector &third : thirds)
+                    if (const std::optional<Plane> plane = through(first, second, third); plane && seen.insert({plane->across, plane->offset}).second)
+                        found.push_back(*plane);
+    }
+
+    /// The plane through three points that looks the given way; none where they lie on a line, it is parallel, or out of range.
+    [[nodiscard]] std::optional<Plane> through(const Vector &first, const Vector &second, const Vector &third) const
+    {
+        Vector normal = cross(subtract(second, first), subtract(third, first));
+        const Wide way = dot(normal, plane_.across);
+        if (way == 0 || are_parallel(normal, plane_.across))
+            return std::nullopt;
+        normal = way > 0 ? normal : negative(normal);
+        const Wide offset = -dot(normal, first);
+        const Wide divisor = greatest_divisor(greatest_divisor(normal[0], normal[1]), greatest_divisor(normal[2], offset));
+        const Plane plane{{normal[0] / divisor, normal[1] / divisor, normal[2] / divisor}, offset / divisor};
+        return longest(plane.across) <= farthest && magnitude(plane.offset) <= farthest_offset ? std::optional(plane) : std::nullopt;
+    }
+
+    /// Whether the plane parts the solid, crossing edges at whole points alone.
+    [[nodiscard]] bool is_whole(const Plane &plane) const
+    {
+        bool is_above = false, is_below = false;
+        for (const Ends &ends : edges_) {
+            const Wide first = plane.height(ends.start), last = plane.height(ends.end);
+            for (std::size_t axis = 0; axis < 3 && sign(first) * sign(last) < 0; axis++)
+                if (ends.along()[axis] * first % (first - last) != 0)
+                    return false;
+            is_above = is_above || first > 0 || last > 0;
+            is_below = is_below || first < 0 || last < 0;
+        }
+        return is_above && is_below;
+    }
+
+    /// Whether no face would be refused as touched or as cut too often (TouchedFace, CutOften).
+    [[nodiscard]] bool is_cuttable(const Plane &plane) const
+    {
+        return std::all_of(faces_.begin(), faces_.end(), [&](const std::vector<std::vector<Vector>> &face) {
+            std::vector<std::vector<int>> heights;
+            for (const std::vector<Vector> &loop : face) {
+                std::vector<int> &of_loop = heights.emplace_back();
+                std::transform(loop.begin(), loop.end(), std::back_inserter(of_loop), [&](const Vector &at) { return sign(plane.height(at)); });
+            }
+            return is_drawn(heights);
+        });
+    }
+
+    /// The square of how far the plane moves the cut along an edge at most; none where it is parallel to one.
+    [[nodiscard]] std::optional<SquareMoved> square_moved(const Plane &plane) const
+    {
+        SquareMoved most(Fraction(), 0);
+        for (const Ends &ends : cuts_) {
+            if (plane.height(ends.start) == plane.height(ends.end))
+                return std::nullopt;
+            const Fraction old = ends.met(plane_), now = ends.met(plane);
+            const Fraction way = fraction(now.numerator * old.denominator - old.numerator * now.denominator, old.denominator * now.denominator);
+            if (const SquareMoved moved(way, dot(ends.along(), ends.along())); moved.compare(most) > 0)
+                most = moved;
+        }
+        return most;
+    }
+
+    /// The plane with how far it moves the cut.
+    [[nodiscard]] std::optional<NearPlane> near(const Plane &plane, bool is_parallel) const
+    {
+        const std::optional<SquareMoved> square = square_moved(plane);
+        // (less than what rounding adds is not rounded up)
+        return square ? std::optional(NearPlane{plane.numbers(), is_parallel, std::ceil(std::sqrt(square->value) * 100 - 1e-9) / 100}) : std::nullopt;
+    }
+
+    Plane plane_;
+    std::vector<std::vector<std::vector<Vector>>> faces_;
+    std::vector<Ends> edges_, cuts_;
+};
+
+inline Result<OffLattice> made(const Attempts &bench, Solid solid, const CutPlane &numbers, std::size_t most)
+{
+    if (bench.faces(solid).empty())
+        return bench.is_open() ? Failure{Problem::refused, GWB_WHY_NO_SOLID, solid.number()} : Failure{Problem::closed};
+    const Plane plane{{numbers.a, numbers.b, numbers.c}, numbers.d};
+    const std::array<Wide, 4> parts = {numbers.a, numbers.b, numbers.c, numbers.d};
+    for (std::uint32_t at = 0; at < 4; at++)
+        if (magnitude(parts[at]) > (at < 3 ? Wide{farthest} : farthest_offset))
+            return Failure{Problem::refused, GWB_WHY_PLANE_RANGE, at + 1};
+    const NearPlanes near(bench, solid, plane);
+    OffLattice found{solid, numbers, {}, 1, true, {}};
+    for (const Ends &ends : near.cuts())
+        found.cuts.push_back(ends.cut(plane));
+    constexpr Wide most_factor = Wide{1'000'000'000'000'000'000} * 1'000'000'000'000'000'000;
+    for (const EdgeCut &cut : found.cuts)
+        for (const Fraction &part : cut.point)
+            if (found.factor != 0) {
+                const Wide step = part.denominator / greatest_divisor(found.factor, part.denominator);
+                found.factor = step > most_factor / found.factor ? 0 : found.factor * step;
+            }
+    found.fits = found.factor == 1 || (found.factor != 0 && found.factor <= farthest && near.reach() * found.factor <= farthest &&
+                                       magnitude(parts[3]) * found.factor <= farthest_offset);
+    if (found.factor == 1)
+        return found;
+    if (const std::optional<NearPlane> parallel = near.parallel())
+        found.near.push_back(*parallel);
+    for (const NearPlane &tilted : near.tilted(most))
+        found.near.push_back(tilted);
+    return found;
+}
+
+} // namespace cutting
+
+/// What is to be said of the cut of a solid by a plane, with at most so many tilted planes; where all points are whole, no near planes.
+///
+/// Refused: NoSolid, PlaneRange.
+template <class Policy>
+typename Policy::template Returned<OffLattice> off_lattice(const Commands<Policy> &bench, Solid solid, const CutPlane &plane, std::size_t most = 3)
+{
+    const Result<OffLattice> found = cutting::made(bench.attempt(), solid, plane, most);
+    return found ? typename Policy::template Returned<OffLattice>(*found) : Policy::template failed<OffLattice>("off_lattice", found.error());
+}
+
+} // namespace gwb_session
+#endif
