@@ -12,6 +12,13 @@ pub enum Error {
         /// The number that goes with it; the text of the refusal says which.
         value: u32,
     },
+    /// A feature isn't possible.
+    Impossible {
+        /// Why.
+        misfit: Misfit,
+        /// The number that goes with it; the text of the misfit says which.
+        value: u32,
+    },
     /// The line is no command, by the number of the fault.
     Fault(u32),
     /// Memory was refused. The command may be given again.
@@ -27,10 +34,43 @@ pub enum Error {
     Unknown(u32),
 }
 
+/// Why a feature isn't possible, where it is no condition of a command. X is the value that goes with it.
+#[derive(Clone, Copy, Debug, PartialEq, Eq, Hash)]
+#[non_exhaustive]
+pub enum Misfit {
+    /// The outline has no area, or crosses itself.
+    NoArea,
+    /// Point X of the outline lies off the plane of the others, or of the face.
+    NotInPlane,
+    /// Side X of the outline crosses or touches another one.
+    OutlineCrossed,
+    /// The vector lies in the plane of the points.
+    AlongPlane,
+    /// The outline crosses or touches the boundary of face X, or doesn't lie inside.
+    OutlineOutside,
+    /// A ring of face X lies inside the outline.
+    OutlineAroundRing,
+    /// A point or a vector at face X would not be whole.
+    OffLattice,
+    /// What is made at face X would meet or touch the solid elsewhere.
+    Meets,
+    /// There is no face behind the outline in face X.
+    NoOpposite,
+    /// Face X, behind the outline, isn't parallel.
+    NotParallel,
+    /// Edge X is none of the face.
+    NotOfFace,
+    /// The faces of edge X lie in one plane.
+    FlatEdge,
+    /// Nothing of solid X would be left.
+    NothingLeft,
+}
+
 impl fmt::Display for Error {
     fn fmt(&self, f: &mut fmt::Formatter<'_>) -> fmt::Result {
         match self {
             Self::Refused { refusal, value } => write!(f, "{refusal} {value}"),
+            Self::Impossible { misfit, value } => write!(f, "{misfit:?} {value}"),
             Self::Fault(number) => write!(f, "fault {number}"),
             Self::Memory => f.write_str("memory was refused"),
             Self::NoCall => f.write_str("the arguments make no command"),

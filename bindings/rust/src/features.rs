@@ -2,6 +2,24 @@
 use crate::{lone, minus, plus, Corner, Draft, Edge, Error, Face, HalfEdge, Id, Loop, Mark, Operators, Point, Session, Solid, Vertex};
 use std::collections::HashMap;
 
+/// Methods of a draft, also as methods of a session, where each is one command.
+macro_rules! also_alone {
+    ($($name:ident($($given:ident: $type:ty),*) -> $made:ty;)*) => {
+        impl Session {
+            $(
+                #[doc = concat!("As [`Draft::", stringify!($name), "`], as one command.")]
+                ///
+                /// # Errors
+                #[doc = concat!("As those of [`Draft::", stringify!($name), "`].")]
+                pub fn $name(&mut self, $($given: $type),*) -> Result<$made, Error> {
+                    self.drafted_alone(|draft| draft.$name($($given),*))
+                }
+            )*
+        }
+    };
+}
+pub(crate) use also_alone;
+
 /// Where points go: each axis to an axis, either way round, and then by a vector.
 #[derive(Clone, Copy, Debug, PartialEq, Eq)]
 pub struct Motion {
@@ -75,6 +93,15 @@ impl Draft<'_> {
 
     /// A new solid, that is another moved; its numbers are above all in use.
     ///
+    /// ```
+    /// # use gwb::{Error, Motion, Session};
+    /// # let mut session = Session::new()?;
+    /// let block = session.block(None, [0, 0, 0], [4, 4, 4])?;
+    /// let other = session.copy_solid(block, Motion::by([9, 0, 0]))?;
+    /// assert_eq!((session.six_volumes(other)?, session.depth()), (384, 2));
+    /// # Ok::<(), Error>(())
+    /// ```
+    ///
     /// # Errors
     /// [`Error::Refused`] where the solid is not there, a vertex would lie out of range, or too few numbers are left; [`Error::Memory`].
     /// Then the draft is as it was.
@@ -95,48 +122,21 @@ impl Draft<'_> {
     }
 
     /// Gives commands that stand or fall together.
-    fn together<T>(&mut self, give: impl FnOnce(&mut Self, Mark) -> Result<T, Error>) -> Result<T, Error> {
+    pub(crate) fn together<T>(&mut self, give: impl FnOnce(&mut Self, Mark) -> Result<T, Error>) -> Result<T, Error> {
         let mark = self.mark();
         give(self, mark).or_else(|error| self.back(mark).and(Err(error)))
     }
 }
 
+also_alone! {
+    kill_solid(solid: Solid) -> ();
+    copy_solid(solid: Solid, motion: Motion) -> Solid;
+    move_solid(solid: Solid, motion: Motion) -> ();
+}
+
 impl Session {
-    /// As [`Draft::kill_solid`], as one command.
-    ///
-    /// # Errors
-    /// As those of [`Draft::kill_solid`].
-    pub fn kill_solid(&mut self, solid: Solid) -> Result<(), Error> {
-        self.drafted_alone(|draft| draft.kill_solid(solid))
-    }
-
-    /// As [`Draft::copy_solid`], as one command.
-    ///
-    /// ```
-    /// # use gwb::{Error, Motion, Session};
-    /// # let mut session = Session::new()?;
-    /// let block = session.block(None, [0, 0, 0], [4, 4, 4])?;
-    /// let other = session.copy_solid(block, Motion::by([9, 0, 0]))?;
-    /// assert_eq!((session.six_volumes(other)?, session.depth()), (384, 2));
-    /// # Ok::<(), Error>(())
-    /// ```
-    ///
-    /// # Errors
-    /// As those of [`Draft::copy_solid`].
-    pub fn copy_solid(&mut self, solid: Solid, motion: Motion) -> Result<Solid, Error> {
-        self.drafted_alone(|draft| draft.copy_solid(solid, motion))
-    }
-
-    /// As [`Draft::move_solid`], as one command.
-    ///
-    /// # Errors
-    /// As those of [`Draft::move_solid`].
-    pub fn move_solid(&mut self, solid: Solid, motion: Motion) -> Result<(), Error> {
-        self.drafted_alone(|draft| draft.move_solid(solid, motion))
-    }
-
     /// Gives commands in a draft of their own.
-    fn drafted_alone<T>(&mut self, give: impl FnOnce(&mut Draft<'_>) -> Result<T, Error>) -> Result<T, Error> {
+    pub(crate) fn drafted_alone<T>(&mut self, give: impl FnOnce(&mut Draft<'_>) -> Result<T, Error>) -> Result<T, Error> {
         let mut draft = self.draft()?;
         let value = give(&mut draft)?;
         draft.commit()?;
@@ -163,7 +163,7 @@ enum Step {
 }
 
 /// A solid that was taken apart by operators: their inverses, of which the last one comes first, make it again.
-struct TakenApart {
+pub(crate) struct TakenApart {
     steps: Vec<Step>,
 }
 
@@ -184,7 +184,7 @@ fn point(operators: &Operators, vertex: Vertex) -> Point {
 
 impl TakenApart {
     /// Takes a solid apart in a draft: it is gone then.
-    fn take(draft: &mut Operators, solid: Solid) -> Result<Self, Error> {
+    pub(crate) fn take(draft: &mut Operators, solid: Solid) -> Result<Self, Error> {
         let mut parts = Self { steps: Vec::new() };
         if draft.faces(solid).next().is_none() {
             return draft.kvfs(solid).map(|()| parts); // which is refused

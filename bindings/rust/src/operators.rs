@@ -245,7 +245,7 @@ impl Operators {
     /// The solid is cut in two by the plane a x + b y + c z + d = 0; what lies where the sum is positive becomes the solid `above`.
     ///
     /// # Errors
-    /// [`Error::Refused`], [`Error::Memory`].
+    /// [`Error::Refused`], [`Error::Memory`]. Of `NotLattice` [`off_lattice`](crate::Readers::off_lattice) says what would do.
     pub fn split(&mut self, solid: Solid, [a, b, c, d]: [i64; 4], above: impl Into<Option<Solid>>) -> Result<Solid, Error> {
         let above = self.named(above);
         self.told(unsafe { gwb_sys::gwb_split(self.handle(), solid.0, a, b, c, d, above.0) })?;
