@@ -134,6 +134,9 @@ built 'history is built' library_history.cpp "${CXX:-c++}" -std=c++17 -Wold-styl
 counted 'history, and values that follow it' "$dir/built/library_history"
 built 'features are built' library_features.cpp "${CXX:-c++}" -std=c++17 -Wold-style-cast -Wshadow
 counted 'solids killed, copied and moved' "$dir/built/library_features"
+built 'machining is built' library_machining.cpp "${CXX:-c++}" -std=c++17 -Wold-style-cast -Wshadow
+counted 'features and cuts as in Python, and beside unit cubes' "$dir/built/library_machining"
+counted 'the table of features, by Python' python3 tests/library_features.py "$dir/built/libgwb.so"
 built 'threads are built' library_threads.c "${CC:-cc}" -std=gnu11 -O2 -pthread
 counted 'threads that read at once' "$dir/built/library_threads"
 built 'threads in C++ are built' library_sharing.cpp "${CXX:-c++}" -std=c++17 -pthread -Wold-style-cast -Wshadow
@@ -143,10 +146,11 @@ counted 'heaps of sessions' "$dir/built/library_heap"
 built 'loading is built' library_load.c "${CC:-cc}" -std=gnu11 -O2
 counted 'models loaded of their listings' "$dir/built/library_load"
 prints 'the example in Python' bindings/examples/block_python.expected bindings/examples/block.py "$dir/built/libgwb.so"
-if has rustc 'the crate and the example in Rust are built' 'the example in Rust' 'the tests in Rust, session' 'the tests in Rust, features'; then
+if has rustc 'the crate and the example in Rust are built' 'the example in Rust' 'the tests in Rust, session' 'the tests in Rust, features' \
+    'the tests in Rust, machining'; then
     tried 'the crate and the example in Rust are built' make_here rust
     prints 'the example in Rust' bindings/examples/block_rust.expected "$dir/built/block_rust"
-    for name in session features; do
+    for name in session features machining; do
         tried "the tests in Rust, $name" "$dir/built/${name}_rust"
     done
 fi
@@ -161,7 +165,7 @@ if has cargo 'cargo check where there is no archive' 'cargo doc where there is n
         --manifest-path bindings/rust/Cargo.toml
 fi
 # (each is a program that was built above)
-in_cpp='library_cpp library_results library_history library_features library_heap library_load'
+in_cpp='library_cpp library_results library_history library_features library_machining library_heap library_load'
 threads='library_threads library_sharing'
 if has valgrind 'valgrind over the example in C' $in_cpp $threads; then
     tried 'valgrind over the example in C' valgrind -q --error-exitcode=9 --leak-check=full --show-leak-kinds=all "$dir/built/block_c"
@@ -190,7 +194,7 @@ if "${CC:-cc}" $sanitizers -o "$dir/empty" "$dir/empty.c" 2> "$dir/err" && "$dir
     for name in library_heap library_load library_threads library_worked; do
         sanitized "$name.c" "${CC:-cc}" -std=gnu11
     done
-    for name in library_cpp library_history library_features library_sharing; do
+    for name in library_cpp library_history library_features library_machining library_sharing; do
         sanitized "$name.cpp" "${CXX:-c++}" -std=c++17
     done
     sanitized library_results.cpp "${CXX:-c++}" -std=c++17 -fno-exceptions

@@ -1,6 +1,7 @@
 // Tries gwb.hpp in a program without exceptions (-fno-exceptions): a Session, whose calls give Results. The last line counts.
-#include "gwb_features.hpp"
 #include "gwb_history.hpp"
+#include "gwb_off_lattice.hpp"
+#include "gwb_shaping.hpp"
 #include <cstdio>
 
 #if defined(__cpp_exceptions)
@@ -62,6 +63,17 @@ static void try_layers(Session &session)
     check(session.undo() && session.undo(), "both are commands");
 }
 
+static void try_features()
+{
+    Session session = std::move(*Session::opened());
+    const Result<Profile> plate = profile(session, {{0, 0, 0}, {9, 0, 0}, {9, 8, 0}, {0, 8, 0}}, {0, 0, 7});
+    check(plate && pocket(session, plate->far, {{2, 2, 7}, {4, 2, 7}, {4, 4, 7}}, 3), "a pocket in a plate");
+    const Result<Pocket> deep = pocket(session, plate->far, {{6, 2, 7}, {8, 2, 7}, {8, 4, 7}}, 7);
+    check(deep.error().is(Misfit::meets) && std::string_view(deep.error().name()) == "Meets", "one that comes through");
+    check(slot(session, plate->far, {6, 0, 7}, {6, 8, 7}, 2, 1) && *session.depth() == 3, "a slot");
+    check(off_lattice(session, plate->solid, {2, 0, 0, -3})->factor == 2, "a cut between whole points");
+}
+
 static void try_ends(Session session)
 {
     Session moved = std::move(session);
@@ -83,6 +95,7 @@ int main()
     try_readers(*session);
     try_drafts(*session);
     try_layers(*session);
+    try_features();
     try_ends(std::move(*session));
     std::printf("%d passed, %d failed\n", passed, failed);
     return failed == 0 ? 0 : 1;

@@ -1,0 +1,211 @@
+//! Features of outlines and up to the edges of faces, and cuts between whole points, as the session in Python gives them.
+use gwb::{Edge, Error, Face, HalfEdge, Misfit, Point, Readers, Refusal, Session, Solid};
+use std::collections::BTreeSet;
+use std::fmt::Debug;
+
+const TABLE: &str = include_str!("../../../tests/library_features.table");
+
+fn half_edge(readers: &Readers, solid: Solid, from: Point, to: Point) -> HalfEdge {
+    let at = |vertex: Option<_>| vertex.and_then(|vertex| readers.vertex(vertex));
+    let mut halves = readers.faces(solid).flat_map(|face| readers.half_edges_of(face));
+    halves.find(|&half| at(readers.start_of(half)) == Some(from) && at(readers.end_of(half)) == Some(to)).unwrap_or_default()
+}
+
+/// Six times the volume, the vertices, edges, faces and rings of a solid, and a sum over its points.
+fn measures(readers: &Readers, solid: Solid) -> String {
+    let count = readers.count(solid).unwrap();
+    let vertices: BTreeSet<_> = readers.half_edge_rows(solid).iter().map(|row| row.start).collect();
+    let points = vertices.into_iter().map(|vertex| readers.vertex(vertex).unwrap());
+    let sum: i64 = points.map(|at| (at.x + 101) * (at.y + 211) * (at.z + 307)).sum();
+    format!("ok {} {} {} {} {} {sum}", readers.six_volumes(solid).unwrap(), count.vertices, count.edges, count.faces, count.rings)
+}
+
+/// The numbers of a line, one after another.
+struct Numbers(std::vec::IntoIter<i64>);
+
+impl Numbers {
+    fn of(text: &str) -> Self {
+        Self(text.split_whitespace().map(|word| word.parse().unwrap()).collect::<Vec<_>>().into_iter())
+    }
+
+    fn number(&mut self) -> i64 {
+        self.0.next().unwrap()
+    }
+
+    fn point(&mut self) -> Point {
+        Point { x: self.number(), y: self.number(), z: self.number() }
+    }
+
+    fn points(&mut self) -> Vec<Point> {
+        std::iter::from_fn(|| (self.0.len() > 0).then(|| self.point())).collect()
+    }
+}
+
+/// What a feature gives, by the name of what it is refused for.
+fn given<T: Debug>(session: &Session, solid: Solid, made: &Result<T, Error>) -> String {
+    match made {
+        Ok(_) => measures(session, solid),
+        Err(Error::Refused { refusal, .. }) => format!("{refusal:?}"),
+        Err(Error::Impossible { misfit, .. }) => format!("{misfit:?}"),
+        Err(other) => panic!("{other}"),
+    }
+}
+
+fn feature(session: &mut Session, solid: Solid, word: &str, numbers: &mut Numbers) -> String {
+    let (from, to) = (numbers.point(), numbers.point());
+    let side = half_edge(session, solid, from, to);
+    let face = session.face_of(side).unwrap();
+    let mut next = || numbers.number();
+    let made = match word {
+        "chamfer" => {
+            let (width, other) = (next(), next());
+            let made = if side.is_second() { session.chamfer(side.edge(), other, width) } else { session.chamfer(side.edge(), width, other) };
+            let said = given(session, solid, &made);
+            // (its first half-edge may run the other way here: then what is refused may be found in its other face first)
+            return if made.is_err() && side.is_second() { "refused".to_owned() } else { said };
+        }
+        "shoulder" => {
+            let edge = half_edge(session, solid, numbers.point(), numbers.point()).edge();
+            session.shoulder(face, edge, numbers.number(), numbers.number())
+        }
+        "slot" => session.slot(face, numbers.point(), numbers.point(), numbers.number(), numbers.number()),
+        "groove" => session.groove(face, numbers.point(), numbers.point(), numbers.number(), numbers.number()),
+        "notch" => {
+            let depth = next();
+            session.notch(face, &numbers.points(), depth)
+        }
+        other => return outlined(session, solid, other, face, numbers),
+    };
+    given(session, solid, &made)
+}
+
+fn outlined(session: &mut Session, solid: Solid, word: &str, face: Face, numbers: &mut Numbers) -> String {
+    let depth = if word == "pocket" || word == "boss" { numbers.number() } else { 0 };
+    let points = numbers.points();
+    let made = match word {
+        "pocket" => session.pocket(face, &points, depth).map(drop),
+        "boss" => session.boss(face, &points, depth).map(drop),
+        "hole" => session.hole(face, &points).map(drop),
+        _ => session.ring(face, &points).map(drop),
+    };
+    given(session, solid, &made)
+}
+
+/// A solid that is begun by a line, if it is.
+fn begun(session: &mut Session, word: &str, text: &str) -> Option<Solid> {
+    let numbers = || Numbers::of(text);
+    Some(match word {
+        "block" => session.block(None, [0, 0, 0], numbers().point()).unwrap(),
+        "profile" => {
+            let mut numbers = numbers();
+            let along = numbers.point();
+            session.profile(None, &numbers.points(), along).unwrap().solid
+        }
+        "model" => {
+            session.load(&(text.replace(';', "\n") + "\n")).unwrap();
+            session.numbers::<Solid>().next().unwrap()
+        }
+        _ => return None,
+    })
+}
+
+/// What is said of a cut: how many edges it cuts, and the factor; and the advice.
+fn cut(session: &Session, solid: Solid, text: &str) -> (String, String) {
+    let mut numbers = Numbers::of(text);
+    let said = session.off_lattice(solid, [0; 4].map(|_: i64| numbers.number()), 3).unwrap();
+    (format!("ok {} {}", said.cuts.len(), said.factor.unwrap()), said.advice(Solid(77)))
+}
+
+#[test]
+fn as_in_python() {
+    let (mut session, mut solid, mut advice) = (Session::new().unwrap(), Solid(0), String::new());
+    for line in TABLE.lines() {
+        if let Some(wanted) = line.strip_prefix("> ") {
+            let (said, rest) = advice.split_once('\n').unwrap();
+            assert_eq!(said, wanted);
+            advice = rest.to_owned();
+            continue;
+        }
+        assert_eq!(advice, "", "more is said of a cut");
+        if line == "part" {
+            session = Session::new().unwrap();
+            continue;
+        }
+        let (call, wanted) = line.split_once(" = ").unwrap();
+        let (word, text) = call.split_once(' ').unwrap();
+        let (before, depth) = (session.listing().unwrap(), session.depth());
+        let gives = if let Some(begun) = begun(&mut session, word, text) {
+            solid = begun;
+            measures(&session, solid)
+        } else if word == "cut" {
+            let (gives, said) = cut(&session, solid, text);
+            advice = said;
+            gives
+        } else {
+            feature(&mut session, solid, word, &mut Numbers::of(text))
+        };
+        assert!(gives == wanted || gives == "refused" && !wanted.starts_with("ok"), "{line}: {gives}");
+        let is_made = gives.starts_with("ok") && word != "cut";
+        assert_eq!(session.depth(), depth + usize::from(is_made), "{line}");
+        assert!(is_made || session.listing().unwrap() == before, "{line}");
+    }
+}
+
+#[test]
+fn what_comes_back() {
+    let mut session = Session::new().unwrap();
+    let plate = session.profile(None, &[[0, 0, 0], [0, 20, 0], [40, 20, 0], [40, 0, 0]], [0, 0, 10]).unwrap();
+    assert_eq!((session.six_volumes(plate.solid), session.plane(plate.sides[1]).unwrap().b), (Ok(6 * 8000), 800));
+    let sunk = session.pocket(plate.far, &[[5, 5, 10], [15, 5, 10], [15, 15, 10], [5, 15, 10]], 4).unwrap();
+    assert_eq!((session.face_of_loop(sunk.of_loop), session.plane(sunk.face).unwrap().d), (Some(plate.far), -1200));
+    let through = session.hole(plate.far, &[[20, 5, 10], [30, 5, 10], [20, 15, 10]]).unwrap();
+    assert_eq!((through.other, through.sides.len()), (plate.base, 3));
+    let drawn = session.ring(plate.sides[0], &[[0, 2, 2], [0, 4, 2], [0, 4, 4]]).unwrap();
+    assert_eq!(session.vertex(drawn.vertices[1]), Some([0, 4, 2].into()));
+    let cut = session.slot(plate.far, [35, 0, 10], [35, 20, 10], 4, 2).unwrap();
+    assert_eq!((cut.floor.len(), cut.walls.len(), session.depth()), (1, 2, 5));
+    let through = session.notch(plate.far, &[[0, 0, 10], [2, 0, 10], [2, 2, 10], [0, 2, 10]], 10).unwrap();
+    assert!(through.floor.is_empty());
+    session.undo().unwrap();
+}
+
+#[test]
+fn refused() {
+    let mut session = Session::new().unwrap();
+    let block = session.block(None, [0, 0, 0], [8, 8, 8]).unwrap();
+    let before = session.listing().unwrap();
+    let square = [[2, 2, 8], [4, 2, 8], [4, 4, 8], [2, 4, 8]];
+    let refused = |refusal, value| Err(Error::Refused { refusal, value });
+    let impossible = |misfit, value| Err(Error::Impossible { misfit, value });
+    assert_eq!(session.pocket(Face(1), &square, 0).map(drop), refused(Refusal::SizeRange, 1));
+    assert_eq!(session.pocket(Face(99), &square, 1).map(drop), refused(Refusal::NoFace, 99));
+    assert_eq!(session.pocket(Face(1), &square, 8).map(drop), impossible(Misfit::Meets, 1));
+    assert_eq!(session.pocket(Face(1), &square, 4_000_000_000_000).map(drop), impossible(Misfit::Meets, 1));
+    assert_eq!(session.boss(Face(1), &square, 1_000_000_000).map(drop), refused(Refusal::PointRange, 0));
+    let far = [[1, 1, 8], [2_000_000_000_000_000_000, 1, 8], [4, 4, 8]];
+    assert_eq!(session.ring(Face(1), &far).map(drop), refused(Refusal::PointRange, 0));
+    assert_eq!(session.profile(None, &square, [1, 1, 0]).map(drop), impossible(Misfit::AlongPlane, 0));
+    assert_eq!(session.profile(block, &square, [0, 0, 1]).map(drop), refused(Refusal::SolidTaken, 1));
+    assert_eq!(session.shoulder(Face(1), Edge(1), 1, 1).map(drop), impossible(Misfit::NotOfFace, 1));
+    assert_eq!(session.chamfer(Edge(99), 1, None).map(drop), refused(Refusal::NoEdge, 99));
+    assert_eq!(session.off_lattice(Solid(9), [0, 0, 1, -1], 3).map(drop), refused(Refusal::NoSolid, 9));
+    assert_eq!(session.off_lattice(block, [0, 0, 2_000_000_000, -1], 3).map(drop), refused(Refusal::PlaneRange, 3));
+    assert_eq!(session.off_lattice(block, [0; 4], 3).unwrap().advice(Solid(2)), "");
+    assert_eq!((session.listing().unwrap(), session.depth()), (before, 1));
+}
+
+#[test]
+fn in_a_draft() {
+    let mut session = Session::new().unwrap();
+    let block = session.block(None, [0, 0, 0], [8, 8, 8]).unwrap();
+    let mut draft = session.draft().unwrap();
+    draft.pocket(Face(1), &[[2, 2, 8], [4, 2, 8], [4, 4, 8]], 3).unwrap();
+    let (mark, pocketed) = (draft.mark(), draft.listing().unwrap());
+    draft.slot(Face(1), [6, 0, 8], [6, 8, 8], 2, 1).unwrap();
+    assert_eq!(draft.six_volumes(block), Ok(6 * (512 - 16) - 36));
+    draft.back(mark).unwrap();
+    assert!(draft.slot(Face(1), [3, 0, 8], [3, 8, 8], 2, 4).is_err());
+    assert_eq!(draft.listing().unwrap(), pocketed);
+    draft.commit().unwrap();
+    assert_eq!((session.depth(), session.listing().unwrap()), (2, pocketed));
+}

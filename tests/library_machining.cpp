@@ -1,0 +1,527 @@
+// Tries gwb_machining.hpp, gwb_shaping.hpp and gwb_off_lattice.hpp: features and cuts of the table that the session in Python gives
+// (library_features.py), random parts beside models of unit cubes, refusals, drafts and marks. The last line counts.
+//
+//     library_machining [TIMES]     so many random parts, and as many of the table: 50 and all where none is said
+#include "gwb_off_lattice.hpp"
+#include "gwb_shaping.hpp"
+#include <fstream>
+#include <iostream>
+#include <map>
+#include <set>
+#include <sstream>
+
+using namespace gwb_session;
+
+static int passed = 0, failed = 0;
+
+static void check(bool holds, const std::string &what)
+{
+    (holds ? passed : failed)++;
+    if (!holds)
+        std::cout << what << '\n';
+}
+
+static bool are_same(Point a, Point b) { return a.x == b.x && a.y == b.y && a.z == b.z; }
+
+// The half-edge of a solid that runs from one point to another.
+static HalfEdge half_edge(const Workbench &bench, Solid solid, Point from, Point to)
+{
+    for (Face face : bench.faces(solid))
+        for (HalfEdge half : bench.half_edges_of(face))
+            if (are_same(bench.vertex(bench.start_of(half)), from) && are_same(bench.vertex(bench.end_of(half)), to))
+                return half;
+    return HalfEdge();
+}
+
+// Six times the volume, the vertices, edges, faces and rings of a solid, and a sum over its points.
+static std::string measures(const Workbench &bench, Solid solid)
+{
+    const gwb_counts count = bench.count(solid);
+    std::set<Vertex> vertices;
+    for (const gwb_half_edge_row &row : bench.half_edge_rows(solid))
+        vertices.insert(Vertex(row.start));
+    std::int64_t sum = 0;
+    for (Vertex vertex : vertices) {
+        const Point at = bench.vertex(vertex);
+        sum += (at.x + 101) * (at.y + 211) * (at.z + 307);
+    }
+    std::ostringstream text;
+    text << "ok " << narrow(bench.six_volumes(solid));
+    for (std::int64_t number : {std::int64_t{count.vertices}, std::int64_t{count.edges}, std::int64_t{count.faces}, std::int64_t{count.rings}, sum})
+        text << ' ' << number;
+    return text.str();
+}
+
+// ---- the table
+
+// The numbers of a line, one after another.
+class Numbers {
+public:
+    explicit Numbers(const std::string &line) : words_(line) {}
+    std::int64_t number()
+    {
+        std::int64_t value = 0;
+        words_ >> value;
+        return value;
+    }
+    Point point()
+    {
+        const std::int64_t x = number(), y = number();
+        return {x, y, number()};
+    }
+    std::vector<Point> points()
+    {
+        std::vector<Point> found;
+        while (words_ >> std::ws && !words_.eof())
+            found.push_back(point());
+        return found;
+    }
+
+private:
+    std::istringstream words_;
+};
+
+// A solid that features are tried on.
+class Part {
+public:
+    // Does what a line says: what it gives.
+    std::string told(const std::string &word, Numbers given)
+    {
+        if (word == "block")
+            solid_ = bench_.block({0, 0, 0}, given.point());
+        if (word == "profile") {
+            const Point along = given.point();
+            solid_ = profile(bench_, given.points(), along).solid;
+        }
+        if (word == "block" || word == "profile")
+            return measures(bench_, solid_);
+        const std::string before = bench_.listing();
+        const std::size_t depth = bench_.depth();
+        const std::string gives = feature(word, given);
+        const bool is_made = gives.substr(0, 2) == "ok";
+        check(bench_.depth() == depth + is_made && (is_made || bench_.listing() == before), "one command, or nothing: " + word);
+        if (is_made)
+            undo_and_redo(before, word);
+        return gives;
+    }
+
+    std::string load(std::string listing)
+    {
+        std::replace(listing.begin(), listing.end(), ';', '\n');
+        bench_.load(listing + "\n");
+        solid_ = *bench_.numbers<Solid>().begin();
+        return measures(bench_, solid_);
+    }
+
+    // Whether the last feature was a chamfer of an edge whose first half-edge runs the other way than in Python, so that what is refused may
+    // be found in its other face first.
+    [[nodiscard]] bool is_turned() const { return is_turned_; }
+
+    // What is said of a cut, line by line.
+    [[nodiscard]] std::string cut(Numbers given) const
+    {
+        const std::int64_t a = given.number(), b = given.number(), c = given.number();
+        const OffLattice said = off_lattice(bench_, solid_, {a, b, c, given.number()});
+        return "ok " + std::to_string(said.cuts.size()) + " " + Fraction::digits(said.factor) + "\n" + said.advice(Solid(77));
+    }
+
+private:
+    void undo_and_redo(const std::string &before, const std::string &word)
+    {
+        const std::string after = bench_.listing();
+        bench_.undo();
+        check(bench_.listing() == before, "it is undone at once: " + word);
+        bench_.redo();
+        check(bench_.listing() == after, "and redone: " + word);
+    }
+
+    std::string feature(const std::string &word, Numbers &given)
+    {
+        is_turned_ = false;
+        const Point from = given.point(), to = given.point();
+        const HalfEdge side = half_edge(bench_, solid_, from, to);
+        if (word == "chamfer") {
+            const std::int64_t width = given.number(), other = given.number();
+            is_turned_ = side.is_second();
+            return gives(is_turned_ ? chamfer(attempt_, side.edge(), other, width) : chamfer(attempt_, side.edge(), width, other));
+        }
+        const Face face = bench_.face_of(side);
+        if (word == "shoulder") {
+            const Point start = given.point(), end = given.point();
+            const std::int64_t width = given.number();
+            return gives(shoulder(attempt_, face, half_edge(bench_, solid_, start, end).edge(), width, given.number()));
+        }
+        if (word == "slot" || word == "groove") {
+            const Point start = given.point(), end = given.point();
+            const std::int64_t width = given.number(), depth = given.number();
+            return gives(word == "slot" ? slot(attempt_, face, start, end, width, depth) : groove(attempt_, face, start, end, width, depth));
+        }
+        return of_outline(word, face, given);
+    }
+
+    std::string of_outline(const std::string &word, Face face, Numbers &given)
+    {
+        if (word == "hole")
+            return gives(hole(attempt_, face, given.points()));
+        if (word == "ring")
+            return gives(ring(attempt_, face, given.points()));
+        const std::int64_t depth = given.number();
+        if (word == "notch")
+            return gives(notch(attempt_, face, given.points(), depth));
+        return gives(word == "boss" ? boss(attempt_, face, given.points(), depth) : pocket(attempt_, face, given.points(), depth));
+    }
+
+    template <class T> std::string gives(const Result<T> &made) const { return made ? measures(bench_, solid_) : made.error().name(); }
+
+    Workbench bench_;
+    Attempts attempt_ = bench_.attempt();
+    Solid solid_;
+    bool is_turned_ = false;
+};
+
+// Tries the lines of the table one after another.
+class Table {
+public:
+    // All parts of it, or one of so many.
+    explicit Table(std::size_t step) : step_(step) {}
+
+    void take(const std::string &line)
+    {
+        if (line == "part" && parts_++ % step_ == 0)
+            part_.emplace();
+        else if (line == "part")
+            part_.reset();
+        else if (part_ && line[0] == '>')
+            compare_advice(line.substr(2));
+        else if (part_)
+            compare(line);
+    }
+    void end() { check(said_.empty() && parts_ > 100, "the table is there, and no more is said: " + said_); }
+
+private:
+    void compare_advice(const std::string &wanted)
+    {
+        const std::size_t end = std::min(said_.find('\n'), said_.size());
+        check(said_.substr(0, end) == wanted, said_.substr(0, end) + " is said, and wanted " + wanted);
+        said_.erase(0, end + 1);
+    }
+    void compare(const std::string &line)
+    {
+        check(said_.empty(), "more is said of a cut: " + said_);
+        const std::size_t space = line.find(' '), equal = line.find(" = ");
+        const std::string word = line.substr(0, space), given = line.substr(space + 1, equal - space - 1);
+        std::string gives = word == "cut" ? part_->cut(Numbers(given)) : word == "model" ? part_->load(given) : part_->told(word, Numbers(given));
+        said_.clear();
+        if (word == "cut") {
+            said_ = gives.substr(gives.find('\n') + 1);
+            gives.erase(gives.find('\n'));
+        }
+        const std::string wanted = line.substr(equal + 3);
+        const bool are_refused = gives.substr(0, 2) != "ok" && wanted.substr(0, 2) != "ok";
+        check(gives == wanted || (part_->is_turned() && are_refused), line + ": " + gives);
+    }
+
+    std::size_t step_, parts_ = 0;
+    std::optional<Part> part_;
+    std::string said_; // of a cut, and not compared yet
+};
+
+static void try_table(std::size_t step)
+{
+    std::ifstream file("tests/library_features.table");
+    Table table(step);
+    for (std::string line; std::getline(file, line);)
+        table.take(line);
+    table.end();
+}
+
+// ---- random parts beside unit cubes
+
+using Cube = std::array<std::int64_t, 3>;
+
+// A rectangle in a face across an axis: the axes along it, where it begins and ends, and the layers of cubes behind the face (from 1 on) or
+// before it (0, -1, ..).
+struct Rectangle {
+    std::size_t axis;
+    bool looks_up;
+    std::int64_t level;
+    std::array<std::array<std::int64_t, 2>, 2> sides;
+
+    [[nodiscard]] Point corner(std::size_t u, std::size_t v) const { return at(sides[0][u], sides[1][v]); }
+    [[nodiscard]] std::vector<Point> outline() const { return {corner(0, 0), corner(1, 0), corner(1, 1), corner(0, 1)}; }
+    [[nodiscard]] Point at(std::int64_t u, std::int64_t v) const
+    {
+        Cube place{};
+        place[axis] = level;
+        place[(axis + 1) % 3] = u;
+        place[(axis + 2) % 3] = v;
+        return {place[0], place[1], place[2]};
+    }
+    [[nodiscard]] std::set<Cube> layers(std::int64_t first, std::int64_t last, std::int64_t margin = 0) const
+    {
+        std::set<Cube> found;
+        for (std::int64_t layer = first; layer <= last; layer++)
+            for (std::int64_t u = sides[0][0] - margin; u < sides[0][1] + margin; u++)
+                for (std::int64_t v = sides[1][0] - margin; v < sides[1][1] + margin; v++) {
+                    Cube cube{};
+                    cube[axis] = looks_up ? level - layer : level + layer - 1;
+                    cube[(axis + 1) % 3] = u;
+                    cube[(axis + 2) % 3] = v;
+                    found.insert(cube);
+                }
+        return found;
+    }
+};
+
+class Cubes {
+public:
+    explicit Cubes(std::uint32_t seed) : state_(seed)
+    {
+        for (std::int64_t x = 0; x < sizes[0]; x++)
+            for (std::int64_t y = 0; y < sizes[1]; y++)
+                for (std::int64_t z = 0; z < sizes[2]; z++)
+                    filled_.insert({x, y, z});
+    }
+
+    void attempt()
+    {
+        std::vector<Face> faces;
+        for (Face face : bench_.faces(solid_))
+            faces.push_back(face);
+        const Face face = faces[random(faces.size())];
+        const Rectangle rectangle = rectangle_in(face);
+        const std::int64_t depth = 1 + static_cast<std::int64_t>(random(4));
+        const std::string before = bench_.listing();
+        const bool is_made = made(face, rectangle, depth);
+        check(narrow(bench_.six_volumes(solid_)) == 6 * static_cast<std::int64_t>(filled_.size()), "a random part has the volume of its cubes");
+        check(is_made || bench_.listing() == before, "what is refused changes nothing");
+    }
+
+private:
+    static constexpr std::array<std::int64_t, 3> sizes = {9, 8, 7};
+
+    std::size_t random(std::size_t most) { return ((state_ = state_ * 1664525 + 1013904223) >> 8) % most; }
+
+    Rectangle rectangle_in(Face face)
+    {
+        const gwb_plane plane = bench_.plane(face);
+        const std::array<std::int64_t, 3> normal = {narrow(plane.a), narrow(plane.b), narrow(plane.c)};
+        Rectangle found{};
+        while (normal[found.axis] == 0)
+            found.axis++;
+        found.looks_up = normal[found.axis] > 0;
+        found.level = -narrow(plane.d) / normal[found.axis];
+        for (std::size_t side = 0; side < 2; side++) {
+            const auto size = static_cast<std::size_t>(sizes[(found.axis + 1 + side) % 3]);
+            const auto start = static_cast<std::int64_t>(random(size));
+            found.sides[side] = {start, start + 1 + static_cast<std::int64_t>(random(3))};
+        }
+        return found;
+    }
+
+    [[nodiscard]] bool are(const std::set<Cube> &cubes, bool wanted) const
+    {
+        return std::all_of(cubes.begin(), cubes.end(), [&](const Cube &cube) { return (filled_.count(cube) != 0) == wanted; });
+    }
+    void put(const std::set<Cube> &cubes, bool wanted, const std::string &what)
+    {
+        check(are(cubes, !wanted), what + ": its cubes were " + (wanted ? "empty" : "filled"));
+        for (const Cube &cube : cubes)
+            wanted ? void(filled_.insert(cube)) : void(filled_.erase(cube));
+    }
+
+    // Tries a feature, and does the same to the cubes; whether it was made.
+    bool made(Face face, const Rectangle &rectangle, std::int64_t depth)
+    {
+        const bool is_inside = are(rectangle.layers(1, 1, 1), true) && are(rectangle.layers(0, 0, 1), false);
+        switch (random(5)) {
+        case 0: {
+            const bool is_made = static_cast<bool>(pocket(attempt_, face, rectangle.outline(), depth));
+            check(is_made || !is_inside || !are(rectangle.layers(1, depth + 1, 1), true) || !lies_in(face, rectangle), "there is room for a pocket");
+            if (is_made)
+                put(rectangle.layers(1, depth), false, "a pocket");
+            return is_made;
+        }
+        case 1: {
+            const bool is_made = static_cast<bool>(boss(attempt_, face, rectangle.outline(), depth));
+            check(is_made || !is_inside || !are(rectangle.layers(-depth, 0, 1), false) || !lies_in(face, rectangle), "there is room for a boss");
+            if (is_made)
+                put(rectangle.layers(1 - depth, 0), true, "a boss");
+            return is_made;
+        }
+        case 2: return made_hole(face, rectangle);
+        case 3: {
+            const bool is_made = static_cast<bool>(notch(attempt_, face, rectangle.outline(), depth));
+            check(is_made || !is_inside || !are(rectangle.layers(1, depth + 1, 1), true) || !lies_in(face, rectangle), "there is room for a notch");
+            if (is_made)
+                put(rectangle.layers(1, depth), false, "a notch");
+            return is_made;
+        }
+        default: return made_slot(face, rectangle, depth);
+        }
+    }
+
+    // Whether the face is the one in its plane that the rectangle lies in.
+    [[nodiscard]] bool lies_in(Face face, const Rectangle &rectangle) const
+    {
+        return static_cast<bool>(machining::drawing(bench_.attempt(), face, rectangle.outline()));
+    }
+
+    bool made_hole(Face face, const Rectangle &rectangle)
+    {
+        const bool is_made = static_cast<bool>(hole(attempt_, face, rectangle.outline()));
+        std::int64_t last = 1;
+        while (are(rectangle.layers(last + 1, last + 1), true))
+            last++;
+        if (is_made)
+            put(rectangle.layers(1, last), false, "a hole");
+        return is_made;
+    }
+
+    bool made_slot(Face face, Rectangle rectangle, std::int64_t depth)
+    {
+        auto &side = rectangle.sides[1];
+        side[1] = side[0] + 2;
+        const Point start = rectangle.at(rectangle.sides[0][0], side[0] + 1), end = rectangle.at(rectangle.sides[0][1], side[0] + 1);
+        const bool is_made = static_cast<bool>(slot(attempt_, face, start, end, 2, depth));
+        if (is_made)
+            put(rectangle.layers(1, depth), false, "a slot");
+        return is_made;
+    }
+
+    std::uint32_t state_;
+    std::set<Cube> filled_;
+    Workbench bench_;
+    Attempts attempt_ = bench_.attempt();
+    Solid solid_ = bench_.block({0, 0, 0}, {sizes[0], sizes[1], sizes[2]});
+};
+
+static void try_cubes(std::uint32_t times)
+{
+    for (std::uint32_t seed = 0; seed < times; seed++) {
+        Cubes cubes(seed);
+        for (int attempt = 0; attempt < 30; attempt++)
+            cubes.attempt();
+    }
+}
+
+// ---- what comes back, refusals and drafts
+
+static void try_what_comes_back()
+{
+    Workbench bench;
+    const Profile plate = profile(bench, {{0, 0, 0}, {0, 20, 0}, {40, 20, 0}, {40, 0, 0}}, {0, 0, 10});
+    check(narrow(bench.six_volumes(plate.solid)) == 6 * 8000, "a profile of clockwise points isn't inside out");
+    check(bench.plane(plate.sides[1]).b.low == 800 && bench.plane(plate.far).c.high == 0, "its second side lies over the second and third point");
+    const Pocket sunk = pocket(bench, plate.far, {{5, 5, 10}, {15, 5, 10}, {15, 15, 10}, {5, 15, 10}}, 4);
+    check(bench.face_of(sunk.loop) == plate.far && narrowed(bench.plane(sunk.face).d) == -1200, "a pocket has a ring in its face, and a floor");
+    const Pocket raised = boss(bench, sunk.face, {{6, 6, 6}, {8, 6, 6}, {8, 8, 6}}, 9);
+    check(raised.sides.size() == 3 && bench.faces_of(*bench.edges_of(raised.face).begin()).size() == 2, "a boss has sides");
+    const Hole through = hole(bench, plate.far, {{20, 5, 10}, {30, 5, 10}, {20, 15, 10}});
+    check(through.other == plate.base && through.sides.size() == 3, "a hole ends in the base");
+    const Ring drawn = ring(bench, plate.sides[0], {{0, 2, 2}, {0, 4, 2}, {0, 4, 4}});
+    check(bench.face_of(drawn.loop) == plate.sides[0], "a ring of a face");
+    check(are_same(bench.vertex(drawn.vertices[1]), {0, 4, 2}), "its points in their order");
+    const Notch cut = slot(bench, plate.far, {35, 0, 10}, {35, 20, 10}, 4, 2);
+    check(cut.floor.size() == 1 && cut.walls.size() == 2, "a slot across has a floor and two walls");
+    check(notch(bench, plate.far, {{0, 0, 10}, {2, 0, 10}, {2, 2, 10}, {0, 2, 10}}, 10).floor.empty(), "a notch that goes through has no floor");
+    const Face slope = chamfer(bench, half_edge(bench, plate.solid, {40, 20, 0}, {40, 20, 10}).edge(), 1);
+    check(bench.face(slope).solid == plate.solid && bench.depth() == 8, "a chamfer is a face, and each feature one command");
+}
+
+static void try_refusals()
+{
+    Workbench bench;
+    const Solid block = bench.block({0, 0, 0}, {8, 8, 8});
+    const std::string before = bench.listing();
+    Attempts attempt = bench.attempt();
+    const std::vector<Point> square = {{2, 2, 8}, {4, 2, 8}, {4, 4, 8}, {2, 4, 8}};
+    check(pocket(attempt, Face(1), square, 0).error().is(GWB_WHY_SIZE_RANGE), "a pocket that isn't deep");
+    check(pocket(attempt, Face(99), square, 1).error().is(GWB_WHY_NO_FACE), "a pocket in no face");
+    check(pocket(attempt, Face(2), square, 1).error().is(Misfit::not_in_plane), "a pocket in another face");
+    check(pocket(attempt, Face(1), square, 8).error().is(Misfit::meets), "a pocket that comes through");
+    check(pocket(attempt, Face(1), square, 4'000'000'000'000).error().is(Misfit::meets), "one that goes on for ever");
+    check(boss(attempt, Face(1), square, 1'000'000'000).error().is(GWB_WHY_POINT_RANGE), "a boss that is too high");
+    check(ring(attempt, Face(1), {{1, 1, 8}, {2'000'000'000'000'000'000, 1, 8}, {4, 4, 8}}).error().is(GWB_WHY_POINT_RANGE), "a point out of range");
+    check(profile(attempt, square, {1, 1, 0}).error().is(Misfit::along_plane), "a profile along its plane");
+    check(profile(attempt, block, square, {0, 0, 1}).error().is(GWB_WHY_SOLID_TAKEN), "a profile of a number in use");
+    check(shoulder(attempt, Face(1), Edge(1), 1, 1).error().is(Misfit::not_of_face), "a shoulder along another face's edge");
+    check(shoulder(attempt, Face(1), Edge(99), 1, 1).error().is(GWB_WHY_NO_EDGE), "a shoulder along no edge");
+    check(notch(attempt, Face(1), {{0, 0, 8}, {8, 0, 8}, {8, 8, 8}, {0, 8, 8}}, 8).error().is(Misfit::nothing_left), "a notch that leaves nothing");
+    check(off_lattice(attempt, Solid(9), {0, 0, 1, -1}).error().is(GWB_WHY_NO_SOLID), "no solid is cut");
+    check(off_lattice(attempt, block, {0, 0, 2'000'000'000, -1}).error().is(GWB_WHY_PLANE_RANGE), "a plane out of range");
+    check(off_lattice(bench, block, {0, 0, 0, 0}).advice(Solid(2)).empty(), "nothing to say of no plane");
+    check(off_lattice(bench, block, {1, 0, 0, -4}).factor == 1, "nothing of a whole cut");
+    try {
+        (void)pocket(bench, Face(1), square, 8);
+        check(false, "a pocket that comes through is refused");
+    } catch (const Impossible &why) {
+        check(std::string(why.what()) == "pocket: Meets 1" && why.misfit() == Misfit::meets && why.value() == 1, "why, and where");
+    }
+    check(bench.listing() == before && bench.depth() == 1, "refusals change nothing");
+    Attempts none = Workbench().attempt();
+    check(pocket(none, Face(1), square, 1).error().problem == Problem::closed, "a pocket in no workbench");
+    check(chamfer(none, Edge(1), 1).error().problem == Problem::closed, "a chamfer in none");
+}
+
+static void try_drafts()
+{
+    Workbench bench;
+    const Solid block = bench.block({0, 0, 0}, {8, 8, 8});
+    const std::string before = bench.listing();
+    Draft draft = bench.draft();
+    (void)pocket(bench, Face(1), {{2, 2, 8}, {4, 2, 8}, {4, 4, 8}}, 3);
+    const std::string pocketed = bench.listing();
+    const Mark mark = bench.mark();
+    (void)slot(bench, Face(1), {6, 0, 8}, {6, 8, 8}, 2, 1);
+    check(narrow(bench.six_volumes(block)) == 6 * (512 - 16) - 36, "a slot in a draft");
+    bench.back(mark);
+    check(bench.listing() == pocketed, "a mark takes it back");
+    Attempts attempt = bench.attempt();
+    check(!slot(attempt, Face(1), {3, 0, 8}, {3, 8, 8}, 2, 4), "a slot that isn't possible in a draft");
+    check(!hole(attempt, Face(1), {{2, 2, 8}, {4, 2, 8}, {4, 4, 8}}), "nor a hole");
+    check(bench.listing() == pocketed, "it leaves the draft as it was");
+    draft.commit();
+    check(bench.depth() == 2 && bench.listing() == pocketed, "all is one command");
+    bench.undo();
+    check(bench.listing() == before, "which is undone at once");
+}
+
+// As far out as points lie: what doesn't fit would be seen by sanitizers.
+static void try_far()
+{
+    constexpr std::int64_t far = 1'000'000'000;
+    Workbench bench;
+    Attempts attempt = bench.attempt();
+    const Solid block = bench.block({-far, -far, -far}, {2 * far, 2 * far, 2 * far});
+    (void)pocket(bench, Face(1), {{1 - far, 1 - far, far}, {far - 7, 9 - far, far}, {5 - far, far - 1, far}}, 2 * far - 2);
+    const std::vector<Point> beside = {{far - 1, far - 1, far}, {far - 1, far - 2, far}, {far - 2, far - 1, far}};
+    check(pocket(attempt, Face(1), beside, 2 * far).error().is(Misfit::meets), "a pocket that comes through far out");
+    (void)hole(bench, Face(1), beside);
+    (void)slot(bench, Face(2), {-far, 0, -far}, {far, 0, -far}, 2, 1);
+    (void)chamfer(bench, half_edge(bench, block, {far, -far, -far}, {far, -far, far}).edge(), far - 2, 5);
+    const OffLattice said = off_lattice(bench, block, {999'999'937, -999'999'929, 5, 1'000'003});
+    check(!said.fits && said.factor != 1, "a factor that doesn't fit");
+    const Solid slope = profile(bench, {{-far, 0, 0}, {far, 1 - far, 0}, {far, far, 0}}, {0, -1, far}).solid;
+    for (Face face : bench.faces(slope))
+        (void)notch(attempt, face, {{-far, -1, far}, {far, far - 1, far}, {0, -1, far}}, 1);
+    check(bench.depth() >= 6, "features far out");
+}
+
+int main(int count, char **words)
+{
+    const std::uint32_t times = count > 1 ? static_cast<std::uint32_t>(std::stoul(words[1])) : 50;
+    try {
+        try_table(count > 1 ? 150 / times + 1 : 1);
+        try_cubes(times);
+        try_what_comes_back();
+        try_refusals();
+        try_drafts();
+        try_far();
+    } catch (const std::exception &error) {
+        std::cout << error.what() << '\n';
+        failed++;
+    }
+    std::cout << passed << " passed, " << failed << " failed\n";
+    return failed != 0;
+}
