@@ -53,12 +53,14 @@ fn greatest_after(done: bool, stage: &Stage, greatest: Counters) -> Counters
     }
 }
 
+#[inline(always)]
 fn undo_session(session: &mut Session) -> Told
     ensures { TellsSession session.old command.Undo result session.new }
 {
     moved(session.undo())
 }
 
+#[inline(always)]
 fn undo_on(stage: &mut Stage) -> Told
     ensures { Tells stage.old (call.Give command.Undo) result stage.new }
 {
@@ -68,12 +70,14 @@ fn undo_on(stage: &mut Stage) -> Told
     }
 }
 
+#[inline(always)]
 fn redo_session(session: &mut Session) -> Told
     ensures { TellsSession session.old command.Redo result session.new }
 {
     moved(session.redo())
 }
 
+#[inline(always)]
 fn redo_on(stage: &mut Stage) -> Told
     ensures { Tells stage.old (call.Give command.Redo) result stage.new }
 {
@@ -131,6 +135,7 @@ impl CountedStage {
     }
 
     /// Undoes where the session lies: moved through a call it would cost as much again.
+    #[inline(always)]
     pub(crate) fn undo(&mut self) -> Told
         ensures { Tells self.old (call.Give command.Undo) result self.new }
     {
@@ -140,6 +145,7 @@ impl CountedStage {
     }
 
     /// Redoes where the session lies.
+    #[inline(always)]
     pub(crate) fn redo(&mut self) -> Told
         ensures { Tells self.old (call.Give command.Redo) result self.new }
     {
