@@ -8,11 +8,8 @@ use Rattle.arena_rows.specs.declared.rows.LoopCell.{LoopCell}
 use Rattle.arena_rows.specs.declared.rows.StoredContent.TheVariants.{Empty, At}
 use Rattle.boundary_model.specs.Table.{get, put, remove}
 use Rattle.raw_cells.specs.Rows.{row_at}
-use Rattle.arena_rows.specs.Rows.{table_of}
+use Rattle.arena_rows.specs.Common.{table_of, Store, loosened, Spots, live, next, label, ring, spliced_at, labelled, AreRings, store_of, RowsAreTied, stored_content, loop_row, AreLoops, StandsAt, cut_loose, cut_to, join_loops, join_loose, loose_ring, held_row, Fits}
 use Rattle.boundary_model.specs.Model.{Model, cycle}
-use Rattle.arena_rows.specs.Store.{Store, loosened}
-use Rattle.arena_rows.specs.ring_spots.Spots.{Spots, live, next, label, ring, spliced_at, labelled, AreRings}
-use Rattle.arena_rows.specs.View.{store_of, RowsAreTied, stored_content, loop_row, AreLoops, StandsAt}
 use Rattle.boundary_model.specs.Items.{IsIn}
 use Rattle.boundary_model.specs.Rings.{cut_left, cut_right, joined, successor, predecessor}
 use Rattle.boundary_model.proofs.Rings.{successor-predecessor}
@@ -20,8 +17,6 @@ use Rattle.boundary_model.proofs.Members.{IsIn_one}
 use Rattle.arena_rows.proofs.ring_spots_laws.SpotLaws.{ring_same, next_in_ring}
 use Rattle.boundary_model.specs.Model.{has_half, loop_of, items_of, content, cycle_of, before}
 use Rattle.boundary_model.proofs.Tables.{row_some}
-use Rattle.arena_rows.specs.Store.{cut_loose, cut_to, join_loops, join_loose, loose_ring, held_row}
-use Rattle.arena_rows.specs.View.{Fits}
 use Rattle.arena_rows.proofs.Views.{has-row, fits-write, table_of-put}
 use Rattle.arena_rows.proofs.Writes.{row_here}
 use Rattle.arena_rows.proofs.Stands.{half_there, loop_of_is, cycle_of_is, content_row, face_row_of, loose_key_is, loose_ring_is, next_successor}

@@ -9,12 +9,8 @@ use Rattle.arena_rows.specs.declared.rows.StoredContent.{StoredContent}
 use Rattle.arena_rows.specs.declared.rows.StoredContent.TheVariants.{Empty, Lone, At}
 use Rattle.boundary_model.specs.Table.{put, remove, tabulate}
 use Rattle.raw_cells.specs.Rows.{row_at}
-use Rattle.arena_rows.specs.Rows.{table_of}
+use Rattle.arena_rows.specs.Common.{table_of, loosened, Spots, codes, live, label, ring, spliced_at, labelled, AreRings, stored_content, loop_row, HasEntry, AreLoops, StandsAt, edge_row, loose_row}
 use Rattle.boundary_model.specs.Model.{cycle}
-use Rattle.arena_rows.specs.Store.{loosened}
-use Rattle.arena_rows.specs.ring_spots.Spots.{Spots, codes, live, label, ring, spliced_at, labelled, AreRings}
-use Rattle.arena_rows.specs.View.{stored_content, loop_row, HasEntry, AreLoops, StandsAt}
-use Rattle.arena_rows.specs.ring_spots.SpotTables.{edge_row, loose_row}
 use Rattle.boundary_model.specs.Rings.{cut_left, cut_right, joined}
 use Rattle.boundary_model.proofs.Cuts.{IsIn-cut}
 use Rattle.arena_rows.proofs.ring_spots_laws.SpotLaws.{ring_left, ring_right, ring_beside, cut_items, AreRings-cut, AreRings-labelled, ring-labelled, live-labelled, live-spliced, label-spliced, label-labelled_in, label-labelled_out, ring_joint, ring_aside, join_items, AreRings-join}

@@ -6,13 +6,8 @@ use Rattle.arena_rows.specs.declared.rows.FaceCell.{FaceCell}
 use Rattle.arena_rows.specs.declared.rows.LoopCell.{LoopCell}
 use Rattle.boundary_model.specs.HalfEdge.{plus, minus}
 use Rattle.boundary_model.specs.Model.{Model}
-use Rattle.arena_rows.specs.Store.{Store}
+use Rattle.arena_rows.specs.Common.{Store, Spots, codes, live, label, ring, retailed, AreRings, store_of, RowsAreTied, AreLoops, loose_row, set_tail, put_edge, take_edge, woken, asleep}
 use Rattle.boundary_model.specs.Table.{get, tabulate}
-use Rattle.arena_rows.specs.ring_spots.Spots.{Spots, codes, live, label, ring, retailed, AreRings}
-use Rattle.arena_rows.specs.View.{store_of, RowsAreTied, AreLoops}
-use Rattle.arena_rows.specs.ring_spots.SpotTables.{loose_row}
-use Rattle.arena_rows.specs.Store.{set_tail, put_edge, take_edge}
-use Rattle.arena_rows.specs.ring_spots.Spots.{woken, asleep}
 use Rattle.arena_rows.proofs.ring_spots_laws.SpotTables.{loose_alike, loose_same}
 use Rattle.arena_rows.proofs.Tellings.{loops_same, loops_kept}
 use Rattle.arena_rows.proofs.Filling.{tied_with}

@@ -2,12 +2,9 @@
 use Rattle.std.proofs.Common.{◌-◌, ◌≡◌, ◌≢◌, ℕ, ◌≤◌, Bool, true, false, cond, nat_eq, nat_lt, nat_le, ◌&&◌, List, [], Option, Some, None, is_some, sym, ap, ◌∙◌, arith, true≢false, length}
 use Rattle.arena_rows.proofs.ring_spots_laws.SpotTables.{edge_live, edge_has_room, codes_are, nothing, edge_has}
 use Rattle.raw_cells.specs.Rows.{row_at, has_row}
-use Rattle.arena_rows.specs.Rows.{table_of}
+use Rattle.arena_rows.specs.Common.{table_of, is_edge, within, empty_store, Store, has_number, IsNextNumber, Fits, store_of, RowsAreTied, solid_row, face_row, loop_row, Spots, codes, edges_end, live, label, ring, AreRings, edge_row, both_tails, edge_room, loose_row}
 use Rattle.raw_cells.specs.Numbers.{IsLast}
-use Rattle.arena_rows.specs.ring_spots.Last.{is_edge}
 use Rattle.raw_cells.proofs.numbers_laws.Lasts.{last_same}
-use Rattle.arena_rows.specs.Store.{within, empty_store, Store, has_number, IsNextNumber}
-use Rattle.arena_rows.specs.View.{Fits, store_of, RowsAreTied, solid_row, face_row, loop_row}
 use Rattle.arena_rows.proofs.Views.{row_within, row_not_zero, table_of-empty, fits-empty, has_is}
 use Rattle.std.proofs.lemmas.Bool.Decides.{nat_tests}
 use Rattle.std.proofs.lemmas.Bool.{and_from}
@@ -15,10 +12,8 @@ use Rattle.boundary_model.specs.declared.Point.{Point}
 use Rattle.boundary_model.specs.HalfEdge.{plus, minus}
 use Rattle.boundary_model.specs.Table.{get, tabulate}
 use Rattle.boundary_model.specs.Model.{empty_model}
-use Rattle.arena_rows.specs.ring_spots.Spots.{Spots, codes, edges_end, live, label, ring, AreRings}
 use Rattle.boundary_model.specs.Items.{head_or}
 use Rattle.boundary_model.proofs.Tests.{and_false}
-use Rattle.arena_rows.specs.ring_spots.SpotTables.{edge_row, both_tails, edge_room, loose_row}
 use Rattle.boundary_model.specs.declared.Kind.{Kind}
 use Rattle.raw_cells.specs.Numbers.{IsNext}
 

@@ -1,5 +1,4 @@
 -- A loop is cleared, takes a loose ring, and a half-edge starts elsewhere.
-use Rattle.std.proofs.Common.{◌≡◌, ◌≢◌, ℕ, Bool, true, cond, nat_eq, List, [], length, Option, Some, is_some, refl, sym, ap, subst, ◌∙◌, arith, ne_eqb, inl, inr}
 use Rattle.std.proofs.lemmas.Bool.Decides.{eqb_tells}
 use Rattle.std.proofs.lemmas.Option.{same_Some}
 use Rattle.boundary_model.specs.declared.Point.{Point}
@@ -13,14 +12,11 @@ use Rattle.arena_rows.specs.declared.rows.StoredContent.TheVariants.{Empty, Lone
 use Rattle.boundary_model.specs.Table.{get, put, remove}
 use Rattle.raw_cells.specs.Rows.{row_at}
 use Rattle.boundary_model.specs.Model.{Model, cycle}
-use Rattle.arena_rows.specs.Store.{Store, loosened}
-use Rattle.arena_rows.specs.ring_spots.Spots.{Spots, live, label, ring, labelled, AreRings}
-use Rattle.arena_rows.specs.View.{store_of, RowsAreTied, stored_content, loop_row, HasEntry, AreLoops, StandsAt}
-use Rattle.std.proofs.Common.{unwrap_or}
+use Rattle.arena_rows.specs.Common.{Store, loosened, Spots, live, label, ring, labelled, AreRings, store_of, RowsAreTied, stored_content, loop_row, HasEntry, AreLoops, StandsAt, clear, fill, held_row, Fits}
+use Rattle.std.proofs.Common.{unwrap_or, ◌≡◌, ◌≢◌, ℕ, Bool, true, cond, nat_eq, List, [], length, Option, Some, is_some, refl, sym, ap, subst, ◌∙◌, arith, ne_eqb, inl, inr}
 use Rattle.boundary_model.specs.Model.{no_loop}
 use Rattle.boundary_model.specs.Model.{items_of, content, face_of}
-use Rattle.arena_rows.specs.Store.{clear, fill, held_row, with_loop}
-use Rattle.arena_rows.specs.View.{Fits}
+use Rattle.arena_rows.specs.Store.{with_loop}
 use Rattle.arena_rows.proofs.Views.{fits-write, table_of-put, row_not_zero}
 use Rattle.arena_rows.proofs.Writes.{row_here, loops_write, no_stand_bare, tied_loops, store_loops}
 use Rattle.arena_rows.proofs.Stands.{content_row, face_row_of, loose_key_is, loose_ring_is}

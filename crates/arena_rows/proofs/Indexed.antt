@@ -9,14 +9,11 @@ use Rattle.boundary_model.proofs.Lists.{tick_same, tick_other}
 use Rattle.boundary_model.specs.Table as table
 use Rattle.boundary_model.specs.Table.{Table, get, all_where, same_table, get-put, get-remove}
 use Rattle.boundary_model.specs.Model.{rings_of, outer, no_face}
-use Rattle.arena_rows.specs.owner_chains.Owners.{Owners, no_owners, put, take, owned, OwnersHaveGrown}
+use Rattle.arena_rows.specs.Common.{Owners, no_owners, put, take, owned, OwnersHaveGrown, Spots, map_row, table_of, names, store_of, face_row, loop_row, solid_numbers, face_numbers, AreIndexed}
 use Rattle.arena_rows.proofs.owner_chains_laws.Counting.{more}
-use Rattle.arena_rows.specs.ring_spots.Spots.{Spots}
 use Rattle.arena_rows.specs.declared.rows.FaceCell.{FaceCell}
 use Rattle.arena_rows.specs.declared.rows.LoopCell.{LoopCell}
 use Rattle.raw_cells.specs.Rows.{row_at}
-use Rattle.arena_rows.specs.Rows.{map_row, table_of, names}
-use Rattle.arena_rows.specs.View.{store_of, face_row, loop_row, solid_numbers, face_numbers, AreIndexed}
 use Rattle.arena_rows.proofs.Views.{get-table_of, read_row, table_of-same, table_of-put, table_of-remove, table_of-empty}
 
 -- ---- what it says

@@ -9,14 +9,10 @@ use Rattle.boundary_model.proofs.Tests.{and_false}
 use Rattle.std.specs.Option.{option_eq}
 use Rattle.boundary_model.specs.Table.{get}
 use Rattle.boundary_model.specs.Model.{Model, FaceRow, solid_of, face_of, outer, is_ring_of, faces_of, no_face, no_loop}
-use Rattle.arena_rows.specs.owner_chains.Owners.{Owners, owned, is_owner, IsNextItem}
-use Rattle.arena_rows.specs.ring_spots.Spots.{Spots}
+use Rattle.arena_rows.specs.Common.{Owners, owned, is_owner, IsNextItem, Spots, map_row, is_face_of, IsNextFace, IsNextRing, only_item, store_of, face_row, loop_row, AreIndexed}
 use Rattle.arena_rows.specs.declared.rows.FaceCell.{FaceCell}
 use Rattle.arena_rows.specs.declared.rows.LoopCell.{LoopCell}
 use Rattle.raw_cells.specs.Rows.{row_at}
-use Rattle.arena_rows.specs.Rows.{map_row}
-use Rattle.arena_rows.specs.Store.{is_face_of, IsNextFace, IsNextRing, only_item}
-use Rattle.arena_rows.specs.View.{store_of, face_row, loop_row, AreIndexed}
 use Rattle.arena_rows.proofs.Views.{get-table_of}
 use Rattle.arena_rows.proofs.Indexed.{face_count_is}
 

@@ -14,11 +14,8 @@ use Rattle.arena_rows.specs.declared.rows.StoredContent.TheVariants.{Empty, Lone
 use Rattle.boundary_model.specs.HalfEdge.{plus, minus, edge_of, is_first}
 use Rattle.boundary_model.specs.Table.{get}
 use Rattle.raw_cells.specs.Rows.{row_at}
-use Rattle.arena_rows.specs.Rows.{map_row}
+use Rattle.arena_rows.specs.Common.{map_row, Store, loose_key, loose_ring, Spots, live, next, label, tail_at, ring, AreRings, store_of, RowsAreTied, stored_content, loop_row, HasEntry}
 use Rattle.boundary_model.specs.Model.{Model, lone, cycle, LoopRow, holds, items_of, has_half, tail, tail_in, loop_of, content, face_of, cycle_of, after, before, no_loop, no_edge}
-use Rattle.arena_rows.specs.Store.{Store, loose_key, loose_ring}
-use Rattle.arena_rows.specs.ring_spots.Spots.{Spots, live, next, label, tail_at, ring, AreRings}
-use Rattle.arena_rows.specs.View.{store_of, RowsAreTied, stored_content, loop_row, HasEntry}
 use Rattle.boundary_model.proofs.Tables.{first_where_is, first_where_zero}
 use Rattle.boundary_model.proofs.Models.{holds_in, in-holds}
 use Rattle.arena_rows.proofs.Views.{get-table_of}

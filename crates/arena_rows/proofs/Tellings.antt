@@ -11,12 +11,8 @@ use Rattle.arena_rows.specs.declared.rows.StoredContent.{StoredContent}
 use Rattle.arena_rows.specs.declared.rows.StoredContent.TheVariants.{Empty, Lone, At}
 use Rattle.boundary_model.specs.Table.{Table, get, put, tabulate, get-put, same_table}
 use Rattle.raw_cells.specs.Rows.{row_at}
-use Rattle.arena_rows.specs.Rows.{map_row, table_of}
+use Rattle.arena_rows.specs.Common.{map_row, table_of, Store, loosened, Spots, codes, live, label, ring, AreRings, store_of, stored_content, loop_row, HasEntry, AreLoops, StandsAt, edge_row, loose_row}
 use Rattle.boundary_model.specs.Model.{cycle, LoopRow}
-use Rattle.arena_rows.specs.Store.{Store, loosened}
-use Rattle.arena_rows.specs.ring_spots.Spots.{Spots, codes, live, label, ring, AreRings}
-use Rattle.arena_rows.specs.View.{store_of, stored_content, loop_row, HasEntry, AreLoops, StandsAt}
-use Rattle.arena_rows.specs.ring_spots.SpotTables.{edge_row, loose_row}
 use Rattle.arena_rows.proofs.Views.{get-table_of}
 use Rattle.arena_rows.proofs.ring_spots_laws.SpotLaws.{ring_same}
 

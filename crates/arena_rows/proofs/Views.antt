@@ -3,8 +3,7 @@ use Rattle.std.proofs.Common.{◌≡◌, ◌≢◌, ℕ, zero, suc, ◌-◌, ◌
 use Rattle.std.proofs.lemmas.Bool.Decides.{nat_tests}
 use Rattle.boundary_model.specs.Table.{get, put, remove, empty, get-empty, get-put, get-remove, get-tabulate, same_table}
 use Rattle.raw_cells.specs.Rows.{row_at}
-use Rattle.arena_rows.specs.Rows.{map_row, table_of}
-use Rattle.arena_rows.specs.View.{Fits}
+use Rattle.arena_rows.specs.Common.{map_row, table_of, Fits}
 
 module _ {X : Type 0} where
   pub row_past : (rows : List (Option X)) (q : ℕ) → length rows ≤ q → row_at rows q ≡ None

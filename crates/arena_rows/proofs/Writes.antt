@@ -11,11 +11,8 @@ use Rattle.arena_rows.specs.declared.rows.StoredContent.{StoredContent}
 use Rattle.arena_rows.specs.declared.rows.StoredContent.TheVariants.{Empty}
 use Rattle.boundary_model.specs.Table.{Table}
 use Rattle.raw_cells.specs.Rows.{row_at}
-use Rattle.arena_rows.specs.Rows.{table_of}
+use Rattle.arena_rows.specs.Common.{table_of, Store, Spots, live, label, ring, store_of, RowsAreTied, Fits, AreLoops, HasEntry, StandsAt, stored_content, loop_row, face_row, solid_row}
 use Rattle.boundary_model.specs.Model.{cycle, FaceRow, LoopRow, items_of}
-use Rattle.arena_rows.specs.Store.{Store}
-use Rattle.arena_rows.specs.ring_spots.Spots.{Spots, live, label, ring}
-use Rattle.arena_rows.specs.View.{store_of, RowsAreTied, Fits, AreLoops, HasEntry, StandsAt, stored_content, loop_row, face_row, solid_row}
 
 pub row_here : {X : Type 0} (rows new : List (Option X)) (n : ℕ) (x : Option X) → ((q : ℕ) → row_at new q ≡ cond (nat_eq q n) x (row_at rows q)) → row_at new n ≡ x
 row_here rows new n x is = is n ∙ ap (λ b. cond b x (row_at rows n)) (eq-eqb n n refl)

@@ -1,6 +1,6 @@
 -- An accepted command isn't refused, and can be taken back.
 use Rattle.std.proofs.Common.{◌≡◌, Option, None, Some, is_some, true≢false, refl, ap, ◌∙◌, sym, subst, rules}
-use Rattle.sweeps.specs.Model.{Model}
+use Rattle.euler_operators.specs.Common.{Model}
 use Rattle.sweeps.specs.PlainMachine.{Machine, accepted, undo_refusal}
 use Rattle.block_machining.specs.Undoing.{IsOneCommand}
 

@@ -1,6 +1,6 @@
 -- Undo where a command is behind: one fewer is left.
 use Rattle.std.proofs.Common.{◌≡◌, ℕ, suc, pred, List, [], ◌∷◌, length, ap, arith}
-use Rattle.sweeps.specs.Model.{Model}
+use Rattle.euler_operators.specs.Common.{Model}
 use Rattle.sweeps.specs.PlainMachine.{Machine, depth, undo, back_to}
 
 one_less : (past : List Model) (m : Machine) (n : ℕ) → length past ≡ suc n → depth (back_to past m) ≡ n

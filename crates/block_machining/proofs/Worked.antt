@@ -1,35 +1,15 @@
 -- The machines of this program computed: what they have taken, that the glue and the split are accepted, and what the parts measure.
-use Rattle.std.specs.Prelude.{◌≡◌, ◌≤◌, ℕ, ◌+◌, pos, neg_ℤ, None, false, refl, [], ◌∷◌}
-use Rattle.std.proofs.Common.{sym, subst, arith}
+use Rattle.std.proofs.Common.{sym, subst, arith, ◌≡◌, ◌≤◌, ℕ, ◌+◌, pos, neg_ℤ, None, false, refl, [], ◌∷◌}
 use Rattle.sweeps.specs.Measure.{six_volume}
 use Rattle.sweeps.specs.PlainMachine.{Machine, start, held}
 use Rattle.plane_split.specs.Machine.{plane_with, split_refusal}
 use Rattle.command_laws.specs.Accepted.{AreLeft}
 use Rattle.command_laws.specs.Operators.{solid_in}
-use Rattle.euler_operators.specs.Conditions.{first_false}
+use Rattle.euler_operators.specs.Common.{first_false, rotate_to, canonical, rest, mate, code, half, edge_of, is_first, empty_model, content, tail, loop_of, face_of, solid_of, outer, arc, holds, after, before, point_of, conditions, has_rings, effect, inverse, mvfs, kvfs_at, mev_lone, mev_at, kev, mef, kef, kemr, mekr, kfmrh, mfkrh, ring_in, ring_out, take_outer, merge, part}
 use Rattle.solid_measure.specs.solid_counts.Counts.{counts}
 use Rattle.split_caps.specs.Capped.{caps_of}
-use Rattle.shapes.specs.Lamina.{lamina_face}
-use Rattle.shapes.specs.glue.Glue.{glue_conditions, glue_model}
-use Rattle.shapes.specs.Faces.{loops_of, boundary, corners}
-use Rattle.shapes.specs.Fresh.{taken_in}
-use Rattle.shapes.specs.Lamina.{lamina_conditions, lamina_model}
-use Rattle.shapes.specs.Prism.{prism_conditions, with_side, raised, prism_model}
-use Rattle.shapes.specs.Block.{block_conditions, block_model}
-use Rattle.shapes.specs.Measure.{normal, plane_of, is_flat}
-use Rattle.shapes.specs.split.Sides.{straddles, face_is_above}
-use Rattle.shapes.specs.split.Places.{is_place, place_point, places, is_touched, is_cut_often, is_crossed, sorted_pairs, place_pairs}
-use Rattle.shapes.specs.split.Crossings.{edge_cut, next_cut, with_crossings}
-use Rattle.shapes.specs.split.Drawing.{drawn_pairs, face_drawn, loops_joined, join_next, draw_next, next_drawn, with_drawings}
-use Rattle.shapes.specs.split.Section.{below_halves, section_cycles, is_hole}
-use Rattle.shapes.specs.split.Opening.{opened_along, next_opened}
-use Rattle.shapes.specs.split.Split.{first_conditions, section_conditions, split_conditions, split_model}
-use Rattle.euler_operators.specs.Rings.{rotate_to, canonical, rest}
-use Rattle.euler_operators.specs.HalfEdge.{mate, code, half, edge_of, is_first}
+use Rattle.shapes.specs.Common.{lamina_face, glue_conditions, glue_model, loops_of, boundary, corners, taken_in, lamina_conditions, lamina_model, prism_conditions, with_side, raised, prism_model, block_conditions, block_model, normal, plane_of, is_flat, straddles, face_is_above, is_place, place_point, places, is_touched, is_cut_often, is_crossed, sorted_pairs, place_pairs, edge_cut, next_cut, with_crossings, drawn_pairs, face_drawn, loops_joined, join_next, draw_next, next_drawn, with_drawings, below_halves, section_cycles, is_hole, opened_along, next_opened, first_conditions, section_conditions, split_conditions, split_model}
 use Rattle.euler_operators.specs.Table as table
-use Rattle.euler_operators.specs.Model.{empty_model, content, tail, loop_of, face_of, solid_of, outer, arc, holds, after, before, point_of}
-use Rattle.euler_operators.specs.Conditions.{conditions, first_false, has_rings}
-use Rattle.euler_operators.specs.Effect.{effect, inverse, mvfs, kvfs_at, mev_lone, mev_at, kev, mef, kef, kemr, mekr, kfmrh, mfkrh, ring_in, ring_out, take_outer, merge, part}
 use Rattle.block_machining.specs.Machines.{blank, spur, paired, lengthened, parted, triangular}
 
 -- opens the definitions that the machines compute by

@@ -3,13 +3,9 @@ use Rattle.std.specs.Prelude.{◌≡◌, ◌<◌, ℕ, ◌*◌, ℤ, pos, ◌+�
 use Rattle.plane_split.specs.Faces.{vertices_of}
 use Rattle.plane_split.specs.Machine.{plane_with}
 use Rattle.plane_split.specs.Sides.{some_above, some_below}
-use Rattle.shapes.specs.split.Sides.{crossing_edges, face_is_above, straddles}
-use Rattle.euler_operators.specs.Items.{IsIn}
-use Rattle.shapes.specs.Vectors.{negated}
+use Rattle.shapes.specs.Common.{crossing_edges, face_is_above, straddles, negated}
+use Rattle.euler_operators.specs.Common.{IsIn, direction, dot, Model, solid_of, Has}
 use Rattle.sweeps.specs.Measure.{normal}
-use Rattle.sweeps.specs.Vectors.{direction, dot}
-use Rattle.sweeps.specs.Model.{Model, solid_of}
-use Rattle.sweeps.specs.Sound.{Has}
 use Rattle.command_laws.specs.Counted.{counts}
 use Rattle.command_laws.specs.LeftAlone.{StandsAsBefore}
 use Rattle.command_laws.specs.TakenOver.{IsTakenOver}

@@ -1,7 +1,6 @@
 -- A solid that a glue takes over.
 use Rattle.std.specs.Prelude.{◌≡◌, ◌≢◌, ℕ}
-use Rattle.sweeps.specs.Model.{Model, solid_of}
-use Rattle.sweeps.specs.Sound.{Has}
+use Rattle.euler_operators.specs.Common.{Model, solid_of, Has}
 use Rattle.command_laws.specs.TakenOver.{IsTakenOver}
 
 -- each face of the second solid, but the one that is glued, is of the first, with its loops, their corner points and its plane

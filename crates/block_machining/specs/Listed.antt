@@ -1,6 +1,6 @@
 -- A list of calls that this program makes.
 use Rattle.std.specs.Prelude.{List, [], ◌∷◌, pos}
-use Rattle.sweeps.specs.Vectors.{origin}
+use Rattle.euler_operators.specs.Common.{origin}
 use Rattle.commands.specs.declared.command.Change.TheVariants as change
 use Rattle.commands.specs.declared.command.Command.TheVariants as command
 use Rattle.commands.specs.declared.command.Call.{Call}

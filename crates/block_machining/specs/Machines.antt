@@ -1,10 +1,8 @@
 -- The machines through which the blocks go: what the commands of the plain machine make, one after the other.
 use Rattle.std.specs.Prelude.{pos, neg_ℤ, true, List, [], ◌∷◌}
-use Rattle.euler_operators.specs.declared.Corner.TheVariants.{At}
+use Rattle.euler_operators.specs.Common.{At, Point, origin}
 use Rattle.euler_operators.specs.declared.Op.{Op}
 use Rattle.euler_operators.specs.declared.Op.TheVariants.{Mev}
-use Rattle.sweeps.specs.declared.Point.{Point}
-use Rattle.sweeps.specs.Vectors.{origin}
 use Rattle.sweeps.specs.PlainMachine.{Machine, start}
 use Rattle.sweeps.specs.Machine.{block, lamina}
 use Rattle.gluing.specs.Machine.{glue}

@@ -1,6 +1,6 @@
 -- The sides at which the two blocks meet, at x = 4: the corners of the one, and those of the other, which go round the other way.
 use Rattle.std.specs.Prelude.{pos, ℤ, List, [], ◌∷◌}
-use Rattle.sweeps.specs.declared.Point.{Point}
+use Rattle.euler_operators.specs.Common.{Point}
 
 abbrev pub at : ℤ → ℤ → Point
 at y z = record { x = pos 4; y = y; z = z }

@@ -2,11 +2,8 @@
 use Rattle.std.specs.Prelude.{◌≡◌, ◌≢◌, ℕ, suc, true, false, None}
 use Rattle.euler_operators.specs.declared.Op.{Op}
 use Rattle.euler_operators.specs.declared.Op.TheVariants.{Kfmrh}
-use Rattle.euler_operators.specs.declared.Plane.{Plane}
-use Rattle.euler_operators.specs.Conditions.{lists}
+use Rattle.euler_operators.specs.Common.{Plane, lists, Model, Has}
 use Rattle.sweeps.specs.Measure.{six_volume}
-use Rattle.sweeps.specs.Model.{Model}
-use Rattle.sweeps.specs.Sound.{Has}
 use Rattle.command_laws.specs.Counted.{counts}
 use Rattle.command_laws.specs.Operators.{counted_on, faces_met, is_inner, leaves_vertices, solid_in}
 use Rattle.command_laws.specs.LeftAlone.{StandsAsBefore}

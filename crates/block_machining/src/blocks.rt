@@ -8,8 +8,7 @@ ghost use Rattle.block_machining.specs.Machines.{blank, paired, lengthened};
 ghost use Rattle.block_machining.specs.Meeting.{top, near_side, far_side};
 ghost use Rattle.sweeps.specs.PlainMachine.{depth, ahead, held};
 ghost use Rattle.sweeps.specs.Measure.{six_volume};
-ghost use Rattle.sweeps.specs.Model.{empty_model};
-ghost use Rattle.sweeps.specs.Sound.{Has};
+ghost use Rattle.euler_operators.specs.Common.{empty_model, Has};
 
 use crate::machining::{acted, but_for_memory, cut, joined, raised, tried};
 use command_laws::{

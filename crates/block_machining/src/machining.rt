@@ -11,9 +11,7 @@ ghost use Rattle.plane_split.specs.Machine.{plane_with, split, split_refusal};
 ghost use Rattle.sweeps.specs.Machine.{sweep_refusal};
 ghost use Rattle.sweeps.specs.PlainMachine.{act, act_refusal, held};
 ghost use Rattle.sweeps.specs.Measure.{normal, six_volume};
-ghost use Rattle.sweeps.specs.Model.{solid_of};
-ghost use Rattle.sweeps.specs.Sound.{Sound, Has};
-ghost use Rattle.sweeps.specs.Vectors.{dot};
+ghost use Rattle.euler_operators.specs.Common.{solid_of, Sound, Has, dot};
 
 use call_lists::Refusal;
 use command_laws::{

@@ -4,7 +4,7 @@ ghost use Rattle.command_laws.specs.NewFaces.{IsFaceOf};
 ghost use Rattle.block_machining.specs.Machines.{triangle, triangular};
 ghost use Rattle.sweeps.specs.PlainMachine.{held};
 ghost use Rattle.sweeps.specs.Measure.{six_volume};
-ghost use Rattle.sweeps.specs.Sound.{Has};
+ghost use Rattle.euler_operators.specs.Common.{Has};
 
 use crate::machining::{but_for_memory, raised};
 use arrayvec::ArrayVec;

@@ -7,8 +7,8 @@
 --     get-.., tables        what `get` answers after each, and the set of these
 --     tabulate              the table of the rows that a function gives below a number
 --     same_table            two tables that answer alike are equal
-use Rattle.std.specs.Prelude.{◌≡◌, ℕ, zero, suc, nat_lt, Bool, true, false, cond, not, ◌&&◌, nat_eq, T, List, [], ◌∷◌, map, Option, Some, None, option_map, is_some}
-use Rattle.std.proofs.Common.{refl, sym, ap, subst, ◌∙◌, arith, inl, inr}
+use Rattle.std.specs.Prelude.{◌≡◌, ℕ, zero, suc, nat_lt, Bool, true, false, cond, not, ◌&&◌, nat_eq, T, List, [], ◌∷◌, map, Option, Some, None, option_map, is_some, refl}
+use Rattle.std.proofs.Common.{sym, ap, subst, ◌∙◌, arith, inl, inr}
 use Rattle.std.proofs.lemmas.Bool.Decides.{nat_tests, eqb_tells}
 use mathlib.Core.HLevel.{Σ_prop_path}
 use lib.Dec.{T_prop, eqb→eq}

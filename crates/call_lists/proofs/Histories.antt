@@ -1,6 +1,6 @@
 -- A list of calls is a history.
 use Rattle.std.proofs.Common.{◌≡◌, suc, inl, inr, Option, None, List, [], ◌∷◌, refl, sym, ap, subst, ◌∙◌}
-use Rattle.euler_operators.specs.Sound.{Sound}
+use Rattle.euler_operators.specs.Common.{Sound}
 use Rattle.euler_operators.specs.declared.Op.{Op}
 use Rattle.euler_operators.specs.declared.Refusal.{Refusal}
 use Rattle.euler_laws.specs.Laws.{AreAccepted, effects}

@@ -1,7 +1,6 @@
 -- What isn't done changes nothing; and where memory isn't refused, calls have one list of answers.
-use Rattle.std.proofs.Common.{◌≡◌, inl, inr, Bool, true, false, Option, Some, None, List, [], ◌∷◌, refl, sym, ap, subst, ◌∙◌, true≢false}
-use Rattle.std.specs.Prelude.{◌≢◌, ◌⊎◌, cond}
-use Rattle.euler_operators.specs.Model.{Model}
+use Rattle.std.proofs.Common.{◌≡◌, inl, inr, Bool, true, false, Option, Some, None, List, [], ◌∷◌, refl, sym, ap, subst, ◌∙◌, true≢false, ◌≢◌, ◌⊎◌, cond}
+use Rattle.euler_operators.specs.Common.{Model}
 use Rattle.euler_operators.specs.declared.Refusal.{Refusal}
 use Rattle.undo_journal.specs.Machine.{Machine, held, accepted, undo, undo_refusal, redo, redo_refusal}
 use Rattle.undo_journal.specs.Journal.{Journal, DraftJournal}

@@ -1,7 +1,6 @@
 -- How many commands can be undone, and redone, after a list of calls.
-use Rattle.std.proofs.Common.{◌≡◌, ℕ, suc, ◌+◌, ◌-◌, Bool, true, false, inl, inr, None, List, [], ◌∷◌, length, is_some, refl, sym, ap, ◌∙◌, arith, true≢false}
-use Rattle.std.specs.Prelude.{◌≢◌, cond}
-use Rattle.euler_operators.specs.Model.{Model}
+use Rattle.std.proofs.Common.{◌≡◌, ℕ, suc, ◌+◌, ◌-◌, Bool, true, false, inl, inr, None, List, [], ◌∷◌, length, is_some, refl, sym, ap, ◌∙◌, arith, true≢false, ◌≢◌, cond}
+use Rattle.euler_operators.specs.Common.{Model}
 use Rattle.undo_journal.specs.Machine.{depth, ahead, held, undo, undo_refusal, redo, redo_refusal}
 use Rattle.undo_journal.specs.Journal.{Journal}
 use Rattle.undo_journal.specs.Histories.{undos, redos, IsConsistent}

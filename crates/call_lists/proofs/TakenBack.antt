@@ -1,11 +1,9 @@
 -- Commands that are taken back, and made again.
-use Rattle.std.proofs.Common.{◌≡◌, ℕ, zero, suc, ◌+◌, ◌≤◌, inl, inr, Bool, false, None, List, [], ◌∷◌, ◌++◌, length, reverse, take, drop, replicate, nat_eq, refl, sym, ap, subst, ◌∙◌, append_assoc, take-append-drop, length-take, arith}
-use Rattle.std.specs.Prelude.{◌⊎◌}
+use Rattle.std.proofs.Common.{◌≡◌, ℕ, zero, suc, ◌+◌, ◌≤◌, inl, inr, Bool, false, None, List, [], ◌∷◌, ◌++◌, length, reverse, take, drop, replicate, nat_eq, refl, sym, ap, subst, ◌∙◌, append_assoc, take-append-drop, length-take, arith, ◌⊎◌}
 use Rattle.std.proofs.lemmas.Bool.Decides.{nat_tests}
-use Rattle.euler_operators.specs.Model.{Model}
+use Rattle.euler_operators.specs.Common.{Model, first_refusal, never}
 use Rattle.euler_operators.specs.declared.Why.{Why}
 use Rattle.euler_operators.specs.declared.Why.TheVariants.{NothingToUndo, NothingToRedo}
-use Rattle.euler_operators.specs.Conditions.{first_refusal, never}
 use Rattle.undo_journal.specs.Machine.{Machine, held, depth, ahead, accepted, back_to, undo, undo_refusal, redo, redo_refusal}
 use Rattle.undo_journal.specs.Journal.{Journal, after_undo, after_redo, IsRecorded}
 use Rattle.undo_journal.specs.declared.record.Record.{Record}

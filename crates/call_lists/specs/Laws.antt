@@ -1,6 +1,6 @@
 -- The laws of lists of calls.
 use Rattle.std.specs.Prelude.{◌≡◌, ◌≢◌, ℕ, ◌+◌, ◌-◌, Bool, true, false, cond, List, [], ◌∷◌, ◌++◌, length, take, replicate}
-use Rattle.euler_operators.specs.Model.{Model, empty_model}
+use Rattle.euler_operators.specs.Common.{Model, empty_model}
 use Rattle.undo_journal.specs.Machine.{Machine, held, depth, ahead}
 use Rattle.undo_journal.specs.Recorded.{model_at}
 use Rattle.undo_journal.specs.Journal.{Journal}

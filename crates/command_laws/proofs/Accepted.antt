@@ -1,26 +1,14 @@
 -- When a block, a lamina and a sweep are accepted.
-use Rattle.std.specs.Prelude.{nat_le, length, map}
 use Rattle.std.specs.List.{list_all, list_any}
-use Rattle.std.proofs.Common.{◌≡◌, ℕ, ◌+◌, ◌*◌, ◌≤◌, Bool, true, false, not, cond, ◌||◌, List, [], ◌∷◌, ◌++◌, Some, None, is_some, refl, sym, ap, subst, ◌∙◌, arith, true≢false}
-use Rattle.std.proofs.lemmas.Bool.{and_parts, eq-eqb, eqb-true}
+use Rattle.std.proofs.Common.{◌≡◌, ℕ, ◌+◌, ◌*◌, ◌≤◌, Bool, true, false, not, cond, ◌||◌, List, [], ◌∷◌, ◌++◌, Some, None, is_some, refl, sym, ap, subst, ◌∙◌, arith, true≢false, nat_le, length, map, eq-eqb, eqb-true}
+use Rattle.std.proofs.lemmas.Bool.{and_parts}
 use Rattle.std.proofs.lemmas.Bool.Decides.{nat_tests, eqb_tells}
 use Rattle.std.proofs.lemmas.List.{length-map}
-use Rattle.euler_operators.specs.declared.Point.{Point}
-use Rattle.euler_operators.specs.Points.{is_in_range}
-use Rattle.euler_operators.specs.Vectors.{moved, same_point}
+use Rattle.euler_operators.specs.Common.{Point, is_in_range, moved, same_point, Model, content, outer, point_of, is_lone}
 use Rattle.euler_operators.specs.Table as table
-use Rattle.euler_operators.specs.Model.{Model, content, outer, point_of}
-use Rattle.euler_operators.specs.Conditions.{is_lone}
-use Rattle.euler_operators.proofs.Models.{content_row}
-use Rattle.euler_operators.proofs.Tables.{first_where_zero, none_all_where}
-use Rattle.euler_operators.proofs.Tests.{and_false}
-use Rattle.euler_laws.proofs.shared.Goes.{◌also◌, none_refuses}
-use Rattle.shapes.specs.Faces.{corners, loops_of, vertices_in, vertices_on, least_lone}
-use Rattle.shapes.specs.Fresh.{taken_in, first_such}
-use Rattle.shapes.specs.Lamina.{lamina_conditions, first_far, first_repeated}
-use Rattle.shapes.specs.Prism.{prism_conditions}
-use Rattle.shapes.specs.Block.{block_conditions}
-use Rattle.shapes.specs.glue.Glue.{has_repeats}
+use Rattle.euler_operators.proofs.Common.{content_row, first_where_zero, none_all_where, and_false}
+use Rattle.euler_laws.proofs.Common.{◌also◌, none_refuses}
+use Rattle.shapes.specs.Common.{corners, loops_of, vertices_in, vertices_on, least_lone, taken_in, first_such, lamina_conditions, first_far, first_repeated, prism_conditions, block_conditions, has_repeats}
 use Rattle.undo_journal.specs.Machine.{held}
 use Rattle.gluing.proofs.glue_checks_laws.Points.{same_turned}
 use Rattle.command_laws.specs.NewFaces.{IsFaceOf, all_moved}

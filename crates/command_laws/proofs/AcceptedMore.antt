@@ -1,25 +1,12 @@
 -- When a sweep of a face with rings and a glue are accepted.
-use Rattle.std.specs.Prelude.{nat_eq, map, reverse}
-use Rattle.std.proofs.Common.{◌≡◌, ℕ, ◌+◌, ◌*◌, ◌≤◌, ◌⊎◌, inl, inr, Bool, true, false, not, cond, ◌&&◌, ◌||◌, List, [], ◌∷◌, Some, None, is_some, unwrap_or, refl, sym, ap, subst, ◌∙◌, true≢false}
-use Rattle.std.proofs.lemmas.Bool.{ne_eqb, or_cases, eqb-true}
+use Rattle.std.proofs.Common.{◌≡◌, ℕ, ◌+◌, ◌*◌, ◌≤◌, ◌⊎◌, inl, inr, Bool, true, false, not, cond, ◌&&◌, ◌||◌, List, [], ◌∷◌, Some, None, is_some, unwrap_or, refl, sym, ap, subst, ◌∙◌, true≢false, nat_eq, map, reverse, ne_eqb, eqb-true}
+use Rattle.std.proofs.lemmas.Bool.{or_cases}
 use Rattle.std.proofs.lemmas.List.{length-map}
-use Rattle.euler_operators.specs.declared.Point.{Point}
-use Rattle.euler_operators.specs.Items.{IsIn}
+use Rattle.euler_operators.specs.Common.{Point, IsIn, Model, LoopContent, LoopRow, no_face, lone, cycle, items_of, content, face_of, outer, point_of, solid_of, Sound, Has, is_empty, is_lone, lists, has_rings}
 use Rattle.euler_operators.specs.Table as table
-use Rattle.euler_operators.specs.Model.{Model, LoopContent, LoopRow, no_face, lone, cycle, items_of, content, face_of, outer, point_of, solid_of}
-use Rattle.euler_operators.specs.Sound.{Sound, Has}
-use Rattle.euler_operators.specs.Conditions.{is_empty, is_lone, lists, has_rings}
-use Rattle.euler_operators.proofs.Models.{content_row, face_row}
-use Rattle.euler_operators.proofs.Tables.{first_where_zero}
-use Rattle.euler_operators.proofs.Rotations.{IsIn_head}
-use Rattle.euler_operators.proofs.Members.{IsIn_rest}
-use Rattle.euler_laws.proofs.shared.Goes.{◌also◌, none_refuses}
-use Rattle.euler_laws.proofs.shared.Listed.{listed_passes, listed-from_in}
-use Rattle.shapes.specs.Faces.{start, corners, least_lone, faces_of_both}
-use Rattle.shapes.specs.Fresh.{taken_in, first_such, found}
-use Rattle.shapes.specs.Measure.{is_flat}
-use Rattle.shapes.specs.Prism.{prism_conditions}
-use Rattle.shapes.specs.glue.Glue.{glue_conditions, outline, has_repeats, is_rotation}
+use Rattle.euler_operators.proofs.Common.{content_row, face_row, first_where_zero, IsIn_head, IsIn_rest}
+use Rattle.euler_laws.proofs.Common.{◌also◌, none_refuses, listed_passes, listed-from_in}
+use Rattle.shapes.specs.Common.{start, corners, least_lone, faces_of_both, taken_in, first_such, found, is_flat, prism_conditions, glue_conditions, outline, has_repeats, is_rotation}
 use Rattle.undo_journal.specs.Machine.{held}
 use Rattle.command_laws.specs.NewFaces.{IsFaceOf}
 use Rattle.command_laws.specs.Accepted.{RingedSweepsFit, GluesFit}

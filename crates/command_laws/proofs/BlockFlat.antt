@@ -1,30 +1,13 @@
 -- Each face of a block is a parallelogram.
-use Rattle.std.specs.Prelude.{int_le, length}
-use Rattle.std.proofs.Common.{◌≡◌, ◌≢◌, ℕ, zero, suc, ◌+◌, ◌-◌, ◌≤◌, ◌<◌, ◌⊎◌, inl, inr, ℤ, pos, ◌+ℤ◌, ◌-ℤ◌, ◌*ℤ◌, neg_ℤ, is_some, true, false, not, List, [], ◌∷◌, refl, sym, ap, subst, ◌∙◌, arith, true≢false}
+use Rattle.std.proofs.Common.{◌≡◌, ◌≢◌, ℕ, zero, suc, ◌+◌, ◌-◌, ◌≤◌, ◌<◌, ◌⊎◌, inl, inr, ℤ, pos, ◌+ℤ◌, ◌-ℤ◌, ◌*ℤ◌, neg_ℤ, is_some, true, false, not, List, [], ◌∷◌, refl, sym, ap, subst, ◌∙◌, arith, true≢false, int_le, length}
 use Rattle.std.proofs.lemmas.Bool.{cases_eq, cases_lt, not-true}
 use Rattle.std.proofs.lemmas.Int.{ints}
-use Rattle.euler_operators.specs.declared.Point.{Point}
-use Rattle.euler_operators.specs.Vectors.{origin, moved, cross}
-use Rattle.euler_operators.proofs.Vectors.{same_vector}
+use Rattle.euler_operators.specs.Common.{Point, origin, moved, cross, content, face_of, outer, rings_of, solid_of, Sound, Has, IsIn, is_empty, is_lone, lists, has_rings}
+use Rattle.euler_operators.proofs.Common.{same_vector, same_content, same_solid}
 use Rattle.euler_operators.specs.Table as table
-use Rattle.euler_operators.specs.Model.{content, face_of, outer, rings_of, solid_of}
-use Rattle.euler_operators.specs.Sound.{Sound, Has}
-use Rattle.euler_operators.specs.Items.{IsIn}
-use Rattle.euler_operators.proofs.Models.{same_content, same_solid}
-use Rattle.euler_operators.specs.Conditions.{is_empty, is_lone, lists, has_rings}
-use Rattle.euler_laws.proofs.shared.Goes.{all_hold}
-use Rattle.euler_laws.proofs.shared.Rows.{no_rings_means}
-use Rattle.euler_laws.proofs.shared.Listed.{IsIn-from_listed, listed-from_in, first_listed, rest_listed}
-use Rattle.euler_laws.proofs.shared.FaceRings.{outer_or_ring}
-use Rattle.shapes.specs.Faces.{loops_of}
-use Rattle.shapes.proofs.walks.SolidFaces.{face_of_loop}
-use Rattle.shapes.proofs.walks.FaceLoops.{ring_listed}
-use Rattle.shapes.specs.Vectors.{towards}
-use Rattle.shapes.specs.Prism.{next_place}
-use Rattle.shapes.specs.Block.{vector, base_of, block_conditions}
-use Rattle.shapes.specs.Measure.{is_flat}
-use Rattle.shapes.proofs.fresh.Rows.{at_most_greatest}
-use Rattle.shapes.proofs.measures.Products.{no_product}
+use Rattle.euler_laws.proofs.Common.{all_hold, no_rings_means, IsIn-from_listed, listed-from_in, first_listed, rest_listed, outer_or_ring}
+use Rattle.shapes.specs.Common.{loops_of, towards, next_place, vector, base_of, block_conditions, is_flat}
+use Rattle.shapes.proofs.Common.{face_of_loop, ring_listed, at_most_greatest, no_product}
 use Rattle.sweeps_laws.proofs.BlockOps.{blocks_are_sound}
 use Rattle.undo_journal.specs.Machine.{Machine, held}
 use Rattle.command_laws.specs.Commands.{IsBlock}

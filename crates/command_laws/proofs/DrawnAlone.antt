@@ -1,17 +1,10 @@
 -- What a lamina and a block leave as they were.
-use Rattle.std.specs.Prelude.{length}
-use Rattle.std.proofs.Common.{◌≡◌, ◌≢◌, ℕ, ◌+◌, ◌-◌, ℤ, List, None, is_some, sym, ap, subst, ◌∙◌, refl, arith, inl, inr}
-use Rattle.euler_operators.specs.declared.Point.{Point}
-use Rattle.euler_operators.specs.HalfEdge.{edge_of}
+use Rattle.std.proofs.Common.{◌≡◌, ◌≢◌, ℕ, ◌+◌, ◌-◌, ℤ, List, None, is_some, sym, ap, subst, ◌∙◌, refl, arith, inl, inr, length}
+use Rattle.euler_operators.specs.Common.{Point, edge_of, Model, face_of, rings_of, Sound, Has}
 use Rattle.euler_operators.specs.Table as table
-use Rattle.euler_operators.specs.Model.{Model, face_of, rings_of}
-use Rattle.euler_operators.specs.Sound.{Sound, Has}
-use Rattle.euler_operators.proofs.Tables.{row_some, get-put_other}
-use Rattle.euler_operators.proofs.Models.{face_row, same_face, same_solid}
-use Rattle.shapes.specs.Fresh.{taken_in}
-use Rattle.shapes.specs.Lamina.{lamina_refusal, lamina_model, lamina_face, with_points, with_path}
-use Rattle.shapes.specs.Block.{base_of, block_refusal, block_model}
-use Rattle.shapes.proofs.fresh.Rows.{at_most_greatest, get-put_cases}
+use Rattle.euler_operators.proofs.Common.{row_some, get-put_other, face_row, same_face, same_solid}
+use Rattle.shapes.specs.Common.{taken_in, lamina_refusal, lamina_model, lamina_face, with_points, with_path, base_of, block_refusal, block_model}
+use Rattle.shapes.proofs.Common.{at_most_greatest, get-put_cases}
 use Rattle.sweeps_laws.proofs.lamina.Walk.{lamina_goes, lamina_is_sound}
 use Rattle.sweeps_laws.proofs.lamina.Blocks.{blocks_have_bases, bases_rise}
 use Rattle.undo_journal.specs.Machine.{held}

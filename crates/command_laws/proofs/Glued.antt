@@ -1,15 +1,11 @@
 -- The solids and the faces that are there after a glue.
-use Rattle.std.specs.Prelude.{nat_eq, unwrap_or}
-use Rattle.std.specs.Option.{option_map}
-use Rattle.std.proofs.Common.{◌≡◌, ◌≢◌, ℕ, cond, Option, Some, None, is_some, refl, ap, ◌∙◌, ne_eqb, arith}
+use Rattle.std.proofs.Common.{◌≡◌, ◌≢◌, ℕ, cond, Option, Some, None, is_some, refl, ap, ◌∙◌, ne_eqb, arith, nat_eq, unwrap_or, option_map}
 use Rattle.std.proofs.lemmas.Bool.{eqb-false, not-true}
 use Rattle.euler_operators.specs.Table as table
-use Rattle.euler_operators.specs.Model.{Model, FaceRow, no_face, solid_of}
-use Rattle.euler_operators.specs.Sound.{Sound, Has}
-use Rattle.euler_operators.specs.Effect.{faces_to_solid}
-use Rattle.euler_operators.proofs.Tables.{get-remove_here, get-remove_other}
-use Rattle.euler_laws.proofs.shared.Goes.{all_hold}
-use Rattle.shapes.specs.glue.Glue.{glue_conditions, glue_refusal, glue_model}
+use Rattle.euler_operators.specs.Common.{Model, FaceRow, no_face, solid_of, Sound, Has, faces_to_solid}
+use Rattle.euler_operators.proofs.Common.{get-remove_here, get-remove_other}
+use Rattle.euler_laws.proofs.Common.{all_hold}
+use Rattle.shapes.specs.Common.{glue_conditions, glue_refusal, glue_model}
 use Rattle.undo_journal.specs.Machine.{held}
 use Rattle.command_laws.specs.Solids.{GluesJoinSolids}
 use Rattle.command_laws.specs.Kept.{GlueKeepsFaces}

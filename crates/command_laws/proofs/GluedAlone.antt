@@ -1,13 +1,10 @@
 -- What a glue leaves as it was.
 use Rattle.std.proofs.Common.{◌≡◌, ℕ, sym, ap, ◌∙◌, arith}
-use Rattle.euler_operators.specs.HalfEdge.{edge_of}
+use Rattle.euler_operators.specs.Common.{edge_of, Model, face_of, solid_of, Sound, Has}
 use Rattle.euler_operators.specs.Table as table
-use Rattle.euler_operators.specs.Model.{Model, face_of, solid_of}
-use Rattle.euler_operators.specs.Sound.{Sound, Has}
-use Rattle.euler_operators.proofs.Models.{same_solid}
-use Rattle.shapes.specs.glue.Glue.{partner, rim}
-use Rattle.shapes.specs.glue.GlueOps.{fresh_edge}
-use Rattle.shapes.proofs.glue.Facing.{Facing}
+use Rattle.euler_operators.proofs.Common.{same_solid}
+use Rattle.shapes.specs.Common.{partner, rim, fresh_edge}
+use Rattle.shapes.proofs.Common.{Facing}
 use Rattle.shapes.proofs.glue.Facts as facts
 use Rattle.gluing_laws.proofs.glue.Ending.{glued_all}
 use Rattle.undo_journal.specs.Machine.{Machine, held}

@@ -1,35 +1,17 @@
 -- The counts of two solids that were glued.
-use Rattle.std.proofs.Common.{◌≡◌, ◌≢◌, ℕ, ◌+◌, ◌-◌, pos, ◌+ℤ◌, ◌-ℤ◌, false, cond, nat_eq, List, [], ◌∷◌, length, map, Option, Some, None, is_some, refl, sym, ap, subst, ◌∙◌, arith, true≢false, inl, inr}
-use Rattle.std.specs.Option.{option_map}
+use Rattle.std.proofs.Common.{◌≡◌, ◌≢◌, ℕ, ◌+◌, ◌-◌, pos, ◌+ℤ◌, ◌-ℤ◌, false, cond, nat_eq, List, [], ◌∷◌, length, map, Option, Some, None, is_some, refl, sym, ap, subst, ◌∙◌, arith, true≢false, inl, inr, option_map, eq-eqb, ne_eqb}
 use Rattle.std.proofs.lemmas.Int.{ints}
-use Rattle.std.proofs.lemmas.Bool.{eq-eqb, eqb-false, ne_eqb}
+use Rattle.std.proofs.lemmas.Bool.{eqb-false}
 use Rattle.std.proofs.lemmas.List.{length-map}
-use Rattle.euler_operators.specs.HalfEdge.{edge_of, mate}
-use Rattle.euler_operators.specs.Items.{IsIn, IsApart}
+use Rattle.euler_operators.specs.Common.{edge_of, mate, IsIn, IsApart, Table, Model, FaceRow, face_of, faces_of, outer, solid_of, tail, Sound, Has, HasHalf, faces_to_solid}
 use Rattle.euler_operators.specs.Table as table
-use Rattle.euler_operators.specs.Table.{Table}
-use Rattle.euler_operators.specs.Model.{Model, FaceRow, face_of, faces_of, outer, solid_of, tail}
-use Rattle.euler_operators.specs.Sound.{Sound, Has, HasHalf}
-use Rattle.euler_operators.specs.Effect.{faces_to_solid}
-use Rattle.euler_operators.proofs.Halves.{same_edge}
-use Rattle.euler_operators.proofs.Lists.{tick_same}
-use Rattle.euler_operators.proofs.Maps.{from_map}
-use Rattle.euler_operators.proofs.Members.{IsApart-images}
-use Rattle.euler_operators.proofs.Models.{same_solid, solid_row}
-use Rattle.euler_operators.proofs.Rotations.{IsIn_head}
-use Rattle.euler_operators.proofs.Tables.{get-remove_other, row_some}
+use Rattle.euler_operators.proofs.Common.{same_edge, tick_same, from_map, IsApart-images, same_solid, solid_row, IsIn_head, get-remove_other, row_some}
 use Rattle.euler_laws.specs.Laws.{size}
-use Rattle.euler_laws.proofs.Sizes.{size-map_rows, size-remove}
-use Rattle.euler_laws.proofs.shared.Rows.{face_there}
-use Rattle.shapes.specs.Faces.{edges_of, vertices_of}
-use Rattle.shapes.specs.Rewriting.{renamed, rewritten_row, without_rows}
-use Rattle.shapes.specs.glue.Glue.{glue_model, glue_refusal, partner, renamed_tails, rim}
-use Rattle.shapes.specs.glue.GlueOps.{fresh_edge}
-use Rattle.shapes.specs.glue.Part.{paired}
+use Rattle.euler_laws.proofs.Common.{size-map_rows, size-remove, face_there}
+use Rattle.shapes.specs.Common.{edges_of, vertices_of, renamed, rewritten_row, without_rows, glue_model, glue_refusal, partner, renamed_tails, rim, fresh_edge, paired}
 use Rattle.shapes.proofs.glue.Facing as facing
-use Rattle.shapes.proofs.glue.Facing.{Facing}
+use Rattle.shapes.proofs.Common.{Facing, without_first, without_there}
 use Rattle.shapes.proofs.glue.Facts as facts
-use Rattle.shapes.proofs.glue.Renamings.{without_first, without_there}
 use Rattle.gluing_laws.proofs.glue.Glued.{glued_sound}
 use Rattle.gluing_laws.proofs.glue.Ending.{glued_all}
 use Rattle.solid_measure.specs.solid_counts.Counts.{counts, rings_in}

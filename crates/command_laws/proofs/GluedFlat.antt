@@ -1,24 +1,13 @@
 -- A solid that came of a glue is flat, as both were, and none of its loops is a lone vertex.
-use Rattle.std.specs.Prelude.{nat_eq, unwrap_or, map}
-use Rattle.std.specs.Option.{option_map}
-use Rattle.std.proofs.Common.{◌≡◌, ◌≢◌, ℕ, ◌⊎◌, inl, inr, Bool, true, false, cond, ◌&&◌, ◌||◌, List, Option, Some, None, is_some, refl, sym, ap, subst, ◌∙◌, arith, true≢false}
-use Rattle.std.proofs.lemmas.Bool.{cases_eq, eq-eqb, ne_eqb}
+use Rattle.std.proofs.Common.{◌≡◌, ◌≢◌, ℕ, ◌⊎◌, inl, inr, Bool, true, false, cond, ◌&&◌, ◌||◌, List, Option, Some, None, is_some, refl, sym, ap, subst, ◌∙◌, arith, true≢false, nat_eq, unwrap_or, map, option_map, eq-eqb, ne_eqb}
+use Rattle.std.proofs.lemmas.Bool.{cases_eq}
 use Rattle.std.proofs.lemmas.Bool.Decides.{eqb_tells}
 use Rattle.euler_operators.specs.Table as table
-use Rattle.euler_operators.specs.Table.{Table}
-use Rattle.euler_operators.specs.Model.{Model, LoopContent, LoopRow, no_face, lone, cycle, content, face_of, outer, solid_of}
-use Rattle.euler_operators.specs.Sound.{Sound, Has}
-use Rattle.euler_operators.specs.Conditions.{is_lone, lists}
-use Rattle.euler_operators.proofs.Models.{content_row, face_row, loop_number}
-use Rattle.euler_operators.proofs.Tables.{get-remove_here, row_some, zero_first_where}
-use Rattle.euler_laws.proofs.shared.Goes.{all_hold}
-use Rattle.euler_laws.proofs.shared.Listed.{listed_as}
-use Rattle.euler_laws.proofs.shared.Rows.{face_there, solid_either}
-use Rattle.shapes.specs.Faces.{faces_of_both, least_lone}
-use Rattle.shapes.specs.Rewriting.{rewritten, rewritten_row}
-use Rattle.shapes.specs.Measure.{is_flat}
-use Rattle.shapes.proofs.fresh.Tests.{none_found, none_is_lone}
-use Rattle.shapes.specs.glue.Glue.{glue_conditions, glue_model, partner, rim}
+use Rattle.euler_operators.specs.Common.{Table, Model, LoopContent, LoopRow, no_face, lone, cycle, content, face_of, outer, solid_of, Sound, Has, is_lone, lists}
+use Rattle.euler_operators.proofs.Common.{content_row, face_row, loop_number, get-remove_here, row_some, zero_first_where}
+use Rattle.euler_laws.proofs.Common.{all_hold, listed_as, face_there, solid_either}
+use Rattle.shapes.specs.Common.{faces_of_both, least_lone, rewritten, rewritten_row, is_flat, glue_conditions, glue_model, partner, rim}
+use Rattle.shapes.proofs.Common.{none_found, none_is_lone}
 use Rattle.gluing_laws.proofs.glue.Glued.{glued_sound}
 use Rattle.gluing_laws.proofs.Seams as seams
 use Rattle.gluing_laws.proofs.Measures as measures

@@ -1,29 +1,13 @@
 -- What two faces glued leave of the loops, the edges and the vertices of other solids than the second.
-use Rattle.std.specs.Prelude.{map}
-use Rattle.std.specs.Option.{option_map}
-use Rattle.std.proofs.Common.{◌≡◌, ◌≢◌, ℕ, List, [], ◌∷◌, Option, Some, None, is_some, refl, sym, ap, subst, ◌∙◌, arith, inl, inr, true≢false}
+use Rattle.std.proofs.Common.{◌≡◌, ◌≢◌, ℕ, List, [], ◌∷◌, Option, Some, None, is_some, refl, sym, ap, subst, ◌∙◌, arith, inl, inr, true≢false, map, option_map}
 use Rattle.std.proofs.lemmas.Bool.Decides.{eqb_tells}
-use Rattle.euler_operators.specs.Items.{count, IsIn}
-use Rattle.euler_operators.specs.Rings.{canonical}
-use Rattle.euler_operators.proofs.Lists.{IsIn_or_not}
-use Rattle.euler_operators.proofs.Maps.{from_map}
-use Rattle.euler_operators.proofs.Rotations.{IsIn_head}
-use Rattle.euler_operators.specs.HalfEdge.{edge_of, mate, minus, plus}
+use Rattle.euler_operators.specs.Common.{count, IsIn, canonical, edge_of, mate, minus, plus, Table, Model, LoopContent, LoopRow, lone, cycle, holds, tail, content, face_of, outer, solid_of, Has, HasHalf}
+use Rattle.euler_operators.proofs.Common.{IsIn_or_not, from_map, IsIn_head, minus_row, plus_row, same_edge, face_row, in-holds, item_there, minus_tail_row, minus_there, plus_tail_row, plus_there, item_loop, get-remove_here, get-remove_other, row_some}
 use Rattle.euler_operators.specs.Table as table
-use Rattle.euler_operators.specs.Table.{Table}
-use Rattle.euler_operators.specs.Model.{Model, LoopContent, LoopRow, lone, cycle, holds, tail, content, face_of, outer, solid_of}
-use Rattle.euler_operators.specs.Sound.{Has, HasHalf}
-use Rattle.euler_operators.proofs.Halves.{minus_row, plus_row, same_edge}
-use Rattle.euler_operators.proofs.Models.{face_row, in-holds, item_there, minus_tail_row, minus_there, plus_tail_row, plus_there, item_loop}
-use Rattle.euler_operators.proofs.Tables.{get-remove_here, get-remove_other, row_some}
-use Rattle.euler_laws.proofs.shared.Rows.{loop_row}
-use Rattle.shapes.specs.Faces.{vertices_on}
-use Rattle.shapes.specs.Rewriting.{renamed, rewritten, rewritten_row, without_rows}
-use Rattle.shapes.specs.glue.Glue.{glue_model, partner, renamed_tails, rim}
-use Rattle.shapes.specs.glue.Part.{paired}
+use Rattle.euler_laws.proofs.Common.{loop_row}
+use Rattle.shapes.specs.Common.{vertices_on, renamed, rewritten, rewritten_row, without_rows, glue_model, partner, renamed_tails, rim, paired}
 use Rattle.shapes.proofs.glue.Facing as facing
-use Rattle.shapes.proofs.glue.Facing.{Facing}
-use Rattle.shapes.proofs.glue.Renamings.{renamed_not, without_there}
+use Rattle.shapes.proofs.Common.{Facing, renamed_not, without_there}
 use Rattle.gluing_laws.proofs.glue.Ending.{glued_all, glued_along_is}
 use Rattle.command_laws.proofs.OnFaces.{vertex_cases}
 use Rattle.command_laws.proofs.Owners.{solid_of_half, solid_of_loop}

@@ -2,45 +2,20 @@
 use Rattle.std.proofs.Common.{◌≡◌, ◌≢◌, ℕ, true, List, Some, None, is_some, refl, sym, ap, subst, ◌∙◌, true≢false, inl, inr}
 use Rattle.std.proofs.lemmas.Bool.{eqb-false}
 use Rattle.std.proofs.lemmas.Bool.Decides.{eqb_tells}
-use Rattle.euler_operators.specs.declared.Corner.{Corner}
-use Rattle.euler_operators.specs.declared.Corner.TheVariants.{At, Lone}
-use Rattle.euler_operators.specs.declared.HalfEdge.{HalfEdge}
-use Rattle.euler_operators.specs.declared.Point.{Point}
-use Rattle.euler_operators.specs.HalfEdge.{code, edge_of, mate}
+use Rattle.euler_operators.specs.Common.{Corner, At, Lone, HalfEdge, Point, code, edge_of, mate, Model, content, face_of, loop_of, solid_of, tail, Sound, Has, HasHalf, corner_loop, face_at, first_false, edge_row, effect, inverse, kemr, mef, mev_at, mev_lone, mfkrh}
 use Rattle.euler_operators.specs.Table as table
-use Rattle.euler_operators.specs.Model.{Model, content, face_of, loop_of, solid_of, tail}
-use Rattle.euler_operators.specs.Sound.{Sound, Has, HasHalf}
-use Rattle.euler_operators.specs.Conditions.{corner_loop, face_at, first_false}
-use Rattle.euler_operators.specs.Effect.{edge_row, effect, inverse, kemr, mef, mev_at, mev_lone, mfkrh}
 use Rattle.euler_operators.specs.declared.Op.{Op}
 use Rattle.euler_operators.specs.declared.Op.TheVariants.{Mev, Kev, Mef, Kef, Kemr, Mekr, Kfmrh, Mfkrh}
-use Rattle.euler_operators.proofs.Halves.{same_edge}
-use Rattle.euler_operators.proofs.Models.{face_row, loop_there, mate_there, same_solid, solid_row}
-use Rattle.euler_operators.proofs.Tables.{get-put_here, get-put_other, get-remove_other, row_elsewhere}
-use Rattle.euler_laws.proofs.Cases.{effect_keeps_sound, inverse_goes, inverse_undoes}
-use Rattle.euler_laws.proofs.faces.Kfmrh.{MakeGoes, kfmrh_goes, mfkrh_goes}
-use Rattle.euler_laws.proofs.kemr.Kemr.{kemr_goes}
-use Rattle.euler_laws.proofs.kev.Kev.{kev_goes}
-use Rattle.euler_laws.proofs.mef.Kef.{kef_goes}
+use Rattle.euler_operators.proofs.Common.{same_edge, face_row, loop_there, mate_there, same_solid, solid_row, get-put_here, get-put_other, get-remove_other, row_elsewhere}
+use Rattle.euler_laws.proofs.Common.{effect_keeps_sound, inverse_goes, inverse_undoes, MakeGoes, kfmrh_goes, mfkrh_goes, kemr_goes, kev_goes, kef_goes, KemrGoes, mef_goes, MefGoes, JoinGoes, join_goes, lone_goes, mev_goes, mixed_first, mixed_second, MevGoes, LoopMoves, face_kept, face_moved, walks_same, none_else, put_before, put_none, edge_there, loop_row, one_solid_round, face_same, row_else, row_second}
 use Rattle.euler_laws.proofs.kemr.KemrSound as parted
-use Rattle.euler_laws.proofs.kemr.KemrSound.{KemrGoes}
-use Rattle.euler_laws.proofs.mef.Mef.{mef_goes}
 use Rattle.euler_laws.proofs.mef.MefSound as drawn
-use Rattle.euler_laws.proofs.mef.MefSound.{MefGoes}
 use Rattle.euler_laws.proofs.mekr.Mekr.{mekr_is}
 use Rattle.euler_laws.proofs.mekr.MekrSound as joins
 use Rattle.euler_laws.proofs.mekr.MekrSound.{join_loops}
-use Rattle.euler_laws.proofs.mekr.MekrSpots.{JoinGoes, join_goes}
-use Rattle.euler_laws.proofs.mev.Mev.{lone_goes, mev_goes, mixed_first, mixed_second}
 use Rattle.euler_laws.proofs.mev.MevLoneSound.{LoneGoes}
 use Rattle.euler_laws.proofs.mev.MevSound as grown
-use Rattle.euler_laws.proofs.mev.MevSound.{MevGoes}
 use Rattle.euler_laws.proofs.shared.EdgeMore.{half_old}
-use Rattle.euler_laws.proofs.shared.Faces.{LoopMoves, face_kept, face_moved, walks_same}
-use Rattle.euler_laws.proofs.shared.Loops.{none_else, put_before, put_none}
-use Rattle.euler_laws.proofs.shared.Rows.{edge_there, loop_row}
-use Rattle.euler_laws.proofs.shared.Same.{one_solid_round}
-use Rattle.euler_laws.proofs.shared.TwoRows.{face_same, row_else, row_second}
 use Rattle.command_laws.specs.Operators.{is_inner, solid_in}
 use Rattle.command_laws.proofs.Owners.{Agree, half_kept, is_of, solid_of_half, solid_of_loop, turned}
 

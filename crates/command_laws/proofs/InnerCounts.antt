@@ -1,27 +1,14 @@
 -- What an operator makes of the counts of the solid in which it works.
 use Rattle.std.proofs.Common.{◌≡◌, ℕ, ◌+◌, ℤ, pos, ◌-ℤ◌, true, length, None, refl, sym, ap, subst, ◌∙◌, arith, true≢false, ne_eqb}
 use Rattle.std.proofs.lemmas.Int.{ints}
-use Rattle.euler_operators.specs.declared.Corner.{Corner}
-use Rattle.euler_operators.specs.declared.Corner.TheVariants.{At, Lone}
-use Rattle.euler_operators.specs.declared.HalfEdge.{HalfEdge}
-use Rattle.euler_operators.specs.declared.Point.{Point}
-use Rattle.euler_operators.specs.HalfEdge.{code, edge_of}
+use Rattle.euler_operators.specs.Common.{Corner, At, Lone, HalfEdge, Point, code, edge_of, Model, faces_of, Sound, first_false, effect, inverse, kemr, mef, mev_at, mev_lone, mfkrh}
 use Rattle.euler_operators.specs.Table as table
-use Rattle.euler_operators.specs.Model.{Model, faces_of}
-use Rattle.euler_operators.specs.Sound.{Sound}
-use Rattle.euler_operators.specs.Conditions.{first_false}
-use Rattle.euler_operators.specs.Effect.{effect, inverse, kemr, mef, mev_at, mev_lone, mfkrh}
 use Rattle.euler_operators.specs.declared.Op.{Op}
 use Rattle.euler_operators.specs.declared.Op.TheVariants.{Mev, Kev, Mef, Kef, Kemr, Mekr, Kfmrh, Mfkrh}
-use Rattle.euler_operators.proofs.Tables.{row_some}
+use Rattle.euler_operators.proofs.Common.{row_some}
 use Rattle.euler_laws.specs.Laws.{size}
-use Rattle.euler_laws.proofs.Cases.{effect_keeps_sound, inverse_goes, inverse_undoes}
-use Rattle.euler_laws.proofs.Sizes.{mapped_none, size-map_rows, size-put_new, size-put_old, size-remove}
-use Rattle.euler_laws.proofs.faces.Kfmrh.{mfkrh_goes}
-use Rattle.euler_laws.proofs.kemr.Kemr.{kemr_goes}
-use Rattle.euler_laws.proofs.mef.Mef.{mef_goes}
-use Rattle.euler_laws.proofs.mev.Mev.{lone_goes, mev_goes, mixed_first, mixed_second}
-use Rattle.shapes.specs.Faces.{edges_of, vertices_of}
+use Rattle.euler_laws.proofs.Common.{effect_keeps_sound, inverse_goes, inverse_undoes, mapped_none, size-map_rows, size-put_new, size-put_old, size-remove, mfkrh_goes, kemr_goes, mef_goes, lone_goes, mev_goes, mixed_first, mixed_second}
+use Rattle.shapes.specs.Common.{edges_of, vertices_of}
 use Rattle.solid_measure.specs.solid_counts.Counts.{counts, rings_in, tally_of}
 use Rattle.command_laws.specs.Operators.{OperatorsCount, OperatorsKeepCounts, counted_on, is_inner, solid_in}
 use Rattle.command_laws.proofs.Owners.{faces_many, is_of, loops_many, more_edges, more_faces, more_loops, more_vertices, others_kept, vertices_many}

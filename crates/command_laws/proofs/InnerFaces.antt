@@ -1,34 +1,18 @@
 -- An operator that leaves all vertices leaves each face that it doesn't meet.
 use Rattle.std.proofs.Common.{◌≡◌, ◌≢◌, ℕ, true, false, List, ◌∷◌, [], None, refl, sym, ap, subst, ◌∙◌, true≢false, inl, inr}
 use Rattle.std.proofs.lemmas.Bool.{false_from_ne_true}
-use Rattle.euler_operators.specs.HalfEdge.{code, edge_of, mate}
+use Rattle.euler_operators.specs.Common.{code, edge_of, mate, Model, face_of, loop_of, outer, Sound, Has, HasHalf, face_at, first_false, lists, effect, kef, kemr, kfmrh, mef, mfkrh}
 use Rattle.euler_operators.specs.Table as table
-use Rattle.euler_operators.specs.Model.{Model, face_of, loop_of, outer}
-use Rattle.euler_operators.specs.Sound.{Sound, Has, HasHalf}
-use Rattle.euler_operators.specs.Conditions.{face_at, first_false, lists}
-use Rattle.euler_operators.specs.Effect.{effect, kef, kemr, kfmrh, mef, mfkrh}
 use Rattle.euler_operators.specs.declared.Op.{Op}
 use Rattle.euler_operators.specs.declared.Op.TheVariants.{Kef, Kemr, Kfmrh, Mef, Mekr, Mfkrh}
-use Rattle.euler_operators.proofs.Halves.{same_edge}
-use Rattle.euler_operators.proofs.Models.{face_row}
-use Rattle.euler_operators.proofs.Tables.{get-put_other, get-remove_other, row_elsewhere}
-use Rattle.euler_laws.proofs.faces.Kfmrh.{KillGoes, MakeGoes, kfmrh_goes, mfkrh_goes}
-use Rattle.euler_laws.proofs.kemr.Kemr.{kemr_goes}
+use Rattle.euler_operators.proofs.Common.{same_edge, face_row, get-put_other, get-remove_other, row_elsewhere}
+use Rattle.euler_laws.proofs.Common.{KillGoes, MakeGoes, kfmrh_goes, mfkrh_goes, kemr_goes, KemrGoes, kef_goes, KefGoes, mef_goes, MefGoes, JoinGoes, join_goes, LoopMoves, face_kept, face_moved, walks_same, first_listed, rest_listed, face_same, row_else, row_second}
 use Rattle.euler_laws.proofs.kemr.KemrSound as parted
-use Rattle.euler_laws.proofs.kemr.KemrSound.{KemrGoes}
-use Rattle.euler_laws.proofs.mef.Kef.{kef_goes}
 use Rattle.euler_laws.proofs.mef.KefSound as erased
-use Rattle.euler_laws.proofs.mef.KefSound.{KefGoes}
-use Rattle.euler_laws.proofs.mef.Mef.{mef_goes}
 use Rattle.euler_laws.proofs.mef.MefSound as drawn
-use Rattle.euler_laws.proofs.mef.MefSound.{MefGoes}
 use Rattle.euler_laws.proofs.mekr.Mekr.{mekr_is}
 use Rattle.euler_laws.proofs.mekr.MekrSound as joins
 use Rattle.euler_laws.proofs.mekr.MekrSound.{join_loops}
-use Rattle.euler_laws.proofs.mekr.MekrSpots.{JoinGoes, join_goes}
-use Rattle.euler_laws.proofs.shared.Faces.{LoopMoves, face_kept, face_moved, walks_same}
-use Rattle.euler_laws.proofs.shared.Listed.{first_listed, rest_listed}
-use Rattle.euler_laws.proofs.shared.TwoRows.{face_same, row_else, row_second}
 use Rattle.command_laws.specs.LeftAlone.{StandsAsBefore}
 use Rattle.command_laws.specs.Operators.{OperatorsKeepShapes, faces_met, leaves_vertices}
 use Rattle.command_laws.proofs.Inner.{same_row}

@@ -1,16 +1,9 @@
 -- The faces that were there before a command.
-use Rattle.std.specs.Prelude.{length}
-use Rattle.std.proofs.Common.{◌≡◌, ℕ, zero, suc, ◌+◌, ◌≤◌, ◌<◌, ℤ, List, [], ◌∷◌, refl, sym, ap, subst, ◌∙◌, arith}
-use Rattle.euler_operators.specs.declared.Point.{Point}
+use Rattle.std.proofs.Common.{◌≡◌, ℕ, zero, suc, ◌+◌, ◌≤◌, ◌<◌, ℤ, List, [], ◌∷◌, refl, sym, ap, subst, ◌∙◌, arith, length}
+use Rattle.euler_operators.specs.Common.{Point, Table, Model, empty_model}
 use Rattle.euler_operators.specs.Table as table
-use Rattle.euler_operators.specs.Table.{Table}
-use Rattle.euler_operators.specs.Model.{Model, empty_model}
-use Rattle.euler_operators.proofs.Tables.{get-put_other}
-use Rattle.shapes.specs.Faces.{loops_of}
-use Rattle.shapes.specs.Fresh.{Growing, Taken, growing, taken_in}
-use Rattle.shapes.specs.Lamina.{lamina_model, lamina_face}
-use Rattle.shapes.specs.Prism.{raised, prism_from, prism_model, with_side, with_sides}
-use Rattle.shapes.specs.Block.{base_of, block_model}
+use Rattle.euler_operators.proofs.Common.{get-put_other}
+use Rattle.shapes.specs.Common.{loops_of, Growing, Taken, growing, taken_in, lamina_model, lamina_face, raised, prism_from, prism_model, with_side, with_sides, base_of, block_model}
 use Rattle.sweeps_laws.proofs.swept.Numbers.{riser_above, top_above}
 use Rattle.undo_journal.specs.Machine.{held}
 use Rattle.command_laws.specs.NewFaces.{up_by}

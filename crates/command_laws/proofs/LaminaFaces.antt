@@ -1,21 +1,13 @@
 -- The two faces of a lamina.
-use Rattle.std.specs.Prelude.{length, map, reverse, take}
-use Rattle.std.proofs.Common.{◌≡◌, ℕ, zero, suc, ◌+◌, ◌≤◌, ◌<◌, List, [], ◌∷◌, None, is_some, refl, sym, ap, subst, ◌∙◌, arith, inl, inr}
+use Rattle.std.proofs.Common.{◌≡◌, ℕ, zero, suc, ◌+◌, ◌≤◌, ◌<◌, List, [], ◌∷◌, None, is_some, refl, sym, ap, subst, ◌∙◌, arith, inl, inr, length, map, reverse, take}
 use Rattle.std.proofs.lemmas.List.{map-append, reverse-append}
 use Rattle.std.proofs.lemmas.Bool.Decides.{nat_tests, eqb_tells}
-use Rattle.euler_operators.specs.declared.Point.{Point}
-use Rattle.euler_operators.specs.Rings.{canonical}
-use Rattle.euler_operators.specs.HalfEdge.{plus, minus}
+use Rattle.euler_operators.specs.Common.{Point, canonical, plus, minus, Model, point_of, Sound}
 use Rattle.euler_operators.specs.Table as table
-use Rattle.euler_operators.specs.Model.{Model, point_of}
-use Rattle.euler_operators.specs.Sound.{Sound}
-use Rattle.euler_operators.proofs.Models.{content_row, solid_row, outer_row, plus_tail_row, minus_tail_row}
-use Rattle.euler_laws.proofs.shared.Goes.{all_hold}
-use Rattle.shapes.specs.Faces.{start}
-use Rattle.shapes.specs.Fresh.{Taken, taken_in, numbers_after}
-use Rattle.euler_operators.proofs.Tests.{less_still}
-use Rattle.shapes.specs.Lamina.{lamina_conditions, lamina_refusal, lamina_at, lamina_model}
-use Rattle.shapes.proofs.fresh.Rows.{greatest-put_last}
+use Rattle.euler_operators.proofs.Common.{content_row, solid_row, outer_row, plus_tail_row, minus_tail_row, less_still}
+use Rattle.euler_laws.proofs.Common.{all_hold}
+use Rattle.shapes.specs.Common.{start, Taken, taken_in, numbers_after, lamina_conditions, lamina_refusal, lamina_at, lamina_model}
+use Rattle.shapes.proofs.Common.{greatest-put_last}
 use Rattle.sweeps_laws.specs.lamina.Path.{out}
 use Rattle.sweeps_laws.proofs.lamina.Lists.{plus_halves, minus_halves}
 use Rattle.sweeps_laws.proofs.lamina.Walk.{lamina_is_sound}

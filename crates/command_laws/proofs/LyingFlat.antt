@@ -1,18 +1,12 @@
 -- Faces whose corners lie on one plane: parallelograms, and what was moved.
-use Rattle.std.specs.Ordering.{int_eq}
 use Rattle.std.specs.List.{list_all}
-use Rattle.std.proofs.Common.{◌≡◌, ◌≢◌, ℕ, ℤ, pos, ◌+ℤ◌, ◌-ℤ◌, ◌*ℤ◌, neg_ℤ, Bool, true, false, not, ◌&&◌, List, [], ◌∷◌, refl, sym, ap, subst, ◌∙◌, arith}
+use Rattle.std.proofs.Common.{◌≡◌, ◌≢◌, ℕ, ℤ, pos, ◌+ℤ◌, ◌-ℤ◌, ◌*ℤ◌, neg_ℤ, Bool, true, false, not, ◌&&◌, List, [], ◌∷◌, refl, sym, ap, subst, ◌∙◌, arith, int_eq}
 use Rattle.std.proofs.lemmas.Int.{ints}
 use Rattle.std.proofs.lemmas.List.Folds.{list_all-map}
-use Rattle.euler_operators.specs.declared.Point.{Point}
-use Rattle.euler_operators.specs.Vectors.{origin, moved, dot, cross, same_point, is_on, direction}
-use Rattle.euler_operators.proofs.Integers.{dif-parts, difs, same_dif, number}
-use Rattle.euler_operators.proofs.Vectors.{same_vector, dot_moved, dot_turned, moved_twice}
-use Rattle.euler_operators.specs.Model.{Model, point_of}
-use Rattle.shapes.specs.Vectors.{scaled, towards}
-use Rattle.shapes.specs.Faces.{corners}
-use Rattle.shapes.specs.Measure.{normal, anchor, plane_through, plane_of, is_plane_of, is_flat}
-use Rattle.shapes.proofs.glue.Points.{same_is}
+use Rattle.euler_operators.specs.Common.{Point, origin, moved, dot, cross, same_point, is_on, direction, Model, point_of}
+use Rattle.euler_operators.proofs.Common.{dif-parts, difs, same_dif, number, same_vector, dot_moved, dot_turned, moved_twice}
+use Rattle.shapes.specs.Common.{scaled, towards, corners, normal, anchor, plane_through, plane_of, is_plane_of, is_flat}
+use Rattle.shapes.proofs.Common.{same_is}
 use Rattle.undo_journal.specs.Machine.{held}
 use Rattle.command_laws.specs.NewFaces.{all_moved, area_to, corner_points, plane_round}
 use Rattle.command_laws.specs.LeftAlone.{StandsAsBefore}

@@ -1,13 +1,8 @@
 -- A closed path that is moved keeps its area.
-use Rattle.std.specs.Prelude.{length, get_or, map}
-use Rattle.std.proofs.Common.{◌≡◌, ℕ, zero, suc, ◌<◌, List, [], ◌∷◌, refl, sym, ap, subst, ◌∙◌, arith}
-use Rattle.euler_operators.specs.declared.Point.{Point}
-use Rattle.euler_operators.specs.Vectors.{moved, cross}
-use Rattle.euler_operators.proofs.Sweeps.{sum_to, sum_first, same_sum, moved_at, Linked}
-use Rattle.euler_operators.specs.Model.{Model}
-use Rattle.shapes.specs.Faces.{start, finish}
-use Rattle.shapes.specs.Prism.{next_place}
-use Rattle.shapes.specs.Measure.{area}
+use Rattle.std.proofs.Common.{◌≡◌, ℕ, zero, suc, ◌<◌, List, [], ◌∷◌, refl, sym, ap, subst, ◌∙◌, arith, length, get_or, map}
+use Rattle.euler_operators.specs.Common.{Point, moved, cross, Model}
+use Rattle.euler_operators.proofs.Common.{sum_to, sum_first, same_sum, moved_at, Linked}
+use Rattle.shapes.specs.Common.{start, finish, next_place, area}
 use Rattle.sweeps_laws.proofs.swept.Numbers.{next_cases, next_within}
 use Rattle.sweeps_laws.proofs.swept.Lifted.{IsPathOf}
 use Rattle.command_laws.specs.NewFaces.{all_moved, nth}

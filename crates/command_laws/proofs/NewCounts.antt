@@ -1,26 +1,15 @@
 -- The counts of a lamina and of a block.
-use Rattle.std.proofs.Common.{◌≡◌, ◌≢◌, ℕ, ◌+◌, ◌-◌, ◌<◌, ℤ, pos, false, nat_eq, List, [], append-nil, length, None, is_some, refl, sym, ap, ◌∙◌, arith, true≢false, ◌⊎◌, inl, inr}
+use Rattle.std.proofs.Common.{◌≡◌, ◌≢◌, ℕ, ◌+◌, ◌-◌, ◌<◌, ℤ, pos, false, nat_eq, List, [], append-nil, length, None, is_some, refl, sym, ap, ◌∙◌, arith, true≢false, ◌⊎◌, inl, inr, ne_eqb}
 use Rattle.std.proofs.lemmas.Int.{ints}
 use Rattle.std.proofs.lemmas.Bool.Decides.{nat_tests, eqb_tells}
-use Rattle.std.proofs.lemmas.Bool.{ne_eqb, eqb-false, not-true}
-use Rattle.euler_operators.specs.declared.Point.{Point}
-use Rattle.euler_operators.specs.HalfEdge.{plus}
+use Rattle.std.proofs.lemmas.Bool.{eqb-false, not-true}
+use Rattle.euler_operators.specs.Common.{Point, plus, Table, Model, EdgeRow, faces_of, rings_of, solid_of, Sound, Has, face_at, lists}
 use Rattle.euler_operators.specs.Table as table
-use Rattle.euler_operators.specs.Table.{Table}
-use Rattle.euler_operators.specs.Model.{Model, EdgeRow, faces_of, rings_of, solid_of}
-use Rattle.euler_operators.specs.Sound.{Sound, Has}
-use Rattle.euler_operators.specs.Conditions.{face_at, lists}
-use Rattle.euler_operators.proofs.Models.{face_row, solid_row, loop_there, plus_there}
-use Rattle.euler_operators.proofs.Tables.{all_where_none, get-put_other}
+use Rattle.euler_operators.proofs.Common.{face_row, solid_row, loop_there, plus_there, all_where_none, get-put_other}
 use Rattle.euler_laws.specs.Laws.{size}
-use Rattle.euler_laws.proofs.Sizes.{size-put_new}
-use Rattle.euler_laws.proofs.shared.Goes.{all_hold}
-use Rattle.shapes.specs.Block.{block_refusal, block_model}
-use Rattle.shapes.specs.Faces.{boundary, corners_in, edges_of, loops_of, vertices_of}
-use Rattle.shapes.specs.Fresh.{Taken, taken_in}
-use Rattle.shapes.specs.Lamina.{lamina_conditions, lamina_refusal, lamina_at, lamina_model, with_points, with_path, with_ring}
-use Rattle.shapes.specs.Prism.{prism_refusal}
-use Rattle.shapes.proofs.fresh.Rows.{none_above, at_most_greatest}
+use Rattle.euler_laws.proofs.Common.{size-put_new, all_hold}
+use Rattle.shapes.specs.Common.{block_refusal, block_model, boundary, corners_in, edges_of, loops_of, vertices_of, Taken, taken_in, lamina_conditions, lamina_refusal, lamina_at, lamina_model, with_points, with_path, with_ring, prism_refusal}
+use Rattle.shapes.proofs.Common.{none_above, at_most_greatest}
 use Rattle.solid_measure.specs.solid_counts.Counts.{tally_of, counts, rings_in}
 use Rattle.sweeps_laws.proofs.lamina.Blocks.{bases_rise, blocks_have_bases}
 use Rattle.sweeps_laws.proofs.lamina.Walk.{lamina_is_sound}

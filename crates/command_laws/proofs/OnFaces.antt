@@ -1,11 +1,8 @@
 -- Half-edges and vertices on the loops of faces.
 use Rattle.std.proofs.Common.{◌≡◌, ℕ, subst, ◌⊎◌, inl, inr, arith}
-use Rattle.euler_operators.specs.Items.{IsIn}
-use Rattle.euler_operators.proofs.Maps.{from_map}
-use Rattle.euler_operators.specs.Model.{Model, lone, items_of, tail, content}
-use Rattle.euler_operators.specs.Sound.{Sound, Has}
-use Rattle.euler_operators.proofs.Models.{item_there}
-use Rattle.shapes.specs.Faces.{vertices_on}
+use Rattle.euler_operators.specs.Common.{IsIn, Model, lone, items_of, tail, content, Sound, Has}
+use Rattle.euler_operators.proofs.Common.{from_map, item_there}
+use Rattle.shapes.specs.Common.{vertices_on}
 
 -- a vertex on a loop is that of the lone loop, or some item starts there
 pub vertex_cases : (M : Model) (l v : ℕ) → IsIn v (vertices_on M (content M l)) → (content M l ≡ lone v) ⊎ ((h : ℕ) × IsIn h (items_of (content M l)) × (tail M h ≡ v))

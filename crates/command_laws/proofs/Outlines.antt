@@ -1,21 +1,12 @@
 -- The corners of a face without rings, and the plane that they tell.
-use Rattle.std.specs.Prelude.{length, get_or, map, take}
-use Rattle.std.proofs.Common.{◌≡◌, ℕ, zero, suc, ◌<◌, List, [], ◌∷◌, ◌++◌, Some, is_some, refl, sym, ap, subst, ◌∙◌, arith, append-nil}
-use Rattle.euler_operators.specs.declared.Point.{Point}
-use Rattle.euler_operators.specs.Vectors.{origin, moved, cross}
-use Rattle.euler_operators.specs.Items.{IsIn, head_or}
-use Rattle.euler_operators.specs.Rings.{IsPath, IsRing}
+use Rattle.std.proofs.Common.{◌≡◌, ℕ, zero, suc, ◌<◌, List, [], ◌∷◌, ◌++◌, Some, is_some, refl, sym, ap, subst, ◌∙◌, arith, append-nil, length, get_or, map, take}
+use Rattle.euler_operators.specs.Common.{Point, origin, moved, cross, IsIn, head_or, IsPath, IsRing, Model, LoopContent, cycle, items_of, tail, content, outer, point_of, rings_of, after, Sound, Has, IsCycle}
 use Rattle.euler_operators.specs.Table as table
-use Rattle.euler_operators.specs.Model.{Model, LoopContent, cycle, items_of, tail, content, outer, point_of, rings_of, after}
-use Rattle.euler_operators.specs.Sound.{Sound, Has, IsCycle}
-use Rattle.euler_operators.proofs.Models.{item_there, content_row, face_row}
+use Rattle.euler_operators.proofs.Common.{item_there, content_row, face_row, IsIn_rest, IsIn_head}
 use Rattle.sweeps_laws.proofs.swept.Lifted.{IsPathOf}
 use Rattle.sweeps_laws.proofs.FromSound.{sound_path}
-use Rattle.euler_operators.proofs.Members.{IsIn_rest}
-use Rattle.euler_operators.proofs.Rotations.{IsIn_head}
-use Rattle.euler_laws.proofs.shared.Loops.{loop_sound, IsLoop}
-use Rattle.shapes.specs.Faces.{start, finish, loops_of, boundary, corners}
-use Rattle.shapes.specs.Measure.{area, normal, anchor, first_vertex, plane_through, plane_of}
+use Rattle.euler_laws.proofs.Common.{loop_sound, IsLoop}
+use Rattle.shapes.specs.Common.{start, finish, loops_of, boundary, corners, area, normal, anchor, first_vertex, plane_through, plane_of}
 use Rattle.command_laws.specs.NewFaces.{corner_points, nth, area_to, plane_round}
 
 -- one point more

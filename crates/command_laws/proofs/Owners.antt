@@ -1,32 +1,14 @@
 -- The solid of each face, loop, edge and vertex; and so how many of each a solid has.
-use Rattle.std.proofs.Common.{◌≡◌, ◌≢◌, ℕ, ◌+◌, Bool, true, false, cond, not, nat_eq, ◌||◌, List, [], ◌∷◌, length, Option, Some, None, is_some, refl, sym, ap, subst, ◌∙◌, arith, true≢false, inl, inr}
+use Rattle.std.proofs.Common.{◌≡◌, ◌≢◌, ℕ, ◌+◌, Bool, true, false, cond, not, nat_eq, ◌||◌, List, [], ◌∷◌, length, Option, Some, None, is_some, refl, sym, ap, subst, ◌∙◌, arith, true≢false, inl, inr, eq-eqb, eqb-true, length-append}
 use Rattle.std.proofs.lemmas.Bool.Decides.{eqb_tells, nat_tests}
-use Rattle.std.proofs.lemmas.Bool.{eq-eqb, eqb-true, false_from_ne_true, not-false}
-use Rattle.std.proofs.lemmas.List.{length-append}
-use Rattle.euler_operators.specs.declared.Point.{Point}
-use Rattle.euler_operators.specs.Items.{count, IsIn, IsApart}
-use Rattle.euler_operators.specs.HalfEdge.{edge_of, plus}
+use Rattle.std.proofs.lemmas.Bool.{false_from_ne_true, not-false}
+use Rattle.euler_operators.specs.Common.{Point, count, IsIn, IsApart, edge_of, plus, Table, all_in, Model, LoopContent, FaceRow, LoopRow, lone, cycle, items_of, content, face_of, loop_of, solid_of, tail, rings_of, faces_of, Sound, Has, HasHalf, face_at, lists}
 use Rattle.euler_operators.specs.Table as table
-use Rattle.euler_operators.specs.Table.{Table, all_in}
-use Rattle.euler_operators.specs.Model.{Model, LoopContent, FaceRow, LoopRow, lone, cycle, items_of, content, face_of, loop_of, solid_of, tail, rings_of, faces_of}
-use Rattle.euler_operators.specs.Sound.{Sound, Has, HasHalf}
-use Rattle.euler_operators.specs.Conditions.{face_at, lists}
-use Rattle.euler_operators.proofs.Lists.{tick_same}
-use Rattle.euler_operators.proofs.Members.{IsIn-map, same_length}
-use Rattle.euler_operators.proofs.Rotations.{IsIn_head}
-use Rattle.euler_operators.proofs.Models.{content_row, solid_row, item_there, item_loop, lone_there, loop_there, cycle_there, same_solid, same_face, same_content, plus_there, plus_edge}
-use Rattle.euler_operators.proofs.Tables.{passes, count-all_where, row_some}
+use Rattle.euler_operators.proofs.Common.{tick_same, IsIn-map, same_length, IsIn_head, content_row, solid_row, item_there, item_loop, lone_there, loop_there, cycle_there, same_solid, same_face, same_content, plus_there, plus_edge, passes, count-all_where, row_some}
 use Rattle.euler_laws.specs.Laws.{size}
-use Rattle.euler_laws.proofs.Sizes.{size_parts}
-use Rattle.euler_laws.proofs.shared.Counted.{counted_once, all_where_has, all_where_in}
-use Rattle.euler_laws.proofs.shared.FirstWhere.{first_passes}
-use Rattle.euler_laws.proofs.shared.Listed.{listed_passes, all_where-rises, IsIn-from_listed, listed-from_in}
-use Rattle.euler_laws.proofs.shared.Rows.{loop_row}
-use Rattle.euler_laws.proofs.shared.Same.{one_solid_round, same_tail}
-use Rattle.shapes.specs.Faces.{loops_of, vertices_on, corners_in, vertices_of}
-use Rattle.shapes.specs.Walks.{loops_in}
-use Rattle.shapes.proofs.walks.SolidFaces.{solid_loops, all_loops_apart, loop_in_solid, solid_has_loop}
-use Rattle.shapes.proofs.walks.Corners.{corners_are, on_one, on_some}
+use Rattle.euler_laws.proofs.Common.{size_parts, counted_once, all_where_has, all_where_in, first_passes, listed_passes, all_where-rises, IsIn-from_listed, listed-from_in, loop_row, one_solid_round, same_tail}
+use Rattle.shapes.specs.Common.{loops_of, vertices_on, corners_in, vertices_of, loops_in}
+use Rattle.shapes.proofs.Common.{solid_loops, all_loops_apart, loop_in_solid, solid_has_loop, corners_are, on_one, on_some}
 use Rattle.solid_measure.specs.solid_counts.Counts.{rings_in, tally_of, counts}
 use Rattle.solid_measure.proofs.solid_counts_laws.HowMany.{equally_many}
 use Rattle.gluing_laws.proofs.Listed.{one_if}

@@ -1,10 +1,10 @@
 -- Rows put one after the other, from a number on.
 use Rattle.std.proofs.Common.{◌≡◌, ℕ, zero, suc, ◌+◌, ◌≤◌, ◌<◌, None, refl, ap, ◌∙◌, arith, ◌⊎◌, inl, inr}
 use Rattle.euler_operators.specs.Table as table
-use Rattle.euler_operators.specs.Table.{Table}
-use Rattle.euler_operators.proofs.Tables.{get-put_other}
+use Rattle.euler_operators.specs.Common.{Table}
+use Rattle.euler_operators.proofs.Common.{get-put_other}
 use Rattle.euler_laws.specs.Laws.{size}
-use Rattle.euler_laws.proofs.Sizes.{size-put_new}
+use Rattle.euler_laws.proofs.Common.{size-put_new}
 
 pub one_more : (a b n : ℕ) → a ≡ b + n → a + 1 ≡ b + suc n
 one_more a b n e = omega arith

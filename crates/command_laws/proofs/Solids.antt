@@ -1,12 +1,9 @@
 -- The solids that are there after each command.
 use Rattle.std.proofs.Common.{ℕ, ℤ, pos, List, is_some, ap, ◌∙◌}
-use Rattle.euler_operators.specs.declared.Point.{Point}
+use Rattle.euler_operators.specs.Common.{Point, Model, solid_of, Has}
 use Rattle.euler_operators.specs.Table as table
-use Rattle.euler_operators.specs.Model.{Model, solid_of}
-use Rattle.euler_operators.specs.Sound.{Has}
-use Rattle.euler_operators.proofs.Tables.{get-put_here}
-use Rattle.shapes.specs.Lamina.{lamina_model, lamina_face}
-use Rattle.shapes.specs.Block.{vector, base_of, block_model}
+use Rattle.euler_operators.proofs.Common.{get-put_here}
+use Rattle.shapes.specs.Common.{lamina_model, lamina_face, vector, base_of, block_model}
 use Rattle.sweeps_laws.proofs.prism.Accepted.{face_there}
 use Rattle.undo_journal.specs.Machine.{held}
 use Rattle.command_laws.specs.Solids.{BlocksAreThere, LaminasAreThere, SweptAreThere, SweepsKeepSolids}

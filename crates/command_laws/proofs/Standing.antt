@@ -1,32 +1,18 @@
 -- A face whose loops, edges and vertices are left alone stands as it did.
-use Rattle.std.specs.Prelude.{map}
-use Rattle.std.proofs.Common.{◌≡◌, ◌≢◌, ℕ, Bool, cond, not, nat_eq, ◌&&◌, List, [], ◌∷◌, ◌++◌, Option, Some, None, is_some, refl, sym, ap, subst, ◌∙◌, arith}
+use Rattle.std.proofs.Common.{◌≡◌, ◌≢◌, ℕ, Bool, cond, not, nat_eq, ◌&&◌, List, [], ◌∷◌, ◌++◌, Option, Some, None, is_some, refl, sym, ap, subst, ◌∙◌, arith, map, ne_eqb}
 use Rattle.std.proofs.lemmas.List.{map-append}
-use Rattle.std.proofs.lemmas.Bool.{ne_eqb}
-use Rattle.euler_operators.specs.Vectors.{moved, cross}
-use Rattle.euler_operators.specs.Items.{IsIn}
+use Rattle.euler_operators.specs.Common.{moved, cross, IsIn, mate, Model, LoopContent, LoopRow, lone, cycle, items_of, tail, content, face_of, outer, point_of, rings_of, after, Sound, Has, HasHalf, face_at}
 use Rattle.std.proofs.lemmas.Bool.Decides.{eqb_tells}
-use Rattle.euler_operators.proofs.Members.{IsIn_rest, IsIn-map}
-use Rattle.euler_operators.proofs.Rotations.{IsIn_head}
-use Rattle.euler_operators.specs.HalfEdge.{mate}
+use Rattle.euler_operators.proofs.Common.{IsIn_rest, IsIn-map, IsIn_head, edge_of-mate, face_row, item_there, holds_in, same_content, same_outer, same_solid, item_loop}
 use Rattle.euler_operators.specs.Table as table
-use Rattle.euler_operators.specs.Model.{Model, LoopContent, LoopRow, lone, cycle, items_of, tail, content, face_of, outer, point_of, rings_of, after}
-use Rattle.euler_operators.specs.Sound.{Sound, Has, HasHalf}
-use Rattle.euler_operators.specs.Conditions.{face_at}
-use Rattle.euler_operators.proofs.Halves.{edge_of-mate}
-use Rattle.euler_operators.proofs.Models.{face_row, item_there, holds_in, same_content, same_outer, same_solid, item_loop}
-use Rattle.euler_laws.proofs.shared.Fans.{half_after, loop_after}
-use Rattle.euler_laws.proofs.shared.Listed.{listed-from_in}
-use Rattle.shapes.specs.Faces.{start, finish, items_in, loops_of, boundary, vertices_on, vertices_in, corners}
-use Rattle.shapes.specs.Measure.{area, normal, anchor, first_vertex, plane_through, plane_of}
-use Rattle.shapes.proofs.Areas.{area-append}
-use Rattle.shapes.proofs.walks.SolidFaces.{face_of_loop}
+use Rattle.euler_laws.proofs.Common.{half_after, loop_after, listed-from_in, same_tail, same_point}
+use Rattle.shapes.specs.Common.{start, finish, items_in, loops_of, boundary, vertices_on, vertices_in, corners, area, normal, anchor, first_vertex, plane_through, plane_of}
+use Rattle.shapes.proofs.Common.{area-append, face_of_loop}
 use Rattle.gluing_laws.proofs.Listed.{passed, same_search}
 use Rattle.command_laws.specs.NewFaces.{corner_points}
 use Rattle.command_laws.specs.Framed.{FacesStand}
 use Rattle.command_laws.specs.LeftAlone.{KeepsLoops, KeepsEdges, KeepsPoints, StandsAsBefore}
 use Rattle.command_laws.proofs.Turned.{IsTurned, not_turned}
-use Rattle.euler_laws.proofs.shared.Same.{same_tail, same_point}
 
 -- ---- rings
 

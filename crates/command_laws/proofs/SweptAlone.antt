@@ -1,16 +1,10 @@
 -- What a sweep leaves as it was.
 use Rattle.std.proofs.Common.{◌≡◌, ◌≢◌, ℕ, None, sym, ap, subst, ◌∙◌, inl, inr}
-use Rattle.euler_operators.specs.declared.Point.{Point}
-use Rattle.euler_operators.proofs.Lists.{IsIn_or_not}
+use Rattle.euler_operators.specs.Common.{Point, edge_of, Model, face_of, solid_of, rings_of, Sound, Has}
+use Rattle.euler_operators.proofs.Common.{IsIn_or_not, face_row, same_solid}
 use Rattle.euler_operators.specs.Table as table
-use Rattle.euler_operators.specs.HalfEdge.{edge_of}
-use Rattle.euler_operators.specs.Model.{Model, face_of, solid_of, rings_of}
-use Rattle.euler_operators.specs.Sound.{Sound, Has}
-use Rattle.euler_operators.proofs.Models.{face_row, same_solid}
-use Rattle.shapes.specs.Faces.{loops_of}
-use Rattle.shapes.specs.Fresh.{growing, taken_in}
-use Rattle.shapes.specs.Prism.{prism_refusal, prism_model}
-use Rattle.shapes.proofs.fresh.Rows.{at_most_greatest}
+use Rattle.shapes.specs.Common.{loops_of, growing, taken_in, prism_refusal, prism_model}
+use Rattle.shapes.proofs.Common.{at_most_greatest}
 use Rattle.sweeps_laws.proofs.prism.Accepted.{begins}
 use Rattle.undo_journal.specs.Machine.{held}
 use Rattle.command_laws.specs.LeftAlone.{AllBut, KeepsShapes}

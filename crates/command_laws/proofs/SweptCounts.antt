@@ -1,22 +1,14 @@
 -- What a sweep adds to the counts of a solid.
-use Rattle.std.proofs.Common.{◌≡◌, ◌≢◌, ℕ, zero, suc, ◌+◌, ◌*◌, ◌≤◌, ◌<◌, false, List, [], ◌∷◌, length, None, is_some, refl, sym, ap, subst, ◌∙◌, arith, ◌⊎◌, inl, inr}
+use Rattle.std.proofs.Common.{◌≡◌, ◌≢◌, ℕ, zero, suc, ◌+◌, ◌*◌, ◌≤◌, ◌<◌, false, List, [], ◌∷◌, length, None, is_some, refl, sym, ap, subst, ◌∙◌, arith, ◌⊎◌, inl, inr, ne_eqb, length-append}
 use Rattle.std.proofs.lemmas.Int.{ints}
 use Rattle.std.proofs.lemmas.Bool.Decides.{eqb_tells}
-use Rattle.std.proofs.lemmas.Bool.{eqb-false, ne_eqb}
-use Rattle.std.proofs.lemmas.List.{length-append}
-use Rattle.euler_operators.specs.declared.Point.{Point}
+use Rattle.std.proofs.lemmas.Bool.{eqb-false}
+use Rattle.euler_operators.specs.Common.{Point, Table, Model, items_of, content, face_of, solid_of, Sound, Has}
 use Rattle.euler_operators.specs.Table as table
-use Rattle.euler_operators.specs.Table.{Table}
-use Rattle.euler_operators.specs.Model.{Model, items_of, content, face_of, solid_of}
-use Rattle.euler_operators.specs.Sound.{Sound, Has}
-use Rattle.euler_operators.proofs.Models.{content_row, face_row, solid_row, same_solid}
-use Rattle.euler_operators.proofs.Rotations.{IsIn_head}
-use Rattle.euler_operators.proofs.Tables.{get-put_here, get-put_other, in_use_within}
+use Rattle.euler_operators.proofs.Common.{content_row, face_row, solid_row, same_solid, IsIn_head, get-put_here, get-put_other, in_use_within}
 use Rattle.euler_laws.specs.Laws.{effects, size}
-use Rattle.euler_laws.proofs.Sizes.{size-put_new, size-put_old}
-use Rattle.shapes.specs.Faces.{boundary, loops_of, items_in}
-use Rattle.shapes.specs.Fresh.{Taken, taken_in}
-use Rattle.shapes.specs.Prism.{riser, top_edge, top_items, with_side, with_sides, lifted, prism_from, prism_refusal, prism_model}
+use Rattle.euler_laws.proofs.Common.{size-put_new, size-put_old}
+use Rattle.shapes.specs.Common.{boundary, loops_of, items_in, Taken, taken_in, riser, top_edge, top_items, with_side, with_sides, lifted, prism_from, prism_refusal, prism_model}
 use Rattle.solid_measure.specs.declared.solid_counts.Tally.{Tally}
 use Rattle.solid_measure.specs.solid_counts.Counts.{tally_of, counts}
 use Rattle.sweeps_laws.specs.prism.Ready.{Ready}

@@ -1,14 +1,9 @@
 -- The faces of a sweep of a face without rings: its one loop is swept as each loop of a face with rings is.
-use Rattle.std.specs.Prelude.{length, map}
-use Rattle.std.proofs.Common.{◌≡◌, ◌≢◌, ℕ, ◌+◌, ◌<◌, List, [], ◌∷◌, ◌++◌, None, refl, sym, ap, subst, ◌∙◌, arith}
-use Rattle.euler_operators.specs.declared.Point.{Point}
+use Rattle.std.proofs.Common.{◌≡◌, ◌≢◌, ℕ, ◌+◌, ◌<◌, List, [], ◌∷◌, ◌++◌, None, refl, sym, ap, subst, ◌∙◌, arith, length, map}
+use Rattle.euler_operators.specs.Common.{Point, Model, items_of, content, outer, solid_of, rings_of, Sound}
 use Rattle.euler_operators.specs.Table as table
-use Rattle.euler_operators.specs.Model.{Model, items_of, content, outer, solid_of, rings_of}
-use Rattle.euler_operators.specs.Sound.{Sound}
-use Rattle.euler_operators.proofs.Models.{same_outer}
-use Rattle.shapes.specs.Faces.{start, loops_of}
-use Rattle.shapes.specs.Fresh.{growing}
-use Rattle.shapes.specs.Prism.{prism_refusal, prism_model, prism_from, next_place}
+use Rattle.euler_operators.proofs.Common.{same_outer}
+use Rattle.shapes.specs.Common.{start, loops_of, growing, prism_refusal, prism_model, prism_from, next_place}
 use Rattle.sweeps_laws.proofs.swept.Lifted.{IsPathOf}
 use Rattle.undo_journal.specs.Machine.{held}
 use Rattle.command_laws.specs.NewFaces.{corner_points, nth, all_moved, side_over, IsFaceOf, SweptFaceIsFar, SidesStand}

@@ -1,21 +1,11 @@
 -- The loops of a face swept one after the other: what is ready for each, and what stays from there on.
-use Rattle.std.specs.Prelude.{length}
-use Rattle.std.proofs.Common.{◌≡◌, ◌≢◌, ℕ, zero, suc, ◌+◌, ◌≤◌, ◌<◌, List, [], ◌∷◌, ◌++◌, None, refl, sym, ap, subst, ◌∙◌, arith}
-use Rattle.std.proofs.lemmas.List.{length-append, length-map}
-use Rattle.euler_operators.specs.declared.Point.{Point}
-use Rattle.euler_operators.specs.Items.{count, IsIn, IsApart}
-use Rattle.euler_operators.proofs.Lists.{tick_same}
-use Rattle.euler_operators.proofs.Members.{IsIn_rest}
-use Rattle.euler_operators.proofs.Rotations.{IsIn_head}
-use Rattle.euler_operators.specs.HalfEdge.{edge_of}
+use Rattle.std.proofs.Common.{◌≡◌, ◌≢◌, ℕ, zero, suc, ◌+◌, ◌≤◌, ◌<◌, List, [], ◌∷◌, ◌++◌, None, refl, sym, ap, subst, ◌∙◌, arith, length, length-append}
+use Rattle.std.proofs.lemmas.List.{length-map}
+use Rattle.euler_operators.specs.Common.{Point, count, IsIn, IsApart, edge_of, Table, Model, FaceRow, items_of, tail, content, solid_of, rings_of, Sound, Has}
+use Rattle.euler_operators.proofs.Common.{tick_same, IsIn_rest, IsIn_head}
 use Rattle.euler_operators.specs.Table as table
-use Rattle.euler_operators.specs.Table.{Table}
-use Rattle.euler_operators.specs.Model.{Model, FaceRow, items_of, tail, content, solid_of, rings_of}
-use Rattle.euler_operators.specs.Sound.{Sound, Has}
-use Rattle.shapes.specs.Faces.{start, loops_of, vertices_on, vertices_in}
-use Rattle.shapes.specs.Fresh.{Taken, Growing, growing, taken_in}
-use Rattle.shapes.specs.Prism.{raised, prism_from, prism_refusal}
-use Rattle.shapes.proofs.fresh.Rows.{greatest-put_last}
+use Rattle.shapes.specs.Common.{start, loops_of, vertices_on, vertices_in, Taken, Growing, growing, taken_in, raised, prism_from, prism_refusal}
+use Rattle.shapes.proofs.Common.{greatest-put_last}
 use Rattle.sweeps_laws.proofs.FromSound.{sound_bounded}
 use Rattle.sweeps_laws.proofs.prism.Accepted.{face_there, begins}
 use Rattle.sweeps_laws.proofs.swept.Filled.{filled, filled_greatest}

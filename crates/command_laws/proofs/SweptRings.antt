@@ -1,24 +1,13 @@
 -- The far face and the sides of a sweep of a face that may have rings.
-use Rattle.std.specs.Prelude.{length, get_or, map}
-use Rattle.std.proofs.Common.{◌≡◌, ℕ, ◌+◌, ◌≤◌, ◌<◌, List, [], ◌∷◌, ◌++◌, Some, None, is_some, refl, sym, ap, subst, ◌∙◌, arith, append-nil}
+use Rattle.std.proofs.Common.{◌≡◌, ℕ, ◌+◌, ◌≤◌, ◌<◌, List, [], ◌∷◌, ◌++◌, Some, None, is_some, refl, sym, ap, subst, ◌∙◌, arith, append-nil, length, get_or, map}
 use Rattle.std.proofs.lemmas.List.{length-map, map-append}
-use Rattle.euler_operators.specs.declared.Point.{Point}
-use Rattle.euler_operators.specs.Vectors.{moved}
-use Rattle.euler_operators.specs.Items.{count, IsIn, before as ahead, after as behind}
-use Rattle.euler_operators.proofs.Lists.{count-append, tick_same, split_at}
-use Rattle.euler_operators.proofs.Members.{IsIn_rest}
-use Rattle.euler_operators.proofs.Rotations.{IsIn_head}
+use Rattle.euler_operators.specs.Common.{Point, moved, count, IsIn, Model, cycle, items_of, content, face_of, outer, point_of, solid_of, rings_of, Sound, Has}
+use Rattle.euler_operators.specs.Items.{before as ahead, after as behind}
+use Rattle.euler_operators.proofs.Common.{count-append, tick_same, split_at, IsIn_rest, IsIn_head, same_content, same_outer, same_solid}
 use Rattle.euler_operators.specs.Table as table
-use Rattle.euler_operators.specs.Model.{Model, cycle, items_of, content, face_of, outer, point_of, solid_of, rings_of}
-use Rattle.euler_operators.specs.Sound.{Sound, Has}
-use Rattle.euler_operators.proofs.Models.{same_content, same_outer, same_solid}
-use Rattle.shapes.specs.Faces.{start, loops_of, items_in, boundary, vertices_on, vertices_in, corners}
-use Rattle.shapes.specs.Fresh.{Growing, growing, taken_in}
-use Rattle.shapes.specs.Prism.{top_items, next_place, prism_from, prism_refusal, prism_model}
-use Rattle.shapes.specs.Measure.{area, normal, anchor, first_vertex, plane_through, plane_of}
-use Rattle.shapes.proofs.fresh.Rows.{at_most_greatest}
-use Rattle.euler_laws.proofs.shared.Rows.{loop_row}
-use Rattle.shapes.proofs.Areas.{area-append}
+use Rattle.shapes.specs.Common.{start, loops_of, items_in, boundary, vertices_on, vertices_in, corners, Growing, growing, taken_in, top_items, next_place, prism_from, prism_refusal, prism_model, area, normal, anchor, first_vertex, plane_through, plane_of}
+use Rattle.shapes.proofs.Common.{at_most_greatest, area-append}
+use Rattle.euler_laws.proofs.Common.{loop_row}
 use Rattle.sweeps_laws.proofs.prism.Accepted.{face_there, prism_sound}
 use Rattle.sweeps_laws.proofs.swept.Numbers.{next_within}
 use Rattle.sweeps_laws.proofs.swept.Lifted.{IsPathOf, within, loop_here}

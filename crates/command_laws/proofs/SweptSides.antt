@@ -1,20 +1,10 @@
 -- One loop of a face swept: its new ring and its sides.
-use Rattle.std.specs.Prelude.{length, get_or, map, take}
-use Rattle.std.proofs.Common.{◌≡◌, ℕ, zero, suc, ◌+◌, ◌*◌, ◌≤◌, ◌<◌, List, [], ◌∷◌, Some, is_some, refl, sym, ap, subst, ◌∙◌, arith, inl, inr}
+use Rattle.std.proofs.Common.{◌≡◌, ℕ, zero, suc, ◌+◌, ◌*◌, ◌≤◌, ◌<◌, List, [], ◌∷◌, Some, is_some, refl, sym, ap, subst, ◌∙◌, arith, inl, inr, length, get_or, map, take}
 use Rattle.std.proofs.lemmas.List.{map-append}
-use Rattle.euler_operators.specs.declared.Point.{Point}
-use Rattle.euler_operators.specs.Vectors.{moved}
-use Rattle.euler_operators.specs.Items.{IsIn}
-use Rattle.euler_operators.proofs.Lists.{IsIn_or_not}
-use Rattle.euler_operators.proofs.Members.{IsIn_rest}
-use Rattle.euler_operators.specs.HalfEdge.{edge_of}
+use Rattle.euler_operators.specs.Common.{Point, moved, IsIn, edge_of, Model, cycle, items_of, content, point_of, solid_of, rings_of, Sound, Has}
+use Rattle.euler_operators.proofs.Common.{IsIn_or_not, IsIn_rest, outer_row, solid_row, same_content}
 use Rattle.euler_operators.specs.Table as table
-use Rattle.euler_operators.specs.Model.{Model, cycle, items_of, content, point_of, solid_of, rings_of}
-use Rattle.euler_operators.specs.Sound.{Sound, Has}
-use Rattle.euler_operators.proofs.Models.{outer_row, solid_row, same_content}
-use Rattle.shapes.specs.Faces.{start, vertices_on}
-use Rattle.shapes.specs.Fresh.{Taken, Growing}
-use Rattle.shapes.specs.Prism.{top_items, next_place}
+use Rattle.shapes.specs.Common.{start, vertices_on, Taken, Growing, top_items, next_place}
 use Rattle.sweeps_laws.proofs.swept.Filled.{filled_new}
 use Rattle.sweeps_laws.proofs.swept.Sides.{side_face, side_items, faces_grown}
 use Rattle.sweeps_laws.proofs.swept.Lifted.{IsPathOf, within, rings_new, content_here, content_new, loop_new, item_start, next_start, top_start, top_finish, riser_finish}

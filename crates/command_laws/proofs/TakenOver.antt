@@ -1,16 +1,10 @@
 -- The faces of the solid that a glue takes over have the half-edges of the first face in the place of those that went, at the same points.
-use Rattle.std.specs.Prelude.{map, unwrap_or}
-use Rattle.std.specs.Option.{option_map}
-use Rattle.std.proofs.Common.{◌≡◌, ◌≢◌, ℕ, cond, List, ◌∷◌, Some, is_some, sym, ap, subst, ◌∙◌, inr}
-use Rattle.std.proofs.lemmas.Bool.{eq-eqb}
-use Rattle.euler_operators.specs.Items.{IsIn}
+use Rattle.std.proofs.Common.{◌≡◌, ◌≢◌, ℕ, cond, List, ◌∷◌, Some, is_some, sym, ap, subst, ◌∙◌, inr, map, unwrap_or, option_map, eq-eqb}
+use Rattle.euler_operators.specs.Common.{IsIn, Model, no_face, lone, content, outer, point_of, solid_of, Sound, Has}
 use Rattle.euler_operators.specs.Table as table
-use Rattle.euler_operators.specs.Model.{Model, no_face, lone, content, outer, point_of, solid_of}
-use Rattle.euler_operators.specs.Sound.{Sound, Has}
-use Rattle.euler_laws.proofs.shared.Listed.{listed-from_in}
-use Rattle.euler_laws.proofs.shared.Rows.{face_there}
-use Rattle.shapes.specs.Faces.{loops_of, vertices_on}
-use Rattle.shapes.proofs.walks.SolidFaces.{face_of_loop}
+use Rattle.euler_laws.proofs.Common.{listed-from_in, face_there}
+use Rattle.shapes.specs.Common.{loops_of, vertices_on}
+use Rattle.shapes.proofs.Common.{face_of_loop}
 use Rattle.gluing_laws.proofs.Seams as seams
 use Rattle.gluing_laws.proofs.Seams.{Seamed, Glued}
 use Rattle.gluing_laws.proofs.Measures as measures

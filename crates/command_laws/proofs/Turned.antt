@@ -1,24 +1,13 @@
 -- Faces whose loops go round from other points on: they keep their planes, and what lay on them does.
-use Rattle.std.specs.Prelude.{map, get_or, drop}
 use Rattle.std.specs.List.{list_all}
-use Rattle.std.proofs.Common.{◌≡◌, ℕ, true, not, ◌&&◌, List, [], ◌∷◌, ◌++◌, Bool, refl, sym, ap, subst, ◌∙◌, neg_ℤ, ◌⊎◌, inl, inr, append-nil, append_assoc}
+use Rattle.std.proofs.Common.{◌≡◌, ℕ, true, not, ◌&&◌, List, [], ◌∷◌, ◌++◌, Bool, refl, sym, ap, subst, ◌∙◌, neg_ℤ, ◌⊎◌, inl, inr, append-nil, append_assoc, map, get_or, drop}
 use Rattle.std.proofs.lemmas.List.{map-append}
 use Rattle.std.proofs.lemmas.List.Folds.{list_all-append, list_all-map}
 use Rattle.std.proofs.lemmas.Bool.{and_parts}
-use Rattle.euler_operators.specs.declared.Point.{Point}
-use Rattle.euler_operators.specs.declared.Plane.{Plane}
-use Rattle.euler_operators.specs.Vectors.{origin, dot, same_point, is_on, direction}
-use Rattle.euler_operators.specs.Items.{IsIn}
-use Rattle.euler_operators.specs.Rings.{canonical}
-use Rattle.euler_operators.proofs.Rotations.{canonical-rotates, IsIn_head}
-use Rattle.euler_operators.proofs.Members.{IsIn_rest}
-use Rattle.euler_operators.proofs.Vectors.{dot_turned}
-use Rattle.euler_operators.specs.Model.{Model, LoopContent, lone, cycle, items_of, content, solid_of, point_of}
-use Rattle.euler_operators.specs.Sound.{Sound, Has}
-use Rattle.shapes.specs.Faces.{start, loops_of, vertices_on, vertices_in, corners}
-use Rattle.shapes.specs.Rewriting.{rewritten}
-use Rattle.shapes.specs.Measure.{normal, anchor, plane_of, is_plane_of, is_flat}
-use Rattle.shapes.proofs.measures.FlatFaces.{list_parts, are_on, anchor_on, plane_told}
+use Rattle.euler_operators.specs.Common.{Point, Plane, origin, dot, same_point, is_on, direction, IsIn, canonical, Model, LoopContent, lone, cycle, items_of, content, solid_of, point_of, Sound, Has}
+use Rattle.euler_operators.proofs.Common.{canonical-rotates, IsIn_head, IsIn_rest, dot_turned}
+use Rattle.shapes.specs.Common.{start, loops_of, vertices_on, vertices_in, corners, rewritten, normal, anchor, plane_of, is_plane_of, is_flat}
+use Rattle.shapes.proofs.Common.{list_parts, are_on, anchor_on, plane_told}
 use Rattle.command_laws.specs.RingedFaces.{loop_points}
 use Rattle.command_laws.specs.TakenOver.{AreTurned, IsTakenOver}
 use Rattle.command_laws.proofs.Outlines.{starts_are}

@@ -1,15 +1,9 @@
 -- When a block, a lamina, a sweep and a glue are accepted.
 use Rattle.std.specs.Prelude.{◌≡◌, ◌≢◌, ◌≤◌, ℕ, ◌+◌, ◌*◌, ℤ, pos, int_le, true, false, List, length, reverse, None}
 use Rattle.std.specs.List.{list_all}
-use Rattle.euler_operators.specs.declared.Point.{Point}
-use Rattle.euler_operators.specs.Points.{is_in_range}
-use Rattle.euler_operators.specs.Vectors.{origin, moved, same_point}
+use Rattle.euler_operators.specs.Common.{Point, is_in_range, origin, moved, same_point, is_number, content, face_of, Sound, Has, is_lone}
 use Rattle.euler_operators.specs.Table as table
-use Rattle.euler_operators.specs.Model.{is_number, content, face_of}
-use Rattle.euler_operators.specs.Sound.{Sound, Has}
-use Rattle.euler_operators.specs.Conditions.{is_lone}
-use Rattle.shapes.specs.Block.{vector}
-use Rattle.shapes.specs.glue.Glue.{has_repeats, is_rotation}
+use Rattle.shapes.specs.Common.{vector, has_repeats, is_rotation}
 use Rattle.gluing.specs.Machine.{glue_refusal}
 use Rattle.sweeps.specs.Machine.{block_refusal, lamina_refusal, sweep_refusal}
 use Rattle.undo_journal.specs.Machine.{Machine, held}

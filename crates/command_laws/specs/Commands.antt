@@ -1,7 +1,7 @@
 -- What a call that was answered Ok says of the machine before and of the one after: no condition was false, and one accepted command
 -- leads from the one to the other.
 use Rattle.std.specs.Prelude.{◌≡◌, ℕ, ℤ, List, None}
-use Rattle.euler_operators.specs.declared.Point.{Point}
+use Rattle.euler_operators.specs.Common.{Point}
 use Rattle.undo_journal.specs.Machine.{Machine}
 use Rattle.sweeps.specs.Machine.{lamina, lamina_refusal, block, block_refusal, sweep, sweep_refusal}
 use Rattle.gluing.specs.Machine.{glue, glue_refusal}

@@ -1,10 +1,7 @@
 -- What `counts` answers after a command.
 use Rattle.std.specs.Prelude.{◌≡◌, ◌≢◌, ℕ, ◌+◌, ◌-◌, ◌*◌, ℤ, pos, ◌+ℤ◌, ◌-ℤ◌, List, length}
-use Rattle.euler_operators.specs.declared.Point.{Point}
-use Rattle.euler_operators.specs.Model.{solid_of}
-use Rattle.euler_operators.specs.Sound.{Sound}
-use Rattle.shapes.specs.Faces.{boundary}
-use Rattle.shapes.specs.glue.Glue.{rim}
+use Rattle.euler_operators.specs.Common.{Point, solid_of, Sound}
+use Rattle.shapes.specs.Common.{boundary, rim}
 pub use Rattle.solid_measure.specs.solid_counts.Counts.{counts}
 use Rattle.undo_journal.specs.Machine.{Machine, held}
 use Rattle.command_laws.specs.Commands.{IsLamina, IsBlock, IsSweep, IsGlue}

@@ -1,13 +1,8 @@
 -- Faces that lie flat, told by the points of their corners.
 use Rattle.std.specs.Prelude.{◌≡◌, ◌≢◌, ℕ, ℤ, Bool, true, false, not, ◌&&◌, List}
 use Rattle.std.specs.List.{list_all}
-use Rattle.euler_operators.specs.declared.Point.{Point}
-use Rattle.euler_operators.specs.Vectors.{origin, cross, same_point, is_on, direction}
-use Rattle.euler_operators.specs.Model.{Model, content, face_of, solid_of}
-use Rattle.euler_operators.specs.Sound.{Sound, Has}
-use Rattle.euler_operators.specs.Conditions.{is_lone}
-use Rattle.shapes.specs.Vectors.{towards}
-use Rattle.shapes.specs.Measure.{is_flat}
+use Rattle.euler_operators.specs.Common.{Point, origin, cross, same_point, is_on, direction, Model, content, face_of, solid_of, Sound, Has, is_lone}
+use Rattle.shapes.specs.Common.{towards, is_flat}
 use Rattle.undo_journal.specs.Machine.{Machine, held}
 use Rattle.command_laws.specs.Commands.{IsBlock, IsSweep, IsGlue}
 use Rattle.command_laws.specs.NewFaces.{IsFaceOf, plane_round, side_over}

@@ -1,8 +1,6 @@
 -- What each command leaves as it was.
 use Rattle.std.specs.Prelude.{ℕ, ℤ, List}
-use Rattle.euler_operators.specs.declared.Point.{Point}
-use Rattle.euler_operators.specs.Model.{Model, solid_of}
-use Rattle.euler_operators.specs.Sound.{Sound}
+use Rattle.euler_operators.specs.Common.{Point, Model, solid_of, Sound}
 use Rattle.undo_journal.specs.Machine.{Machine, held}
 use Rattle.command_laws.specs.Commands.{IsLamina, IsBlock, IsSweep, IsGlue}
 use Rattle.command_laws.specs.NewFaces.{IsFaceOf}

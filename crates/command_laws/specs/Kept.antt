@@ -1,8 +1,7 @@
 -- The faces that were there before a command are as they were.
 use Rattle.std.specs.Prelude.{◌≡◌, ◌≢◌, ◌≤◌, ℕ, ℤ, List}
-use Rattle.euler_operators.specs.declared.Point.{Point}
+use Rattle.euler_operators.specs.Common.{Point, solid_of}
 use Rattle.euler_operators.specs.Table as table
-use Rattle.euler_operators.specs.Model.{solid_of}
 use Rattle.undo_journal.specs.Machine.{Machine, held, start}
 use Rattle.command_laws.specs.Commands.{IsLamina, IsBlock, IsSweep, IsGlue}
 use Rattle.command_laws.specs.NewFaces.{last_face}

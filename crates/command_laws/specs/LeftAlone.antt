@@ -1,13 +1,8 @@
 -- What stays as it was of the faces that a command leaves alone, told by their numbers in the model before.
 use Rattle.std.specs.Prelude.{◌≡◌, ◌≢◌, ℕ}
-use Rattle.euler_operators.specs.Items.{IsIn}
-use Rattle.euler_operators.specs.HalfEdge.{edge_of}
+use Rattle.euler_operators.specs.Common.{IsIn, edge_of, Model, content, face_of, solid_of, outer, rings_of, Has, HasHalf, face_at}
 use Rattle.euler_operators.specs.Table as table
-use Rattle.euler_operators.specs.Model.{Model, content, face_of, solid_of, outer, rings_of}
-use Rattle.euler_operators.specs.Sound.{Has, HasHalf}
-use Rattle.euler_operators.specs.Conditions.{face_at}
-use Rattle.shapes.specs.Faces.{vertices_on}
-use Rattle.shapes.specs.Measure.{plane_of}
+use Rattle.shapes.specs.Common.{vertices_on, plane_of}
 use Rattle.command_laws.specs.NewFaces.{corner_points}
 
 -- each of these faces that is there is of the solid, and has the outer loop, that it had

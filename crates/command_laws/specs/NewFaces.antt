@@ -1,15 +1,8 @@
 -- The faces that a lamina, a block and a sweep make: their numbers, their solid, the points of their corners, and their planes.
 use Rattle.std.specs.Prelude.{◌≡◌, ◌<◌, ℕ, ◌+◌, ℤ, pos, List, [], ◌∷◌, map, reverse, length, get_or}
-use Rattle.euler_operators.specs.declared.Point.{Point}
-use Rattle.euler_operators.specs.declared.Plane.{Plane}
-use Rattle.euler_operators.specs.Vectors.{origin, moved, cross}
+use Rattle.euler_operators.specs.Common.{Point, Plane, origin, moved, cross, Model, no_point, point_of, solid_of, rings_of, Sound, Has}
 use Rattle.euler_operators.specs.Table as table
-use Rattle.euler_operators.specs.Model.{Model, no_point, point_of, solid_of, rings_of}
-use Rattle.euler_operators.specs.Sound.{Sound, Has}
-use Rattle.shapes.specs.Faces.{corners}
-use Rattle.shapes.specs.Prism.{next_place}
-use Rattle.shapes.specs.Block.{vector, base_of}
-use Rattle.shapes.specs.Measure.{plane_through, plane_of}
+use Rattle.shapes.specs.Common.{corners, next_place, vector, base_of, plane_through, plane_of}
 use Rattle.undo_journal.specs.Machine.{Machine, held}
 use Rattle.command_laws.specs.Commands.{IsLamina, IsBlock, IsSweep}
 

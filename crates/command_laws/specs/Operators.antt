@@ -1,12 +1,8 @@
 -- What `counts` answers after one operator, an `act` of a session or a `step` of a draft, and which faces stand.
 use Rattle.std.specs.Prelude.{◌≡◌, ◌≢◌, ℕ, ◌+◌, ◌-◌, pos, ◌+ℤ◌, ◌-ℤ◌, Bool, true, false, List, [], ◌∷◌, None}
-use Rattle.euler_operators.specs.HalfEdge.{code, mate}
-use Rattle.euler_operators.specs.Model.{Model, face_of, solid_of}
-use Rattle.euler_operators.specs.Sound.{Sound, Has}
+use Rattle.euler_operators.specs.Common.{code, mate, Model, face_of, solid_of, Sound, Has, corner_loop, face_at, first_false, lists, effect}
 use Rattle.euler_operators.specs.declared.Op.{Op}
 use Rattle.euler_operators.specs.declared.Op.TheVariants.{Mev, Kev, Mef, Kef, Kemr, Mekr, Kfmrh, Mfkrh}
-use Rattle.euler_operators.specs.Conditions.{corner_loop, face_at, first_false, lists}
-use Rattle.euler_operators.specs.Effect.{effect}
 use Rattle.solid_measure.specs.declared.solid_counts.Tally.{Tally}
 use Rattle.solid_measure.specs.solid_counts.Counts.{counts}
 use Rattle.command_laws.specs.LeftAlone.{StandsAsBefore}

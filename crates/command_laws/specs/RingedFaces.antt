@@ -1,13 +1,7 @@
 -- The faces that a sweep makes of a face that may have rings: the far one, and a side over each edge of each of its loops.
 use Rattle.std.specs.Prelude.{◌≡◌, ◌<◌, ℕ, ◌+◌, List, ◌∷◌, ◌++◌, map, length}
-use Rattle.euler_operators.specs.declared.Point.{Point}
-use Rattle.euler_operators.specs.Vectors.{moved}
-use Rattle.euler_operators.specs.Items.{IsIn}
-use Rattle.euler_operators.specs.Model.{Model, content, point_of, solid_of}
-use Rattle.euler_operators.specs.Sound.{Sound, Has}
-use Rattle.shapes.specs.Faces.{corners, loops_of, vertices_in, vertices_on}
-use Rattle.shapes.specs.Prism.{next_place}
-use Rattle.shapes.specs.Measure.{normal, anchor, plane_through, plane_of}
+use Rattle.euler_operators.specs.Common.{Point, moved, IsIn, Model, content, point_of, solid_of, Sound, Has}
+use Rattle.shapes.specs.Common.{corners, loops_of, vertices_in, vertices_on, next_place, normal, anchor, plane_through, plane_of}
 use Rattle.undo_journal.specs.Machine.{Machine, held}
 use Rattle.command_laws.specs.Commands.{IsSweep}
 use Rattle.command_laws.specs.NewFaces.{IsFaceOf, all_moved, corner_points, last_face, nth, side_over}

@@ -1,9 +1,7 @@
 -- The solids that are there after each command.
 use Rattle.std.specs.Prelude.{◌≡◌, ℕ, ℤ, false, List}
-use Rattle.euler_operators.specs.declared.Point.{Point}
+use Rattle.euler_operators.specs.Common.{Point, solid_of, Sound, Has}
 use Rattle.euler_operators.specs.Table as table
-use Rattle.euler_operators.specs.Model.{solid_of}
-use Rattle.euler_operators.specs.Sound.{Sound, Has}
 use Rattle.undo_journal.specs.Machine.{Machine, held}
 use Rattle.command_laws.specs.Commands.{IsLamina, IsBlock, IsSweep, IsGlue}
 

@@ -1,11 +1,7 @@
 -- The faces of the solid that a glue takes over.
 use Rattle.std.specs.Prelude.{◌≡◌, ◌≢◌, ℕ, true, List, ◌++◌}
-use Rattle.euler_operators.specs.declared.Point.{Point}
-use Rattle.euler_operators.specs.Items.{IsIn}
-use Rattle.euler_operators.specs.Model.{Model, solid_of}
-use Rattle.euler_operators.specs.Sound.{Sound, Has}
-use Rattle.shapes.specs.Faces.{loops_of}
-use Rattle.shapes.specs.Measure.{plane_of, is_flat}
+use Rattle.euler_operators.specs.Common.{Point, IsIn, Model, solid_of, Sound, Has}
+use Rattle.shapes.specs.Common.{loops_of, plane_of, is_flat}
 use Rattle.undo_journal.specs.Machine.{Machine, held}
 use Rattle.command_laws.specs.Commands.{IsGlue}
 use Rattle.command_laws.specs.RingedFaces.{loop_points}

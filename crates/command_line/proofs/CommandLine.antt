@@ -1,8 +1,7 @@
 -- The program's command line is one of which clap's definitions give the matches.
-use Rattle.std.proofs.Common.{◌≡◌, ◌↔◌, ◌∙◌, ap, sym, true, refl, codes, Bool, IsTrue, Option, Some, [], unwrap_or}
+use Rattle.std.proofs.Common.{◌≡◌, ◌↔◌, ◌∙◌, ap, sym, true, refl, codes, Bool, IsTrue, Option, Some, [], unwrap_or, bytes_eq}
 use Rattle.clap.specs.Words.{Text, first_of, first_value, is_simple, rows_of}
 use Rattle.clap.specs.declared.parser.matches.Found.{Found}
-use Rattle.std.specs.Str.{bytes_eq}
 use Rattle.std.proofs.lemmas.Slice.Eq.{bytes_eq-Decides}
 use Rattle.clap.proofs.WalkLemmas.{first_value-rows}
 use Rattle.clap.specs.Faults.{is_simple_and_free}

@@ -1,6 +1,5 @@
 -- What the program does with its words, standard input and the file that the words name.
-use Rattle.std.specs.Prelude.{◌≡◌, ℕ, ◌⊎◌, Bool, List, [], Option, Some, None, Result, Err, option_map}
-use Rattle.std.specs.String.{string_bytes}
+use Rattle.std.specs.Prelude.{◌≡◌, ℕ, ◌⊎◌, Bool, List, [], Option, Some, None, Result, Err, option_map, string_bytes}
 use Rattle.clap.specs.Words.{Text, matches_of}
 use Rattle.clap.specs.Faults.{fault_of}
 use Rattle.script_running.specs.declared.script_judging.judging.Summary.{Summary}

@@ -1,7 +1,6 @@
 //! The program over its words, standard input, files and standard output.
-ghost use Rattle.std.specs.Prelude.{◌≡◌, map, option_map};
+ghost use Rattle.std.specs.Prelude.{◌≡◌, map, option_map, string_bytes};
 ghost use Rattle.std.specs.Fn.{FnOnceReturnsAt};
-ghost use Rattle.std.specs.String.{string_bytes};
 ghost use Rattle.command_line.specs.Endings.{Answered};
 ghost use Rattle.command_line.specs.Serving.{RunsFile, Serves};
 

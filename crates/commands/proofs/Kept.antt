@@ -1,6 +1,5 @@
 -- What isn't done changes nothing.
-use Rattle.std.proofs.Common.{◌≡◌, inl, inr, ap, ◌∙◌}
-use Rattle.std.specs.Prelude.{◌≢◌}
+use Rattle.std.proofs.Common.{◌≡◌, inl, inr, ap, ◌∙◌, ◌≢◌}
 use Rattle.undo_journal.specs.Journal.{Journal, DraftJournal}
 use Rattle.commands.specs.declared.command.Command.{Command}
 use Rattle.commands.specs.declared.command.Command.TheVariants as command

@@ -1,6 +1,5 @@
 -- How a command that was settled ended.
-use Rattle.std.proofs.Common.{◌≡◌, inl, inr, Option, Some, None, Ok, Err, refl, sym, ap, subst, ◌∙◌, OnOk, OnErr}
-use Rattle.std.specs.Prelude.{◌≢◌, ◌⊎◌, ◌↔◌, Result}
+use Rattle.std.proofs.Common.{◌≡◌, inl, inr, Option, Some, None, Ok, Err, refl, sym, ap, subst, ◌∙◌, OnOk, OnErr, ◌≢◌, ◌⊎◌, ◌↔◌, Result}
 use Rattle.std.specs.declared.alloc.AllocError.{AllocError}
 use Rattle.euler_operators.specs.declared.Refusal.{Refusal}
 use Rattle.undo_journal.specs.declared.session.Failure.{Failure}

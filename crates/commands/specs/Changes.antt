@@ -1,14 +1,8 @@
 -- What a change, an operator or a larger command, makes of a model.
 use Rattle.std.specs.Prelude.{◌≡◌, Option, None}
 use Rattle.euler_operators.specs.declared.Refusal.{Refusal}
-use Rattle.euler_operators.specs.Conditions.{first_false}
-use Rattle.euler_operators.specs.Effect.{effect}
-use Rattle.euler_operators.specs.Model.{Model}
-use Rattle.shapes.specs.Lamina.{lamina_refusal, lamina_model}
-use Rattle.shapes.specs.Block.{block_refusal, block_model}
-use Rattle.shapes.specs.Prism.{prism_refusal, prism_model}
-use Rattle.shapes.specs.glue.Glue.{glue_refusal, glue_model}
-use Rattle.shapes.specs.split.Split.{split_refusal, split_model}
+use Rattle.euler_operators.specs.Common.{first_false, effect, Model}
+use Rattle.shapes.specs.Common.{lamina_refusal, lamina_model, block_refusal, block_model, prism_refusal, prism_model, glue_refusal, glue_model, split_refusal, split_model}
 use Rattle.gluing.specs.glue_checks.Conditions as gluing
 use Rattle.split_checks.specs.begin_checks.Conditions as splitting
 use Rattle.plane_split.specs.Machine.{plane_with}

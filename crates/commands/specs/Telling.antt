@@ -1,8 +1,7 @@
 -- What a call of a session, or of a draft of its next command, is told, and to what it leads.
 use Rattle.std.specs.Prelude.{◌≡◌, ◌⊎◌, ℕ, length, Option, Some, None, Result, Ok, Err}
 use Rattle.euler_operators.specs.declared.Refusal.{Refusal}
-use Rattle.euler_operators.specs.Model.{Model}
-use Rattle.euler_operators.specs.Sound.{Sound}
+use Rattle.euler_operators.specs.Common.{Model, Sound}
 use Rattle.solid_measure.specs.Measure.{answer, face_refusal, solid_refusal, plane_of, is_flat, six_volume, counts}
 use Rattle.undo_journal.specs.Machine.{held, depth, ahead, accepted, undo_refusal, redo_refusal}
 use Rattle.undo_journal.specs.Journal.{Journal, DraftJournal, IsRecorded, IsFurther, IsMark, new_draft, after_undo, after_redo, after_commit, back_at}

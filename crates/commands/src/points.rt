@@ -13,7 +13,7 @@ pub struct Points<'a> {
 
 impl<'a> Model for Points<'a> {
     ghost use Rattle.std.specs.Prelude.{List};
-    ghost use Rattle.euler_operators.specs.declared.Point.{Point};
+    ghost use Rattle.euler_operators.specs.Common.{Point};
 
     ghost Value = { List Point };
 

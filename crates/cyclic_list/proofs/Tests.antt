@@ -1,7 +1,6 @@
 -- What tests of numbers and sums of tests tell.
-use Rattle.std.proofs.Common.{◌≡◌, ◌≢◌, ℕ, suc, ◌<◌, ◌≤◌, ◌||◌, ◌&&◌, Bool, true, false, not, nat_eq, nat_lt, refl, sym, ◌∙◌, arith, ◌⊎◌, true≢false}
+use Rattle.std.proofs.Common.{◌≡◌, ◌≢◌, ℕ, suc, ◌<◌, ◌≤◌, ◌||◌, ◌&&◌, Bool, true, false, not, nat_eq, nat_lt, refl, sym, ◌∙◌, arith, ◌⊎◌, true≢false, nat_cmp, is_eq}
 use mathlib.Core.Bool.{beq}
-use Rattle.std.specs.Ordering.{nat_cmp, is_eq}
 use Rattle.std.proofs.lemmas.Bool.Decides.{nat_tests}
 
 -- ---- two tests

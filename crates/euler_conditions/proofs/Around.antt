@@ -1,17 +1,10 @@
 -- A walk round a loop whose half-edges have their mates in some faces.
 use Rattle.std.proofs.Common.{◌≡◌, ◌≢◌, ℕ, ◌+◌, true, List, [], ◌∷◌, ◌++◌, ap, ◌∙◌, arith, inl, inr}
 use Rattle.std.proofs.lemmas.Bool.Decides.{eqb_tells}
-use Rattle.euler_operators.specs.Items.{IsIn}
-use Rattle.euler_operators.specs.Rings.{IsRotation}
-use Rattle.euler_operators.proofs.Lists.{count-append, tick_other}
-use Rattle.euler_operators.proofs.Rotations.{IsRotation-same}
-use Rattle.euler_operators.specs.HalfEdge.{mate}
-use Rattle.euler_operators.specs.Model.{Model, items_of, content, after}
-use Rattle.euler_operators.specs.Sound.{Sound}
-use Rattle.euler_operators.specs.Conditions.{lists, face_at}
-use Rattle.euler_laws.proofs.shared.Bounds.{steps}
+use Rattle.euler_operators.specs.Common.{IsIn, IsRotation, mate, Model, items_of, content, after, Sound, lists, face_at}
+use Rattle.euler_operators.proofs.Common.{count-append, tick_other, IsRotation-same}
+use Rattle.euler_laws.proofs.Common.{steps, Round}
 use Rattle.euler_laws.proofs.shared.Rounds as rounds
-use Rattle.euler_laws.proofs.shared.Rounds.{Round}
 use Rattle.euler_conditions.specs.Parts.{StaysIn}
 
 -- the walk round loop l from its item first on has come to h, and all before stay in

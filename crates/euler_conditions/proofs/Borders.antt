@@ -1,30 +1,18 @@
 -- Edges between listed faces and others.
-use Rattle.std.proofs.Common.{◌≡◌, ◌≢◌, ℕ, ◌≤◌, Bool, true, false, cond, not, nat_eq, ◌||◌, List, [], ◌∷◌, ◌++◌, length, append_assoc, Option, Some, None, Ok, Err, is_some, refl, sym, ap, subst, ◌∙◌, arith, true≢false, ◌⊎◌, inl, inr}
+use Rattle.std.proofs.Common.{◌≡◌, ◌≢◌, ℕ, ◌≤◌, Bool, true, false, cond, not, nat_eq, ◌||◌, List, [], ◌∷◌, ◌++◌, length, append_assoc, Option, Some, None, Ok, Err, is_some, refl, sym, ap, subst, ◌∙◌, arith, true≢false, ◌⊎◌, inl, inr, ne_eqb, eq-eqb, eqb-true}
 use Rattle.std.proofs.lemmas.Bool.Decides.{nat_tests}
-use Rattle.std.proofs.lemmas.Bool.{not-true, ne_eqb, eq-eqb, eqb-true}
-use Rattle.euler_operators.specs.Items.{IsIn}
-use Rattle.euler_operators.specs.HalfEdge.{code, mate, edge_of, plus, minus}
-use Rattle.euler_operators.specs.declared.HalfEdge.{HalfEdge}
+use Rattle.std.proofs.lemmas.Bool.{not-true}
+use Rattle.euler_operators.specs.Common.{IsIn, code, mate, edge_of, plus, minus, HalfEdge, Model, EdgeRow, LoopContent, lone, cycle, items_of, content, face_of, outer, loop_of, solid_of, faces_of, is_ring_of, Sound, Has, HasHalf, Condition, AllHold, conditions, first_false, need, never, first_refusal, verdict, numbers_in_range, faces_known, faces_in, lists, strictly_rises, is_empty, is_bad_part, face_at, torn_edge, differ, has_rings}
 use Rattle.euler_operators.specs.declared.Content.TheVariants as Content
 use Rattle.euler_operators.specs.Table as table
-use Rattle.euler_operators.specs.Model.{Model, EdgeRow, LoopContent, lone, cycle, items_of, content, face_of, outer, loop_of, solid_of, faces_of, is_ring_of}
-use Rattle.euler_operators.specs.Sound.{Sound, Has, HasHalf}
-use Rattle.euler_operators.proofs.Halves.{plus_row, minus_row, mate_plus, mate_minus}
-use Rattle.euler_operators.proofs.Models.{in-holds, holds_in, loop_there}
-use Rattle.euler_operators.proofs.Tables.{first_where_zero, zero_first_where, row_some}
+use Rattle.euler_operators.proofs.Common.{plus_row, minus_row, mate_plus, mate_minus, in-holds, holds_in, loop_there, first_where_zero, zero_first_where, row_some}
 use Rattle.halfedge_arena.specs.Store.{Tells, IsNextRing}
-use Rattle.euler_operators.specs.Conditions.{Condition, AllHold, conditions, first_false, need, never, first_refusal, verdict, numbers_in_range, faces_known, faces_in, lists, strictly_rises, is_empty, is_bad_part, face_at, torn_edge, differ, has_rings}
 use Rattle.euler_operators.specs.declared.Refusal.{Refusal}
 use Rattle.euler_operators.specs.declared.Why.TheVariants.{NoSolid, SolidTaken, BadPart}
 use Rattle.euler_operators.specs.declared.Op.TheVariants.{Part}
-use Rattle.euler_laws.proofs.shared.Arcs.{halves_of_edge}
-use Rattle.euler_laws.proofs.shared.FaceRings.{outer_or_ring}
-use Rattle.euler_laws.proofs.shared.Goes.{all_hold, all_hold-front, all_hold-back}
-use Rattle.euler_laws.proofs.shared.Rows.{no_rings_means, face_there}
-use Rattle.euler_laws.proofs.shared.Listed.{all_where-rises, passes_listed, listed_cases}
+use Rattle.euler_laws.proofs.Common.{halves_of_edge, outer_or_ring, all_hold, all_hold-front, all_hold-back, no_rings_means, face_there, all_where-rises, passes_listed, listed_cases, all_listed}
 use Rattle.euler_conditions.specs.Parts.{StaysIn, FaceLeadsOut, FaceStaysIn, AreFacesOf, parts_known}
 use Rattle.euler_conditions.proofs.Orders.{part_refuses, part_holds}
-use Rattle.euler_laws.proofs.shared.RisingLists.{all_listed}
 
 pub ring_has : (c : LoopContent) (h : HalfEdge) → Tells c (Content.Ring h) → IsIn (code h) (items_of c)
 ring_has (lone w) h t = absurd t

@@ -1,14 +1,9 @@
 -- Half-edges of codes, and the code of a mate.
-use Rattle.std.proofs.Common.{◌≡◌, ◌≢◌, ℕ, ◌+◌, ◌*◌, ◌/◌, ◌%◌, ◌^◌, ◌≤◌, ap, sym, ◌∙◌, arith, inl, inr}
-use Rattle.std.specs.Prelude.{bit_xor}
+use Rattle.std.proofs.Common.{◌≡◌, ◌≢◌, ℕ, ◌+◌, ◌*◌, ◌/◌, ◌%◌, ◌^◌, ◌≤◌, ap, sym, ◌∙◌, arith, inl, inr, bit_xor}
 use Rattle.std.proofs.lemmas.Bool.Decides.{nat_tests}
 use Rattle.std.proofs.lemmas.Nat.{xor_block, xor_comm}
-use Rattle.euler_operators.specs.declared.HalfEdge.{HalfEdge}
-use Rattle.euler_operators.specs.HalfEdge.{code, half, edge_of, mate}
-use Rattle.euler_operators.specs.Model.{Model, is_number}
-use Rattle.euler_operators.specs.Sound.{Sound, HasHalf}
-use Rattle.euler_operators.proofs.Halves.{edge_of-code, code-half, mate_cases}
-use Rattle.euler_operators.proofs.Models.{number_fits}
+use Rattle.euler_operators.specs.Common.{HalfEdge, code, half, edge_of, mate, Model, is_number, Sound, HasHalf}
+use Rattle.euler_operators.proofs.Common.{edge_of-code, code-half, mate_cases, number_fits}
 
 -- an edge that is there has a number in range
 pub edge_fits : (M : Model) → Sound M → (h : HalfEdge) → HasHalf M (code h) → h.edge ≤ 1000000

@@ -2,13 +2,9 @@
 use Rattle.std.proofs.Common.{◌≡◌, ◌≢◌, ℕ, ◌/◌, Bool, true, false, cond, not, nat_eq, ◌&&◌, [], refl, sym, ap, ◌∙◌, arith}
 use mathlib.Core.Bool.{beq}
 use Rattle.std.proofs.lemmas.Bool.Decides.{nat_tests}
-use Rattle.euler_operators.specs.declared.HalfEdge.{HalfEdge}
-use Rattle.euler_operators.specs.HalfEdge.{code, edge_of, mate}
-use Rattle.euler_operators.specs.Model.{Model, cycle, content, loop_of, tail}
-use Rattle.euler_operators.specs.Sound.{Sound, Has, HasHalf}
+use Rattle.euler_operators.specs.Common.{HalfEdge, code, edge_of, mate, Model, cycle, content, loop_of, tail, Sound, Has, HasHalf}
 use Rattle.euler_conditions.specs.Ends.{leads_to, lesser}
-use Rattle.euler_operators.proofs.Halves.{edge_of-code, edge_of-mate}
-use Rattle.euler_operators.proofs.Models.{number_real, loop_there}
+use Rattle.euler_operators.proofs.Common.{edge_of-code, edge_of-mate, number_real, loop_there}
 
 pub in_a_loop : (M : Model) → Sound M → (x : ℕ) → HasHalf M x → loop_of M x ≢ 0
 in_a_loop M sound x t = number_real _ (sound.loops_fit _ (loop_there M sound x t))

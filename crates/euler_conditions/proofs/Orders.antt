@@ -1,7 +1,7 @@
 -- The first refusal of conditions that are tested part by part.
 use Rattle.std.proofs.Common.{◌≡◌, Bool, true, false, cond, List, [], ◌∷◌, ◌++◌, Option, Some, None, Ok, Err, refl, ap, ◌∙◌}
 use Rattle.euler_operators.specs.declared.Refusal.{Refusal}
-use Rattle.euler_operators.specs.Conditions.{Condition, first_refusal, verdict}
+use Rattle.euler_operators.specs.Common.{Condition, first_refusal, verdict}
 use Rattle.euler_conditions.specs.Answer.{answer}
 
 -- a part that is refused is refused whatever follows

@@ -1,27 +1,11 @@
 -- The walk round one end of an edge meets every edge beside it.
-use Rattle.std.proofs.Common.{◌≡◌, ◌≢◌, ℕ, ◌+◌, ◌≤◌, Bool, true, false, cond, not, nat_eq, ◌&&◌, ◌||◌, List, [], ◌∷◌, ◌++◌, length, Some, is_some, refl, sym, ap, subst, ◌∙◌, arith, ◌⊎◌, inl, inr}
+use Rattle.std.proofs.Common.{◌≡◌, ◌≢◌, ℕ, ◌+◌, ◌≤◌, Bool, true, false, cond, not, nat_eq, ◌&&◌, ◌||◌, List, [], ◌∷◌, ◌++◌, length, Some, is_some, refl, sym, ap, subst, ◌∙◌, arith, ◌⊎◌, inl, inr, eq-eqb, eqb-true}
 use Rattle.std.proofs.lemmas.Bool.Decides.{nat_tests, eqb_tells}
-use Rattle.std.proofs.lemmas.Bool.{and_parts, and_from, or_left, or_right, or_cases, not-true, eq-eqb, eqb-true}
-use Rattle.euler_operators.specs.Items.{count, IsIn}
-use Rattle.euler_operators.specs.Rings.{rotate_to, walk_to, orbit}
-use Rattle.euler_operators.proofs.Lists.{count-append, tick_same}
-use Rattle.euler_operators.proofs.Rings.{orbit_from}
-use Rattle.euler_operators.proofs.Rotations.{count-rotate_to}
-use Rattle.euler_operators.proofs.Places.{walk_done, walk_on, walk_over}
-use Rattle.euler_operators.specs.HalfEdge.{mate, edge_of, plus, minus}
+use Rattle.std.proofs.lemmas.Bool.{and_parts, and_from, or_left, or_right, or_cases, not-true}
+use Rattle.euler_operators.specs.Common.{count, IsIn, rotate_to, walk_to, orbit, mate, edge_of, plus, minus, first_where, Model, EdgeRow, tail, after, round, Sound, HasHalf, parallel}
+use Rattle.euler_operators.proofs.Common.{count-append, tick_same, orbit_from, count-rotate_to, walk_done, walk_on, walk_over, plus_row, minus_row, mate_plus, mate_minus, mate-mate, edge_of-mate, plus_tail_row, minus_tail_row, first_where_zero, row_some, IsIn_push, length_below}
 use Rattle.euler_operators.specs.Table as table
-use Rattle.euler_operators.specs.Table.{first_where}
-use Rattle.euler_operators.specs.Model.{Model, EdgeRow, tail, after, round}
-use Rattle.euler_operators.specs.Sound.{Sound, HasHalf}
-use Rattle.euler_operators.proofs.Halves.{plus_row, minus_row, mate_plus, mate_minus, mate-mate, edge_of-mate}
-use Rattle.euler_operators.proofs.Models.{plus_tail_row, minus_tail_row}
-use Rattle.euler_operators.proofs.Tables.{first_where_zero, row_some}
-use Rattle.euler_operators.proofs.Members.{IsIn_push, length_below}
-use Rattle.euler_operators.specs.Conditions.{parallel}
-use Rattle.euler_laws.proofs.shared.Fans.{Fan, fan_of}
-use Rattle.euler_laws.proofs.shared.Arcs.{halves_of_edge}
-use Rattle.euler_laws.proofs.shared.Bounds.{steps, half_below}
-use Rattle.euler_laws.proofs.shared.FirstWhere.{first_where_least}
+use Rattle.euler_laws.proofs.Common.{Fan, fan_of, halves_of_edge, steps, half_below, first_where_least}
 use Rattle.euler_conditions.specs.Ends.{leads_to, lesser}
 
 -- ---- what the walk has found

@@ -1,10 +1,8 @@
 -- The faces of a solid, as a list.
 use Rattle.std.proofs.Common.{◌≡◌, ℕ, false, nat_eq, List, [], ◌∷◌, Some, None, is_some, refl, ap, ◌∙◌}
-use Rattle.euler_operators.specs.Model.{Model, faces_of}
-use Rattle.euler_operators.specs.Sound.{Has}
+use Rattle.euler_operators.specs.Common.{Model, faces_of, Has, lists, bare_face}
 use Rattle.halfedge_arena.specs.Store.{only_item}
-use Rattle.euler_operators.specs.Conditions.{lists, bare_face}
-use Rattle.euler_laws.proofs.shared.Listed.{first_listed, listed_passes}
+use Rattle.euler_laws.proofs.Common.{first_listed, listed_passes}
 
 -- the only face of a solid is there
 pub only_face_there : (M : Model) (s f : ℕ) → faces_of M s ≡ f ∷ [] → Has M.faces f

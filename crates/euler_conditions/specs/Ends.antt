@@ -1,7 +1,6 @@
 -- Edges that lead from one vertex to another.
 use Rattle.std.specs.Prelude.{ℕ, Bool, cond, not, ◌&&◌, nat_eq, min}
-use Rattle.euler_operators.specs.HalfEdge.{mate, edge_of}
-use Rattle.euler_operators.specs.Model.{Model, tail}
+use Rattle.euler_operators.specs.Common.{mate, edge_of, Model, tail}
 
 -- g is of another edge than h, and leads to the vertex far
 abbrev pub leads_to : Model → ℕ → ℕ → ℕ → Bool

@@ -1,11 +1,7 @@
 -- What is asked of the faces that part takes.
 use Rattle.std.specs.Prelude.{◌≡◌, ℕ, true, false, List, ◌∷◌, ◌++◌}
-use Rattle.euler_operators.specs.Items.{IsIn}
-use Rattle.euler_operators.specs.HalfEdge.{mate}
+use Rattle.euler_operators.specs.Common.{IsIn, mate, Model, items_of, content, face_of, solid_of, Has, Condition, need, never, numbers_in_range, faces_known, faces_in, face_at, lists}
 use Rattle.euler_operators.specs.Table as table
-use Rattle.euler_operators.specs.Model.{Model, items_of, content, face_of, solid_of}
-use Rattle.euler_operators.specs.Sound.{Has}
-use Rattle.euler_operators.specs.Conditions.{Condition, need, never, numbers_in_range, faces_known, faces_in, face_at, lists}
 use Rattle.euler_operators.specs.declared.Why.TheVariants.{NoSolid, SolidTaken}
 
 -- each listed face is there and of the solid

@@ -1,8 +1,6 @@
 //! Half-edges by their codes, for walks that look at many: a code is one number to carry and to compare.
 ghost use Rattle.std.specs.Prelude.{◌≡◌, true};
-ghost use Rattle.euler_operators.specs.HalfEdge.{mate};
-ghost use Rattle.euler_operators.specs.Model.{after, has_half, round, tail};
-ghost use Rattle.euler_operators.specs.Sound.{Sound};
+ghost use Rattle.euler_operators.specs.Common.{mate, after, has_half, round, tail, Sound};
 
 use euler_operators::HalfEdge;
 use halfedge_arena::Arena;

@@ -1,8 +1,7 @@
 //! A corner's number, loop and vertex, and whether what it names is there.
 ghost use Rattle.std.specs.Prelude.{◌≡◌, true, [], ◌∷◌};
-ghost use Rattle.euler_operators.specs.Model.{content};
+ghost use Rattle.euler_operators.specs.Common.{content, corner_number, corner_known, corner_lone, corner_tail, corner_loop, is_lone, first_refusal, verdict};
 ghost use Rattle.halfedge_arena.specs.Store.{has_number};
-ghost use Rattle.euler_operators.specs.Conditions.{corner_number, corner_known, corner_lone, corner_tail, corner_loop, is_lone, first_refusal, verdict};
 ghost use Rattle.euler_conditions.specs.Answer.{answer};
 ghost use Rattle.euler_conditions.specs.Ready.{IsReady};
 

@@ -1,9 +1,7 @@
 //! The tests of kev: the least parallel edge of an edge, and whether its kept end is bare.
 ghost use Rattle.std.specs.Prelude.{◌≡◌, true, cond};
-ghost use Rattle.euler_operators.specs.HalfEdge.{code, edge_of};
-ghost use Rattle.euler_operators.specs.Model.{has_half};
+ghost use Rattle.euler_operators.specs.Common.{code, edge_of, has_half, kept_end_bare, parallel};
 ghost use Rattle.halfedge_arena.specs.Store.{has_number};
-ghost use Rattle.euler_operators.specs.Conditions.{kept_end_bare, parallel};
 ghost use Rattle.euler_conditions.specs.Ready.{IsReady};
 ghost use Rattle.euler_conditions.specs.Ends.{leads_to, lesser};
 

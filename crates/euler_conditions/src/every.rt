@@ -1,6 +1,6 @@
 //! The conditions of every operator.
 ghost use Rattle.std.specs.Prelude.{◌≡◌};
-ghost use Rattle.euler_operators.specs.Conditions.{first_false, verdict};
+ghost use Rattle.euler_operators.specs.Common.{first_false, verdict};
 ghost use Rattle.euler_conditions.specs.Ready.{IsReady};
 
 use crate::killing::{check_kef, check_kemr, check_kev, check_kfmrh, check_kvfs};

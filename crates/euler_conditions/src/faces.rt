@@ -1,8 +1,7 @@
 //! The face of a loop, whether the loop is a ring of it, and whether a face has rings.
 ghost use Rattle.std.specs.Prelude.{◌≡◌, true};
-ghost use Rattle.euler_operators.specs.Model.{face_of, is_ring_of};
+ghost use Rattle.euler_operators.specs.Common.{face_of, is_ring_of, has_rings};
 ghost use Rattle.halfedge_arena.specs.Store.{has_number};
-ghost use Rattle.euler_operators.specs.Conditions.{has_rings};
 ghost use Rattle.euler_conditions.specs.Ready.{IsReady};
 
 use euler_operators::Kind;

@@ -1,9 +1,7 @@
 //! A half-edge's mate, vertex, next item, loop and face, and whether two are the same.
 ghost use Rattle.std.specs.Prelude.{◌≡◌, true, nat_eq};
-ghost use Rattle.euler_operators.specs.HalfEdge.{code, mate};
-ghost use Rattle.euler_operators.specs.Model.{after, tail, loop_of};
+ghost use Rattle.euler_operators.specs.Common.{code, mate, after, tail, loop_of, face_at};
 ghost use Rattle.halfedge_arena.specs.Store.{has_number};
-ghost use Rattle.euler_operators.specs.Conditions.{face_at};
 ghost use Rattle.euler_conditions.specs.Ready.{IsReady};
 
 use crate::faces;

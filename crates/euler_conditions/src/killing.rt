@@ -1,7 +1,6 @@
 //! The conditions of the operators that kill an edge or a face.
 ghost use Rattle.std.specs.Prelude.{◌≡◌, true};
-ghost use Rattle.euler_operators.specs.Conditions.{bare_face, first_false, verdict};
-ghost use Rattle.euler_operators.specs.Model.{faces_of};
+ghost use Rattle.euler_operators.specs.Common.{bare_face, first_false, verdict, faces_of};
 ghost use Rattle.halfedge_arena.specs.Store.{has_number};
 ghost use Rattle.euler_conditions.specs.Ready.{IsReady};
 

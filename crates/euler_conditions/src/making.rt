@@ -1,6 +1,6 @@
 //! The conditions of the operators that make an edge or a face.
 ghost use Rattle.std.specs.Prelude.{◌≡◌};
-ghost use Rattle.euler_operators.specs.Conditions.{first_false, verdict};
+ghost use Rattle.euler_operators.specs.Common.{first_false, verdict};
 ghost use Rattle.euler_conditions.specs.Ready.{IsReady};
 
 use crate::single::{fits, in_range};

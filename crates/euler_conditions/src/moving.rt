@@ -1,6 +1,6 @@
 //! The conditions of the operators that move rings and faces.
 ghost use Rattle.std.specs.Prelude.{◌≡◌};
-ghost use Rattle.euler_operators.specs.Conditions.{first_false, first_refusal, ring_and_face, verdict};
+ghost use Rattle.euler_operators.specs.Common.{first_false, first_refusal, ring_and_face, verdict};
 ghost use Rattle.euler_conditions.specs.Ready.{IsReady};
 
 use crate::faces;

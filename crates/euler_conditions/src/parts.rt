@@ -1,8 +1,7 @@
 //! The conditions of part, which takes a list of faces.
 ghost use Rattle.std.specs.Prelude.{◌≡◌, ℕ, true, length};
-ghost use Rattle.euler_operators.specs.Model.{solid_of};
+ghost use Rattle.euler_operators.specs.Common.{solid_of, faces_in, faces_known, first_false, first_refusal, is_bad_part, lists, numbers_in_range, strictly_rises, verdict};
 ghost use Rattle.halfedge_arena.specs.Store.{has_number};
-ghost use Rattle.euler_operators.specs.Conditions.{faces_in, faces_known, first_false, first_refusal, is_bad_part, lists, numbers_in_range, strictly_rises, verdict};
 ghost use Rattle.euler_conditions.specs.Ready.{IsReady};
 ghost use Rattle.euler_conditions.specs.Parts.{AreFacesOf, parts_known};
 

@@ -1,7 +1,6 @@
 //! Single conditions.
 ghost use Rattle.std.specs.Prelude.{◌≡◌, ℕ, Bool, true, List, [], ◌∷◌, take, drop};
-ghost use Rattle.euler_operators.specs.Points.{is_in_range};
-ghost use Rattle.euler_operators.specs.Conditions.{need, numbers_in_range, first_refusal, verdict};
+ghost use Rattle.euler_operators.specs.Common.{is_in_range, need, numbers_in_range, first_refusal, verdict};
 
 use euler_operators::{Point, Refusal, Why, is_number, point_in_range, refused};
 

@@ -1,9 +1,7 @@
 //! Edges between listed faces and others.
 ghost use Rattle.std.specs.Prelude.{◌≡◌, ◌≢◌, ℕ, true, false, not, nat_eq};
-ghost use Rattle.euler_operators.specs.HalfEdge.{code, mate};
-ghost use Rattle.euler_operators.specs.Model.{is_ring_of};
+ghost use Rattle.euler_operators.specs.Common.{code, mate, is_ring_of, face_at, lists, strictly_rises, torn_edge};
 ghost use Rattle.halfedge_arena.specs.Store.{has_number};
-ghost use Rattle.euler_operators.specs.Conditions.{face_at, lists, strictly_rises, torn_edge};
 ghost use Rattle.euler_conditions.specs.Ready.{IsReady};
 ghost use Rattle.euler_conditions.specs.Parts.{LeadsOut, StaysIn, FaceLeadsOut, FaceStaysIn};
 

@@ -1,14 +1,10 @@
 -- The laws of the Euler operators, each over every sound model and every operator whose conditions hold in it.
 use Rattle.std.specs.Prelude.{◌≡◌, ◌↔◌, ℕ, ℤ, pos, neg_ℤ, ◌+◌, ◌+ℤ◌, ◌-ℤ◌, false, not, nat_eq, List, [], ◌∷◌, ◌++◌, length, Some, None}
 use Rattle.euler_operators.specs.Table as table
-use Rattle.euler_operators.specs.Table.{Table}
-use Rattle.euler_operators.specs.Model.{Model, outer, empty_model}
-use Rattle.euler_operators.specs.Sound.{Sound}
+use Rattle.euler_operators.specs.Common.{Table, Model, outer, empty_model, Sound, Condition, AllHold, first_refusal, first_false, effect, inverse}
 use Rattle.euler_operators.specs.declared.Op.{Op}
 use Rattle.euler_operators.specs.declared.Op.TheVariants.{Mvfs, Kvfs, Mev, Kev, Mef, Kef, Kemr, Mekr, Kfmrh, Mfkrh, RingIn, RingOut, Outer, Merge, Part}
 use Rattle.euler_operators.specs.declared.Refusal.{Refusal}
-use Rattle.euler_operators.specs.Conditions.{Condition, AllHold, first_refusal, first_false}
-use Rattle.euler_operators.specs.Effect.{effect, inverse}
 
 -- nothing is refused exactly where each condition holds
 abbrev pub NothingIsRefusedWhereAllHold : Type 0

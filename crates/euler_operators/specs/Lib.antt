@@ -1,14 +1,8 @@
 pub mod Refusal
 pub mod Conditions
 pub mod Effect
-pub use Rattle.boundary_model.specs.Points
-pub use Rattle.boundary_model.specs.Ranges
-pub use Rattle.boundary_model.specs.Vectors
-pub use Rattle.boundary_model.specs.Edits
 pub use Rattle.boundary_model.specs.Items
-pub use Rattle.boundary_model.specs.Operators
 pub use Rattle.boundary_model.specs.Rings
-pub use Rattle.boundary_model.specs.HalfEdge
 pub use Rattle.boundary_model.specs.Model
-pub use Rattle.boundary_model.specs.Sound
 pub use Rattle.boundary_model.specs.Table
+pub mod Common

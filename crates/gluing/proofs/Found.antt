@@ -1,15 +1,9 @@
 -- A search for the half-edge of a face's outer loop that starts at a point.
-use Rattle.std.proofs.Common.{◌≡◌, ℕ, Bool, true, false, cond, List, [], ◌∷◌, Option, Some, None, is_some, refl, sym, ap, ◌∙◌, arith, true≢false, inl, inr}
-use Rattle.std.specs.Option.{option_map}
+use Rattle.std.proofs.Common.{◌≡◌, ℕ, Bool, true, false, cond, List, [], ◌∷◌, Option, Some, None, is_some, refl, sym, ap, ◌∙◌, arith, true≢false, inl, inr, option_map}
 use Rattle.std.proofs.lemmas.Bool.Decides.{eqb_tells}
-use Rattle.euler_operators.specs.Items.{IsIn}
-use Rattle.euler_operators.proofs.Lists.{tick_other}
-use Rattle.euler_operators.specs.Model.{Model, LoopContent, lone, cycle, items_of, content, outer}
-use Rattle.euler_operators.specs.Sound.{Sound, HasHalf}
-use Rattle.euler_operators.proofs.Models.{in-holds}
-use Rattle.euler_operators.specs.Conditions.{is_lone}
-use Rattle.shapes.specs.Fresh.{first_such}
-use Rattle.shapes.specs.glue.Glue.{rim}
+use Rattle.euler_operators.specs.Common.{IsIn, Model, LoopContent, lone, cycle, items_of, content, outer, Sound, HasHalf, is_lone}
+use Rattle.euler_operators.proofs.Common.{tick_other, in-holds}
+use Rattle.shapes.specs.Common.{first_such, rim}
 
 pub rim_held : (c : LoopContent) (h : ℕ) → IsIn h (items_of c) → is_lone c ≡ false
 rim_held (lone v) h i = absurd (omega (arith, i))

@@ -1,27 +1,14 @@
 -- Two faces that are being glued: the items that are left, what stands beside the next one, and what its steps make.
-use Rattle.std.proofs.Common.{◌≡◌, ◌≢◌, ℕ, ◌<◌, List, [], ◌∷◌, ◌++◌, length, None, refl, sym, ap, ◌∙◌, subst, arith}
-use Rattle.std.specs.Prelude.{map, reverse}
-use Rattle.std.proofs.lemmas.List.{append_assoc, length-append, length-map, length-reverse}
-use Rattle.euler_operators.specs.Items.{IsIn, IsApart, head_or, last_or}
-use Rattle.euler_operators.specs.Rings.{canonical, successor, predecessor}
-use Rattle.euler_operators.proofs.Lists.{count-append, tick_same}
-use Rattle.euler_operators.proofs.Rotations.{canonical-rotates, length-canonical}
-use Rattle.euler_operators.proofs.Rings.{successor_head, successor_same, predecessor_head, predecessor_same, last_or_push, IsIn_last}
-use Rattle.euler_operators.proofs.Maps.{reverse-cons, count-reverse}
-use Rattle.euler_operators.specs.HalfEdge.{mate, half}
-use Rattle.euler_operators.specs.Model.{Model, outer, cycle_of}
+use Rattle.std.proofs.Common.{◌≡◌, ◌≢◌, ℕ, ◌<◌, List, [], ◌∷◌, ◌++◌, length, None, refl, sym, ap, ◌∙◌, subst, arith, map, reverse, append_assoc, length-append}
+use Rattle.std.proofs.lemmas.List.{length-map, length-reverse}
+use Rattle.euler_operators.specs.Common.{IsIn, IsApart, head_or, last_or, canonical, successor, predecessor, mate, half, Model, outer, cycle_of, Sound, HasHalf, first_false, effect}
+use Rattle.euler_operators.proofs.Common.{count-append, tick_same, canonical-rotates, length-canonical, successor_head, successor_same, predecessor_head, predecessor_same, last_or_push, IsIn_last, reverse-cons, count-reverse}
 use Rattle.euler_operators.specs.Model as model
-use Rattle.euler_operators.specs.Sound.{Sound, HasHalf}
 use Rattle.euler_operators.specs.declared.Op.{Op}
 use Rattle.euler_operators.specs.declared.Op.TheVariants.{Kef}
-use Rattle.euler_operators.specs.Conditions.{first_false}
-use Rattle.euler_operators.specs.Effect.{effect}
 use Rattle.euler_laws.specs.Laws.{effects, AreAccepted}
-use Rattle.euler_laws.proofs.Runs.{effects_keep_sound}
-use Rattle.euler_laws.proofs.shared.KnownLoop.{Around, half_is, cycle_is, apart_xs}
-use Rattle.shapes.specs.glue.Glue.{rim, partner, glue_model}
-use Rattle.shapes.specs.glue.GlueOps.{fresh_edge, closing}
-use Rattle.shapes.specs.glue.Part.{seam, glued_part}
+use Rattle.euler_laws.proofs.Common.{effects_keep_sound, Around, half_is, cycle_is, apart_xs}
+use Rattle.shapes.specs.Common.{rim, partner, glue_model, fresh_edge, closing, seam, glued_part}
 use Rattle.gluing_laws.proofs.glue.Stages.{Stage, around_l}
 use Rattle.gluing_laws.proofs.glue.Turn.{turn_accepted, turn_is}
 use Rattle.gluing_laws.proofs.glue.Ending.{glued_all, ending_ok, ending_is, glued_along_is}

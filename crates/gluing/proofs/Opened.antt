@@ -1,26 +1,15 @@
 -- Before two faces are glued: the first item of the one, and the half-edge of the other that starts where it does. And what opens
 -- the seam.
 use Rattle.std.proofs.Common.{◌≡◌, ◌≢◌, ℕ, ◌≤◌, Bool, true, false, cond, List, [], ◌∷◌, ◌++◌, refl, sym, ap, ◌∙◌, subst, None, Some, unwrap_or}
-use Rattle.euler_operators.specs.declared.Point.{Point}
-use Rattle.euler_operators.specs.Vectors.{same_point}
-use Rattle.euler_operators.specs.Items.{IsIn, head_or, last_or}
-use Rattle.euler_operators.proofs.Rings.{last_or_push, IsIn_last}
-use Rattle.euler_operators.proofs.Models.{number_fits, half_number}
-use Rattle.euler_operators.specs.Model.{Model, items_of, content, outer, point_of}
-use Rattle.euler_operators.specs.Sound.{Sound, Has}
-use Rattle.euler_operators.specs.Conditions.{is_lone}
+use Rattle.euler_operators.specs.Common.{Point, same_point, IsIn, head_or, last_or, Model, items_of, content, outer, point_of, Sound, Has, is_lone}
+use Rattle.euler_operators.proofs.Common.{last_or_push, IsIn_last, number_fits, half_number}
 use Rattle.euler_operators.specs.declared.Op.{Op}
 use Rattle.euler_laws.specs.Laws.{effects, AreAccepted}
-use Rattle.euler_laws.proofs.Runs.{effects_keep_sound}
-use Rattle.shapes.specs.Faces.{start, finish}
-use Rattle.shapes.specs.Fresh.{first_such}
-use Rattle.shapes.specs.glue.Glue.{rim, partner, glue_refusal}
-use Rattle.shapes.specs.glue.GlueOps.{fresh_edge, opening}
-use Rattle.shapes.specs.glue.Part.{glued_part}
+use Rattle.euler_laws.proofs.Common.{effects_keep_sound}
+use Rattle.shapes.specs.Common.{start, finish, first_such, rim, partner, glue_refusal, fresh_edge, opening, glued_part}
 use Rattle.shapes.proofs.glue.Facing as facing
-use Rattle.shapes.proofs.glue.Facing.{Facing}
+use Rattle.shapes.proofs.Common.{Facing, same_is}
 use Rattle.shapes.proofs.glue.Facts as facts
-use Rattle.shapes.proofs.glue.Points.{same_is}
 use Rattle.gluing_laws.proofs.glue.Opening.{opening_accepted, opening_is}
 use Rattle.gluing.specs.Rims.{item_at}
 use Rattle.gluing.proofs.Joined.{Joining}

@@ -1,14 +1,11 @@
 -- Operators that are still to be taken.
 use Rattle.std.proofs.Common.{◌≡◌, ℕ, [], ◌∷◌, refl, sym, ap, ◌∙◌, subst}
-use Rattle.euler_operators.specs.declared.HalfEdge.{HalfEdge}
-use Rattle.euler_operators.specs.declared.Corner.TheVariants.{At}
-use Rattle.euler_operators.specs.HalfEdge.{code, half, mate, plus, minus}
-use Rattle.euler_operators.specs.Model.{Model, solid_of}
-use Rattle.euler_operators.proofs.Halves.{half-code}
+use Rattle.euler_operators.specs.Common.{HalfEdge, At, code, half, mate, plus, minus, Model, solid_of}
+use Rattle.euler_operators.proofs.Common.{half-code}
 use Rattle.euler_operators.specs.declared.Op.TheVariants.{Merge, Kfmrh, Mekr, Kev, Mef, Kef}
 use Rattle.euler_laws.specs.Laws.{effects, AreAccepted}
-use Rattle.euler_laws.proofs.Runs.{Leads}
-use Rattle.shapes.specs.glue.GlueOps.{opening, closing}
+use Rattle.euler_laws.proofs.Common.{Leads}
+use Rattle.shapes.specs.Common.{opening, closing}
 
 -- ---- the operators of a glue, as half-edges are written in the code
 

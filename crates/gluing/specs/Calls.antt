@@ -1,7 +1,7 @@
 -- A glue is a call of a history.
 use Rattle.std.specs.Prelude.{◌≡◌, ℕ, None}
-use Rattle.euler_operators.specs.Sound.{Sound}
-use Rattle.shapes.specs.glue.GlueOps.{glue_ops}
+use Rattle.euler_operators.specs.Common.{Sound}
+use Rattle.shapes.specs.Common.{glue_ops}
 use Rattle.undo_journal.specs.Machine.{Machine, held}
 use Rattle.undo_journal.specs.Histories.{made, after_call}
 use Rattle.gluing.specs.Machine.{glue, glue_refusal}

@@ -2,7 +2,7 @@
 use Rattle.std.specs.Prelude.{ℕ, Option}
 use Rattle.euler_operators.specs.declared.Refusal.{Refusal}
 use Rattle.shapes.specs.glue.Glue as shapes
-use Rattle.shapes.specs.glue.Glue.{glue_model}
+use Rattle.shapes.specs.Common.{glue_model}
 use Rattle.undo_journal.specs.Machine.{Machine, held, accepted}
 
 -- face g glued to face f

@@ -1,9 +1,8 @@
 -- What a glue makes of the six volumes of solids: s is the machine before an accepted one, and t the one after it.
 use Rattle.std.specs.Prelude.{◌≡◌, ◌≢◌, ℕ, ◌+ℤ◌, None}
-use Rattle.euler_operators.specs.Model.{solid_of}
-use Rattle.euler_operators.specs.Sound.{Sound}
+use Rattle.euler_operators.specs.Common.{solid_of, Sound}
 use Rattle.undo_journal.specs.Machine.{Machine, held}
-use Rattle.shapes.specs.Measure.{six_volume}
+use Rattle.shapes.specs.Common.{six_volume}
 use Rattle.gluing.specs.Machine.{glue, glue_refusal}
 
 -- the solid of the first face has the six volumes of both solids before

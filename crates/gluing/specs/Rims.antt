@@ -1,11 +1,7 @@
 -- The outer loop of a face.
 use Rattle.std.specs.Prelude.{ℕ, unwrap_or}
-use Rattle.euler_operators.specs.declared.Point.{Point}
-use Rattle.euler_operators.specs.Vectors.{same_point}
-use Rattle.euler_operators.specs.Model.{Model}
-use Rattle.shapes.specs.Faces.{start}
-use Rattle.shapes.specs.Fresh.{first_such}
-use Rattle.shapes.specs.glue.Glue.{rim}
+use Rattle.euler_operators.specs.Common.{Point, same_point, Model}
+use Rattle.shapes.specs.Common.{start, first_such, rim}
 
 -- the half-edge of a face's outer loop that starts at a point
 abbrev pub item_at : Model → ℕ → Point → ℕ

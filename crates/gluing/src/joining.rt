@@ -1,13 +1,10 @@
 //! Two faces glued operator by operator in a draft.
 ghost use Rattle.std.specs.Prelude.{◌≡◌, ◌≤◌, true, None, OnOk, OnErr};
-ghost use Rattle.euler_operators.specs.HalfEdge.{code};
-ghost use Rattle.euler_operators.specs.Model.{after, before, has_half, outer};
-ghost use Rattle.euler_operators.specs.Sound.{Has};
+ghost use Rattle.euler_operators.specs.Common.{code, after, before, has_half, outer, Has};
 ghost use Rattle.euler_conditions.specs.Ready.{IsReady};
 ghost use Rattle.euler_laws.specs.Laws.{AreAccepted, effects};
 ghost use Rattle.euler_conditions.specs.Store.{has_number};
-ghost use Rattle.shapes.specs.glue.Glue.{glue_model, glue_refusal};
-ghost use Rattle.shapes.specs.glue.GlueOps.{closing, fresh_edge, opening};
+ghost use Rattle.shapes.specs.Common.{glue_model, glue_refusal, closing, fresh_edge, opening};
 ghost use Rattle.undo_journal.specs.Journal.{IsFurther};
 
 use crate::rims::{first_item, item_at};

@@ -1,14 +1,9 @@
 //! The outer loop of a face: its half-edges, and the points at which they start.
 ghost use Rattle.std.specs.Prelude.{◌≡◌, true, false, IfOk};
-ghost use Rattle.euler_operators.specs.Items.{IsIn, head_or};
-ghost use Rattle.euler_operators.specs.Vectors.{same_point};
-ghost use Rattle.euler_operators.specs.HalfEdge.{code};
-ghost use Rattle.euler_operators.specs.Model.{content, cycle_of, has_half, outer};
+ghost use Rattle.euler_operators.specs.Common.{IsIn, head_or, same_point, code, content, cycle_of, has_half, outer, is_lone};
 ghost use Rattle.euler_conditions.specs.Ready.{IsReady};
-ghost use Rattle.euler_operators.specs.Conditions.{is_lone};
 ghost use Rattle.euler_conditions.specs.Store.{has_number};
-ghost use Rattle.shapes.specs.Faces.{start};
-ghost use Rattle.shapes.specs.glue.Glue.{outline, rim};
+ghost use Rattle.shapes.specs.Common.{start, outline, rim};
 ghost use Rattle.gluing.specs.Rims.{item_at};
 
 use euler_conditions::Arena;

@@ -1,13 +1,8 @@
 -- What the conditions of a glue say, and the laws.
-use Rattle.std.proofs.Common.{◌≡◌, ◌≢◌, ℕ, ◌+ℤ◌, None, ap, sym, ◌∙◌}
-use Rattle.std.specs.Prelude.{map, reverse}
-use Rattle.euler_operators.specs.Model.{Model, solid_of}
-use Rattle.euler_operators.specs.Sound.{Sound}
-use Rattle.euler_operators.specs.Items.{count}
-use Rattle.euler_operators.proofs.Rotations.{count-canonical}
-use Rattle.euler_operators.proofs.Maps.{count-reverse}
-use Rattle.shapes.specs.Measure.{six_volume}
-use Rattle.shapes.specs.glue.Glue.{rim, glue_refusal, partner, glue_model}
+use Rattle.std.proofs.Common.{◌≡◌, ◌≢◌, ℕ, ◌+ℤ◌, None, ap, sym, ◌∙◌, map, reverse}
+use Rattle.euler_operators.specs.Common.{Model, solid_of, Sound, count}
+use Rattle.euler_operators.proofs.Common.{count-canonical, count-reverse}
+use Rattle.shapes.specs.Common.{six_volume, rim, glue_refusal, partner, glue_model}
 use Rattle.shapes.proofs.glue.Facts as facts
 use Rattle.shapes.proofs.glue.Facts.{facing}
 use Rattle.gluing_laws.proofs.glue.Ending.{glued_all, glued_along_is}

@@ -1,13 +1,9 @@
 -- How often a number stands in what a search lists. The volumes of lists of faces are passed on.
 use Rattle.std.proofs.Common.{◌≡◌, ℕ, ◌≤◌, Bool, true, false, cond, List, Option, Some, None, refl, sym, ◌∙◌, arith}
-use Rattle.euler_operators.specs.Items.{count, SameItems}
+use Rattle.euler_operators.specs.Common.{count, SameItems, Table, lists, strictly_rises}
 use Rattle.euler_operators.specs.Table as table
-use Rattle.euler_operators.specs.Table.{Table}
-use Rattle.euler_operators.specs.Conditions.{lists, strictly_rises}
-use Rattle.euler_laws.proofs.shared.Listed.{listed_passes, listed_as, all_where-rises, IsIn-from_listed, listed-from_in}
+use Rattle.euler_laws.proofs.Common.{listed_passes, listed_as, all_where-rises, IsIn-from_listed, listed-from_in, within, counted_once, none_counted}
 pub use Rattle.shapes.proofs.measures.Sums.{volume_of, volume_append, volume_same, same_volumes}
-use Rattle.euler_laws.proofs.shared.RisingLists.{within}
-use Rattle.euler_laws.proofs.shared.Counted.{counted_once, none_counted}
 
 -- ---- lists
 

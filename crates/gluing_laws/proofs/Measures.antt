@@ -1,43 +1,17 @@
 -- The glued solid: its other faces measure what they did, and the two that go added nothing together.
-use Rattle.std.proofs.Common.{◌≡◌, ◌≢◌, ℕ, true, false, cond, not, nat_eq, ◌&&◌, Bool, List, [], ◌∷◌, Option, Some, None, unwrap_or, refl, sym, ap, ◌∙◌, arith, inl, inr, ◌+◌, ℤ, pos, ◌+ℤ◌, neg_ℤ, ◌++◌, map, is_some, true≢false, ◌⊎◌}
-use Rattle.std.specs.Prelude.{map}
-use Rattle.std.specs.Option.{option_map}
+use Rattle.std.proofs.Common.{◌≡◌, ◌≢◌, ℕ, true, false, cond, not, nat_eq, ◌&&◌, Bool, List, [], ◌∷◌, Option, Some, None, unwrap_or, refl, sym, ap, ◌∙◌, arith, inl, inr, ◌+◌, ℤ, pos, ◌+ℤ◌, neg_ℤ, ◌++◌, map, is_some, true≢false, ◌⊎◌, option_map, ne_eqb, eq-eqb, eqb-true}
 use Rattle.std.proofs.lemmas.Bool.Decides.{nat_tests, eqb_tells}
-use Rattle.std.proofs.lemmas.Bool.{ne_eqb, eq-eqb, eqb-true}
-use Rattle.euler_operators.specs.Vectors.{dot}
-use Rattle.euler_operators.specs.Items.{count, IsIn, head_or, SameItems}
-use Rattle.euler_operators.specs.Rings.{canonical, successor}
-use Rattle.euler_operators.proofs.Lists.{tick_same, tick_other, count-append}
-use Rattle.euler_operators.proofs.Rotations.{count-canonical, canonical_nil, IsIn_head}
-use Rattle.euler_operators.proofs.Maps.{from_map}
+use Rattle.euler_operators.specs.Common.{dot, count, IsIn, head_or, SameItems, canonical, successor, Table, tables, get-map_rows, Model, LoopContent, lone, cycle, FaceRow, LoopRow, no_face, no_loop, items_of, tail, content, face_of, outer, solid_of, point_of, rings_of, faces_of, after, cycle_of, holds, Has, StandsIn, lists, faces_to_solid, mate}
+use Rattle.euler_operators.proofs.Common.{tick_same, tick_other, count-append, count-canonical, canonical_nil, IsIn_head, from_map, in-holds, face_row, IsIn_first, IsIn_some_head, IsIn_successor, moved_none, none_added}
 use Rattle.euler_operators.specs.Table as table
-use Rattle.euler_operators.specs.Table.{Table, tables, get-map_rows}
-use Rattle.euler_operators.specs.Model.{Model, LoopContent, lone, cycle, FaceRow, LoopRow, no_face, no_loop, items_of, tail, content, face_of, outer, solid_of, point_of, rings_of, faces_of, after, cycle_of, holds}
-use Rattle.euler_operators.specs.Sound.{Has, StandsIn}
-use Rattle.euler_operators.proofs.Models.{in-holds, face_row}
-use Rattle.euler_operators.proofs.Members.{IsIn_first, IsIn_some_head}
-use Rattle.euler_operators.specs.Conditions.{lists}
-use Rattle.euler_operators.specs.Effect.{faces_to_solid}
-use Rattle.euler_laws.proofs.shared.Listed.{first_listed, rest_listed, listed_front, listed_passes, listed_as}
-use Rattle.shapes.specs.Faces.{start, items_in, loops_of, boundary, corners, vertices_on, finish}
-use Rattle.shapes.specs.Rewriting.{rewritten, rewritten_row}
-use Rattle.shapes.specs.Measure.{area, normal, anchor, first_vertex, is_flat, volume_in, six_volume}
-use Rattle.shapes.proofs.walks.SolidFaces.{face_of_loop}
-use Rattle.shapes.proofs.Areas.{area-append}
-use Rattle.shapes.proofs.measures.FlatFaces.{corner_told}
-use Rattle.shapes.proofs.measures.Sums.{area_same, area_renamed, area_opposed, dot_back}
+use Rattle.euler_laws.proofs.Common.{first_listed, rest_listed, listed_front, listed_passes, listed_as, face_there, solid_either, mapped_some}
+use Rattle.shapes.specs.Common.{start, items_in, loops_of, boundary, corners, vertices_on, finish, rewritten, rewritten_row, area, normal, anchor, first_vertex, is_flat, volume_in, six_volume, negated}
+use Rattle.shapes.proofs.Common.{face_of_loop, area-append, corner_told, area_same, area_renamed, area_opposed, dot_back, renamed_not}
 use Rattle.sweeps_laws.proofs.Loops.{same_loops}
 use Rattle.gluing_laws.proofs.Listed.{one_if, passed, same_search, volume_of, count_where, volume_append, volume_same, same_volumes}
 use Rattle.gluing_laws.proofs.Seams as seams
 use Rattle.gluing_laws.proofs.Seams.{Seamed, Glued, Stays, side}
 use Rattle.std.proofs.lemmas.Int.{ints}
-use Rattle.euler_operators.proofs.Rings.{IsIn_successor}
-use Rattle.euler_laws.proofs.shared.Rows.{face_there, solid_either}
-use Rattle.euler_laws.proofs.shared.Same.{mapped_some}
-use Rattle.euler_operators.proofs.Vectors.{moved_none, none_added}
-use Rattle.shapes.specs.Vectors.{negated}
-use Rattle.euler_operators.specs.HalfEdge.{mate}
-use Rattle.shapes.proofs.glue.Renamings.{renamed_not}
 
 -- ---- corners
 

@@ -1,26 +1,11 @@
 -- Two faces of two solids along which these are glued: what follows in a sound model, and what the glued model holds.
-use Rattle.std.proofs.Common.{◌≡◌, ◌≢◌, ℕ, nat_eq, List, [], true, sym, ap, ◌∙◌, arith, ◌⊎◌, unwrap_or, inl, inr}
-use Rattle.std.specs.Prelude.{map}
-use Rattle.euler_operators.specs.Items.{IsIn, SameItems, count}
-use Rattle.euler_operators.proofs.Maps.{from_map}
-use Rattle.euler_operators.specs.HalfEdge.{mate, edge_of}
+use Rattle.std.proofs.Common.{◌≡◌, ◌≢◌, ℕ, nat_eq, List, [], true, sym, ap, ◌∙◌, arith, ◌⊎◌, unwrap_or, inl, inr, map, option_map}
+use Rattle.euler_operators.specs.Common.{IsIn, SameItems, count, mate, edge_of, Model, cycle, holds, tail, loop_of, content, face_of, solid_of, outer, rings_of, no_point, point_of, Sound, Has, HasHalf, StandsIn, faces_to_solid, get-map_rows}
+use Rattle.euler_operators.proofs.Common.{from_map, in-holds, mate_there, IsIn-map, IsIn_or_not, mate-mate, edge_of-mate, same_edge}
 use Rattle.euler_operators.specs.Table as table
-use Rattle.euler_operators.specs.Model.{Model, cycle, holds, tail, loop_of, content, face_of, solid_of, outer, rings_of, no_point, point_of}
-use Rattle.euler_operators.specs.Sound.{Sound, Has, HasHalf, StandsIn}
-use Rattle.euler_operators.proofs.Models.{in-holds, mate_there}
-use Rattle.euler_operators.proofs.Members.{IsIn-map}
-use Rattle.euler_operators.specs.Effect.{faces_to_solid}
-use Rattle.euler_laws.proofs.shared.Same.{one_solid_round}
-use Rattle.shapes.specs.Faces.{start, finish}
-use Rattle.shapes.specs.Rewriting.{rewritten_row, renamed, without_rows}
-use Rattle.shapes.specs.Measure.{is_flat}
-use Rattle.shapes.specs.glue.Glue.{renamed_tails}
-use Rattle.shapes.specs.glue.Part.{paired}
-use Rattle.std.specs.Option.{option_map}
-use Rattle.euler_operators.proofs.Lists.{IsIn_or_not}
-use Rattle.euler_operators.specs.Table.{get-map_rows}
-use Rattle.euler_operators.proofs.Halves.{mate-mate, edge_of-mate, same_edge}
-use Rattle.shapes.proofs.glue.Renamings.{renamed_cases, without_there, tail_renamed}
+use Rattle.euler_laws.proofs.Common.{one_solid_round}
+use Rattle.shapes.specs.Common.{start, finish, rewritten_row, renamed, without_rows, is_flat, renamed_tails, paired}
+use Rattle.shapes.proofs.Common.{renamed_cases, without_there, tail_renamed}
 
 -- the items hs of f have partners, the items gs of g, which go back along them
 pub record Seamed (M : Model) (f g : ℕ) (partner_of : ℕ → ℕ) (hs gs : List ℕ) : Type 0 where

@@ -1,9 +1,7 @@
 -- What a glue makes of the six volumes of its two solids.
 use Rattle.std.specs.Prelude.{◌≡◌, ◌≢◌, ℕ, ◌+ℤ◌, None}
-use Rattle.euler_operators.specs.Model.{Model, solid_of}
-use Rattle.euler_operators.specs.Sound.{Sound}
-use Rattle.shapes.specs.Measure.{six_volume}
-use Rattle.shapes.specs.glue.Glue.{glue_refusal, glue_model}
+use Rattle.euler_operators.specs.Common.{Model, solid_of, Sound}
+use Rattle.shapes.specs.Common.{six_volume, glue_refusal, glue_model}
 
 -- the six volumes of the glued solid are those of the two solids
 abbrev pub GlueAdds : Type 0

@@ -1,6 +1,5 @@
 -- What a call does to a handle, from what it does to the slot behind it.
-use Rattle.std.proofs.Common.{◌≡◌, ◌∙◌, ℕ, Bool, true, false, Option, Some, sym, ap, subst}
-use Rattle.std.specs.Prelude.{cond}
+use Rattle.std.proofs.Common.{◌≡◌, ◌∙◌, ℕ, Bool, true, false, Option, Some, sym, ap, subst, cond}
 use Rattle.gwb_c.specs.Handle.{Unless, Calls, lacking}
 use Rattle.session_slots.specs.Answered.{status_of}
 use Rattle.session_slots.specs.Lines.{Unless_lacking}

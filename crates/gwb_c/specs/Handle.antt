@@ -1,8 +1,8 @@
 -- What C's calls do to the session behind a handle.
 use Rattle.std.specs.Prelude.{◌≡◌, ◌⊎◌, ◌-◌, ◌^◌, ℕ, Bool, true, false, cond, List, length, Option, Some, None}
-use Rattle.euler_operators.specs.Model.{Model}
+use Rattle.euler_operators.specs.Common.{Model}
 use Rattle.script_running.specs.declared.script_judging.judging.Answer.{Answer}
-use Rattle.shapes.specs.Fresh.{taken_in}
+use Rattle.shapes.specs.Common.{taken_in}
 use Rattle.solid_walks.specs.Counters.{taken_of}
 use Rattle.gwb_c.specs.FreshNumbers.{fresh_in}
 use Rattle.script_running.specs.declared.script_judging.judging.Answer.TheVariants.{Silent, Listing}

@@ -1,6 +1,6 @@
 //! Calls of C: operators, each a command of its own, or a step of a draft.
 ghost use Rattle.std.specs.Prelude.{◌≡◌, cond, nat_eq};
-ghost use Rattle.euler_operators.specs.HalfEdge.{half};
+ghost use Rattle.euler_operators.specs.Common.{half};
 ghost use Rattle.script_reader.specs.Grammar.{plus};
 ghost use Rattle.session_slots.specs.Arguments.{corner_of};
 ghost use Rattle.gwb_c.specs.Calls.{Acts};

@@ -2,7 +2,7 @@
 ghost use Rattle.std.specs.Prelude.{◌≡◌, true, []};
 ghost use Rattle.boundary_model.specs.HalfEdge.{code};
 ghost use Rattle.boundary_model.specs.Model.{items_of, content, has_half, loop_of};
-ghost use Rattle.arena_rows.specs.Store.{has_number, clear, fill, with_lone, set_content, IsLoose};
+ghost use Rattle.arena_rows.specs.Common.{has_number, clear, fill, with_lone, set_content, IsLoose};
 
 use crate::arena::Arena;
 use arena_rows::{LoopCell, StoredContent};

@@ -4,7 +4,7 @@ ghost use Rattle.boundary_model.specs.Points.{IsInRange};
 ghost use Rattle.boundary_model.specs.HalfEdge.{code, plus, minus};
 ghost use Rattle.boundary_model.specs.Table.{get};
 ghost use Rattle.boundary_model.specs.Model.{items_of, content, has_half};
-ghost use Rattle.arena_rows.specs.Store.{has_room, has_number, put_solid, take_solid, put_face, take_face, set_outer, set_solid, put_vertex, take_vertex, put_loop, take_loop, set_face, set_tail, put_edge, take_edge};
+ghost use Rattle.arena_rows.specs.Common.{has_room, has_number, put_solid, take_solid, put_face, take_face, set_outer, set_solid, put_vertex, take_vertex, put_loop, take_loop, set_face, set_tail, put_edge, take_edge};
 
 use crate::arena::Arena;
 use arena_rows::{FaceCell, LoopCell, StoredContent};

@@ -2,7 +2,7 @@
 ghost use Rattle.std.specs.Prelude.{◌≡◌, ◌≢◌, true, [], ◌∷◌};
 ghost use Rattle.boundary_model.specs.HalfEdge.{code};
 ghost use Rattle.boundary_model.specs.Model.{items_of, content, has_half, loop_of, before};
-ghost use Rattle.arena_rows.specs.Store.{has_number, loose_ring, cut, join};
+ghost use Rattle.arena_rows.specs.Common.{has_number, loose_ring, cut, join};
 
 use crate::arena::Arena;
 use arena_rows::{LoopCell, StoredContent};

@@ -4,7 +4,7 @@ ghost use Rattle.boundary_model.specs.Points.{IsInRange};
 ghost use Rattle.boundary_model.specs.Rings.{successor, predecessor};
 ghost use Rattle.boundary_model.specs.HalfEdge.{code};
 ghost use Rattle.boundary_model.specs.Model.{cycle, point_of, solid_of, outer, face_of, content, has_half, loop_of, after, before, tail, is_ring_of, rings_of, faces_of};
-ghost use Rattle.arena_rows.specs.Store.{has_room, has_number, loose_ring, Tells, only_item};
+ghost use Rattle.arena_rows.specs.Common.{has_room, has_number, loose_ring, Tells, only_item};
 
 use crate::arena::Arena;
 use arena_rows::{StoredContent, names};

@@ -1,6 +1,6 @@
 //! Room for numbers: rows, chains and nodes.
 ghost use Rattle.std.specs.Prelude.{◌≡◌, ◌≤◌, true, OnOk, IsOk};
-ghost use Rattle.arena_rows.specs.Store.{has_room, HasGrown};
+ghost use Rattle.arena_rows.specs.Common.{has_room, HasGrown};
 
 use crate::arena::Arena;
 use boundary_model::{Kind, NUMBER_LIMIT};

@@ -1,6 +1,6 @@
 //! Numbers in use, in order.
 ghost use Rattle.std.specs.Prelude.{◌≡◌, ◌<◌, ℕ, true, false};
-ghost use Rattle.arena_rows.specs.Store.{has_number, IsNextNumber, IsGreatest, IsNextFace, IsNextRing};
+ghost use Rattle.arena_rows.specs.Common.{has_number, IsNextNumber, IsGreatest, IsNextFace, IsNextRing};
 
 use crate::arena::Arena;
 use boundary_model::Kind;

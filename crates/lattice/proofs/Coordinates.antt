@@ -1,8 +1,5 @@
 -- The point where a segment meets a plane, put together from its coordinates.
-use Rattle.std.proofs.Common.{◌≡◌, Bool, true, false, cond, ℤ, pos, Some, None, refl, sym, ◌∙◌, arith}
-use Rattle.std.specs.Prelude.{◌-ℤ◌, ◌*ℤ◌, ◌&&◌, Option}
-use Rattle.std.specs.Int.RustNames.{int_div, int_rem}
-use Rattle.std.specs.Ordering.{int_eq}
+use Rattle.std.proofs.Common.{◌≡◌, Bool, true, false, cond, ℤ, pos, Some, None, refl, sym, ◌∙◌, arith, ◌-ℤ◌, ◌*ℤ◌, ◌&&◌, Option, int_div, int_rem, int_eq}
 use Rattle.std.specs.Cmp.Derive.{both_true}
 use Rattle.lattice.specs.declared.Point.{Point}
 use Rattle.lattice.specs.declared.Plane.{Plane}

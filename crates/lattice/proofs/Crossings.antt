@@ -1,8 +1,5 @@
 -- Where a segment crosses a plane: heights of opposite signs, the same point from either end, and that it is in range.
-use Rattle.std.proofs.Common.{◌≡◌, ◌≢◌, ℕ, zero, suc, ◌+◌, ◌*◌, ◌/◌, ◌≤◌, true, false, ◌&&◌, ℤ, pos, negsuc, refl, sym, ap, subst, ◌∙◌, arith}
-use Rattle.std.specs.Prelude.{◌-ℤ◌, ◌*ℤ◌, neg_ℤ}
-use Rattle.std.specs.Int.RustNames.{unsigned_abs, int_div}
-use Rattle.std.specs.Ordering.{int_eq}
+use Rattle.std.proofs.Common.{◌≡◌, ◌≢◌, ℕ, zero, suc, ◌+◌, ◌*◌, ◌/◌, ◌≤◌, true, false, ◌&&◌, ℤ, pos, negsuc, refl, sym, ap, subst, ◌∙◌, arith, ◌-ℤ◌, ◌*ℤ◌, neg_ℤ, unsigned_abs, int_div, int_eq}
 use Rattle.std.proofs.lemmas.Int.{ints}
 use Rattle.std.proofs.Math.Nat.{div-le_of_le-mul}
 use Rattle.lattice.specs.declared.Point.{Point}

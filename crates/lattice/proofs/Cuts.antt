@@ -1,9 +1,6 @@
 -- Where a segment meets a plane: how great the numbers are.
-use Rattle.std.proofs.Common.{◌≡◌, ◌≢◌, ℕ, ◌*◌, ◌≤◌, true, false, cond, ℤ, pos, Some, None, refl, sym, ap, subst, ◌∙◌, arith}
-use Rattle.std.specs.Prelude.{◌+ℤ◌, ◌-ℤ◌, ◌*ℤ◌, FitsSigned, Option}
-use Rattle.std.specs.Int.RustNames.{unsigned_abs, int_div, int_rem}
+use Rattle.std.proofs.Common.{◌≡◌, ◌≢◌, ℕ, ◌*◌, ◌≤◌, true, false, cond, ℤ, pos, Some, None, refl, sym, ap, subst, ◌∙◌, arith, ◌+ℤ◌, ◌-ℤ◌, ◌*ℤ◌, FitsSigned, Option, unsigned_abs, int_div, int_rem, int_eq}
 use Rattle.std.specs.Int.{cast_signed, cast_unsigned}
-use Rattle.std.specs.Ordering.{int_eq}
 use Rattle.std.proofs.lemmas.Int.{ints, to_z-of_z, fits_signed_from_abs, quot_is}
 use lib.Signed.{mag_rem}
 use mir.Syntax.{w64, w128}

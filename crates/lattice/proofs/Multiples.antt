@@ -1,8 +1,5 @@
 -- A multiple of a number, divided by that number.
-use Rattle.std.proofs.Common.{◌≡◌, ◌≢◌, ℕ, ◌*◌, ◌%◌, ◌/◌, cond, ℤ, pos, negsuc, Some, None, refl, sym, ap, ◌∙◌, arith}
-use Rattle.std.specs.Prelude.{◌-ℤ◌, ◌*ℤ◌, neg_ℤ, zero, suc}
-use Rattle.std.specs.Int.RustNames.{unsigned_abs, int_div, int_rem}
-use Rattle.std.specs.Ordering.{int_eq}
+use Rattle.std.proofs.Common.{◌≡◌, ◌≢◌, ℕ, ◌*◌, ◌%◌, ◌/◌, cond, ℤ, pos, negsuc, Some, None, refl, sym, ap, ◌∙◌, arith, ◌-ℤ◌, ◌*ℤ◌, neg_ℤ, zero, suc, unsigned_abs, int_div, int_rem, int_eq}
 use Rattle.std.proofs.lemmas.Int.{unsigned_abs-mul}
 use Rattle.std.proofs.Math.Nat.{mul-mod_left, mul-div_cancel, zero-div}
 use Rattle.lattice.specs.Vectors.{whole_quotient}

@@ -1,7 +1,6 @@
 -- The order of points.
-use Rattle.std.proofs.Common.{◌≡◌, ℤ, int_cmp, Ordering, Less, Equal, Greater, refl, ◌∙◌, arith}
-use Rattle.std.specs.Prelude.{int_lt, ◌&&◌, ◌||◌}
-use Rattle.std.specs.Ordering.{is_lt, is_eq, is_gt, ordering_then, int_eq}
+use Rattle.std.proofs.Common.{◌≡◌, ℤ, int_cmp, Ordering, Less, Equal, Greater, refl, ◌∙◌, arith, int_lt, ◌&&◌, ◌||◌, is_lt, is_eq, is_gt, int_eq}
+use Rattle.std.specs.Ordering.{ordering_then}
 use Rattle.lattice.specs.declared.Point.{Point}
 use Rattle.lattice.specs.Vectors.{lex_less}
 

@@ -1,6 +1,5 @@
 -- What a closed path sweeps. Step i of the path leads from p i to q i; d is the vector of the sweep.
-use Rattle.std.specs.Prelude.{◌≡◌, ℕ, zero, suc, ◌<◌, ℤ, pos, ◌+ℤ◌, ◌-ℤ◌, ◌*ℤ◌}
-use Rattle.std.proofs.Common.{refl, arith, ◌∙◌, sym, ap}
+use Rattle.std.proofs.Common.{refl, arith, ◌∙◌, sym, ap, ◌≡◌, ℕ, zero, suc, ◌<◌, ℤ, pos, ◌+ℤ◌, ◌-ℤ◌, ◌*ℤ◌}
 use Rattle.lattice.specs.declared.Point.{Point}
 use Rattle.lattice.specs.Vectors.{origin, moved, dot, cross}
 use Rattle.lattice.proofs.Integers.{dif, dif-parts, difs, same_dif, number}

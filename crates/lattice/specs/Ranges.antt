@@ -1,6 +1,5 @@
 -- The ranges within which sums and products of coordinates fit 128 bits.
-use Rattle.std.specs.Prelude.{ℕ, ◌≤◌, ℤ}
-use Rattle.std.specs.Int.RustNames.{unsigned_abs}
+use Rattle.std.specs.Prelude.{ℕ, ◌≤◌, ℤ, unsigned_abs}
 use Rattle.lattice.specs.declared.Point.{Point}
 use Rattle.lattice.specs.declared.Plane.{Plane}
 use Rattle.lattice.specs.Vectors.{direction}

@@ -1,6 +1,5 @@
 //! On which side of a plane a point lies, and where a segment meets a plane.
-ghost use Rattle.std.specs.Prelude.{◌≡◌, ◌≢◌, ◌≤◌, ◌*◌, ◌-ℤ◌, ◌*ℤ◌, pos, true, IfSome};
-ghost use Rattle.std.specs.Int.RustNames.{unsigned_abs};
+ghost use Rattle.std.specs.Prelude.{◌≡◌, ◌≢◌, ◌≤◌, ◌*◌, ◌-ℤ◌, ◌*ℤ◌, pos, true, IfSome, unsigned_abs};
 ghost use Rattle.lattice.specs.Point.{IsInRange, is_coordinate};
 ghost use Rattle.lattice.specs.Ranges.{IsWithin, IsPlane, IsCutPlane};
 ghost use Rattle.lattice.specs.Vectors.{height, sign_of, opposite, are_opposite, whole_quotient, cut_point};

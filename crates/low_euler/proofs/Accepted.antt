@@ -1,14 +1,9 @@
 -- What an accepted operator says of the corners and the edges that it names.
 use Rattle.std.proofs.Common.{◌≡◌, true, None, ap, ◌∙◌}
-use Rattle.euler_operators.specs.declared.Corner.{Corner}
-use Rattle.euler_operators.specs.declared.HalfEdge.{HalfEdge}
-use Rattle.euler_operators.specs.HalfEdge.{code, mate}
+use Rattle.euler_operators.specs.Common.{Corner, HalfEdge, code, mate, Model, Has, conditions, first_false, corner_known}
 use Rattle.euler_operators.specs.Table as table
-use Rattle.euler_operators.specs.Model.{Model}
-use Rattle.euler_operators.specs.Sound.{Has}
 use Rattle.euler_operators.specs.declared.Op.TheVariants.{Mekr}
-use Rattle.euler_operators.specs.Conditions.{conditions, first_false, corner_known}
-use Rattle.euler_laws.proofs.shared.Goes.{all_hold}
+use Rattle.euler_laws.proofs.Common.{all_hold}
 use Rattle.euler_conditions.proofs.Known.{mate_edge}
 
 module _ (M : Model) where

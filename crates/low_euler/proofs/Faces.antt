@@ -1,17 +1,13 @@
 -- The faces of a solid, met in the order of their numbers.
-use Rattle.std.proofs.Common.{◌≡◌, ◌≢◌, ℕ, ◌<◌, ◌≤◌, Bool, true, false, cond, nat_eq, nat_lt, T, ◌&&◌, List, [], ◌∷◌, ◌++◌, append-nil, Some, None, is_some, unwrap_or, refl, sym, ap, ◌∙◌, arith, true≢false, inl, inr}
-use Rattle.std.specs.Ordering.{nat_cmp}
+use Rattle.std.proofs.Common.{◌≡◌, ◌≢◌, ℕ, ◌<◌, ◌≤◌, Bool, true, false, cond, nat_eq, nat_lt, T, ◌&&◌, List, [], ◌∷◌, ◌++◌, append-nil, Some, None, is_some, unwrap_or, refl, sym, ap, ◌∙◌, arith, true≢false, inl, inr, nat_cmp}
 use Rattle.std.specs.FinMap.Entries.{find, is_sorted}
 use Rattle.std.proofs.lemmas.Bool.Decides.{nat_tests, eqb_tells}
 use Rattle.std.proofs.lemmas.Bool.{and_parts, false_from_ne_true}
 use Rattle.std.proofs.lemmas.Option.{same_Some}
 use Rattle.euler_operators.specs.Table as table
-use Rattle.euler_operators.specs.Table.{Table, get, all_where, all_in}
-use Rattle.euler_operators.specs.Model.{Model, FaceRow, no_face, solid_of, faces_of, is_number}
-use Rattle.euler_operators.specs.Sound.{NumbersFit}
-use Rattle.euler_operators.proofs.Tables.{and_left, and_right, all_where_none, find_here, find_later, row_some}
-use Rattle.euler_operators.proofs.Tests.{and_first}
-use Rattle.euler_laws.proofs.shared.Listed.{found_past}
+use Rattle.euler_operators.specs.Common.{Table, get, all_where, all_in, Model, FaceRow, no_face, solid_of, faces_of, is_number, NumbersFit}
+use Rattle.euler_operators.proofs.Common.{and_left, and_right, all_where_none, find_here, find_later, row_some, and_first}
+use Rattle.euler_laws.proofs.Common.{found_past}
 use Rattle.euler_conditions.specs.Store.{is_face_of, IsNextFace}
 
 -- ---- the numbers of a table whose rows pass a test

@@ -1,24 +1,13 @@
 -- The inverse of an operator, from what the arena's readers answer.
 use Rattle.std.proofs.Common.{◌≡◌, ℕ, Bool, cond, nat_eq, ◌&&◌, List, Some, None, sym, ap, subst, ◌∙◌}
-use Rattle.euler_operators.specs.declared.Point.{Point}
-use Rattle.euler_operators.specs.declared.Corner.{Corner}
-use Rattle.euler_operators.specs.declared.Corner.TheVariants.{At, Lone}
-use Rattle.euler_operators.specs.declared.HalfEdge.{HalfEdge}
-use Rattle.euler_operators.specs.HalfEdge.{code, half, mate}
-use Rattle.euler_operators.specs.Items.{IsIn, IsApart}
-use Rattle.euler_operators.specs.Rings.{between, beyond, successor}
+use Rattle.euler_operators.specs.Common.{Point, Corner, At, Lone, HalfEdge, code, half, mate, IsIn, IsApart, between, beyond, successor, Model, items_of, after, tail, loop_of, face_of, outer, content, point_of, faces_of, cycle_of, Sound, HasHalf, first_false, lone_vertex, inverse, head_or_zero, kev_corner, kev_corner_mate, corner_of}
 use Rattle.euler_operators.specs.Table as table
-use Rattle.euler_operators.specs.Model.{Model, items_of, after, tail, loop_of, face_of, outer, content, point_of, faces_of, cycle_of}
-use Rattle.euler_operators.specs.Sound.{Sound, HasHalf}
-use Rattle.euler_operators.proofs.Halves.{half-code, mate_other, edge_of-mate}
-use Rattle.euler_operators.proofs.Models.{cycle_there, cycle_sound}
+use Rattle.euler_operators.proofs.Common.{half-code, mate_other, edge_of-mate, cycle_there, cycle_sound}
 use Rattle.euler_conditions.specs.Store.{only_item}
 use Rattle.euler_conditions.proofs.Solids.{one_face}
 use Rattle.euler_operators.specs.declared.Op.{Op}
 use Rattle.euler_operators.specs.declared.Op.TheVariants.{Mvfs, Kvfs, Mev, Kev, Mef, Kef, Kemr, Mekr}
-use Rattle.euler_operators.specs.Conditions.{first_false, lone_vertex}
-use Rattle.euler_operators.specs.Effect.{inverse, head_or_zero, kev_corner, kev_corner_mate, corner_of}
-use Rattle.euler_laws.proofs.kemr.Kemr.{kemr_goes}
+use Rattle.euler_laws.proofs.Common.{kemr_goes}
 use Rattle.low_euler.proofs.Parts.{corner_between, between_back}
 
 -- a half-edge by its code

@@ -1,13 +1,11 @@
 -- The numbers that an accepted operator makes lie in range, and room that is made one number after another.
 use Rattle.std.proofs.Common.{◌≡◌, ℕ, ◌≤◌, true, List, [], ◌∷◌, None, refl, ◌∙◌, arith}
 use Rattle.std.proofs.lemmas.Bool.Decides.{nat_tests}
-use Rattle.euler_operators.specs.declared.Kind.{Kind}
-use Rattle.euler_operators.specs.Model.{Model, is_number}
+use Rattle.euler_operators.specs.Common.{Kind, Model, is_number, conditions, first_false}
 use Rattle.euler_conditions.specs.Store.{Store, HasGrown}
-use Rattle.euler_operators.specs.Conditions.{conditions, first_false}
 use Rattle.euler_operators.specs.declared.Op.{Op}
 use Rattle.euler_operators.specs.declared.Op.TheVariants as op
-use Rattle.euler_laws.proofs.shared.Goes.{all_hold}
+use Rattle.euler_laws.proofs.Common.{all_hold}
 use Rattle.euler_conditions.specs.Ready.{AllRoom, made}
 use Rattle.low_euler.specs.Room.{AllFit, KeepsRoom}
 

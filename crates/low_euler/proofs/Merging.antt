@@ -1,19 +1,11 @@
 -- Faces that go to another solid one by one, until the solid has none.
-use Rattle.std.proofs.Common.{◌≡◌, ◌≢◌, ℕ, ◌<◌, Bool, true, false, cond, nat_eq, ◌&&◌, [], ◌∷◌, ◌+◌, length, Option, Some, None, is_some, unwrap_or, refl, sym, ap, ◌∙◌, arith, inl, inr}
-use Rattle.std.specs.Option.{option_map}
+use Rattle.std.proofs.Common.{◌≡◌, ◌≢◌, ℕ, ◌<◌, Bool, true, false, cond, nat_eq, ◌&&◌, [], ◌∷◌, ◌+◌, length, Option, Some, None, is_some, unwrap_or, refl, sym, ap, ◌∙◌, arith, inl, inr, option_map}
 use Rattle.std.proofs.lemmas.Bool.Decides.{nat_tests, eqb_tells}
-use Rattle.euler_operators.specs.Items.{count, tick}
-use Rattle.euler_operators.proofs.Lists.{tick_same, tick_other}
-use Rattle.euler_operators.specs.Table.{Table, get, map_rows, put, remove, get-map_rows}
-use Rattle.euler_operators.specs.Model.{Model, FaceRow, no_face, solid_of, outer, faces_of, is_number}
-use Rattle.euler_operators.specs.Sound.{Sound}
-use Rattle.euler_operators.proofs.Tables.{get-put_here, get-put_other, map-put, put_same, map_same, all_where_none, none_all_where, passes, count-all_where}
-use Rattle.euler_operators.specs.Conditions.{conditions, first_false}
-use Rattle.euler_operators.specs.Effect.{effect, merge, faces_to_solid}
+use Rattle.euler_operators.specs.Common.{count, tick, Table, get, map_rows, put, remove, get-map_rows, Model, FaceRow, no_face, solid_of, outer, faces_of, is_number, Sound, conditions, first_false, effect, merge, faces_to_solid}
+use Rattle.euler_operators.proofs.Common.{tick_same, tick_other, get-put_here, get-put_other, map-put, put_same, map_same, all_where_none, none_all_where, passes, count-all_where, same_length}
 use Rattle.euler_operators.specs.declared.Op.TheVariants.{Merge}
-use Rattle.euler_laws.proofs.shared.Goes.{all_hold}
+use Rattle.euler_laws.proofs.Common.{all_hold}
 use Rattle.euler_conditions.specs.Store.{Store, set_solid, take_solid, is_face_of, IsNextFace}
-use Rattle.euler_operators.proofs.Members.{same_length}
 use Rattle.euler_conditions.specs.Ready.{after}
 use Rattle.low_euler.proofs.Faces.{row_there, row_tells}
 use Rattle.std.proofs.lemmas.Bool.{not-true}

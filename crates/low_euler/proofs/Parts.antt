@@ -1,16 +1,9 @@
 -- The first items of the two parts of a ring that is cut at two of its items.
-use Rattle.std.proofs.Common.{◌≡◌, ◌≢◌, ℕ, cond, nat_eq, List, [], ◌∷◌, ◌++◌, sym, ap, ◌∙◌, arith}
-use Rattle.std.proofs.lemmas.Bool.{ne_eqb}
-use Rattle.euler_operators.specs.Items.{count, tick, IsIn, IsApart, before, head_or}
-use Rattle.euler_operators.specs.Rings.{rotate_to, rest, between, beyond, successor}
-use Rattle.euler_operators.proofs.Lists.{count-append, count-before, before_at, tick_same, tick_other}
-use Rattle.euler_operators.proofs.Rotations.{rest_same, rotate_to-rotates, rest_at}
-use Rattle.euler_operators.proofs.Cuts.{ring_split, apart_split}
-use Rattle.euler_operators.proofs.Tests.{nat_eq_itself}
-use Rattle.euler_laws.proofs.shared.Undo.{after_first}
-use Rattle.euler_operators.specs.declared.Corner.TheVariants.{At, Lone}
-use Rattle.euler_operators.specs.HalfEdge.{half}
-use Rattle.euler_operators.specs.Effect.{corner_of}
+use Rattle.std.proofs.Common.{◌≡◌, ◌≢◌, ℕ, cond, nat_eq, List, [], ◌∷◌, ◌++◌, sym, ap, ◌∙◌, arith, ne_eqb}
+use Rattle.euler_operators.specs.Common.{count, tick, IsIn, IsApart, head_or, rotate_to, rest, between, beyond, successor, At, Lone, half, corner_of}
+use Rattle.euler_operators.specs.Items.{before}
+use Rattle.euler_operators.proofs.Common.{count-append, count-before, before_at, tick_same, tick_other, rest_same, rotate_to-rotates, rest_at, ring_split, apart_split, nat_eq_itself}
+use Rattle.euler_laws.proofs.Common.{after_first}
 
 -- the corner of a list that stands before b, by the item that comes next
 corner_cases : (xs : List ℕ) (b l : ℕ) → count b xs ≡ 0 → corner_of xs l ≡ cond (nat_eq (head_or b xs) b) (Lone l) (At (half (head_or b xs)))

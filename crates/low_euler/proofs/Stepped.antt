@@ -1,14 +1,8 @@
 -- An operator whose room was made is accepted then, and steps on.
 use Rattle.std.proofs.Common.{◌≡◌, ℕ, None, refl, sym, subst, ap, ◌∙◌}
-use Rattle.euler_operators.specs.declared.Point.{Point}
-use Rattle.euler_operators.specs.declared.Corner.{Corner}
-use Rattle.euler_operators.specs.declared.HalfEdge.{HalfEdge}
+use Rattle.euler_operators.specs.Common.{Point, Corner, HalfEdge, Model, Sound, first_false, effect, inverse}
 use Rattle.euler_operators.specs.declared.Op.{Op}
 use Rattle.euler_operators.specs.declared.Op.TheVariants.{Mvfs, Kvfs, Mev, Kev, Mef, Kef}
-use Rattle.euler_operators.specs.Model.{Model}
-use Rattle.euler_operators.specs.Sound.{Sound}
-use Rattle.euler_operators.specs.Conditions.{first_false}
-use Rattle.euler_operators.specs.Effect.{effect, inverse}
 use Rattle.euler_conditions.specs.Store.{Store, has_room, HasGrown}
 use Rattle.euler_conditions.specs.Ready.{IsReady, HasRoomFor, Accepts, after, made}
 use Rattle.low_euler.specs.Room.{IsStepped}

@@ -1,13 +1,9 @@
 -- An operator that was applied leaves a sound model, in which its inverse is accepted and gives the model before.
 use Rattle.std.proofs.Common.{◌≡◌, ℕ, List, refl, sym, ap, ◌∙◌}
-use Rattle.euler_operators.specs.declared.Kind.{Kind}
-use Rattle.euler_operators.specs.declared.Kind.TheVariants.{Solid, Face, Loop, Edge, Vertex}
-use Rattle.euler_operators.specs.Model.{Model}
+use Rattle.euler_operators.specs.Common.{Kind, Solid, Face, Loop, Edge, Vertex, Model, first_false, effect, inverse}
 use Rattle.euler_conditions.specs.Store.{Store, has_room}
-use Rattle.euler_operators.specs.Conditions.{first_false}
-use Rattle.euler_operators.specs.Effect.{effect, inverse}
 use Rattle.euler_operators.specs.declared.Op.{Op}
-use Rattle.euler_laws.proofs.Cases.{effect_keeps_sound, inverse_goes, inverse_undoes}
+use Rattle.euler_laws.proofs.Common.{effect_keeps_sound, inverse_goes, inverse_undoes}
 use Rattle.euler_conditions.specs.Ready.{IsReady, AllRoom, HasRoomFor, Accepts, after, made}
 use Rattle.low_euler.specs.Room.{KeepsRoom}
 use Rattle.low_euler.proofs.Made.{room_kept}

@@ -1,8 +1,6 @@
 -- The room that an operator needs.
 use Rattle.std.specs.Prelude.{◌≡◌, ℕ, true, List, [], ◌∷◌}
-use Rattle.euler_operators.specs.declared.Kind.{Kind}
-use Rattle.euler_operators.specs.Model.{Model, faces_of, is_number}
-use Rattle.euler_operators.specs.Effect.{effect, inverse}
+use Rattle.euler_operators.specs.Common.{Kind, Model, faces_of, is_number, effect, inverse}
 use Rattle.euler_operators.specs.declared.Op.{Op}
 use Rattle.euler_operators.specs.declared.Op.TheVariants as op
 use Rattle.euler_conditions.specs.Store.{Store, has_room}

@@ -2,8 +2,7 @@
 //! keeps it.
 ghost use Rattle.std.specs.Prelude.{◌≡◌, OnOk, OnErr, IfOk, None};
 ghost use Rattle.euler_conditions.specs.Store.{HasGrown};
-ghost use Rattle.euler_operators.specs.Conditions.{first_false};
-ghost use Rattle.euler_operators.specs.Effect.{inverse};
+ghost use Rattle.euler_operators.specs.Common.{first_false, inverse};
 ghost use Rattle.euler_conditions.specs.Ready.{IsReady};
 ghost use Rattle.low_euler.specs.Room.{IsStepped};
 

@@ -1,6 +1,6 @@
 //! The operators applied, each with its inverse where that is asked for.
 ghost use Rattle.std.specs.Prelude.{◌≡◌};
-ghost use Rattle.euler_operators.specs.Effect.{inverse};
+ghost use Rattle.euler_operators.specs.Common.{inverse};
 ghost use Rattle.euler_conditions.specs.Ready.{IsReady, Accepts, after};
 ghost use Rattle.low_euler.specs.Room.{faces_for};
 

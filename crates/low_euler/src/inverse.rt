@@ -1,8 +1,6 @@
 //! The operator that takes another back, read from the arena before it is applied.
 ghost use Rattle.std.specs.Prelude.{◌≡◌, None};
-ghost use Rattle.euler_operators.specs.HalfEdge.{code};
-ghost use Rattle.euler_operators.specs.Conditions.{first_false};
-ghost use Rattle.euler_operators.specs.Effect.{inverse, kev_corner, kev_corner_mate};
+ghost use Rattle.euler_operators.specs.Common.{code, first_false, inverse, kev_corner, kev_corner_mate};
 ghost use Rattle.euler_conditions.specs.Ready.{IsReady, HasRoomFor};
 ghost use Rattle.low_euler.specs.Room.{faces_for};
 

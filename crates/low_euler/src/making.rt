@@ -1,7 +1,7 @@
 //! What an operator takes with it: room for what it makes, and the faces that a merge moves.
 ghost use Rattle.std.specs.Prelude.{◌≡◌, [], ◌∷◌, OnOk, IfOk, IsOk, None};
 ghost use Rattle.euler_conditions.specs.Store.{HasGrown};
-ghost use Rattle.euler_operators.specs.Conditions.{first_false};
+ghost use Rattle.euler_operators.specs.Common.{first_false};
 ghost use Rattle.euler_conditions.specs.Ready.{IsReady, AllRoom, HasRoomFor};
 ghost use Rattle.low_euler.specs.Room.{AllFit, faces_for};
 

@@ -1,6 +1,6 @@
 //! The faces of a solid, met in the order of their numbers.
 ghost use Rattle.std.specs.Prelude.{◌≡◌, [], IfOk, IsOk};
-ghost use Rattle.euler_operators.specs.Model.{faces_of};
+ghost use Rattle.euler_operators.specs.Common.{faces_of};
 ghost use Rattle.euler_conditions.specs.Ready.{IsReady};
 
 use euler_conditions::Arena;

@@ -1,9 +1,7 @@
 //! The corner after a half-edge, the vertex of a lone loop, and that a number in use has its room.
 ghost use Rattle.std.specs.Prelude.{◌≡◌, true, nat_eq, cond};
-ghost use Rattle.euler_operators.specs.HalfEdge.{code, half};
-ghost use Rattle.euler_operators.specs.Model.{after, content};
+ghost use Rattle.euler_operators.specs.Common.{code, half, after, content, is_lone, lone_vertex};
 ghost use Rattle.euler_conditions.specs.Store.{has_number, has_room};
-ghost use Rattle.euler_operators.specs.Conditions.{is_lone, lone_vertex};
 ghost use Rattle.euler_conditions.specs.Ready.{IsReady};
 
 use euler_conditions::{Arena, next, same};

@@ -1,18 +1,12 @@
 -- The conditions of a split: those that are tested first and what they say, and those that are tested once the faces are drawn.
 use Rattle.std.proofs.Common.{◌≡◌, ℕ, true, Some, Result, Err, sym, ap, ◌∙◌}
-use Rattle.euler_operators.specs.declared.Plane.{Plane}
-use Rattle.euler_operators.specs.Ranges.{IsCutPlane}
-use Rattle.euler_operators.proofs.Magnitudes.{coordinate_within, offset_within}
+use Rattle.euler_operators.specs.Common.{Plane, IsCutPlane, Model, Sound, Has, AllHold, first_refusal}
+use Rattle.euler_operators.proofs.Common.{coordinate_within, offset_within}
 use Rattle.euler_operators.specs.Table as table
-use Rattle.euler_operators.specs.Model.{Model}
-use Rattle.euler_operators.specs.Sound.{Sound, Has}
-use Rattle.euler_operators.specs.Conditions.{AllHold, first_refusal}
 use Rattle.euler_operators.specs.declared.Refusal.{Refusal}
-use Rattle.euler_laws.proofs.shared.Goes.{all_hold}
-use Rattle.shapes.proofs.fresh.Tests.{first_refusal-append, first_refusal-refused}
-use Rattle.shapes.specs.split.Crossings.{with_crossings}
-use Rattle.shapes.specs.split.Drawing.{Drawing, straddling_pairs, with_drawings}
-use Rattle.shapes.specs.split.Split.{first_conditions, later_conditions, split_conditions, split_refusal}
+use Rattle.euler_laws.proofs.Common.{all_hold}
+use Rattle.shapes.proofs.Common.{first_refusal-append, first_refusal-refused}
+use Rattle.shapes.specs.Common.{with_crossings, Drawing, straddling_pairs, with_drawings, first_conditions, later_conditions, split_conditions, split_refusal}
 use Rattle.split_drawing_laws.specs.crossings.Laws.{CanBegin}
 use Rattle.split_drawing_laws.proofs.crossings.Whole.{crossings_keep}
 use Rattle.split_drawing_laws.proofs.pairs.Whole.{can_be_drawn}

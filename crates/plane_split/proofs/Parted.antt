@@ -1,17 +1,11 @@
 -- A solid opened along its section and parted, once its faces are drawn.
 use Rattle.std.proofs.Common.{◌≡◌, ℕ, List, [], ◌∷◌, ◌++◌, None, refl, sym, ap, ◌∙◌, subst}
-use Rattle.euler_operators.specs.declared.Plane.{Plane}
-use Rattle.euler_operators.specs.Model.{Model}
-use Rattle.euler_operators.specs.Sound.{Sound}
+use Rattle.euler_operators.specs.Common.{Plane, Model, Sound}
 use Rattle.euler_operators.specs.declared.Op.{Op}
 use Rattle.euler_operators.specs.declared.Op.TheVariants.{Part}
 use Rattle.euler_laws.specs.Laws.{AreAccepted, effects}
-use Rattle.euler_laws.proofs.Runs.{effects-append, AreAccepted-back}
-use Rattle.shapes.specs.split.Sides.{faces_above}
-use Rattle.shapes.specs.split.Section.{below_halves, section_cycles}
-use Rattle.shapes.specs.split.Drawing.{Drawing, with_drawings}
-use Rattle.shapes.specs.split.Opening.{Caps, all_opened}
-use Rattle.shapes.specs.split.Split.{opened_at, upper_left, split_above, split_refusal, split_model}
+use Rattle.euler_laws.proofs.Common.{effects-append, AreAccepted-back}
+use Rattle.shapes.specs.Common.{faces_above, below_halves, section_cycles, Drawing, with_drawings, Caps, all_opened, opened_at, upper_left, split_above, split_refusal, split_model}
 use Rattle.split_drawing_laws.specs.pairs.Laws.{rewriting_ops}
 use Rattle.split_drawing_laws.proofs.pairs.Whole.{rewritings_made}
 use Rattle.split_drawing_laws.proofs.drawings.Runs.{Leads}

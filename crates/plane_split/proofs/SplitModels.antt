@@ -1,12 +1,8 @@
 -- The laws of splits for the models that a session holds before one and after it.
 use Rattle.std.proofs.Common.{◌≡◌, ◌≢◌, ℕ, ◌+ℤ◌, false, sym, ap, subst, ◌∙◌}
-use Rattle.euler_operators.specs.declared.Plane.{Plane}
-use Rattle.euler_operators.specs.Sound.{Sound, Has}
+use Rattle.euler_operators.specs.Common.{Plane, Sound, Has}
 use Rattle.undo_journal.specs.Machine.{Machine, held}
-use Rattle.shapes.specs.Faces.{vertices_of}
-use Rattle.shapes.specs.Measure.{six_volume}
-use Rattle.shapes.specs.split.Sides.{some_above, some_below}
-use Rattle.shapes.specs.split.Split.{split_model}
+use Rattle.shapes.specs.Common.{vertices_of, six_volume, some_above, some_below, split_model}
 use Rattle.split_laws.proofs.Whole.{split_sound}
 use Rattle.split_laws.proofs.measures.Parts.{parts_there, volumes_shared, others_kept, vertices_sided}
 use Rattle.plane_split.specs.SplitModels.{IsSplit}

@@ -1,7 +1,6 @@
 -- A split is a call of a history.
 use Rattle.std.specs.Prelude.{◌≡◌, ℕ, None}
-use Rattle.euler_operators.specs.declared.Plane.{Plane}
-use Rattle.euler_operators.specs.Sound.{Sound}
+use Rattle.euler_operators.specs.Common.{Plane, Sound}
 use Rattle.split_laws.specs.SplitOps.{split_ops}
 use Rattle.undo_journal.specs.Machine.{Machine, held}
 use Rattle.undo_journal.specs.Histories.{made, after_call}

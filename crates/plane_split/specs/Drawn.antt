@@ -1,10 +1,7 @@
 -- What is drawn in a split that isn't refused.
 use Rattle.std.specs.Prelude.{◌≡◌, ℕ, None}
-use Rattle.euler_operators.specs.declared.Plane.{Plane}
-use Rattle.euler_operators.specs.Model.{Model}
-use Rattle.euler_operators.specs.Sound.{Sound}
-use Rattle.shapes.specs.split.Drawing.{Drawing, with_drawings}
-use Rattle.shapes.specs.split.Split.{split_refusal}
+use Rattle.euler_operators.specs.Common.{Plane, Model, Sound}
+use Rattle.shapes.specs.Common.{Drawing, with_drawings, split_refusal}
 use Rattle.split_drawing.specs.solid_drawing.Drawn.{put_aside}
 
 -- d is the drawing of a sound model whose split isn't refused, but for the pairs of the face drawn last

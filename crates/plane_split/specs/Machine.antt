@@ -1,9 +1,9 @@
 -- Split as a command of the plain machine.
 use Rattle.std.specs.Prelude.{ℕ, ℤ, Option}
-use Rattle.euler_operators.specs.declared.Plane.{Plane}
+use Rattle.euler_operators.specs.Common.{Plane}
 use Rattle.euler_operators.specs.declared.Refusal.{Refusal}
 use Rattle.shapes.specs.split.Split as shapes
-use Rattle.shapes.specs.split.Split.{split_model}
+use Rattle.shapes.specs.Common.{split_model}
 use Rattle.undo_journal.specs.Machine.{Machine, held, accepted}
 
 -- the plane a x + b y + c z + d = 0

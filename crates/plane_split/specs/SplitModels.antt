@@ -1,12 +1,8 @@
 -- What a session holds once a split was answered Ok: the laws of splits, as they reach whoever called one.
 use Rattle.std.specs.Prelude.{◌≡◌, ◌≢◌, ℕ, ◌+ℤ◌, false, None}
-use Rattle.euler_operators.specs.declared.Plane.{Plane}
-use Rattle.euler_operators.specs.Sound.{Sound, Has}
+use Rattle.euler_operators.specs.Common.{Plane, Sound, Has}
 use Rattle.undo_journal.specs.Machine.{Machine, held}
-use Rattle.shapes.specs.Faces.{vertices_of}
-use Rattle.shapes.specs.Measure.{six_volume}
-use Rattle.shapes.specs.split.Sides.{some_above, some_below}
-use Rattle.shapes.specs.split.Split.{split_model}
+use Rattle.shapes.specs.Common.{vertices_of, six_volume, some_above, some_below, split_model}
 use Rattle.plane_split.specs.Machine.{split, split_refusal}
 
 -- what a split says of the session that it took and of the one that it gave back with Ok

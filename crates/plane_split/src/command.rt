@@ -3,11 +3,11 @@ ghost use Rattle.std.specs.Prelude.{◌≡◌, None, Some, Err, IfOk, OnOk, OnEr
 ghost use Rattle.std.specs.declared.alloc.AllocError.{AllocError};
 ghost use Rattle.euler_operators.specs.declared.Refusal.{Refusal};
 ghost use Rattle.euler_conditions.specs.Ready.{IsReady};
-ghost use Rattle.euler_operators.specs.Sound.{Sound};
+ghost use Rattle.euler_operators.specs.Common.{Sound};
 ghost use Rattle.undo_journal.specs.Machine.{held};
 ghost use Rattle.undo_journal.specs.Journal.{IsRecorded, IsFurther};
 ghost use Rattle.shapes.specs.split.Split as spec;
-ghost use Rattle.shapes.specs.split.Split.{split_model};
+ghost use Rattle.shapes.specs.Common.{split_model};
 ghost use Rattle.plane_split.specs.Machine.{plane_with, split, split_refusal};
 ghost use Rattle.split_checks.specs.begin_checks.Conditions.{early_refusal};
 ghost use Rattle.split_drawing.specs.Cuts.{AreCuts};

@@ -1,9 +1,8 @@
 //! The three rewritings of a split, one after the other in a draft.
 ghost use Rattle.std.specs.Prelude.{◌≡◌, [], None, Some, Ok, Err, OnOk, OnErr, IfOk};
-ghost use Rattle.euler_operators.specs.Sound.{Sound};
+ghost use Rattle.euler_operators.specs.Common.{Sound, verdict};
 ghost use Rattle.euler_operators.specs.declared.Refusal.{Refusal};
-ghost use Rattle.euler_operators.specs.Conditions.{verdict};
-ghost use Rattle.shapes.specs.split.Split.{split_above, split_model, split_refusal};
+ghost use Rattle.shapes.specs.Common.{split_above, split_model, split_refusal};
 ghost use Rattle.split_drawing_laws.specs.crossings.Laws.{CanBegin};
 ghost use Rattle.split_drawing.specs.Cuts.{AreCuts};
 ghost use Rattle.split_drawing.specs.Noted.{AreSides};

@@ -1,6 +1,6 @@
 -- A pool of which two successors are exchanged leads as the spliced function does.
-use Rattle.std.proofs.Common.{◌≡◌, ◌≢◌, ℕ, ◌==◌, cond, Option, List, ◌++◌, inl, inr, refl, sym, ap, ◌∙◌, arith}
-use Rattle.std.proofs.lemmas.Bool.{eq-eqb, ne_eqb, cases_eq}
+use Rattle.std.proofs.Common.{◌≡◌, ◌≢◌, ℕ, ◌==◌, cond, Option, List, ◌++◌, inl, inr, refl, sym, ap, ◌∙◌, arith, eq-eqb, ne_eqb}
+use Rattle.std.proofs.lemmas.Bool.{cases_eq}
 use Rattle.raw_ring.specs.Rings.{RingMap, next_of, or_zero, IsLive, Exchanged}
 use Rattle.cyclic_list.specs.Items.{count, IsIn, IsApart, head_or}
 use Rattle.cyclic_list.specs.Rings.{IsRing, splice, cut_left, cut_right, joined}

@@ -4,8 +4,7 @@
 --     told, IsCopied-live, IsCopied-asleep      one code that is copied
 --     IsBegun, Begun-..      the codes below n are copied
 --     IsFollowed, Followed-..      the codes below n have their successors;  and at the end the map is the same
-use Rattle.std.proofs.Common.{◌≡◌, ℕ, ◌+◌, ◌<◌, ◌≤◌, ◌==◌, true, false, cond, Option, Some, None, is_some, inl, inr, refl, sym, ap, ◌∙◌, arith}
-use Rattle.std.specs.Ordering.{nat_cmp}
+use Rattle.std.proofs.Common.{◌≡◌, ℕ, ◌+◌, ◌<◌, ◌≤◌, ◌==◌, true, false, cond, Option, Some, None, is_some, inl, inr, refl, sym, ap, ◌∙◌, arith, nat_cmp}
 use Rattle.std.specs.FinMap.{get, insert, empty, contains_key, get-empty}
 use Rattle.std.proofs.lemmas.Bool.{eqb-false, cases_lt, false≢true}
 use Rattle.std.proofs.lemmas.Option.{same_Some}

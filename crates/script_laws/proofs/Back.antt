@@ -1,6 +1,5 @@
 -- Undone to the start.
-use Rattle.std.proofs.Common.{◌≡◌, inl, ℕ, zero, suc, true, List, [], ◌++◌, codes, length, refl, sym, subst, ◌∙◌}
-use Rattle.std.proofs.lemmas.Bool.{true≢false}
+use Rattle.std.proofs.Common.{◌≡◌, inl, ℕ, zero, suc, true, List, [], ◌++◌, codes, length, refl, sym, subst, ◌∙◌, true≢false}
 use Rattle.undo_journal.specs.Machine.{Machine, start}
 use Rattle.script_reader.specs.Lines.{lines_of}
 use Rattle.script_laws.specs.Scripts.{answers, EndsLine, times, oks, IsTakenBack}

@@ -1,6 +1,5 @@
 -- What isn't answered `ok` leaves the machine as it was.
-use Rattle.std.proofs.Common.{◌≡◌, ◌⊎◌, inl, inr, ℕ, false, List, [], ◌∷◌, ◌++◌, codes, Option, Some, None, Result, Ok, Err, refl, sym, ap, ◌∙◌}
-use Rattle.std.proofs.lemmas.List.{append-nil}
+use Rattle.std.proofs.Common.{◌≡◌, ◌⊎◌, inl, inr, ℕ, false, List, [], ◌∷◌, ◌++◌, codes, Option, Some, None, Result, Ok, Err, refl, sym, ap, ◌∙◌, append-nil}
 use Rattle.euler_operators.specs.declared.Refusal.{Refusal}
 use Rattle.undo_journal.specs.Machine.{Machine}
 use Rattle.script_reader.specs.Grammar.{command_of}

@@ -1,7 +1,7 @@
 -- Scripts that come to equal listings.
 use Rattle.std.proofs.Common.{◌≡◌, ℕ, false, List, [], ◌∷◌, codes, refl, sym, subst, ◌∙◌}
 use Rattle.std.proofs.lemmas.Bool.{false≢true}
-use Rattle.euler_operators.specs.Sound.{Sound}
+use Rattle.euler_operators.specs.Common.{Sound}
 use Rattle.undo_journal.specs.Machine.{Machine, held}
 use Rattle.undo_journal.specs.Journal.{Journal, new_journal}
 use Rattle.script_reader.specs.Lines.{lines_of}

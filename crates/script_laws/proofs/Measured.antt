@@ -1,11 +1,8 @@
 -- What the volume of a new block is answered.
-use Rattle.std.proofs.Common.{◌≡◌, ℕ, List, [], ◌∷◌, ◌++◌, codes, map, ◌<◌, ◌^◌, Option, Some, None, Ok, ℤ, pos, ◌+ℤ◌, ◌*ℤ◌, arith, refl, sym, ap, ◌∙◌}
-use Rattle.std.specs.Fmt.{decimal, signed_decimal}
-use Rattle.euler_operators.specs.declared.Plane.{Plane}
-use Rattle.euler_operators.specs.declared.Point.{Point}
+use Rattle.std.proofs.Common.{◌≡◌, ℕ, List, [], ◌∷◌, ◌++◌, codes, map, ◌<◌, ◌^◌, Option, Some, None, Ok, ℤ, pos, ◌+ℤ◌, ◌*ℤ◌, arith, refl, sym, ap, ◌∙◌, decimal}
+use Rattle.std.specs.Fmt.{signed_decimal}
+use Rattle.euler_operators.specs.Common.{Plane, Point, Model, Sound, Has}
 use Rattle.euler_operators.specs.declared.Refusal.{Refusal}
-use Rattle.euler_operators.specs.Model.{Model}
-use Rattle.euler_operators.specs.Sound.{Sound, Has}
 use Rattle.undo_journal.specs.Machine.{Machine, held}
 use Rattle.sweeps.specs.Machine.{block, block_refusal}
 use Rattle.sweeps.specs.Measures.{NewBlock}

@@ -1,6 +1,5 @@
 -- What a run writes.
-use Rattle.std.proofs.Common.{◌≡◌, ℕ, ◌-◌, ◌≤◌, false, List, length, refl, ap, ◌∙◌, arith}
-use Rattle.std.proofs.lemmas.List.{take_all}
+use Rattle.std.proofs.Common.{◌≡◌, ℕ, ◌-◌, ◌≤◌, false, List, length, refl, ap, ◌∙◌, arith, take_all}
 use Rattle.script_reader.specs.Lines.{lines_of, within_limit}
 use Rattle.script_running.specs.Output.{output_of}
 use Rattle.script_laws.specs.Scripts.{answers}

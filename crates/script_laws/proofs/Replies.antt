@@ -1,13 +1,12 @@
 -- A text begins with one reply at most.
-use Rattle.std.proofs.Common.{◌≡◌, ℕ, zero, suc, ◌+◌, ◌/◌, ◌%◌, ◌^◌, ◌<◌, ◌≤◌, Bool, true, false, cond, nat_lt, List, [], ◌∷◌, ◌++◌, map, codes, ℤ, pos, negsuc, refl, sym, ap, ◌∙◌, arith}
+use Rattle.std.proofs.Common.{◌≡◌, ℕ, zero, suc, ◌+◌, ◌/◌, ◌%◌, ◌^◌, ◌<◌, ◌≤◌, Bool, true, false, cond, nat_lt, List, [], ◌∷◌, ◌++◌, map, codes, ℤ, pos, negsuc, refl, sym, ap, ◌∙◌, arith, decimal, ◌==◌}
 use Rattle.std.proofs.lemmas.List.{append_cancel_left}
 use Rattle.std.proofs.lemmas.Bool.Decides.{nat_tests}
 use Rattle.std.proofs.lemmas.Bool.{and_from}
 use Rattle.std.proofs.lemmas.Fmt.{decimal_is_IsNumeral_wide}
-use Rattle.std.specs.Fmt.{decimal, signed_decimal, digits, digits_onto, digit_glyph}
+use Rattle.std.specs.Fmt.{signed_decimal, digits, digits_onto, digit_glyph}
 use Rattle.std.specs.Int.Signed.{mag}
 use Rattle.std.specs.List.{AllByRecursion}
-use Rattle.std.specs.Prelude.{◌==◌}
 use Rattle.std.specs.Str.Parse.{digits_value}
 use Rattle.script_reader.specs.Lines.{lines_of}
 use Rattle.solid_listing.specs.Lines.{line_text}

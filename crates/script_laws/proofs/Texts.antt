@@ -1,15 +1,10 @@
 -- The lines of an answer's text, and how many of them are `ok`.
-use Rattle.std.proofs.Common.{◌≡◌, ◌≢◌, inl, inr, ℕ, zero, suc, ◌+◌, ◌/◌, ◌%◌, Bool, true, false, cond, ◌&&◌, nat_eq, nat_lt, List, [], ◌∷◌, ◌++◌, map, codes, flat_map, bytes_eq, ℤ, pos, negsuc, refl, sym, ap, ◌∙◌, arith}
-use Rattle.std.proofs.lemmas.List.{append-nil, append_assoc}
+use Rattle.std.proofs.Common.{◌≡◌, ◌≢◌, inl, inr, ℕ, zero, suc, ◌+◌, ◌/◌, ◌%◌, Bool, true, false, cond, ◌&&◌, nat_eq, nat_lt, List, [], ◌∷◌, ◌++◌, map, codes, flat_map, bytes_eq, ℤ, pos, negsuc, refl, sym, ap, ◌∙◌, arith, append-nil, append_assoc, true≢false, decimal, ◌==◌}
 use Rattle.std.proofs.lemmas.Bool.Decides.{nat_tests}
-use Rattle.std.proofs.lemmas.Bool.{cases_Bool, true≢false}
-use Rattle.std.specs.Fmt.{decimal, signed_decimal, digits, digits_onto, digit_glyph}
+use Rattle.std.proofs.lemmas.Bool.{cases_Bool}
+use Rattle.std.specs.Fmt.{signed_decimal, digits, digits_onto, digit_glyph}
 use Rattle.std.specs.List.{AllByRecursion}
-use Rattle.std.specs.Prelude.{◌==◌}
-use Rattle.euler_operators.specs.declared.Kind.{Kind}
-use Rattle.euler_operators.specs.declared.Kind.TheVariants.{Solid, Face, Loop, Edge, Vertex}
-use Rattle.euler_operators.specs.HalfEdge.{is_first, edge_of}
-use Rattle.euler_operators.specs.Model.{Model, LoopContent, lone, cycle, content, rings_of}
+use Rattle.euler_operators.specs.Common.{Kind, Solid, Face, Loop, Edge, Vertex, is_first, edge_of, Model, LoopContent, lone, cycle, content, rings_of}
 use Rattle.undo_journal.specs.Machine.{Machine, held}
 use Rattle.script_reader.specs.Newline.{Lacks, has_newline}
 use Rattle.script_reader.specs.Lines.{lines_of}

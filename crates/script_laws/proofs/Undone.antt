@@ -1,10 +1,9 @@
 -- Undo and redo in a script.
-use Rattle.std.proofs.Common.{◌≡◌, ◌≢◌, ℕ, zero, suc, ◌+◌, Bool, true, false, cond, nat_eq, List, [], ◌∷◌, ◌++◌, codes, length, Option, Some, None, Result, Ok, Err, refl, sym, ap, ◌∙◌, arith}
-use Rattle.std.proofs.lemmas.List.{append-nil, append_assoc}
+use Rattle.std.proofs.Common.{◌≡◌, ◌≢◌, ℕ, zero, suc, ◌+◌, Bool, true, false, cond, nat_eq, List, [], ◌∷◌, ◌++◌, codes, length, Option, Some, None, Result, Ok, Err, refl, sym, ap, ◌∙◌, arith, append-nil, append_assoc}
 use Rattle.std.proofs.lemmas.Bool.Decides.{nat_tests}
 use Rattle.std.specs.List.{AllByRecursion}
 use Rattle.euler_operators.specs.declared.Refusal.{Refusal}
-use Rattle.euler_operators.specs.Model.{Model}
+use Rattle.euler_operators.specs.Common.{Model}
 use Rattle.undo_journal.specs.Machine.{Machine, start, held, undo, undo_refusal, redo, redo_refusal}
 use Rattle.solid_measure.specs.Measure.{answer, face_refusal, solid_refusal, plane_of, is_flat, six_volume, counts}
 use Rattle.script_reader.specs.Grammar.{arguments, command_of}

@@ -1,12 +1,8 @@
 -- A script and its answers, computed.
 use Rattle.std.proofs.Common.{ℕ, refl}
 use Rattle.std.specs.Fmt.{digits}
-use Rattle.euler_operators.specs.HalfEdge.{mate, code, half, edge_of, is_first}
+use Rattle.euler_operators.specs.Common.{mate, code, half, edge_of, is_first, empty_model, point_of, content, tail, loop_of, face_of, solid_of, outer, arc, holds, after, rotate_to, canonical, rest, conditions, first_false, has_rings, effect, mvfs, mev_lone, mev_at}
 use Rattle.euler_operators.specs.Table as table
-use Rattle.euler_operators.specs.Model.{empty_model, point_of, content, tail, loop_of, face_of, solid_of, outer, arc, holds, after}
-use Rattle.euler_operators.specs.Rings.{rotate_to, canonical, rest}
-use Rattle.euler_operators.specs.Conditions.{conditions, first_false, has_rings}
-use Rattle.euler_operators.specs.Effect.{effect, mvfs, mev_lone, mev_at}
 use Rattle.solid_listing.specs.Listing.{lines, listing}
 use Rattle.solid_listing.specs.Replies.{reply_text}
 use Rattle.script_reader.specs.Grammar.{arguments}

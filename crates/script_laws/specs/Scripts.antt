@@ -1,8 +1,7 @@
 -- Scripts and what they are answered, as texts.
-use Rattle.std.specs.Prelude.{◌≡◌, ◌≢◌, ◌⊎◌, ◌↔◌, ℕ, zero, suc, ◌+◌, cond, false, List, [], ◌∷◌, ◌++◌, codes, Option}
+use Rattle.std.specs.Prelude.{◌≡◌, ◌≢◌, ◌⊎◌, ◌↔◌, ℕ, zero, suc, ◌+◌, cond, false, List, [], ◌∷◌, ◌++◌, codes, Option, bytes_eq}
 use Rattle.std.specs.Io.KnownBytes.{Consumes, Appends, IsAtEnd}
 use Rattle.std.specs.List.{AllByRecursion}
-use Rattle.std.specs.Str.{bytes_eq}
 use Rattle.script_reader.specs.Lines.{lines_of}
 use Rattle.script_reader.specs.Words.{words}
 use Rattle.script_running.specs.Output.{output_of}

@@ -1,8 +1,6 @@
 -- Bytes below 128, by index and by list.
-use Rattle.std.proofs.Common.{◌≡◌, ℕ, zero, suc, ◌<◌, ◌≤◌, Bool, true, false, List, [], ◌∷◌, Err, length, sym, refl, arith}
-use Rattle.std.specs.Prelude.{nat_lt, slice_index}
-use Rattle.std.specs.Bool.{MatchBool}
-use Rattle.std.specs.Str.{IsAscii, IsNotAscii}
+use Rattle.std.proofs.Common.{◌≡◌, ℕ, zero, suc, ◌<◌, ◌≤◌, Bool, true, false, List, [], ◌∷◌, Err, length, sym, refl, arith, nat_lt, slice_index, MatchBool, IsAscii}
+use Rattle.std.specs.Str.{IsNotAscii}
 use Rattle.std.proofs.lemmas.Bool.Decides.{nat_tests}
 use Rattle.script_reader.specs.Grammar.{is_ascii, command_of}
 use Rattle.script_reader.specs.declared.command.Fault.TheVariants.{NotAscii}

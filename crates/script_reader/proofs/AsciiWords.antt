@@ -1,16 +1,11 @@
 -- A line whose words spell a command is ASCII: each of its bytes belongs to such a word, or separates two.
-use Rattle.std.proofs.Common.{◌≡◌, ◌≢◌, inl, inr, ℕ, ◌≤◌, Bool, true, false, List, [], ◌∷◌, length, Some, Ok, refl, subst, arith}
-use Rattle.std.specs.Prelude.{ℤ, nat_lt}
-use Rattle.std.specs.List.{find, list_all, onto_first}
-use Rattle.std.specs.Str.{bytes_eq}
+use Rattle.std.proofs.Common.{◌≡◌, ◌≢◌, inl, inr, ℕ, ◌≤◌, Bool, true, false, List, [], ◌∷◌, length, Some, Ok, refl, subst, arith, ℤ, nat_lt, find, bytes_eq}
+use Rattle.std.specs.List.{list_all, onto_first}
 use Rattle.std.specs.Str.Parse.{AllDigits}
 use Rattle.std.proofs.lemmas.Bool.{cases_Bool, and_parts}
 use Rattle.std.proofs.lemmas.Bool.Decides.{nat_tests}
 use Rattle.std.proofs.lemmas.Str.Parse.{digit_from_value}
-use Rattle.euler_operators.specs.declared.Point.{Point}
-use Rattle.euler_operators.specs.declared.HalfEdge.{HalfEdge}
-use Rattle.euler_operators.specs.declared.Corner.{Corner}
-use Rattle.euler_operators.specs.declared.Corner.TheVariants.{At, Lone}
+use Rattle.euler_operators.specs.Common.{Point, HalfEdge, Corner, At, Lone}
 use Rattle.script_reader.specs.Words.{is_space, joined, words}
 use Rattle.script_reader.specs.Places.{Word, Kind, Number, Integer, Half, AnyCorner, Place, Places, InOrOut, Meaning}
 use Rattle.script_reader.specs.Grammar.{Builder, names, word_of, kinds_of, build, is_ascii, command_of_words, command_of}

@@ -1,6 +1,6 @@
 -- Behind the last line the answer stays.
-use Rattle.std.proofs.Common.{◌≡◌, ◌≢◌, inl, inr, ℕ, true, false, List, [], ◌++◌, length, Option, refl, sym, ap, subst, ◌∙◌, arith}
-use Rattle.std.proofs.lemmas.List.{append-nil, nil_from_length}
+use Rattle.std.proofs.Common.{◌≡◌, ◌≢◌, inl, inr, ℕ, true, false, List, [], ◌++◌, length, Option, refl, sym, ap, subst, ◌∙◌, arith, append-nil}
+use Rattle.std.proofs.lemmas.List.{nil_from_length}
 use Rattle.script_reader.specs.Newline.{Lacks, has_newline}
 use Rattle.script_reader.specs.Lines.{within_limit, FirstLine, Answers}
 use Rattle.script_reader.specs.State.{unread_of, ending_of, is_ready, IsStill}

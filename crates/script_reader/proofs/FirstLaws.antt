@@ -1,6 +1,5 @@
 -- What the first word of a line says.
-use Rattle.std.proofs.Common.{◌≡◌, ℕ, ◌<◌, false, List, ◌∷◌, Option, Some, None, Ok, Err, length, take, drop, refl, ap, one-add}
-use Rattle.std.specs.Prelude.{option_map}
+use Rattle.std.proofs.Common.{◌≡◌, ℕ, ◌<◌, false, List, ◌∷◌, Option, Some, None, Ok, Err, length, take, drop, refl, ap, one-add, option_map}
 use Rattle.script_reader.specs.Words.{is_space, words, word_len, IsAtWord, first_by}
 use Rattle.script_reader.specs.Places.{Word, said, next_of}
 use Rattle.script_reader.specs.declared.command.Fault.{Fault}

@@ -1,8 +1,5 @@
 -- What a line spells, and what is wrong with it.
-use Rattle.std.proofs.Common.{◌≡◌, inl, inr, ℕ, ◌<◌, ◌≤◌, Bool, true, false, List, [], ◌∷◌, length, Some, Ok, Err, refl, subst, arith}
-use Rattle.std.specs.Prelude.{nat_lt}
-use Rattle.std.specs.Str.{bytes_eq}
-use Rattle.std.specs.List.{find}
+use Rattle.std.proofs.Common.{◌≡◌, inl, inr, ℕ, ◌<◌, ◌≤◌, Bool, true, false, List, [], ◌∷◌, length, Some, Ok, Err, refl, subst, arith, nat_lt, bytes_eq, find}
 use Rattle.std.proofs.lemmas.Bool.{cases_Bool}
 use Rattle.std.proofs.lemmas.Bool.Decides.{nat_tests}
 use Rattle.std.proofs.lemmas.Slice.Eq.{bytes_eq-Decides}

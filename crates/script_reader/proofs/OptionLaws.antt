@@ -1,6 +1,5 @@
 -- What a chain of tests gives, taken apart.
-use Rattle.std.proofs.Common.{◌≡◌, ◌⊎◌, inl, inr, Bool, true, false, Option, Some, None, Result, Ok, Err, refl}
-use Rattle.std.specs.Prelude.{option_map, option_and_then, if◌then◌else◌}
+use Rattle.std.proofs.Common.{◌≡◌, ◌⊎◌, inl, inr, Bool, true, false, Option, Some, None, Result, Ok, Err, refl, option_map, option_and_then, if◌then◌else◌}
 use Rattle.script_reader.specs.Places.{◌>>=◌}
 use Rattle.script_reader.specs.declared.command.Fault.{Fault}
 

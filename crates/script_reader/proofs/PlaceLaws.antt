@@ -1,7 +1,6 @@
 -- What the words at one place say, and what is wrong with them.
-use Rattle.std.proofs.Common.{◌≡◌, inl, inr, ℕ, zero, suc, ◌≤◌, List, [], ◌∷◌, length, Option, Some, None, Result, Ok, Err, refl, sym, ap, subst, arith}
-use Rattle.std.specs.Prelude.{ℤ}
-use Rattle.euler_operators.specs.declared.Point.{Point}
+use Rattle.std.proofs.Common.{◌≡◌, inl, inr, ℕ, zero, suc, ◌≤◌, List, [], ◌∷◌, length, Option, Some, None, Result, Ok, Err, refl, sym, ap, subst, arith, ℤ}
+use Rattle.euler_operators.specs.Common.{Point}
 use Rattle.script_reader.specs.Numbers.{integer_of}
 use Rattle.script_reader.specs.Places.{Word, Kind, Number, Integer, Half, AnyCorner, Place, Places, InOrOut, Meaning, ◌>>=◌, said, next_of, point_of, points_of, read}
 use Rattle.script_reader.specs.declared.command.Fault.{Fault}

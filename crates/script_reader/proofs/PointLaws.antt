@@ -1,7 +1,6 @@
 -- Points that are read one after the other.
-use Rattle.std.proofs.Common.{◌≡◌, ◌≢◌, ℕ, zero, suc, ◌-◌, ◌<◌, List, [], ◌∷◌, ◌++◌, length, Result, Ok, Err, refl, sym, ap, ◌∙◌, append_assoc, arith}
-use Rattle.std.proofs.lemmas.List.{append-nil, length-append}
-use Rattle.euler_operators.specs.declared.Point.{Point}
+use Rattle.std.proofs.Common.{◌≡◌, ◌≢◌, ℕ, zero, suc, ◌-◌, ◌<◌, List, [], ◌∷◌, ◌++◌, length, Result, Ok, Err, refl, sym, ap, ◌∙◌, append_assoc, arith, append-nil, length-append}
+use Rattle.euler_operators.specs.Common.{Point}
 use Rattle.script_reader.specs.declared.command.Fault.{Fault}
 use Rattle.script_reader.specs.declared.command.Fault.TheVariants.{ExtraWord}
 use Rattle.script_reader.specs.Places.{Word, ◌>>=◌, point_of, points_of}

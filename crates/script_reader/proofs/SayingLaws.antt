@@ -1,15 +1,11 @@
 -- What one word says.
-use Rattle.std.proofs.Common.{◌≡◌, inl, inr, ℕ, ◌<◌, ◌≤◌, ◌^◌, Bool, true, false, List, [], ◌∷◌, Option, Some, None, refl, sym, ap, subst, ◌∙◌, arith, rules}
-use Rattle.std.specs.Prelude.{◌==◌, ◌&&◌, ℤ, pos, neg_ℤ, codes, option_map, option_and_then, nat_lt, nat_le}
-use Rattle.std.specs.Str.{bytes_eq}
+use Rattle.std.proofs.Common.{◌≡◌, inl, inr, ℕ, ◌<◌, ◌≤◌, ◌^◌, Bool, true, false, List, [], ◌∷◌, Option, Some, None, refl, sym, ap, subst, ◌∙◌, arith, rules, ◌==◌, ◌&&◌, ℤ, pos, neg_ℤ, codes, option_map, option_and_then, nat_lt, nat_le, bytes_eq}
 use Rattle.std.specs.Str.Parse.{IsNumeral, AllDigits, digits_value}
 use Rattle.std.proofs.lemmas.Bool.{cases_Bool, and_parts}
 use Rattle.std.proofs.lemmas.Bool.Decides.{nat_tests}
 use Rattle.std.proofs.lemmas.Slice.Eq.{bytes_eq-Decides}
 use Rattle.std.proofs.lemmas.Str.Parse.{IsNumeralModel, numerals_by_fold, digit_from_value}
-use Rattle.euler_operators.specs.declared.HalfEdge.{HalfEdge}
-use Rattle.euler_operators.specs.declared.Corner.{Corner}
-use Rattle.euler_operators.specs.declared.Corner.TheVariants.{At, Lone}
+use Rattle.euler_operators.specs.Common.{HalfEdge, Corner, At, Lone}
 use Rattle.script_reader.specs.Numbers.{value_after, all_digits, below, magnitude, number_of, negative, not_negative, integer_of}
 use Rattle.script_reader.specs.Places.{Word, half_with, half_of, lone_of, or_else, corner_of, way_of}
 use Rattle.script_reader.specs.declared.places.Way.{Way}

@@ -1,6 +1,6 @@
 -- The points of a lamina's line.
 use Rattle.std.specs.Prelude.{ℕ, List, [], Result, Ok, Err}
-use Rattle.euler_operators.specs.declared.Point.{Point}
+use Rattle.euler_operators.specs.Common.{Point}
 use Rattle.script_reader.specs.Words.{words}
 use Rattle.script_reader.specs.Places.{Word, points_of}
 use Rattle.script_reader.specs.declared.command.Fault.{Fault}

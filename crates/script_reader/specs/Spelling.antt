@@ -1,10 +1,7 @@
 -- Which words spell a command, and which fault a line has, apart from how a line is read.
 use Rattle.std.specs.Prelude.{◌≡◌, ◌≢◌, ◌⊎◌, ◌<◌, ◌≤◌, ◌^◌, ℕ, zero, suc, Bool, true, false, List, [], ◌∷◌, ◌++◌, codes, length, ℤ, pos, neg_ℤ}
 use Rattle.std.specs.Str.Parse.{IsNumeral, digits_value}
-use Rattle.euler_operators.specs.declared.Point.{Point}
-use Rattle.euler_operators.specs.declared.HalfEdge.{HalfEdge}
-use Rattle.euler_operators.specs.declared.Corner.{Corner}
-use Rattle.euler_operators.specs.declared.Corner.TheVariants.{At, Lone}
+use Rattle.euler_operators.specs.Common.{Point, HalfEdge, Corner, At, Lone}
 use Rattle.script_reader.specs.Words.{words}
 use Rattle.script_reader.specs.Places.{Word, Kind, Number, Integer, Half, AnyCorner, Place, Places, InOrOut, Meaning}
 use Rattle.script_reader.specs.Grammar.{Builder, kinds_of, build, word_of}

@@ -15,7 +15,7 @@ pub struct Corners {
 
 impl Model for Corners {
     ghost use Rattle.std.specs.Prelude.{List};
-    ghost use Rattle.euler_operators.specs.declared.Point.{Point};
+    ghost use Rattle.euler_operators.specs.Common.{Point};
 
     ghost Value = { List Point };
 
@@ -65,7 +65,7 @@ pub struct Polygon<'a> {
 
 impl<'a> Model for Polygon<'a> {
     ghost use Rattle.std.specs.Prelude.{◌≡◌, List, [], Ok};
-    ghost use Rattle.euler_operators.specs.declared.Point.{Point};
+    ghost use Rattle.euler_operators.specs.Common.{Point};
     ghost use Rattle.script_reader.specs.Words.{words};
     ghost use Rattle.script_reader.specs.Places.{points_of};
     ghost use Rattle.script_reader.specs.Polygon.{polygon_of};

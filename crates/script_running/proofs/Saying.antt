@@ -1,6 +1,5 @@
 -- A line that spells a command is answered what the call to give it is told.
-use Rattle.std.proofs.Common.{◌≡◌, Some, refl, sym, ap, subst, ◌∙◌}
-use Rattle.std.specs.Prelude.{Result}
+use Rattle.std.proofs.Common.{◌≡◌, Some, refl, sym, ap, subst, ◌∙◌, Result}
 use Rattle.undo_journal.specs.Journal.{Journal}
 use Rattle.commands.specs.declared.command.Change.TheVariants as change
 use Rattle.commands.specs.declared.command.Command.{Command}

@@ -1,7 +1,6 @@
 -- The history that a run tells: each line is one call of it.
 use Rattle.std.specs.Prelude.{◌≡◌, ◌≢◌, ℕ, Bool, List, [], ◌∷◌, ◌++◌, length, Option, Result, Ok, Err, IfOk}
-use Rattle.euler_operators.specs.Model.{Model}
-use Rattle.euler_operators.specs.Sound.{Sound}
+use Rattle.euler_operators.specs.Common.{Model, Sound}
 use Rattle.undo_journal.specs.Machine.{Machine, held}
 use Rattle.undo_journal.specs.Journal.{Journal, new_journal}
 use Rattle.undo_journal.specs.Histories.{Call, after_call, reached, IsConsistent}

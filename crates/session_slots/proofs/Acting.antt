@@ -1,6 +1,6 @@
 -- The one session or stage of a slot, and what a question does to it.
 use Rattle.std.proofs.Common.{◌≡◌, ◌∙◌, Option, Some, refl, ap}
-use Rattle.euler_operators.specs.Model.{Model}
+use Rattle.euler_operators.specs.Common.{Model}
 use Rattle.commands.specs.declared.command.Question.{Question}
 use Rattle.commands.specs.declared.command.Command.TheVariants as command
 use Rattle.commands.specs.declared.command.Call.TheVariants as call

@@ -1,13 +1,11 @@
 -- The half-edges of the loops of a face, one loop after another.
-use Rattle.std.proofs.Common.{◌≡◌, ◌∙◌, ℕ, ◌+◌, ◌≤◌, true, false, List, [], ◌∷◌, ◌++◌, length, map, refl, sym, ap, subst, arith, append_assoc}
-use Rattle.std.specs.Prelude.{cond}
-use Rattle.std.proofs.lemmas.List.{length-append, length-map, map-append, append-nil}
-use Rattle.euler_operators.proofs.Rotations.{IsRotation-length}
+use Rattle.std.proofs.Common.{◌≡◌, ◌∙◌, ℕ, ◌+◌, ◌≤◌, true, false, List, [], ◌∷◌, ◌++◌, length, map, refl, sym, ap, subst, arith, append_assoc, cond, length-append, append-nil}
+use Rattle.std.proofs.lemmas.List.{length-map, map-append}
+use Rattle.euler_operators.proofs.Common.{IsRotation-length}
 use Rattle.euler_operators.specs.Table as table
-use Rattle.euler_operators.specs.Model.{Model, items_of, content, rings_of, outer}
-use Rattle.euler_operators.specs.Sound.{Sound}
-use Rattle.shapes.specs.Faces.{items_in, loops_of}
-use Rattle.shapes.proofs.walks.FaceLoops.{halves_short, different_items, loops_of_apart}
+use Rattle.euler_operators.specs.Common.{Model, items_of, content, rings_of, outer, Sound}
+use Rattle.shapes.specs.Common.{items_in, loops_of}
+use Rattle.shapes.proofs.Common.{halves_short, different_items, loops_of_apart}
 use Rattle.session_slots.specs.declared.cycles.HalfEdgeRow.{HalfEdgeRow}
 use Rattle.session_slots.specs.Written.{laid_over, laid_at, WritesOne, WritesFrom}
 use Rattle.session_slots.specs.Reading.{AreRound, AreTold, AreRows, row_of}

@@ -1,6 +1,5 @@
 -- What a line that was heard comes to.
-use Rattle.std.proofs.Common.{◌≡◌, ◌∙◌, inl, inr, ℕ, Bool, true, false, true≢false, List, length, Result, Ok, Err, refl, sym, ap, subst}
-use Rattle.std.specs.Prelude.{nat_lt}
+use Rattle.std.proofs.Common.{◌≡◌, ◌∙◌, inl, inr, ℕ, Bool, true, false, true≢false, List, length, Result, Ok, Err, refl, sym, ap, subst, nat_lt}
 use Rattle.std.proofs.lemmas.Bool.{cases_Bool}
 use Rattle.script_reader.specs.Words.{words}
 use Rattle.script_reader.specs.Grammar.{is_ascii, command_of_words}

@@ -1,6 +1,5 @@
 -- What a session is told of a call is what a script's line is answered that asks for it.
-use Rattle.std.proofs.Common.{◌≡◌, ◌∙◌, Option, Some, None, Ok, Err, refl, sym, ap}
-use Rattle.std.specs.Prelude.{Result}
+use Rattle.std.proofs.Common.{◌≡◌, ◌∙◌, Option, Some, None, Ok, Err, refl, sym, ap, Result}
 use Rattle.euler_operators.specs.declared.Refusal.{Refusal}
 use Rattle.undo_journal.specs.Journal.{Journal}
 use Rattle.undo_journal.specs.Machine.{held}

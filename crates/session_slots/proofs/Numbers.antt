@@ -1,15 +1,8 @@
 -- What an arena tells of the model that it holds.
 use Rattle.std.proofs.Common.{◌≡◌, ℕ, false, [], Option, Some, None, is_some, unwrap_or, true≢false, refl, ap, subst}
-use Rattle.euler_operators.specs.Items.{IsIn}
-use Rattle.euler_operators.specs.HalfEdge.{code}
-use Rattle.euler_operators.specs.Table.{has}
-use Rattle.euler_operators.specs.Model.{Model, LoopContent, LoopRow, no_loop, lone, cycle, items_of, content, loop_of, cycle_of}
-use Rattle.euler_operators.specs.declared.HalfEdge.{HalfEdge}
+use Rattle.euler_operators.specs.Common.{IsIn, code, has, Model, LoopContent, LoopRow, no_loop, lone, cycle, items_of, content, loop_of, cycle_of, HalfEdge, Kind, Solid, Face, Loop, Edge, Vertex, Sound}
 use Rattle.euler_operators.specs.declared.Content.TheVariants as told
-use Rattle.euler_operators.specs.declared.Kind.{Kind}
-use Rattle.euler_operators.specs.declared.Kind.TheVariants.{Solid, Face, Loop, Edge, Vertex}
-use Rattle.euler_operators.specs.Sound.{Sound}
-use Rattle.euler_operators.proofs.Models.{in-holds}
+use Rattle.euler_operators.proofs.Common.{in-holds}
 use Rattle.euler_conditions.specs.Store.{Store, IsNextNumber, Tells}
 use Rattle.session_slots.specs.Reading.{store_of, IsItemOf}
 

@@ -1,9 +1,8 @@
 -- A list laid over another, item by item.
-use Rattle.std.proofs.Common.{◌≡◌, ◌∙◌, ℕ, zero, suc, ◌+◌, List, [], ◌∷◌, ◌++◌, length, map, slice_set, refl, sym, ap, subst, arith}
-use Rattle.std.proofs.lemmas.List.{length-map, map-id}
-use Rattle.euler_operators.specs.Rings.{IsRotation, rotate_to}
-use Rattle.euler_operators.specs.Model.{Model, items_of, content}
-use Rattle.euler_operators.proofs.Rotations.{rotate_to-rotates, length-rotate_to, IsRotation-refl}
+use Rattle.std.proofs.Common.{◌≡◌, ◌∙◌, ℕ, zero, suc, ◌+◌, List, [], ◌∷◌, ◌++◌, length, map, slice_set, refl, sym, ap, subst, arith, map-id}
+use Rattle.std.proofs.lemmas.List.{length-map}
+use Rattle.euler_operators.specs.Common.{IsRotation, rotate_to, Model, items_of, content}
+use Rattle.euler_operators.proofs.Common.{rotate_to-rotates, length-rotate_to, IsRotation-refl}
 use Rattle.session_slots.specs.Written.{laid_over, laid_at, WritesOne, WritesFrom}
 use Rattle.session_slots.specs.Reading.{AreHalfEdges, AreTold}
 

@@ -2,10 +2,8 @@
 use Rattle.std.proofs.Common.{◌≡◌, ◌≢◌, ◌⊎◌, inl, inr, ℕ, ◌+◌, ◌*◌, ◌<◌, ◌≤◌, true, false, ap, sym, ◌∙◌, arith, true≢false, Option, Some, None}
 use Rattle.std.proofs.lemmas.Bool.{cases_eq}
 use Rattle.euler_operators.specs.Table as table
-use Rattle.euler_operators.specs.HalfEdge.{edge_of}
-use Rattle.euler_operators.specs.Model.{Model, has_half, tail}
-use Rattle.euler_operators.specs.Sound.{Sound}
-use Rattle.euler_operators.proofs.Models.{number_fits, number_real}
+use Rattle.euler_operators.specs.Common.{edge_of, Model, has_half, tail, Sound}
+use Rattle.euler_operators.proofs.Common.{number_fits, number_real}
 use Rattle.session_slots.specs.Spokes.{IsStart, IsStartOf, IsStartWithin}
 
 pub first : (e : ℕ) → edge_of (2 * e) ≡ e

@@ -1,6 +1,5 @@
 -- A command that was not done leaves the model shown as it is.
-use Rattle.std.proofs.Common.{◌≡◌, false, true≢false, ap}
-use Rattle.std.specs.Prelude.{◌≢◌, Result, Ok, Err, is_ok}
+use Rattle.std.proofs.Common.{◌≡◌, false, true≢false, ap, ◌≢◌, Result, Ok, Err, is_ok}
 use Rattle.undo_journal.specs.declared.session.Failure.{Failure}
 use Rattle.undo_journal.specs.declared.session.Failure.TheVariants as failure
 use Rattle.commands.specs.declared.command.Call.{Call}

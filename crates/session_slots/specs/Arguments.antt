@@ -1,9 +1,7 @@
 -- What C gives, as the kernel takes it.
 use Rattle.std.specs.Prelude.{◌-◌, ℕ, cond, nat_lt, List, map}
-use Rattle.euler_operators.specs.HalfEdge.{half}
-use Rattle.euler_operators.specs.declared.Corner.{Corner}
+use Rattle.euler_operators.specs.Common.{half, Corner, Point}
 use Rattle.euler_operators.specs.declared.Corner.TheVariants as corner
-use Rattle.euler_operators.specs.declared.Point.{Point}
 use Rattle.session_slots.specs.declared.readers.Place.{Place}
 
 -- the points of a polygon, in the order in which C gives them

@@ -3,7 +3,7 @@ use Rattle.std.specs.Prelude.{◌≡◌, ◌⊎◌, ℕ, List, get_or, Option, S
 use Rattle.euler_operators.specs.declared.Op.{Op}
 use Rattle.euler_operators.specs.declared.Op.TheVariants as operator
 use Rattle.euler_operators.specs.declared.Refusal.{Refusal}
-use Rattle.euler_operators.specs.Model.{Model, solid_of}
+use Rattle.euler_operators.specs.Common.{Model, solid_of}
 use Rattle.solid_measure.specs.Measure.{face_refusal}
 use Rattle.commands.specs.declared.command.Change.TheVariants as change
 use Rattle.commands.specs.declared.command.Command.TheVariants as command

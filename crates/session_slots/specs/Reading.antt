@@ -1,13 +1,9 @@
 -- What readers tell of a model.
 use Rattle.std.specs.Prelude.{◌≡◌, ℕ, true, false, cond, nat_eq, List, [], ◌∷◌, ◌++◌, map, Option, Some, None}
-use Rattle.euler_operators.specs.Items.{IsIn}
-use Rattle.euler_operators.specs.Rings.{IsRotation}
+use Rattle.euler_operators.specs.Common.{IsIn, IsRotation, plus, minus, edge_of, Model, LoopContent, lone, cycle, items_of, solid_of, outer, face_of, content, tail, after, before, loop_of, point_of, Kind}
 use Rattle.euler_operators.specs.Table as table
-use Rattle.euler_operators.specs.HalfEdge.{plus, minus, edge_of}
-use Rattle.euler_operators.specs.Model.{Model, LoopContent, lone, cycle, items_of, solid_of, outer, face_of, content, tail, after, before, loop_of, point_of}
-use Rattle.euler_operators.specs.declared.Kind.{Kind}
 use Rattle.euler_operators.specs.declared.Kind.TheVariants as kind
-use Rattle.shapes.specs.Faces.{loops_of}
+use Rattle.shapes.specs.Common.{loops_of}
 use Rattle.euler_conditions.specs.Store.{Store, empty_store, IsNextNumber, IsNextRing, IsNextFace}
 use Rattle.session_slots.specs.declared.readers.FaceRow.{FaceRow}
 use Rattle.session_slots.specs.declared.readers.EdgeRow.{EdgeRow}

@@ -3,7 +3,7 @@ use Rattle.std.specs.Prelude.{◌≡◌, Some}
 use Rattle.script_running.specs.script_judging.Judging.{answer_when}
 use Rattle.script_running.specs.declared.script_judging.judging.Answer.{Answer}
 use Rattle.script_running.specs.declared.script_judging.judging.Answer.TheVariants.{Silent}
-use Rattle.shapes.specs.Fresh.{taken_in}
+use Rattle.shapes.specs.Common.{taken_in}
 use Rattle.solid_walks.specs.Counters.{taken_of}
 use Rattle.solid_walks.specs.declared.numbers.Counters.{Counters}
 use Rattle.commands.specs.declared.command.Question.{Question}

@@ -1,6 +1,6 @@
 -- What a handle holds: a session, or a draft of its next command.
 use Rattle.std.specs.Prelude.{ℕ, Bool, true, false, not, List, [], Option, Some, None}
-use Rattle.euler_operators.specs.Model.{Model}
+use Rattle.euler_operators.specs.Common.{Model}
 use Rattle.solid_listing.specs.Replies.{reply_text}
 use Rattle.solid_listing.specs.Listing.{listing}
 use Rattle.script_running.specs.declared.script_judging.judging.Answer.{Answer}

@@ -1,6 +1,6 @@
 //! What C gives, as the kernel takes it: half-edges and corners by their codes, and the points of a polygon.
 ghost use Rattle.std.specs.Prelude.{◌≡◌, ◌≤◌, cond, nat_eq, length};
-ghost use Rattle.euler_operators.specs.HalfEdge.{half};
+ghost use Rattle.euler_operators.specs.Common.{half};
 ghost use Rattle.script_reader.specs.Grammar.{plus};
 ghost use Rattle.session_slots.specs.Arguments.{corner_of, point_of, polygon_of};
 

@@ -1,7 +1,7 @@
 //! A session or a draft with the greatest numbers in use, which are read anew only where the model shown may have changed.
 ghost use Rattle.std.specs.Prelude.{◌≡◌, false};
 ghost use Rattle.euler_conditions.specs.Ready.{IsReady};
-ghost use Rattle.shapes.specs.Fresh.{taken_in};
+ghost use Rattle.shapes.specs.Common.{taken_in};
 ghost use Rattle.solid_walks.specs.Counters.{taken_of};
 ghost use Rattle.commands.specs.declared.command.Change.TheVariants as change;
 ghost use Rattle.commands.specs.declared.command.Command.TheVariants as command;
@@ -31,7 +31,7 @@ impl Model for CountedStage {
 
     ghost coded = { the_row.coded };
 
-    ghost use Rattle.shapes.specs.Fresh.{taken_in};
+    ghost use Rattle.shapes.specs.Common.{taken_in};
     ghost use Rattle.solid_walks.specs.Counters.{taken_of};
     ghost use Rattle.commands.specs.Telling.{shown};
 

@@ -1,7 +1,6 @@
 //! Half-edges written into a buffer of the caller's: those of a loop by their codes, or those of a face, a row of each.
 ghost use Rattle.std.specs.Prelude.{◌≡◌, ℕ, ◌+◌, ◌≤◌, true, length, map, slice_set};
-ghost use Rattle.euler_operators.specs.Rings.{rotate_to};
-ghost use Rattle.euler_operators.specs.Model.{Model, has_half, cycle_of, loop_of, face_of, rings_of, after};
+ghost use Rattle.euler_operators.specs.Common.{rotate_to, Model, has_half, cycle_of, loop_of, face_of, rings_of, after};
 ghost use Rattle.euler_conditions.specs.Store.{has_number};
 ghost use Rattle.euler_conditions.specs.Ready.{IsReady};
 ghost use Rattle.session_slots.specs.Written.{laid_at, WritesOne, WritesFrom};

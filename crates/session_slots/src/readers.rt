@@ -1,7 +1,6 @@
 //! The model held, read without text.
 ghost use Rattle.std.specs.Prelude.{◌≡◌, true};
-ghost use Rattle.euler_operators.specs.HalfEdge.{code, edge_of};
-ghost use Rattle.euler_operators.specs.Model.{content, after, before, loop_of};
+ghost use Rattle.euler_operators.specs.Common.{code, edge_of, content, after, before, loop_of};
 ghost use Rattle.euler_conditions.specs.Store.{has_number, IsNextNumber};
 ghost use Rattle.euler_conditions.specs.Ready.{IsReady};
 ghost use Rattle.session_slots.specs.Reading.{face_in, edge_in, ends_of, point_in, face_of_loop_in, lone_of, lone_in, after_in, before_in, loop_in, IsRingAfter, IsFaceAfter, IsItemOf, IsFirst, kind_of, store_of, IsNumberAfter};

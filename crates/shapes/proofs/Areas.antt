@@ -1,13 +1,9 @@
 -- Sums of cross products over half-edges, joined and turned.
 use Rattle.std.proofs.Common.{◌≡◌, ℕ, List, [], ◌∷◌, ◌++◌, sym, ap, ◌∙◌}
 use Rattle.std.proofs.Math.IntN.{+ℤ_comm}
-use Rattle.euler_operators.specs.declared.Point.{Point}
-use Rattle.euler_operators.specs.Vectors.{moved, cross}
-use Rattle.euler_operators.proofs.Vectors.{moved_none, moved_twice, none_moved, same_vector}
-use Rattle.euler_operators.specs.Rings.{IsRotation}
-use Rattle.euler_operators.specs.Model.{Model}
-use Rattle.shapes.specs.Faces.{start, finish}
-use Rattle.shapes.specs.Measure.{area}
+use Rattle.euler_operators.specs.Common.{Point, moved, cross, IsRotation, Model}
+use Rattle.euler_operators.proofs.Common.{moved_none, moved_twice, none_moved, same_vector}
+use Rattle.shapes.specs.Common.{start, finish, area}
 
 pub moved_turned : (p q : Point) → moved p q ≡ moved q p
 moved_turned p q = same_vector _ _ (+ℤ_comm p.x q.x) (+ℤ_comm p.y q.y) (+ℤ_comm p.z q.z)

@@ -4,3 +4,4 @@ pub mod walks
 pub mod glue
 pub mod split
 pub mod measures
+pub mod Common

@@ -1,11 +1,7 @@
 -- A block with its edges along the axes.
 use Rattle.std.specs.Prelude.{ℕ, ℤ, pos, int_le, List, [], ◌∷◌, ◌++◌, Option}
-use Rattle.euler_operators.specs.declared.Point.{Point}
-use Rattle.euler_operators.specs.Points.{is_in_range}
-use Rattle.euler_operators.specs.Vectors.{moved}
+use Rattle.euler_operators.specs.Common.{Point, is_in_range, moved, Model, Condition, need, never, first_refusal, numbers_in_range}
 use Rattle.euler_operators.specs.Table as table
-use Rattle.euler_operators.specs.Model.{Model}
-use Rattle.euler_operators.specs.Conditions.{Condition, need, never, first_refusal, numbers_in_range}
 use Rattle.shapes.specs.Fresh.{taken_in, numbers_left}
 use Rattle.euler_operators.specs.declared.Refusal.{Refusal}
 use Rattle.euler_operators.specs.declared.Why.TheVariants.{SolidTaken, SizeRange, PointRange}

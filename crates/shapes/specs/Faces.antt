@@ -1,10 +1,7 @@
 -- What belongs to a face or a solid.
 use Rattle.std.specs.Prelude.{ℕ, ◌&&◌, ◌||◌, nat_eq, List, [], ◌∷◌, ◌++◌, map, Option}
-use Rattle.euler_operators.specs.declared.Point.{Point}
-use Rattle.euler_operators.specs.HalfEdge.{mate, plus}
+use Rattle.euler_operators.specs.Common.{Point, mate, plus, Model, LoopContent, lone, cycle, items_of, tail, content, outer, point_of, solid_of, faces_of, rings_of, face_at, is_lone, lists}
 use Rattle.euler_operators.specs.Table as table
-use Rattle.euler_operators.specs.Model.{Model, LoopContent, lone, cycle, items_of, tail, content, outer, point_of, solid_of, faces_of, rings_of}
-use Rattle.euler_operators.specs.Conditions.{face_at, is_lone, lists}
 use Rattle.shapes.specs.Fresh.{found}
 
 -- the loops of a face: the outer one, then the rings, rising

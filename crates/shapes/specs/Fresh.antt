@@ -1,8 +1,7 @@
 -- The numbers that a larger command takes, and its refusals by search.
 use Rattle.std.specs.Prelude.{ℕ, ◌+◌, zero, suc, Bool, cond, nat_eq, nat_le, List, [], ◌∷◌, Option, Some, None, is_some, unwrap_or}
 use Rattle.euler_operators.specs.Table as table
-use Rattle.euler_operators.specs.Model.{Model}
-use Rattle.euler_operators.specs.Conditions.{Condition, need, never}
+use Rattle.euler_operators.specs.Common.{Model, Condition, need, never}
 use Rattle.euler_operators.specs.declared.Why.{Why}
 use Rattle.euler_operators.specs.declared.Why.TheVariants.{NumbersSpent}
 

@@ -1,15 +1,8 @@
 -- A flat ring of corners with a face on either side.
 use Rattle.std.specs.Prelude.{ℕ, zero, suc, ◌+◌, ◌-◌, cond, nat_le, List, [], ◌∷◌, ◌++◌, map, reverse, length, get_or, Option, Some, None}
 use Rattle.std.specs.List.{list_any}
-use Rattle.euler_operators.specs.declared.Point.{Point}
-use Rattle.euler_operators.specs.Points.{is_in_range}
-use Rattle.euler_operators.specs.Vectors.{same_point}
-use Rattle.euler_operators.specs.Rings.{canonical}
-use Rattle.euler_operators.specs.HalfEdge.{plus, minus}
+use Rattle.euler_operators.specs.Common.{Point, is_in_range, same_point, canonical, plus, minus, Table, Model, cycle, EdgeRow, no_point, Condition, need, never, first_refusal, numbers_in_range}
 use Rattle.euler_operators.specs.Table as table
-use Rattle.euler_operators.specs.Table.{Table}
-use Rattle.euler_operators.specs.Model.{Model, cycle, EdgeRow, no_point}
-use Rattle.euler_operators.specs.Conditions.{Condition, need, never, first_refusal, numbers_in_range}
 use Rattle.shapes.specs.Fresh.{Taken, taken_in, numbers_left, numbers_after, no_such}
 use Rattle.euler_operators.specs.declared.Refusal.{Refusal}
 use Rattle.euler_operators.specs.declared.Why.TheVariants.{SolidTaken, FewPoints, PointRange, RepeatedPoint}

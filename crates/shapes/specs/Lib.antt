@@ -9,3 +9,4 @@ pub mod Measure
 pub mod glue
 pub mod split
 pub mod Vectors
+pub mod Common

@@ -1,13 +1,8 @@
 -- Normals, planes and volumes.
 use Rattle.std.specs.Prelude.{ℕ, ℤ, pos, ◌+ℤ◌, neg_ℤ, Bool, not, ◌&&◌, List, [], ◌∷◌, ◌++◌, Option}
 use Rattle.std.specs.List.{list_all}
-use Rattle.euler_operators.specs.declared.Point.{Point}
-use Rattle.euler_operators.specs.declared.Plane.{Plane}
-use Rattle.euler_operators.specs.Vectors.{origin, moved, dot, cross, same_point, is_on, direction}
-use Rattle.euler_operators.specs.Items.{head_or}
+use Rattle.euler_operators.specs.Common.{Point, Plane, origin, moved, dot, cross, same_point, is_on, direction, head_or, Model, LoopContent, lone, cycle, tail, content, outer, point_of, faces_of, need, first_refusal, numbers_in_range}
 use Rattle.euler_operators.specs.Table as table
-use Rattle.euler_operators.specs.Model.{Model, LoopContent, lone, cycle, tail, content, outer, point_of, faces_of}
-use Rattle.euler_operators.specs.Conditions.{need, first_refusal, numbers_in_range}
 use Rattle.shapes.specs.Faces.{boundary, corners, start, finish}
 use Rattle.euler_operators.specs.declared.Refusal.{Refusal}
 use Rattle.euler_operators.specs.declared.Why.TheVariants.{NoFace}

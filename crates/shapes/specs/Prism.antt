@@ -1,13 +1,7 @@
 -- A face swept along a vector.
 use Rattle.std.specs.Prelude.{ℕ, zero, suc, ◌+◌, ◌*◌, cond, not, nat_eq, List, [], ◌∷◌, ◌++◌, length, get_or, fold, Option}
-use Rattle.euler_operators.specs.declared.Point.{Point}
-use Rattle.euler_operators.specs.Points.{is_in_range}
-use Rattle.euler_operators.specs.Vectors.{origin, moved, same_point}
-use Rattle.euler_operators.specs.Rings.{canonical}
-use Rattle.euler_operators.specs.HalfEdge.{plus, minus}
+use Rattle.euler_operators.specs.Common.{Point, is_in_range, origin, moved, same_point, canonical, plus, minus, Model, cycle, items_of, content, tail, point_of, solid_of, Condition, need, never, first_refusal, numbers_in_range}
 use Rattle.euler_operators.specs.Table as table
-use Rattle.euler_operators.specs.Model.{Model, cycle, items_of, content, tail, point_of, solid_of}
-use Rattle.euler_operators.specs.Conditions.{Condition, need, never, first_refusal, numbers_in_range}
 use Rattle.shapes.specs.Faces.{least_lone, loops_of, corners, start}
 use Rattle.shapes.specs.Fresh.{Taken, Growing, growing, taken_in, numbers_left, no_such, first_such}
 use Rattle.euler_operators.specs.declared.Refusal.{Refusal}

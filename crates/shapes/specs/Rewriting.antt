@@ -1,9 +1,7 @@
 -- Whole tables rewritten: the lists of all loops, numbers by a list of pairs, rows that go.
 use Rattle.std.specs.Prelude.{ℕ, cond, nat_eq, List, [], ◌∷◌, fold}
-use Rattle.euler_operators.specs.Rings.{canonical}
+use Rattle.euler_operators.specs.Common.{canonical, Table, LoopContent, LoopRow, lone, cycle}
 use Rattle.euler_operators.specs.Table as table
-use Rattle.euler_operators.specs.Table.{Table}
-use Rattle.euler_operators.specs.Model.{LoopContent, LoopRow, lone, cycle}
 
 -- a loop with its cycle rewritten; a lone one stays
 abbrev pub rewritten : (List ℕ → List ℕ) → LoopContent → LoopContent

@@ -1,6 +1,6 @@
 -- Vectors turned, multiplied, and from one point to another.
 use Rattle.std.specs.Prelude.{ℤ, ◌-ℤ◌, ◌*ℤ◌, neg_ℤ}
-use Rattle.euler_operators.specs.declared.Point.{Point}
+use Rattle.euler_operators.specs.Common.{Point}
 
 -- the opposite vector
 abbrev pub negated : Point → Point

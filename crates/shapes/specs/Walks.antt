@@ -1,8 +1,7 @@
 -- The loops of some faces, and the half-edges that stand for their vertices.
 use Rattle.std.specs.Prelude.{ℕ, Bool, ◌||◌, nat_eq, List, [], ◌∷◌, ◌++◌}
-use Rattle.euler_operators.specs.HalfEdge.{edge_of}
+use Rattle.euler_operators.specs.Common.{edge_of, Model, tail}
 use Rattle.euler_operators.specs.Table as table
-use Rattle.euler_operators.specs.Model.{Model, tail}
 use Rattle.shapes.specs.Faces.{loops_of}
 
 -- the loops of some faces

@@ -1,14 +1,8 @@
 -- A sound model without solids has nothing.
 use Rattle.std.proofs.Common.{◌≡◌, ◌≢◌, ℕ, true, List, [], ◌∷◌, ◌++◌, map, codes, is_some, refl, sym, ap, ◌∙◌, true≢false, inl, inr}
-use Rattle.euler_operators.specs.declared.Kind.{Kind}
-use Rattle.euler_operators.specs.declared.Kind.TheVariants.{Solid, Face, Loop, Edge, Vertex}
-use Rattle.euler_operators.specs.HalfEdge.{plus}
+use Rattle.euler_operators.specs.Common.{Kind, Solid, Face, Loop, Edge, Vertex, plus, Table, has, numbers, Model, empty_model, solid_of, face_of, loop_of, Sound, Has, HasHalf}
 use Rattle.euler_operators.specs.Table as table
-use Rattle.euler_operators.specs.Table.{Table, has, numbers}
-use Rattle.euler_operators.specs.Model.{Model, empty_model, solid_of, face_of, loop_of}
-use Rattle.euler_operators.specs.Sound.{Sound, Has, HasHalf}
-use Rattle.euler_operators.proofs.Halves.{plus_row}
-use Rattle.euler_operators.proofs.Models.{held_row, lone_there, one_or_more}
+use Rattle.euler_operators.proofs.Common.{plus_row, held_row, lone_there, one_or_more}
 use Rattle.euler_conditions.specs.Store.{Store, IsGreatest}
 use Rattle.solid_listing.specs.Lines.{text_of}
 use Rattle.solid_listing.specs.Listing.{line, numbers_of, lines, or_empty, listing}

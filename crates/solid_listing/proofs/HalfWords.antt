@@ -1,8 +1,7 @@
 -- The words of half-edges.
 use Rattle.std.proofs.Common.{◌≡◌, cond, ◌∷◌, ap, ◌∙◌, decimal}
-use Rattle.euler_operators.specs.declared.HalfEdge.{HalfEdge}
-use Rattle.euler_operators.specs.HalfEdge.{code, edge_of}
-use Rattle.euler_operators.proofs.Halves.{edge_of-code, is_first-code}
+use Rattle.euler_operators.specs.Common.{HalfEdge, code, edge_of}
+use Rattle.euler_operators.proofs.Common.{edge_of-code, is_first-code}
 use Rattle.solid_listing.specs.Listing.{half_word}
 
 -- the word of a half-edge

@@ -1,13 +1,8 @@
 -- The lines of a model tell the numbers of each kind and the line of each number.
-use Rattle.std.proofs.Common.{◌≡◌, ℕ, ◌^◌, ◌<◌, Bool, true, false, cond, ◌||◌, nat_eq, List, [], ◌∷◌, ◌++◌, map, refl, sym, ap, ◌∙◌, true≢false, inl, inr}
-use Rattle.std.proofs.lemmas.List.{append-nil}
+use Rattle.std.proofs.Common.{◌≡◌, ℕ, ◌^◌, ◌<◌, Bool, true, false, cond, ◌||◌, nat_eq, List, [], ◌∷◌, ◌++◌, map, refl, sym, ap, ◌∙◌, true≢false, inl, inr, append-nil, decimal}
 use Rattle.std.proofs.lemmas.Bool.Decides.{eqb_tells}
 use Rattle.std.proofs.lemmas.Fmt.{decimal_injective}
-use Rattle.std.specs.Fmt.{decimal}
-use Rattle.euler_operators.specs.declared.Kind.{Kind}
-use Rattle.euler_operators.specs.declared.Kind.TheVariants.{Solid, Face, Loop, Edge, Vertex}
-use Rattle.euler_operators.specs.Model.{Model}
-use Rattle.euler_operators.specs.Sound.{Sound}
+use Rattle.euler_operators.specs.Common.{Kind, Solid, Face, Loop, Edge, Vertex, Model, Sound}
 use Rattle.solid_listing.specs.Listing.{line, numbers_of, kind_lines, lines}
 use Rattle.solid_walks.proofs.face_walks_laws.Above.{member}
 use Rattle.solid_walks.proofs.face_walks_laws.TableWalks.{member_numbers}

@@ -1,20 +1,9 @@
 -- The lines of a sound model can be read back.
-use Rattle.std.proofs.Common.{◌≡◌, ℕ, ◌+◌, ◌^◌, ◌<◌, ◌≤◌, Bool, true, false, cond, ◌&&◌, ◌||◌, not, nat_eq, List, [], ◌∷◌, ◌++◌, map, Option, Some, None, is_some, unwrap_or, refl, sym, ap, ◌∙◌, arith, true≢false}
+use Rattle.std.proofs.Common.{◌≡◌, ℕ, ◌+◌, ◌^◌, ◌<◌, ◌≤◌, Bool, true, false, cond, ◌&&◌, ◌||◌, not, nat_eq, List, [], ◌∷◌, ◌++◌, map, Option, Some, None, is_some, unwrap_or, refl, sym, ap, ◌∙◌, arith, true≢false, decimal}
 use Rattle.std.proofs.lemmas.Bool.Decides.{nat_tests}
 use Rattle.std.proofs.lemmas.Bool.{and_from}
-use Rattle.std.specs.Fmt.{decimal}
-use Rattle.euler_operators.specs.declared.Point.{Point}
-use Rattle.euler_operators.specs.Points.{is_coordinate, is_in_range}
-use Rattle.euler_operators.specs.Items.{count, IsIn}
-use Rattle.euler_operators.specs.declared.Kind.{Kind}
-use Rattle.euler_operators.specs.declared.Kind.TheVariants.{Solid, Face, Loop, Edge, Vertex}
-use Rattle.euler_operators.specs.HalfEdge.{plus, minus, edge_of}
-use Rattle.euler_operators.specs.Table.{get, has}
-use Rattle.euler_operators.specs.Model.{Model, LoopContent, lone, cycle, no_point, items_of, solid_of, outer, face_of, content, tail, point_of, rings_of}
-use Rattle.euler_operators.specs.Sound.{Sound, Has, HasHalf}
-use Rattle.euler_operators.proofs.Halves.{plus_row, minus_row}
-use Rattle.euler_operators.proofs.Models.{in-holds}
-use Rattle.euler_operators.proofs.Tests.{and_first, and_second}
+use Rattle.euler_operators.specs.Common.{Point, is_coordinate, is_in_range, count, IsIn, Kind, Solid, Face, Loop, Edge, Vertex, plus, minus, edge_of, get, has, Model, LoopContent, lone, cycle, no_point, items_of, solid_of, outer, face_of, content, tail, point_of, rings_of, Sound, Has, HasHalf}
+use Rattle.euler_operators.proofs.Common.{plus_row, minus_row, in-holds, and_first, and_second}
 use Rattle.solid_listing.specs.Listing.{line, content_words, half_word, point_words, numbers_of, kind_lines, lines}
 use Rattle.solid_walks.proofs.face_walks_laws.Above.{member}
 use Rattle.solid_walks.proofs.face_walks_laws.TableWalks.{member_numbers}

@@ -1,17 +1,10 @@
 -- A listing tells all of a sound model.
-use Rattle.std.proofs.Common.{◌≡◌, ℕ, Bool, true, false, cond, ◌&&◌, not, nat_eq, List, [], ◌∷◌, map, codes, Option, Some, None, is_some, refl, sym, ap, ◌∙◌, arith, true≢false, inl, inr}
+use Rattle.std.proofs.Common.{◌≡◌, ℕ, Bool, true, false, cond, ◌&&◌, not, nat_eq, List, [], ◌∷◌, map, codes, Option, Some, None, is_some, refl, sym, ap, ◌∙◌, arith, true≢false, inl, inr, decimal}
 use Rattle.std.proofs.lemmas.Bool.Decides.{nat_tests, eqb_tells}
 use Rattle.std.proofs.lemmas.Fmt.{decimal_injective, signed_decimal_injective}
-use Rattle.std.specs.Fmt.{decimal, signed_decimal}
-use Rattle.euler_operators.specs.declared.Point.{Point}
-use Rattle.euler_operators.specs.Points.{is_coordinate, is_in_range}
-use Rattle.euler_operators.specs.declared.Kind.TheVariants.{Solid, Face, Loop, Edge, Vertex}
-use Rattle.euler_operators.specs.HalfEdge.{plus, minus, edge_of, is_first}
-use Rattle.euler_operators.specs.Table.{Table, get, has, numbers, same_table}
-use Rattle.euler_operators.specs.Model.{Model, LoopContent, lone, cycle, solid_of, outer, face_of, content, tail, point_of, rings_of}
-use Rattle.euler_operators.specs.Sound.{Sound, Has}
-use Rattle.euler_operators.proofs.Models.{content_row, face_row, solid_row, outer_row, point_row, plus_tail_row, minus_tail_row}
-use Rattle.euler_operators.proofs.Tests.{and_first, and_second}
+use Rattle.std.specs.Fmt.{signed_decimal}
+use Rattle.euler_operators.specs.Common.{Point, is_coordinate, is_in_range, Solid, Face, Loop, Edge, Vertex, plus, minus, edge_of, is_first, Table, get, has, numbers, same_table, Model, LoopContent, lone, cycle, solid_of, outer, face_of, content, tail, point_of, rings_of, Sound, Has}
+use Rattle.euler_operators.proofs.Common.{content_row, face_row, solid_row, outer_row, point_row, plus_tail_row, minus_tail_row, and_first, and_second}
 use Rattle.solid_listing.specs.Lines.{text_of}
 use Rattle.solid_listing.specs.Listing.{line, content_words, half_word, lines, or_empty, listing}
 use Rattle.solid_walks.proofs.face_walks_laws.Above.{member}

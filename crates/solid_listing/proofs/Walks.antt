@@ -1,11 +1,7 @@
 -- What an arena answers as a walk goes from a number to the next.
 use Rattle.std.proofs.Common.{◌≡◌, ℕ, ◌<◌, true, false, [], ◌∷◌, Some, None, sym, ◌∙◌, arith}
 use Rattle.std.proofs.lemmas.Bool.Decides.{nat_tests}
-use Rattle.euler_operators.specs.declared.Kind.{Kind}
-use Rattle.euler_operators.specs.declared.Kind.TheVariants.{Solid, Face, Loop, Edge, Vertex}
-use Rattle.euler_operators.specs.Table.{Table, has, numbers}
-use Rattle.euler_operators.specs.Model.{Model, is_number}
-use Rattle.euler_operators.specs.Sound.{Sound, NumbersFit}
+use Rattle.euler_operators.specs.Common.{Kind, Solid, Face, Loop, Edge, Vertex, Table, has, numbers, Model, is_number, Sound, NumbersFit}
 use Rattle.euler_conditions.specs.Store.{Store, IsNextNumber}
 use Rattle.solid_listing.specs.Listing.{numbers_of}
 use Rattle.solid_walks.proofs.face_walks_laws.Above.{above, all_above, next_above, none_above, all_above_members}

@@ -1,15 +1,12 @@
 -- Numbers and half-edges are read back from their words.
-use Rattle.std.proofs.Common.{◌≡◌, ℕ, suc, ◌+◌, ◌/◌, ◌%◌, ◌^◌, ◌<◌, ◌≤◌, Bool, true, false, cond, nat_eq, nat_lt, [], ◌∷◌, ◌++◌, ℤ, pos, negsuc, refl, sym, ap, ◌∙◌, arith}
+use Rattle.std.proofs.Common.{◌≡◌, ℕ, suc, ◌+◌, ◌/◌, ◌%◌, ◌^◌, ◌<◌, ◌≤◌, Bool, true, false, cond, nat_eq, nat_lt, [], ◌∷◌, ◌++◌, ℤ, pos, negsuc, refl, sym, ap, ◌∙◌, arith, decimal}
 use Rattle.std.proofs.lemmas.Bool.Decides.{nat_tests}
 use Rattle.std.proofs.lemmas.Bool.{and_from}
 use Rattle.std.proofs.lemmas.Fmt.{decimal_by_steps, decimal_injective}
-use Rattle.std.specs.Fmt.{decimal, signed_decimal}
+use Rattle.std.specs.Fmt.{signed_decimal}
 use Rattle.std.specs.Int.Signed.{mag}
-use Rattle.euler_operators.specs.Points.{is_coordinate}
-use Rattle.euler_operators.specs.HalfEdge.{code, half, edge_of, is_first}
-use Rattle.euler_operators.specs.Model.{is_number}
-use Rattle.euler_operators.proofs.Halves.{code-half}
-use Rattle.euler_operators.proofs.Tests.{and_first, and_second}
+use Rattle.euler_operators.specs.Common.{is_coordinate, code, half, edge_of, is_first, is_number}
+use Rattle.euler_operators.proofs.Common.{code-half, and_first, and_second}
 use Rattle.solid_listing.specs.Listing.{half_word}
 use Rattle.solid_listing.proofs.Parsing.{Word, is_clean}
 

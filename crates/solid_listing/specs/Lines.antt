@@ -1,6 +1,5 @@
 -- Lines of words.
-use Rattle.std.specs.Prelude.{ℕ, List, [], ◌∷◌, ◌++◌}
-use Rattle.std.specs.List.{flat_map}
+use Rattle.std.specs.Prelude.{ℕ, List, [], ◌∷◌, ◌++◌, flat_map}
 
 -- words that follow another one, each after a space
 abbrev pub spaced : List (List ℕ) → List ℕ

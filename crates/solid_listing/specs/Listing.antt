@@ -1,13 +1,7 @@
 -- The listing of a model.
-use Rattle.std.specs.Prelude.{ℕ, List, [], ◌∷◌, map, codes, decimal, cond}
+use Rattle.std.specs.Prelude.{ℕ, List, [], ◌∷◌, map, codes, decimal, cond, flat_map}
 use Rattle.std.specs.Fmt.{signed_decimal}
-use Rattle.std.specs.List.{flat_map}
-use Rattle.euler_operators.specs.declared.Point.{Point}
-use Rattle.euler_operators.specs.declared.Kind.{Kind}
-use Rattle.euler_operators.specs.declared.Kind.TheVariants.{Solid, Face, Loop, Edge, Vertex}
-use Rattle.euler_operators.specs.HalfEdge.{plus, minus, edge_of, is_first}
-use Rattle.euler_operators.specs.Table.{numbers}
-use Rattle.euler_operators.specs.Model.{Model, LoopContent, lone, cycle, solid_of, outer, rings_of, content, tail, point_of}
+use Rattle.euler_operators.specs.Common.{Point, Kind, Solid, Face, Loop, Edge, Vertex, plus, minus, edge_of, is_first, numbers, Model, LoopContent, lone, cycle, solid_of, outer, rings_of, content, tail, point_of}
 use Rattle.solid_listing.specs.Lines.{text_of}
 
 -- a half-edge is a sign, 43 for plus and 45 for minus, and the number of its edge

@@ -1,7 +1,7 @@
 -- The text of a reply.
 use Rattle.std.specs.Prelude.{ℕ, List, [], ◌∷◌, ◌++◌, map, codes, decimal, cond}
 use Rattle.std.specs.Fmt.{signed_decimal}
-use Rattle.euler_operators.specs.declared.Plane.{Plane}
+use Rattle.euler_operators.specs.Common.{Plane}
 use Rattle.solid_listing.specs.declared.reply.Reply.{Reply}
 use Rattle.solid_listing.specs.declared.reply.Reply.TheVariants.{Done, Refused, Fault, Memory, Plane as PlaneOf, Volume, Count}
 use Rattle.solid_listing.specs.Lines.{line_text}

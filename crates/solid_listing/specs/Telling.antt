@@ -1,7 +1,6 @@
 -- What listings tell.
 use Rattle.std.specs.Prelude.{◌≡◌, ◌↔◌}
-use Rattle.euler_operators.specs.Model.{Model}
-use Rattle.euler_operators.specs.Sound.{Sound}
+use Rattle.euler_operators.specs.Common.{Model, Sound}
 use Rattle.solid_listing.specs.Listing.{listing}
 
 -- two sound models have equal listings exactly where they are equal

@@ -1,9 +1,6 @@
 //! The half-edges of a loop, from the least on.
 ghost use Rattle.std.specs.Prelude.{◌≡◌, true, ◌∷◌, map};
-ghost use Rattle.euler_operators.specs.Items.{least};
-ghost use Rattle.euler_operators.specs.HalfEdge.{code};
-ghost use Rattle.euler_operators.specs.Model.{has_half, cycle_of};
-ghost use Rattle.euler_operators.specs.Sound.{Sound};
+ghost use Rattle.euler_operators.specs.Common.{least, code, has_half, cycle_of, Sound};
 ghost use Rattle.solid_listing.specs.Lines.{spaced};
 ghost use Rattle.solid_listing.specs.Listing.{half_word};
 ghost use Rattle.solid_listing.specs.Writing.{Tells, outgoing};

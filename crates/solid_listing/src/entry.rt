@@ -1,7 +1,6 @@
 //! The line of one thing.
 ghost use Rattle.std.specs.Prelude.{◌≡◌, true, map, decimal};
-ghost use Rattle.euler_operators.specs.Model.{rings_of, content};
-ghost use Rattle.euler_operators.specs.Sound.{Sound};
+ghost use Rattle.euler_operators.specs.Common.{rings_of, content, Sound};
 ghost use Rattle.euler_conditions.specs.Store.{has_number};
 ghost use Rattle.solid_listing.specs.Lines.{spaced, line_text};
 ghost use Rattle.solid_listing.specs.Listing.{line, content_words};

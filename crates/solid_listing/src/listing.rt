@@ -1,5 +1,5 @@
 //! Listings.
-ghost use Rattle.euler_operators.specs.Sound.{Sound};
+ghost use Rattle.euler_operators.specs.Common.{Sound};
 ghost use Rattle.solid_listing.specs.Lines.{text_of};
 ghost use Rattle.solid_listing.specs.Listing.{kind_lines, lines, listing};
 ghost use Rattle.solid_listing.specs.Writing.{Puts, Tells, outgoing};

@@ -1,19 +1,12 @@
 -- The sum of cross products that a walk round a loop makes.
 use Rattle.std.proofs.Common.{◌≡◌, ◌≢◌, ℕ, ◌+◌, [], ◌∷◌, ◌++◌, sym, ap, subst, ◌∙◌, arith}
-use Rattle.euler_operators.specs.declared.Point.{Point}
-use Rattle.euler_operators.specs.Ranges.{IsVectorWithin, normal_limit}
-use Rattle.euler_operators.specs.Vectors.{moved, cross}
-use Rattle.euler_operators.specs.Items.{IsIn}
-use Rattle.euler_operators.specs.declared.Content.{Content}
-use Rattle.euler_operators.specs.Model.{Model, LoopContent, lone, cycle, items_of, content, point_of, after}
-use Rattle.euler_operators.specs.Sound.{Sound, HasHalf}
+use Rattle.euler_operators.specs.Common.{Point, IsVectorWithin, normal_limit, moved, cross, IsIn, Content, Model, LoopContent, lone, cycle, items_of, content, point_of, after, Sound, HasHalf}
 use Rattle.solid_walks.specs.Store.{Tells}
-use Rattle.euler_laws.proofs.shared.Bounds.{steps}
-use Rattle.shapes.specs.Faces.{start, finish}
+use Rattle.euler_laws.proofs.Common.{steps, Round, round_start, round_more, round_closed, round_ended, half_in, met_once, items_apart}
+use Rattle.shapes.specs.Common.{start, finish}
 use Rattle.solid_measure.specs.Measure.{area, area_limit}
-use Rattle.euler_laws.proofs.shared.Rounds.{Round, round_start, round_more, round_closed, round_ended, half_in, met_once, items_apart}
-use Rattle.shapes.proofs.walks.FaceLoops.{AreHalves}
-use Rattle.euler_operators.proofs.Vectors.{moved_none, moved_twice}
+use Rattle.shapes.proofs.Common.{AreHalves}
+use Rattle.euler_operators.proofs.Common.{moved_none, moved_twice}
 use Rattle.solid_measure.proofs.Areas.{area_turned, area_push, area_limited, moved_within}
 
 -- a lone loop adds nothing

@@ -1,19 +1,12 @@
 -- How great sums of cross products over half-edges are.
-use Rattle.std.proofs.Common.{◌≡◌, ℕ, ◌+◌, ◌*◌, ◌≤◌, List, [], ◌∷◌, length, Some, None, Option, refl, arith}
-use Rattle.std.specs.Prelude.{◌*ℤ◌, unwrap_or}
-use Rattle.euler_operators.specs.declared.Point.{Point}
-use Rattle.euler_operators.specs.Points.{IsInRange}
-use Rattle.euler_operators.specs.Ranges.{IsVectorWithin}
-use Rattle.euler_operators.specs.Vectors.{moved, cross}
-use Rattle.euler_operators.proofs.Magnitudes.{coordinates, coordinate_within, product_within, sum_within, difference_within, vector_within}
-use Rattle.euler_operators.specs.HalfEdge.{mate}
+use Rattle.std.proofs.Common.{◌≡◌, ℕ, ◌+◌, ◌*◌, ◌≤◌, List, [], ◌∷◌, length, Some, None, Option, refl, arith, ◌*ℤ◌, unwrap_or}
+use Rattle.euler_operators.specs.Common.{Point, IsInRange, IsVectorWithin, moved, cross, mate, Model, tail, point_of, no_point, Sound}
+use Rattle.euler_operators.proofs.Common.{coordinates, coordinate_within, product_within, sum_within, difference_within, vector_within}
 use Rattle.euler_operators.specs.Table as table
-use Rattle.euler_operators.specs.Model.{Model, tail, point_of, no_point}
-use Rattle.euler_operators.specs.Sound.{Sound}
-use Rattle.shapes.specs.Faces.{start, finish}
+use Rattle.shapes.specs.Common.{start, finish}
 pub use Rattle.shapes.proofs.Areas.{area-append, area_turned, area_push}
 use Rattle.solid_measure.specs.Measure.{area, area_limit}
-use Rattle.shapes.proofs.walks.FaceLoops.{AreHalves, halves_short}
+use Rattle.shapes.proofs.Common.{AreHalves, halves_short}
 
 pub point_fits : (M : Model) → Sound M → (v : ℕ) → IsInRange (point_of M v)
 unfolding point_of

@@ -1,17 +1,12 @@
 -- The sum of cross products over the loops of a face.
-use Rattle.std.proofs.Common.{◌≡◌, ℕ, [], ◌∷◌, ◌++◌, Some, None, sym, ap, ◌∙◌}
-use Rattle.std.proofs.lemmas.List.{append-nil}
-use Rattle.euler_operators.specs.Model.{Model, items_of, content, outer}
-use Rattle.euler_operators.specs.Sound.{Sound}
+use Rattle.std.proofs.Common.{◌≡◌, ℕ, [], ◌∷◌, ◌++◌, Some, None, sym, ap, ◌∙◌, append-nil}
+use Rattle.euler_operators.specs.Common.{Model, items_of, content, outer, Sound, Point, IsVectorWithin, origin, moved}
 use Rattle.solid_walks.specs.Store.{IsNextRing}
-use Rattle.euler_operators.specs.declared.Point.{Point}
-use Rattle.euler_operators.specs.Ranges.{IsVectorWithin}
-use Rattle.euler_operators.specs.Vectors.{origin, moved}
-use Rattle.shapes.specs.Faces.{items_in, boundary}
-use Rattle.shapes.proofs.walks.FaceLoops.{loops_to, items_joined, different_items, loops_apart, loops_none}
+use Rattle.shapes.specs.Common.{items_in, boundary}
+use Rattle.shapes.proofs.Common.{loops_to, items_joined, different_items, loops_apart, loops_none}
 use Rattle.solid_walks.proofs.NextRing.{loops_more, loops_all}
 use Rattle.solid_measure.specs.Measure.{area, area_limit, normal}
-use Rattle.euler_operators.proofs.Vectors.{none_moved}
+use Rattle.euler_operators.proofs.Common.{none_moved}
 use Rattle.solid_measure.proofs.Areas.{area-append, area_limited}
 
 -- the sum over the loops of a face that don't pass n

@@ -1,14 +1,9 @@
 -- Whether all corners of a face lie on a plane: loop by loop, half-edge by half-edge.
 use Rattle.std.proofs.Common.{◌≡◌, ℕ, Bool, true, false, ◌&&◌, List, [], ◌∷◌, ◌++◌, map, not, refl, sym, ap, ◌∙◌, true≢false}
 use Rattle.std.specs.List.{list_all}
-use Rattle.euler_operators.specs.declared.Plane.{Plane}
-use Rattle.euler_operators.specs.Vectors.{is_on, same_point, direction, origin}
-use Rattle.euler_operators.specs.Rings.{IsRotation}
-use Rattle.euler_operators.specs.declared.Content.{Content}
-use Rattle.euler_operators.specs.declared.HalfEdge.{HalfEdge}
-use Rattle.euler_operators.specs.Model.{Model, LoopContent, lone, cycle, items_of, content, tail, point_of}
+use Rattle.euler_operators.specs.Common.{Plane, is_on, same_point, direction, origin, IsRotation, Content, HalfEdge, Model, LoopContent, lone, cycle, items_of, content, tail, point_of}
 use Rattle.solid_walks.specs.Store.{Tells}
-use Rattle.shapes.specs.Faces.{vertices_on, vertices_in, loops_of, corners}
+use Rattle.shapes.specs.Common.{vertices_on, vertices_in, loops_of, corners}
 use Rattle.solid_measure.specs.Measure.{plane_of, is_flat}
 
 module _ (P : ℕ → Bool) where

@@ -1,14 +1,9 @@
 -- The plane through a point across a normal, as the code makes it.
-use Rattle.std.proofs.Common.{◌≡◌, ℕ, ◌≤◌, ℤ, pos, sym, ap, subst, ◌∙◌, arith}
-use Rattle.std.specs.Prelude.{◌-ℤ◌, neg_ℤ, FitsSigned}
+use Rattle.std.proofs.Common.{◌≡◌, ℕ, ◌≤◌, ℤ, pos, sym, ap, subst, ◌∙◌, arith, ◌-ℤ◌, neg_ℤ, FitsSigned}
 use Rattle.std.proofs.lemmas.Int.{ints}
 use mir.Syntax.{w128}
-use Rattle.euler_operators.specs.declared.Point.{Point}
-use Rattle.euler_operators.specs.declared.Plane.{Plane}
-use Rattle.euler_operators.specs.Ranges.{IsWithin, IsVectorWithin, IsPlane, normal_limit, offset_limit}
-use Rattle.euler_operators.specs.Vectors.{dot}
-use Rattle.euler_operators.proofs.Magnitudes.{fits, fits_as, held, held_is, held_as}
-use Rattle.euler_operators.specs.Model.{Model}
+use Rattle.euler_operators.specs.Common.{Point, Plane, IsWithin, IsVectorWithin, IsPlane, normal_limit, offset_limit, dot, Model}
+use Rattle.euler_operators.proofs.Common.{fits, fits_as, held, held_is, held_as}
 use Rattle.solid_measure.specs.Measure.{area_limit, anchor, normal, plane_of, plane_through}
 
 abbrev held_vector : Point → Point

@@ -1,16 +1,9 @@
 -- A walk round a loop whose last items are summed in 64 bits.
 use Rattle.std.proofs.Common.{◌≡◌, ◌≢◌, ℕ, ◌+◌, ◌*◌, ◌%◌, sym, ap, subst, ◌∙◌, arith}
-use Rattle.euler_operators.specs.declared.Point.{Point}
-use Rattle.euler_operators.specs.Points.{IsInRange}
-use Rattle.euler_operators.specs.Ranges.{IsVectorWithin, normal_limit}
-use Rattle.euler_operators.specs.Vectors.{moved, cross, origin}
-use Rattle.euler_operators.proofs.Magnitudes.{vector_within}
-use Rattle.euler_operators.proofs.Vectors.{moved_none, moved_twice}
-use Rattle.euler_operators.specs.Items.{IsIn}
-use Rattle.euler_operators.specs.Model.{Model, items_of, content, after}
-use Rattle.euler_operators.specs.Sound.{Sound}
-use Rattle.euler_laws.proofs.shared.Bounds.{steps}
-use Rattle.shapes.specs.Faces.{start, finish}
+use Rattle.euler_operators.specs.Common.{Point, IsInRange, IsVectorWithin, normal_limit, moved, cross, origin, IsIn, Model, items_of, content, after, Sound}
+use Rattle.euler_operators.proofs.Common.{vector_within, moved_none, moved_twice}
+use Rattle.euler_laws.proofs.Common.{steps}
+use Rattle.shapes.specs.Common.{start, finish}
 use Rattle.solid_measure.specs.declared.Vector.{Vector}
 use Rattle.solid_measure.specs.declared.short.Swept.{Swept}
 use Rattle.solid_measure.specs.Measure.{area, area_limit, read}

@@ -1,23 +1,13 @@
 -- Sums over the faces of a solid, and how great they are.
-use Rattle.std.proofs.Common.{◌≡◌, ℕ, ◌*◌, ℤ, pos, List, [], ◌∷◌, ◌++◌, length, Some, None, refl, sym, ap, ◌∙◌, arith}
-use Rattle.std.specs.Prelude.{◌+ℤ◌, ◌*ℤ◌, FitsSigned}
+use Rattle.std.proofs.Common.{◌≡◌, ℕ, ◌*◌, ℤ, pos, List, [], ◌∷◌, ◌++◌, length, Some, None, refl, sym, ap, ◌∙◌, arith, ◌+ℤ◌, ◌*ℤ◌, FitsSigned, length-append}
 use mir.Syntax.{w128}
-use Rattle.std.proofs.lemmas.List.{length-append}
 use Rattle.std.proofs.Math.IntN.{+ℤ_assoc, +ℤ_idl, +ℤ_idr}
-use Rattle.euler_operators.specs.declared.Point.{Point}
-use Rattle.euler_operators.specs.Points.{IsInRange}
-use Rattle.euler_operators.specs.Ranges.{IsWithin, IsVectorWithin}
-use Rattle.euler_operators.specs.Vectors.{dot}
-use Rattle.euler_operators.proofs.Magnitudes.{coordinates, coordinate_within, product_within, sum_within, fits, fits_as, held, held_is, held_as}
-use Rattle.euler_operators.proofs.Vectors.{dot_turned}
-use Rattle.euler_operators.specs.Model.{Model, faces_of}
-use Rattle.euler_operators.specs.Sound.{Sound}
+use Rattle.euler_operators.specs.Common.{Point, IsInRange, IsWithin, IsVectorWithin, dot, Model, faces_of, Sound}
+use Rattle.euler_operators.proofs.Common.{coordinates, coordinate_within, product_within, sum_within, fits, fits_as, held, held_is, held_as, dot_turned}
 use Rattle.solid_walks.specs.Store.{IsNextFace}
-use Rattle.shapes.specs.Faces.{items_in, loops_of, boundary}
-use Rattle.shapes.specs.Walks.{loops_in}
-use Rattle.euler_laws.proofs.shared.UpTo.{up_to}
-use Rattle.shapes.proofs.walks.FaceLoops.{halves_short, items_joined, different_items}
-use Rattle.shapes.proofs.walks.SolidFaces.{faces_none, solid_loops_apart}
+use Rattle.shapes.specs.Common.{items_in, loops_of, boundary, loops_in}
+use Rattle.euler_laws.proofs.Common.{up_to}
+use Rattle.shapes.proofs.Common.{halves_short, items_joined, different_items, faces_none, solid_loops_apart}
 use Rattle.solid_walks.proofs.NextFace.{faces_more, faces_all}
 use Rattle.solid_measure.specs.Measure.{anchor, normal, six_volume, volume_in}
 use Rattle.solid_measure.proofs.Areas.{point_fits, area_within}

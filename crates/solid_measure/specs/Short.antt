@@ -1,9 +1,6 @@
 -- What fits 64 bits.
 use Rattle.std.specs.Prelude.{◌≡◌, ℕ, ◌*◌, ℤ, IfSome, Option}
-use Rattle.euler_operators.specs.declared.Point.{Point}
-use Rattle.euler_operators.specs.declared.Plane.{Plane}
-use Rattle.euler_operators.specs.Ranges.{IsVectorWithin, IsWithin}
-use Rattle.euler_operators.specs.Vectors.{direction, moved}
+use Rattle.euler_operators.specs.Common.{Point, Plane, IsVectorWithin, IsWithin, direction, moved}
 use Rattle.solid_measure.specs.Measure.{read}
 use Rattle.solid_measure.specs.declared.short.ShortPlane.{ShortPlane}
 use Rattle.solid_measure.specs.declared.short.Swept.{Swept}

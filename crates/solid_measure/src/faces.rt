@@ -1,13 +1,10 @@
 //! Normals and planes of faces that are there.
 ghost use Rattle.std.specs.Prelude.{◌≡◌, true, not};
 ghost use Rattle.std.specs.List.{list_all};
-ghost use Rattle.euler_operators.specs.Points.{IsInRange};
-ghost use Rattle.euler_operators.specs.Ranges.{IsPlane, IsVectorWithin, IsWithin};
-ghost use Rattle.euler_operators.specs.Vectors.{direction, dot, is_on, moved, origin, same_point};
-ghost use Rattle.euler_operators.specs.Model.{content, items_of, outer, point_of};
+ghost use Rattle.euler_operators.specs.Common.{IsInRange, IsPlane, IsVectorWithin, IsWithin, direction, dot, is_on, moved, origin, same_point, content, items_of, outer, point_of};
 ghost use Rattle.solid_walks.specs.Store.{has_number};
 ghost use Rattle.solid_walks.specs.Ready.{IsReady};
-ghost use Rattle.shapes.specs.Faces.{corners};
+ghost use Rattle.shapes.specs.Common.{corners};
 ghost use Rattle.solid_measure.specs.Measure.{anchor, area, area_limit, is_flat, normal, plane_of, read};
 
 use crate::Vector;

@@ -1,15 +1,10 @@
 //! Walks round the loops of a face.
 ghost use Rattle.std.specs.Prelude.{◌≡◌, true, map};
 ghost use Rattle.std.specs.List.{list_all};
-ghost use Rattle.euler_operators.specs.Points.{IsInRange};
-ghost use Rattle.euler_operators.specs.Ranges.{IsPlane, IsVectorWithin, normal_limit};
-ghost use Rattle.euler_operators.specs.Vectors.{moved, cross, is_on};
-ghost use Rattle.euler_operators.specs.Items.{IsIn, head_or};
-ghost use Rattle.euler_operators.specs.HalfEdge.{code};
-ghost use Rattle.euler_operators.specs.Model.{items_of, content, cycle_of, has_half, point_of, tail};
+ghost use Rattle.euler_operators.specs.Common.{IsInRange, IsPlane, IsVectorWithin, normal_limit, moved, cross, is_on, IsIn, head_or, code, items_of, content, cycle_of, has_half, point_of, tail};
 ghost use Rattle.solid_walks.specs.Store.{has_number};
 ghost use Rattle.solid_walks.specs.Ready.{IsReady};
-ghost use Rattle.shapes.specs.Faces.{start, finish, vertices_on};
+ghost use Rattle.shapes.specs.Common.{start, finish, vertices_on};
 ghost use Rattle.solid_measure.specs.Measure.{area, area_limit, read};
 ghost use Rattle.solid_measure.specs.Short.{IsShortOf};
 

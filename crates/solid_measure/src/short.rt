@@ -1,8 +1,6 @@
 //! Sums and heights in 64 bits, where they fit.
 ghost use Rattle.std.specs.Prelude.{◌≡◌, ◌≤◌, ◌+◌, ◌%◌, ◌+ℤ◌, ◌-ℤ◌, ◌*ℤ◌, true, IfSome};
-ghost use Rattle.euler_operators.specs.Points.{IsInRange, is_coordinate};
-ghost use Rattle.euler_operators.specs.Ranges.{IsVectorWithin, IsWithin, normal_limit};
-ghost use Rattle.euler_operators.specs.Vectors.{cross, height, moved};
+ghost use Rattle.euler_operators.specs.Common.{IsInRange, is_coordinate, IsVectorWithin, IsWithin, normal_limit, cross, height, moved};
 ghost use Rattle.solid_measure.specs.Measure.{read};
 ghost use Rattle.solid_measure.specs.Short.{IsOfItems, IsShort, IsShortOf, all_of, long};
 

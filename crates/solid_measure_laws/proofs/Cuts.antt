@@ -1,18 +1,13 @@
 -- Where a segment meets a plane: the point lies on the plane, and divides the segment as the heights of its ends.
 -- Cut there, the segment keeps its part of an area.
-use Rattle.std.proofs.Common.{◌≡◌, ◌≢◌, ◌⊎◌, inl, inr, ℕ, zero, suc, ◌+◌, ◌/◌, ◌%◌, ◌<◌, Bool, true, false, ◌&&◌, ℤ, pos, negsuc, ◌+ℤ◌, ◌-ℤ◌, ◌*ℤ◌, neg_ℤ, unsigned_abs, int_div, int_rem, refl, sym, ap, ◌∙◌, arith, true≢false, ◌*◌, cond, Some, None}
-use Rattle.std.specs.Ordering.{int_eq}
+use Rattle.std.proofs.Common.{◌≡◌, ◌≢◌, ◌⊎◌, inl, inr, ℕ, zero, suc, ◌+◌, ◌/◌, ◌%◌, ◌<◌, Bool, true, false, ◌&&◌, ℤ, pos, negsuc, ◌+ℤ◌, ◌-ℤ◌, ◌*ℤ◌, neg_ℤ, unsigned_abs, int_div, int_rem, refl, sym, ap, ◌∙◌, arith, true≢false, ◌*◌, cond, Some, None, int_eq}
 use Rattle.std.specs.Cmp.{signed_Decides}
 use Rattle.std.proofs.lemmas.Int.{ints, quot-rem, rem_below, unsigned_abs-mul}
 use Rattle.std.proofs.Math.Nat.{div-zero, zero-div, zero-mod}
-use Rattle.euler_operators.specs.declared.Point.{Point}
-use Rattle.euler_operators.specs.declared.Plane.{Plane}
-use Rattle.euler_operators.specs.Vectors.{origin, moved, cross, height, is_on, opposite, are_opposite, cut_multiple, cuts_lattice, cut_between}
-use Rattle.euler_operators.proofs.Integers.{dif-parts, difs, neg-dif, same_dif, number}
-use Rattle.euler_operators.proofs.Vectors.{same_vector, moved_none}
-use Rattle.euler_operators.proofs.Crossings.{opposite_apart, turned_difference}
-use Rattle.shapes.specs.Vectors.{scaled, towards}
-use Rattle.shapes.proofs.measures.Products.{no_product}
+use Rattle.euler_operators.specs.Common.{Point, Plane, origin, moved, cross, height, is_on, opposite, are_opposite, cut_multiple, cuts_lattice, cut_between}
+use Rattle.euler_operators.proofs.Common.{dif-parts, difs, neg-dif, same_dif, number, same_vector, moved_none, opposite_apart, turned_difference}
+use Rattle.shapes.specs.Common.{scaled, towards}
+use Rattle.shapes.proofs.Common.{no_product}
 use Rattle.solid_measure_laws.specs.Laws.{CutsMissNone}
 
 -- ---- one coordinate: from p to q, m and n the heights there, x the coordinate of the cut

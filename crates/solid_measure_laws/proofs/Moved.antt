@@ -1,47 +1,18 @@
 -- A model moved: normals stay, and volumes grow by the sum of the normals along the way, which is nothing over a whole solid.
 -- A model with its loops run the other way: a solid with flat faces, turned inside out.
-use Rattle.std.proofs.Common.{◌≡◌, ◌≢◌, ℕ, nat_eq, ℤ, pos, ◌+ℤ◌, ◌-ℤ◌, ◌*ℤ◌, true, List, [], ◌∷◌, ◌++◌, Option, Some, None, is_some, unwrap_or, refl, sym, ap, ◌∙◌, arith, true≢false, ◌+◌, ◌≤◌, Bool, false, cond, not, ◌&&◌, map, inl, inr, reverse, neg_ℤ}
-use Rattle.std.specs.Option.{option_map}
+use Rattle.std.proofs.Common.{◌≡◌, ◌≢◌, ℕ, nat_eq, ℤ, pos, ◌+ℤ◌, ◌-ℤ◌, ◌*ℤ◌, true, List, [], ◌∷◌, ◌++◌, Option, Some, None, is_some, unwrap_or, refl, sym, ap, ◌∙◌, arith, true≢false, ◌+◌, ◌≤◌, Bool, false, cond, not, ◌&&◌, map, inl, inr, reverse, neg_ℤ, option_map}
 use Rattle.std.proofs.lemmas.Int.{ints}
-use Rattle.euler_operators.specs.declared.Point.{Point}
-use Rattle.euler_operators.specs.Vectors.{origin, moved, dot, cross, same_point, is_on, direction}
-use Rattle.euler_operators.specs.Items.{IsIn, count, tick, SameItems, head_or}
-use Rattle.euler_operators.specs.HalfEdge.{mate}
+use Rattle.euler_operators.specs.Common.{Point, origin, moved, dot, cross, same_point, is_on, direction, IsIn, count, tick, SameItems, head_or, mate, get-map_rows, Model, LoopContent, lone, cycle, no_point, items_of, tail, content, outer, point_of, faces_of, has_half, holds, loop_of, face_of, solid_of, rings_of, LoopRow, no_loop, after, Sound, Has, HasHalf, lists, strictly_rises, canonical, IsRing, Plane}
 use Rattle.euler_operators.specs.Table as table
-use Rattle.euler_operators.specs.Table.{get-map_rows}
-use Rattle.euler_operators.specs.Model.{Model, LoopContent, lone, cycle, no_point, items_of, tail, content, outer, point_of, faces_of, has_half, holds, loop_of, face_of, solid_of, rings_of, LoopRow, no_loop, after}
-use Rattle.euler_operators.specs.Sound.{Sound, Has, HasHalf}
-use Rattle.euler_operators.proofs.Models.{in-holds, mate_there, holds_in, loop_there}
-use Rattle.euler_operators.specs.Conditions.{lists, strictly_rises}
-use Rattle.euler_laws.proofs.shared.Listed.{first_listed, rest_listed, listed_passes, listed_as, all_where-rises, IsIn-from_listed}
-use Rattle.shapes.specs.Faces.{start, finish, loops_of, items_in, boundary, vertices_on, corners}
-use Rattle.shapes.specs.Measure.{area, normal, anchor, first_vertex, volume_in, six_volume, plane_of, is_flat}
-use Rattle.shapes.proofs.Areas.{area-append}
-use Rattle.euler_operators.proofs.Integers.{dif-parts, difs, same_dif}
-use Rattle.euler_operators.proofs.Vectors.{same_vector, moved_none, dot_moved, dot_turned, dot_origin, dot_sum, add_none}
-use Rattle.euler_operators.proofs.Members.{IsIn_rest, IsIn_first, each_mapped}
-use Rattle.euler_operators.proofs.Rotations.{IsIn_head, canonical_nil, count-canonical}
-use Rattle.shapes.specs.Vectors.{towards, negated}
+use Rattle.euler_operators.proofs.Common.{in-holds, mate_there, holds_in, loop_there, dif-parts, difs, same_dif, same_vector, moved_none, dot_moved, dot_turned, dot_origin, dot_sum, add_none, IsIn_rest, IsIn_first, each_mapped, IsIn_head, canonical_nil, count-canonical, count-append, tick_same, tick_other, IsIn_or_not, edge_of-mate, mate-mate, all_where-map, SameItems-from_permutation, ring_stays}
+use Rattle.euler_laws.proofs.Common.{first_listed, rest_listed, listed_passes, listed_as, all_where-rises, IsIn-from_listed, light, loop_row, face_there, counted_once, none_counted}
+use Rattle.shapes.specs.Common.{start, finish, loops_of, items_in, boundary, vertices_on, corners, area, normal, anchor, first_vertex, volume_in, six_volume, plane_of, is_flat, towards, negated}
+use Rattle.shapes.proofs.Common.{area-append, cross_nothing, begins, Leads, loop_closed, items_there, area_same, area_mates, own_opposite, count-mates, area_back, moved_back, dot_back, list_parts, are_on, plane_told}
 use Rattle.solid_measure_laws.specs.Models.{shifted, normals_in, run_back, row_back, turned}
-use Rattle.shapes.proofs.measures.Products.{cross_nothing}
-use Rattle.shapes.proofs.measures.Paths.{begins, Leads, loop_closed}
 use Rattle.std.proofs.lemmas.Bool.Decides.{nat_tests, eqb_tells}
-use Rattle.euler_operators.proofs.Lists.{count-append, tick_same, tick_other, IsIn_or_not}
-use Rattle.euler_operators.proofs.Halves.{edge_of-mate, mate-mate}
-use Rattle.euler_laws.proofs.shared.Loops.{light}
-use Rattle.euler_laws.proofs.shared.Rows.{loop_row, face_there}
-use Rattle.shapes.proofs.walks.FaceLoops.{items_there}
-use Rattle.euler_laws.proofs.shared.Counted.{counted_once, none_counted}
-use Rattle.shapes.proofs.measures.Sums.{area_same, area_mates, own_opposite, count-mates, area_back, moved_back, dot_back}
-use Rattle.euler_operators.specs.Rings.{canonical, IsRing}
-use Rattle.euler_operators.proofs.Tables.{all_where-map}
 use Rattle.std.specs.List.{list_all}
 use Rattle.std.proofs.lemmas.Bool.{and_parts}
-use Rattle.euler_operators.specs.declared.Plane.{Plane}
-use Rattle.euler_operators.proofs.Std.{SameItems-from_permutation}
 use Rattle.std.proofs.lemmas.List.Sorted.{IsPermutation-reverse}
-use Rattle.euler_operators.proofs.Rings.{ring_stays}
-use Rattle.shapes.proofs.measures.FlatFaces.{list_parts, are_on, plane_told}
 
 -- ---- a path moved by d: from p over q to e
 

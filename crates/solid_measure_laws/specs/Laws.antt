@@ -1,17 +1,8 @@
 -- What normals and volumes obey.
 use Rattle.std.specs.Prelude.{◌≡◌, ℕ, ◌+◌, ◌<◌, pos, ◌+ℤ◌, neg_ℤ, unsigned_abs, true, List, map, reverse, Some}
 use Rattle.std.specs.List.{list_all}
-use Rattle.euler_operators.specs.declared.Point.{Point}
-use Rattle.euler_operators.specs.declared.Plane.{Plane}
-use Rattle.euler_operators.specs.Vectors.{origin, moved, dot, cross, height, is_on, are_opposite, cuts_lattice, cut_between, cut_point}
-use Rattle.euler_operators.specs.Items.{SameItems}
-use Rattle.euler_operators.specs.HalfEdge.{mate}
-use Rattle.euler_operators.specs.Model.{Model, point_of, faces_of}
-use Rattle.euler_operators.specs.Sound.{Sound, Has}
-use Rattle.euler_operators.specs.Conditions.{lists}
-use Rattle.shapes.specs.Faces.{boundary, corners}
-use Rattle.shapes.specs.Measure.{area, normal, anchor, is_plane_of, is_flat, six_volume}
-use Rattle.shapes.specs.Vectors.{negated, scaled, towards}
+use Rattle.euler_operators.specs.Common.{Point, Plane, origin, moved, dot, cross, height, is_on, are_opposite, cuts_lattice, cut_between, cut_point, SameItems, mate, Model, point_of, faces_of, Sound, Has, lists}
+use Rattle.shapes.specs.Common.{boundary, corners, area, normal, anchor, is_plane_of, is_flat, six_volume, negated, scaled, towards}
 use Rattle.solid_measure_laws.specs.Models.{turned, shifted, normals_in}
 
 -- any two points of a plane on which all corners of a face lie have the same product along the face's normal

@@ -1,12 +1,7 @@
 -- A model with its loops run the other way, a model moved, and the sum of normals.
 use Rattle.std.specs.Prelude.{ℕ, List, [], ◌∷◌, map, reverse}
-use Rattle.euler_operators.specs.declared.Point.{Point}
-use Rattle.euler_operators.specs.Vectors.{origin, moved}
-use Rattle.euler_operators.specs.Rings.{canonical}
-use Rattle.euler_operators.specs.HalfEdge.{mate}
-use Rattle.euler_operators.specs.Table.{map_rows}
-use Rattle.euler_operators.specs.Model.{Model, LoopContent, LoopRow, lone, cycle}
-use Rattle.shapes.specs.Measure.{normal}
+use Rattle.euler_operators.specs.Common.{Point, origin, moved, canonical, mate, map_rows, Model, LoopContent, LoopRow, lone, cycle}
+use Rattle.shapes.specs.Common.{normal}
 
 -- the other halves of a loop's edges, in the opposite order
 abbrev pub run_back : LoopContent → LoopContent

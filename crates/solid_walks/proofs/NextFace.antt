@@ -1,14 +1,12 @@
 -- The walk over the faces of a solid, from each to the next.
-use Rattle.std.proofs.Common.{◌≡◌, ℕ, ◌≤◌, ◌<◌, true, false, nat_eq, ◌&&◌, [], ◌∷◌, ◌++◌, Some, None, sym, ap, ◌∙◌, true≢false, inl, inr}
-use Rattle.std.proofs.lemmas.Bool.{and_parts, eq-eqb, eqb-true}
+use Rattle.std.proofs.Common.{◌≡◌, ℕ, ◌≤◌, ◌<◌, true, false, nat_eq, ◌&&◌, [], ◌∷◌, ◌++◌, Some, None, sym, ap, ◌∙◌, true≢false, inl, inr, eq-eqb, eqb-true}
+use Rattle.std.proofs.lemmas.Bool.{and_parts}
 use Rattle.euler_operators.specs.Table as table
-use Rattle.euler_operators.specs.Model.{Model, faces_of, solid_of}
-use Rattle.euler_operators.specs.Sound.{Sound, Has}
-use Rattle.euler_operators.specs.Conditions.{lists}
-use Rattle.euler_operators.proofs.Tests.{at_most_or_above}
-use Rattle.euler_laws.proofs.shared.UpTo.{up_to_all, up_to_next}
+use Rattle.euler_operators.specs.Common.{Model, faces_of, solid_of, Sound, Has, lists}
+use Rattle.euler_operators.proofs.Common.{at_most_or_above}
+use Rattle.euler_laws.proofs.Common.{up_to_all, up_to_next}
 use Rattle.euler_conditions.specs.Store.{IsNextFace, is_face_of}
-use Rattle.shapes.proofs.walks.SolidFaces.{listed_face, face_listed, faces_rise, face_number, faces_to}
+use Rattle.shapes.proofs.Common.{listed_face, face_listed, faces_rise, face_number, faces_to}
 
 module _ (M : Model) (sound : Sound M) (s : ℕ) where
   face_is : (f : ℕ) → is_face_of M s f ≡ true → Has M.faces f × (solid_of M f ≡ s)

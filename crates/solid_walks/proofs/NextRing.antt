@@ -1,12 +1,11 @@
 -- The walk over the rings of a face, from each to the next.
 use Rattle.std.proofs.Common.{◌≡◌, ℕ, ◌≤◌, ◌<◌, true, false, [], ◌∷◌, ◌++◌, Some, None, sym, ap, ◌∙◌, true≢false, inl, inr}
-use Rattle.euler_operators.specs.Model.{Model, outer, rings_of, is_ring_of}
-use Rattle.euler_operators.specs.Sound.{Sound}
-use Rattle.euler_operators.proofs.Tests.{at_most_or_above}
-use Rattle.euler_laws.proofs.shared.UpTo.{up_to_all, up_to_next}
+use Rattle.euler_operators.specs.Common.{Model, outer, rings_of, is_ring_of, Sound}
+use Rattle.euler_operators.proofs.Common.{at_most_or_above}
+use Rattle.euler_laws.proofs.Common.{up_to_all, up_to_next}
 use Rattle.euler_conditions.specs.Store.{IsNextRing}
-use Rattle.shapes.specs.Faces.{loops_of}
-use Rattle.shapes.proofs.walks.FaceLoops.{loops_to, listed_ring, ring_listed, rings_rise}
+use Rattle.shapes.specs.Common.{loops_of}
+use Rattle.shapes.proofs.Common.{loops_to, listed_ring, ring_listed, rings_rise}
 
 module _ (M : Model) (sound : Sound M) (f : ℕ) where
   pub loops_more : (last ring : ℕ) → IsNextRing M f last (Some ring) → loops_to M f ring ≡ loops_to M f last ++ ring ∷ []

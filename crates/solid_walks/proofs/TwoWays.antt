@@ -1,21 +1,11 @@
 -- The walk round a vertex from h both ways, which leaves a stretch between its two ends unseen.
-use Rattle.std.proofs.Common.{◌≡◌, ◌≢◌, ℕ, ◌+◌, ◌/◌, ◌≤◌, ◌<◌, true, false, List, [], ◌∷◌, ◌++◌, length, refl, sym, ap, subst, ◌∙◌, arith, ◌⊎◌, inl, inr}
+use Rattle.std.proofs.Common.{◌≡◌, ◌≢◌, ℕ, ◌+◌, ◌/◌, ◌≤◌, ◌<◌, true, false, List, [], ◌∷◌, ◌++◌, length, refl, sym, ap, subst, ◌∙◌, arith, ◌⊎◌, inl, inr, length-append}
 use Rattle.std.proofs.lemmas.Bool.Decides.{eqb_tells}
-use Rattle.std.proofs.lemmas.List.{length-append}
-use Rattle.euler_operators.specs.Items.{count, tick, IsIn, IsApart, last_or}
-use Rattle.euler_operators.specs.Rings.{rest, successor, predecessor, IsPath}
-use Rattle.euler_operators.proofs.Lists.{count-append, tick_same, tick_other}
-use Rattle.euler_operators.proofs.Rings.{rotation_at, count_at, IsRing-same, front_of, IsPath-left, IsPath_at, IsIn_predecessor, predecessor-successor}
-use Rattle.euler_operators.specs.HalfEdge.{mate, edge_of}
-use Rattle.euler_operators.specs.Model.{Model, items_of, content, cycle_of, loop_of, tail, after, before, round}
-use Rattle.euler_operators.specs.Sound.{Sound, HasHalf}
-use Rattle.euler_operators.proofs.Halves.{mate-mate}
-use Rattle.euler_operators.proofs.Models.{in-holds, cycle_there, cycle_sound, mate_there}
-use Rattle.euler_laws.proofs.shared.Fans.{Fan, fan_of, loop_after}
-use Rattle.euler_operators.proofs.Members.{length_below}
-use Rattle.euler_laws.proofs.shared.Bounds.{steps, half_below}
-use Rattle.shapes.specs.Walks.{leads}
-use Rattle.shapes.proofs.walks.FirstEdges.{leads_true, leads_false}
+use Rattle.euler_operators.specs.Common.{count, tick, IsIn, IsApart, last_or, rest, successor, predecessor, IsPath, mate, edge_of, Model, items_of, content, cycle_of, loop_of, tail, after, before, round, Sound, HasHalf}
+use Rattle.euler_operators.proofs.Common.{count-append, tick_same, tick_other, rotation_at, count_at, IsRing-same, front_of, IsPath-left, IsPath_at, IsIn_predecessor, predecessor-successor, mate-mate, in-holds, cycle_there, cycle_sound, mate_there, length_below}
+use Rattle.euler_laws.proofs.Common.{Fan, fan_of, loop_after, steps, half_below}
+use Rattle.shapes.specs.Common.{leads}
+use Rattle.shapes.proofs.Common.{leads_true, leads_false}
 
 pub before_there : (M : Model) → Sound M → (x : ℕ) → HasHalf M x → HasHalf M (before M x)
 unfolding before

@@ -1,6 +1,6 @@
 -- The greatest numbers in use, as the code keeps them.
 use Rattle.std.specs.Prelude.{◌≤◌}
-use Rattle.shapes.specs.Fresh.{Taken}
+use Rattle.shapes.specs.Common.{Taken}
 use Rattle.solid_walks.specs.declared.numbers.Counters.{Counters}
 
 abbrev pub taken_of : Counters → Taken

@@ -1,9 +1,7 @@
 -- What of a walk is still to come.
 use Rattle.std.specs.Prelude.{◌≢◌, ℕ, Bool, true, false, cond, nat_eq, nat_lt, List, [], ◌∷◌, filter}
-use Rattle.euler_operators.specs.Items.{after, IsIn}
-use Rattle.euler_operators.specs.Rings.{rotate_to}
-use Rattle.euler_operators.specs.Model.{Model, cycle_of, outer, rings_of}
-use Rattle.euler_operators.specs.Sound.{Sound, HasHalf}
+use Rattle.euler_operators.specs.Common.{IsIn, rotate_to, Model, cycle_of, outer, rings_of, Sound, HasHalf}
+use Rattle.euler_operators.specs.Items.{after}
 
 -- the numbers of a list that are greater than n
 abbrev pub above : ℕ → List ℕ → List ℕ

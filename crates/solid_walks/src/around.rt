@@ -1,8 +1,8 @@
 //! Walks round a vertex.
 ghost use Rattle.std.specs.Prelude.{◌≡◌, true};
-ghost use Rattle.euler_operators.specs.Model.{before, has_half};
+ghost use Rattle.euler_operators.specs.Common.{before, has_half};
 ghost use Rattle.euler_conditions.specs.Ready.{IsReady};
-ghost use Rattle.shapes.specs.Walks.{leads};
+ghost use Rattle.shapes.specs.Common.{leads};
 
 use crate::codes::back;
 use euler_conditions::{Arena, mate_code, round_code};

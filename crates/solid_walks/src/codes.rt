@@ -1,10 +1,8 @@
 //! Half-edges by their codes, for walks that look at many: a code is one number to carry and to compare.
 ghost use Rattle.std.specs.Prelude.{◌≡◌, true};
-ghost use Rattle.euler_operators.specs.Points.{IsInRange};
-ghost use Rattle.euler_operators.specs.HalfEdge.{mate};
-ghost use Rattle.euler_operators.specs.Model.{before, has_half};
+ghost use Rattle.euler_operators.specs.Common.{IsInRange, mate, before, has_half};
 ghost use Rattle.euler_conditions.specs.Ready.{IsReady};
-ghost use Rattle.shapes.specs.Faces.{start};
+ghost use Rattle.shapes.specs.Common.{start};
 
 use crate::halves::{previous, start};
 use euler_conditions::{Arena, mate_code};

@@ -1,10 +1,8 @@
 //! The points at which a half-edge starts and ends, and the item before it in its loop.
 ghost use Rattle.std.specs.Prelude.{◌≡◌, true};
-ghost use Rattle.euler_operators.specs.HalfEdge.{code};
-ghost use Rattle.euler_operators.specs.Model.{before, has_half};
+ghost use Rattle.euler_operators.specs.Common.{code, before, has_half, IsInRange};
 ghost use Rattle.euler_conditions.specs.Ready.{IsReady};
-ghost use Rattle.euler_operators.specs.Points.{IsInRange};
-ghost use Rattle.shapes.specs.Faces.{finish, start};
+ghost use Rattle.shapes.specs.Common.{finish, start};
 
 use euler_conditions::Arena;
 use euler_operators::{HalfEdge, Point};

@@ -1,10 +1,9 @@
 //! Lone loops of a face.
 ghost use Rattle.std.specs.Prelude.{◌≡◌, true, [], ◌∷◌};
-ghost use Rattle.euler_operators.specs.Model.{content};
-ghost use Rattle.euler_operators.specs.Conditions.{is_lone};
+ghost use Rattle.euler_operators.specs.Common.{content, is_lone};
 ghost use Rattle.euler_conditions.specs.Store.{has_number};
 ghost use Rattle.euler_conditions.specs.Ready.{IsReady};
-ghost use Rattle.shapes.specs.Faces.{least_lone};
+ghost use Rattle.shapes.specs.Common.{least_lone};
 ghost use Rattle.solid_walks.specs.Least.{only};
 
 use crate::face_walks::loops_of;

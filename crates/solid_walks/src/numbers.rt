@@ -1,8 +1,8 @@
 //! Fresh numbers: those after the greatest in use as a command begins.
 ghost use Rattle.std.specs.Prelude.{◌≡◌, ◌+◌, nat_le};
-ghost use Rattle.euler_operators.specs.Conditions.{first_refusal, verdict};
+ghost use Rattle.euler_operators.specs.Common.{first_refusal, verdict};
 ghost use Rattle.euler_conditions.specs.Ready.{IsReady};
-ghost use Rattle.shapes.specs.Fresh.{numbers_left, taken_in};
+ghost use Rattle.shapes.specs.Common.{numbers_left, taken_in};
 ghost use Rattle.solid_walks.specs.Counters.{AreWithin, taken_of};
 
 use euler_conditions::Arena;

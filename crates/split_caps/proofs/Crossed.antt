@@ -1,32 +1,12 @@
 -- Where an edge of the solid crosses the plane, its section has an outer cycle, with caps.
-use Rattle.std.specs.Prelude.{filter, get_or, int_lt, length}
 use Rattle.std.specs.List.{list_any}
-use Rattle.std.proofs.Common.{◌≡◌, ℕ, suc, ◌<◌, pos, Bool, true, false, cond, not, ◌&&◌, ◌||◌, List, [], ◌∷◌, None, refl, sym, ap, subst, ◌∙◌, arith, true≢false, inl, inr, ◌⊎◌}
+use Rattle.std.proofs.Common.{◌≡◌, ℕ, suc, ◌<◌, pos, Bool, true, false, cond, not, ◌&&◌, ◌||◌, List, [], ◌∷◌, None, refl, sym, ap, subst, ◌∙◌, arith, true≢false, inl, inr, ◌⊎◌, filter, get_or, int_lt, length}
 use Rattle.std.proofs.lemmas.Bool.{false_from_ne_true}
-use Rattle.euler_operators.specs.declared.Plane.{Plane}
-use Rattle.euler_operators.specs.Vectors.{direction, dot, is_above, is_below}
-use Rattle.euler_operators.specs.Items.{count, IsIn}
-use Rattle.euler_operators.specs.HalfEdge.{mate, minus, plus}
+use Rattle.euler_operators.specs.Common.{Plane, direction, dot, is_above, is_below, count, IsIn, mate, minus, plus, Model, after, face_of, faces_of, loop_of, point_of, solid_of, tail, Sound, Has, HasHalf, face_at, lists}
 use Rattle.euler_operators.specs.Table as table
-use Rattle.euler_operators.specs.Model.{Model, after, face_of, faces_of, loop_of, point_of, solid_of, tail}
-use Rattle.euler_operators.specs.Sound.{Sound, Has, HasHalf}
-use Rattle.euler_operators.specs.Conditions.{face_at, lists}
-use Rattle.euler_operators.proofs.Halves.{mate-mate, mate_minus, mate_plus}
-use Rattle.euler_operators.proofs.Members.{IsIn-filter, filter_passes}
-use Rattle.euler_operators.proofs.Models.{cycle_there, loop_there, mate_there, minus_there, plus_there, same_solid}
-use Rattle.euler_operators.proofs.Rotations.{IsIn_head}
-use Rattle.euler_operators.proofs.Tests.{first_fails}
-use Rattle.euler_laws.proofs.shared.Fans.{half_after, half_face, kept_round, loop_after}
-use Rattle.euler_laws.proofs.shared.Listed.{IsIn-from_listed, listed-from_in}
-use Rattle.euler_laws.proofs.shared.Same.{same_point}
-use Rattle.shapes.specs.Faces.{corners, finish, start}
-use Rattle.shapes.specs.Measure.{normal}
-use Rattle.shapes.specs.split.Sides.{crosses, crossing_edges, face_is_above, faces_above, reaches_above, reaches_below, straddles}
-use Rattle.shapes.specs.split.Crossings.{with_crossings}
-use Rattle.shapes.specs.split.Drawing.{with_drawings}
-use Rattle.shapes.specs.split.Opening.{Caps, no_caps}
-use Rattle.shapes.specs.split.Section.{below_halves}
-use Rattle.shapes.specs.split.Split.{split_refusal}
+use Rattle.euler_operators.proofs.Common.{mate-mate, mate_minus, mate_plus, IsIn-filter, filter_passes, cycle_there, loop_there, mate_there, minus_there, plus_there, same_solid, IsIn_head, first_fails}
+use Rattle.euler_laws.proofs.Common.{half_after, half_face, kept_round, loop_after, IsIn-from_listed, listed-from_in, same_point}
+use Rattle.shapes.specs.Common.{corners, finish, start, normal, crosses, crossing_edges, face_is_above, faces_above, reaches_above, reaches_below, straddles, with_crossings, with_drawings, Caps, no_caps, below_halves, split_refusal}
 use Rattle.split_drawing_laws.specs.crossings.Kept.{Kept}
 use Rattle.split_drawing_laws.specs.crossings.Laws.{CanBegin}
 use Rattle.split_drawing_laws.specs.drawings.DrawnIn.{Stays}

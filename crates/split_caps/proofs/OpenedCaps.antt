@@ -1,29 +1,12 @@
 -- The caps once a solid is opened along all cycles of its section: their numbers, their corners, and their normals.
-use Rattle.std.specs.Prelude.{pos, int_lt, filter}
-use Rattle.std.proofs.Common.{◌≡◌, ℕ, zero, suc, ◌+◌, ◌<◌, true, List, [], ◌∷◌, ◌++◌, length, map, get_or, refl, sym, ap, subst, ◌∙◌, arith, ◌≢◌, ◌≤◌, ℤ, ◌+ℤ◌, Bool, false, cond, nat_eq}
+use Rattle.std.proofs.Common.{◌≡◌, ℕ, zero, suc, ◌+◌, ◌<◌, true, List, [], ◌∷◌, ◌++◌, length, map, get_or, refl, sym, ap, subst, ◌∙◌, arith, ◌≢◌, ◌≤◌, ℤ, ◌+ℤ◌, Bool, false, cond, nat_eq, pos, int_lt, filter, append_assoc, append-nil, eq-eqb, ne_eqb}
 use Rattle.std.proofs.lemmas.Int.{ints}
-use Rattle.std.proofs.lemmas.List.{append_assoc, append-nil, map-append}
+use Rattle.std.proofs.lemmas.List.{map-append}
 use Rattle.std.proofs.lemmas.Bool.Decides.{eqb_tells}
-use Rattle.std.proofs.lemmas.Bool.{eq-eqb, ne_eqb}
-use Rattle.euler_operators.specs.declared.Plane.{Plane}
-use Rattle.euler_operators.specs.declared.Point.{Point}
-use Rattle.euler_operators.specs.Items.{IsIn, count}
-use Rattle.euler_operators.specs.Vectors.{direction, dot, is_on, moved, origin}
-use Rattle.euler_operators.specs.Model.{Model, content, face_of, outer, point_of}
-use Rattle.euler_operators.specs.Sound.{Has}
-use Rattle.euler_operators.specs.HalfEdge.{edge_of, mate}
-use Rattle.euler_operators.specs.Effect.{kfmrh}
-use Rattle.euler_operators.proofs.Maps.{from_map}
-use Rattle.euler_operators.proofs.Lists.{tick_same}
-use Rattle.euler_operators.proofs.Models.{mate_there}
-use Rattle.euler_operators.proofs.Vectors.{none_moved}
-use Rattle.shapes.specs.Faces.{vertices_on}
-use Rattle.shapes.specs.Fresh.{Taken}
-use Rattle.shapes.specs.Measure.{normal}
-use Rattle.shapes.specs.Vectors.{negated}
-use Rattle.shapes.specs.split.Section.{is_hole}
-use Rattle.shapes.specs.split.Opening.{Caps, Opening, all_opened, no_caps, opened_along, holes_closed, outer_caps}
-use Rattle.shapes.proofs.measures.Sums.{area_mates, moved_back}
+use Rattle.euler_operators.specs.Common.{Plane, Point, IsIn, count, direction, dot, is_on, moved, origin, Model, content, face_of, outer, point_of, Has, edge_of, mate, kfmrh}
+use Rattle.euler_operators.proofs.Common.{from_map, tick_same, mate_there, none_moved}
+use Rattle.shapes.specs.Common.{vertices_on, Taken, normal, negated, is_hole, Caps, Opening, all_opened, no_caps, opened_along, holes_closed, outer_caps}
+use Rattle.shapes.proofs.Common.{area_mates, moved_back}
 use Rattle.split_opening_laws.specs.sections.Capped.{ArePlain, HasCaps, IsPlain, cap_faces}
 use Rattle.split_opening_laws.specs.sections.InTurn.{CanBeOpenedInTurn}
 use Rattle.split_opening_laws.specs.strips.Opened.{CanBeOpened}

@@ -1,32 +1,13 @@
 -- The caps once the holes are closed and the upper faces parted from the solid.
-use Rattle.std.proofs.Common.{◌≡◌, ◌≢◌, ℕ, zero, suc, ◌+◌, ◌<◌, ◌≤◌, Bool, true, false, cond, List, [], ◌∷◌, length, map, get_or, Some, is_some, refl, sym, ap, subst, ◌∙◌, arith, true≢false}
-use Rattle.std.specs.Prelude.{filter, pos, int_lt}
-use Rattle.std.specs.Option.{option_map}
+use Rattle.std.proofs.Common.{◌≡◌, ◌≢◌, ℕ, zero, suc, ◌+◌, ◌<◌, ◌≤◌, Bool, true, false, cond, List, [], ◌∷◌, length, map, get_or, Some, is_some, refl, sym, ap, subst, ◌∙◌, arith, true≢false, filter, pos, int_lt, option_map}
 use Rattle.std.proofs.lemmas.Bool.Decides.{eqb_tells}
 use Rattle.std.proofs.lemmas.Bool.{false_from_ne_true}
-use Rattle.euler_operators.specs.declared.Plane.{Plane}
-use Rattle.euler_operators.specs.declared.Point.{Point}
-use Rattle.euler_operators.specs.Items.{count, tick}
-use Rattle.euler_operators.specs.Vectors.{cross, direction, dot, is_on, moved, origin}
+use Rattle.euler_operators.specs.Common.{Plane, Point, count, tick, cross, direction, dot, is_on, moved, origin, Model, FaceRow, LoopContent, content, cycle, face_of, lone, outer, point_of, solid_of, tail, Sound, Has, lists, kfmrh, part}
 use Rattle.euler_operators.specs.Table as table
-use Rattle.euler_operators.specs.Model.{Model, FaceRow, LoopContent, content, cycle, face_of, lone, outer, point_of, solid_of, tail}
-use Rattle.euler_operators.specs.Sound.{Sound, Has}
-use Rattle.euler_operators.specs.Conditions.{lists}
-use Rattle.euler_operators.specs.Effect.{kfmrh, part}
-use Rattle.euler_operators.proofs.Lists.{tick_same}
-use Rattle.euler_operators.proofs.Vectors.{none_moved}
-use Rattle.euler_operators.proofs.Models.{same_solid, solid_row}
-use Rattle.euler_laws.proofs.shared.Listed.{IsIn-from_listed, listed-from_in}
-use Rattle.euler_laws.proofs.shared.Rows.{face_there, solid_either}
-use Rattle.shapes.specs.Faces.{corners, loops_of, vertices_in, vertices_on}
-use Rattle.shapes.specs.Measure.{normal}
-use Rattle.shapes.specs.Vectors.{negated}
-use Rattle.shapes.specs.split.Drawing.{Drawing}
-use Rattle.shapes.specs.split.Section.{below_halves, holes_in, is_hole, section_cycles}
-use Rattle.shapes.specs.split.Opening.{Caps, Opening, holes_closed, no_caps, outer_caps}
-use Rattle.shapes.specs.split.Split.{opened_at}
-use Rattle.shapes.proofs.measures.Products.{cross_moved}
-use Rattle.shapes.proofs.walks.SolidFaces.{face_of_loop}
+use Rattle.euler_operators.proofs.Common.{tick_same, none_moved, same_solid, solid_row}
+use Rattle.euler_laws.proofs.Common.{IsIn-from_listed, listed-from_in, face_there, solid_either}
+use Rattle.shapes.specs.Common.{corners, loops_of, vertices_in, vertices_on, normal, negated, Drawing, below_halves, holes_in, is_hole, section_cycles, Caps, Opening, holes_closed, no_caps, outer_caps, opened_at}
+use Rattle.shapes.proofs.Common.{cross_moved, face_of_loop, on_one}
 use Rattle.split_opening_laws.specs.sections.Capped.{IsPlain, cap_faces, ArePlain}
 use Rattle.split_opening_laws.specs.sections.InTurn.{upper_faces}
 use Rattle.split_laws.specs.SplitOps.{hole_ops}
@@ -40,7 +21,6 @@ use Rattle.split_laws.proofs.volumes.Split as split
 use Rattle.split_laws.proofs.volumes.Taken as taken
 use Rattle.split_laws.proofs.volumes.Taken.{CanTake}
 use Rattle.split_laws.proofs.opened.InTurn.{along_each}
-use Rattle.shapes.proofs.walks.Corners.{on_one}
 use Rattle.split_caps.specs.Capped.{IsCapOf, area_below, sum_of}
 use Rattle.split_caps.proofs.OpenedCaps.{both_opposite, both_take, closed_normal, taken_by, lowers, normals_are, outer_is, told_at, told_filtered, uppers, AllFaceApart, LiesOn, caps_apart, outer_on, plain_lies, FacesApart, apart_each}
 

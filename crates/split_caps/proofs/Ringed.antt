@@ -2,20 +2,10 @@
 use Rattle.std.proofs.Common.{◌≡◌, ℕ, true, not, List, [], ◌∷◌, None, refl, sym, ap, subst, ◌∙◌, true≢false, inl, inr}
 use Rattle.std.proofs.lemmas.Bool.{and_parts}
 use Rattle.euler_operators.specs.declared.Op.TheVariants.{Kfmrh, Mfkrh}
-use Rattle.euler_operators.specs.declared.Plane.{Plane}
-use Rattle.euler_operators.specs.Items.{IsIn}
-use Rattle.euler_operators.specs.Vectors.{cross, direction, is_on, origin, same_point}
-use Rattle.euler_operators.specs.Model.{Model, content, cycle, face_of, items_of, outer, point_of, tail}
-use Rattle.euler_operators.specs.Sound.{Sound, Has}
-use Rattle.euler_operators.specs.Conditions.{first_false, lists}
-use Rattle.euler_operators.specs.Effect.{effect, inverse, kfmrh}
-use Rattle.euler_laws.proofs.Cases.{effect_keeps_sound, inverse_goes, inverse_undoes}
-use Rattle.euler_laws.proofs.faces.Kfmrh.{KillGoes, kfmrh_goes}
-use Rattle.euler_laws.proofs.shared.Listed.{listed-from_in, listed_cases}
-use Rattle.euler_laws.proofs.shared.Rows.{not_lone_cycle}
-use Rattle.shapes.specs.Faces.{boundary, corners, loops_of}
-use Rattle.shapes.specs.Measure.{normal, six_volume}
-use Rattle.shapes.proofs.measures.FlatFaces.{are_on, loops_flat, some_direction}
+use Rattle.euler_operators.specs.Common.{Plane, IsIn, cross, direction, is_on, origin, same_point, Model, content, cycle, face_of, items_of, outer, point_of, tail, Sound, Has, first_false, lists, effect, inverse, kfmrh}
+use Rattle.euler_laws.proofs.Common.{effect_keeps_sound, inverse_goes, inverse_undoes, KillGoes, kfmrh_goes, listed-from_in, listed_cases, not_lone_cycle}
+use Rattle.shapes.specs.Common.{boundary, corners, loops_of, normal, six_volume}
+use Rattle.shapes.proofs.Common.{are_on, loops_flat, some_direction}
 use Rattle.split_drawing_laws.proofs.crossings.Premises.{tail_in_face}
 use Rattle.split_opening_laws.proofs.sections.InTurn.{plain_alone}
 use Rattle.split_laws.specs.opened.Told.{LiesAlong}

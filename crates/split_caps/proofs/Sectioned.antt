@@ -1,16 +1,11 @@
 -- Each half-edge of the section stands in a cycle that has its caps.
-use Rattle.std.specs.Prelude.{flat_map, length, get_or}
-use Rattle.std.proofs.Common.{◌≡◌, ℕ, suc, ◌+◌, ◌<◌, List, [], ◌∷◌, ◌++◌, None, refl, sym, ap, subst, ◌∙◌, arith, inl, inr}
+use Rattle.std.proofs.Common.{◌≡◌, ℕ, suc, ◌+◌, ◌<◌, List, [], ◌∷◌, ◌++◌, None, refl, sym, ap, subst, ◌∙◌, arith, inl, inr, flat_map, length, get_or}
 use Rattle.std.proofs.lemmas.List.{length-map}
-use Rattle.euler_operators.specs.declared.Plane.{Plane}
-use Rattle.euler_operators.specs.Items.{IsIn}
-use Rattle.euler_operators.proofs.Lists.{count-append, IsIn_or_not}
-use Rattle.euler_operators.specs.Model.{Model}
-use Rattle.euler_laws.proofs.shared.Goes.{all_hold, all_hold-back}
-use Rattle.shapes.proofs.fresh.Tests.{none_found}
-use Rattle.shapes.specs.split.Drawing.{with_drawings}
-use Rattle.shapes.specs.split.Section.{least_branched, section_ends}
-use Rattle.shapes.specs.split.Split.{first_conditions, later_conditions, section_conditions, split_conditions, split_refusal}
+use Rattle.euler_operators.specs.Common.{Plane, IsIn, Model}
+use Rattle.euler_operators.proofs.Common.{count-append, IsIn_or_not}
+use Rattle.euler_laws.proofs.Common.{all_hold, all_hold-back}
+use Rattle.shapes.proofs.Common.{none_found}
+use Rattle.shapes.specs.Common.{with_drawings, least_branched, section_ends, first_conditions, later_conditions, section_conditions, split_conditions, split_refusal}
 use Rattle.split_opening_laws.specs.cycles.SectionCycles.{IsUnbranched}
 use Rattle.split_opening_laws.proofs.cycles.NextBelow.{cycles_cover}
 use Rattle.split_laws.proofs.drawn.Drawn.{drawn_sound, above_facts}

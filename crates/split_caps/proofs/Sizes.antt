@@ -1,25 +1,12 @@
 -- How many vertices and edges a split makes.
-use Rattle.std.specs.Prelude.{fold}
-use Rattle.std.proofs.Common.{◌≡◌, ◌≢◌, ℕ, zero, suc, ◌+◌, ◌<◌, Bool, true, false, cond, nat_eq, nat_lt, ◌&&◌, List, [], ◌∷◌, length, map, None, refl, sym, ap, ◌∙◌, arith, inl, inr, ◌⊎◌}
-use Rattle.std.proofs.lemmas.List.{length-append, length-map}
-use Rattle.euler_operators.specs.declared.Plane.{Plane}
-use Rattle.euler_operators.specs.declared.Point.{Point}
-use Rattle.euler_operators.specs.Items.{IsIn}
+use Rattle.std.proofs.Common.{◌≡◌, ◌≢◌, ℕ, zero, suc, ◌+◌, ◌<◌, Bool, true, false, cond, nat_eq, nat_lt, ◌&&◌, List, [], ◌∷◌, length, map, None, refl, sym, ap, ◌∙◌, arith, inl, inr, ◌⊎◌, fold, length-append}
+use Rattle.std.proofs.lemmas.List.{length-map}
+use Rattle.euler_operators.specs.Common.{Plane, Point, IsIn, Table, EdgeRow, Model, point_of, Sound, has_rings, effect, mev_at}
 use Rattle.euler_operators.specs.Table as table
-use Rattle.euler_operators.specs.Table.{Table}
-use Rattle.euler_operators.specs.Model.{EdgeRow, Model, point_of}
-use Rattle.euler_operators.specs.Sound.{Sound}
-use Rattle.euler_operators.specs.Conditions.{has_rings}
-use Rattle.euler_operators.specs.Effect.{effect, mev_at}
-use Rattle.euler_operators.proofs.Lists.{tick_same}
-use Rattle.euler_operators.proofs.Tables.{get-put_other}
+use Rattle.euler_operators.proofs.Common.{tick_same, get-put_other}
 use Rattle.euler_laws.specs.Laws.{AreAccepted, effects, size}
-use Rattle.euler_laws.proofs.Sizes.{mapped_none, size-map_rows, size-put_new}
-use Rattle.euler_laws.proofs.mev.Mev.{mev_goes}
-use Rattle.shapes.specs.Fresh.{Growing, Taken, numbers_after}
-use Rattle.shapes.specs.split.Crossings.{next_cut}
-use Rattle.shapes.specs.split.Drawing.{Drawing, FacePairs, all_drawn, all_joined, draw_next, drawn_between, join_next, next_drawn, ring_free, rings_above, stuck_at, with_rings}
-use Rattle.shapes.specs.split.Opening.{Opening, all_opened, both_lists, opened_along, with_rim}
+use Rattle.euler_laws.proofs.Common.{mapped_none, size-map_rows, size-put_new, mev_goes}
+use Rattle.shapes.specs.Common.{Growing, Taken, numbers_after, next_cut, Drawing, FacePairs, all_drawn, all_joined, draw_next, drawn_between, join_next, next_drawn, ring_free, rings_above, stuck_at, with_rings, Opening, all_opened, both_lists, opened_along, with_rim}
 use Rattle.split_drawing_laws.specs.crossings.CrossingOps as crossings
 use Rattle.split_drawing_laws.specs.drawings.Pairs.{AllFit, pairs_in}
 use Rattle.split_drawing_laws.specs.drawings.Passing.{Drawable, Going, Joining, Ready}

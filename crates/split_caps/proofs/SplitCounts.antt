@@ -1,29 +1,14 @@
 -- What the two parts of a split solid count.
-use Rattle.std.specs.Prelude.{filter}
-use Rattle.std.proofs.Common.{◌≡◌, ◌≢◌, ℕ, zero, suc, ◌+◌, ◌*◌, ◌-◌, ℤ, pos, neg_ℤ, ◌+ℤ◌, ◌-ℤ◌, Bool, true, false, cond, List, [], ◌∷◌, ◌++◌, length, map, refl, sym, ap, subst, ◌∙◌, arith, ne_eqb}
+use Rattle.std.proofs.Common.{◌≡◌, ◌≢◌, ℕ, zero, suc, ◌+◌, ◌*◌, ◌-◌, ℤ, pos, neg_ℤ, ◌+ℤ◌, ◌-ℤ◌, Bool, true, false, cond, List, [], ◌∷◌, ◌++◌, length, map, refl, sym, ap, subst, ◌∙◌, arith, ne_eqb, filter}
 use Rattle.std.proofs.lemmas.Int.{ints}
 use Rattle.euler_operators.specs.declared.Op.{Op}
 use Rattle.euler_operators.specs.declared.Op.TheVariants.{Kef}
-use Rattle.euler_operators.specs.HalfEdge.{half, minus}
-use Rattle.euler_operators.specs.declared.Plane.{Plane}
-use Rattle.euler_operators.specs.Items.{IsIn}
-use Rattle.euler_operators.specs.Model.{Model, faces_of, solid_of}
-use Rattle.euler_operators.specs.Sound.{Sound}
-use Rattle.euler_operators.specs.Effect.{effect}
-use Rattle.euler_operators.proofs.Vectors.{add_assoc, none_add}
-use Rattle.euler_operators.proofs.Models.{number_real}
+use Rattle.euler_operators.specs.Common.{half, minus, Plane, IsIn, Model, faces_of, solid_of, Sound, effect}
+use Rattle.euler_operators.proofs.Common.{add_assoc, none_add, number_real}
 use Rattle.euler_laws.specs.Laws.{AreAccepted, all_rings, effects, euler_number, growth, size}
-use Rattle.euler_laws.proofs.Cases.{effect_keeps_sound}
+use Rattle.euler_laws.proofs.Common.{effect_keeps_sound, loops_are}
 use Rattle.euler_laws.proofs.Growth.{grows}
-use Rattle.euler_laws.proofs.Sizes.{loops_are}
-use Rattle.shapes.specs.Faces.{edges_of, vertices_of}
-use Rattle.shapes.specs.Fresh.{Growing, Taken, growing, numbers_after}
-use Rattle.shapes.specs.split.Places.{pair_count}
-use Rattle.shapes.specs.split.Sides.{crossing_edges, faces_above, straddling_faces}
-use Rattle.shapes.specs.split.Crossings.{next_cut, with_crossings}
-use Rattle.shapes.specs.split.Drawing.{Drawing, FacePairs, draw_next, join_next, next_drawn, straddling_pairs, undrawn, with_drawings}
-use Rattle.shapes.specs.split.Opening.{Caps, Opening, holes_closed, next_opened, outer_caps}
-use Rattle.shapes.specs.split.Split.{opened_at}
+use Rattle.shapes.specs.Common.{edges_of, vertices_of, Growing, Taken, growing, numbers_after, pair_count, crossing_edges, faces_above, straddling_faces, next_cut, with_crossings, Drawing, FacePairs, draw_next, join_next, next_drawn, straddling_pairs, undrawn, with_drawings, Caps, Opening, holes_closed, next_opened, outer_caps, opened_at}
 use Rattle.solid_measure.specs.solid_counts.Counts.{counts, rings_in}
 use Rattle.split_drawing_laws.specs.crossings.CrossingOps.{crossing_ops}
 use Rattle.split_drawing_laws.specs.crossings.Laws.{CanBegin}

@@ -1,14 +1,9 @@
-use Rattle.std.proofs.Common.{◌≡◌, [], false, get_or, map, sym, subst, arith}
-use Rattle.std.specs.Prelude.{int_lt, pos}
+use Rattle.std.proofs.Common.{◌≡◌, [], false, get_or, map, sym, subst, arith, int_lt, pos}
 use Rattle.euler_operators.specs.Table as table
-use Rattle.euler_operators.specs.Vectors.{direction, dot, moved}
-use Rattle.shapes.specs.Measure.{normal}
-use Rattle.shapes.specs.Vectors.{negated}
-use Rattle.shapes.specs.split.Section.{holes_in, is_hole}
+use Rattle.euler_operators.specs.Common.{direction, dot, moved}
+use Rattle.shapes.specs.Common.{normal, negated, holes_in, is_hole, faces_above, with_drawings}
 use Rattle.split_caps.specs.Laws.{CapsAreNumbered, CapsFaceApart, CapsHaveNormals, CapsStand, HolesAreClosed}
 use Rattle.undo_journal.specs.Machine.{held}
-use Rattle.shapes.specs.split.Sides.{faces_above}
-use Rattle.shapes.specs.split.Drawing.{with_drawings}
 use Rattle.split_laws.proofs.Flags.{flags_are}
 use Rattle.split_laws.proofs.drawn.Drawn.{can_open_all}
 use Rattle.split_caps.specs.Capped.{IsCapOf, area_below, cap, cycles_of, sum_of}

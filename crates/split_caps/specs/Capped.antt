@@ -1,19 +1,7 @@
 -- The caps of a split: two faces for each cycle of its section, one by which the part below is closed, and one for the part above.
 use Rattle.std.specs.Prelude.{◌≡◌, ℕ, ◌+◌, true, List, [], ◌∷◌, map, length, get_or}
-use Rattle.euler_operators.specs.declared.Plane.{Plane}
-use Rattle.euler_operators.specs.declared.Point.{Point}
-use Rattle.euler_operators.specs.HalfEdge.{mate}
-use Rattle.euler_operators.specs.Vectors.{origin, moved, cross, direction, is_on}
-use Rattle.euler_operators.specs.Model.{Model, point_of, solid_of}
-use Rattle.euler_operators.specs.Sound.{Has}
-use Rattle.euler_operators.specs.Conditions.{lists}
-use Rattle.shapes.specs.Faces.{corners}
-use Rattle.shapes.specs.Measure.{area, normal}
-use Rattle.shapes.specs.split.Sides.{faces_above}
-use Rattle.shapes.specs.split.Drawing.{with_drawings}
-use Rattle.shapes.specs.split.Section.{below_halves, section_cycles}
-use Rattle.shapes.specs.split.Opening.{Caps, no_caps}
-use Rattle.shapes.specs.split.Split.{opened_at}
+use Rattle.euler_operators.specs.Common.{Plane, Point, mate, origin, moved, cross, direction, is_on, Model, point_of, solid_of, Has, lists}
+use Rattle.shapes.specs.Common.{corners, area, normal, faces_above, with_drawings, below_halves, section_cycles, Caps, no_caps, opened_at}
 
 -- the cycles of the section of solid s, once its faces are drawn
 abbrev pub cycles_of : Model → ℕ → Plane → List (List ℕ)

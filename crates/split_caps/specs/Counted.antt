@@ -1,10 +1,8 @@
 -- What `counts` answers of the two parts of a split solid, told from what it answered of the solid.
 use Rattle.std.specs.Prelude.{◌≡◌, ◌≢◌, ℕ, ◌+◌, ◌*◌, pos, ◌+ℤ◌, ◌-ℤ◌, filter, length}
-use Rattle.euler_operators.specs.declared.Plane.{Plane}
-use Rattle.euler_operators.specs.Sound.{Sound}
+use Rattle.euler_operators.specs.Common.{Plane, Sound}
 use Rattle.euler_laws.specs.Laws.{size, all_rings}
-use Rattle.shapes.specs.split.Places.{pair_count}
-use Rattle.shapes.specs.split.Sides.{crossing_edges, straddling_faces}
+use Rattle.shapes.specs.Common.{pair_count, crossing_edges, straddling_faces}
 use Rattle.solid_measure.specs.solid_counts.Counts.{counts}
 use Rattle.split_opening_laws.specs.sections.InTurn.{halves_in}
 use Rattle.undo_journal.specs.Machine.{Machine, held}

@@ -1,15 +1,8 @@
 -- What the caps are after a split that was answered Ok.
 use Rattle.std.specs.Prelude.{◌≡◌, ℕ, ◌<◌, pos, int_lt, true, false, [], map, filter, length, get_or}
-use Rattle.euler_operators.specs.declared.Plane.{Plane}
-use Rattle.euler_operators.specs.Vectors.{moved, dot, direction}
-use Rattle.euler_operators.specs.Items.{IsIn}
+use Rattle.euler_operators.specs.Common.{Plane, moved, dot, direction, IsIn, Sound}
 use Rattle.euler_operators.specs.Table as table
-use Rattle.euler_operators.specs.Sound.{Sound}
-use Rattle.shapes.specs.Vectors.{negated}
-use Rattle.shapes.specs.Measure.{normal}
-use Rattle.shapes.specs.split.Sides.{crossing_edges}
-use Rattle.shapes.specs.split.Drawing.{with_drawings}
-use Rattle.shapes.specs.split.Section.{is_hole, holes_in}
+use Rattle.shapes.specs.Common.{negated, normal, crossing_edges, with_drawings, is_hole, holes_in}
 use Rattle.undo_journal.specs.Machine.{Machine, held}
 use Rattle.plane_split.specs.SplitModels.{IsSplit}
 use Rattle.split_caps.specs.Capped.{section_of, cycles_of, caps_of, cap, lower_numbers, upper_numbers, IsCapOf, area_below, sum_of}

@@ -1,12 +1,8 @@
 -- A face that becomes a ring of another on one plane, and a ring that becomes such a face.
 use Rattle.std.specs.Prelude.{◌≡◌, ℕ, true, false}
 use Rattle.euler_operators.specs.declared.Op.TheVariants.{Kfmrh, Mfkrh}
-use Rattle.euler_operators.specs.declared.Plane.{Plane}
-use Rattle.euler_operators.specs.Model.{Model, content, face_of, outer}
-use Rattle.euler_operators.specs.Sound.{Sound}
-use Rattle.euler_operators.specs.Conditions.{is_lone}
-use Rattle.shapes.specs.Faces.{corners}
-use Rattle.shapes.specs.Measure.{is_plane_of, six_volume}
+use Rattle.euler_operators.specs.Common.{Plane, Model, content, face_of, outer, Sound, is_lone}
+use Rattle.shapes.specs.Common.{corners, is_plane_of, six_volume}
 use Rattle.command_laws.specs.Operators.{IsStep}
 
 -- all corners of face k lie on the plane, which has a direction, and its outer loop is no lone vertex

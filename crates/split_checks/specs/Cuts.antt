@@ -1,13 +1,7 @@
 -- What a plane cuts of a solid, as the code has it.
 use Rattle.std.specs.Prelude.{◌≡◌, ℕ, ◌+◌, List, [], ◌∷◌, ◌++◌, map, length, take, drop}
-use Rattle.euler_operators.specs.declared.Plane.{Plane}
-use Rattle.euler_operators.specs.HalfEdge.{code, plus}
-use Rattle.euler_operators.specs.Vectors.{cut_between}
-use Rattle.euler_operators.specs.Model.{Model}
-use Rattle.shapes.specs.Faces.{start, finish}
-use Rattle.shapes.specs.split.Places.{place_pairs}
-use Rattle.shapes.specs.split.Sides.{crossing_edges, straddling_faces}
-use Rattle.shapes.specs.split.Drawing.{FacePairs}
+use Rattle.euler_operators.specs.Common.{Plane, code, plus, cut_between, Model}
+use Rattle.shapes.specs.Common.{start, finish, place_pairs, crossing_edges, straddling_faces, FacePairs}
 use Rattle.split_checks.specs.declared.cuts.CutEdge.{CutEdge}
 use Rattle.split_checks.specs.declared.cuts.Pair.{Pair}
 use Rattle.split_checks.specs.declared.cuts.PairedFace.{PairedFace}

@@ -1,7 +1,7 @@
 -- The progress of a drawing, as the code has it.
 use Rattle.std.specs.Prelude.{ℕ, List}
-use Rattle.euler_operators.specs.Model.{Model}
-use Rattle.shapes.specs.split.Drawing.{Drawing}
+use Rattle.euler_operators.specs.Common.{Model}
+use Rattle.shapes.specs.Common.{Drawing}
 use Rattle.solid_measure.specs.Counters.{taken_of}
 use Rattle.split_checks.specs.declared.progress.Progress.{Progress}
 

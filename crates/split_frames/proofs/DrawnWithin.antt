@@ -1,33 +1,11 @@
 -- Edges cut and faces drawn within a solid: other solids stay as they were.
-use Rattle.std.specs.Prelude.{flat_map, fold}
-use Rattle.std.specs.Option.{option_map}
-use Rattle.std.proofs.Common.{◌≡◌, ◌≢◌, ℕ, ◌+◌, nat_eq, false, List, [], ◌∷◌, Some, is_some, refl, sym, ap, subst, ◌∙◌, arith, inl, inr}
-use Rattle.std.proofs.lemmas.Bool.{eqb-false, eqb-true, false_from_ne_true}
-use Rattle.euler_operators.specs.declared.Plane.{Plane}
-use Rattle.euler_operators.specs.Items.{count, IsIn}
-use Rattle.euler_operators.specs.Rings.{canonical}
-use Rattle.euler_operators.specs.HalfEdge.{edge_of, minus, plus}
+use Rattle.std.proofs.Common.{◌≡◌, ◌≢◌, ℕ, ◌+◌, nat_eq, false, List, [], ◌∷◌, Some, is_some, refl, sym, ap, subst, ◌∙◌, arith, inl, inr, flat_map, fold, option_map, eqb-true}
+use Rattle.std.proofs.lemmas.Bool.{eqb-false, false_from_ne_true}
+use Rattle.euler_operators.specs.Common.{Plane, count, IsIn, canonical, edge_of, minus, plus, get-map_rows, Model, LoopContent, LoopRow, content, cycle, face_of, items_of, lone, solid_of, tail, Sound, Has, HasHalf, face_at, lists, edge_row, ring_in}
 use Rattle.euler_operators.specs.Table as table
-use Rattle.euler_operators.specs.Table.{get-map_rows}
-use Rattle.euler_operators.specs.Model.{Model, LoopContent, LoopRow, content, cycle, face_of, items_of, lone, solid_of, tail}
-use Rattle.euler_operators.specs.Sound.{Sound, Has, HasHalf}
-use Rattle.euler_operators.specs.Conditions.{face_at, lists}
-use Rattle.euler_operators.specs.Effect.{edge_row, ring_in}
-use Rattle.euler_operators.proofs.Halves.{mate_plus, plus_row}
-use Rattle.euler_operators.proofs.Lists.{IsIn_or_not}
-use Rattle.euler_operators.proofs.Members.{IsIn_rest, count-filter}
-use Rattle.euler_operators.proofs.Models.{in-holds, plus_there, same_solid}
-use Rattle.euler_operators.proofs.Rotations.{IsIn_head}
-use Rattle.euler_laws.proofs.shared.Counted.{all_where_has}
-use Rattle.euler_laws.proofs.shared.Listed.{IsIn-from_listed}
-use Rattle.euler_laws.proofs.shared.Rows.{edge_there, loop_row}
-use Rattle.euler_laws.proofs.shared.Fans.{half_face}
-use Rattle.shapes.specs.Faces.{edges_of}
-use Rattle.shapes.specs.Fresh.{Growing, growing}
-use Rattle.shapes.specs.Rewriting.{rewritten, rewritten_row}
-use Rattle.shapes.specs.split.Sides.{crosses, crossing_edges, straddling_faces}
-use Rattle.shapes.specs.split.Crossings.{all_cut, doubled, edge_cut, next_cut, with_crossings}
-use Rattle.shapes.specs.split.Drawing.{Drawing, FacePairs, all_pairs, drawn_between, face_drawn, faces_drawn, loops_joined, next_drawn, straddling_pairs, undrawn, with_drawings}
+use Rattle.euler_operators.proofs.Common.{mate_plus, plus_row, IsIn_or_not, IsIn_rest, count-filter, in-holds, plus_there, same_solid, IsIn_head}
+use Rattle.euler_laws.proofs.Common.{all_where_has, IsIn-from_listed, edge_there, loop_row, half_face}
+use Rattle.shapes.specs.Common.{edges_of, Growing, growing, rewritten, rewritten_row, crosses, crossing_edges, straddling_faces, all_cut, doubled, edge_cut, next_cut, with_crossings, Drawing, FacePairs, all_pairs, drawn_between, face_drawn, faces_drawn, loops_joined, next_drawn, straddling_pairs, undrawn, with_drawings}
 use Rattle.split_drawing_laws.specs.crossings.Kept.{Kept}
 use Rattle.split_drawing_laws.specs.crossings.Laws.{CanBegin}
 use Rattle.split_drawing_laws.specs.drawings.DrawnIn.{Stays, DrawnIn}

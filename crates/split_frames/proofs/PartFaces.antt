@@ -1,41 +1,15 @@
 -- The faces of a solid that was split: those that the plane doesn't straddle are of the part on their side.
-use Rattle.std.specs.Prelude.{drop, filter, map}
 use Rattle.std.specs.List.{list_any}
-use Rattle.std.specs.Option.{option_map}
-use Rattle.std.proofs.Common.{◌≡◌, ◌≢◌, ℕ, ◌+◌, ◌≤◌, Bool, true, false, cond, not, ◌&&◌, ◌||◌, List, [], ◌∷◌, ◌++◌, length, nat_eq, None, Some, is_some, pos, int_lt, refl, sym, ap, subst, ◌∙◌, arith, true≢false, inl, inr}
+use Rattle.std.proofs.Common.{◌≡◌, ◌≢◌, ℕ, ◌+◌, ◌≤◌, Bool, true, false, cond, not, ◌&&◌, ◌||◌, List, [], ◌∷◌, ◌++◌, length, nat_eq, None, Some, is_some, pos, int_lt, refl, sym, ap, subst, ◌∙◌, arith, true≢false, inl, inr, drop, filter, map, option_map}
 use Rattle.std.proofs.lemmas.Bool.{false_from_ne_true}
 use Rattle.std.proofs.lemmas.Grind.{flat_map-append}
 use Rattle.std.proofs.lemmas.List.{map-append}
-use Rattle.euler_operators.specs.declared.Plane.{Plane}
-use Rattle.euler_operators.specs.declared.Point.{Point}
-use Rattle.euler_operators.specs.Vectors.{direction, dot, is_above, is_below}
-use Rattle.euler_operators.specs.Items.{count, head_or, IsIn}
-use Rattle.euler_operators.specs.Rings.{canonical}
-use Rattle.euler_operators.specs.HalfEdge.{edge_of, mate, plus}
+use Rattle.euler_operators.specs.Common.{Plane, Point, direction, dot, is_above, is_below, count, head_or, IsIn, canonical, edge_of, mate, plus, Model, FaceRow, LoopContent, content, cycle, face_of, faces_of, items_of, lone, outer, point_of, rings_of, solid_of, tail, Sound, Has, face_at, lists, kfmrh, part}
 use Rattle.euler_operators.specs.Table as table
-use Rattle.euler_operators.specs.Model.{Model, FaceRow, LoopContent, content, cycle, face_of, faces_of, items_of, lone, outer, point_of, rings_of, solid_of, tail}
-use Rattle.euler_operators.specs.Sound.{Sound, Has}
-use Rattle.euler_operators.specs.Conditions.{face_at, lists}
-use Rattle.euler_operators.specs.Effect.{kfmrh, part}
-use Rattle.euler_operators.proofs.Lists.{IsIn_or_not, count-append, tick_other, tick_same}
-use Rattle.euler_operators.proofs.Maps.{from_map}
-use Rattle.euler_operators.proofs.Members.{IsIn-filter, IsIn_rest, filter_passes}
-use Rattle.euler_operators.proofs.Rotations.{IsIn_head}
-use Rattle.euler_operators.proofs.Models.{item_loop, item_there, number_real, outer_row, solid_row}
-use Rattle.euler_operators.proofs.Tables.{in_use_within}
-use Rattle.euler_laws.proofs.shared.Listed.{IsIn-from_listed, listed-from_in}
-use Rattle.euler_laws.proofs.shared.Rows.{face_there, solid_either}
-use Rattle.euler_laws.proofs.shared.Same.{same_point, same_tail}
-use Rattle.shapes.specs.Faces.{corners, loops_of, start, vertices_in, vertices_on}
-use Rattle.shapes.specs.Fresh.{Taken, numbers_after}
-use Rattle.shapes.specs.Rewriting.{rewritten}
-use Rattle.shapes.specs.Measure.{is_flat, normal}
-use Rattle.shapes.specs.split.Sides.{face_is_above, faces_above, straddles}
-use Rattle.shapes.specs.split.Drawing.{Drawing, with_drawings}
-use Rattle.shapes.specs.split.Section.{below_halves, section_cycles}
-use Rattle.shapes.specs.split.Opening.{Caps, Opening, holes_closed, opened_along, outer_caps}
-use Rattle.shapes.specs.split.Split.{opened_at, split_refusal}
-use Rattle.shapes.proofs.walks.SolidFaces.{face_of_loop}
+use Rattle.euler_operators.proofs.Common.{IsIn_or_not, count-append, tick_other, tick_same, from_map, IsIn-filter, IsIn_rest, filter_passes, IsIn_head, item_loop, item_there, number_real, outer_row, solid_row, in_use_within}
+use Rattle.euler_laws.proofs.Common.{IsIn-from_listed, listed-from_in, face_there, solid_either, same_point, same_tail}
+use Rattle.shapes.specs.Common.{corners, loops_of, start, vertices_in, vertices_on, Taken, numbers_after, rewritten, is_flat, normal, face_is_above, faces_above, straddles, Drawing, with_drawings, below_halves, section_cycles, Caps, Opening, holes_closed, opened_along, outer_caps, opened_at, split_refusal}
+use Rattle.shapes.proofs.Common.{face_of_loop}
 use Rattle.split_drawing_laws.proofs.crossings.Premises.{in_solid}
 use Rattle.split_drawing_laws.proofs.cut_volumes.CutWhole.{all_flat}
 use Rattle.split_opening_laws.specs.sections.Capped.{cap_faces}

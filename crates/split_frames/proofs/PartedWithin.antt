@@ -1,35 +1,15 @@
 -- A solid opened along its section, its holes closed and its upper faces parted: other solids stay as they were.
-use Rattle.std.specs.Prelude.{filter, fold}
-use Rattle.std.specs.Option.{option_map}
-use Rattle.std.proofs.Common.{◌≡◌, ◌≢◌, ℕ, ◌+◌, Bool, true, false, cond, not, ◌&&◌, List, [], ◌∷◌, length, map, Some, None, is_some, refl, sym, ap, subst, ◌∙◌, ◌⊎◌, inl, inr}
+use Rattle.std.proofs.Common.{◌≡◌, ◌≢◌, ℕ, ◌+◌, Bool, true, false, cond, not, ◌&&◌, List, [], ◌∷◌, length, map, Some, None, is_some, refl, sym, ap, subst, ◌∙◌, ◌⊎◌, inl, inr, filter, fold, option_map}
 use Rattle.std.proofs.lemmas.Bool.{eqb-false, false_from_ne_true}
 use Rattle.std.proofs.lemmas.Bool.Decides.{eqb_tells}
-use Rattle.euler_operators.specs.declared.Plane.{Plane}
+use Rattle.euler_operators.specs.Common.{Plane, count, IsIn, canonical, edge_of, mate, minus, plus, get-map_rows, Model, LoopContent, content, cycle, face_of, holds, lone, solid_of, tail, Sound, Has, HasHalf, face_at, first_false, lists, effect, kfmrh, part}
 use Rattle.euler_operators.specs.declared.Op.TheVariants.{Kfmrh}
-use Rattle.euler_operators.specs.Items.{count, IsIn}
-use Rattle.euler_operators.specs.Rings.{canonical}
-use Rattle.euler_operators.specs.HalfEdge.{edge_of, mate, minus, plus}
 use Rattle.euler_operators.specs.Table as table
-use Rattle.euler_operators.specs.Table.{get-map_rows}
-use Rattle.euler_operators.specs.Model.{Model, LoopContent, content, cycle, face_of, holds, lone, solid_of, tail}
-use Rattle.euler_operators.specs.Sound.{Sound, Has, HasHalf}
-use Rattle.euler_operators.specs.Conditions.{face_at, first_false, lists}
-use Rattle.euler_operators.specs.Effect.{effect, kfmrh, part}
-use Rattle.euler_operators.proofs.Halves.{mate_plus}
-use Rattle.euler_operators.proofs.Lists.{IsIn_or_not}
-use Rattle.euler_operators.proofs.Maps.{from_map}
-use Rattle.euler_operators.proofs.Members.{IsIn_rest}
-use Rattle.euler_operators.proofs.Models.{face_row, in-holds, number_real, plus_there, same_solid, solid_row}
-use Rattle.euler_operators.proofs.Rotations.{IsIn_head}
-use Rattle.euler_operators.proofs.Tables.{in_use_within, row_some}
+use Rattle.euler_operators.proofs.Common.{mate_plus, IsIn_or_not, from_map, IsIn_rest, face_row, in-holds, number_real, plus_there, same_solid, solid_row, IsIn_head, in_use_within, row_some}
 use Rattle.euler_laws.specs.Laws.{AreAccepted}
-use Rattle.euler_laws.proofs.faces.Kfmrh.{kfmrh_goes}
-use Rattle.euler_laws.proofs.shared.Listed.{listed_front}
-use Rattle.euler_laws.proofs.shared.Rows.{loop_row as row_of}
-use Rattle.shapes.proofs.fresh.Rows.{get-put_cases}
-use Rattle.shapes.specs.Fresh.{Taken, numbers_after}
-use Rattle.shapes.specs.Rewriting.{renamed, rewritten}
-use Rattle.shapes.specs.split.Opening.{Caps, Opening, all_opened, both_lists, hole_closed, holes_closed, no_caps, opened_along, opened_row, opened_tail, outer_caps}
+use Rattle.euler_laws.proofs.Common.{kfmrh_goes, listed_front, loop_row as row_of}
+use Rattle.shapes.proofs.Common.{get-put_cases}
+use Rattle.shapes.specs.Common.{Taken, numbers_after, renamed, rewritten, Caps, Opening, all_opened, both_lists, hole_closed, holes_closed, no_caps, opened_along, opened_row, opened_tail, outer_caps}
 use Rattle.split_opening_laws.specs.sections.Capped.{ArePlain}
 use Rattle.split_opening_laws.specs.sections.InTurn.{CanBeOpenedInTurn}
 use Rattle.split_opening_laws.specs.strips.Opened.{CanBeOpened}

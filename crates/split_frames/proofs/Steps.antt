@@ -1,21 +1,12 @@
 -- One step of a split within a solid: whatever isn't of the solid stays, and nothing else comes to be of another.
-use Rattle.std.proofs.Common.{◌≡◌, ◌≢◌, ℕ, true, false, cond, List, Option, Some, None, is_some, refl, sym, ap, ◌∙◌, true≢false, ne_eqb, inl, inr, Bool, nat_eq, eq-eqb}
-use Rattle.std.specs.Option.{option_map}
+use Rattle.std.proofs.Common.{◌≡◌, ◌≢◌, ℕ, true, false, cond, List, Option, Some, None, is_some, refl, sym, ap, ◌∙◌, true≢false, ne_eqb, inl, inr, Bool, nat_eq, eq-eqb, option_map}
 use Rattle.std.proofs.lemmas.Bool.Decides.{eqb_tells}
 use Rattle.std.proofs.lemmas.Bool.{eqb-false, false_from_ne_true}
-use Rattle.euler_operators.specs.HalfEdge.{edge_of, plus}
+use Rattle.euler_operators.specs.Common.{edge_of, plus, Model, FaceRow, LoopRow, face_of, loop_of, outer, solid_of, content, Sound, Has, HasHalf, face_at, lists, faces_to_solid, kfmrh, loop_to_face, part, ring_in, Table}
 use Rattle.euler_operators.specs.Table as table
-use Rattle.euler_operators.specs.Model.{Model, FaceRow, LoopRow, face_of, loop_of, outer, solid_of, content}
-use Rattle.euler_operators.specs.Sound.{Sound, Has, HasHalf}
-use Rattle.euler_operators.specs.Conditions.{face_at, lists}
-use Rattle.euler_operators.specs.Effect.{faces_to_solid, kfmrh, loop_to_face, part, ring_in}
-use Rattle.euler_operators.specs.Table.{Table}
-use Rattle.euler_operators.proofs.Halves.{plus_row, same_edge}
-use Rattle.euler_operators.proofs.Models.{face_row, loop_there, same_solid, solid_row}
-use Rattle.euler_operators.proofs.Tables.{get-put_other, get-remove_here, get-remove_other}
-use Rattle.euler_laws.proofs.faces.Kfmrh.{KillGoes, kill_face_l, kill_solid, sound-kfmrh}
-use Rattle.euler_laws.proofs.shared.Rows.{face_there, solid_either, loop_row}
-use Rattle.shapes.specs.split.Drawing.{face_drawn, loops_joined}
+use Rattle.euler_operators.proofs.Common.{plus_row, same_edge, face_row, loop_there, same_solid, solid_row, get-put_other, get-remove_here, get-remove_other}
+use Rattle.euler_laws.proofs.Common.{KillGoes, kill_face_l, kill_solid, sound-kfmrh, face_there, solid_either, loop_row}
+use Rattle.shapes.specs.Common.{face_drawn, loops_joined}
 use Rattle.split_drawing_laws.proofs.drawings.Drawn.{CanDraw, CanJoin, draw_sound, face_drawn_else, face_drawn_new, join_sound, loops_joined_faces}
 use Rattle.split_drawing_laws.proofs.drawings.Stays.{edges_are, joined_edges, row_else, row_gone, row_joined, row_other}
 use Rattle.split_drawing_laws.proofs.face_sides.Beside.{never_free, new_loop_face, old_loop_face}

@@ -1,29 +1,11 @@
 -- A face that the plane doesn't straddle stands as it did once the edges are cut and the faces drawn that do.
-use Rattle.std.specs.Prelude.{fold, map}
-use Rattle.std.proofs.Common.{◌≡◌, ◌≢◌, ℕ, ◌+◌, Bool, true, false, ◌&&◌, ◌||◌, List, [], ◌∷◌, None, Some, is_some, refl, sym, ap, subst, ◌∙◌, arith, true≢false, inl, inr, ◌⊎◌}
+use Rattle.std.proofs.Common.{◌≡◌, ◌≢◌, ℕ, ◌+◌, Bool, true, false, ◌&&◌, ◌||◌, List, [], ◌∷◌, None, Some, is_some, refl, sym, ap, subst, ◌∙◌, arith, true≢false, inl, inr, ◌⊎◌, fold, map}
 use Rattle.std.proofs.lemmas.Bool.{false_from_ne_true}
-use Rattle.euler_operators.specs.declared.Plane.{Plane}
-use Rattle.euler_operators.specs.Vectors.{is_above, is_below, are_opposite}
-use Rattle.euler_operators.specs.Items.{count, IsIn}
-use Rattle.euler_operators.specs.HalfEdge.{edge_of, mate, minus, plus}
+use Rattle.euler_operators.specs.Common.{Plane, is_above, is_below, are_opposite, count, IsIn, edge_of, mate, minus, plus, Model, after, content, face_of, items_of, loop_of, point_of, rings_of, tail, Sound, Has, HasHalf, face_at, lists, edge_row, ring_in}
 use Rattle.euler_operators.specs.Table as table
-use Rattle.euler_operators.specs.Model.{Model, after, content, face_of, items_of, loop_of, point_of, rings_of, tail}
-use Rattle.euler_operators.specs.Sound.{Sound, Has, HasHalf}
-use Rattle.euler_operators.specs.Conditions.{face_at, lists}
-use Rattle.euler_operators.specs.Effect.{edge_row, ring_in}
-use Rattle.euler_operators.proofs.Halves.{mate_minus, mate_plus, minus_row, plus_row}
-use Rattle.euler_operators.proofs.Lists.{IsIn_or_not, tick_same}
-use Rattle.euler_operators.proofs.Members.{filter_passes}
-use Rattle.euler_operators.proofs.Models.{cycle_there, face_row, in-holds, loop_there, mate_there, same_face}
-use Rattle.euler_laws.proofs.shared.Arcs.{halves_of_edge}
-use Rattle.euler_laws.proofs.shared.Fans.{half_after, loop_after}
-use Rattle.euler_laws.proofs.shared.Listed.{IsIn-from_listed, listed-from_in}
-use Rattle.euler_laws.proofs.shared.Rows.{edge_there}
-use Rattle.shapes.specs.Faces.{corners, vertices_on}
-use Rattle.shapes.specs.split.Sides.{crossing_edges, reaches_above, reaches_below, straddles, straddling_faces}
-use Rattle.shapes.specs.split.Crossings.{with_crossings}
-use Rattle.shapes.specs.split.Drawing.{Drawing, FacePairs, drawn_between, face_drawn, loops_joined, next_drawn, straddling_pairs, undrawn, with_drawings}
-use Rattle.shapes.specs.split.Split.{split_refusal}
+use Rattle.euler_operators.proofs.Common.{mate_minus, mate_plus, minus_row, plus_row, IsIn_or_not, tick_same, filter_passes, cycle_there, face_row, in-holds, loop_there, mate_there, same_face}
+use Rattle.euler_laws.proofs.Common.{halves_of_edge, half_after, loop_after, IsIn-from_listed, listed-from_in, edge_there}
+use Rattle.shapes.specs.Common.{corners, vertices_on, crossing_edges, reaches_above, reaches_below, straddles, straddling_faces, with_crossings, Drawing, FacePairs, drawn_between, face_drawn, loops_joined, next_drawn, straddling_pairs, undrawn, with_drawings, split_refusal}
 use Rattle.split_drawing_laws.specs.crossings.Kept.{Kept}
 use Rattle.split_drawing_laws.specs.crossings.Laws.{CanBegin}
 use Rattle.split_drawing_laws.specs.drawings.DrawnIn.{DrawnIn}

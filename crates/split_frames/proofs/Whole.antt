@@ -1,18 +1,9 @@
 -- The models before and after a split agree but for the two parts, and each vertex keeps its point.
-use Rattle.std.specs.Prelude.{filter}
-use Rattle.std.proofs.Common.{◌≡◌, ◌≢◌, ℕ, false, List, [], is_some, sym, ap, subst, ◌∙◌}
-use Rattle.std.proofs.lemmas.Bool.{ne_eqb}
-use Rattle.euler_operators.specs.declared.Plane.{Plane}
+use Rattle.std.proofs.Common.{◌≡◌, ◌≢◌, ℕ, false, List, [], is_some, sym, ap, subst, ◌∙◌, filter, ne_eqb}
+use Rattle.euler_operators.specs.Common.{Plane, Model, rings_of, solid_of, Sound, Has, part}
 use Rattle.euler_operators.specs.Table as table
-use Rattle.euler_operators.specs.Model.{Model, rings_of, solid_of}
-use Rattle.euler_operators.specs.Sound.{Sound, Has}
-use Rattle.euler_operators.specs.Effect.{part}
-use Rattle.euler_operators.proofs.Models.{same_solid}
-use Rattle.shapes.specs.split.Sides.{faces_above}
-use Rattle.shapes.specs.split.Drawing.{Drawing, with_drawings}
-use Rattle.shapes.specs.split.Section.{below_halves, section_cycles}
-use Rattle.shapes.specs.split.Opening.{Opening, holes_closed, outer_caps}
-use Rattle.shapes.specs.split.Split.{opened_at, split_model}
+use Rattle.euler_operators.proofs.Common.{same_solid}
+use Rattle.shapes.specs.Common.{faces_above, Drawing, with_drawings, below_halves, section_cycles, Opening, holes_closed, outer_caps, opened_at, split_model}
 use Rattle.split_drawing_laws.proofs.crossings.Whole.{crossings_keep}
 use Rattle.split_opening_laws.specs.sections.InTurn.{upper_faces}
 use Rattle.split_laws.specs.SplitOps.{hole_ops}

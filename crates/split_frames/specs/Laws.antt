@@ -1,9 +1,7 @@
 -- What a split that was answered Ok leaves as it was: whatever isn't of the solid that was split, and its faces that the plane doesn't straddle.
 use Rattle.std.specs.Prelude.{◌≡◌, ℕ, false, cond}
-use Rattle.euler_operators.specs.declared.Plane.{Plane}
-use Rattle.euler_operators.specs.Model.{solid_of}
-use Rattle.euler_operators.specs.Sound.{Sound, Has}
-use Rattle.shapes.specs.split.Sides.{face_is_above, straddles}
+use Rattle.euler_operators.specs.Common.{Plane, solid_of, Sound, Has}
+use Rattle.shapes.specs.Common.{face_is_above, straddles}
 use Rattle.undo_journal.specs.Machine.{Machine, held}
 use Rattle.plane_split.specs.SplitModels.{IsSplit}
 use Rattle.command_laws.specs.LeftAlone.{KeepsRows, KeepsOwners, KeepsLoops, KeepsEdges, KeepsPoints, KeepsShapes, OfOthers, StandsAsBefore}

@@ -1,24 +1,11 @@
 -- Whether a cycle is a hole is told by the model before the openings.
-use Rattle.std.specs.Prelude.{filter, flat_map, int_lt}
-use Rattle.std.proofs.Common.{◌≡◌, ◌<◌, ◌≤◌, ℕ, suc, ◌+◌, Bool, false, cond, pos, List, [], ◌∷◌, ◌++◌, length, map, unwrap_or, refl, sym, ap, ◌∙◌, arith}
-use Rattle.std.proofs.lemmas.List.{append_assoc, append-nil, length-map, map-append}
+use Rattle.std.proofs.Common.{◌≡◌, ◌<◌, ◌≤◌, ℕ, suc, ◌+◌, Bool, false, cond, pos, List, [], ◌∷◌, ◌++◌, length, map, unwrap_or, refl, sym, ap, ◌∙◌, arith, filter, flat_map, int_lt, append_assoc, append-nil}
+use Rattle.std.proofs.lemmas.List.{length-map, map-append}
 use Rattle.std.proofs.lemmas.Grind.{flat_map-append}
-use Rattle.euler_operators.specs.declared.Plane.{Plane}
-use Rattle.euler_operators.specs.Vectors.{dot, direction, cross, moved}
-use Rattle.euler_operators.specs.Items.{count, IsIn}
-use Rattle.euler_operators.specs.HalfEdge.{mate}
+use Rattle.euler_operators.specs.Common.{Plane, dot, direction, cross, moved, count, IsIn, mate, Model, tail, point_of, no_point, Sound, Has, HasHalf}
 use Rattle.euler_operators.specs.Table as table
-use Rattle.euler_operators.specs.Model.{Model, tail, point_of, no_point}
-use Rattle.euler_operators.specs.Sound.{Sound, Has, HasHalf}
-use Rattle.euler_operators.proofs.Lists.{tick_same, count-append, tick_other}
-use Rattle.euler_operators.proofs.Halves.{mate-mate}
-use Rattle.euler_operators.proofs.Tables.{in_use_within}
-use Rattle.euler_operators.proofs.Models.{mate_there}
-use Rattle.shapes.specs.Faces.{start, finish}
-use Rattle.shapes.specs.Fresh.{Taken}
-use Rattle.shapes.specs.Measure.{area}
-use Rattle.shapes.specs.split.Section.{is_hole, has_stray_hole}
-use Rattle.shapes.specs.split.Opening.{Caps, Opening, opened_along, next_opened, all_opened}
+use Rattle.euler_operators.proofs.Common.{tick_same, count-append, tick_other, mate-mate, in_use_within, mate_there}
+use Rattle.shapes.specs.Common.{start, finish, Taken, area, is_hole, has_stray_hole, Caps, Opening, opened_along, next_opened, all_opened}
 use Rattle.split_opening_laws.specs.cycles.SectionCycles.{IsSectionCycle, AreSectionCycles}
 use Rattle.split_opening_laws.specs.Numbers.{AreFree}
 use Rattle.split_opening_laws.specs.sections.InTurn.{CanBeOpenedInTurn}

@@ -1,24 +1,15 @@
 -- A cap that becomes a ring of another: the operator is accepted, and what stays.
-use Rattle.std.specs.Prelude.{fold, filter}
 use Rattle.std.specs.List.{list_any}
-use Rattle.std.proofs.Common.{◌≡◌, ◌≢◌, ℕ, true, List, [], ◌∷◌, is_some, refl, sym, ap, ◌∙◌, arith, ◌⊎◌, inl, inr, true≢false, ◌≤◌, ◌<◌, suc, Bool, false, cond, length, None, not, ◌||◌, get_or, zero, ◌++◌}
+use Rattle.std.proofs.Common.{◌≡◌, ◌≢◌, ℕ, true, List, [], ◌∷◌, is_some, refl, sym, ap, ◌∙◌, arith, ◌⊎◌, inl, inr, true≢false, ◌≤◌, ◌<◌, suc, Bool, false, cond, length, None, not, ◌||◌, get_or, zero, ◌++◌, fold, filter}
 use Rattle.std.proofs.lemmas.Bool.Decides.{nat_tests, eqb_tells}
-use Rattle.euler_operators.specs.Items.{tick, count, IsIn, IsApart}
-use Rattle.euler_operators.specs.HalfEdge.{mate}
+use Rattle.euler_operators.specs.Common.{tick, count, IsIn, IsApart, mate, tables, Model, loop_of, face_of, solid_of, outer, Sound, Has, HasHalf, face_at, lists, effect, kfmrh}
 use Rattle.euler_operators.specs.Table as table
-use Rattle.euler_operators.specs.Table.{tables}
-use Rattle.euler_operators.specs.Model.{Model, loop_of, face_of, solid_of, outer}
-use Rattle.euler_operators.specs.Sound.{Sound, Has, HasHalf}
-use Rattle.euler_operators.specs.Conditions.{face_at, lists}
 use Rattle.euler_operators.specs.declared.Op.TheVariants.{Kfmrh}
-use Rattle.euler_operators.specs.Effect.{effect, kfmrh}
 use Rattle.euler_operators.specs.declared.Op.{Op}
-use Rattle.euler_operators.proofs.Lists.{tick_same, tick_other, IsIn_or_not}
-use Rattle.euler_operators.proofs.Models.{mate_there}
-use Rattle.euler_laws.proofs.shared.Loops.{loop_sound}
+use Rattle.euler_operators.proofs.Common.{tick_same, tick_other, IsIn_or_not, mate_there}
+use Rattle.euler_laws.proofs.Common.{loop_sound, KillGoes, sound-kfmrh, kill_same, kill_face_l, kill_face_else, l_face, g_gone, kill_solid, kill_outer, kfmrh_accepted}
 use Rattle.euler_laws.proofs.shared.Rings.{SameRings, half_back, loop-rings}
-use Rattle.euler_laws.proofs.faces.Kfmrh.{KillGoes, sound-kfmrh, kill_same, kill_face_l, kill_face_else, l_face, g_gone, kill_solid, kill_outer, kfmrh_accepted}
-use Rattle.shapes.specs.split.Opening.{Caps, outer_caps, hole_closed, no_caps}
+use Rattle.shapes.specs.Common.{Caps, outer_caps, hole_closed, no_caps}
 use Rattle.split_drawing_laws.proofs.drawings.Runs.{Leads, leads_one, leads_none, leads_on}
 use Rattle.split_opening_laws.specs.sections.Capped.{IsPlain, ArePlain, cap_faces}
 use Rattle.split_laws.specs.SplitOps.{closing_ops}

@@ -1,7 +1,7 @@
 -- The operators that open a solid along all cycles of its section, in turn.
 use Rattle.std.proofs.Common.{◌≡◌, ℕ, List, [], ◌∷◌, refl, ◌∙◌}
-use Rattle.euler_operators.specs.declared.Plane.{Plane}
-use Rattle.shapes.specs.split.Opening.{Opening, opened_along, next_opened, all_opened}
+use Rattle.euler_operators.specs.Common.{Plane}
+use Rattle.shapes.specs.Common.{Opening, opened_along, next_opened, all_opened}
 use Rattle.split_drawing_laws.proofs.drawings.Runs.{Leads, leads_none, leads_on}
 use Rattle.split_opening_laws.specs.sections.InTurn.{CanBeOpenedInTurn}
 use Rattle.split_opening_laws.proofs.sections.InTurn.{can_open, others_on}

@@ -1,38 +1,19 @@
 -- The upper faces that are left parted from the solid: a split from its first operator to its two solids.
-use Rattle.std.specs.Prelude.{filter, map, fold}
-use Rattle.std.proofs.Common.{◌≡◌, ℕ, Bool, true, false, cond, List, [], ◌∷◌, None, is_some, IsTrue, refl, sym, ap, ◌∙◌, subst, ◌+◌, ◌≤◌, not, ◌++◌, arith, ◌<◌, length, unwrap_or}
-use Rattle.euler_operators.specs.HalfEdge.{mate}
+use Rattle.std.proofs.Common.{◌≡◌, ℕ, Bool, true, false, cond, List, [], ◌∷◌, None, is_some, IsTrue, refl, sym, ap, ◌∙◌, subst, ◌+◌, ◌≤◌, not, ◌++◌, arith, ◌<◌, length, unwrap_or, filter, map, fold}
+use Rattle.euler_operators.specs.Common.{mate, Model, loop_of, solid_of, is_number, no_face, Has, HasHalf, Sound, face_at, lists, strictly_rises, effect, part, faces_to_solid, count, IsIn, IsApart, Plane}
 use Rattle.euler_operators.specs.Table as table
-use Rattle.euler_operators.specs.Model.{Model, loop_of, solid_of, is_number, no_face}
-use Rattle.euler_operators.specs.Sound.{Has, HasHalf, Sound}
 use Rattle.euler_operators.specs.declared.Op.TheVariants.{Part}
-use Rattle.euler_operators.specs.Conditions.{face_at, lists, strictly_rises}
-use Rattle.euler_operators.specs.Effect.{effect, part, faces_to_solid}
-use Rattle.euler_operators.specs.Items.{count, IsIn, IsApart}
 use Rattle.euler_operators.specs.declared.Op.{Op}
-use Rattle.euler_operators.proofs.Models.{row_of, mate_there}
-use Rattle.euler_operators.proofs.Tests.{same_truth}
-use Rattle.euler_operators.proofs.Tables.{map_alike}
-use Rattle.euler_operators.proofs.Lists.{tick_same, count-append}
-use Rattle.euler_laws.proofs.shared.Listed.{IsIn-from_listed, listed-from_in}
-use Rattle.euler_laws.proofs.merge.Part.{PartGoes, part_accepted}
-use Rattle.euler_operators.proofs.Members.{IsIn-filter, count-filter, filter_passes}
-use Rattle.shapes.specs.split.Opening.{Caps, Opening, outer_caps, hole_closed, holes_closed}
-use Rattle.shapes.specs.split.Split.{upper_left, opened_at, split_above, split_refusal, split_model, split_drawn}
+use Rattle.euler_operators.proofs.Common.{row_of, mate_there, same_truth, map_alike, tick_same, count-append, IsIn-filter, count-filter, filter_passes, mate-mate}
+use Rattle.euler_laws.proofs.Common.{IsIn-from_listed, listed-from_in, PartGoes, part_accepted, counted_once, none_counted, effects_keep_sound}
+use Rattle.shapes.specs.Common.{Caps, Opening, outer_caps, hole_closed, holes_closed, upper_left, opened_at, split_above, split_refusal, split_model, split_drawn, Drawing, with_drawings, below_halves, section_cycles, has_stray_hole, faces_above}
 use Rattle.split_drawing_laws.proofs.drawings.Runs.{Leads, leads_one, leads_on}
 use Rattle.split_opening_laws.specs.sections.Capped.{ArePlain, cap_faces, HasCaps}
 use Rattle.split_opening_laws.specs.sections.InTurn.{upper_faces, CanBeOpenedInTurn}
 use Rattle.split_opening_laws.proofs.cycles.RisingLists.{filter_rises}
 use Rattle.split_laws.proofs.Holes.{CanPart, AreClosed, AreLevel, CanClose, none_closed, all_close, can_close, holes_counted}
 use Rattle.std.proofs.lemmas.Bool.{false_from_ne_true}
-use Rattle.euler_operators.specs.declared.Plane.{Plane}
-use Rattle.euler_operators.proofs.Halves.{mate-mate}
 use Rattle.euler_laws.specs.Laws.{AreAccepted, effects}
-use Rattle.euler_laws.proofs.shared.Counted.{counted_once, none_counted}
-use Rattle.euler_laws.proofs.Runs.{effects_keep_sound}
-use Rattle.shapes.specs.split.Drawing.{Drawing, with_drawings}
-use Rattle.shapes.specs.split.Section.{below_halves, section_cycles, has_stray_hole}
-use Rattle.shapes.specs.split.Sides.{faces_above}
 use Rattle.split_opening_laws.proofs.sections.InTurn.{above_there, all_on, caps_rise}
 use Rattle.split_drawing_laws.specs.pairs.Laws.{rewriting_ops}
 use Rattle.split_drawing_laws.proofs.pairs.Whole.{rewritings_accepted, rewritings_made}

@@ -1,11 +1,8 @@
 -- The laws of splits, each over every sound model and every split that isn't refused.
 use Rattle.std.specs.Prelude.{◌≡◌, ℕ, List, None}
-use Rattle.euler_operators.specs.declared.Plane.{Plane}
-use Rattle.euler_operators.specs.Model.{Model}
-use Rattle.euler_operators.specs.Sound.{Sound}
+use Rattle.euler_operators.specs.Common.{Plane, Model, Sound}
 use Rattle.euler_laws.specs.Laws.{AreAccepted, effects}
-use Rattle.shapes.specs.split.Opening.{Opening, all_opened}
-use Rattle.shapes.specs.split.Split.{split_refusal, split_model}
+use Rattle.shapes.specs.Common.{Opening, all_opened, split_refusal, split_model}
 use Rattle.split_opening_laws.specs.sections.InTurn.{CanBeOpenedInTurn}
 use Rattle.split_laws.specs.SplitOps.{openings_ops, split_ops}
 

@@ -1,14 +1,9 @@
 -- The Euler operators of a split, in turn.
 use Rattle.std.specs.Prelude.{ℕ, List, [], ◌∷◌, ◌++◌, filter, flat_map}
-use Rattle.euler_operators.specs.declared.Plane.{Plane}
-use Rattle.euler_operators.specs.Model.{Model}
+use Rattle.euler_operators.specs.Common.{Plane, Model}
 use Rattle.euler_operators.specs.declared.Op.{Op}
 use Rattle.euler_operators.specs.declared.Op.TheVariants.{Kfmrh, Part}
-use Rattle.shapes.specs.split.Sides.{faces_above}
-use Rattle.shapes.specs.split.Section.{below_halves, section_cycles}
-use Rattle.shapes.specs.split.Drawing.{Drawing, with_drawings}
-use Rattle.shapes.specs.split.Opening.{Caps, Opening, next_opened, outer_caps}
-use Rattle.shapes.specs.split.Split.{opened_at, upper_left}
+use Rattle.shapes.specs.Common.{faces_above, below_halves, section_cycles, Drawing, with_drawings, Caps, Opening, next_opened, outer_caps, opened_at, upper_left}
 use Rattle.split_drawing_laws.specs.pairs.Laws.{rewriting_ops}
 use Rattle.split_opening_laws.specs.opening.OpeningOps.{opening_ops}
 

@@ -1,8 +1,8 @@
 -- The numbers that openings take.
 use Rattle.std.specs.Prelude.{◌≡◌, ℕ, ◌+◌, ◌*◌, ◌≤◌, ◌<◌, None}
 use Rattle.euler_operators.specs.Table as table
-use Rattle.euler_operators.specs.Model.{Model}
-use Rattle.shapes.specs.Fresh.{Taken}
+use Rattle.euler_operators.specs.Common.{Model}
+use Rattle.shapes.specs.Common.{Taken}
 
 -- the numbers above those taken are free
 pub record AreFree (M : Model) (c : Taken) : Type 0 where

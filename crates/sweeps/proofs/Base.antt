@@ -1,17 +1,11 @@
 -- The lamina of a block's base: its first face has one loop, of four half-edges, and these are ready to be swept.
-use Rattle.std.specs.Prelude.{map, length}
-use Rattle.std.proofs.Common.{◌≡◌, ℕ, ◌+◌, List, [], ◌∷◌, None, refl, sym, ap, subst, ◌∙◌, arith}
-use Rattle.euler_operators.specs.declared.Point.{Point}
-use Rattle.euler_operators.specs.HalfEdge.{plus}
+use Rattle.std.proofs.Common.{◌≡◌, ℕ, ◌+◌, List, [], ◌∷◌, None, refl, sym, ap, subst, ◌∙◌, arith, map, length}
+use Rattle.euler_operators.specs.Common.{Point, plus, Model, FaceRow, LoopRow, EdgeRow, content, items_of, outer, rings_of, Sound}
 use Rattle.euler_operators.specs.Table as table
-use Rattle.euler_operators.specs.Model.{Model, FaceRow, LoopRow, EdgeRow, content, items_of, outer, rings_of}
-use Rattle.euler_operators.specs.Sound.{Sound}
-use Rattle.euler_operators.proofs.Models.{content_row, outer_row}
+use Rattle.euler_operators.proofs.Common.{content_row, outer_row}
 use Rattle.euler_laws.specs.Laws.{effects}
-use Rattle.shapes.proofs.fresh.Rows.{greatest-put_last}
-use Rattle.shapes.specs.Fresh.{Taken, taken_in, numbers_after}
-use Rattle.shapes.specs.Lamina.{lamina_at, with_path}
-use Rattle.shapes.specs.Prism.{prism_refusal, prism_model}
+use Rattle.shapes.proofs.Common.{greatest-put_last}
+use Rattle.shapes.specs.Common.{Taken, taken_in, numbers_after, lamina_at, with_path, prism_refusal, prism_model}
 use Rattle.sweeps_laws.specs.prism.SweepOps.{loop_ops, taken_after}
 use Rattle.sweeps_laws.specs.prism.Ready.{Ready}
 use Rattle.sweeps_laws.proofs.FromSound.{sound_bounded}

@@ -1,21 +1,12 @@
 -- What the steps of a block say, put together.
-use Rattle.std.specs.Prelude.{get_or, map}
-use Rattle.std.proofs.Common.{◌≡◌, ℕ, ◌<◌, ℤ, pos, List, None, sym, ap, ◌∙◌, subst}
-use Rattle.euler_operators.specs.declared.Point.{Point}
-use Rattle.euler_operators.specs.Points.{IsInRange}
-use Rattle.euler_operators.specs.Vectors.{moved}
-use Rattle.euler_operators.specs.HalfEdge.{plus}
-use Rattle.euler_operators.specs.Model.{Model, no_point}
-use Rattle.euler_operators.specs.Sound.{Sound}
-use Rattle.shapes.specs.Fresh.{Taken, taken_in, numbers_after}
-use Rattle.shapes.specs.Lamina.{lamina_refusal, lamina_model, lamina_face}
-use Rattle.shapes.specs.Prism.{prism_refusal, prism_model}
-use Rattle.shapes.specs.Block.{vector, base_of, block_refusal, block_model}
+use Rattle.std.proofs.Common.{◌≡◌, ℕ, ◌<◌, ℤ, pos, List, None, sym, ap, ◌∙◌, subst, get_or, map}
+use Rattle.euler_operators.specs.Common.{Point, IsInRange, moved, plus, Model, no_point, Sound}
+use Rattle.shapes.specs.Common.{Taken, taken_in, numbers_after, lamina_refusal, lamina_model, lamina_face, prism_refusal, prism_model, vector, base_of, block_refusal, block_model}
 use Rattle.sweeps_laws.proofs.lamina.Walk.{lamina_goes, lamina_is_sound}
 use Rattle.sweeps_laws.proofs.lamina.Blocks.{blocks_have_bases, bases_rise}
 use Rattle.sweeps_laws.specs.prism.SweepOps.{loop_ops}
 use Rattle.euler_laws.specs.Laws.{effects}
-use Rattle.shapes.proofs.fresh.Tests.{Left}
+use Rattle.shapes.proofs.Common.{Left}
 use Rattle.sweeps.specs.Raising.{CanRise, with_lamina}
 use Rattle.sweeps.proofs.Base.{base, base_rises, base_risen}
 

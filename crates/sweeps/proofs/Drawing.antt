@@ -1,19 +1,10 @@
 -- A draft in which a lamina is being drawn.
-use Rattle.std.specs.Prelude.{length, get_or, ◌-◌}
-use Rattle.std.proofs.Common.{◌≡◌, ℕ, suc, ◌+◌, ◌≤◌, ◌<◌, List, Option, Some, None, Ok, refl, sym, ap, subst, ◌∙◌, arith}
-use Rattle.euler_operators.specs.declared.Point.{Point}
-use Rattle.euler_operators.specs.declared.HalfEdge.{HalfEdge}
-use Rattle.euler_operators.specs.declared.Corner.{Corner}
-use Rattle.euler_operators.specs.declared.Corner.TheVariants.{At, Lone}
-use Rattle.euler_operators.specs.Model.{Model, no_point}
-use Rattle.euler_operators.specs.Sound.{Sound}
+use Rattle.std.proofs.Common.{◌≡◌, ℕ, suc, ◌+◌, ◌≤◌, ◌<◌, List, Option, Some, None, Ok, refl, sym, ap, subst, ◌∙◌, arith, length, get_or, ◌-◌}
+use Rattle.euler_operators.specs.Common.{Point, HalfEdge, Corner, At, Lone, Model, no_point, Sound, first_false, verdict, effect}
 use Rattle.euler_operators.specs.declared.Op.{Op}
 use Rattle.euler_operators.specs.declared.Op.TheVariants.{Mvfs, Mev, Mef}
 use Rattle.euler_operators.specs.declared.Refusal.{Refusal}
-use Rattle.euler_operators.specs.Conditions.{first_false, verdict}
-use Rattle.euler_operators.specs.Effect.{effect}
-use Rattle.shapes.specs.Fresh.{Taken, taken_in}
-use Rattle.shapes.specs.Lamina.{lamina_refusal, lamina_at, lamina_model}
+use Rattle.shapes.specs.Common.{Taken, taken_in, lamina_refusal, lamina_at, lamina_model}
 use Rattle.sweeps_laws.specs.lamina.Path.{path_at, first_half, second_half, first_point, end_corner, next_point, last_edge}
 use Rattle.sweeps_laws.proofs.lamina.Steps.{Goes, first_accepted, first_made}
 use Rattle.sweeps_laws.proofs.lamina.Walk.{lamina_goes, next_accepted, next_made, path_sound, close_accepted, close_made}

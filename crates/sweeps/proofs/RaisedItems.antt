@@ -1,25 +1,11 @@
 -- The items of a loop that is swept, as the code holds them, and the steps that it takes with them.
-use Rattle.std.proofs.Common.{◌≡◌, ℕ, suc, zero, ◌+◌, ◌-◌, ◌*◌, ◌<◌, ◌≤◌, List, [], ◌∷◌, map, length, None, sym, ap, ◌∙◌, subst, arith, add-one}
-use Rattle.std.specs.Prelude.{get_or}
+use Rattle.std.proofs.Common.{◌≡◌, ℕ, suc, zero, ◌+◌, ◌-◌, ◌*◌, ◌<◌, ◌≤◌, List, [], ◌∷◌, map, length, None, sym, ap, ◌∙◌, subst, arith, add-one, get_or}
 use Rattle.std.proofs.lemmas.List.{get_or-map}
-use Rattle.euler_operators.specs.declared.Point.{Point}
-use Rattle.euler_operators.specs.Points.{IsInRange}
-use Rattle.euler_operators.specs.Vectors.{moved}
-use Rattle.euler_operators.specs.Items.{IsIn}
-use Rattle.euler_operators.proofs.Std.{IsIn-get_or}
-use Rattle.euler_operators.specs.declared.HalfEdge.{HalfEdge}
-use Rattle.euler_operators.specs.declared.Corner.TheVariants.{At}
-use Rattle.euler_operators.specs.HalfEdge.{code, half, plus}
-use Rattle.euler_operators.proofs.Halves.{half-code}
-use Rattle.euler_operators.specs.Model.{Model}
-use Rattle.euler_operators.specs.Sound.{HasHalf}
+use Rattle.euler_operators.specs.Common.{Point, IsInRange, moved, IsIn, HalfEdge, At, code, half, plus, Model, HasHalf, first_false, effect}
+use Rattle.euler_operators.proofs.Common.{IsIn-get_or, half-code}
 use Rattle.euler_operators.specs.declared.Op.TheVariants.{Mev}
-use Rattle.euler_operators.specs.Conditions.{first_false}
-use Rattle.euler_operators.specs.Effect.{effect}
 use Rattle.euler_laws.specs.Laws.{effects}
-use Rattle.shapes.specs.Faces.{start}
-use Rattle.shapes.specs.Fresh.{Taken}
-use Rattle.shapes.specs.Prism.{riser}
+use Rattle.shapes.specs.Common.{start, Taken, riser}
 use Rattle.sweeps_laws.specs.prism.SweepOps.{raise_item, close, close_last, rounds, loop_ops}
 use Rattle.sweeps_laws.proofs.prism.Sides.{half_there, two_items}
 use Rattle.sweeps_laws.proofs.prism.Turns.{turn_half, turn_range, raise_accepted, close_accepted, turn_is, last_accepted, last_is}

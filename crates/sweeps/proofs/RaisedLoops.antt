@@ -1,14 +1,9 @@
 -- The loops of a face that is swept, as the code takes them one after the other.
-use Rattle.std.proofs.Common.{◌≡◌, ℕ, ◌-◌, ◌≤◌, None, List, [], ◌∷◌, length, sym, ap, ◌∙◌, subst, arith}
-use Rattle.std.specs.Prelude.{take, drop, slice_index_or}
+use Rattle.std.proofs.Common.{◌≡◌, ℕ, ◌-◌, ◌≤◌, None, List, [], ◌∷◌, length, sym, ap, ◌∙◌, subst, arith, take, drop, slice_index_or}
 use Rattle.std.proofs.lemmas.List.{take_rest}
-use Rattle.euler_operators.specs.declared.Point.{Point}
-use Rattle.euler_operators.specs.Model.{Model, face_of, items_of, content, outer, rings_of}
-use Rattle.euler_operators.specs.Sound.{Sound}
+use Rattle.euler_operators.specs.Common.{Point, Model, face_of, items_of, content, outer, rings_of, Sound}
 use Rattle.euler_laws.specs.Laws.{effects}
-use Rattle.shapes.specs.Faces.{loops_of}
-use Rattle.shapes.specs.Fresh.{Taken, taken_in}
-use Rattle.shapes.specs.Prism.{prism_from, prism_model, prism_refusal}
+use Rattle.shapes.specs.Common.{loops_of, Taken, taken_in, prism_from, prism_model, prism_refusal}
 use Rattle.sweeps_laws.specs.prism.SweepOps.{loop_ops, taken_after}
 use Rattle.sweeps_laws.specs.prism.Ready.{Ready}
 use Rattle.sweeps_laws.proofs.prism.Whole.{Going, turn_ready, turn_next, turn_model}

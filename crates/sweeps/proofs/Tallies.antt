@@ -1,21 +1,11 @@
 -- Tallies of corners, one after the other.
-use Rattle.std.specs.Prelude.{◌+◌, length, min, map}
 use Rattle.std.specs.Option.{option_or}
-use Rattle.std.specs.List.{fold}
-use Rattle.std.proofs.Common.{◌≡◌, ℕ, Bool, true, false, cond, List, [], ◌∷◌, ◌++◌, append_assoc, Some, None, refl, sym, ap, subst, ◌∙◌, arith}
-use Rattle.std.proofs.lemmas.List.{append-nil, length-append}
-use Rattle.euler_operators.specs.declared.Point.{Point}
-use Rattle.euler_operators.specs.Items.{IsIn}
-use Rattle.euler_operators.specs.declared.HalfEdge.{HalfEdge}
-use Rattle.euler_operators.specs.declared.Content.{Content}
-use Rattle.euler_operators.specs.HalfEdge.{code}
-use Rattle.euler_operators.specs.Model.{Model, LoopContent, lone, cycle, items_of, content, tail, cycle_of}
-use Rattle.euler_operators.specs.Sound.{Sound, HasHalf, StandsIn}
-use Rattle.euler_operators.proofs.Models.{in-holds}
+use Rattle.std.proofs.Common.{◌≡◌, ℕ, Bool, true, false, cond, List, [], ◌∷◌, ◌++◌, append_assoc, Some, None, refl, sym, ap, subst, ◌∙◌, arith, ◌+◌, length, min, map, fold, append-nil, length-append}
+use Rattle.euler_operators.specs.Common.{Point, IsIn, HalfEdge, Content, code, Model, LoopContent, lone, cycle, items_of, content, tail, cycle_of, Sound, HasHalf, StandsIn}
+use Rattle.euler_operators.proofs.Common.{in-holds}
 use Rattle.euler_conditions.specs.Store.{Tells}
 use Rattle.euler_conditions.proofs.Borders.{ring_has}
-use Rattle.shapes.specs.Faces.{vertices_on}
-use Rattle.shapes.specs.Fresh.{first_such}
+use Rattle.shapes.specs.Common.{vertices_on, first_such}
 use Rattle.sweeps.specs.Corners.{is_far, joined, tally}
 
 -- ---- a search over two lists

@@ -1,11 +1,8 @@
 -- Lamina, block and sweep are calls of a history.
 use Rattle.std.specs.Prelude.{◌≡◌, ℕ, ℤ, pos, List, ◌++◌, None}
-use Rattle.euler_operators.specs.declared.Point.{Point}
+use Rattle.euler_operators.specs.Common.{Point, Model, Sound}
 use Rattle.euler_operators.specs.declared.Op.{Op}
-use Rattle.euler_operators.specs.Model.{Model}
-use Rattle.euler_operators.specs.Sound.{Sound}
-use Rattle.shapes.specs.Lamina.{lamina_model, lamina_face}
-use Rattle.shapes.specs.Block.{base_of, vector}
+use Rattle.shapes.specs.Common.{lamina_model, lamina_face, base_of, vector}
 use Rattle.sweeps_laws.specs.lamina.Path.{lamina_operators}
 use Rattle.sweeps_laws.specs.prism.SweepOps.{sweep_ops}
 use Rattle.undo_journal.specs.Machine.{Machine, held}

@@ -1,11 +1,8 @@
 -- What is read off the corners of a face before it is swept.
 use Rattle.std.specs.Prelude.{◌+◌, ℕ, Bool, not, List, length, min}
 use Rattle.std.specs.Option.{option_or}
-use Rattle.euler_operators.specs.declared.Point.{Point}
-use Rattle.euler_operators.specs.Points.{is_in_range}
-use Rattle.euler_operators.specs.Vectors.{moved}
-use Rattle.euler_operators.specs.Model.{Model, point_of}
-use Rattle.shapes.specs.Fresh.{first_such}
+use Rattle.euler_operators.specs.Common.{Point, is_in_range, moved, Model, point_of}
+use Rattle.shapes.specs.Common.{first_such}
 use Rattle.sweeps.specs.declared.corners.Tally.{Tally}
 
 -- the point of a vertex, moved along d, is out of range

@@ -4,10 +4,7 @@ pub mod Measures
 pub mod Machine
 pub mod Calls
 pub use Rattle.euler_operators.specs.Items
-pub use Rattle.euler_operators.specs.Model
 pub use Rattle.euler_operators.specs.Rings
-pub use Rattle.euler_operators.specs.Sound
-pub use Rattle.euler_operators.specs.Vectors
 pub use Rattle.euler_laws.specs.Laws as OperatorLaws
 pub use Rattle.undo_journal.specs.Laws as JournalLaws
 pub use Rattle.undo_journal.specs.Journal

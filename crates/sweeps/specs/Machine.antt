@@ -1,12 +1,10 @@
 -- Lamina, block and sweep as commands of the plain machine.
 use Rattle.std.specs.Prelude.{ℕ, ℤ, List, Option}
-use Rattle.euler_operators.specs.declared.Point.{Point}
+use Rattle.euler_operators.specs.Common.{Point}
 use Rattle.euler_operators.specs.declared.Refusal.{Refusal}
 use Rattle.shapes.specs.Lamina as laminas
-use Rattle.shapes.specs.Lamina.{lamina_model}
+use Rattle.shapes.specs.Common.{lamina_model, block_model, prism_refusal, prism_model}
 use Rattle.shapes.specs.Block as blocks
-use Rattle.shapes.specs.Block.{block_model}
-use Rattle.shapes.specs.Prism.{prism_refusal, prism_model}
 use Rattle.undo_journal.specs.Machine.{Machine, held, accepted}
 
 -- the new solid s with the points ps

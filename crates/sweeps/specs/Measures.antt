@@ -1,12 +1,8 @@
 -- What the commands make of the six volumes of solids: s is the machine before an accepted command, and t the one after it.
 use Rattle.std.specs.Prelude.{◌≡◌, ◌≢◌, ℕ, ℤ, pos, ◌+ℤ◌, ◌-ℤ◌, ◌*ℤ◌, true, List, get_or, None}
-use Rattle.euler_operators.specs.declared.Point.{Point}
-use Rattle.euler_operators.specs.Vectors.{dot}
-use Rattle.euler_operators.specs.Model.{no_point, solid_of}
-use Rattle.euler_operators.specs.Sound.{Sound}
+use Rattle.euler_operators.specs.Common.{Point, dot, no_point, solid_of, Sound}
 use Rattle.undo_journal.specs.Machine.{Machine, held}
-use Rattle.shapes.specs.Lamina.{lamina_face}
-use Rattle.shapes.specs.Measure.{normal, is_flat, six_volume}
+use Rattle.shapes.specs.Common.{lamina_face, normal, is_flat, six_volume}
 use Rattle.sweeps.specs.Machine.{lamina, lamina_refusal, block, block_refusal, sweep, sweep_refusal}
 
 -- the solid of a face that was swept has grown by three times the face's normal before, along the vector

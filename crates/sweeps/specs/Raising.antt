@@ -1,8 +1,7 @@
 -- What a loop has to be to be swept, by the half-edges that it holds; and the numbers taken once a lamina is drawn.
 use Rattle.std.specs.Prelude.{ℕ, ◌+◌, List}
-use Rattle.euler_operators.specs.declared.Point.{Point}
-use Rattle.euler_operators.specs.Model.{Model}
-use Rattle.shapes.specs.Fresh.{Taken}
+use Rattle.euler_operators.specs.Common.{Point, Model}
+use Rattle.shapes.specs.Common.{Taken}
 use Rattle.sweeps_laws.specs.prism.Ready.{Ready}
 
 -- some loop of some face holds these half-edges, and is ready to be swept

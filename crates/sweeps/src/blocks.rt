@@ -1,15 +1,10 @@
 //! The block: a lamina swept up, as one command.
 ghost use Rattle.std.specs.Prelude.{◌≡◌, ◌≤◌, ◌↔◌, ◌+◌, pos, map, None, Some, Err, OnOk, OnErr};
-ghost use Rattle.euler_operators.specs.Points.{IsInRange, is_in_range};
-ghost use Rattle.euler_operators.specs.Vectors.{moved};
-ghost use Rattle.euler_operators.specs.HalfEdge.{code, plus};
-ghost use Rattle.euler_operators.specs.Conditions.{verdict};
+ghost use Rattle.euler_operators.specs.Common.{IsInRange, is_in_range, moved, code, plus, verdict, Sound};
 ghost use Rattle.euler_operators.specs.declared.Refusal.{Refusal};
 ghost use Rattle.euler_conditions.specs.Ready.{IsReady};
-ghost use Rattle.euler_operators.specs.Sound.{Sound};
-ghost use Rattle.shapes.specs.Block.{vector, base_of, block_model};
+ghost use Rattle.shapes.specs.Common.{vector, base_of, block_model, numbers_after, taken_in};
 ghost use Rattle.shapes.specs.Block as spec;
-ghost use Rattle.shapes.specs.Fresh.{numbers_after, taken_in};
 ghost use Rattle.solid_walks.specs.Counters.{AreWithin, taken_of};
 ghost use Rattle.undo_journal.specs.Journal.{IsRecorded, IsFurther};
 ghost use Rattle.undo_journal.specs.Machine.{held};

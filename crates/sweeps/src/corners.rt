@@ -1,10 +1,9 @@
 //! The corners of a face that is to be swept: how many there are, and which of them goes out of range.
 ghost use Rattle.std.specs.Prelude.{◌≡◌, true, map, [], ◌∷◌};
-ghost use Rattle.euler_operators.specs.HalfEdge.{code};
-ghost use Rattle.euler_operators.specs.Model.{has_half, content, cycle_of, tail};
+ghost use Rattle.euler_operators.specs.Common.{code, has_half, content, cycle_of, tail};
 ghost use Rattle.euler_conditions.specs.Store.{has_number};
 ghost use Rattle.euler_conditions.specs.Ready.{IsReady};
-ghost use Rattle.shapes.specs.Faces.{corners, vertices_on};
+ghost use Rattle.shapes.specs.Common.{corners, vertices_on};
 ghost use Rattle.sweeps.specs.Corners.{joined, tally};
 
 use euler_conditions::Arena;

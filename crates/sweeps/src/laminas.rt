@@ -1,14 +1,10 @@
 //! The lamina: a flat ring of corners with a face on either side.
 ghost use Rattle.std.specs.Prelude.{◌≡◌, ◌≤◌, ◌<◌, ◌↔◌, length, get_or, [], None, Some, Err, OnOk, OnErr};
 ghost use Rattle.std.specs.List.{list_any};
-ghost use Rattle.euler_operators.specs.Vectors.{same_point};
-ghost use Rattle.euler_operators.specs.Model.{no_point};
-ghost use Rattle.euler_operators.specs.Conditions.{verdict};
+ghost use Rattle.euler_operators.specs.Common.{same_point, no_point, verdict, Sound};
 ghost use Rattle.euler_conditions.specs.Ready.{IsReady};
-ghost use Rattle.euler_operators.specs.Sound.{Sound};
 ghost use Rattle.euler_operators.specs.declared.Refusal.{Refusal};
-ghost use Rattle.shapes.specs.Fresh.{taken_in};
-ghost use Rattle.shapes.specs.Lamina.{lamina_model};
+ghost use Rattle.shapes.specs.Common.{taken_in, lamina_model};
 ghost use Rattle.shapes.specs.Lamina as spec;
 ghost use Rattle.solid_walks.specs.Counters.{AreWithin, taken_of};
 ghost use Rattle.undo_journal.specs.Journal.{IsRecorded, IsFurther};

@@ -1,20 +1,14 @@
 //! A face swept operator by operator in a draft.
 ghost use Rattle.std.specs.Prelude.{◌≡◌, ◌≤◌, ◌<◌, ◌+◌, ◌-◌, ◌*◌, true, false, None, OnOk, OnErr, IfOk, get_or, length, map};
-ghost use Rattle.euler_operators.specs.Points.{IsInRange};
-ghost use Rattle.euler_operators.specs.Vectors.{moved};
-ghost use Rattle.euler_operators.specs.HalfEdge.{code};
-ghost use Rattle.euler_operators.specs.Model.{has_half, items_of, content, face_of};
+ghost use Rattle.euler_operators.specs.Common.{IsInRange, moved, code, has_half, items_of, content, face_of, first_false, is_lone};
 ghost use Rattle.euler_conditions.specs.Ready.{IsReady};
 ghost use Rattle.euler_conditions.specs.Store.{has_number};
 ghost use Rattle.euler_laws.specs.Laws.{effects};
-ghost use Rattle.euler_operators.specs.Conditions.{first_false, is_lone};
 ghost use Rattle.undo_journal.specs.Journal.{after_step, IsFurther};
-ghost use Rattle.shapes.specs.Faces.{start};
+ghost use Rattle.shapes.specs.Common.{start, prism_refusal, prism_model, taken_in};
 ghost use Rattle.shapes.specs.Prism as prism;
-ghost use Rattle.shapes.specs.Prism.{prism_refusal, prism_model};
 ghost use Rattle.sweeps_laws.specs.prism.SweepOps as ops;
 ghost use Rattle.sweeps_laws.specs.prism.Ready.{Ready};
-ghost use Rattle.shapes.specs.Fresh.{taken_in};
 ghost use Rattle.solid_walks.specs.Counters.{taken_of};
 ghost use Rattle.sweeps.specs.Raising.{CanRise};
 

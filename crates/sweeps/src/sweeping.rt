@@ -1,12 +1,9 @@
 //! The sweep of a face, as one command.
 ghost use Rattle.std.specs.Prelude.{◌≡◌, ◌↔◌, None, Some, Err, OnOk, OnErr};
-ghost use Rattle.euler_operators.specs.Vectors.{origin, same_point};
-ghost use Rattle.euler_operators.specs.Conditions.{verdict};
+ghost use Rattle.euler_operators.specs.Common.{origin, same_point, verdict, Sound};
 ghost use Rattle.euler_operators.specs.declared.Refusal.{Refusal};
 ghost use Rattle.euler_conditions.specs.Ready.{IsReady};
-ghost use Rattle.euler_operators.specs.Sound.{Sound};
-ghost use Rattle.shapes.specs.Fresh.{taken_in};
-ghost use Rattle.shapes.specs.Prism.{prism_refusal, prism_model};
+ghost use Rattle.shapes.specs.Common.{taken_in, prism_refusal, prism_model};
 ghost use Rattle.solid_walks.specs.Counters.{taken_of};
 ghost use Rattle.undo_journal.specs.Journal.{IsRecorded, IsFurther};
 ghost use Rattle.undo_journal.specs.Machine.{held};

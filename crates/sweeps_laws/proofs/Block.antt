@@ -1,24 +1,13 @@
 -- The six volumes of a block and of a lamina, and of the other solids.
-use Rattle.std.specs.Prelude.{length, get_or, ◌-◌}
-use Rattle.std.proofs.Common.{◌≡◌, ℕ, suc, ◌+◌, ◌<◌, ℤ, pos, ◌-ℤ◌, true, false, nat_eq, List, [], None, is_some, refl, sym, ap, subst, ◌∙◌, arith, true≢false}
-use Rattle.std.proofs.lemmas.Bool.{not-true, ne_eqb, leb-true}
-use Rattle.euler_operators.specs.declared.Point.{Point}
-use Rattle.euler_operators.specs.Vectors.{dot}
+use Rattle.std.proofs.Common.{◌≡◌, ℕ, suc, ◌+◌, ◌<◌, ℤ, pos, ◌-ℤ◌, true, false, nat_eq, List, [], None, is_some, refl, sym, ap, subst, ◌∙◌, arith, true≢false, length, get_or, ◌-◌, ne_eqb, leb-true}
+use Rattle.std.proofs.lemmas.Bool.{not-true}
+use Rattle.euler_operators.specs.Common.{Point, dot, Model, no_point, solid_of, faces_of, Sound}
 use Rattle.euler_operators.specs.Table as table
-use Rattle.euler_operators.specs.Model.{Model, no_point, solid_of, faces_of}
-use Rattle.euler_operators.specs.Sound.{Sound}
-use Rattle.euler_operators.proofs.Tables.{all_where_none}
-use Rattle.euler_laws.proofs.shared.Goes.{all_hold}
-use Rattle.shapes.specs.Fresh.{taken_in}
-use Rattle.shapes.specs.Lamina.{lamina_conditions, lamina_refusal, lamina_at, lamina_model, lamina_face}
-use Rattle.shapes.specs.Prism.{prism_refusal, prism_model}
-use Rattle.shapes.specs.Block.{vector, base_of, block_conditions, block_refusal, block_model}
-use Rattle.shapes.specs.Measure.{normal, is_flat, six_volume}
+use Rattle.euler_operators.proofs.Common.{all_where_none, none_add, second_corner, third_corner, fourth_corner, rectangle_flat, rectangle_raised, solid_row}
+use Rattle.euler_laws.proofs.Common.{all_hold}
+use Rattle.shapes.specs.Common.{taken_in, lamina_conditions, lamina_refusal, lamina_at, lamina_model, lamina_face, prism_refusal, prism_model, vector, base_of, block_conditions, block_refusal, block_model, normal, is_flat, six_volume}
 use Rattle.sweeps_laws.proofs.lamina.Walk.{lamina_is_sound}
 use Rattle.sweeps_laws.proofs.lamina.Blocks.{blocks_have_bases, bases_rise}
-use Rattle.euler_operators.proofs.Vectors.{none_add}
-use Rattle.euler_operators.proofs.Rectangles.{second_corner, third_corner, fourth_corner, rectangle_flat, rectangle_raised}
-use Rattle.euler_operators.proofs.Models.{solid_row}
 use Rattle.sweeps_laws.proofs.FromSound.{sound_bounded, sweep_adds, sweep_keeps_others}
 use Rattle.sweeps_laws.proofs.LaminaVolumes.{lamina_volume, flat_volume, base, base_normal, base_volume}
 use Rattle.sweeps_laws.specs.Laws.{BlockMeasures, BlockKeepsOthers, LaminaMeasures, FlatLaminasMeasureNothing, LaminaKeepsOthers}

@@ -1,12 +1,8 @@
 -- The operators of a block: those of its base, and then those of the sweep.
 use Rattle.std.proofs.Common.{◌≡◌, ℕ, ℤ, pos, None}
-use Rattle.euler_operators.specs.declared.Point.{Point}
-use Rattle.euler_operators.specs.Model.{Model}
-use Rattle.euler_operators.specs.Sound.{Sound}
-use Rattle.euler_laws.proofs.Runs.{Leads, leads_on}
-use Rattle.shapes.specs.Lamina.{lamina_refusal, lamina_model, lamina_face}
-use Rattle.shapes.specs.Prism.{prism_refusal, prism_model}
-use Rattle.shapes.specs.Block.{vector, base_of, block_refusal, block_model}
+use Rattle.euler_operators.specs.Common.{Point, Model, Sound}
+use Rattle.euler_laws.proofs.Common.{Leads, leads_on}
+use Rattle.shapes.specs.Common.{lamina_refusal, lamina_model, lamina_face, prism_refusal, prism_model, vector, base_of, block_refusal, block_model}
 use Rattle.sweeps_laws.specs.lamina.Path.{lamina_operators}
 use Rattle.sweeps_laws.specs.prism.SweepOps.{sweep_ops}
 use Rattle.sweeps_laws.specs.block.BlockOps.{block_ops}

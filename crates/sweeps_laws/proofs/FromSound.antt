@@ -1,24 +1,12 @@
 -- In a sound model the numbers in use lie within the greatest ones, and the loops of a face without a lone one are closed paths.
 use Rattle.std.proofs.Common.{◌≡◌, ◌≢◌, ℕ, zero, suc, ◌≤◌, ◌<◌, Bool, true, false, List, [], ◌∷◌, length, get_or, Option, Some, None, is_some, unwrap_or, refl, sym, ap, subst, ◌∙◌, arith, true≢false}
-use Rattle.euler_operators.specs.declared.Point.{Point}
-use Rattle.euler_operators.specs.Items.{count, tick, IsIn}
-use Rattle.euler_operators.proofs.Lists.{tick_same}
-use Rattle.euler_operators.specs.Rings.{IsPath, IsRing}
-use Rattle.euler_operators.proofs.Std.{IsIn-get_or}
-use Rattle.euler_operators.specs.HalfEdge.{edge_of, is_first}
+use Rattle.euler_operators.specs.Common.{Point, count, tick, IsIn, IsPath, IsRing, edge_of, is_first, Model, LoopContent, cycle, FaceRow, LoopRow, EdgeRow, no_face, no_loop, no_edge, items_of, tail, tail_in, content, face_of, outer, point_of, rings_of, after, Sound, Has, HasHalf, lists}
+use Rattle.euler_operators.proofs.Common.{tick_same, IsIn-get_or, in-holds}
 use Rattle.euler_operators.specs.Table as table
-use Rattle.euler_operators.specs.Model.{Model, LoopContent, cycle, FaceRow, LoopRow, EdgeRow, no_face, no_loop, no_edge, items_of, tail, tail_in, content, face_of, outer, point_of, rings_of, after}
-use Rattle.euler_operators.specs.Sound.{Sound, Has, HasHalf}
-use Rattle.euler_operators.proofs.Models.{in-holds}
-use Rattle.euler_operators.specs.Conditions.{lists}
-use Rattle.euler_laws.proofs.shared.Listed.{IsIn-from_listed}
-use Rattle.euler_laws.proofs.shared.Loops.{loop_sound, IsLoop}
-use Rattle.shapes.specs.Faces.{loops_of}
-use Rattle.shapes.proofs.walks.FaceLoops.{loops_of_apart, rings_rise}
+use Rattle.euler_laws.proofs.Common.{IsIn-from_listed, loop_sound, IsLoop}
+use Rattle.shapes.specs.Common.{loops_of, taken_in, next_place, prism_refusal}
+use Rattle.shapes.proofs.Common.{loops_of_apart, rings_rise, at_most_greatest}
 use Rattle.sweeps_laws.proofs.prism.Accepted.{face_there, of_face, is_cycle}
-use Rattle.shapes.specs.Fresh.{taken_in}
-use Rattle.shapes.specs.Prism.{next_place, prism_refusal}
-use Rattle.shapes.proofs.fresh.Rows.{at_most_greatest}
 use Rattle.sweeps_laws.specs.Laws.{SweepAdds, SweepKeepsOthers}
 use Rattle.sweeps_laws.proofs.swept.Numbers.{next_cases}
 use Rattle.sweeps_laws.proofs.swept.Lifted.{Bounded, IsPathOf}

@@ -1,35 +1,16 @@
 -- One loop of a face swept: what the six volumes grow by; and the rows of a lamina, beside which other solids keep theirs.
-use Rattle.std.proofs.Common.{◌≡◌, ◌≢◌, ℕ, zero, suc, ◌+◌, ◌≤◌, pos, ◌+ℤ◌, ◌*ℤ◌, Bool, true, cond, nat_eq, List, [], ◌∷◌, ◌++◌, length, is_some, refl, sym, ap, ◌∙◌, arith, inl, inr, false, ◌||◌, ◌<◌, not, ◌&&◌, Some, subst, ◌⊎◌, None, append-nil}
+use Rattle.std.proofs.Common.{◌≡◌, ◌≢◌, ℕ, zero, suc, ◌+◌, ◌≤◌, pos, ◌+ℤ◌, ◌*ℤ◌, Bool, true, cond, nat_eq, List, [], ◌∷◌, ◌++◌, length, is_some, refl, sym, ap, ◌∙◌, arith, inl, inr, false, ◌||◌, ◌<◌, not, ◌&&◌, Some, subst, ◌⊎◌, None, append-nil, eqb-true, eq-eqb, ne_eqb, get_or, map, reverse, ◌-◌}
 use Rattle.std.proofs.lemmas.Bool.Decides.{eqb_tells, nat_tests}
-use Rattle.std.proofs.lemmas.Bool.{eqb-true, eq-eqb, ne_eqb}
-use Rattle.euler_operators.specs.declared.Point.{Point}
-use Rattle.euler_operators.specs.Vectors.{dot}
+use Rattle.euler_operators.specs.Common.{Point, dot, Model, FaceRow, face_of, outer, solid_of, faces_of, cycle, LoopRow, EdgeRow, no_point, point_of, rings_of, items_of, content, Has, lists, canonical, plus, minus, Table}
 use Rattle.euler_operators.specs.Table as table
-use Rattle.euler_operators.specs.Model.{Model, FaceRow, face_of, outer, solid_of, faces_of, cycle, LoopRow, EdgeRow, no_point, point_of, rings_of, items_of, content}
-use Rattle.euler_operators.specs.Sound.{Has}
-use Rattle.euler_operators.specs.Conditions.{lists}
-use Rattle.euler_operators.proofs.Models.{solid_row, face_row, outer_row, point_row, same_content, same_outer}
-use Rattle.euler_laws.proofs.shared.Listed.{listed_passes, all_where-rises, passes_listed}
-use Rattle.euler_laws.proofs.shared.Rows.{face_there}
-use Rattle.shapes.specs.Fresh.{Taken, numbers_after}
-use Rattle.shapes.specs.Measure.{area, normal, volume_in, six_volume, anchor, first_vertex}
-use Rattle.shapes.proofs.fresh.Rows.{at_most_greatest, get-put_cases, all_where-put_last, greatest-put_last}
-use Rattle.euler_operators.proofs.Vectors.{add_none, add_assoc}
-use Rattle.euler_operators.proofs.Sweeps.{total_to, same_total, area_at, sides_volume}
-use Rattle.euler_operators.proofs.Tests.{nat_eq_itself, none_but, less_still}
+use Rattle.euler_operators.proofs.Common.{solid_row, face_row, outer_row, point_row, same_content, same_outer, add_none, add_assoc, total_to, same_total, area_at, sides_volume, nat_eq_itself, none_but, less_still, all_where_none, first_where_zero, get-put_here, get-put_other}
+use Rattle.euler_laws.proofs.Common.{listed_passes, all_where-rises, passes_listed, face_there, same_tail, same_point}
+use Rattle.shapes.specs.Common.{Taken, numbers_after, area, normal, volume_in, six_volume, anchor, first_vertex, least_lone, items_in, lamina_at, with_path, with_points, with_ring}
+use Rattle.shapes.proofs.Common.{at_most_greatest, get-put_cases, all_where-put_last, greatest-put_last, volume_of, same_volumes}
 use Rattle.sweeps_laws.proofs.swept.Filled.{filled, filled_search, filled_none}
-use Rattle.shapes.proofs.measures.Sums.{volume_of, same_volumes}
 use Rattle.sweeps_laws.proofs.Loops.{area_sum, volume_last, same_area, same_loops, side_is, faces_kept, faces_moved, from_at, to_at, normal_is, first_kept, loops_within}
 use Rattle.sweeps_laws.proofs.swept.Sides.{side_face, faces_grown, Keeps, start_kept, finish_kept}
 use Rattle.sweeps_laws.proofs.swept.Lifted.{Bounded, IsPathOf, swept}
-use Rattle.std.specs.Prelude.{length, get_or, map, reverse, ◌-◌}
-use Rattle.euler_operators.specs.Rings.{canonical}
-use Rattle.euler_operators.specs.HalfEdge.{plus, minus}
-use Rattle.euler_operators.specs.Table.{Table}
-use Rattle.euler_operators.proofs.Tables.{all_where_none, first_where_zero, get-put_here, get-put_other}
-use Rattle.shapes.specs.Faces.{least_lone, items_in}
-use Rattle.shapes.specs.Lamina.{lamina_at, with_path, with_points, with_ring}
-use Rattle.euler_laws.proofs.shared.Same.{same_tail, same_point}
 
 pub six_volume_is : (M : Model) (s : ℕ) → six_volume M s ≡ volume_in M (faces_of M s)
 unfolding six_volume

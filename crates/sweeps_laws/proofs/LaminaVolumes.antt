@@ -1,35 +1,18 @@
 -- The six volumes of a lamina: its two faces have opposite normals, and one is told from the first point, the other from the second.
-use Rattle.std.specs.Prelude.{length, get_or, map, reverse}
-use Rattle.std.proofs.Common.{◌≡◌, ℕ, zero, suc, ◌+◌, ◌≤◌, ◌<◌, ℤ, pos, ◌+ℤ◌, ◌-ℤ◌, true, List, [], ◌∷◌, ◌++◌, refl, sym, ap, subst, ◌∙◌, arith, inl, inr, append-nil}
+use Rattle.std.proofs.Common.{◌≡◌, ℕ, zero, suc, ◌+◌, ◌≤◌, ◌<◌, ℤ, pos, ◌+ℤ◌, ◌-ℤ◌, true, List, [], ◌∷◌, ◌++◌, refl, sym, ap, subst, ◌∙◌, arith, inl, inr, append-nil, length, get_or, map, reverse}
 use Rattle.std.proofs.lemmas.Bool.Decides.{eqb_tells}
 use Rattle.std.proofs.lemmas.Int.{ints}
-use Rattle.euler_operators.specs.declared.Point.{Point}
-use Rattle.euler_operators.specs.Vectors.{dot, origin, moved, cross}
-use Rattle.euler_operators.specs.Items.{count, IsIn, IsApart, head_or}
-use Rattle.euler_operators.specs.Rings.{canonical}
-use Rattle.euler_operators.specs.HalfEdge.{mate, plus, minus}
-use Rattle.euler_operators.specs.Model.{Model, cycle, no_point, items_of, tail, content, outer, point_of, faces_of}
-use Rattle.euler_operators.specs.Conditions.{lists}
-use Rattle.euler_operators.proofs.Models.{content_row, outer_row, plus_tail_row, minus_tail_row}
-use Rattle.euler_operators.proofs.Halves.{mate_plus, mate_minus}
-use Rattle.euler_operators.proofs.Lists.{count-append, tick_same, tick_other}
-use Rattle.euler_operators.proofs.Rotations.{count-canonical}
-use Rattle.euler_operators.proofs.Members.{IsIn-map}
-use Rattle.euler_laws.proofs.shared.Listed.{listed-from_in}
-use Rattle.shapes.specs.Faces.{items_in, vertices_in, vertices_on, corners, loops_of, start, finish}
-use Rattle.shapes.specs.Fresh.{Taken, numbers_after}
-use Rattle.shapes.specs.Measure.{area, normal, anchor, first_vertex, is_flat, volume_in, six_volume}
-use Rattle.shapes.specs.Vectors.{negated}
-use Rattle.shapes.proofs.measures.Sums.{dot_back, area_same, area_back}
-use Rattle.shapes.proofs.measures.FlatFaces.{corner_told}
+use Rattle.euler_operators.specs.Common.{Point, dot, origin, moved, cross, count, IsIn, IsApart, head_or, canonical, mate, plus, minus, Model, cycle, no_point, items_of, tail, content, outer, point_of, faces_of, lists}
+use Rattle.euler_operators.proofs.Common.{content_row, outer_row, plus_tail_row, minus_tail_row, mate_plus, mate_minus, count-append, tick_same, tick_other, count-canonical, IsIn-map, ring_area}
+use Rattle.euler_laws.proofs.Common.{listed-from_in}
+use Rattle.shapes.specs.Common.{items_in, vertices_in, vertices_on, corners, loops_of, start, finish, Taken, numbers_after, area, normal, anchor, first_vertex, is_flat, volume_in, six_volume, negated, lamina_at}
+use Rattle.shapes.proofs.Common.{dot_back, area_same, area_back, corner_told}
 use Rattle.sweeps_laws.specs.lamina.Path.{out, back}
 use Rattle.sweeps_laws.proofs.lamina.Lists.{out_first, plus_halves, minus_halves, back_apart, first_moved, canonical_first}
 use Rattle.sweeps_laws.proofs.LaminaRows as rows
 use Rattle.sweeps_laws.proofs.swept.Lifted.{Bounded}
 use Rattle.sweeps_laws.proofs.Loops.{normal_is}
 use Rattle.sweeps_laws.proofs.LaminaRows.{six_volume_is}
-use Rattle.shapes.specs.Lamina.{lamina_at}
-use Rattle.euler_operators.proofs.Rectangles.{ring_area}
 
 -- ---- the loop the other way round, from its least half-edge on
 

@@ -1,27 +1,12 @@
 -- Areas of lists of half-edges and of loops, as sums along the places and where each stays; the volume of one face more.
 use Rattle.std.proofs.Common.{◌≡◌, ℕ, ◌+ℤ◌, true, List, [], ◌∷◌, ◌++◌, length, get_or, refl, sym, ap, ◌∙◌, ◌≢◌, zero, suc, ◌+◌, ◌≤◌, ◌<◌, ℤ, pos, ◌*ℤ◌, not, nat_eq, ◌&&◌, is_some, subst, arith, inl, inr, true≢false}
-use Rattle.euler_operators.specs.Vectors.{moved, cross, dot}
-use Rattle.euler_operators.specs.Items.{IsIn, head_or}
-use Rattle.euler_operators.specs.Model.{Model, items_of, content, LoopContent, lone, cycle, tail, outer, point_of, rings_of}
-use Rattle.euler_operators.specs.Conditions.{lists, strictly_rises}
-use Rattle.euler_laws.proofs.shared.Listed.{first_listed, rest_listed, listed_cases, listed_passes}
-use Rattle.shapes.specs.Faces.{start, finish, items_in, loops_of, boundary}
-use Rattle.shapes.specs.Measure.{area, volume_in, normal, anchor, first_vertex}
-use Rattle.shapes.proofs.Areas.{area-append, area_push}
-use Rattle.shapes.proofs.measures.Sums.{volume_of, volume_append, same_volumes}
-use Rattle.euler_operators.proofs.Vectors.{add_none, dot_moved, add_assoc}
-use Rattle.euler_operators.proofs.Sweeps.{sum_to, sum_first, moved_at, area_at, moved_ring, side_area, side_volume, Linked}
-use Rattle.euler_operators.proofs.Members.{IsIn_rest}
-use Rattle.euler_operators.proofs.Rotations.{IsIn_head}
+use Rattle.euler_operators.specs.Common.{moved, cross, dot, IsIn, head_or, Model, items_of, content, LoopContent, lone, cycle, tail, outer, point_of, rings_of, lists, strictly_rises, Point, edge_of, plus}
+use Rattle.euler_laws.proofs.Common.{first_listed, rest_listed, listed_cases, listed_passes, rises_on, rises_apart}
+use Rattle.shapes.specs.Common.{start, finish, items_in, loops_of, boundary, area, volume_in, normal, anchor, first_vertex, Taken, top_edge, top_items}
+use Rattle.shapes.proofs.Common.{area-append, area_push, volume_of, volume_append, same_volumes, at_most_greatest}
+use Rattle.euler_operators.proofs.Common.{add_none, dot_moved, add_assoc, sum_to, sum_first, moved_at, area_at, moved_ring, side_area, side_volume, Linked, IsIn_rest, IsIn_head, mate_plus, mate_minus}
 use Rattle.std.proofs.lemmas.Bool.Decides.{eqb_tells}
 use Rattle.std.proofs.lemmas.Int.{ints}
-use Rattle.euler_operators.specs.declared.Point.{Point}
-use Rattle.euler_operators.specs.HalfEdge.{edge_of, plus}
-use Rattle.euler_laws.proofs.Sizes.{rises_on, rises_apart}
-use Rattle.shapes.specs.Fresh.{Taken}
-use Rattle.shapes.specs.Prism.{top_edge, top_items}
-use Rattle.shapes.proofs.fresh.Rows.{at_most_greatest}
-use Rattle.euler_operators.proofs.Halves.{mate_plus, mate_minus}
 use Rattle.sweeps_laws.proofs.swept.Numbers.{next_cases}
 use Rattle.sweeps_laws.proofs.swept.Sides.{Keeps, start_kept, finish_kept}
 use Rattle.sweeps_laws.proofs.swept.Lifted.{Bounded, IsPathOf, swept, keeps_swept, outer_new, content_here, content_old, content_new, outer_old, rings_old, rings_new, from_point, to_point, riser_start, riser_finish, top_start, top_finish, next_start, next_finish, item_start, item_finish}

@@ -1,19 +1,11 @@
 -- A whole face swept: its loops one after the other.
 use Rattle.std.proofs.Common.{◌≡◌, ◌≢◌, ℕ, ℤ, pos, ◌+ℤ◌, ◌*ℤ◌, true, List, [], ◌∷◌, length, refl, sym, ap, ◌∙◌, arith}
 use Rattle.std.proofs.lemmas.Int.{ints}
-use Rattle.euler_operators.specs.declared.Point.{Point}
-use Rattle.euler_operators.specs.Vectors.{dot}
-use Rattle.euler_operators.specs.Model.{Model, items_of, content, outer, solid_of, rings_of}
-use Rattle.euler_operators.specs.Sound.{Has}
-use Rattle.euler_operators.specs.Conditions.{lists, strictly_rises}
-use Rattle.euler_laws.proofs.shared.Listed.{first_listed, rest_listed}
-use Rattle.euler_laws.proofs.Sizes.{rises_on, rises_apart}
-use Rattle.shapes.specs.Faces.{items_in, loops_of}
-use Rattle.shapes.specs.Fresh.{Taken, Growing, growing, taken_in}
-use Rattle.shapes.specs.Prism.{raised, prism_from, prism_model}
-use Rattle.shapes.specs.Measure.{area, normal, six_volume}
-use Rattle.euler_operators.proofs.Vectors.{dot_moved, dot_origin, dot_turned, twice_sum, three_times, add_none, add_assoc}
-use Rattle.shapes.proofs.Areas.{area-append}
+use Rattle.euler_operators.specs.Common.{Point, dot, Model, items_of, content, outer, solid_of, rings_of, Has, lists, strictly_rises}
+use Rattle.euler_laws.proofs.Common.{first_listed, rest_listed, rises_on, rises_apart}
+use Rattle.shapes.specs.Common.{items_in, loops_of, Taken, Growing, growing, taken_in, raised, prism_from, prism_model, area, normal, six_volume}
+use Rattle.euler_operators.proofs.Common.{dot_moved, dot_origin, dot_turned, twice_sum, three_times, add_none, add_assoc}
+use Rattle.shapes.proofs.Common.{area-append}
 use Rattle.sweeps_laws.proofs.swept.Lifted.{Bounded, IsPathOf, swept, within}
 use Rattle.sweeps_laws.proofs.Loops.{normal_is, loops_area}
 use Rattle.sweeps_laws.proofs.LaminaRows.{ring_adds, outer_adds, others_kept}

@@ -1,13 +1,7 @@
 -- What a sweep adds to the six volumes of a solid, and the six volumes of a block and of a lamina; other solids keep theirs.
 use Rattle.std.specs.Prelude.{◌≡◌, ◌≢◌, ℕ, ℤ, pos, ◌+ℤ◌, ◌-ℤ◌, ◌*ℤ◌, true, List, get_or, None}
-use Rattle.euler_operators.specs.declared.Point.{Point}
-use Rattle.euler_operators.specs.Vectors.{dot}
-use Rattle.euler_operators.specs.Model.{Model, no_point, solid_of}
-use Rattle.euler_operators.specs.Sound.{Sound}
-use Rattle.shapes.specs.Prism.{prism_refusal, prism_model}
-use Rattle.shapes.specs.Lamina.{lamina_refusal, lamina_model, lamina_face}
-use Rattle.shapes.specs.Block.{block_refusal, block_model}
-use Rattle.shapes.specs.Measure.{normal, is_flat, six_volume}
+use Rattle.euler_operators.specs.Common.{Point, dot, Model, no_point, solid_of, Sound}
+use Rattle.shapes.specs.Common.{prism_refusal, prism_model, lamina_refusal, lamina_model, lamina_face, block_refusal, block_model, normal, is_flat, six_volume}
 
 -- three times the normal of the face before, along the vector
 abbrev pub SweepAdds : Type 0

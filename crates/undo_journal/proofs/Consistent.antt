@@ -1,15 +1,11 @@
 -- Every machine to which a history leads is consistent.
-use Rattle.std.specs.Prelude.{◌≡◌, ℕ, zero, suc, ◌+◌, ◌<◌, ◌≤◌, List, [], ◌∷◌, ◌++◌, length, reverse, get_or, Option, Some, None, is_some, refl}
-use Rattle.std.proofs.Common.{sym, subst, ap, ◌∙◌, arith, true≢false}
-use Rattle.euler_operators.specs.Model.{Model, empty_model}
-use Rattle.euler_operators.specs.Sound.{Sound}
+use Rattle.std.proofs.Common.{sym, subst, ap, ◌∙◌, arith, true≢false, ◌≡◌, ℕ, zero, suc, ◌+◌, ◌<◌, ◌≤◌, List, [], ◌∷◌, ◌++◌, length, reverse, get_or, Option, Some, None, is_some, refl}
+use Rattle.euler_operators.specs.Common.{Model, empty_model, Sound, first_false, effect}
 use Rattle.euler_operators.specs.declared.Op.{Op}
 use Rattle.euler_operators.specs.declared.Refusal.{Refusal}
-use Rattle.euler_operators.specs.Conditions.{first_false}
-use Rattle.euler_operators.specs.Effect.{effect}
 use Rattle.euler_laws.specs.Laws.{effects, AreAccepted}
 use Rattle.euler_laws.proofs.shared.Empty.{empty_sound}
-use Rattle.euler_laws.proofs.Runs.{effects-append, AreAccepted-append, effects_keep_sound}
+use Rattle.euler_laws.proofs.Common.{effects-append, AreAccepted-append, effects_keep_sound}
 use Rattle.undo_journal.specs.declared.record.Record.{Record}
 use Rattle.undo_journal.specs.Machine.{Machine, DraftState, start, held, depth, ahead, accepted, act, undo, redo, open_draft, draft_step}
 use Rattle.undo_journal.specs.Recorded.{models, model_at}

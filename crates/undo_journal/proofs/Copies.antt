@@ -1,10 +1,8 @@
 -- A machine is a list of copies and a place.
-use Rattle.std.specs.Prelude.{◌≡◌, ℕ, zero, suc, ◌+◌, ◌-◌, ◌<◌, List, [], ◌∷◌, ◌++◌, length, reverse, take, get_or, nat_eq, Bool, false, None, refl}
-use Rattle.std.proofs.Common.{sym, ap, ◌∙◌, arith}
-use Rattle.std.proofs.lemmas.List.{length-append, length-reverse, reverse-append, append_assoc}
+use Rattle.std.proofs.Common.{sym, ap, ◌∙◌, arith, ◌≡◌, ℕ, zero, suc, ◌+◌, ◌-◌, ◌<◌, List, [], ◌∷◌, ◌++◌, length, reverse, take, get_or, nat_eq, Bool, false, None, refl, length-append, append_assoc}
+use Rattle.std.proofs.lemmas.List.{length-reverse, reverse-append}
 use Rattle.std.proofs.lemmas.Bool.Decides.{nat_tests}
-use Rattle.euler_operators.specs.Model.{Model, empty_model}
-use Rattle.euler_operators.specs.Conditions.{first_refusal, never}
+use Rattle.euler_operators.specs.Common.{Model, empty_model, first_refusal, never}
 use Rattle.euler_operators.specs.declared.Why.{Why}
 use Rattle.euler_operators.specs.declared.Why.TheVariants.{NothingToUndo, NothingToRedo}
 use Rattle.undo_journal.specs.Machine.{Machine, held, depth, ahead, undo, redo}

@@ -1,8 +1,7 @@
 -- The records of a session lead on from the empty model, and the models that they stand for are those after it.
-use Rattle.std.specs.Prelude.{◌≡◌, ℕ, zero, suc, ◌+◌, ◌-◌, ◌<◌, ◌≤◌, List, [], ◌∷◌, ◌++◌, length, take, drop, reverse, get_or, refl}
-use Rattle.std.proofs.Common.{sym, subst, ap, ◌∙◌, arith}
-use Rattle.std.proofs.lemmas.List.{take-append-drop, length-take-le, length-reverse, length-drop, take_all, drop_all, take_more, drop_more, length_push, reverse-append}
-use Rattle.euler_operators.specs.Model.{Model, empty_model}
+use Rattle.std.proofs.Common.{sym, subst, ap, ◌∙◌, arith, ◌≡◌, ℕ, zero, suc, ◌+◌, ◌-◌, ◌<◌, ◌≤◌, List, [], ◌∷◌, ◌++◌, length, take, drop, reverse, get_or, refl, take-append-drop, length-take-le, length-drop, take_all}
+use Rattle.std.proofs.lemmas.List.{length-reverse, drop_all, take_more, drop_more, length_push, reverse-append}
+use Rattle.euler_operators.specs.Common.{Model, empty_model}
 use Rattle.euler_laws.specs.Laws.{effects, AreAccepted}
 use Rattle.undo_journal.specs.declared.record.Record.{Record}
 use Rattle.undo_journal.specs.Machine.{depth, ahead, accepted, back_to, forth_to, undo, redo}

@@ -1,17 +1,12 @@
 -- What a session and a draft keep, from call to call.
-use Rattle.std.specs.Prelude.{◌≡◌, ℕ, ◌+◌, ◌-◌, ◌<◌, List, [], ◌∷◌, ◌++◌, take, drop, get_or, length, reverse, None, refl}
-use Rattle.std.proofs.Common.{sym, ap, subst, ◌∙◌}
+use Rattle.std.proofs.Common.{sym, ap, subst, ◌∙◌, ◌≡◌, ℕ, ◌+◌, ◌-◌, ◌<◌, List, [], ◌∷◌, ◌++◌, take, drop, get_or, length, reverse, None, refl}
 use Rattle.std.proofs.lemmas.List.{reverse-append}
-use Rattle.euler_operators.specs.Model.{Model, empty_model}
-use Rattle.euler_operators.specs.Sound.{Sound}
+use Rattle.euler_operators.specs.Common.{Model, empty_model, Sound, first_false, effect, inverse}
 use Rattle.low_euler.specs.Store.{Store, empty_store, HasGrown}
 use Rattle.euler_operators.specs.declared.Op.{Op}
-use Rattle.euler_operators.specs.Conditions.{first_false}
-use Rattle.euler_operators.specs.Effect.{effect, inverse}
 use Rattle.euler_laws.proofs.shared.Empty.{empty_sound}
 use Rattle.euler_laws.specs.Laws.{effects, AreAccepted}
-use Rattle.euler_laws.proofs.Cases.{inverse_goes, inverse_undoes}
-use Rattle.euler_laws.proofs.Runs.{effects-append, AreAccepted-append}
+use Rattle.euler_laws.proofs.Common.{inverse_goes, inverse_undoes, effects-append, AreAccepted-append}
 use Rattle.low_euler.specs.Ready.{IsReady}
 use Rattle.undo_journal.specs.declared.record.Record.{Record}
 use Rattle.undo_journal.specs.Journal.{new_journal}

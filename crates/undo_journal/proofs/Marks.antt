@@ -1,13 +1,10 @@
 -- Steps since a mark, taken back.
-use Rattle.std.specs.Prelude.{◌≡◌, ℕ, zero, suc, List, [], ◌∷◌, ◌++◌, length, take, drop, reverse, refl, Result, Ok, Err, OnOk, OnErr}
-use Rattle.std.proofs.Common.{sym, subst, ap, ◌∙◌}
-use Rattle.std.proofs.lemmas.List.{take-append-drop, take_at, reverse-append, append-nil, append_assoc}
-use Rattle.euler_operators.specs.Model.{Model}
-use Rattle.euler_operators.specs.Sound.{Sound}
+use Rattle.std.proofs.Common.{sym, subst, ap, ◌∙◌, ◌≡◌, ℕ, zero, suc, List, [], ◌∷◌, ◌++◌, length, take, drop, reverse, refl, Result, Ok, Err, OnOk, OnErr, take-append-drop, take_at, append-nil, append_assoc}
+use Rattle.std.proofs.lemmas.List.{reverse-append}
+use Rattle.euler_operators.specs.Common.{Model, Sound, effect, inverse}
 use Rattle.euler_operators.specs.declared.Op.{Op}
-use Rattle.euler_operators.specs.Effect.{effect, inverse}
 use Rattle.euler_laws.specs.Laws.{effects, AreAccepted, inverses}
-use Rattle.euler_laws.proofs.Runs.{effects-append, AreAccepted-front, AreAccepted-back, effects_keep_sound, inverses_undo, inverses_go}
+use Rattle.euler_laws.proofs.Common.{effects-append, AreAccepted-front, AreAccepted-back, effects_keep_sound, inverses_undo, inverses_go}
 use Rattle.undo_journal.specs.Sessions.{Leads, opened, command_of, each_inverse}
 use Rattle.undo_journal.specs.Machine.{held}
 use Rattle.undo_journal.specs.Journal.{DraftJournal, after_step, IsMark, IsFurther, back_at}

@@ -1,6 +1,5 @@
 -- Room that is there stays.
-use Rattle.std.specs.Prelude.{◌≡◌, ℕ, zero, suc, ◌<◌, List, [], ◌∷◌, ◌++◌, take, drop, get_or, length, reverse}
-use Rattle.std.proofs.Common.{sym, subst, arith}
+use Rattle.std.proofs.Common.{sym, subst, arith, ◌≡◌, ℕ, zero, suc, ◌<◌, List, [], ◌∷◌, ◌++◌, take, drop, get_or, length, reverse}
 use Rattle.std.proofs.lemmas.List.{reverse-append}
 use Rattle.euler_laws.specs.Laws.{effects}
 use Rattle.low_euler.specs.Store.{Store}

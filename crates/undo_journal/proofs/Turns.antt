@@ -1,14 +1,11 @@
 -- Operators replayed in turn.
-use Rattle.std.specs.Prelude.{◌≡◌, ℕ, zero, suc, ◌+◌, ◌-◌, ◌<◌, ◌≤◌, List, [], ◌∷◌, ◌++◌, take, get_or, length, reverse, None}
-use Rattle.std.proofs.Common.{sym, ap, subst, ◌∙◌, arith}
-use Rattle.std.proofs.lemmas.List.{take_more, take_all, reverse-append}
-use Rattle.euler_operators.specs.Model.{Model}
+use Rattle.std.proofs.Common.{sym, ap, subst, ◌∙◌, arith, ◌≡◌, ℕ, zero, suc, ◌+◌, ◌-◌, ◌<◌, ◌≤◌, List, [], ◌∷◌, ◌++◌, take, get_or, length, reverse, None, take_all}
+use Rattle.std.proofs.lemmas.List.{take_more, reverse-append}
+use Rattle.euler_operators.specs.Common.{Model, first_false, effect}
 use Rattle.low_euler.specs.Store.{Store}
 use Rattle.euler_operators.specs.declared.Op.{Op}
-use Rattle.euler_operators.specs.Conditions.{first_false}
-use Rattle.euler_operators.specs.Effect.{effect}
 use Rattle.euler_laws.specs.Laws.{effects, AreAccepted}
-use Rattle.euler_laws.proofs.Runs.{effects-append}
+use Rattle.euler_laws.proofs.Common.{effects-append}
 use Rattle.low_euler.specs.Ready.{IsReady, HasRoomFor, Accepts, after}
 use Rattle.undo_journal.specs.Sessions.{AllHaveRoom, all_after}
 use Rattle.undo_journal.proofs.Rooms.{op_kept, ops_kept, keeps_all_after}

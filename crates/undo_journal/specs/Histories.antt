@@ -1,11 +1,8 @@
 -- Histories: lists of calls of a session, and the machine to which they lead.
 use Rattle.std.specs.Prelude.{◌≡◌, ℕ, zero, suc, ◌+◌, ◌<◌, ◌≤◌, List, [], ◌∷◌, Option, Some, None}
-use Rattle.euler_operators.specs.Model.{Model, empty_model}
-use Rattle.euler_operators.specs.Sound.{Sound}
+use Rattle.euler_operators.specs.Common.{Model, empty_model, Sound, first_false, effect}
 use Rattle.euler_operators.specs.declared.Op.{Op}
 use Rattle.euler_operators.specs.declared.Refusal.{Refusal}
-use Rattle.euler_operators.specs.Conditions.{first_false}
-use Rattle.euler_operators.specs.Effect.{effect}
 use Rattle.euler_laws.specs.Laws.{effects, AreAccepted}
 use Rattle.undo_journal.specs.Machine.{Machine, DraftState, start, held, depth, ahead, accepted, act, act_refusal, undo, redo, open_draft, draft_step, commit, abandon}
 use Rattle.undo_journal.specs.Recorded.{model_at}

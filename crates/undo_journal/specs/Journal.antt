@@ -3,8 +3,7 @@ use Rattle.std.specs.Prelude.{◌≡◌, ℕ, List, [], ◌∷◌, ◌++◌, len
 use Rattle.std.specs.Coded.{Coded, code_by, coded×, coded_list}
 use Rattle.euler_operators.specs.contracts.Op as operator
 use Rattle.euler_operators.specs.declared.Op.{Op}
-use Rattle.euler_operators.specs.Model.{Model}
-use Rattle.euler_operators.specs.Effect.{inverse}
+use Rattle.euler_operators.specs.Common.{Model, inverse}
 use Rattle.euler_laws.specs.Laws.{effects}
 use Rattle.low_euler.specs.Codes.{coded_model}
 use Rattle.undo_journal.specs.contracts.record.Record as command

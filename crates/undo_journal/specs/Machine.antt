@@ -1,12 +1,10 @@
 -- The plain machine: it keeps a whole copy of every model.
 use Rattle.std.specs.Prelude.{ℕ, List, [], ◌∷◌, length, nat_eq, Option, refl}
-use Rattle.euler_operators.specs.Model.{Model, empty_model}
+use Rattle.euler_operators.specs.Common.{Model, empty_model, first_false, first_refusal, never, effect}
 use Rattle.low_euler.specs.Codes.{coded_model}
-use Rattle.euler_operators.specs.Conditions.{first_false, first_refusal, never}
 use Rattle.euler_operators.specs.declared.Op.{Op}
 use Rattle.euler_operators.specs.declared.Why.TheVariants.{NothingToUndo, NothingToRedo}
 use Rattle.euler_operators.specs.declared.Refusal.{Refusal}
-use Rattle.euler_operators.specs.Effect.{effect}
 use Rattle.std.specs.Coded.{Coded, code_by, coded×, coded_list}
 
 -- the model held, those behind it, and those ahead of it, of each the nearest first

@@ -1,6 +1,6 @@
 -- The list of copies that a machine stands for, and its models by their places.
 use Rattle.std.specs.Prelude.{ℕ, List, ◌∷◌, ◌++◌, reverse, get_or}
-use Rattle.euler_operators.specs.Model.{Model, empty_model}
+use Rattle.euler_operators.specs.Common.{Model, empty_model}
 use Rattle.undo_journal.specs.Machine.{Machine}
 
 -- all models, from the first on

@@ -1,9 +1,8 @@
 -- What a session and a draft hold: one arena, the records of the commands, and a place among them.
 use Rattle.std.specs.Prelude.{◌≡◌, ℕ, ◌≤◌, List, [], ◌∷◌, length, take, drop, reverse}
-use Rattle.euler_operators.specs.Model.{Model, empty_model}
+use Rattle.euler_operators.specs.Common.{Model, empty_model, effect, inverse}
 use Rattle.low_euler.specs.Store.{Store}
 use Rattle.euler_operators.specs.declared.Op.{Op}
-use Rattle.euler_operators.specs.Effect.{effect, inverse}
 use Rattle.euler_laws.specs.Laws.{effects, AreAccepted}
 use Rattle.low_euler.specs.Ready.{IsReady, HasRoomFor}
 use Rattle.undo_journal.specs.declared.record.Record.{Record}

@@ -1,12 +1,11 @@
 //! A draft: steps that become one command together, or are taken back together.
 ghost use Rattle.std.specs.Prelude.{◌≡◌, ◌↔◌, OnOk, OnErr, IfOk, IfErr, None, Some, Err};
 ghost use Rattle.low_euler.specs.Ready.{IsReady};
-ghost use Rattle.euler_operators.specs.Sound.{Sound};
+ghost use Rattle.euler_operators.specs.Common.{Sound, first_false};
 ghost use Rattle.undo_journal.specs.Machine.{held};
 ghost use Rattle.undo_journal.specs.Journal.{new_draft, after_step, after_commit, IsMark, IsFurther, back_at};
 ghost use Rattle.undo_journal.specs.Sessions.{RecordsHaveRoom, AllHaveRoom};
 ghost use Rattle.undo_journal.specs.Histories.{Follows, IsConsistent};
-ghost use Rattle.euler_operators.specs.Conditions.{first_false};
 ghost use Rattle.euler_operators.specs.declared.Refusal.{Refusal};
 
 use crate::record::{OpList, PLACES, Record};

@@ -1,6 +1,5 @@
 //! A session: one arena, the records of the commands, and the place among them.
-ghost use Rattle.std.specs.Prelude.{◌≡◌, ◌↔◌, ◌+◌, ◌<◌, ◌≤◌, take, vec_len, OnOk, OnErr, IfOk, None, Some, Err, slice_index_or};
-ghost use Rattle.std.specs.Vec.{vec_capacity};
+ghost use Rattle.std.specs.Prelude.{◌≡◌, ◌↔◌, ◌+◌, ◌<◌, ◌≤◌, take, vec_len, OnOk, OnErr, IfOk, None, Some, Err, slice_index_or, vec_capacity};
 ghost use Rattle.low_euler.specs.Ready.{IsReady};
 ghost use Rattle.undo_journal.specs.Machine.{held, depth, ahead, act_refusal, undo_refusal, redo_refusal};
 ghost use Rattle.undo_journal.specs.Journal.{new_journal, after_act, after_undo, after_redo};
@@ -8,7 +7,7 @@ ghost use Rattle.undo_journal.specs.Sessions.{RecordsHaveRoom};
 ghost use Rattle.undo_journal.specs.Recorded.{model_at};
 ghost use Rattle.undo_journal.specs.Histories.{IsConsistent};
 ghost use Rattle.euler_laws.specs.Laws.{effects, AreAccepted};
-ghost use Rattle.euler_operators.specs.Conditions.{verdict};
+ghost use Rattle.euler_operators.specs.Common.{verdict};
 ghost use Rattle.euler_operators.specs.declared.Refusal.{Refusal};
 
 use crate::record::{OpList, PLACES, Record};

@@ -1,9 +1,7 @@
 //! Operators applied in turn.
-ghost use Rattle.std.specs.Prelude.{◌≡◌, ◌<◌, vec_len, [], ◌∷◌, ◌++◌, OnOk, OnErr, None, take, drop, reverse};
-ghost use Rattle.std.specs.Vec.{vec_capacity};
+ghost use Rattle.std.specs.Prelude.{◌≡◌, ◌<◌, vec_len, [], ◌∷◌, ◌++◌, OnOk, OnErr, None, take, drop, reverse, vec_capacity};
 ghost use Rattle.low_euler.specs.Store.{HasGrown};
-ghost use Rattle.euler_operators.specs.Conditions.{first_false};
-ghost use Rattle.euler_operators.specs.Effect.{inverse};
+ghost use Rattle.euler_operators.specs.Common.{first_false, inverse};
 ghost use Rattle.euler_laws.specs.Laws.{AreAccepted};
 ghost use Rattle.low_euler.specs.Ready.{IsReady};
 ghost use Rattle.low_euler.specs.Room.{IsStepped};

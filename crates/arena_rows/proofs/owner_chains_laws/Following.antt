@@ -3,7 +3,7 @@ use Rattle.std.proofs.Common.{◌≡◌, ◌≢◌, ℕ, ◌≤◌, ◌<◌, Boo
 use Rattle.std.proofs.lemmas.Bool.Decides.{eqb_tells}
 use Rattle.arena_rows.specs.declared.owner_chains.rows.Head.{Head}
 use Rattle.arena_rows.specs.declared.owner_chains.rows.Link.{Link}
-use Rattle.arena_rows.specs.owner_chains.Chains.{AreChained, IsAbove, IsBelow, items, is_of, link_at, next_in, head_at, follower}
+use Rattle.arena_rows.specs.Common.{AreChained, IsAbove, IsBelow, items, is_of, link_at, next_in, head_at, follower}
 use Rattle.arena_rows.proofs.owner_chains_laws.Order.{at_least}
 
 owner_of_row : (o : ℕ) (link : Link) → is_of o (Some link) ≡ true → link.owner ≡ o

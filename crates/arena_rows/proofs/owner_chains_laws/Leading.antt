@@ -3,8 +3,7 @@ use Rattle.std.proofs.Common.{◌≡◌, ◌≢◌, ℕ, ◌<◌, true, cond, na
 use Rattle.std.proofs.lemmas.Bool.Decides.{eqb_tells}
 use Rattle.arena_rows.specs.declared.owner_chains.rows.Head.{Head}
 use Rattle.arena_rows.specs.declared.owner_chains.rows.Link.{Link}
-use Rattle.arena_rows.specs.owner_chains.Owners.{owned, is_owner}
-use Rattle.arena_rows.specs.owner_chains.Chains.{AreChained, IsAbove, IsBelow, items, is_of, link_at, owner_in, head_at, relinked, owners_of}
+use Rattle.arena_rows.specs.Common.{owned, is_owner, AreChained, IsAbove, IsBelow, items, is_of, link_at, owner_in, head_at, relinked, owners_of}
 use Rattle.arena_rows.proofs.owner_chains_laws.Order.{above_same, below_same}
 use Rattle.arena_rows.proofs.owner_chains_laws.Following.{owner_is}
 use Rattle.arena_rows.proofs.owner_chains_laws.Linking.{IsRelinked, relinked_row, owner_in-relinked, none_relinked, is_of-owner_in}

@@ -5,8 +5,7 @@ use Rattle.boundary_model.specs.Table.{empty, get-empty, same_table}
 use Rattle.boundary_model.proofs.Tables.{all_where_none}
 use Rattle.arena_rows.specs.declared.owner_chains.rows.Head.{Head}
 use Rattle.arena_rows.specs.declared.owner_chains.rows.Link.{Link}
-use Rattle.arena_rows.specs.owner_chains.Owners.{no_owners, owned, IsNextItem, OwnersHaveGrown}
-use Rattle.arena_rows.specs.owner_chains.Chains.{AreChained, IsAbove, items, is_of, link_at, head_at, owners_of, view_of}
+use Rattle.arena_rows.specs.Common.{no_owners, owned, IsNextItem, OwnersHaveGrown, AreChained, IsAbove, items, is_of, link_at, head_at, owners_of, view_of}
 use Rattle.arena_rows.proofs.owner_chains_laws.Order.{above_same, below_same}
 use Rattle.arena_rows.proofs.owner_chains_laws.Tables.{owner_at, item_at, owners_of-same}
 

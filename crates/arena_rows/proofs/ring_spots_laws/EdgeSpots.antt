@@ -12,8 +12,7 @@ use Rattle.boundary_model.specs.Model.{EdgeRow, no_edge}
 use Rattle.boundary_model.proofs.Halves.{plus_row, minus_row, mate-mate, mate_plus, mate_minus}
 use Rattle.boundary_model.proofs.Tests.{and_first, and_second}
 use Rattle.boundary_model.proofs.Members.{IsIn_one}
-use Rattle.arena_rows.specs.ring_spots.Spots.{Spots, codes, edges_end, live, next, label, tail_at, ring, map_spot, woken, asleep, retailed, IsRingOf, AreRings}
-use Rattle.arena_rows.specs.ring_spots.SpotTables.{edge_row, both_tails, loose_row, edge_room}
+use Rattle.arena_rows.specs.Common.{Spots, codes, edges_end, live, next, label, tail_at, ring, map_spot, woken, asleep, retailed, IsRingOf, AreRings, edge_row, both_tails, loose_row, edge_room}
 use Rattle.arena_rows.proofs.ring_spots_laws.SpotLaws.{AreRings-retailed, live-retailed, ring_kept, ring_of, ring_same, next_in_ring}
 use Rattle.arena_rows.proofs.ring_spots_laws.SpotTables.{half_is, row_live, edges_at, loose_row_is, loose_at, loose_row_means, loose_dead, loose_kept, codes_are, edge_has, edge_has_room}
 

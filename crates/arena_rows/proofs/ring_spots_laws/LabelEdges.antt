@@ -7,8 +7,7 @@ use Rattle.boundary_model.specs.Items.{IsIn}
 use Rattle.boundary_model.specs.HalfEdge.{plus, minus}
 use Rattle.boundary_model.proofs.Members.{IsIn_one}
 use Rattle.arena_rows.specs.declared.ring_spots.labels.Label.{Label}
-use Rattle.arena_rows.specs.ring_spots.Spots.{Spots, live, next, label, ring, map_spot, woken, woken_as, asleep, retailed, AreRings}
-use Rattle.arena_rows.specs.ring_spots.Labels.{own, holder, loop_at, with_loop, in_loops, but_label, AreLabelled, HaveNewLabels, has_label}
+use Rattle.arena_rows.specs.Common.{Spots, live, next, label, ring, map_spot, woken, woken_as, asleep, retailed, AreRings, own, holder, loop_at, with_loop, in_loops, but_label, AreLabelled, HaveNewLabels, has_label}
 use Rattle.arena_rows.proofs.ring_spots_laws.SpotLaws.{live-retailed, label-retailed, ring-retailed, AreRings-retailed}
 use Rattle.arena_rows.proofs.ring_spots_laws.RingMaps.{spot-insert, known-same}
 use Rattle.arena_rows.proofs.ring_spots_laws.EdgeSpots.{w_rings, w_cases, old_ring, r_plus, r_minus, s_rings, s_ring, s_left, s_other}

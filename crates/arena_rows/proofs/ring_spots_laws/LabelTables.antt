@@ -4,7 +4,7 @@ use Rattle.std.proofs.lemmas.Bool.Decides.{eqb_tells, nat_tests}
 use Rattle.raw_cells.specs.Rows.{row_at}
 use Rattle.arena_rows.specs.declared.ring_spots.labels.Label.{Label}
 use Rattle.arena_rows.proofs.Views.{row_past}
-use Rattle.arena_rows.specs.ring_spots.Labels.{new_label, row_of, has_label, own, holder, loop_at, AreOwned, HaveNewLabels}
+use Rattle.arena_rows.specs.Common.{new_label, row_of, has_label, own, holder, loop_at, AreOwned, HaveNewLabels}
 
 yes_or_no : (b : Bool) → (b ≡ true) ⊎ (b ≡ false)
 yes_or_no true = inl refl

@@ -4,7 +4,7 @@ use Rattle.boundary_model.specs.Rings.{walk_to, rotate_to}
 use Rattle.boundary_model.proofs.Rotations.{length-rotate_to}
 use Rattle.boundary_model.proofs.Rings.{orbit_from}
 use Rattle.boundary_model.proofs.Places.{walk_to_more}
-use Rattle.arena_rows.specs.ring_spots.Spots.{Spots, codes, live, next, ring, AreRings}
+use Rattle.arena_rows.specs.Common.{Spots, codes, live, next, ring, AreRings}
 use Rattle.boundary_model.proofs.Members.{length_below}
 
 -- after i items the walk from a stands at p, and has at most n to go

@@ -7,9 +7,7 @@ use Rattle.raw_ring.specs.Rings.{RingMap, spot, ring_of_one}
 use Rattle.boundary_model.specs.HalfEdge.{plus, minus}
 use Rattle.boundary_model.proofs.Tests.{and_false}
 use Rattle.raw_cells.specs.Numbers.{uses}
-use Rattle.arena_rows.specs.ring_spots.Spots.{Spots, live, woken, asleep, labelled, spliced_at, retailed}
-use Rattle.arena_rows.specs.ring_spots.Last.{is_edge}
-use Rattle.arena_rows.specs.ring_spots.Edges.{AreEdges}
+use Rattle.arena_rows.specs.Common.{Spots, live, woken, asleep, labelled, spliced_at, retailed, is_edge, AreEdges}
 use Rattle.raw_cells.proofs.numbers_laws.Words.{uses_past}
 use Rattle.arena_rows.proofs.ring_spots_laws.SpotLaws.{live-labelled, live-spliced, live-retailed}
 use Rattle.arena_rows.proofs.ring_spots_laws.RingMaps.{no_codes, spot-empty, known-empty}

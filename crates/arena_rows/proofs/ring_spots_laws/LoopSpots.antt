@@ -10,8 +10,7 @@ use Rattle.boundary_model.specs.Table.{map_rows, get-map_rows}
 use Rattle.boundary_model.specs.Table as table
 use Rattle.boundary_model.proofs.Lists.{IsIn_or_not}
 use Rattle.arena_rows.specs.declared.ring_spots.labels.Label.{Label}
-use Rattle.arena_rows.specs.ring_spots.Spots.{Spots, codes, live, next, label, ring, is_in, map_spot, asleep, retailed, with_links, spliced_at, labelled, AreRings}
-use Rattle.arena_rows.specs.ring_spots.Labels.{but_label, loop_at, with_loop, in_loops, rows_of, map_in_loops}
+use Rattle.arena_rows.specs.Common.{Spots, codes, live, next, label, ring, is_in, map_spot, asleep, retailed, with_links, spliced_at, labelled, AreRings, but_label, loop_at, with_loop, in_loops, rows_of, map_in_loops}
 use Rattle.arena_rows.proofs.ring_spots_laws.SpotLaws.{either, live-map, ring_kept, ring_next, label-labelled_in, label-labelled_out}
 
 same_spot : (o p : Option Spot) → but_label o ≡ but_label p → (is_some o ≡ true → or_zero (of_spot (λ s. s.label) o) ≡ or_zero (of_spot (λ s. s.label) p)) → o ≡ p

@@ -5,8 +5,7 @@ use Rattle.boundary_model.specs.Items.{count, IsIn}
 use Rattle.boundary_model.specs.Rings.{splice, joined}
 use Rattle.boundary_model.proofs.Lists.{IsIn_or_not}
 use Rattle.arena_rows.specs.declared.ring_spots.labels.Label.{Label}
-use Rattle.arena_rows.specs.ring_spots.Spots.{Spots, live, next, label, ring, is_in, map_spot, with_links, labelled, spliced_at}
-use Rattle.arena_rows.specs.ring_spots.Labels.{loop_at, in_loops, AreLabelled, ShareLabel, IsRelabelled}
+use Rattle.arena_rows.specs.Common.{Spots, live, next, label, ring, is_in, map_spot, with_links, labelled, spliced_at, loop_at, in_loops, AreLabelled, ShareLabel, IsRelabelled}
 use Rattle.arena_rows.proofs.ring_spots_laws.SpotLaws.{next-labelled, live-labelled, label-labelled_in, label-labelled_out, label-spliced, ring_joint, join_items}
 use Rattle.arena_rows.proofs.ring_spots_laws.LoopSpots.{same_spots, blank-labelled, blank-loops, live-alike, ring-alike, live-loops, label-loops, loops-spliced}
 use Rattle.arena_rows.proofs.ring_spots_laws.LabelLaws.{share-cut}

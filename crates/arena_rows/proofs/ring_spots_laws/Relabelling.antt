@@ -9,7 +9,7 @@ use Rattle.boundary_model.proofs.Lists.{IsIn_or_not, tick_same, tick_other}
 use Rattle.boundary_model.proofs.Rotations.{count-rotate_to, IsIn_head}
 use Rattle.boundary_model.proofs.Rings.{orbit_from}
 use Rattle.boundary_model.proofs.Places.{walk_to_more}
-use Rattle.arena_rows.specs.ring_spots.Spots.{Spots, codes, live, next, ring, is_in, map_spot, labelled, AreRings, HalfDone}
+use Rattle.arena_rows.specs.Common.{Spots, codes, live, next, ring, is_in, map_spot, labelled, AreRings, HalfDone}
 use Rattle.boundary_model.proofs.Members.{length_below}
 use Rattle.arena_rows.proofs.ring_spots_laws.SpotLaws.{either, next-labelled, live-labelled, next_in_ring, ring_same, is_in-yes, is_in-no, next-label, live-map}
 

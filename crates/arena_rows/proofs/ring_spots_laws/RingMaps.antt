@@ -1,13 +1,11 @@
 -- What the map of the rings says of each code once it is changed.
-use Rattle.std.proofs.Common.{◌≡◌, ◌≢◌, ℕ, Bool, true, false, cond, nat_eq, Option, Some, None, is_some, Result, Ok, Err, OnOk, OnErr, refl, sym, ap, ◌∙◌, true≢false, eq-eqb, ne_eqb, inl, inr}
+use Rattle.std.proofs.Common.{◌≡◌, ◌≢◌, ℕ, Bool, true, false, cond, nat_eq, Option, Some, None, is_some, Result, Ok, Err, OnOk, OnErr, refl, sym, ap, ◌∙◌, true≢false, eq-eqb, ne_eqb, inl, inr, eqb-true, nat_cmp}
 use Rattle.std.proofs.lemmas.Bool.Decides.{eqb_tells}
-use Rattle.std.proofs.lemmas.Bool.{eqb-true}
 use Rattle.std.specs.FinMap.{get, insert, contains_key, empty}
 use Rattle.std.specs.FinMap as map
-use Rattle.std.specs.Ordering.{nat_cmp}
 use Rattle.raw_ring.specs.Rings.{Spot, RingMap, spot, awake, or_zero, of_spot, next_of, put_spot, with_spot, with_next, with_tail, with_room, spliced}
 use Rattle.raw_ring.proofs.Mapping.{get-put}
-use Rattle.arena_rows.specs.ring_spots.Spots.{next, asleep, map_spot, retailed, spliced_at}
+use Rattle.arena_rows.specs.Common.{next, asleep, map_spot, retailed, spliced_at}
 
 awake-cond : (b : Bool) (v : Option Spot) (o : Option (Option Spot)) → awake (cond b (Some v) o) ≡ cond b v (awake o)
 awake-cond true v o = refl

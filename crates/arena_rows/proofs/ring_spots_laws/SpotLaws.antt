@@ -12,7 +12,7 @@ use Rattle.boundary_model.proofs.Rotations.{count-canonical, canonical-canonical
 use Rattle.boundary_model.proofs.Rings.{IsPath-agree, canonical-orbit, next_is_successor, IsIn_successor}
 use Rattle.boundary_model.proofs.Cuts.{splice_elsewhere, count-cut, IsApart-cut, IsRing-cut, count-joined, IsApart-joined, IsRing-join}
 use Rattle.boundary_model.specs.HalfEdge.{mate}
-use Rattle.arena_rows.specs.ring_spots.Spots.{Spots, codes, live, next, label, ring, is_in, map_spot, retailed, spliced_at, labelled, IsRingOf, AreRings}
+use Rattle.arena_rows.specs.Common.{Spots, codes, live, next, label, ring, is_in, map_spot, retailed, spliced_at, labelled, IsRingOf, AreRings}
 
 pub canonical_fixed : (xs : List ℕ) → IsApart (canonical xs) → canonical (canonical xs) ≡ canonical xs
 canonical_fixed xs d = canonical-canonical xs (λ x. omega (arith, count-canonical x xs, d x))

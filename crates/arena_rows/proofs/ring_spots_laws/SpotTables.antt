@@ -1,7 +1,6 @@
 -- The tables of edges and of loose rings, and what becomes of them where the nodes change.
-use Rattle.std.proofs.Common.{◌≡◌, ◌≢◌, ℕ, ◌+◌, ◌*◌, ◌≤◌, ◌<◌, Bool, true, false, cond, nat_eq, nat_lt, nat_le, ◌&&◌, List, [], Option, Some, None, is_some, unwrap_or, refl, sym, ap, subst, ◌∙◌, arith, true≢false, eq-eqb, ne_eqb, ◌⊎◌, inl, inr}
+use Rattle.std.proofs.Common.{◌≡◌, ◌≢◌, ℕ, ◌+◌, ◌*◌, ◌≤◌, ◌<◌, Bool, true, false, cond, nat_eq, nat_lt, nat_le, ◌&&◌, List, [], Option, Some, None, is_some, unwrap_or, refl, sym, ap, subst, ◌∙◌, arith, true≢false, eq-eqb, ne_eqb, ◌⊎◌, inl, inr, eqb-true}
 use Rattle.std.proofs.lemmas.Bool.Decides.{nat_tests, eqb_tells}
-use Rattle.std.proofs.lemmas.Bool.{eqb-true}
 use Rattle.std.proofs.lemmas.Option.{same_Some}
 use Rattle.raw_ring.specs.Rings.{Spot, or_zero, of_spot}
 use Rattle.boundary_model.specs.Items.{count, IsIn, head_or, least}
@@ -15,8 +14,7 @@ use Rattle.boundary_model.proofs.Halves.{mate_cases, mate_plus}
 use Rattle.boundary_model.proofs.Tables.{first_where_is}
 use Rattle.boundary_model.proofs.Models.{holds_in, in-holds}
 use Rattle.boundary_model.proofs.Tests.{and_first, and_second, and_false}
-use Rattle.arena_rows.specs.ring_spots.Spots.{Spots, codes, edges_end, live, label, tail_at, ring, map_spot, is_in, spliced_at, labelled, AreRings}
-use Rattle.arena_rows.specs.ring_spots.SpotTables.{edge_row, both_tails, loose_row, edge_room}
+use Rattle.arena_rows.specs.Common.{Spots, codes, edges_end, live, label, tail_at, ring, map_spot, is_in, spliced_at, labelled, AreRings, edge_row, both_tails, loose_row, edge_room}
 use Rattle.arena_rows.proofs.ring_spots_laws.SpotLaws.{either, ring_same, canonical_ring}
 
 pub half_is : (h : ℕ) → ((h ≡ plus (edge_of h)) × (is_first h ≡ true) × (mate h ≡ minus (edge_of h))) ⊎ ((h ≡ minus (edge_of h)) × (is_first h ≡ false) × (mate h ≡ plus (edge_of h)))

@@ -2,15 +2,9 @@
 use Rattle.std.proofs.Common.{◌≡◌, ◌≢◌, ℕ, List, [], Some, None, is_some, IsTrue, refl, sym, ap, ◌∙◌, subst, ◌⊎◌, inl, inr, arith}
 use Rattle.std.proofs.lemmas.Bool.Decides.{eqb_tells}
 use Rattle.std.proofs.lemmas.Option.{same_Some}
-use Rattle.euler_operators.specs.declared.Point.{Point}
-use Rattle.euler_operators.specs.Points.{IsInRange}
-use Rattle.euler_operators.specs.HalfEdge.{mate}
+use Rattle.euler_operators.specs.Common.{Point, IsInRange, mate, Model, lone, cycle, FaceRow, LoopRow, holds, tail, loop_of, content, cycle_of, face_of, solid_of, outer, after, is_number, Sound, Has, HasHalf, mvfs}
 use Rattle.euler_operators.specs.Table as table
-use Rattle.euler_operators.specs.Model.{Model, lone, cycle, FaceRow, LoopRow, holds, tail, loop_of, content, cycle_of, face_of, solid_of, outer, after, is_number}
-use Rattle.euler_operators.specs.Sound.{Sound, Has, HasHalf}
-use Rattle.euler_operators.proofs.Models.{row_of, content_cycle, never_lone, mate_there, content_row, face_row as face_row_of, solid_row, outer_row, same_content, same_face}
-use Rattle.euler_operators.proofs.Tables.{row_elsewhere}
-use Rattle.euler_operators.specs.Effect.{mvfs}
+use Rattle.euler_operators.proofs.Common.{row_of, content_cycle, never_lone, mate_there, content_row, face_row as face_row_of, solid_row, outer_row, same_content, same_face, row_elsewhere}
 use Rattle.euler_laws.proofs.shared.Loops.{IsLoop, loop_sound, Walks, stands-walks, one_loop-walks, cycles-walks, ends_meet-walks, one_fan-walks, one_vertex}
 use Rattle.euler_laws.proofs.shared.Same.{solid_at}
 use Rattle.euler_laws.proofs.shared.Rings.{SameRings, half_back, tail_same, walks-rings, loop-rings, ends_differ-rings, tail-rings, edges_fit-rings}

@@ -1,15 +1,11 @@
 -- RingIn, which takes a ring to another face of its solid: it keeps a sound model sound, and RingIn to the old face takes it back.
-use Rattle.std.proofs.Common.{◌≡◌, ◌≢◌, ℕ, nat_eq, None, refl, sym, ◌∙◌, subst, inr, List, [], ◌∷◌, arith}
-use Rattle.std.proofs.lemmas.Bool.{not-true, ne_eqb, eqb-true, eqb-false}
+use Rattle.std.proofs.Common.{◌≡◌, ◌≢◌, ℕ, nat_eq, None, refl, sym, ◌∙◌, subst, inr, List, [], ◌∷◌, arith, ne_eqb, eqb-true}
+use Rattle.std.proofs.lemmas.Bool.{not-true, eqb-false}
 use Rattle.euler_operators.specs.Table as table
-use Rattle.euler_operators.specs.Model.{Model, face_of, solid_of, outer}
-use Rattle.euler_operators.specs.Sound.{Sound, Has}
+use Rattle.euler_operators.specs.Common.{Model, face_of, solid_of, outer, Sound, Has, Condition, never, AllHold, ring_and_face, first_false, conditions, effect, inverse, ring_in}
 use Rattle.euler_operators.specs.declared.Op.TheVariants.{RingIn}
-use Rattle.euler_operators.proofs.Models.{same_outer, same_solid}
+use Rattle.euler_operators.proofs.Common.{same_outer, same_solid, nat_eq_itself}
 use Rattle.euler_operators.specs.declared.Why.TheVariants.{SameFace}
-use Rattle.euler_operators.specs.Conditions.{Condition, never, AllHold, ring_and_face, first_false, conditions}
-use Rattle.euler_operators.specs.Effect.{effect, inverse, ring_in}
-use Rattle.euler_operators.proofs.Tests.{nat_eq_itself}
 use Rattle.euler_laws.proofs.shared.Goes.{◌also◌, all_hold, all_hold-append, all_hold-front, all_hold-back, none_refuses, not_false}
 use Rattle.euler_laws.proofs.shared.Faces.{SameWalks, LoopMoves, face_moved, face_kept, walks_same, old_outer, sound-moves, loop_home}
 use Rattle.euler_laws.proofs.shared.Rows.{never_outer, is_ring}

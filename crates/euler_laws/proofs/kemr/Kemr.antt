@@ -1,24 +1,11 @@
 -- kemr as an operator: it keeps a model sound, and mekr passes its conditions after it and takes it back.
-use Rattle.std.proofs.Common.{◌≡◌, ◌≢◌, ℕ, ◌≤◌, Bool, true, not, nat_eq, ◌&&◌, List, [], ◌∷◌, ◌++◌, Some, None, is_some, IsTrue, refl, sym, ap, ◌∙◌, subst, arith}
+use Rattle.std.proofs.Common.{◌≡◌, ◌≢◌, ℕ, ◌≤◌, Bool, true, not, nat_eq, ◌&&◌, List, [], ◌∷◌, ◌++◌, Some, None, is_some, IsTrue, refl, sym, ap, ◌∙◌, subst, arith, ne_eqb, eq-eqb, eqb-true}
 use Rattle.std.proofs.lemmas.Bool.Decides.{nat_tests}
-use Rattle.std.proofs.lemmas.Bool.{not-true, ne_eqb, eq-eqb, eqb-true}
-use Rattle.euler_operators.specs.Items.{count, IsIn, IsApart, head_or}
-use Rattle.euler_operators.specs.Rings.{canonical, rotate_to, between, beyond}
-use Rattle.euler_operators.proofs.Lists.{tick_same}
-use Rattle.euler_operators.proofs.Rotations.{rotate_to_canonical, canonical-rotate_to}
-use Rattle.euler_operators.proofs.Cuts.{ring_split}
-use Rattle.euler_operators.specs.declared.HalfEdge.{HalfEdge}
-use Rattle.euler_operators.specs.declared.Corner.{Corner}
-use Rattle.euler_operators.specs.HalfEdge.{code, half, mate, edge_of}
+use Rattle.std.proofs.lemmas.Bool.{not-true}
+use Rattle.euler_operators.specs.Common.{count, IsIn, IsApart, head_or, canonical, rotate_to, between, beyond, HalfEdge, Corner, code, half, mate, edge_of, Model, cycle, LoopRow, items_of, tail, loop_of, content, cycle_of, face_of, outer, is_number, is_ring_of, Sound, Has, HasHalf, AllHold, first_false, conditions, corner_tail, corner_loop, corner_list, corner_known, corner_lone, corner_number, is_lone, effect, inverse, kemr, mekr, corner_of, cycle_or_lone, edge_row}
+use Rattle.euler_operators.proofs.Common.{tick_same, rotate_to_canonical, canonical-rotate_to, ring_split, edge_of-code, code-half, mate-mate, mate_other, two_undone, no_row, row_of}
 use Rattle.euler_operators.specs.Table as table
-use Rattle.euler_operators.specs.Model.{Model, cycle, LoopRow, items_of, tail, loop_of, content, cycle_of, face_of, outer, is_number, is_ring_of}
-use Rattle.euler_operators.specs.Sound.{Sound, Has, HasHalf}
-use Rattle.euler_operators.proofs.Halves.{edge_of-code, code-half, mate-mate, mate_other}
-use Rattle.euler_operators.proofs.Tables.{two_undone, no_row}
-use Rattle.euler_operators.proofs.Models.{row_of}
 use Rattle.euler_operators.specs.declared.Op.TheVariants.{Kemr, Mekr}
-use Rattle.euler_operators.specs.Conditions.{AllHold, first_false, conditions, corner_tail, corner_loop, corner_list, corner_known, corner_lone, corner_number, is_lone}
-use Rattle.euler_operators.specs.Effect.{effect, inverse, kemr, mekr, corner_of, cycle_or_lone, edge_row}
 use Rattle.euler_laws.proofs.shared.Goes.{◌also◌, all_hold, none_refuses, not_false, taken}
 use Rattle.euler_laws.proofs.shared.Parts.{outer_stays}
 use Rattle.euler_laws.proofs.shared.EdgeLess.{edge_gone, half_cases, tail_old}

@@ -1,22 +1,9 @@
 -- A sound model stays sound under kemr.
 use Rattle.std.proofs.Common.{◌≡◌, ◌≢◌, ℕ, ◌+◌, List, [], ◌∷◌, Some, None, is_some, IsTrue, refl, sym, ap, ◌∙◌, subst, arith, ◌⊎◌, inl, inr}
 use Rattle.std.proofs.lemmas.Bool.Decides.{eqb_tells}
-use Rattle.euler_operators.specs.Items.{count, tick, IsIn, head_or}
-use Rattle.euler_operators.specs.Rings.{canonical, between, beyond, IsRing, successor}
-use Rattle.euler_operators.specs.Operators.{after_kef}
-use Rattle.euler_operators.proofs.Lists.{count-append, tick_same}
-use Rattle.euler_operators.proofs.Rotations.{canonical-rotates, IsRotation-sym, count-rotate_to}
-use Rattle.euler_operators.proofs.Rings.{IsRing-same}
-use Rattle.euler_operators.proofs.Cuts.{ring_split}
-use Rattle.euler_operators.proofs.Leads.{IsRing-kemr}
-use Rattle.euler_operators.specs.HalfEdge.{mate, edge_of}
+use Rattle.euler_operators.specs.Common.{count, tick, IsIn, head_or, canonical, between, beyond, IsRing, successor, after_kef, mate, edge_of, Model, LoopContent, cycle, LoopRow, items_of, tail, loop_of, content, face_of, cycle_of, after, solid_of, is_number, Sound, Has, HasHalf, StandsIn, IsCycle, IsLoneAt, kemr, cycle_or_lone}
+use Rattle.euler_operators.proofs.Common.{count-append, tick_same, canonical-rotates, IsRotation-sym, count-rotate_to, IsRing-same, ring_split, IsRing-kemr, mate_other, row_elsewhere, in-holds, holds_in, cycle_there, cycle_sound, content_cycle, content_row, face_row, row_of, mate_there}
 use Rattle.euler_operators.specs.Table as table
-use Rattle.euler_operators.specs.Model.{Model, LoopContent, cycle, LoopRow, items_of, tail, loop_of, content, face_of, cycle_of, after, solid_of, is_number}
-use Rattle.euler_operators.specs.Sound.{Sound, Has, HasHalf, StandsIn, IsCycle, IsLoneAt}
-use Rattle.euler_operators.proofs.Halves.{mate_other}
-use Rattle.euler_operators.proofs.Tables.{row_elsewhere}
-use Rattle.euler_operators.proofs.Models.{in-holds, holds_in, cycle_there, cycle_sound, content_cycle, content_row, face_row, row_of, mate_there}
-use Rattle.euler_operators.specs.Effect.{kemr, cycle_or_lone}
 use Rattle.euler_laws.proofs.shared.Loops.{IsLoop, light, Walks}
 use Rattle.euler_laws.proofs.shared.Same.{solid_at}
 use Rattle.euler_laws.proofs.shared.Undo.{after_first}

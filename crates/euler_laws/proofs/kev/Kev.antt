@@ -1,19 +1,10 @@
 -- kev as an operator: it keeps a model sound. The inverses of mev and of kev pass their conditions and take them back.
-use Rattle.std.proofs.Common.{◌≡◌, ◌≢◌, ℕ, Bool, true, false, cond, nat_eq, ◌&&◌, None, refl, ap, arith}
+use Rattle.std.proofs.Common.{◌≡◌, ◌≢◌, ℕ, Bool, true, false, cond, nat_eq, ◌&&◌, None, refl, ap, arith, ne_eqb, eqb-true}
 use Rattle.std.proofs.lemmas.Bool.Decides.{eqb_tells}
-use Rattle.std.proofs.lemmas.Bool.{not-true, ne_eqb, eqb-true}
-use Rattle.euler_operators.specs.declared.Point.{Point}
-use Rattle.euler_operators.specs.declared.HalfEdge.{HalfEdge}
-use Rattle.euler_operators.specs.declared.Corner.{Corner}
-use Rattle.euler_operators.specs.declared.Corner.TheVariants.{At, Lone}
-use Rattle.euler_operators.specs.HalfEdge.{code, half, mate}
-use Rattle.euler_operators.specs.Model.{Model, tail, loop_of, content, after, point_of}
-use Rattle.euler_operators.specs.Sound.{Sound}
-use Rattle.euler_operators.proofs.Tests.{none_but}
-use Rattle.euler_operators.proofs.Halves.{edge_of-code, code-half}
+use Rattle.std.proofs.lemmas.Bool.{not-true}
+use Rattle.euler_operators.specs.Common.{Point, HalfEdge, Corner, At, Lone, code, half, mate, Model, tail, loop_of, content, after, point_of, Sound, AllHold, first_false, conditions, lone_vertex, effect, inverse, mev_at, mev_lone, kev, kev_corner, kev_corner_mate}
+use Rattle.euler_operators.proofs.Common.{none_but, edge_of-code, code-half}
 use Rattle.euler_operators.specs.declared.Op.TheVariants.{Mev, Kev}
-use Rattle.euler_operators.specs.Conditions.{AllHold, first_false, conditions, lone_vertex}
-use Rattle.euler_operators.specs.Effect.{effect, inverse, mev_at, mev_lone, kev, kev_corner, kev_corner_mate}
 use Rattle.euler_laws.proofs.shared.Goes.{all_hold, none_refuses}
 use Rattle.euler_laws.proofs.shared.Undo.{parallel_none, none_parallel}
 use Rattle.euler_laws.proofs.mev.MevSound.{MevGoes, sound-mev}

@@ -1,18 +1,9 @@
 -- mev at a lone loop is taken back by kev.
 use Rattle.std.proofs.Common.{◌≡◌, ℕ, [], ◌∷◌, refl, sym, ap, ◌∙◌, arith, inl, inr}
 use Rattle.std.proofs.lemmas.Bool.Decides.{eqb_tells}
-use Rattle.euler_operators.specs.declared.Point.{Point}
-use Rattle.euler_operators.specs.Rings.{canonical}
-use Rattle.euler_operators.proofs.Lists.{tick_same}
-use Rattle.euler_operators.proofs.Rotations.{count-canonical}
-use Rattle.euler_operators.specs.HalfEdge.{mate}
+use Rattle.euler_operators.specs.Common.{Point, canonical, mate, Model, lone, cycle, holds, tail, content, loop_of, Sound, Has, HasHalf, mev_lone, kev}
+use Rattle.euler_operators.proofs.Common.{tick_same, count-canonical, edge_of-mate, remove-put, no_tail, in-holds}
 use Rattle.euler_operators.specs.Table as table
-use Rattle.euler_operators.specs.Model.{Model, lone, cycle, holds, tail, content, loop_of}
-use Rattle.euler_operators.specs.Sound.{Sound, Has, HasHalf}
-use Rattle.euler_operators.proofs.Halves.{edge_of-mate}
-use Rattle.euler_operators.proofs.Tables.{remove-put}
-use Rattle.euler_operators.proofs.Models.{no_tail, in-holds}
-use Rattle.euler_operators.specs.Effect.{mev_lone, kev}
 use Rattle.euler_laws.proofs.shared.EdgeMore.{OneMore, comes, half_h, half_old, edge_apart, tail-h, tail-m, tail_old}
 use Rattle.euler_laws.proofs.shared.Loops.{none_free}
 use Rattle.euler_laws.proofs.shared.Undo.{same_loops, same_edges, edge_back, same_model}

@@ -1,23 +1,8 @@
 -- mev at two half-edges is taken back by kev.
 use Rattle.std.proofs.Common.{◌≡◌, ◌≢◌, ℕ, ◌+◌, List, [], ◌∷◌, refl, sym, ap, ◌∙◌, arith, inl, inr, eq-eqb}
-use Rattle.euler_operators.specs.declared.Point.{Point}
-use Rattle.euler_operators.specs.Items.{count, tick, IsIn, IsApart}
-use Rattle.euler_operators.specs.Rings.{canonical, rotate_to}
-use Rattle.euler_operators.specs.Edits.{insert_before, without, led_over}
-use Rattle.euler_operators.specs.Operators.{put_ring}
-use Rattle.euler_operators.proofs.Lists.{count-append, tick_same, tick_other, IsIn_or_not}
-use Rattle.euler_operators.proofs.Rotations.{count-canonical, IsApart-canonical, canonical_nil, count-rotate_to}
-use Rattle.euler_operators.proofs.Operators.{kev-mev, take-put, apart_put}
-use Rattle.euler_operators.proofs.Leads.{apart_mev}
-use Rattle.euler_operators.proofs.Edits.{without_none, count-insert_before}
-use Rattle.euler_operators.specs.HalfEdge.{mate, edge_of}
+use Rattle.euler_operators.specs.Common.{Point, count, tick, IsIn, IsApart, canonical, rotate_to, insert_before, without, led_over, put_ring, mate, edge_of, Model, LoopContent, lone, cycle, items_of, tail, content, after, Sound, Has, HasHalf, IsCycle, mev_at, kev, cycle_or_lone}
+use Rattle.euler_operators.proofs.Common.{count-append, tick_same, tick_other, IsIn_or_not, count-canonical, IsApart-canonical, canonical_nil, count-rotate_to, kev-mev, take-put, apart_put, apart_mev, without_none, count-insert_before, mate_other, edge_of-mate, remove-put, mate_there}
 use Rattle.euler_operators.specs.Table as table
-use Rattle.euler_operators.specs.Model.{Model, LoopContent, lone, cycle, items_of, tail, content, after}
-use Rattle.euler_operators.specs.Sound.{Sound, Has, HasHalf, IsCycle}
-use Rattle.euler_operators.proofs.Halves.{mate_other, edge_of-mate}
-use Rattle.euler_operators.proofs.Tables.{remove-put}
-use Rattle.euler_operators.proofs.Models.{mate_there}
-use Rattle.euler_operators.specs.Effect.{mev_at, kev, cycle_or_lone}
 use Rattle.euler_laws.proofs.shared.Loops.{put_before, put_there, put_none, put_lone, none_free, count_out, after-walks}
 use Rattle.euler_laws.proofs.shared.Undo.{same_loops, same_edges, edge_back, same_model, taken_out, both_out, put_in, both_in}
 use Rattle.euler_laws.proofs.shared.EdgeMore.{EdgeComes, half_h, half_m, tail-h, tail-m, edge_apart, not_h, not_m, half_old, half_cases}

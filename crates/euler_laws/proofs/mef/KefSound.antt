@@ -1,21 +1,8 @@
 -- A sound model stays sound under kef.
 use Rattle.std.proofs.Common.{◌≡◌, ◌≢◌, ℕ, ◌+◌, List, [], ◌++◌, None, is_some, refl, sym, ap, ◌∙◌, subst, arith, ◌⊎◌, inl, inr}
-use Rattle.euler_operators.specs.Items.{count, tick, IsIn, IsApart}
-use Rattle.euler_operators.specs.Rings.{canonical, rest, IsRing}
-use Rattle.euler_operators.specs.Operators.{after_kef, kef_ring, mef_old, mef_new}
-use Rattle.euler_operators.proofs.Lists.{count-append, tick_same, IsIn_or_not}
-use Rattle.euler_operators.proofs.Rotations.{count-canonical}
-use Rattle.euler_operators.proofs.Rings.{count_at}
-use Rattle.euler_operators.proofs.Leads.{IsRing-kef}
-use Rattle.euler_operators.specs.HalfEdge.{mate, edge_of}
+use Rattle.euler_operators.specs.Common.{count, tick, IsIn, IsApart, canonical, rest, IsRing, after_kef, kef_ring, mef_old, mef_new, mate, edge_of, Model, LoopContent, cycle, LoopRow, items_of, loop_of, content, face_of, cycle_of, after, outer, solid_of, tail, Sound, Has, HasHalf, face_at, kef, mef, edge_row}
+use Rattle.euler_operators.proofs.Common.{count-append, tick_same, IsIn_or_not, count-canonical, count_at, IsRing-kef, mate_other, mate-mate, row_elsewhere, in-holds, holds_in, cycle_there, cycle_sound, content_cycle, row_of, mate_there, mef-kef}
 use Rattle.euler_operators.specs.Table as table
-use Rattle.euler_operators.specs.Model.{Model, LoopContent, cycle, LoopRow, items_of, loop_of, content, face_of, cycle_of, after, outer, solid_of, tail}
-use Rattle.euler_operators.specs.Sound.{Sound, Has, HasHalf}
-use Rattle.euler_operators.proofs.Halves.{mate_other, mate-mate}
-use Rattle.euler_operators.proofs.Tables.{row_elsewhere}
-use Rattle.euler_operators.proofs.Models.{in-holds, holds_in, cycle_there, cycle_sound, content_cycle, row_of, mate_there}
-use Rattle.euler_operators.specs.Conditions.{face_at}
-use Rattle.euler_operators.specs.Effect.{kef, mef, edge_row}
 use Rattle.euler_laws.proofs.shared.Fans.{half_after, loop_after}
 use Rattle.euler_laws.proofs.shared.Loops.{IsLoop, canonical_cycle, light}
 use Rattle.euler_laws.proofs.shared.Same.{solid_at}
@@ -23,7 +10,6 @@ use Rattle.euler_laws.proofs.shared.Rows.{held_row, content_none, face_there, ed
 use Rattle.euler_laws.proofs.shared.Parts.{VerticesHold, FacesHold, RangesHold, sound_of, fit-remove, fit-map, FaceSet, row_here, has_on, has_back, solid_other, outer_other}
 use Rattle.euler_laws.proofs.shared.EdgeLess.{OneLess, ticks_apart, next_other, ring_kef-other, fans-less, vertices_hold-less, other_edge, half_old, tail_old, edge_gone}
 use Rattle.euler_laws.proofs.shared.TwoRows.{RowsSet, row_second, row_else, content_first, face_same, has_same, OneOf, TwoRows, lone_else, lone_still, in_both, loop_both, Elsewhere, none_elsewhere, walks-rows, one_solid-rows, two_rows-less}
-use Rattle.euler_operators.proofs.Operators.{mef-kef}
 use Rattle.euler_laws.proofs.mef.MefUndo.{loops-mef}
 use Rattle.euler_laws.proofs.mef.MefSound.{MefGoes}
 use Rattle.euler_laws.proofs.shared.Undo.{same_model}

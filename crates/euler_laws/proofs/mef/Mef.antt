@@ -1,14 +1,10 @@
 -- mef as an operator: what its conditions say, and that it keeps a model sound.
-use Rattle.std.proofs.Common.{◌≡◌, ℕ, None, sym, ap, ◌∙◌}
-use Rattle.std.proofs.lemmas.Bool.{not-true, eqb-true, eqb-false}
-use Rattle.euler_operators.specs.declared.HalfEdge.{HalfEdge}
-use Rattle.euler_operators.specs.HalfEdge.{code}
+use Rattle.std.proofs.Common.{◌≡◌, ℕ, None, sym, ap, ◌∙◌, eqb-true}
+use Rattle.std.proofs.lemmas.Bool.{not-true, eqb-false}
+use Rattle.euler_operators.specs.Common.{HalfEdge, code, Model, is_number, AllHold, first_false, conditions}
 use Rattle.euler_operators.specs.Table as table
-use Rattle.euler_operators.specs.Model.{Model, is_number}
-use Rattle.euler_operators.proofs.Halves.{edge_of-code}
-use Rattle.euler_operators.proofs.Tables.{no_row}
+use Rattle.euler_operators.proofs.Common.{edge_of-code, no_row}
 use Rattle.euler_operators.specs.declared.Op.TheVariants.{Mef}
-use Rattle.euler_operators.specs.Conditions.{AllHold, first_false, conditions}
 use Rattle.euler_laws.proofs.shared.Goes.{all_hold}
 use Rattle.euler_laws.proofs.shared.Rows.{half_of}
 use Rattle.euler_laws.proofs.mef.MefSound.{MefGoes}

@@ -1,20 +1,9 @@
 -- A sound model stays sound under mef.
 use Rattle.std.proofs.Common.{◌≡◌, ◌≢◌, ℕ, ◌+◌, ◌≤◌, List, [], ◌∷◌, ◌++◌, Some, None, is_some, IsTrue, refl, sym, ap, ◌∙◌, subst, arith, inl, inr}
 use Rattle.std.proofs.lemmas.Bool.Decides.{eqb_tells}
-use Rattle.euler_operators.specs.Items.{count, tick, IsIn, IsApart}
-use Rattle.euler_operators.specs.Rings.{upto, onward, IsRing}
-use Rattle.euler_operators.specs.Operators.{mef_old, mef_new, after_mef}
-use Rattle.euler_operators.proofs.Lists.{count-append, tick_same, tick_other}
-use Rattle.euler_operators.proofs.Rotations.{count-canonical}
-use Rattle.euler_operators.proofs.Leads.{IsRing-mef}
-use Rattle.euler_operators.specs.HalfEdge.{mate, edge_of}
+use Rattle.euler_operators.specs.Common.{count, tick, IsIn, IsApart, upto, onward, IsRing, mef_old, mef_new, after_mef, mate, edge_of, Model, lone, cycle, FaceRow, LoopRow, items_of, holds, tail, loop_of, content, face_of, cycle_of, after, outer, solid_of, is_number, Sound, Has, HasHalf, mef}
+use Rattle.euler_operators.proofs.Common.{count-append, tick_same, tick_other, count-canonical, IsRing-mef, mate_other, in-holds, holds_in, cycle_there, cycle_sound, content_cycle, content_row, face_row, row_of, solid_row, outer_row, row_elsewhere}
 use Rattle.euler_operators.specs.Table as table
-use Rattle.euler_operators.specs.Model.{Model, lone, cycle, FaceRow, LoopRow, items_of, holds, tail, loop_of, content, face_of, cycle_of, after, outer, solid_of, is_number}
-use Rattle.euler_operators.specs.Sound.{Sound, Has, HasHalf}
-use Rattle.euler_operators.proofs.Halves.{mate_other}
-use Rattle.euler_operators.proofs.Models.{in-holds, holds_in, cycle_there, cycle_sound, content_cycle, content_row, face_row, row_of, solid_row, outer_row}
-use Rattle.euler_operators.proofs.Tables.{row_elsewhere}
-use Rattle.euler_operators.specs.Effect.{mef}
 use Rattle.euler_laws.proofs.shared.Loops.{IsLoop, canonical_cycle, light, Walks}
 use Rattle.euler_laws.proofs.shared.Rows.{count-halves, content_none}
 use Rattle.euler_laws.proofs.shared.Same.{solid_at}

@@ -1,18 +1,8 @@
 -- What mef makes of the loops of a sound model.
 use Rattle.std.proofs.Common.{◌≡◌, ℕ, ◌+◌, List, [], ◌∷◌, ◌++◌, None, ap, ◌∙◌, arith}
-use Rattle.euler_operators.specs.Items.{count, tick}
-use Rattle.euler_operators.specs.Rings.{upto, onward}
-use Rattle.euler_operators.specs.Operators.{mef_old, mef_new}
-use Rattle.euler_operators.proofs.Rotations.{count-canonical}
-use Rattle.euler_operators.proofs.Lists.{count-append}
-use Rattle.euler_operators.specs.HalfEdge.{mate, edge_of}
+use Rattle.euler_operators.specs.Common.{count, tick, upto, onward, mef_old, mef_new, mate, edge_of, Table, Model, cycle, LoopRow, loop_of, face_of, cycle_of, Sound, HasHalf, mef}
+use Rattle.euler_operators.proofs.Common.{count-canonical, count-append, edge_of-mate, row_of, not_held}
 use Rattle.euler_operators.specs.Table as table
-use Rattle.euler_operators.specs.Table.{Table}
-use Rattle.euler_operators.specs.Model.{Model, cycle, LoopRow, loop_of, face_of, cycle_of}
-use Rattle.euler_operators.specs.Sound.{Sound, HasHalf}
-use Rattle.euler_operators.proofs.Halves.{edge_of-mate}
-use Rattle.euler_operators.proofs.Models.{row_of, not_held}
-use Rattle.euler_operators.specs.Effect.{mef}
 use Rattle.euler_laws.proofs.shared.Rows.{held_row}
 
 pub count-mef_old : (x h c e : ℕ) (hs : List ℕ) → count x (mef_old h c e hs) ≡ tick x h + count x (onward c e hs)

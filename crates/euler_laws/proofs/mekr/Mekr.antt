@@ -1,15 +1,8 @@
 -- mekr as an operator: it keeps a model sound, and kemr passes its conditions after it and takes it back.
-use Rattle.std.proofs.Common.{◌≡◌, ℕ, None, refl, arith}
-use Rattle.std.proofs.lemmas.Bool.{eq-eqb}
-use Rattle.euler_operators.specs.declared.HalfEdge.{HalfEdge}
-use Rattle.euler_operators.specs.declared.Corner.{Corner}
-use Rattle.euler_operators.specs.HalfEdge.{code}
-use Rattle.euler_operators.specs.Model.{Model}
-use Rattle.euler_operators.specs.Sound.{Sound}
-use Rattle.euler_operators.proofs.Halves.{edge_of-code}
+use Rattle.std.proofs.Common.{◌≡◌, ℕ, None, refl, arith, eq-eqb}
+use Rattle.euler_operators.specs.Common.{HalfEdge, Corner, code, Model, Sound, first_false, conditions, corner_tail, corner_loop, corner_list, effect, inverse, mekr}
+use Rattle.euler_operators.proofs.Common.{edge_of-code}
 use Rattle.euler_operators.specs.declared.Op.TheVariants.{Kemr, Mekr}
-use Rattle.euler_operators.specs.Conditions.{first_false, conditions, corner_tail, corner_loop, corner_list}
-use Rattle.euler_operators.specs.Effect.{effect, inverse, mekr}
 use Rattle.euler_laws.proofs.shared.Goes.{none_refuses, not_false}
 use Rattle.euler_laws.proofs.kemr.KemrSound.{KemrGoes}
 use Rattle.euler_laws.proofs.mekr.MekrSpots.{join_goes}

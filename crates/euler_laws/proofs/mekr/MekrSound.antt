@@ -1,20 +1,8 @@
 -- A sound model stays sound under mekr.
 use Rattle.std.proofs.Common.{◌≡◌, ◌≢◌, ℕ, ◌+◌, List, [], ◌∷◌, ◌++◌, None, refl, sym, ap, ◌∙◌, subst, arith, ◌⊎◌, inl, inr, eq-eqb, ne_eqb}
-use Rattle.euler_operators.specs.Items.{count, tick, IsIn, IsApart, head_or}
-use Rattle.euler_operators.specs.Rings.{canonical, IsPath, IsRing, between, beyond}
-use Rattle.euler_operators.specs.Operators.{after_mef}
-use Rattle.euler_operators.proofs.Lists.{count-append, tick_same}
-use Rattle.euler_operators.proofs.Rotations.{count-canonical}
-use Rattle.euler_operators.proofs.Rings.{IsPath-append, IsPath-sent}
-use Rattle.euler_operators.proofs.Operators.{apart_braced, between_canonical, beyond_canonical}
-use Rattle.euler_operators.specs.HalfEdge.{mate, edge_of}
+use Rattle.euler_operators.specs.Common.{count, tick, IsIn, IsApart, head_or, canonical, IsPath, IsRing, between, beyond, after_mef, mate, edge_of, Model, lone, cycle, LoopRow, items_of, tail, loop_of, content, face_of, after, cycle_of, Sound, Has, HasHalf, edge_row, kemr, cycle_or_lone}
+use Rattle.euler_operators.proofs.Common.{count-append, tick_same, count-canonical, IsPath-append, IsPath-sent, apart_braced, between_canonical, beyond_canonical, mate_other, mate-mate, row_elsewhere, remove-put, in-holds, holds_in}
 use Rattle.euler_operators.specs.Table as table
-use Rattle.euler_operators.specs.Model.{Model, lone, cycle, LoopRow, items_of, tail, loop_of, content, face_of, after, cycle_of}
-use Rattle.euler_operators.specs.Sound.{Sound, Has, HasHalf}
-use Rattle.euler_operators.proofs.Halves.{mate_other, mate-mate}
-use Rattle.euler_operators.proofs.Tables.{row_elsewhere, remove-put}
-use Rattle.euler_operators.proofs.Models.{in-holds, holds_in}
-use Rattle.euler_operators.specs.Effect.{edge_row, kemr, cycle_or_lone}
 use Rattle.euler_laws.proofs.shared.Fans.{Fan}
 use Rattle.euler_laws.proofs.shared.Loops.{IsLoop, canonical_cycle, canonical_ring, Walks}
 use Rattle.euler_laws.proofs.shared.Same.{solid_at}
@@ -24,7 +12,6 @@ use Rattle.euler_laws.proofs.shared.EdgeMore.{OneMore, comes, PutBefore, not_h, 
 use Rattle.euler_laws.proofs.shared.EdgeLess.{ticks_apart}
 use Rattle.euler_laws.proofs.shared.TwoRows.{RowsSet, row_first, row_second, row_else, content_first, face_same, has_same, OneOf, TwoRows, lone_else, in_both, loop_both, Elsewhere, none_elsewhere, walks-rows, one_solid-rows, two_rows-more}
 use Rattle.euler_laws.proofs.mekr.MekrSpots.{JoinGoes, count_spot, half_there, loop_there, ring_there, first_cases, vertex_there, only_lone}
-use Rattle.std.proofs.lemmas.Bool.{eq-eqb}
 use Rattle.euler_laws.proofs.kemr.KemrSound as parted
 use Rattle.euler_laws.proofs.kemr.KemrSound.{KemrGoes}
 use Rattle.euler_laws.proofs.shared.Undo.{same_model}

@@ -1,17 +1,11 @@
 -- Faces that go to another solid, and merge: it keeps a sound model sound.
-use Rattle.std.proofs.Common.{◌≡◌, ◌≢◌, ℕ, Bool, true, false, cond, nat_eq, Some, None, unwrap_or, is_some, refl, sym, ap, ◌∙◌, subst, arith, true≢false}
-use Rattle.std.specs.Option.{option_map}
+use Rattle.std.proofs.Common.{◌≡◌, ◌≢◌, ℕ, Bool, true, false, cond, nat_eq, Some, None, unwrap_or, is_some, refl, sym, ap, ◌∙◌, subst, arith, true≢false, option_map, ne_eqb}
 use Rattle.std.proofs.lemmas.Bool.Decides.{nat_tests, eqb_tells}
-use Rattle.std.proofs.lemmas.Bool.{not-true, ne_eqb, eqb-false}
-use Rattle.euler_operators.specs.HalfEdge.{mate}
+use Rattle.std.proofs.lemmas.Bool.{not-true, eqb-false}
+use Rattle.euler_operators.specs.Common.{mate, map_rows, get-map_rows, tables, Model, FaceRow, no_face, no_loop, loop_of, content, face_of, solid_of, outer, Sound, Has, HasHalf, NumbersFit, first_false, conditions, merge, faces_to_solid}
 use Rattle.euler_operators.specs.Table as table
-use Rattle.euler_operators.specs.Table.{map_rows, get-map_rows, tables}
-use Rattle.euler_operators.specs.Model.{Model, FaceRow, no_face, no_loop, loop_of, content, face_of, solid_of, outer}
-use Rattle.euler_operators.specs.Sound.{Sound, Has, HasHalf, NumbersFit}
-use Rattle.euler_operators.proofs.Models.{row_of, mate_there}
+use Rattle.euler_operators.proofs.Common.{row_of, mate_there}
 use Rattle.euler_operators.specs.declared.Op.TheVariants.{Merge}
-use Rattle.euler_operators.specs.Conditions.{first_false, conditions}
-use Rattle.euler_operators.specs.Effect.{merge, faces_to_solid}
 use Rattle.euler_laws.proofs.shared.Goes.{all_hold, none_refuses}
 use Rattle.euler_laws.proofs.shared.Rows.{face_there}
 use Rattle.euler_laws.proofs.shared.Faces.{sound-same}

@@ -1,18 +1,11 @@
 -- part as an operator: it keeps a sound model sound. merge and part pass their conditions after each other, and take each other back.
-use Rattle.std.proofs.Common.{◌≡◌, ◌≢◌, ℕ, Bool, true, false, cond, not, nat_eq, ◌||◌, List, [], ◌∷◌, ◌++◌, Some, None, unwrap_or, is_some, IsTrue, refl, sym, ap, ◌∙◌, subst, arith, inl, inr, true≢false}
+use Rattle.std.proofs.Common.{◌≡◌, ◌≢◌, ℕ, Bool, true, false, cond, not, nat_eq, ◌||◌, List, [], ◌∷◌, ◌++◌, Some, None, unwrap_or, is_some, IsTrue, refl, sym, ap, ◌∙◌, subst, arith, inl, inr, true≢false, eq-eqb, ne_eqb, eqb-true}
 use Rattle.std.proofs.lemmas.Bool.Decides.{nat_tests, eqb_tells}
-use Rattle.std.proofs.lemmas.Bool.{not-true, not-false, eq-eqb, ne_eqb, eqb-true}
-use Rattle.euler_operators.specs.HalfEdge.{mate, edge_of, plus, minus}
+use Rattle.std.proofs.lemmas.Bool.{not-true, not-false}
+use Rattle.euler_operators.specs.Common.{mate, edge_of, plus, minus, map_rows, tables, Model, FaceRow, no_face, loop_of, face_of, solid_of, outer, is_number, faces_of, Sound, Has, HasHalf, AllHold, first_false, conditions, numbers_in_range, faces_known, faces_in, face_at, lists, lists_all, strictly_rises, is_empty, torn_edge, differ, effect, inverse, merge, part, faces_to_solid}
 use Rattle.euler_operators.specs.Table as table
-use Rattle.euler_operators.specs.Table.{map_rows, tables}
-use Rattle.euler_operators.specs.Model.{Model, FaceRow, no_face, loop_of, face_of, solid_of, outer, is_number, faces_of}
-use Rattle.euler_operators.specs.Sound.{Sound, Has, HasHalf}
-use Rattle.euler_operators.proofs.Halves.{plus_row, mate_plus, mate_minus}
-use Rattle.euler_operators.proofs.Tables.{get-put_here, put-remove, remove-put, map_same, first_where_zero, zero_first_where, no_row, row_some}
-use Rattle.euler_operators.proofs.Models.{mate_there}
+use Rattle.euler_operators.proofs.Common.{plus_row, mate_plus, mate_minus, get-put_here, put-remove, remove-put, map_same, first_where_zero, zero_first_where, no_row, row_some, mate_there}
 use Rattle.euler_operators.specs.declared.Op.TheVariants.{Merge, Part}
-use Rattle.euler_operators.specs.Conditions.{AllHold, first_false, conditions, numbers_in_range, faces_known, faces_in, face_at, lists, lists_all, strictly_rises, is_empty, torn_edge, differ}
-use Rattle.euler_operators.specs.Effect.{effect, inverse, merge, part, faces_to_solid}
 use Rattle.euler_laws.proofs.shared.Goes.{◌also◌, all_hold, none_refuses, not_false, taken, no_zero, all_hold-append, all_hold-front, all_hold-back}
 use Rattle.euler_laws.proofs.shared.Fans.{half_face}
 use Rattle.euler_laws.proofs.shared.Arcs.{halves_of_edge}

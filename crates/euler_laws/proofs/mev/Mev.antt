@@ -1,17 +1,10 @@
 -- mev as an operator: what its conditions say, and that it keeps a model sound.
-use Rattle.std.proofs.Common.{◌≡◌, ℕ, true, None, refl, sym, ap, ◌∙◌}
-use Rattle.std.proofs.lemmas.Bool.{not-true, eq-eqb, eqb-true}
-use Rattle.euler_operators.specs.declared.Point.{Point}
-use Rattle.euler_operators.specs.declared.HalfEdge.{HalfEdge}
-use Rattle.euler_operators.specs.declared.Corner.TheVariants.{At, Lone}
-use Rattle.euler_operators.specs.HalfEdge.{code, edge_of}
+use Rattle.std.proofs.Common.{◌≡◌, ℕ, true, None, refl, sym, ap, ◌∙◌, eq-eqb, eqb-true}
+use Rattle.std.proofs.lemmas.Bool.{not-true}
+use Rattle.euler_operators.specs.Common.{Point, HalfEdge, At, Lone, code, edge_of, Model, lone, content, is_number, Sound, HasHalf, AllHold, first_false, conditions, lone_vertex, is_lone}
 use Rattle.euler_operators.specs.Table as table
-use Rattle.euler_operators.specs.Model.{Model, lone, content, is_number}
-use Rattle.euler_operators.specs.Sound.{Sound, HasHalf}
-use Rattle.euler_operators.proofs.Halves.{edge_of-code}
-use Rattle.euler_operators.proofs.Tables.{no_row}
+use Rattle.euler_operators.proofs.Common.{edge_of-code, no_row}
 use Rattle.euler_operators.specs.declared.Op.TheVariants.{Mev}
-use Rattle.euler_operators.specs.Conditions.{AllHold, first_false, conditions, lone_vertex, is_lone}
 use Rattle.euler_laws.proofs.shared.Goes.{◌also◌, all_hold, none_refuses, not_false, taken}
 use Rattle.euler_laws.proofs.mev.MevSound.{MevGoes}
 use Rattle.euler_laws.proofs.mev.MevLoneSound.{LoneGoes}

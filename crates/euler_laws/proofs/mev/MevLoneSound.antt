@@ -1,22 +1,9 @@
 -- A sound model stays sound under mev at a lone loop.
 use Rattle.std.proofs.Common.{◌≡◌, ◌≢◌, ℕ, ◌+◌, true, cond, nat_eq, List, [], ◌∷◌, Some, None, is_some, IsTrue, sym, ap, ◌∙◌, subst, arith, inl, inr}
 use Rattle.std.proofs.lemmas.Bool.Decides.{nat_tests, eqb_tells}
-use Rattle.euler_operators.specs.declared.Point.{Point}
-use Rattle.euler_operators.specs.Points.{IsInRange}
-use Rattle.euler_operators.specs.Items.{count, tick, head_or}
-use Rattle.euler_operators.specs.Rings.{canonical, IsRing}
-use Rattle.euler_operators.proofs.Lists.{tick_same, tick_other, tick_le}
-use Rattle.euler_operators.proofs.Rotations.{count-canonical}
-use Rattle.euler_operators.proofs.Rings.{IsPath-agree}
-use Rattle.euler_operators.specs.HalfEdge.{mate, edge_of}
+use Rattle.euler_operators.specs.Common.{Point, IsInRange, count, tick, head_or, canonical, IsRing, mate, edge_of, Model, lone, cycle, LoopRow, items_of, tail, loop_of, content, face_of, after, is_number, Sound, Has, HasHalf, IsLoneAt, lone_vertex, mev_lone, edge_row}
+use Rattle.euler_operators.proofs.Common.{tick_same, tick_other, tick_le, count-canonical, IsPath-agree, mate_other, edge_of-mate, mate-mate, get-put_here, get-put_other, row_elsewhere, no_tail, content_row, face_row, mate_there, same_content, same_face}
 use Rattle.euler_operators.specs.Table as table
-use Rattle.euler_operators.specs.Model.{Model, lone, cycle, LoopRow, items_of, tail, loop_of, content, face_of, after, is_number}
-use Rattle.euler_operators.specs.Sound.{Sound, Has, HasHalf, IsLoneAt}
-use Rattle.euler_operators.proofs.Halves.{mate_other, edge_of-mate, mate-mate}
-use Rattle.euler_operators.proofs.Tables.{get-put_here, get-put_other, row_elsewhere}
-use Rattle.euler_operators.proofs.Models.{no_tail, content_row, face_row, mate_there, same_content, same_face}
-use Rattle.euler_operators.specs.Conditions.{lone_vertex}
-use Rattle.euler_operators.specs.Effect.{mev_lone, edge_row}
 use Rattle.euler_laws.proofs.shared.Fans.{Fan, fan_of}
 use Rattle.euler_laws.proofs.shared.Loops.{IsLoop, canonical_cycle, canonical_ring, Walks, after-walks, one_vertex}
 use Rattle.euler_laws.proofs.shared.Same.{SameFaces, solid_at}

@@ -1,23 +1,9 @@
 -- A sound model stays sound under mev at two half-edges.
-use Rattle.std.proofs.Common.{◌≡◌, ◌≢◌, ℕ, ◌+◌, ◌≤◌, true, false, cond, nat_lt, List, [], ◌∷◌, Option, Some, None, unwrap_or, is_some, IsTrue, refl, sym, ap, ◌∙◌, subst, arith, ◌⊎◌, inl, inr, true≢false}
-use Rattle.std.specs.Option.{option_map}
+use Rattle.std.proofs.Common.{◌≡◌, ◌≢◌, ℕ, ◌+◌, ◌≤◌, true, false, cond, nat_lt, List, [], ◌∷◌, Option, Some, None, unwrap_or, is_some, IsTrue, refl, sym, ap, ◌∙◌, subst, arith, ◌⊎◌, inl, inr, true≢false, option_map}
 use Rattle.std.proofs.lemmas.Bool.Decides.{nat_tests, eqb_tells}
-use Rattle.euler_operators.specs.declared.Point.{Point}
-use Rattle.euler_operators.specs.Points.{IsInRange}
-use Rattle.euler_operators.specs.Items.{count, tick, IsIn, IsApart}
-use Rattle.euler_operators.specs.Rings.{canonical, upto, onward, IsRing}
-use Rattle.euler_operators.specs.Edits.{insert_before, led_over}
-use Rattle.euler_operators.specs.Operators.{after_mev}
-use Rattle.euler_operators.proofs.Lists.{tick_same, tick_other, IsIn_or_not}
-use Rattle.euler_operators.specs.HalfEdge.{mate, edge_of, is_first}
+use Rattle.euler_operators.specs.Common.{Point, IsInRange, count, tick, IsIn, IsApart, canonical, upto, onward, IsRing, insert_before, led_over, after_mev, mate, edge_of, is_first, tables, Model, LoopContent, lone, cycle, LoopRow, EdgeRow, items_of, holds, tail, loop_of, content, after, arc, tail_in, no_edge, is_number, Sound, Has, HasHalf, StandsIn, IsLoneAt, mev_at, edge_row, with_before, with_tails}
+use Rattle.euler_operators.proofs.Common.{tick_same, tick_other, IsIn_or_not, mate_other, edge_of-mate, edges_apart, get-put_here, get-put_other, row_elsewhere, no_tail, in-holds, holds_in, cycle_there, mate_there}
 use Rattle.euler_operators.specs.Table as table
-use Rattle.euler_operators.specs.Table.{tables}
-use Rattle.euler_operators.specs.Model.{Model, LoopContent, lone, cycle, LoopRow, EdgeRow, items_of, holds, tail, loop_of, content, after, arc, tail_in, no_edge, is_number}
-use Rattle.euler_operators.specs.Sound.{Sound, Has, HasHalf, StandsIn, IsLoneAt}
-use Rattle.euler_operators.proofs.Halves.{mate_other, edge_of-mate, edges_apart}
-use Rattle.euler_operators.proofs.Tables.{get-put_here, get-put_other, row_elsewhere}
-use Rattle.euler_operators.proofs.Models.{no_tail, in-holds, holds_in, cycle_there, mate_there}
-use Rattle.euler_operators.specs.Effect.{mev_at, edge_row, with_before, with_tails}
 use Rattle.euler_laws.proofs.shared.Fans.{Fan, fan_of}
 use Rattle.euler_laws.proofs.shared.Loops.{IsLoop, put_before, put_none, put_lone, lone_put, count_put_there, count_put_none, count_put_other, put_keeps, put_came, loop_put, loop_sound, none_free, none_else, Walks}
 use Rattle.euler_laws.proofs.shared.Arcs.{halves_of_edge, arc_is, fan_mev, fan_mev_other}

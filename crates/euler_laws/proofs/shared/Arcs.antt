@@ -1,18 +1,9 @@
 -- The part of a vertex's fan from one half-edge up to another, and what operators make of fans.
-use Rattle.std.proofs.Common.{◌≡◌, ◌≢◌, ℕ, ◌*◌, true, false, List, [], ◌∷◌, ◌++◌, length, is_some, refl, sym, arith, ◌⊎◌, inl, inr, true≢false}
-use Rattle.std.specs.Ordering.{nat_cmp}
+use Rattle.std.proofs.Common.{◌≡◌, ◌≢◌, ℕ, ◌*◌, true, false, List, [], ◌∷◌, ◌++◌, length, is_some, refl, sym, arith, ◌⊎◌, inl, inr, true≢false, nat_cmp}
 use Rattle.std.specs.FinMap.Entries.{find}
-use Rattle.euler_operators.specs.Items.{count, IsIn, IsApart}
-use Rattle.euler_operators.specs.Rings.{rest, canonical, upto, onward, IsRing}
-use Rattle.euler_operators.specs.Operators.{after_mev, after_mef, after_kev, after_kef, put_ring, take_ring}
-use Rattle.euler_operators.proofs.Cuts.{arc_ring}
-use Rattle.euler_operators.proofs.Vertices.{vertex_mev, vertex_mev_other, vertex_mef_first, vertex_mef_second, vertex_mef_other, vertex_kev, vertex_kev_other, vertex_kef_first, vertex_kef_second, vertex_kef_other}
-use Rattle.euler_operators.specs.HalfEdge.{mate, edge_of, is_first, plus, minus}
+use Rattle.euler_operators.specs.Common.{count, IsIn, IsApart, rest, canonical, upto, onward, IsRing, after_mev, after_mef, after_kev, after_kef, put_ring, take_ring, mate, edge_of, is_first, plus, minus, Model, EdgeRow, round, arc, HasHalf}
+use Rattle.euler_operators.proofs.Common.{arc_ring, vertex_mev, vertex_mev_other, vertex_mef_first, vertex_mef_second, vertex_mef_other, vertex_kev, vertex_kev_other, vertex_kef_first, vertex_kef_second, vertex_kef_other, mate_cases, apart_within}
 use Rattle.euler_operators.specs.Table as table
-use Rattle.euler_operators.specs.Model.{Model, EdgeRow, round, arc}
-use Rattle.euler_operators.specs.Sound.{HasHalf}
-use Rattle.euler_operators.proofs.Halves.{mate_cases}
-use Rattle.euler_operators.proofs.Members.{apart_within}
 
 pub halves_of_edge : (x : ℕ) → ((x ≡ plus (edge_of x)) × (is_first x ≡ true)) ⊎ ((x ≡ minus (edge_of x)) × (is_first x ≡ false))
 unfolding edge_of

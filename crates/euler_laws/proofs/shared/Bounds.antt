@@ -1,9 +1,7 @@
 -- A sound model has a bounded number of half-edges and loops.
 use Rattle.std.proofs.Common.{◌≡◌, ℕ, ◌<◌, ◌≤◌, refl, arith}
-use Rattle.euler_operators.specs.HalfEdge.{edge_of}
-use Rattle.euler_operators.specs.Model.{Model}
-use Rattle.euler_operators.specs.Sound.{Sound, Has, HasHalf}
-use Rattle.euler_operators.proofs.Models.{number_fits}
+use Rattle.euler_operators.specs.Common.{edge_of, Model, Sound, Has, HasHalf}
+use Rattle.euler_operators.proofs.Common.{number_fits}
 
 -- more than the half-edges that a model can have
 pub steps : ℕ

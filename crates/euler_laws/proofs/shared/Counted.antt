@@ -1,10 +1,8 @@
 -- What a list lists stands in it, and in a rising list once.
 use Rattle.std.proofs.Common.{◌≡◌, ℕ, ◌≤◌, Bool, true, false, List, [], ◌∷◌, Some, refl, sym, ap, ◌∙◌, arith, true≢false, inl, inr}
 use Rattle.std.proofs.lemmas.Bool.Decides.{eqb_tells}
-use Rattle.euler_operators.specs.Items.{count, tick, IsIn}
-use Rattle.euler_operators.proofs.Lists.{tick_same, tick_other}
-use Rattle.euler_operators.specs.Table.{Table, get, all_where}
-use Rattle.euler_operators.specs.Conditions.{lists, strictly_rises}
+use Rattle.euler_operators.specs.Common.{count, tick, IsIn, Table, get, all_where, lists, strictly_rises}
+use Rattle.euler_operators.proofs.Common.{tick_same, tick_other}
 use Rattle.euler_laws.proofs.shared.Listed.{first_listed, rest_listed, listed_passes, passes_listed, IsIn-from_listed, listed-from_in}
 use Rattle.euler_laws.proofs.Sizes.{rises_on, rises_apart}
 

@@ -1,20 +1,9 @@
 -- A model without one edge: its half-edges, the fans of its vertices, and what stands at them.
 use Rattle.std.proofs.Common.{◌≡◌, ◌≢◌, ℕ, ◌+◌, List, None, is_some, refl, sym, ap, ◌∙◌, subst, arith, ◌⊎◌, inl, inr}
 use Rattle.std.proofs.lemmas.Bool.Decides.{eqb_tells}
-use Rattle.euler_operators.specs.Items.{count, tick, IsIn}
-use Rattle.euler_operators.specs.Rings.{IsRing}
-use Rattle.euler_operators.specs.Operators.{take_ring, after_kef}
-use Rattle.euler_operators.proofs.Leads.{IsRing-redirect_other, IsRing-splice_other}
-use Rattle.euler_operators.proofs.Lists.{tick_same, tick_other}
-use Rattle.euler_operators.proofs.Rotations.{count-canonical}
-use Rattle.euler_operators.proofs.Rings.{count_at}
-use Rattle.euler_operators.specs.HalfEdge.{mate, edge_of}
+use Rattle.euler_operators.specs.Common.{count, tick, IsIn, IsRing, take_ring, after_kef, mate, edge_of, Model, lone, tail, content, after, round, Sound, Has, HasHalf, IsTail, IsLoneAt}
+use Rattle.euler_operators.proofs.Common.{IsRing-redirect_other, IsRing-splice_other, tick_same, tick_other, count-canonical, count_at, edge_of-mate, mate-mate, same_edge, edges_apart, mate_edge_apart, mate_there, get-remove_here, get-remove_other, row_elsewhere}
 use Rattle.euler_operators.specs.Table as table
-use Rattle.euler_operators.specs.Model.{Model, lone, tail, content, after, round}
-use Rattle.euler_operators.specs.Sound.{Sound, Has, HasHalf, IsTail, IsLoneAt}
-use Rattle.euler_operators.proofs.Halves.{edge_of-mate, mate-mate, same_edge, edges_apart, mate_edge_apart}
-use Rattle.euler_operators.proofs.Models.{mate_there}
-use Rattle.euler_operators.proofs.Tables.{get-remove_here, get-remove_other, row_elsewhere}
 use Rattle.euler_laws.proofs.shared.Fans.{Fan, fan_of, half_after, fixed_reaches, none_in_fan}
 use Rattle.euler_laws.proofs.shared.Arcs.{fan_kef_first, fan_kef_second, fan_kef_other}
 use Rattle.euler_laws.proofs.shared.Parts.{VerticesHold}

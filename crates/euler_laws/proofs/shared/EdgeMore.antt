@@ -1,20 +1,9 @@
 -- A model with one edge more: its half-edges, the fans of its vertices, and what stands at them.
 use Rattle.std.proofs.Common.{◌≡◌, ◌≢◌, ℕ, List, [], ◌∷◌, Some, None, is_some, sym, ap, ◌∙◌, subst, arith, ◌⊎◌, inl, inr}
 use Rattle.std.proofs.lemmas.Bool.Decides.{eqb_tells}
-use Rattle.euler_operators.specs.Items.{count, IsIn}
-use Rattle.euler_operators.specs.Rings.{IsRing}
-use Rattle.euler_operators.specs.Operators.{put_ring, after_mef}
-use Rattle.euler_operators.proofs.Leads.{IsRing-led_over_other, IsRing-splice_other}
-use Rattle.euler_operators.proofs.Lists.{tick_same, tick_other, tick_le, IsIn_or_not}
-use Rattle.euler_operators.proofs.Rotations.{count-canonical, count-rotate_to}
-use Rattle.euler_operators.specs.HalfEdge.{mate, edge_of}
+use Rattle.euler_operators.specs.Common.{count, IsIn, IsRing, put_ring, after_mef, mate, edge_of, Model, tail, after, Sound, Has, HasHalf, IsTail, IsLoneAt, edge_row}
+use Rattle.euler_operators.proofs.Common.{IsRing-led_over_other, IsRing-splice_other, tick_same, tick_other, tick_le, IsIn_or_not, count-canonical, count-rotate_to, edge_of-mate, same_edge, mate-mate, tail_row, mate_there, get-put_here, get-put_other, row_elsewhere}
 use Rattle.euler_operators.specs.Table as table
-use Rattle.euler_operators.specs.Model.{Model, tail, after}
-use Rattle.euler_operators.specs.Sound.{Sound, Has, HasHalf, IsTail, IsLoneAt}
-use Rattle.euler_operators.proofs.Halves.{edge_of-mate, same_edge, mate-mate}
-use Rattle.euler_operators.proofs.Models.{tail_row, mate_there}
-use Rattle.euler_operators.proofs.Tables.{get-put_here, get-put_other, row_elsewhere}
-use Rattle.euler_operators.specs.Effect.{edge_row}
 use Rattle.euler_laws.proofs.shared.Fans.{Fan, fan_of}
 use Rattle.euler_laws.proofs.shared.Arcs.{fan_mef_first, fan_mef_second, fan_mef_other}
 use Rattle.euler_laws.proofs.shared.Rows.{tail_first, tail_second}

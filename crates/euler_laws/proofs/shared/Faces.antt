@@ -1,15 +1,9 @@
 -- Operators that leave each loop's content, the edges and the vertices: what stays sound, and loops that change their face.
-use Rattle.std.proofs.Common.{◌≡◌, ℕ, Bool, true, false, cond, nat_eq, Some, is_some, refl, sym, ap, ◌∙◌, subst, ◌≢◌, ◌⊎◌, inl, inr}
+use Rattle.std.proofs.Common.{◌≡◌, ℕ, Bool, true, false, cond, nat_eq, Some, is_some, refl, sym, ap, ◌∙◌, subst, ◌≢◌, ◌⊎◌, inl, inr, ne_eqb, eq-eqb, eqb-true}
 use Rattle.std.proofs.lemmas.Bool.Decides.{eqb_tells}
-use Rattle.std.proofs.lemmas.Bool.{ne_eqb, eq-eqb, eqb-true}
-use Rattle.euler_operators.specs.HalfEdge.{mate}
+use Rattle.euler_operators.specs.Common.{mate, map_rows, Model, lone, FaceRow, LoopRow, holds, tail, loop_of, content, face_of, solid_of, outer, after, Sound, Has, HasHalf, IsLoneAt, NumbersFit, loop_to_face, face_to_outer}
 use Rattle.euler_operators.specs.Table as table
-use Rattle.euler_operators.specs.Table.{map_rows}
-use Rattle.euler_operators.specs.Model.{Model, lone, FaceRow, LoopRow, holds, tail, loop_of, content, face_of, solid_of, outer, after}
-use Rattle.euler_operators.specs.Sound.{Sound, Has, HasHalf, IsLoneAt, NumbersFit}
-use Rattle.euler_operators.specs.Effect.{loop_to_face, face_to_outer}
-use Rattle.euler_operators.proofs.Tables.{map_same, map_one}
-use Rattle.euler_operators.proofs.Models.{mate_there, row_of, content_row, face_row, same_content, same_face, solid_row, outer_row}
+use Rattle.euler_operators.proofs.Common.{map_same, map_one, mate_there, row_of, content_row, face_row, same_content, same_face, solid_row, outer_row}
 use Rattle.euler_laws.proofs.shared.Loops.{IsLoop, loop_sound, Walks, stands-walks, one_loop-walks, cycles-walks, ends_meet-walks, one_fan-walks}
 use Rattle.euler_laws.proofs.shared.Same.{map_twice, solid_at}
 use Rattle.euler_laws.proofs.shared.Rows.{loop_row, face_there}

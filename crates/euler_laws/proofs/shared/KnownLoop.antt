@@ -1,12 +1,8 @@
 -- A loop of a sound model that is known by its half-edges, written from any of them on.
 use Rattle.std.proofs.Common.{◌≡◌, ℕ, List, Some, is_some, sym, ap, ◌∙◌, arith}
-use Rattle.euler_operators.specs.Items.{IsIn, IsApart}
-use Rattle.euler_operators.specs.Rings.{canonical, rotate_to}
-use Rattle.euler_operators.proofs.Rotations.{canonical-rotates, count-canonical, rotate_to_same}
+use Rattle.euler_operators.specs.Common.{IsIn, IsApart, canonical, rotate_to, Model, cycle, items_of, holds, loop_of, content, face_of, cycle_of, Sound, HasHalf, StandsIn}
+use Rattle.euler_operators.proofs.Common.{canonical-rotates, count-canonical, rotate_to_same, content_row, face_row, in-holds}
 use Rattle.euler_operators.specs.Table as table
-use Rattle.euler_operators.specs.Model.{Model, cycle, items_of, holds, loop_of, content, face_of, cycle_of}
-use Rattle.euler_operators.specs.Sound.{Sound, HasHalf, StandsIn}
-use Rattle.euler_operators.proofs.Models.{content_row, face_row, in-holds}
 
 -- a loop of a model, written from anywhere on
 pub record Around (M : Model) (l f : ℕ) (xs : List ℕ) : Type 0 where

@@ -1,15 +1,7 @@
 -- The walk round a loop, which meets each of its half-edges once.
 use Rattle.std.proofs.Common.{◌≡◌, ◌≢◌, ℕ, ◌+◌, ◌≤◌, List, [], ◌∷◌, ◌++◌, refl, sym, ap, subst, ◌∙◌, arith}
-use Rattle.euler_operators.specs.Items.{count, IsIn, IsApart}
-use Rattle.euler_operators.specs.Rings.{canonical, rotate_to, walk_to, orbit, successor, IsRing, IsRotation}
-use Rattle.euler_operators.proofs.Lists.{count-append}
-use Rattle.euler_operators.proofs.Rings.{orbit_from, IsRing-from_successor, IsIn_successor}
-use Rattle.euler_operators.proofs.Rotations.{count-rotate_to, rotate_to-rotates}
-use Rattle.euler_operators.proofs.Places.{walk_done, walk_on, walk_over}
-use Rattle.euler_operators.specs.Model.{Model, items_of, content, after}
-use Rattle.euler_operators.specs.Sound.{Sound, HasHalf}
-use Rattle.euler_operators.proofs.Models.{item_there, item_loop, cycle_sound}
-use Rattle.euler_operators.proofs.Members.{length_below}
+use Rattle.euler_operators.specs.Common.{count, IsIn, IsApart, canonical, rotate_to, walk_to, orbit, successor, IsRing, IsRotation, Model, items_of, content, after, Sound, HasHalf}
+use Rattle.euler_operators.proofs.Common.{count-append, orbit_from, IsRing-from_successor, IsIn_successor, count-rotate_to, rotate_to-rotates, walk_done, walk_on, walk_over, item_there, item_loop, cycle_sound, length_below}
 use Rattle.euler_laws.proofs.shared.Bounds.{steps, half_below}
 
 -- the walk round loop l from its item first on has met some items and come to h, and n steps may follow

@@ -1,24 +1,10 @@
 -- Models that answer alike are equal; and lists that an operator and its inverse leave.
 use Rattle.std.proofs.Common.{◌≡◌, ◌≢◌, ℕ, ◌+◌, Bool, true, false, not, nat_eq, ◌&&◌, ◌||◌, List, ◌∷◌, Option, Some, None, unwrap_or, is_some, IsTrue, refl, sym, ap, ◌∙◌, arith, inl, inr, true≢false}
 use Rattle.std.proofs.lemmas.Bool.Decides.{nat_tests, eqb_tells}
-use Rattle.euler_operators.specs.Items.{count, tick, IsIn, IsApart, head_or}
-use Rattle.euler_operators.specs.Rings.{canonical, rotate_to, rest, between, successor, IsRotation}
-use Rattle.euler_operators.specs.Edits.{insert_before, without}
-use Rattle.euler_operators.specs.Operators.{mev_ring, kev_ring, put_ring, take_ring}
-use Rattle.euler_operators.proofs.Lists.{count-append, tick_same, tick_other}
-use Rattle.euler_operators.proofs.Rotations.{canonical-rotates, canonical_same, rest_same, rotate_to_is}
-use Rattle.euler_operators.proofs.Cuts.{ring_split, IsIn_rest}
-use Rattle.euler_operators.proofs.Rings.{apart_at}
-use Rattle.euler_operators.proofs.Edits.{count-insert_before, insert_before-rotates, insert_before_same, mev_ring_is, without-rotates}
-use Rattle.euler_operators.proofs.Leads.{kev_ring_is}
-use Rattle.euler_operators.specs.HalfEdge.{mate, edge_of, is_first, plus, minus}
+use Rattle.euler_operators.specs.Common.{count, tick, IsIn, IsApart, head_or, canonical, rotate_to, rest, between, successor, IsRotation, insert_before, without, mev_ring, kev_ring, put_ring, take_ring, mate, edge_of, is_first, plus, minus, same_table, Model, LoopRow, no_loop, EdgeRow, no_edge, tail_in, tail, content, face_of, is_number, Has, HasHalf, parallel}
+use Rattle.euler_operators.proofs.Common.{count-append, tick_same, tick_other, canonical-rotates, canonical_same, rest_same, rotate_to_is, ring_split, apart_at, count-insert_before, insert_before-rotates, insert_before_same, mev_ring_is, without-rotates, kev_ring_is, plus_row, minus_row, mate_plus, mate_minus, first_where_zero, zero_first_where, row_some}
+use Rattle.euler_operators.proofs.Cuts.{IsIn_rest}
 use Rattle.euler_operators.specs.Table as table
-use Rattle.euler_operators.specs.Table.{same_table}
-use Rattle.euler_operators.specs.Model.{Model, LoopRow, no_loop, EdgeRow, no_edge, tail_in, tail, content, face_of, is_number}
-use Rattle.euler_operators.specs.Sound.{Has, HasHalf}
-use Rattle.euler_operators.proofs.Halves.{plus_row, minus_row, mate_plus, mate_minus}
-use Rattle.euler_operators.proofs.Tables.{first_where_zero, zero_first_where, row_some}
-use Rattle.euler_operators.specs.Conditions.{parallel}
 use Rattle.euler_laws.proofs.shared.Loops.{apart_out}
 use Rattle.euler_laws.proofs.shared.Arcs.{halves_of_edge}
 use Rattle.euler_laws.proofs.shared.Goes.{no_zero}

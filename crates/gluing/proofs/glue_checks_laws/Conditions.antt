@@ -1,22 +1,14 @@
 -- The conditions of a glue, part by part.
-use Rattle.std.proofs.Common.{◌≡◌, ℕ, Bool, true, false, cond, not, ◌&&◌, ◌||◌, nat_eq, List, ◌++◌, Option, Some, None, Result, Ok, Err, is_err, unwrap_or, refl, sym, ap, ◌∙◌, arith, true≢false}
+use Rattle.std.proofs.Common.{◌≡◌, ℕ, Bool, true, false, cond, not, ◌&&◌, ◌||◌, nat_eq, List, ◌++◌, Option, Some, None, Result, Ok, Err, is_err, unwrap_or, refl, sym, ap, ◌∙◌, arith, true≢false, reverse}
 use Rattle.std.proofs.lemmas.Bool.Decides.{nat_tests}
-use Rattle.euler_operators.specs.Table.{get}
-use Rattle.euler_operators.specs.Model.{Model, LoopRow, no_loop, content, face_of, solid_of, outer, faces_of}
-use Rattle.euler_operators.specs.Sound.{Sound, Has}
-use Rattle.euler_operators.proofs.Tables.{zero_first_where}
-use Rattle.euler_operators.proofs.Tests.{first_fails, or_true}
-use Rattle.euler_operators.proofs.Models.{loop_number}
-use Rattle.euler_operators.specs.Conditions.{Condition, first_refusal, verdict, is_lone, lists}
+use Rattle.euler_operators.specs.Common.{get, Model, LoopRow, no_loop, content, face_of, solid_of, outer, faces_of, Sound, Has, Condition, first_refusal, verdict, is_lone, lists}
+use Rattle.euler_operators.proofs.Common.{zero_first_where, first_fails, or_true, loop_number}
 use Rattle.euler_operators.specs.declared.Refusal.{Refusal}
-use Rattle.euler_laws.proofs.shared.Goes.{all_hold, verdict_passed, verdict_failed}
-use Rattle.shapes.proofs.fresh.Tests.{first_refusal-append, first_refusal-refused, none_found, none_is_lone}
-use Rattle.shapes.specs.Faces.{faces_of_both, least_lone}
-use Rattle.shapes.specs.Fresh.{taken_in, numbers_left}
+use Rattle.euler_laws.proofs.Common.{all_hold, verdict_passed, verdict_failed}
+use Rattle.shapes.proofs.Common.{first_refusal-append, first_refusal-refused, none_found, none_is_lone}
+use Rattle.shapes.specs.Common.{faces_of_both, least_lone, taken_in, numbers_left, glue_conditions, has_repeats, is_rotation, outline}
 use Rattle.solid_measure.proofs.solid_checks_laws.FaceWalks.{lists_member, member_faces, member_both}
-use Rattle.std.specs.Prelude.{reverse}
 use Rattle.euler_operators.specs.declared.Why.TheVariants.{RepeatedPoint, NoMatch}
-use Rattle.shapes.specs.glue.Glue.{glue_conditions, has_repeats, is_rotation, outline}
 use Rattle.gluing.specs.glue_checks.Conditions.{face_conditions, solid_conditions, early_conditions, early_refusal, outline_conditions}
 use Rattle.solid_walks.proofs.face_walks_laws.Above.{member}
 

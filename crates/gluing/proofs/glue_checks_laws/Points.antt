@@ -1,15 +1,11 @@
 -- The test for equal points, and points that are met twice.
-use Rattle.std.proofs.Common.{◌≡◌, ℕ, zero, suc, ◌+◌, ◌<◌, cond, Some, is_some, ℤ, Bool, true, false, ◌&&◌, ◌||◌, List, [], ◌∷◌, ◌++◌, length, refl, sym, ap, ◌∙◌, arith, true≢false}
-use Rattle.std.specs.Prelude.{get_or, reverse}
+use Rattle.std.proofs.Common.{◌≡◌, ℕ, zero, suc, ◌+◌, ◌<◌, cond, Some, is_some, ℤ, Bool, true, false, ◌&&◌, ◌||◌, List, [], ◌∷◌, ◌++◌, length, refl, sym, ap, ◌∙◌, arith, true≢false, get_or, reverse, int_eq}
 use Rattle.std.specs.List.{list_any}
-use Rattle.std.specs.Ordering.{int_eq}
 use Rattle.std.proofs.lemmas.Bool.{or_parts}
 use Rattle.std.proofs.lemmas.List.{reverse-append}
-use Rattle.euler_operators.specs.declared.Point.{Point}
-use Rattle.euler_operators.specs.Vectors.{same_point}
-use Rattle.euler_operators.proofs.Crossings.{same_as}
-use Rattle.euler_operators.proofs.Tests.{or_false}
-use Rattle.shapes.specs.glue.Glue.{has_repeats}
+use Rattle.euler_operators.specs.Common.{Point, same_point}
+use Rattle.euler_operators.proofs.Common.{same_as, or_false}
+use Rattle.shapes.specs.Common.{has_repeats}
 use Rattle.gluing.specs.glue_checks.Places.{place_from}
 
 numbers_turned : (m n : ℤ) → int_eq m n ≡ int_eq n m

@@ -1,14 +1,11 @@
 -- The conditions of a glue, by what their tests look at.
 use Rattle.std.specs.Prelude.{ℕ, not, nat_eq, List, [], ◌∷◌, ◌++◌, reverse, Option}
 use Rattle.euler_operators.specs.Table as table
-use Rattle.euler_operators.specs.Model.{Model, solid_of}
-use Rattle.euler_operators.specs.Conditions.{Condition, need, never, first_refusal, numbers_in_range, has_rings}
+use Rattle.euler_operators.specs.Common.{Model, solid_of, Condition, need, never, first_refusal, numbers_in_range, has_rings}
 use Rattle.euler_operators.specs.declared.Refusal.{Refusal}
 use Rattle.euler_operators.specs.declared.Why.TheVariants.{NoFace, SameSolid, HasRings, LoneLoop, NotFlat, RepeatedPoint, NoMatch}
-use Rattle.shapes.specs.Faces.{least_lone, faces_of_both}
-use Rattle.shapes.specs.Fresh.{no_such, first_such}
+use Rattle.shapes.specs.Common.{least_lone, faces_of_both, no_such, first_such, has_repeats, is_rotation, outline}
 use Rattle.solid_measure.specs.Measure.{is_flat}
-use Rattle.shapes.specs.glue.Glue.{has_repeats, is_rotation, outline}
 
 -- the faces are there, of different solids, and without rings
 abbrev pub face_conditions : Model → ℕ → ℕ → List Condition

@@ -1,7 +1,6 @@
 -- The place of a point in a list.
 use Rattle.std.specs.Prelude.{ℕ, ◌+◌, cond, List, [], ◌∷◌, Option, Some, None}
-use Rattle.euler_operators.specs.declared.Point.{Point}
-use Rattle.euler_operators.specs.Vectors.{same_point}
+use Rattle.euler_operators.specs.Common.{Point, same_point}
 
 -- the place of the first point that equals p, counted from n on
 abbrev pub place_from : ℕ → Point → List Point → Option ℕ

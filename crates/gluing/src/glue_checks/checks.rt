@@ -1,10 +1,9 @@
 //! The conditions of a glue, in the order in which they are tested.
 ghost use Rattle.std.specs.Prelude.{◌≡◌, true, false, None, IfOk, OnErr};
-ghost use Rattle.euler_operators.specs.Model.{content, outer};
+ghost use Rattle.euler_operators.specs.Common.{content, outer, first_refusal, has_rings, is_lone, verdict};
 ghost use Rattle.euler_conditions.specs.Ready.{IsReady};
-ghost use Rattle.euler_operators.specs.Conditions.{first_refusal, has_rings, is_lone, verdict};
 ghost use Rattle.euler_conditions.specs.Store.{has_number};
-ghost use Rattle.shapes.specs.glue.Glue.{glue_refusal};
+ghost use Rattle.shapes.specs.Common.{glue_refusal};
 ghost use Rattle.gluing.specs.glue_checks.Conditions.{early_refusal, face_conditions, outline_conditions, solid_conditions};
 
 use crate::glue_checks::outlines::{backwards, has_repeats, is_rotation};

@@ -1,8 +1,8 @@
 //! Lists of points compared: repeated points, and lists that are turns of one another.
 ghost use Rattle.std.specs.Prelude.{◌≡◌, ◌≤◌, ◌++◌, false, IfOk, drop, length, reverse, take};
 ghost use Rattle.std.specs.List.{list_any};
-ghost use Rattle.euler_operators.specs.Vectors.{same_point};
-ghost use Rattle.shapes.specs.glue.Glue.{has_repeats, is_rotation, same_points};
+ghost use Rattle.euler_operators.specs.Common.{same_point};
+ghost use Rattle.shapes.specs.Common.{has_repeats, is_rotation, same_points};
 ghost use Rattle.gluing.specs.glue_checks.Places.{place_from};
 
 use euler_operators::Point;

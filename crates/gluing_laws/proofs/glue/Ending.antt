@@ -1,35 +1,16 @@
 -- The last item: only its partner's edge goes, with face f.
-use Rattle.std.proofs.Common.{◌≡◌, ◌≢◌, ℕ, true, false, cond, nat_eq, Bool, List, [], ◌∷◌, ◌++◌, Option, Some, None, is_some, unwrap_or, refl, sym, ap, ◌∙◌, subst, arith, true≢false, inl, inr}
-use Rattle.std.specs.Prelude.{map}
-use Rattle.std.specs.Option.{option_map}
+use Rattle.std.proofs.Common.{◌≡◌, ◌≢◌, ℕ, true, false, cond, nat_eq, Bool, List, [], ◌∷◌, ◌++◌, Option, Some, None, is_some, unwrap_or, refl, sym, ap, ◌∙◌, subst, arith, true≢false, inl, inr, map, option_map}
 use Rattle.std.proofs.lemmas.Bool.Decides.{nat_tests, eqb_tells}
 use Rattle.std.proofs.lemmas.List.{map-append}
-use Rattle.euler_operators.specs.Items.{count, IsIn, IsApart}
-use Rattle.euler_operators.specs.Rings.{canonical, rest}
-use Rattle.euler_operators.proofs.Lists.{count-append, tick_same}
-use Rattle.euler_operators.proofs.Rotations.{rest_same, rest_at, canonical-rotates}
-use Rattle.euler_operators.specs.HalfEdge.{mate, edge_of, half}
+use Rattle.euler_operators.specs.Common.{count, IsIn, IsApart, canonical, rest, mate, edge_of, half, Table, tables, same_table, get-map_rows, Model, FaceRow, LoopRow, cycle, tail, loop_of, face_of, solid_of, outer, cycle_of, no_face, Has, HasHalf, face_at, first_false, effect, kef, faces_to_solid}
+use Rattle.euler_operators.proofs.Common.{count-append, tick_same, rest_same, rest_at, canonical-rotates, code-half, mate-mate, edge_of-mate, face_row, row_of, mate_there}
 use Rattle.euler_operators.specs.Table as table
-use Rattle.euler_operators.specs.Table.{Table, tables, same_table, get-map_rows}
-use Rattle.euler_operators.specs.Model.{Model, FaceRow, LoopRow, cycle, tail, loop_of, face_of, solid_of, outer, cycle_of, no_face}
-use Rattle.euler_operators.specs.Sound.{Has, HasHalf}
-use Rattle.euler_operators.proofs.Halves.{code-half, mate-mate, edge_of-mate}
-use Rattle.euler_operators.proofs.Models.{face_row, row_of, mate_there}
 use Rattle.euler_operators.specs.declared.Op.TheVariants.{Kef}
-use Rattle.euler_operators.specs.Conditions.{face_at, first_false}
-use Rattle.euler_operators.specs.Effect.{effect, kef, faces_to_solid}
-use Rattle.euler_laws.proofs.shared.Rows.{face_there}
+use Rattle.euler_laws.proofs.Common.{face_there, KefGoes, kef_accepted, Around, half_is, loop_is, apart_xs, cycle_is}
 use Rattle.euler_laws.proofs.mef.KefSound as kill
-use Rattle.euler_laws.proofs.mef.KefSound.{KefGoes}
-use Rattle.euler_laws.proofs.mef.Kef.{kef_accepted}
-use Rattle.euler_laws.proofs.shared.KnownLoop.{Around, half_is, loop_is, apart_xs, cycle_is}
-use Rattle.shapes.specs.Rewriting.{rewritten_row, renamed, without_rows}
-use Rattle.shapes.specs.glue.Glue.{glued_along, renamed_tails, moves, partner, partners}
-use Rattle.shapes.specs.glue.Part.{paired, glued_part}
-use Rattle.shapes.proofs.glue.Renamings.{renamed_last, without_first, without_more}
-use Rattle.shapes.proofs.glue.Swapped.{map_agree, map_removed}
+use Rattle.shapes.specs.Common.{rewritten_row, renamed, without_rows, glued_along, renamed_tails, moves, partner, partners, paired, glued_part}
+use Rattle.shapes.proofs.Common.{renamed_last, without_first, without_more, map_agree, map_removed, Facing}
 use Rattle.shapes.proofs.glue.Facing as facing
-use Rattle.shapes.proofs.glue.Facing.{Facing}
 use Rattle.gluing_laws.proofs.glue.Stages as stages
 use Rattle.gluing_laws.proofs.glue.Stages.{Stage}
 

@@ -1,52 +1,22 @@
 -- The first four operators of a glue: the solids become one, and the two loops one loop.
-use Rattle.std.proofs.Common.{◌≡◌, ◌≢◌, ℕ, true, false, cond, nat_eq, Bool, List, [], ◌∷◌, ◌++◌, Option, Some, None, is_some, refl, sym, ap, ◌∙◌, subst, arith, true≢false}
-use Rattle.std.specs.Prelude.{map, reverse}
+use Rattle.std.proofs.Common.{◌≡◌, ◌≢◌, ℕ, true, false, cond, nat_eq, Bool, List, [], ◌∷◌, ◌++◌, Option, Some, None, is_some, refl, sym, ap, ◌∙◌, subst, arith, true≢false, map, reverse, ne_eqb, eq-eqb}
 use Rattle.std.proofs.lemmas.Bool.Decides.{nat_tests}
-use Rattle.std.proofs.lemmas.Bool.{ne_eqb, eq-eqb}
 use Rattle.std.proofs.lemmas.List.{map-append, reverse-append}
-use Rattle.euler_operators.specs.Items.{count, IsIn, IsApart, before, after}
-use Rattle.euler_operators.specs.Rings.{canonical, rest, successor}
-use Rattle.euler_operators.specs.Edits.{without}
-use Rattle.euler_operators.proofs.Lists.{count-append, tick_same, before_at, after_at}
-use Rattle.euler_operators.proofs.Rotations.{canonical_same, count-canonical, canonical-rotates, IsApart-canonical}
-use Rattle.euler_operators.proofs.Rings.{successor_inner, successor_same}
-use Rattle.euler_operators.proofs.Cuts.{rest_canonical}
-use Rattle.euler_operators.specs.HalfEdge.{mate, edge_of, half, plus, minus}
+use Rattle.euler_operators.specs.Common.{count, IsIn, IsApart, canonical, rest, successor, without, mate, edge_of, half, plus, minus, Table, tables, same_table, At, Model, FaceRow, LoopRow, EdgeRow, cycle, items_of, tail, tail_in, content, face_of, solid_of, outer, is_number, Sound, HasHalf, first_false, effect, merge, kfmrh, mekr, kev, faces_to_solid, loop_to_face, moved_tail, edge_row}
+use Rattle.euler_operators.specs.Items.{before, after}
+use Rattle.euler_operators.proofs.Common.{count-append, tick_same, before_at, after_at, canonical_same, count-canonical, canonical-rotates, IsApart-canonical, successor_inner, successor_same, rest_canonical, code-half, plus_row, minus_row, edge_of-mate, mate_plus, map-put, map_same, map_one, remove-put, get-put_here, get-put_other, get-remove_other, same_outer, content_row, face_row, tail_row, in-holds, holds-none, not_held, same_head}
 use Rattle.euler_operators.specs.Table as table
-use Rattle.euler_operators.specs.Table.{Table, tables, same_table}
-use Rattle.euler_operators.specs.declared.Corner.TheVariants.{At}
-use Rattle.euler_operators.specs.Model.{Model, FaceRow, LoopRow, EdgeRow, cycle, items_of, tail, tail_in, content, face_of, solid_of, outer, is_number}
 use Rattle.euler_operators.specs.Model as model
-use Rattle.euler_operators.specs.Sound.{Sound, HasHalf}
-use Rattle.euler_operators.proofs.Halves.{code-half, plus_row, minus_row, edge_of-mate, mate_plus}
-use Rattle.euler_operators.proofs.Tables.{map-put, map_same, map_one, remove-put, get-put_here, get-put_other, get-remove_other}
-use Rattle.euler_operators.proofs.Models.{same_outer, content_row, face_row, tail_row, in-holds, holds-none, not_held}
-use Rattle.euler_operators.proofs.Members.{same_head}
 use Rattle.euler_operators.specs.declared.Op.TheVariants.{Kev, Mekr, Kfmrh, Merge}
-use Rattle.euler_operators.specs.Conditions.{first_false}
-use Rattle.euler_operators.specs.Effect.{effect, merge, kfmrh, mekr, kev, faces_to_solid, loop_to_face, moved_tail, edge_row}
-use Rattle.euler_laws.proofs.shared.Undo.{both_out}
-use Rattle.euler_laws.proofs.shared.Rows.{edge_row_plus}
-use Rattle.euler_laws.proofs.merge.Merge.{OtherSolids, face_same, MergeGoes, merge_accepted, merge_other, solid_new, joined_same, joined_t, sound-merge}
-use Rattle.euler_laws.proofs.faces.Kfmrh.{KillGoes, kfmrh_accepted}
-use Rattle.euler_laws.proofs.kemr.Kemr.{CornerAt, corner_here, MekrGoes, mekr_accepted}
-use Rattle.euler_laws.proofs.kev.KevSound.{KevGoes}
-use Rattle.euler_laws.proofs.kev.Kev.{kev_accepted}
+use Rattle.euler_laws.proofs.Common.{both_out, edge_row_plus, OtherSolids, MergeGoes, merge_accepted, merge_other, solid_new, joined_same, joined_t, sound-merge, KillGoes, kfmrh_accepted, CornerAt, corner_here, MekrGoes, mekr_accepted, KevGoes, kev_accepted, effect_keeps_sound, Leads, leads_one, leads_first, Around, half_is, loop_is, cycle_is, apart_xs, same_tail}
+use Rattle.euler_laws.proofs.merge.Merge.{face_same}
 use Rattle.euler_laws.proofs.kev.MevUndo.{as_cycle}
 use Rattle.euler_laws.specs.Laws.{effects, AreAccepted}
-use Rattle.euler_laws.proofs.Cases.{effect_keeps_sound}
-use Rattle.euler_laws.proofs.Runs.{Leads, leads_one, leads_first}
 use Rattle.sweeps_laws.proofs.prism.Steps.{edge_plus}
-use Rattle.shapes.specs.Rewriting.{rewritten_row, renamed}
-use Rattle.shapes.specs.glue.GlueOps.{opening}
-use Rattle.shapes.specs.glue.Part.{paired, seam, glued_part}
-use Rattle.shapes.proofs.glue.Renamings.{renamed_more, row_unrenamed}
-use Rattle.shapes.proofs.glue.Swapped.{map_agree, map_removed}
+use Rattle.shapes.specs.Common.{rewritten_row, renamed, opening, paired, seam, glued_part}
+use Rattle.shapes.proofs.Common.{renamed_more, row_unrenamed, map_agree, map_removed, Facing}
 use Rattle.shapes.proofs.glue.Facing as facing
-use Rattle.shapes.proofs.glue.Facing.{Facing}
 use Rattle.gluing_laws.proofs.glue.Round.{out_edge, out_here, out_none}
-use Rattle.euler_laws.proofs.shared.KnownLoop.{Around, half_is, loop_is, cycle_is, apart_xs}
-use Rattle.euler_laws.proofs.shared.Same.{same_tail}
 
 module _ (M : Model) (f g : ℕ) (partner_of : ℕ → ℕ) (h : ℕ) (mid : List ℕ) (last x : ℕ) (w : Facing M f g partner_of (h ∷ (mid ++ last ∷ [])) x) where
   abbrev hs : List ℕ

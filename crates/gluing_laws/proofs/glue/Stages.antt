@@ -1,32 +1,14 @@
 -- What a model holds while two solids are being glued together, and one item more.
-use Rattle.std.proofs.Common.{◌≡◌, ◌≢◌, ℕ, nat_eq, List, ◌∷◌, ◌++◌, Option, Some, None, is_some, unwrap_or, refl, sym, ap, ◌∙◌, subst, arith, true≢false, inl, inr, cond, []}
-use Rattle.std.specs.Prelude.{map, reverse}
-use Rattle.std.specs.Option.{option_map}
+use Rattle.std.proofs.Common.{◌≡◌, ◌≢◌, ℕ, nat_eq, List, ◌∷◌, ◌++◌, Option, Some, None, is_some, unwrap_or, refl, sym, ap, ◌∙◌, subst, arith, true≢false, inl, inr, cond, [], map, reverse, option_map}
 use Rattle.std.proofs.lemmas.Bool.Decides.{nat_tests, eqb_tells}
 use Rattle.std.proofs.lemmas.Option.{same_Some}
-use Rattle.euler_operators.specs.Items.{count, IsIn}
-use Rattle.euler_operators.specs.Rings.{canonical, rest}
-use Rattle.euler_operators.proofs.Lists.{count-append, tick_other, IsIn_or_not}
-use Rattle.euler_operators.proofs.Tables.{get-put_here, get-put_other}
-use Rattle.euler_operators.specs.HalfEdge.{mate, edge_of, is_first}
+use Rattle.euler_operators.specs.Common.{count, IsIn, canonical, rest, mate, edge_of, is_first, Table, tables, get-map_rows, same_table, get-put, Model, LoopRow, cycle, tail, tail_in, no_edge, solid_of, outer, items_of, loop_of, content, face_of, cycle_of, Sound, HasHalf, StandsIn, faces_to_solid}
+use Rattle.euler_operators.proofs.Common.{count-append, tick_other, IsIn_or_not, get-put_here, get-put_other, count-canonical, from_map, count-reverse, content_row, holds_in, none-holds, other_loop, row_of, cycle_there, cycle_sound, mate_there, IsIn-map}
 use Rattle.euler_operators.specs.Table as table
-use Rattle.euler_operators.specs.Table.{Table, tables, get-map_rows, same_table, get-put}
-use Rattle.euler_operators.specs.Model.{Model, LoopRow, cycle, tail, tail_in, no_edge, solid_of, outer, items_of, loop_of, content, face_of, cycle_of}
-use Rattle.euler_operators.specs.Sound.{Sound, HasHalf, StandsIn}
-use Rattle.euler_operators.specs.Effect.{faces_to_solid}
-use Rattle.euler_laws.proofs.shared.Same.{mapped_some}
-use Rattle.euler_laws.proofs.shared.KnownLoop.{Around, half_is, loop_is}
-use Rattle.shapes.specs.Rewriting.{rewritten_row, renamed, without_rows}
-use Rattle.shapes.specs.glue.Glue.{renamed_tails}
-use Rattle.shapes.specs.glue.Part.{paired, seam, glued_part}
-use Rattle.shapes.proofs.glue.Renamings.{renamed_not, without_there, without_gone, renamed_more, replaced, tail_renamed}
+use Rattle.euler_laws.proofs.Common.{mapped_some, Around, half_is, loop_is}
+use Rattle.shapes.specs.Common.{rewritten_row, renamed, without_rows, renamed_tails, paired, seam, glued_part}
+use Rattle.shapes.proofs.Common.{renamed_not, without_there, without_gone, renamed_more, replaced, tail_renamed, Facing, side, row_stays, row_turns}
 use Rattle.shapes.proofs.glue.Facing as facing
-use Rattle.shapes.proofs.glue.Facing.{Facing, side}
-use Rattle.euler_operators.proofs.Rotations.{count-canonical}
-use Rattle.euler_operators.proofs.Maps.{from_map, count-reverse}
-use Rattle.euler_operators.proofs.Models.{content_row, holds_in, none-holds, other_loop, row_of, cycle_there, cycle_sound, mate_there}
-use Rattle.euler_operators.proofs.Members.{IsIn-map}
-use Rattle.shapes.proofs.glue.Swapped.{row_stays, row_turns}
 
 -- some items are glued, the others aren't yet; last is the last item
 pub record Stage (M : Model) (f g : ℕ) (partner_of : ℕ → ℕ) (hs : List ℕ) (x last : ℕ) (done more : List ℕ) : Type 0 where

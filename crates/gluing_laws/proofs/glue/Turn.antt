@@ -1,31 +1,15 @@
 -- One item more is glued.
-use Rattle.std.proofs.Common.{◌≡◌, ◌≢◌, ℕ, cond, nat_eq, List, [], ◌∷◌, ◌++◌, Some, is_some, refl, sym, ap, ◌∙◌, subst, arith, inl, inr, rules}
-use Rattle.std.specs.Prelude.{map, reverse}
+use Rattle.std.proofs.Common.{◌≡◌, ◌≢◌, ℕ, cond, nat_eq, List, [], ◌∷◌, ◌++◌, Some, is_some, refl, sym, ap, ◌∙◌, subst, arith, inl, inr, rules, map, reverse, append_assoc}
 use Rattle.std.proofs.lemmas.Bool.Decides.{nat_tests}
-use Rattle.std.proofs.lemmas.List.{append_assoc, map-append}
-use Rattle.euler_operators.specs.Items.{count, IsIn}
-use Rattle.euler_operators.specs.Rings.{canonical}
-use Rattle.euler_operators.proofs.Lists.{count-append, tick_same, tick_other}
-use Rattle.euler_operators.proofs.Rotations.{canonical_same}
-use Rattle.euler_operators.proofs.Maps.{reverse-cons}
-use Rattle.euler_operators.proofs.Models.{mate_there}
-use Rattle.euler_operators.specs.HalfEdge.{mate, edge_of}
+use Rattle.std.proofs.lemmas.List.{map-append}
+use Rattle.euler_operators.specs.Common.{count, IsIn, canonical, mate, edge_of, Table, tables, same_table, Model, LoopRow, cycle, tail, loop_of, solid_of, outer, HasHalf, moved_tail}
+use Rattle.euler_operators.proofs.Common.{count-append, tick_same, tick_other, canonical_same, reverse-cons, mate_there}
 use Rattle.euler_operators.specs.Table as table
-use Rattle.euler_operators.specs.Table.{Table, tables, same_table}
-use Rattle.euler_operators.specs.Model.{Model, LoopRow, cycle, tail, loop_of, solid_of, outer}
-use Rattle.euler_operators.specs.Sound.{HasHalf}
-use Rattle.euler_operators.specs.Effect.{moved_tail}
-use Rattle.euler_laws.proofs.shared.Same.{map_twice}
+use Rattle.euler_laws.proofs.Common.{map_twice, Around, half_is, apart_xs}
 use Rattle.euler_laws.specs.Laws.{effects, AreAccepted}
-use Rattle.euler_laws.proofs.shared.KnownLoop.{Around, half_is, apart_xs}
-use Rattle.shapes.specs.Rewriting.{rewritten_row, renamed, without_rows}
-use Rattle.shapes.specs.glue.Glue.{renamed_tails}
-use Rattle.shapes.specs.glue.GlueOps.{closing}
-use Rattle.shapes.specs.glue.Part.{paired, seam, glued_part}
-use Rattle.shapes.proofs.glue.Renamings.{renamed_cases, renamed_more, without_more}
-use Rattle.shapes.proofs.glue.Swapped.{map_agree, map_removed}
+use Rattle.shapes.specs.Common.{rewritten_row, renamed, without_rows, renamed_tails, closing, paired, seam, glued_part}
+use Rattle.shapes.proofs.Common.{renamed_cases, renamed_more, without_more, map_agree, map_removed, Facing, side}
 use Rattle.shapes.proofs.glue.Facing as facing
-use Rattle.shapes.proofs.glue.Facing.{Facing, side}
 use Rattle.gluing_laws.proofs.glue.Stages as stages
 use Rattle.gluing_laws.proofs.glue.Stages.{Stage}
 use Rattle.gluing_laws.proofs.glue.Round.{Closes, closed, closing_leads}

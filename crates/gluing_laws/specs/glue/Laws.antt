@@ -1,10 +1,8 @@
 -- The laws of glues, each over every sound model and every glue that isn't refused.
 use Rattle.std.specs.Prelude.{◌≡◌, ℕ, None}
-use Rattle.euler_operators.specs.Model.{Model}
-use Rattle.euler_operators.specs.Sound.{Sound}
+use Rattle.euler_operators.specs.Common.{Model, Sound}
 use Rattle.euler_laws.specs.Laws.{effects, AreAccepted}
-use Rattle.shapes.specs.glue.Glue.{glue_refusal, glue_model}
-use Rattle.shapes.specs.glue.GlueOps.{glue_ops}
+use Rattle.shapes.specs.Common.{glue_refusal, glue_model, glue_ops}
 
 -- each operator is accepted in its turn
 abbrev pub GluesAreAccepted : Type 0

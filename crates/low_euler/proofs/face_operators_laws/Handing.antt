@@ -1,22 +1,14 @@
 -- Faces that are given to a solid one by one.
-use Rattle.std.proofs.Common.{◌≡◌, ◌≢◌, ℕ, ◌+◌, ◌<◌, Bool, true, false, cond, nat_eq, ◌||◌, List, [], ◌∷◌, ◌++◌, length, take, get_or, Option, Some, None, is_some, unwrap_or, refl, sym, ap, ◌∙◌, arith, inl, inr}
-use Rattle.std.specs.Option.{option_map}
+use Rattle.std.proofs.Common.{◌≡◌, ◌≢◌, ℕ, ◌+◌, ◌<◌, Bool, true, false, cond, nat_eq, ◌||◌, List, [], ◌∷◌, ◌++◌, length, take, get_or, Option, Some, None, is_some, unwrap_or, refl, sym, ap, ◌∙◌, arith, inl, inr, option_map, eq-eqb}
 use Rattle.std.proofs.lemmas.Bool.Decides.{nat_tests, eqb_tells}
-use Rattle.std.proofs.lemmas.Bool.{eq-eqb}
 use Rattle.std.proofs.lemmas.List.{take_more}
 use Rattle.euler_operators.specs.Table as table
-use Rattle.euler_operators.specs.Table.{Table, map_rows, put, same_table, get-map_rows, get-put}
-use Rattle.euler_operators.specs.Model.{Model, FaceRow, no_face, outer}
-use Rattle.euler_operators.specs.Sound.{Has}
+use Rattle.euler_operators.specs.Common.{Table, map_rows, put, same_table, get-map_rows, get-put, Model, FaceRow, no_face, outer, Has, AllHold, need, never, is_bad_part, lists, conditions, first_false, faces_known, faces_in, numbers_in_range, faces_to_solid}
 use Rattle.euler_conditions.specs.Store.{Store, set_solid}
-use Rattle.euler_operators.specs.Conditions.{AllHold, need, never, is_bad_part, lists, conditions, first_false, faces_known, faces_in, numbers_in_range}
 use Rattle.euler_operators.specs.declared.Op.TheVariants.{Part}
 use Rattle.euler_operators.specs.declared.Why.TheVariants.{NoSolid, SolidTaken, BadPart}
-use Rattle.euler_operators.specs.Effect.{faces_to_solid}
-use Rattle.euler_operators.proofs.Tests.{or_true, or_false}
-use Rattle.euler_operators.proofs.Tables.{row_some}
-use Rattle.euler_laws.proofs.shared.Goes.{all_hold, all_hold-front, all_hold-back}
-use Rattle.euler_laws.proofs.shared.Listed.{listed_cases}
+use Rattle.euler_operators.proofs.Common.{or_true, or_false, row_some}
+use Rattle.euler_laws.proofs.Common.{all_hold, all_hold-front, all_hold-back, listed_cases}
 use Rattle.low_euler.specs.face_operators.Moving.{moved}
 
 abbrev given : List ℕ → ℕ → ℕ → FaceRow → FaceRow

@@ -1,12 +1,8 @@
 -- A rewriting of one row is a row that is put.
-use Rattle.std.proofs.Common.{◌≡◌, ℕ, cond, refl, ap, ◌∙◌}
-use Rattle.std.proofs.lemmas.Bool.{ne_eqb, eq-eqb}
-use Rattle.euler_operators.specs.Table.{map_rows, put}
-use Rattle.euler_operators.specs.Model.{Model, FaceRow, LoopRow, content, face_of, solid_of, outer}
-use Rattle.euler_operators.specs.Sound.{Has}
-use Rattle.euler_operators.proofs.Tables.{map_one}
-use Rattle.euler_operators.specs.Effect.{loop_to_face, face_to_outer}
-use Rattle.euler_laws.proofs.shared.Rows.{face_there, loop_row}
+use Rattle.std.proofs.Common.{◌≡◌, ℕ, cond, refl, ap, ◌∙◌, ne_eqb, eq-eqb}
+use Rattle.euler_operators.specs.Common.{map_rows, put, Model, FaceRow, LoopRow, content, face_of, solid_of, outer, Has, loop_to_face, face_to_outer}
+use Rattle.euler_operators.proofs.Common.{map_one}
+use Rattle.euler_laws.proofs.Common.{face_there, loop_row}
 
 -- one loop that goes to another face
 pub loop_moved : (M : Model) (l f : ℕ) → Has M.loops l → map_rows (loop_to_face l f) M.loops ≡ put M.loops l (record { face = f; content = content M l })

@@ -1,12 +1,8 @@
 -- A face that gets another outer loop while a loop goes to another face.
-use Rattle.std.proofs.Common.{◌≡◌, ℕ, Bool, true, cond, nat_eq, false, Some, is_some, refl, sym, ap, ◌∙◌}
-use Rattle.std.proofs.lemmas.Bool.{eq-eqb}
+use Rattle.std.proofs.Common.{◌≡◌, ℕ, Bool, true, cond, nat_eq, false, Some, is_some, refl, sym, ap, ◌∙◌, eq-eqb}
 use Rattle.euler_operators.specs.Table as table
-use Rattle.euler_operators.specs.Table.{Table, map_rows, put, get-put}
-use Rattle.euler_operators.specs.Model.{Model, FaceRow, content, solid_of}
-use Rattle.euler_operators.specs.Sound.{Has}
+use Rattle.euler_operators.specs.Common.{Table, map_rows, put, get-put, Model, FaceRow, content, solid_of, Has, loop_to_face, face_to_outer}
 use Rattle.euler_conditions.specs.Store.{Store, set_face, set_outer}
-use Rattle.euler_operators.specs.Effect.{loop_to_face, face_to_outer}
 use Rattle.low_euler.proofs.face_operators_laws.Rows.{loop_moved, outer_changed}
 
 -- content is read from the loops alone

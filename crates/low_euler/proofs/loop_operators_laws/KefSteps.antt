@@ -1,28 +1,12 @@
 -- What kef's writers make of a store, one after another.
 use Rattle.std.proofs.Common.{◌≡◌, ◌≢◌, ℕ, ◌+◌, true, List, [], ◌∷◌, ◌++◌, Some, is_some, refl, sym, ap, ◌∙◌, subst, arith}
-use Rattle.euler_operators.specs.Items.{count, IsIn, IsApart, head_or}
-use Rattle.euler_operators.specs.Rings.{canonical, rest, joined}
-use Rattle.euler_operators.proofs.Lists.{count-append, tick_same}
-use Rattle.euler_operators.proofs.Rotations.{count-canonical}
-use Rattle.euler_operators.proofs.Rings.{count_at}
-use Rattle.euler_operators.proofs.Cuts.{count-joined}
-use Rattle.euler_operators.specs.declared.HalfEdge.{HalfEdge}
-use Rattle.euler_operators.specs.HalfEdge.{code, mate, edge_of}
+use Rattle.euler_operators.specs.Common.{count, IsIn, IsApart, head_or, canonical, rest, joined, HalfEdge, code, mate, edge_of, Table, Model, LoopContent, LoopRow, cycle, items_of, content, face_of, loop_of, cycle_of, tail, after as after_half, has_half, Sound, face_at, effect, kef, cycle_or_lone}
+use Rattle.euler_operators.proofs.Common.{count-append, tick_same, count-canonical, count_at, count-joined, mate_other, put_same, row_of, number_real}
 use Rattle.euler_operators.specs.Table as table
-use Rattle.euler_operators.specs.Table.{Table}
-use Rattle.euler_operators.specs.Model.{Model, LoopContent, LoopRow, cycle, items_of, content, face_of, loop_of, cycle_of, tail, after as after_half, has_half}
-use Rattle.euler_operators.specs.Sound.{Sound}
-use Rattle.euler_operators.proofs.Halves.{mate_other}
-use Rattle.euler_operators.proofs.Tables.{put_same}
-use Rattle.euler_operators.proofs.Models.{row_of, number_real}
 use Rattle.euler_operators.specs.declared.Op.TheVariants.{Kef}
-use Rattle.euler_operators.specs.Conditions.{face_at}
-use Rattle.euler_operators.specs.Effect.{effect, kef, cycle_or_lone}
 use Rattle.euler_conditions.specs.Ready.{Accepts, after}
 use Rattle.euler_laws.proofs.mef.KefSound as laws
-use Rattle.euler_laws.proofs.mef.KefSound.{KefGoes}
-use Rattle.euler_laws.proofs.mef.Kef.{kef_goes}
-use Rattle.euler_laws.proofs.shared.Rows.{cycle_filled}
+use Rattle.euler_laws.proofs.Common.{KefGoes, kef_goes, cycle_filled}
 use Rattle.euler_conditions.specs.Store.{Store, join, take_edge, take_loop, take_face}
 use Rattle.low_euler.specs.steps.Steps.{IsStanding, take_out, kill_edge}
 use Rattle.low_euler.proofs.steps_laws.StoreSteps.{remove-put_same}

@@ -1,28 +1,12 @@
 -- What kemr's writers make of a store, one after another.
-use Rattle.std.proofs.Common.{◌≡◌, ◌≢◌, ℕ, ◌+◌, true, cond, List, [], ◌∷◌, ◌++◌, is_some, unwrap_or, sym, ap, ◌∙◌, subst, arith}
-use Rattle.std.proofs.lemmas.Bool.{ne_eqb}
-use Rattle.euler_operators.specs.Items.{count, tick, IsIn, IsApart}
-use Rattle.euler_operators.specs.Rings.{between, beyond, cut_left, cut_right}
-use Rattle.euler_operators.proofs.Lists.{count-append}
-use Rattle.euler_operators.proofs.Rotations.{count-canonical}
-use Rattle.euler_operators.proofs.Cuts.{count-cut, IsIn-cut}
-use Rattle.euler_operators.specs.declared.HalfEdge.{HalfEdge}
-use Rattle.euler_operators.specs.HalfEdge.{code, mate, edge_of}
+use Rattle.std.proofs.Common.{◌≡◌, ◌≢◌, ℕ, ◌+◌, true, cond, List, [], ◌∷◌, ◌++◌, is_some, unwrap_or, sym, ap, ◌∙◌, subst, arith, ne_eqb}
+use Rattle.euler_operators.specs.Common.{count, tick, IsIn, IsApart, between, beyond, cut_left, cut_right, HalfEdge, code, mate, edge_of, Table, Model, LoopContent, LoopRow, cycle, items_of, content, face_of, loop_of, cycle_of, tail, no_loop, Sound, face_at, effect, kemr, cycle_or_lone}
+use Rattle.euler_operators.proofs.Common.{count-append, count-canonical, count-cut, IsIn-cut, mate_other, put_same, row_of, number_real}
 use Rattle.euler_operators.specs.Table as table
-use Rattle.euler_operators.specs.Table.{Table}
-use Rattle.euler_operators.specs.Model.{Model, LoopContent, LoopRow, cycle, items_of, content, face_of, loop_of, cycle_of, tail, no_loop}
-use Rattle.euler_operators.specs.Sound.{Sound}
-use Rattle.euler_operators.proofs.Halves.{mate_other}
-use Rattle.euler_operators.proofs.Tables.{put_same}
-use Rattle.euler_operators.proofs.Models.{row_of, number_real}
 use Rattle.euler_operators.specs.declared.Op.TheVariants.{Kemr}
-use Rattle.euler_operators.specs.Conditions.{face_at}
-use Rattle.euler_operators.specs.Effect.{effect, kemr, cycle_or_lone}
 use Rattle.euler_conditions.specs.Ready.{Accepts, after}
-use Rattle.euler_laws.proofs.shared.Rows.{count_or_lone}
+use Rattle.euler_laws.proofs.Common.{count_or_lone, KemrGoes, kemr_goes}
 use Rattle.euler_laws.proofs.kemr.KemrSound as laws
-use Rattle.euler_laws.proofs.kemr.KemrSound.{KemrGoes}
-use Rattle.euler_laws.proofs.kemr.Kemr.{kemr_goes}
 use Rattle.euler_conditions.specs.Store.{Store, put_loop, cut, cut_loose, cut_to, take_edge}
 use Rattle.low_euler.specs.steps.Steps.{IsStanding, take_out, kill_edge}
 use Rattle.low_euler.proofs.steps_laws.RingSteps.{rest_left, rest_right}

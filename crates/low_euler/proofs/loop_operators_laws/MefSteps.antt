@@ -1,27 +1,11 @@
 -- What mef's writers make of a store, one after another.
-use Rattle.std.proofs.Common.{◌≡◌, ◌≢◌, ℕ, ◌+◌, true, false, cond, List, [], ◌∷◌, ◌++◌, Some, None, is_some, unwrap_or, sym, ap, ◌∙◌, subst, arith}
-use Rattle.std.proofs.lemmas.Bool.{ne_eqb}
-use Rattle.euler_operators.specs.Items.{count, tick, IsIn, IsApart}
-use Rattle.euler_operators.specs.Rings.{cut_right}
-use Rattle.euler_operators.specs.Operators.{put_ring, mef_old, mef_new}
-use Rattle.euler_operators.proofs.Lists.{count-append, tick_same}
-use Rattle.euler_operators.specs.declared.HalfEdge.{HalfEdge}
-use Rattle.euler_operators.specs.declared.Corner.TheVariants.{At}
-use Rattle.euler_operators.specs.HalfEdge.{code, mate, edge_of}
+use Rattle.std.proofs.Common.{◌≡◌, ◌≢◌, ℕ, ◌+◌, true, false, cond, List, [], ◌∷◌, ◌++◌, Some, None, is_some, unwrap_or, sym, ap, ◌∙◌, subst, arith, ne_eqb}
+use Rattle.euler_operators.specs.Common.{count, tick, IsIn, IsApart, cut_right, put_ring, mef_old, mef_new, HalfEdge, At, code, mate, edge_of, Table, Model, LoopRow, cycle, items_of, content, face_of, solid_of, loop_of, cycle_of, before, tail, no_loop, Sound, face_at, effect, mef, edge_row}
+use Rattle.euler_operators.proofs.Common.{count-append, tick_same, mate_other, edge_of-code, put_same, row_of, cycle_there, cycle_sound, number_real}
 use Rattle.euler_operators.specs.Table as table
-use Rattle.euler_operators.specs.Table.{Table}
-use Rattle.euler_operators.specs.Model.{Model, LoopRow, cycle, items_of, content, face_of, solid_of, loop_of, cycle_of, before, tail, no_loop}
-use Rattle.euler_operators.specs.Sound.{Sound}
-use Rattle.euler_operators.proofs.Halves.{mate_other, edge_of-code}
-use Rattle.euler_operators.proofs.Tables.{put_same}
-use Rattle.euler_operators.proofs.Models.{row_of, cycle_there, cycle_sound, number_real}
 use Rattle.euler_operators.specs.declared.Op.TheVariants.{Mef}
-use Rattle.euler_operators.specs.Conditions.{face_at}
-use Rattle.euler_operators.specs.Effect.{effect, mef, edge_row}
 use Rattle.euler_conditions.specs.Ready.{Accepts, after}
-use Rattle.euler_laws.proofs.mef.MefSound.{MefGoes}
-use Rattle.euler_laws.proofs.mef.Mef.{mef_goes}
-use Rattle.euler_laws.proofs.mef.MefUndo.{loops-mef}
+use Rattle.euler_laws.proofs.Common.{MefGoes, mef_goes, loops-mef}
 use Rattle.euler_conditions.specs.Store.{Store, Extents, within, put_loop, cut, cut_loose, cut_to, put_face}
 use Rattle.low_euler.specs.steps.Steps.{IsStanding, IsUnused, with_edge, put_before, make_edge}
 use Rattle.low_euler.proofs.steps_laws.RingSteps.{cut_old, cut_new, count_put}

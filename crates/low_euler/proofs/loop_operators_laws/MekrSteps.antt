@@ -1,29 +1,11 @@
 -- What mekr's writers make of a store, one after another.
 use Rattle.std.proofs.Common.{◌≡◌, ◌≢◌, ℕ, ◌+◌, true, false, List, [], ◌∷◌, ◌++◌, Some, None, is_some, refl, sym, ap, ◌∙◌, subst, arith, true≢false}
-use Rattle.euler_operators.specs.Items.{count, tick, IsIn, IsApart}
-use Rattle.euler_operators.specs.Rings.{canonical, rotate_to, joined}
-use Rattle.euler_operators.proofs.Lists.{count-append, tick_same, tick_other}
-use Rattle.euler_operators.proofs.Rotations.{count-canonical, canonical_one}
-use Rattle.euler_operators.proofs.Operators.{apart_front}
-use Rattle.euler_operators.proofs.Cuts.{rest_canonical}
-use Rattle.euler_operators.specs.declared.HalfEdge.{HalfEdge}
-use Rattle.euler_operators.specs.declared.Corner.{Corner}
-use Rattle.euler_operators.specs.declared.Corner.TheVariants.{At, Lone}
-use Rattle.euler_operators.specs.HalfEdge.{code, mate, edge_of}
+use Rattle.euler_operators.specs.Common.{count, tick, IsIn, IsApart, canonical, rotate_to, joined, HalfEdge, Corner, At, Lone, code, mate, edge_of, Table, Model, LoopContent, lone, cycle, items_of, content, face_of, loop_of, cycle_of, has_half, Sound, first_false, conditions, corner_known, corner_lone, corner_loop, corner_tail, corner_list, is_lone, effect, mekr, edge_row}
+use Rattle.euler_operators.proofs.Common.{count-append, tick_same, tick_other, count-canonical, canonical_one, apart_front, rest_canonical, mate_other, edge_of-code, put_same, cycle_there, number_real}
 use Rattle.euler_operators.specs.Table as table
-use Rattle.euler_operators.specs.Table.{Table}
-use Rattle.euler_operators.specs.Model.{Model, LoopContent, lone, cycle, items_of, content, face_of, loop_of, cycle_of, has_half}
-use Rattle.euler_operators.specs.Sound.{Sound}
-use Rattle.euler_operators.proofs.Halves.{mate_other, edge_of-code}
-use Rattle.euler_operators.proofs.Tables.{put_same}
-use Rattle.euler_operators.proofs.Models.{cycle_there, number_real}
 use Rattle.euler_operators.specs.declared.Op.TheVariants.{Mekr}
-use Rattle.euler_operators.specs.Conditions.{first_false, conditions, corner_known, corner_lone, corner_loop, corner_tail, corner_list, is_lone}
-use Rattle.euler_operators.specs.Effect.{effect, mekr, edge_row}
 use Rattle.euler_conditions.specs.Ready.{Accepts, after}
-use Rattle.euler_laws.proofs.shared.Goes.{all_hold}
-use Rattle.euler_laws.proofs.shared.Rows.{half_of, loop_row}
-use Rattle.euler_laws.proofs.mekr.MekrSpots.{JoinGoes, join_goes, count_spot}
+use Rattle.euler_laws.proofs.Common.{all_hold, half_of, loop_row, JoinGoes, join_goes, count_spot}
 use Rattle.euler_conditions.specs.Store.{Store, with_loop, fill, join, take_loop}
 use Rattle.low_euler.specs.steps.Steps.{IsStanding, IsUnused, IsCorner, CanTake, with_edge, put_before, put_at, make_edge}
 use Rattle.low_euler.proofs.steps_laws.StoreSteps.{remove-put_same}

@@ -1,17 +1,8 @@
 -- Two loose half-edges put before one half-edge, in either order.
 use Rattle.std.proofs.Common.{◌≡◌, ◌≢◌, ℕ, true, List, [], ◌∷◌, refl, sym, ap, ◌∙◌, subst}
-use Rattle.euler_operators.specs.Items.{count}
-use Rattle.euler_operators.specs.Rings.{joined}
-use Rattle.euler_operators.specs.Operators.{put_ring}
-use Rattle.euler_operators.specs.declared.HalfEdge.{HalfEdge}
-use Rattle.euler_operators.specs.declared.Corner.TheVariants.{At}
-use Rattle.euler_operators.specs.HalfEdge.{code, mate}
-use Rattle.euler_operators.proofs.Halves.{mate_other, mate-mate}
+use Rattle.euler_operators.specs.Common.{count, joined, put_ring, HalfEdge, At, code, mate, Table, Model, LoopContent, cycle, items_of, content, has_half, loop_of, cycle_of, before, StandsIn}
+use Rattle.euler_operators.proofs.Common.{mate_other, mate-mate, holds_in}
 use Rattle.euler_operators.specs.Table as table
-use Rattle.euler_operators.specs.Table.{Table}
-use Rattle.euler_operators.specs.Model.{Model, LoopContent, cycle, items_of, content, has_half, loop_of, cycle_of, before}
-use Rattle.euler_operators.specs.Sound.{StandsIn}
-use Rattle.euler_operators.proofs.Models.{holds_in}
 use Rattle.euler_conditions.specs.Store.{Store, with_loop, loose_key, join}
 use Rattle.low_euler.specs.steps.Steps.{LoopsStandApart, IsStanding, IsLoose, IsUnused, with_edge, put_before}
 use Rattle.low_euler.proofs.steps_laws.RingSteps.{joined_twice}

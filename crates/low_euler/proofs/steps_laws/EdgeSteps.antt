@@ -1,18 +1,9 @@
 -- What is loose while an edge is made between two corners, and once it is killed.
 use Rattle.std.proofs.Common.{◌≡◌, ◌≢◌, ℕ, true, List, [], ◌∷◌, Some, is_some, unwrap_or, refl, sym, ap, ◌∙◌, subst, arith, inl, inr, ◌⊎◌}
 use Rattle.std.proofs.lemmas.Bool.Decides.{nat_tests, eqb_tells}
-use Rattle.euler_operators.specs.Items.{count}
-use Rattle.euler_operators.specs.Operators.{put_ring}
-use Rattle.euler_operators.proofs.Lists.{tick_other}
-use Rattle.euler_operators.specs.declared.Corner.{Corner}
-use Rattle.euler_operators.specs.declared.Corner.TheVariants.{At, Lone}
-use Rattle.euler_operators.specs.HalfEdge.{code, mate, edge_of, plus, minus}
-use Rattle.euler_operators.proofs.Halves.{mate_other, edge_of-mate}
+use Rattle.euler_operators.specs.Common.{count, put_ring, Corner, At, Lone, code, mate, edge_of, plus, minus, Table, tables, Model, cycle, items_of, no_loop, content, face_of, has_half, loop_of, cycle_of, edge_row}
+use Rattle.euler_operators.proofs.Common.{tick_other, mate_other, edge_of-mate, get-put_here, get-put_other}
 use Rattle.euler_operators.specs.Table as table
-use Rattle.euler_operators.specs.Table.{Table, tables}
-use Rattle.euler_operators.specs.Model.{Model, cycle, items_of, no_loop, content, face_of, has_half, loop_of, cycle_of}
-use Rattle.euler_operators.proofs.Tables.{get-put_here, get-put_other}
-use Rattle.euler_operators.specs.Effect.{edge_row}
 use Rattle.euler_conditions.specs.Store.{Store, with_loop, loose_key, loose_ring, fill}
 use Rattle.low_euler.specs.steps.Steps.{IsLoose, IsUnused, with_edge, put_before, take_out, put_at}
 use Rattle.low_euler.proofs.steps_laws.RingSteps.{count_put}

@@ -1,29 +1,12 @@
 -- Models of which the loops hold half-edges that are there, each once and in one loop: what stays so where one half-edge goes into a
 -- loop or leaves one, and where an edge is made.
-use Rattle.std.proofs.Common.{◌≡◌, ◌≢◌, ℕ, ◌+◌, Bool, true, false, cond, List, [], ◌∷◌, Option, Some, None, is_some, unwrap_or, refl, sym, ap, ◌∙◌, subst, arith, ◌⊎◌, inl, inr, true≢false}
-use Rattle.std.specs.Option.{option_map}
+use Rattle.std.proofs.Common.{◌≡◌, ◌≢◌, ℕ, ◌+◌, Bool, true, false, cond, List, [], ◌∷◌, Option, Some, None, is_some, unwrap_or, refl, sym, ap, ◌∙◌, subst, arith, ◌⊎◌, inl, inr, true≢false, option_map}
 use Rattle.std.proofs.lemmas.Bool.Decides.{eqb_tells}
-use Rattle.euler_operators.specs.Items.{count, tick, IsIn, IsApart}
-use Rattle.euler_operators.specs.Rings.{canonical, rest, predecessor}
-use Rattle.euler_operators.specs.Operators.{put_ring}
-use Rattle.euler_operators.specs.Edits.{insert_before, without}
-use Rattle.euler_operators.proofs.Lists.{tick_same, tick_other, tick_le, IsIn_or_not}
-use Rattle.euler_operators.proofs.Rings.{IsIn_predecessor}
-use Rattle.euler_operators.proofs.Rotations.{count-canonical, canonical_nil}
-use Rattle.euler_operators.proofs.Edits.{without_none}
-use Rattle.euler_operators.specs.HalfEdge.{mate, edge_of}
+use Rattle.euler_operators.specs.Common.{count, tick, IsIn, IsApart, canonical, rest, predecessor, put_ring, insert_before, without, mate, edge_of, Model, EdgeRow, LoopContent, cycle, LoopRow, no_loop, items_of, holds, loop_of, content, face_of, cycle_of, before, tail, Sound, HasHalf, StandsIn, edge_row, where_held, with_before, cycle_or_lone}
+use Rattle.euler_operators.proofs.Common.{tick_same, tick_other, tick_le, IsIn_or_not, IsIn_predecessor, count-canonical, canonical_nil, without_none, edge_of-mate, map_one, get-put_here, get-put_other, holds_in, in-holds, holds-none, content_row, held_row}
 use Rattle.euler_operators.specs.Table as table
-use Rattle.euler_operators.specs.Model.{Model, EdgeRow, LoopContent, cycle, LoopRow, no_loop, items_of, holds, loop_of, content, face_of, cycle_of, before, tail}
-use Rattle.euler_operators.specs.Sound.{Sound, HasHalf, StandsIn}
-use Rattle.euler_operators.proofs.Halves.{edge_of-mate}
-use Rattle.euler_operators.proofs.Tables.{map_one, get-put_here, get-put_other}
-use Rattle.euler_operators.proofs.Models.{holds_in, in-holds, holds-none, content_row, held_row}
-use Rattle.euler_operators.specs.Effect.{edge_row, where_held, with_before, cycle_or_lone}
-use Rattle.euler_laws.proofs.shared.Loops.{count_out, count_gone, apart_out, light, loop_at}
-use Rattle.euler_laws.proofs.shared.Same.{Rewritten, content-new, face-same}
+use Rattle.euler_laws.proofs.Common.{count_out, count_gone, apart_out, light, loop_at, Rewritten, content-new, face-same, count_or_lone, put_in, taken_out}
 use Rattle.euler_laws.proofs.shared.Same as same
-use Rattle.euler_laws.proofs.shared.Rows.{count_or_lone}
-use Rattle.euler_laws.proofs.shared.Undo.{put_in, taken_out}
 use Rattle.euler_conditions.specs.Store.{Store, with_loop}
 use Rattle.low_euler.specs.steps.Steps.{LoopsStandApart, IsStanding, IsLoose, IsUnused, with_edge, put_before, take_out}
 use Rattle.low_euler.proofs.steps_laws.RingSteps.{count_put}

@@ -2,15 +2,9 @@
 use Rattle.std.proofs.Common.{◌≡◌, ◌≢◌, ℕ, cond, List, [], ◌∷◌, Some, None, unwrap_or, sym, ap, ◌∙◌, arith, ◌⊎◌, inl, inr}
 use Rattle.std.proofs.lemmas.Bool.Decides.{nat_tests, eqb_tells}
 use Rattle.std.proofs.lemmas.Option.{same_Some}
-use Rattle.euler_operators.specs.Items.{count, IsIn}
-use Rattle.euler_operators.proofs.Lists.{tick_same, tick_other}
-use Rattle.euler_operators.specs.HalfEdge.{mate, edge_of, plus, minus}
+use Rattle.euler_operators.specs.Common.{count, IsIn, mate, edge_of, plus, minus, Table, tables, same_table, cycle, holds}
+use Rattle.euler_operators.proofs.Common.{tick_same, tick_other, mate_cases, first_where_is, in-holds, holds_in}
 use Rattle.euler_operators.specs.Table as table
-use Rattle.euler_operators.specs.Table.{Table, tables, same_table}
-use Rattle.euler_operators.specs.Model.{cycle, holds}
-use Rattle.euler_operators.proofs.Halves.{mate_cases}
-use Rattle.euler_operators.proofs.Tables.{first_where_is}
-use Rattle.euler_operators.proofs.Models.{in-holds, holds_in}
 use Rattle.euler_conditions.specs.Store.{Store, loose_key, loose_ring}
 
 -- each ring holds the half-edge alone under which it stands

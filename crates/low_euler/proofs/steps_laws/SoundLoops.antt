@@ -1,16 +1,9 @@
 -- Two loops of a sound model, also with a new edge whose half-edges are loose.
 use Rattle.std.proofs.Common.{◌≡◌, ◌≢◌, ℕ, ◌+◌, List, ◌∷◌, ◌++◌, None, is_some, refl, sym, ap, ◌∙◌, subst, arith, inl, inr}
 use Rattle.std.proofs.lemmas.Bool.Decides.{eqb_tells}
-use Rattle.euler_operators.specs.Items.{count, IsIn, IsApart}
-use Rattle.euler_operators.proofs.Lists.{count-append, tick_other, IsIn_or_not}
-use Rattle.euler_operators.proofs.Operators.{apart_front}
-use Rattle.euler_operators.specs.HalfEdge.{mate, edge_of}
+use Rattle.euler_operators.specs.Common.{count, IsIn, IsApart, mate, edge_of, Model, EdgeRow, items_of, content, Sound, HasHalf}
+use Rattle.euler_operators.proofs.Common.{count-append, tick_other, IsIn_or_not, apart_front, mate_other, edge_of-mate, get-put_here, in-holds}
 use Rattle.euler_operators.specs.Table as table
-use Rattle.euler_operators.specs.Model.{Model, EdgeRow, items_of, content}
-use Rattle.euler_operators.specs.Sound.{Sound, HasHalf}
-use Rattle.euler_operators.proofs.Halves.{mate_other, edge_of-mate}
-use Rattle.euler_operators.proofs.Tables.{get-put_here}
-use Rattle.euler_operators.proofs.Models.{in-holds}
 use Rattle.low_euler.proofs.steps_laws.TwoLoops.{TwoLoops}
 use Rattle.low_euler.specs.steps.Steps.{LoopsStandApart}
 use Rattle.low_euler.proofs.steps_laws.LoopsApart.{placed_of, free_none, half-put}

@@ -1,20 +1,10 @@
 -- What the arena's writers make of a store, where an edge is made and where one half-edge goes into a loop or leaves one.
-use Rattle.std.proofs.Common.{◌≡◌, ◌≢◌, ℕ, Bool, true, false, cond, not, List, [], ◌∷◌, is_some, refl, sym, ap, ◌∙◌, subst, arith}
+use Rattle.std.proofs.Common.{◌≡◌, ◌≢◌, ℕ, Bool, true, false, cond, not, List, [], ◌∷◌, is_some, refl, sym, ap, ◌∙◌, subst, arith, eq-eqb}
 use Rattle.std.proofs.lemmas.Bool.Decides.{nat_tests}
-use Rattle.std.proofs.lemmas.Bool.{eq-eqb}
-use Rattle.euler_operators.specs.Items.{IsIn}
-use Rattle.euler_operators.specs.Rings.{rest, cut_left, cut_right, joined}
-use Rattle.euler_operators.specs.Operators.{take_ring}
-use Rattle.euler_operators.specs.HalfEdge.{mate, edge_of, is_first, plus, minus, code}
-use Rattle.euler_operators.specs.declared.HalfEdge.{HalfEdge}
+use Rattle.euler_operators.specs.Common.{IsIn, rest, cut_left, cut_right, joined, take_ring, mate, edge_of, is_first, plus, minus, code, HalfEdge, Table, tables, same_table, Model, EdgeRow, LoopContent, LoopRow, lone, cycle, items_of, content, face_of, has_half, loop_of, cycle_of, before, tail, edge_row, cycle_or_lone}
 use Rattle.euler_operators.specs.Table as table
-use Rattle.euler_operators.specs.Table.{Table, tables, same_table}
-use Rattle.euler_operators.specs.Model.{Model, EdgeRow, LoopContent, LoopRow, lone, cycle, items_of, content, face_of, has_half, loop_of, cycle_of, before, tail}
-use Rattle.euler_operators.proofs.Halves.{plus_row, mate_plus, mate_minus, mate-mate, mate_other, edge_of-mate, is_first-mate}
-use Rattle.euler_operators.proofs.Tables.{get-put_here, put-put, put_turned}
-use Rattle.euler_operators.proofs.Models.{content_row, face_row, holds_in, held_row, in_no_loop}
-use Rattle.euler_operators.specs.Effect.{edge_row, cycle_or_lone}
-use Rattle.euler_laws.proofs.shared.Rows.{cycle_filled}
+use Rattle.euler_operators.proofs.Common.{plus_row, mate_plus, mate_minus, mate-mate, mate_other, edge_of-mate, is_first-mate, get-put_here, put-put, put_turned, content_row, face_row, holds_in, held_row, in_no_loop}
+use Rattle.euler_laws.proofs.Common.{cycle_filled}
 use Rattle.euler_conditions.specs.Store as store
 use Rattle.euler_conditions.specs.Store.{Store, with_loop, with_lone, loosened, loose_key, loose_ring, join, join_loose, join_loops, cut, cut_loose, clear}
 use Rattle.low_euler.specs.steps.Steps.{IsStanding, IsLoose, with_edge, put_before, take_out}

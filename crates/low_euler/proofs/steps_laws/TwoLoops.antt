@@ -1,20 +1,10 @@
 -- Stores that differ in the contents of two loops only: what the readers answer there, and what the steps make of them.
-use Rattle.std.proofs.Common.{◌≡◌, ◌≢◌, ℕ, ◌+◌, ◌≤◌, true, cond, List, [], ◌∷◌, Some, is_some, unwrap_or, refl, sym, ap, ◌∙◌, subst, arith, ◌⊎◌, inl, inr}
+use Rattle.std.proofs.Common.{◌≡◌, ◌≢◌, ℕ, ◌+◌, ◌≤◌, true, cond, List, [], ◌∷◌, Some, is_some, unwrap_or, refl, sym, ap, ◌∙◌, subst, arith, ◌⊎◌, inl, inr, ne_eqb}
 use Rattle.std.proofs.lemmas.Bool.Decides.{nat_tests, eqb_tells}
-use Rattle.std.proofs.lemmas.Bool.{ne_eqb}
-use Rattle.euler_operators.specs.Items.{count, IsIn, IsApart}
-use Rattle.euler_operators.specs.Rings.{rest, predecessor, cut_left, cut_right, joined}
-use Rattle.euler_operators.specs.Operators.{put_ring}
-use Rattle.euler_operators.proofs.Lists.{IsIn_or_not}
-use Rattle.euler_operators.proofs.Rings.{IsIn_predecessor}
+use Rattle.euler_operators.specs.Common.{count, IsIn, IsApart, rest, predecessor, cut_left, cut_right, joined, put_ring, Table, tables, Model, LoopContent, LoopRow, cycle, holds, items_of, content, face_of, has_half, loop_of, cycle_of, before, tail, no_loop, HasHalf, StandsIn, cycle_or_lone}
+use Rattle.euler_operators.proofs.Common.{IsIn_or_not, IsIn_predecessor, put-put, put_turned, content_row, face_row, in-holds, holds_in}
 use Rattle.euler_operators.specs.Table as table
-use Rattle.euler_operators.specs.Table.{Table, tables}
-use Rattle.euler_operators.specs.Model.{Model, LoopContent, LoopRow, cycle, holds, items_of, content, face_of, has_half, loop_of, cycle_of, before, tail, no_loop}
-use Rattle.euler_operators.specs.Sound.{HasHalf, StandsIn}
-use Rattle.euler_operators.proofs.Tables.{put-put, put_turned}
-use Rattle.euler_operators.proofs.Models.{content_row, face_row, in-holds, holds_in}
-use Rattle.euler_operators.specs.Effect.{cycle_or_lone}
-use Rattle.euler_laws.proofs.shared.Loops.{loop_at}
+use Rattle.euler_laws.proofs.Common.{loop_at}
 use Rattle.euler_conditions.specs.Store.{Store, Extents, loose_key, join, join_loose, join_loops, cut_to}
 use Rattle.low_euler.specs.steps.Steps.{IsStanding, put_before, take_out}
 

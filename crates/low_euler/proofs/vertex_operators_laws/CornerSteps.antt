@@ -1,17 +1,10 @@
 -- An edge made at two half-edges by the writers of an arena.
 use Rattle.std.proofs.Common.{◌≡◌, ◌≢◌, ℕ, false, None, is_some, sym, ap, ◌∙◌}
-use Rattle.euler_operators.specs.declared.Point.{Point}
-use Rattle.euler_operators.specs.declared.HalfEdge.{HalfEdge}
-use Rattle.euler_operators.specs.declared.Corner.TheVariants.{At}
-use Rattle.euler_operators.specs.HalfEdge.{code, mate, edge_of}
+use Rattle.euler_operators.specs.Common.{Point, HalfEdge, At, code, mate, edge_of, Model, loop_of, before, tail, arc, Sound, effect, mev_at, with_before, with_tails, edge_row}
 use Rattle.euler_operators.specs.Table as table
-use Rattle.euler_operators.specs.Model.{Model, loop_of, before, tail, arc}
-use Rattle.euler_operators.specs.Sound.{Sound}
-use Rattle.euler_operators.proofs.Halves.{edge_of-code}
+use Rattle.euler_operators.proofs.Common.{edge_of-code}
 use Rattle.euler_operators.specs.declared.Op.TheVariants.{Mev}
-use Rattle.euler_operators.specs.Effect.{effect, mev_at, with_before, with_tails, edge_row}
-use Rattle.euler_laws.proofs.mev.MevSound.{MevGoes}
-use Rattle.euler_laws.proofs.mev.Mev.{mev_goes}
+use Rattle.euler_laws.proofs.Common.{MevGoes, mev_goes}
 use Rattle.euler_conditions.specs.Store.{Store, put_vertex}
 use Rattle.euler_conditions.specs.Ready.{Accepts, after}
 use Rattle.low_euler.specs.steps.Steps.{LoopsStandApart, IsStanding, IsUnused, with_edge, put_before, make_edge, with_tails_at}

@@ -1,17 +1,8 @@
 -- The corners at which mev may be called.
-use Rattle.std.proofs.Common.{◌≡◌, ℕ, None, sym, ap, subst, ◌∙◌}
-use Rattle.std.proofs.lemmas.Bool.{eqb-true}
-use Rattle.euler_operators.specs.declared.Point.{Point}
-use Rattle.euler_operators.specs.declared.HalfEdge.{HalfEdge}
-use Rattle.euler_operators.specs.declared.Corner.{Corner}
-use Rattle.euler_operators.specs.declared.Corner.TheVariants.{At, Lone}
-use Rattle.euler_operators.specs.Model.{Model, lone, content}
-use Rattle.euler_operators.specs.Sound.{Sound}
+use Rattle.std.proofs.Common.{◌≡◌, ℕ, None, sym, ap, subst, ◌∙◌, eqb-true}
+use Rattle.euler_operators.specs.Common.{Point, HalfEdge, Corner, At, Lone, Model, lone, content, Sound, first_false, conditions, lone_vertex}
 use Rattle.euler_operators.specs.declared.Op.TheVariants.{Mev}
-use Rattle.euler_operators.specs.Conditions.{first_false, conditions, lone_vertex}
-use Rattle.euler_laws.proofs.shared.Goes.{all_hold}
-use Rattle.euler_laws.proofs.mev.Mev.{mixed_first, mixed_second}
-use Rattle.euler_laws.proofs.shared.Rows.{lone_is}
+use Rattle.euler_laws.proofs.Common.{all_hold, mixed_first, mixed_second, lone_is}
 use Rattle.euler_conditions.specs.Store.{Store}
 use Rattle.euler_conditions.specs.Ready.{Accepts, after}
 

@@ -1,33 +1,13 @@
 -- An edge and the vertex at its far end killed by the writers of an arena.
 use Rattle.std.proofs.Common.{◌≡◌, ◌≢◌, ℕ, true, false, cond, nat_eq, nat_lt, List, [], ◌∷◌, ◌++◌, None, is_some, unwrap_or, refl, sym, ap, subst, ◌∙◌, arith, ◌⊎◌, inl, inr}
 use Rattle.std.proofs.lemmas.Bool.Decides.{nat_tests, eqb_tells}
-use Rattle.euler_operators.specs.Items.{count, IsIn, IsApart, before as before_item, after as after_item}
-use Rattle.euler_operators.specs.Rings.{canonical, rest, rotate_to, successor, predecessor}
-use Rattle.euler_operators.specs.Edits.{without}
-use Rattle.euler_operators.proofs.Lists.{tick_other, IsIn_or_not}
-use Rattle.euler_operators.proofs.Rings.{next_is_successor, IsIn_successor, predecessor-successor, count_at}
-use Rattle.euler_operators.proofs.Rotations.{count-canonical, IsApart-canonical, canonical-rotates, rest_same}
-use Rattle.euler_operators.proofs.Edits.{without_none, count-without}
-use Rattle.euler_operators.proofs.Cuts.{upto_once}
-use Rattle.euler_operators.specs.declared.HalfEdge.{HalfEdge}
-use Rattle.euler_operators.specs.HalfEdge.{code, mate, edge_of, is_first, plus, minus}
+use Rattle.euler_operators.specs.Common.{count, IsIn, IsApart, canonical, rest, rotate_to, successor, predecessor, without, HalfEdge, code, mate, edge_of, is_first, plus, minus, Model, LoopContent, cycle, no_edge, items_of, holds, tail, tail_in, loop_of, face_of, content, after, round, arc, Sound, HasHalf, effect, kev, cycle_or_lone}
+use Rattle.euler_operators.specs.Items.{before as before_item, after as after_item}
+use Rattle.euler_operators.proofs.Common.{tick_other, IsIn_or_not, next_is_successor, IsIn_successor, predecessor-successor, count_at, count-canonical, IsApart-canonical, canonical-rotates, rest_same, without_none, count-without, upto_once, mate_other, mate-mate, get-remove_here, get-remove_other, in-holds, holds-none, cycle_there, mate_there as half_mate}
 use Rattle.euler_operators.specs.Table as table
-use Rattle.euler_operators.specs.Model.{Model, LoopContent, cycle, no_edge, items_of, holds, tail, tail_in, loop_of, face_of, content, after, round, arc}
-use Rattle.euler_operators.specs.Sound.{Sound, HasHalf}
-use Rattle.euler_operators.proofs.Halves.{mate_other, mate-mate}
-use Rattle.euler_operators.proofs.Tables.{get-remove_here, get-remove_other}
-use Rattle.euler_operators.proofs.Models.{in-holds, holds-none, cycle_there, mate_there as half_mate}
 use Rattle.euler_operators.specs.declared.Op.TheVariants.{Kev}
-use Rattle.euler_operators.specs.Effect.{effect, kev, cycle_or_lone}
-use Rattle.euler_laws.proofs.shared.Fans.{Fan, half_after, none_in_fan}
-use Rattle.euler_laws.proofs.shared.Loops.{apart_out}
-use Rattle.euler_laws.proofs.shared.Arcs.{arc_is}
-use Rattle.euler_laws.proofs.shared.Undo.{same_loops, same_edges, taken_out}
-use Rattle.euler_laws.proofs.kev.KevSound.{KevGoes, fan_killed, m_in, touched, emptied, half_cases, tail_old, edge_gone, edge_mapped, not_m}
+use Rattle.euler_laws.proofs.Common.{Fan, half_after, none_in_fan, apart_out, arc_is, same_loops, same_edges, taken_out, KevGoes, fan_killed, m_in, touched, emptied, half_cases, tail_old, edge_gone, edge_mapped, not_m, cycle_filled, mapped_some, kev_goes}
 use Rattle.euler_laws.proofs.kev.KevSound as kill
-use Rattle.euler_laws.proofs.shared.Rows.{cycle_filled}
-use Rattle.euler_laws.proofs.shared.Same.{mapped_some}
-use Rattle.euler_laws.proofs.kev.Kev.{kev_goes}
 use Rattle.euler_conditions.specs.Store.{Store, take_edge, take_vertex}
 use Rattle.euler_conditions.specs.Ready.{Accepts, after as after_op}
 use Rattle.low_euler.specs.steps.Steps.{LoopsStandApart, IsStanding, take_out, kill_edge, with_tails_at}

@@ -1,24 +1,11 @@
 -- An edge made at a lone loop by the writers of an arena.
 use Rattle.std.proofs.Common.{◌≡◌, ◌≢◌, ℕ, ◌+◌, true, false, List, [], ◌∷◌, is_some, refl, sym, ap, subst, ◌∙◌, arith, true≢false}
-use Rattle.euler_operators.specs.declared.Point.{Point}
-use Rattle.euler_operators.specs.Items.{count, tick}
-use Rattle.euler_operators.specs.Rings.{canonical}
-use Rattle.euler_operators.specs.Operators.{put_ring}
-use Rattle.euler_operators.proofs.Lists.{tick_other, tick_le}
-use Rattle.euler_operators.proofs.Operators.{apart_front}
-use Rattle.euler_operators.proofs.Rotations.{rotate_to_head, canonical_same}
-use Rattle.euler_operators.specs.declared.HalfEdge.{HalfEdge}
-use Rattle.euler_operators.specs.declared.Corner.TheVariants.{At, Lone}
-use Rattle.euler_operators.specs.HalfEdge.{code, mate}
+use Rattle.euler_operators.specs.Common.{Point, count, tick, canonical, put_ring, HalfEdge, At, Lone, code, mate, Model, cycle, items_of, loop_of, cycle_of, face_of, content, is_number, StandsIn, lone_vertex, is_lone, effect, mev_lone}
+use Rattle.euler_operators.proofs.Common.{tick_other, tick_le, apart_front, rotate_to_head, canonical_same, mate_other, edge_of-code}
 use Rattle.euler_operators.specs.Table as table
-use Rattle.euler_operators.specs.Model.{Model, cycle, items_of, loop_of, cycle_of, face_of, content, is_number}
-use Rattle.euler_operators.specs.Sound.{StandsIn}
-use Rattle.euler_operators.proofs.Halves.{mate_other, edge_of-code}
 use Rattle.euler_operators.specs.declared.Op.TheVariants.{Mev}
-use Rattle.euler_operators.specs.Conditions.{lone_vertex, is_lone}
-use Rattle.euler_operators.specs.Effect.{effect, mev_lone}
 use Rattle.euler_laws.proofs.mev.MevLoneSound.{LoneGoes}
-use Rattle.euler_laws.proofs.mev.Mev.{lone_goes}
+use Rattle.euler_laws.proofs.Common.{lone_goes}
 use Rattle.euler_conditions.specs.Store.{Store, put_vertex, fill, with_loop}
 use Rattle.euler_conditions.specs.Ready.{Accepts, after}
 use Rattle.low_euler.specs.steps.Steps.{LoopsStandApart, IsStanding, IsLoose, IsUnused, CanTake, with_edge, put_before, make_edge}

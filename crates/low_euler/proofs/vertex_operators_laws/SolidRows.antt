@@ -1,15 +1,10 @@
 -- A solid with one face and one vertex, made and killed by the writers of an arena.
 use Rattle.std.proofs.Common.{◌≡◌, ℕ, true, List, [], ◌∷◌, Some, None, is_some, unwrap_or, refl, sym, ap, subst, ◌∙◌, true≢false}
-use Rattle.euler_operators.specs.declared.Point.{Point}
+use Rattle.euler_operators.specs.Common.{Point, Table, Model, LoopRow, lone, cycle, items_of, no_loop, outer, face_of, faces_of, content, first_false, conditions, bare_face, is_lone, lone_vertex, effect, mvfs, kvfs_at, head_or_zero}
 use Rattle.euler_operators.specs.Table as table
-use Rattle.euler_operators.specs.Table.{Table}
-use Rattle.euler_operators.specs.Model.{Model, LoopRow, lone, cycle, items_of, no_loop, outer, face_of, faces_of, content}
 use Rattle.euler_operators.specs.declared.Op.TheVariants.{Mvfs, Kvfs}
-use Rattle.euler_operators.specs.Conditions.{first_false, conditions, bare_face, is_lone, lone_vertex}
-use Rattle.euler_operators.specs.Effect.{effect, mvfs, kvfs_at, head_or_zero}
-use Rattle.euler_operators.proofs.Tables.{get-put_here, put-put}
-use Rattle.euler_laws.proofs.shared.Goes.{all_hold}
-use Rattle.euler_laws.proofs.faces.Solids.{KvfsGoes, kvfs_goes}
+use Rattle.euler_operators.proofs.Common.{get-put_here, put-put}
+use Rattle.euler_laws.proofs.Common.{all_hold, KvfsGoes, kvfs_goes}
 use Rattle.euler_conditions.specs.Store.{Store, put_vertex, put_solid, put_face, put_loop, with_lone, only_item, take_solid, take_face, take_loop, take_vertex}
 use Rattle.euler_conditions.specs.Ready.{IsReady, after}
 use Rattle.euler_conditions.proofs.Solids.{one_face}

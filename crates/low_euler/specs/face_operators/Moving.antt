@@ -2,8 +2,7 @@
 use Rattle.std.specs.Prelude.{ℕ, List}
 use Rattle.euler_operators.specs.Table as table
 use Rattle.euler_conditions.specs.Store.{Store}
-use Rattle.euler_operators.specs.Conditions.{lists}
-use Rattle.euler_operators.specs.Effect.{faces_to_solid}
+use Rattle.euler_operators.specs.Common.{lists, faces_to_solid}
 
 -- the listed faces are of solid n
 abbrev pub moved : Store → List ℕ → ℕ → Store

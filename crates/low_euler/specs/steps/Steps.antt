@@ -1,17 +1,8 @@
 -- Steps of which operators on an arena are made: an edge that is made or killed, a half-edge that goes into a loop or leaves one,
 -- and tails that move.
 use Rattle.std.specs.Prelude.{◌≡◌, ◌≢◌, ℕ, true, List, [], ◌∷◌, None}
-use Rattle.euler_operators.specs.Items.{count, IsApart}
-use Rattle.euler_operators.specs.Rings.{rest}
-use Rattle.euler_operators.specs.Operators.{put_ring}
-use Rattle.euler_operators.specs.declared.Corner.{Corner}
-use Rattle.euler_operators.specs.declared.Corner.TheVariants.{At, Lone}
-use Rattle.euler_operators.specs.HalfEdge.{code, mate, edge_of}
+use Rattle.euler_operators.specs.Common.{count, IsApart, rest, put_ring, Corner, At, Lone, code, mate, edge_of, Model, cycle, items_of, content, has_half, loop_of, cycle_of, before, tail, StandsIn, edge_row, cycle_or_lone, with_tails, is_lone}
 use Rattle.euler_operators.specs.Table as table
-use Rattle.euler_operators.specs.Model.{Model, cycle, items_of, content, has_half, loop_of, cycle_of, before, tail}
-use Rattle.euler_operators.specs.Sound.{StandsIn}
-use Rattle.euler_operators.specs.Effect.{edge_row, cycle_or_lone, with_tails}
-use Rattle.euler_operators.specs.Conditions.{is_lone}
 use Rattle.euler_conditions.specs.Store.{Store, with_loop, loose_key, loose_ring, fill, take_edge}
 
 -- loops hold half-edges of edges that are there, each once and in one loop only, and 0 is no loop

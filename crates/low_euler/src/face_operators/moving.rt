@@ -1,7 +1,7 @@
 //! Operators that move faces from one solid to another.
 ghost use Rattle.std.specs.Prelude.{◌≡◌, ℕ, true};
 ghost use Rattle.euler_conditions.specs.Store.{has_number, has_room};
-ghost use Rattle.euler_operators.specs.Conditions.{lists};
+ghost use Rattle.euler_operators.specs.Common.{lists};
 ghost use Rattle.euler_conditions.specs.Ready.{Accepts, after};
 ghost use Rattle.low_euler.specs.face_operators.Moving.{moved};
 

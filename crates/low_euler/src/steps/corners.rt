@@ -1,7 +1,6 @@
 //! What stands at a corner, and a half-edge that is put there.
 ghost use Rattle.std.specs.Prelude.{◌≡◌};
-ghost use Rattle.euler_operators.specs.HalfEdge.{code};
-ghost use Rattle.euler_operators.specs.Conditions.{corner_tail, corner_loop};
+ghost use Rattle.euler_operators.specs.Common.{code, corner_tail, corner_loop};
 ghost use Rattle.low_euler.specs.steps.Steps.{IsCorner, CanTake, IsLoose, put_at};
 
 use crate::steps::halves;

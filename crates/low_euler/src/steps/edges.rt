@@ -1,7 +1,6 @@
 //! An edge that is made between two corners, and one that is killed.
 ghost use Rattle.std.specs.Prelude.{◌≡◌, true, false};
-ghost use Rattle.euler_operators.specs.HalfEdge.{code, mate};
-ghost use Rattle.euler_operators.specs.Model.{before};
+ghost use Rattle.euler_operators.specs.Common.{code, mate, before};
 ghost use Rattle.euler_conditions.specs.Store.{has_room, has_number};
 ghost use Rattle.low_euler.specs.steps.Steps.{LoopsStandApart, IsStanding, IsUnused, CanTake, with_edge, put_before, put_at, take_out, make_edge, kill_edge};
 

@@ -1,6 +1,6 @@
 //! A half-edge that goes into a loop or leaves one.
 ghost use Rattle.std.specs.Prelude.{◌≡◌};
-ghost use Rattle.euler_operators.specs.HalfEdge.{code};
+ghost use Rattle.euler_operators.specs.Common.{code};
 ghost use Rattle.low_euler.specs.steps.Steps.{IsStanding, IsLoose, put_before, take_out};
 
 use euler_conditions::{Arena, same};

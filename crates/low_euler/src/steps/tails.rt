@@ -1,8 +1,6 @@
 //! Half-edges of one vertex that start at another then.
 ghost use Rattle.std.specs.Prelude.{◌≡◌};
-ghost use Rattle.euler_operators.specs.HalfEdge.{code};
-ghost use Rattle.euler_operators.specs.Model.{arc, tail};
-ghost use Rattle.euler_operators.specs.Sound.{Sound, HasHalf};
+ghost use Rattle.euler_operators.specs.Common.{code, arc, tail, Sound, HasHalf};
 ghost use Rattle.low_euler.specs.steps.Steps.{with_tails_at};
 
 use euler_conditions::Arena;

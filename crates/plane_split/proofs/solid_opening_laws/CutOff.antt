@@ -1,14 +1,9 @@
 -- The strips of a cycle cut off one after the other.
-use Rattle.std.proofs.Common.{◌≡◌, ℕ, ◌+◌, ◌≤◌, ◌<◌, List, [], ◌∷◌, length, None, sym, ap, ◌∙◌, subst, arith}
-use Rattle.std.specs.Prelude.{get_or}
-use Rattle.euler_operators.specs.HalfEdge.{mate}
-use Rattle.euler_operators.specs.Model.{Model}
-use Rattle.euler_operators.specs.Sound.{HasHalf}
-use Rattle.euler_operators.specs.Conditions.{first_false}
-use Rattle.euler_operators.specs.Effect.{effect}
+use Rattle.std.proofs.Common.{◌≡◌, ℕ, ◌+◌, ◌≤◌, ◌<◌, List, [], ◌∷◌, length, None, sym, ap, ◌∙◌, subst, arith, get_or}
+use Rattle.euler_operators.specs.Common.{mate, Model, HasHalf, first_false, effect}
 use Rattle.euler_laws.specs.Laws.{effects}
-use Rattle.euler_laws.proofs.Runs.{effects-append}
-use Rattle.shapes.specs.Fresh.{Taken}
+use Rattle.euler_laws.proofs.Common.{effects-append}
+use Rattle.shapes.specs.Common.{Taken}
 use Rattle.split_opening_laws.specs.strips.Strips.{strips_cut}
 use Rattle.split_opening_laws.specs.strips.StripOps.{cut_strip, strip_ops}
 use Rattle.split_opening_laws.proofs.strips.Cycle as on

@@ -1,12 +1,10 @@
 -- A solid opened along one cycle: each of its three stages can be taken.
 use Rattle.std.proofs.Common.{◌≡◌, ℕ, ◌+◌, ◌*◌, ◌≤◌, ◌<◌, List, ◌++◌, length, map, sym, ap, ◌∙◌, subst, arith}
 use Rattle.std.proofs.lemmas.List.{length-map}
-use Rattle.euler_operators.specs.declared.HalfEdge.{HalfEdge}
-use Rattle.euler_operators.specs.HalfEdge.{code}
-use Rattle.euler_operators.specs.Model.{Model}
+use Rattle.euler_operators.specs.Common.{HalfEdge, code, Model}
 use Rattle.euler_laws.specs.Laws.{AreAccepted, effects}
-use Rattle.euler_laws.proofs.Runs.{effects-append, AreAccepted-back}
-use Rattle.shapes.specs.Fresh.{Taken}
+use Rattle.euler_laws.proofs.Common.{effects-append, AreAccepted-back}
+use Rattle.shapes.specs.Common.{Taken}
 use Rattle.split_opening_laws.specs.strips.StripOps.{strip_ops, copy_ops}
 use Rattle.split_opening_laws.specs.caps.CapOps.{cap_ops}
 use Rattle.split_opening_laws.specs.opening.OpeningOps.{opening_ops}

@@ -1,16 +1,10 @@
 -- The half-edges of a cycle as the code holds them, and the operators that it makes of them.
-use Rattle.std.proofs.Common.{◌≡◌, ℕ, suc, ◌+◌, ◌<◌, List, map, length, slice_index_or, sym, ap, ◌∙◌, subst, arith}
-use Rattle.std.specs.Prelude.{get_or}
+use Rattle.std.proofs.Common.{◌≡◌, ℕ, suc, ◌+◌, ◌<◌, List, map, length, slice_index_or, sym, ap, ◌∙◌, subst, arith, get_or}
 use Rattle.std.proofs.lemmas.List.{get_or-map, length-map}
-use Rattle.euler_operators.specs.declared.Point.{Point}
-use Rattle.euler_operators.specs.declared.HalfEdge.{HalfEdge}
-use Rattle.euler_operators.specs.declared.Corner.TheVariants.{At}
-use Rattle.euler_operators.specs.HalfEdge.{code, half, edge_of, mate, plus, minus}
-use Rattle.euler_operators.specs.Model.{Model, tail, point_of, after}
-use Rattle.euler_operators.specs.Sound.{Has, HasHalf}
-use Rattle.euler_operators.proofs.Halves.{half-code, edge_of-code}
+use Rattle.euler_operators.specs.Common.{Point, HalfEdge, At, code, half, edge_of, mate, plus, minus, Model, tail, point_of, after, Has, HasHalf}
+use Rattle.euler_operators.proofs.Common.{half-code, edge_of-code}
 use Rattle.euler_operators.specs.declared.Op.TheVariants.{Mev, Mef}
-use Rattle.shapes.specs.Fresh.{Taken}
+use Rattle.shapes.specs.Common.{Taken}
 use Rattle.split_opening_laws.specs.strips.StripOps.{cut_strip, place_before, raise_copy}
 use Rattle.split_opening_laws.proofs.strips.Cycle.{before_below}
 

@@ -1,16 +1,12 @@
 -- The risers killed one after the other, and what is left then of the operators that make caps.
 use Rattle.std.proofs.Common.{◌≡◌, ℕ, suc, ◌+◌, ◌-◌, ◌*◌, ◌≤◌, ◌<◌, List, [], ◌∷◌, map, None, refl, sym, ap, ◌∙◌, subst, arith}
-use Rattle.euler_operators.specs.declared.HalfEdge.{HalfEdge}
-use Rattle.euler_operators.specs.HalfEdge.{half, plus, minus}
-use Rattle.euler_operators.specs.Model.{Model}
+use Rattle.euler_operators.specs.Common.{HalfEdge, half, plus, minus, Model, first_false, effect}
 use Rattle.euler_operators.specs.declared.Op.{Op}
 use Rattle.euler_operators.specs.declared.Op.TheVariants.{Kef, Kemr, Mfkrh}
-use Rattle.euler_operators.specs.Conditions.{first_false}
-use Rattle.euler_operators.specs.Effect.{effect}
 use Rattle.euler_laws.specs.Laws.{AreAccepted, effects}
-use Rattle.shapes.specs.Fresh.{Taken, numbers_after}
+use Rattle.shapes.specs.Common.{Taken, numbers_after}
 use Rattle.split_opening_laws.specs.caps.CapOps.{joinings, partings, cap_ops}
-use Rattle.euler_laws.proofs.Runs.{Leads, AreAccepted-front, some_taken}
+use Rattle.euler_laws.proofs.Common.{Leads, AreAccepted-front, some_taken}
 
 -- the edges after k up to the last go
 abbrev pub kills : ℕ → ℕ → List Op

@@ -1,22 +1,13 @@
 -- The copies of a cycle's vertices raised one after the other, once its strips are cut off.
-use Rattle.std.proofs.Common.{◌≡◌, ℕ, zero, suc, ◌+◌, ◌≤◌, ◌<◌, cond, not, ◌&&◌, List, [], ◌∷◌, ◌++◌, length, map, None, unwrap_or, refl, sym, ap, ◌∙◌, subst, arith, inl, inr}
-use Rattle.std.specs.Prelude.{get_or}
-use Rattle.euler_operators.specs.declared.Point.{Point}
-use Rattle.euler_operators.specs.Items.{count}
-use Rattle.euler_operators.proofs.Lists.{IsIn_or_not}
-use Rattle.euler_operators.specs.declared.Corner.TheVariants.{At}
-use Rattle.euler_operators.specs.HalfEdge.{mate, half, plus, minus}
+use Rattle.std.proofs.Common.{◌≡◌, ℕ, zero, suc, ◌+◌, ◌≤◌, ◌<◌, cond, not, ◌&&◌, List, [], ◌∷◌, ◌++◌, length, map, None, unwrap_or, refl, sym, ap, ◌∙◌, subst, arith, inl, inr, get_or}
+use Rattle.euler_operators.specs.Common.{Point, count, At, mate, half, plus, minus, Model, tail, point_of, no_point, Sound, HasHalf, first_false, lists, effect}
+use Rattle.euler_operators.proofs.Common.{IsIn_or_not}
 use Rattle.euler_operators.specs.Table as table
-use Rattle.euler_operators.specs.Model.{Model, tail, point_of, no_point}
-use Rattle.euler_operators.specs.Sound.{Sound, HasHalf}
 use Rattle.euler_operators.specs.declared.Op.{Op}
 use Rattle.euler_operators.specs.declared.Op.TheVariants.{Mev}
-use Rattle.euler_operators.specs.Conditions.{first_false, lists}
-use Rattle.euler_operators.specs.Effect.{effect}
 use Rattle.euler_laws.specs.Laws.{effects}
-use Rattle.euler_laws.proofs.Runs.{effects-append}
-use Rattle.shapes.specs.Fresh.{Taken, numbers_after}
-use Rattle.shapes.specs.Rewriting.{renamed}
+use Rattle.euler_laws.proofs.Common.{effects-append}
+use Rattle.shapes.specs.Common.{Taken, numbers_after, renamed}
 use Rattle.split_opening_laws.proofs.sections.Numbered.{in_numbers}
 use Rattle.split_opening_laws.proofs.sections.StillFree.{copied_other}
 use Rattle.split_opening_laws.specs.strips.Strips.{copy_riser, copied, strips_cut, copies_raised}

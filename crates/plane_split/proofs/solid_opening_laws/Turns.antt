@@ -1,14 +1,9 @@
 -- The cycles of a section, along which a solid is opened one after the other.
-use Rattle.std.proofs.Common.{◌≡◌, ℕ, ◌+◌, ◌*◌, ◌≤◌, Bool, false, List, [], ◌∷◌, ◌++◌, length, map, slice_index_or, sym, ap, ◌∙◌, subst}
-use Rattle.std.specs.Prelude.{drop}
-use Rattle.std.proofs.lemmas.List.{length-map, map-append, append_assoc}
-use Rattle.euler_operators.specs.declared.Plane.{Plane}
-use Rattle.euler_operators.specs.declared.HalfEdge.{HalfEdge}
-use Rattle.euler_operators.specs.HalfEdge.{code}
-use Rattle.euler_operators.specs.Model.{Model}
+use Rattle.std.proofs.Common.{◌≡◌, ℕ, ◌+◌, ◌*◌, ◌≤◌, Bool, false, List, [], ◌∷◌, ◌++◌, length, map, slice_index_or, sym, ap, ◌∙◌, subst, drop, append_assoc}
+use Rattle.std.proofs.lemmas.List.{length-map, map-append}
+use Rattle.euler_operators.specs.Common.{Plane, HalfEdge, code, Model}
 use Rattle.euler_laws.specs.Laws.{effects}
-use Rattle.shapes.specs.split.Section.{is_hole}
-use Rattle.shapes.specs.split.Opening.{Opening, opened_along, next_opened, all_opened}
+use Rattle.shapes.specs.Common.{is_hole, Opening, opened_along, next_opened, all_opened}
 use Rattle.split_opening_laws.specs.sections.InTurn.{CanBeOpenedInTurn}
 use Rattle.split_opening_laws.proofs.sections.InTurn.{can_open, others_on}
 use Rattle.split_opening_laws.specs.opening.OpeningOps.{opening_ops}

@@ -1,8 +1,7 @@
 -- Caps as the code has them, and the solid opened along a section.
 use Rattle.std.specs.Prelude.{ℕ, List, [], map}
-use Rattle.euler_operators.specs.declared.Plane.{Plane}
-use Rattle.euler_operators.specs.Model.{Model}
-use Rattle.shapes.specs.split.Opening.{Caps, Opening, all_opened}
+use Rattle.euler_operators.specs.Common.{Plane, Model}
+use Rattle.shapes.specs.Common.{Caps, Opening, all_opened}
 use Rattle.split_drawing.specs.Counters.{taken_of}
 use Rattle.split_drawing.specs.declared.Counters.{Counters}
 use Rattle.split_sections.specs.section_checks.Sections.{cycles_of}

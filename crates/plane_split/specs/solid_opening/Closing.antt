@@ -1,7 +1,7 @@
 -- The caps of holes closed, and the upper faces that are left then, of caps as the code has them.
 use Rattle.std.specs.Prelude.{ℕ, not, List, map, filter}
 use Rattle.euler_operators.specs.declared.Op.{Op}
-use Rattle.shapes.specs.split.Opening.{Caps}
+use Rattle.shapes.specs.Common.{Caps}
 use Rattle.split_laws.specs.SplitOps.{closing_ops}
 use Rattle.plane_split.specs.solid_opening.Capped.{all_caps}
 use Rattle.plane_split.specs.declared.solid_opening.caps.Caps as declared

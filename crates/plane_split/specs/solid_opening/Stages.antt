@@ -1,7 +1,7 @@
 -- When a solid can be opened along a cycle, as the code asks it, and the model once the strips of the cycle are cut off.
 use Rattle.std.specs.Prelude.{◌≡◌, ℕ, List, length}
-use Rattle.euler_operators.specs.Model.{Model}
-use Rattle.shapes.specs.Fresh.{Taken}
+use Rattle.euler_operators.specs.Common.{Model}
+use Rattle.shapes.specs.Common.{Taken}
 use Rattle.split_opening_laws.specs.strips.Strips.{strips_cut}
 use Rattle.split_opening_laws.specs.strips.Opened.{CanBeOpened}
 

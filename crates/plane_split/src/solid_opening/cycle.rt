@@ -1,6 +1,6 @@
 //! A solid opened along one cycle, and the numbers that this takes.
 ghost use Rattle.std.specs.Prelude.{◌≡◌, ◌≤◌, ◌+◌, ◌*◌, OnOk, map};
-ghost use Rattle.euler_operators.specs.HalfEdge.{code};
+ghost use Rattle.euler_operators.specs.Common.{code};
 ghost use Rattle.euler_laws.specs.Laws.{effects};
 ghost use Rattle.split_drawing.specs.Counters.{taken_of};
 ghost use Rattle.split_opening_laws.specs.opening.OpeningOps.{opening_ops};

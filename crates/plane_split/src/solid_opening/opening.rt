@@ -1,6 +1,6 @@
 //! A solid opened along the cycles of its section.
 ghost use Rattle.std.specs.Prelude.{◌≡◌, map, IfOk};
-ghost use Rattle.shapes.specs.split.Section.{is_hole};
+ghost use Rattle.shapes.specs.Common.{is_hole};
 ghost use Rattle.split_opening_laws.specs.sections.InTurn.{CanBeOpenedInTurn};
 ghost use Rattle.split_sections.specs.section_checks.Sections.{cycles_of, hole_flags};
 ghost use Rattle.plane_split.specs.solid_opening.Capped.{all_caps, opened_section, unopened};

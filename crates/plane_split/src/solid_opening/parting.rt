@@ -2,8 +2,7 @@
 ghost use Rattle.std.specs.Prelude.{◌≡◌, ◌∷◌, ◌++◌, [], OnOk, IfOk};
 ghost use Rattle.euler_laws.specs.Laws.{AreAccepted, effects};
 ghost use Rattle.euler_operators.specs.declared.Op.TheVariants.{Kfmrh, Part};
-ghost use Rattle.shapes.specs.split.Opening.{outer_caps};
-ghost use Rattle.shapes.specs.split.Split.{upper_left};
+ghost use Rattle.shapes.specs.Common.{outer_caps, upper_left};
 ghost use Rattle.split_laws.specs.SplitOps.{hole_ops};
 ghost use Rattle.plane_split.specs.solid_opening.Capped.{all_caps, caps_of};
 ghost use Rattle.plane_split.specs.solid_opening.Closing.{holes_ops, outer_uppers};

@@ -1,9 +1,7 @@
 //! Strips, faces of two edges, cut off above the edges of a cycle.
 ghost use Rattle.std.specs.Prelude.{◌≡◌, ◌≤◌, ◌<◌, ◌+◌, true, None, OnOk, OnErr, length, map, get_or};
-ghost use Rattle.euler_operators.specs.HalfEdge.{code, mate};
-ghost use Rattle.euler_operators.specs.Model.{has_half};
+ghost use Rattle.euler_operators.specs.Common.{code, mate, has_half, first_false};
 ghost use Rattle.euler_laws.specs.Laws.{effects};
-ghost use Rattle.euler_operators.specs.Conditions.{first_false};
 ghost use Rattle.undo_journal.specs.Journal.{after_step, IsFurther};
 ghost use Rattle.split_drawing.specs.Counters.{taken_of};
 ghost use Rattle.split_opening_laws.specs.strips.StripOps as ops;

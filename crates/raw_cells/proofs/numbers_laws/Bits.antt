@@ -1,10 +1,10 @@
 -- The bits of a word: the lowest and the greatest, those of a word that is shifted, and one that is set or cleared.
-use Rattle.std.proofs.Common.{◌≡◌, ℕ, suc, ◌+◌, ◌-◌, ◌*◌, ◌/◌, ◌%◌, ◌^◌, ◌≤◌, ◌<◌, true, false, cond, nat_eq, bit_and, bit_or, sym, ap, ◌∙◌, arith, eq-eqb, ne_eqb, inl, inr}
+use Rattle.std.proofs.Common.{◌≡◌, ℕ, suc, ◌+◌, ◌-◌, ◌*◌, ◌/◌, ◌%◌, ◌^◌, ◌≤◌, ◌<◌, true, false, cond, nat_eq, bit_and, bit_or, sym, ap, ◌∙◌, arith, eq-eqb, ne_eqb, inl, inr, pow-add, w64}
 use Rattle.std.proofs.lemmas.Bool.{cases_eq}
 use Rattle.std.proofs.Math.Nat.{div-div-eq-div-mul, div-eq_of_lt-le, pow-suc}
-use Rattle.std.proofs.lemmas.Nat.{pow-add, leading_top}
+use Rattle.std.proofs.lemmas.Nat.{leading_top}
 use Rattle.std.proofs.lemmas.Nat.Bits.{bit_at-zero, bit_at_above, bit_at-trailing_zeros, bit_at_set_same, bit_at_set_other, bit_at_clear_same, bit_at_clear_other}
-use Rattle.std.specs.Int.{bit_at, bit_not, w64, trailing_zeros, leading_zeros}
+use Rattle.std.specs.Int.{bit_at, bit_not, trailing_zeros, leading_zeros}
 use Rattle.raw_cells.specs.Numbers.{is_set}
 
 pub set_bit : (word k : ℕ) → bit_at word k ≡ 1 → is_set word k ≡ true

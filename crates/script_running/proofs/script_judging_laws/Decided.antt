@@ -1,6 +1,5 @@
 -- What a line is answered whose words ask for something.
-use Rattle.std.proofs.Common.{◌≡◌, inl, inr, ℕ, false, List, codes, length, Result, Ok, Err, sym, subst}
-use Rattle.std.specs.Prelude.{nat_lt}
+use Rattle.std.proofs.Common.{◌≡◌, inl, inr, ℕ, false, List, codes, length, Result, Ok, Err, sym, subst, nat_lt}
 use Rattle.std.proofs.lemmas.Bool.{cases_Bool}
 use Rattle.undo_journal.specs.Journal.{Journal}
 use Rattle.commands.specs.declared.command.Command.TheVariants as command

@@ -1,15 +1,10 @@
 -- Conditions in lists, conditions by search, and numbers that are left.
-use Rattle.std.proofs.Common.{◌≡◌, ℕ, ◌+◌, ◌≤◌, Bool, true, false, cond, not, nat_eq, ◌&&◌, List, [], ◌∷◌, ◌++◌, Option, Some, None, is_some, refl, ap, ◌∙◌, arith, inl, inr, true≢false}
+use Rattle.std.proofs.Common.{◌≡◌, ℕ, ◌+◌, ◌≤◌, Bool, true, false, cond, not, nat_eq, ◌&&◌, List, [], ◌∷◌, ◌++◌, Option, Some, None, is_some, refl, ap, ◌∙◌, arith, inl, inr, true≢false, leb-true, eqb-true, le-leb}
 use Rattle.std.proofs.lemmas.Bool.Decides.{nat_tests, eqb_tells}
-use Rattle.std.proofs.lemmas.Bool.{leb-true, eqb-true, le-leb}
-use Rattle.euler_operators.specs.Items.{IsIn}
-use Rattle.euler_operators.proofs.Lists.{tick_other}
-use Rattle.euler_operators.specs.Table.{first_where}
-use Rattle.euler_operators.specs.Model.{Model, is_number}
-use Rattle.euler_operators.specs.Conditions.{Condition, AllHold, first_refusal, is_lone, lists}
+use Rattle.euler_operators.specs.Common.{IsIn, first_where, Model, is_number, Condition, AllHold, first_refusal, is_lone, lists}
+use Rattle.euler_operators.proofs.Common.{tick_other}
 use Rattle.euler_operators.specs.declared.Refusal.{Refusal}
-use Rattle.shapes.specs.Faces.{least_lone}
-use Rattle.shapes.specs.Fresh.{first_such, found, Taken, numbers_left}
+use Rattle.shapes.specs.Common.{least_lone, first_such, found, Taken, numbers_left}
 
 -- the refusal of lists of conditions, one after the other
 pub first_refusal-append : (cs ds : List Condition) → first_refusal cs ≡ None → first_refusal (cs ++ ds) ≡ first_refusal ds

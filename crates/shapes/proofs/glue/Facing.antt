@@ -1,19 +1,9 @@
 -- Two faces of two solids whose items go back along each other: what follows in a sound model.
-use Rattle.std.proofs.Common.{◌≡◌, ◌≢◌, ℕ, List, [], ◌∷◌, ◌++◌, Some, None, is_some, IsTrue, sym, ap, ◌∙◌, arith}
-use Rattle.std.specs.Prelude.{map, reverse}
-use Rattle.euler_operators.specs.Items.{count, IsIn, IsApart}
-use Rattle.euler_operators.specs.Rings.{canonical, successor}
-use Rattle.euler_operators.proofs.Lists.{count-append, tick_same}
-use Rattle.euler_operators.proofs.Rotations.{count-canonical}
-use Rattle.euler_operators.proofs.Rings.{successor_inner, successor_last}
-use Rattle.euler_operators.proofs.Maps.{count-reverse}
-use Rattle.euler_operators.specs.HalfEdge.{mate}
+use Rattle.std.proofs.Common.{◌≡◌, ◌≢◌, ℕ, List, [], ◌∷◌, ◌++◌, Some, None, is_some, IsTrue, sym, ap, ◌∙◌, arith, map, reverse}
+use Rattle.euler_operators.specs.Common.{count, IsIn, IsApart, canonical, successor, mate, Model, cycle, items_of, holds, tail, loop_of, content, face_of, solid_of, outer, cycle_of, after, is_number, Sound, Has, HasHalf, StandsIn}
+use Rattle.euler_operators.proofs.Common.{count-append, tick_same, count-canonical, successor_inner, successor_last, count-reverse, content_row, face_row, in-holds, mate_there as half_mate, IsIn-map}
 use Rattle.euler_operators.specs.Table as table
-use Rattle.euler_operators.specs.Model.{Model, cycle, items_of, holds, tail, loop_of, content, face_of, solid_of, outer, cycle_of, after, is_number}
-use Rattle.euler_operators.specs.Sound.{Sound, Has, HasHalf, StandsIn}
-use Rattle.euler_operators.proofs.Models.{content_row, face_row, in-holds, mate_there as half_mate}
-use Rattle.euler_operators.proofs.Members.{IsIn-map}
-use Rattle.euler_laws.proofs.shared.Same.{one_solid_round}
+use Rattle.euler_laws.proofs.Common.{one_solid_round}
 
 -- f and g can be glued: hs are the items of f, each with its partner in g, and x is a fresh edge
 pub record Facing (M : Model) (f g : ℕ) (partner_of : ℕ → ℕ) (hs : List ℕ) (x : ℕ) : Type 0 where

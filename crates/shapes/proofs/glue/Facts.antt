@@ -1,38 +1,13 @@
 -- What it says that a glue isn't refused.
-use Rattle.std.proofs.Common.{◌≡◌, ◌≢◌, ℕ, suc, true, false, not, nat_eq, ◌&&◌, ◌||◌, List, [], ◌∷◌, ◌++◌, length, Some, None, unwrap_or, refl, sym, ap, ◌∙◌, subst, arith, true≢false, ◌⊎◌, inl, inr}
-use Rattle.std.specs.Prelude.{map, reverse}
-use Rattle.std.proofs.lemmas.Bool.{not-true, not-false, eqb-false, eq-eqb}
-use Rattle.std.proofs.lemmas.List.{append-nil}
-use Rattle.euler_operators.specs.declared.Point.{Point}
-use Rattle.euler_operators.specs.Vectors.{same_point, origin, moved, cross}
-use Rattle.euler_operators.specs.Items.{count, tick, IsIn, IsApart, head_or, last_or}
-use Rattle.euler_operators.specs.Rings.{canonical, IsPath, IsRing, IsRotation, successor, predecessor, rest}
-use Rattle.euler_operators.proofs.Lists.{tick_same}
-use Rattle.euler_operators.proofs.Rotations.{canonical_same, canonical-rotates, count-canonical, IsApart-same, IsRotation-same, IsRotation-length}
-use Rattle.euler_operators.proofs.Rings.{IsRing-same, IsIn_successor, IsIn_predecessor, successor_same, successor-predecessor, predecessor-successor, front_of, apart_at, rotation_at, next_is_successor}
-use Rattle.euler_operators.proofs.Maps.{reverse-cons, reverse_at, count-reverse, successor-map, successor-reverse}
-use Rattle.euler_operators.specs.HalfEdge.{mate}
+use Rattle.std.proofs.Common.{◌≡◌, ◌≢◌, ℕ, suc, true, false, not, nat_eq, ◌&&◌, ◌||◌, List, [], ◌∷◌, ◌++◌, length, Some, None, unwrap_or, refl, sym, ap, ◌∙◌, subst, arith, true≢false, ◌⊎◌, inl, inr, map, reverse, eq-eqb, append-nil}
+use Rattle.std.proofs.lemmas.Bool.{not-true, not-false, eqb-false}
+use Rattle.euler_operators.specs.Common.{Point, same_point, origin, moved, cross, count, tick, IsIn, IsApart, head_or, last_or, canonical, IsPath, IsRing, IsRotation, successor, predecessor, rest, mate, Model, cycle, holds, content, face_of, solid_of, outer, tail, point_of, after, rings_of, Sound, Has, HasHalf, IsCycle, AllHold, is_lone, lists, has_rings}
+use Rattle.euler_operators.proofs.Common.{tick_same, canonical_same, canonical-rotates, count-canonical, IsApart-same, IsRotation-same, IsRotation-length, IsRing-same, IsIn_successor, IsIn_predecessor, successor_same, successor-predecessor, predecessor-successor, front_of, apart_at, rotation_at, next_is_successor, reverse-cons, reverse_at, count-reverse, successor-map, successor-reverse, mate-mate, mate_other, zero_first_where, in-holds, loop_number, and_first, first_fails, or_true, no_cons, IsIn-map, same_as}
 use Rattle.euler_operators.specs.Table as table
-use Rattle.euler_operators.specs.Model.{Model, cycle, holds, content, face_of, solid_of, outer, tail, point_of, after, rings_of}
-use Rattle.euler_operators.specs.Sound.{Sound, Has, HasHalf, IsCycle}
-use Rattle.euler_operators.proofs.Halves.{mate-mate, mate_other}
-use Rattle.euler_operators.proofs.Tables.{zero_first_where}
-use Rattle.euler_operators.proofs.Models.{in-holds, loop_number}
-use Rattle.euler_operators.proofs.Tests.{and_first, first_fails, or_true}
-use Rattle.euler_operators.proofs.Members.{no_cons, IsIn-map}
-use Rattle.euler_operators.proofs.Crossings.{same_as}
-use Rattle.euler_operators.specs.Conditions.{AllHold, is_lone, lists, has_rings}
-use Rattle.euler_laws.proofs.shared.Goes.{all_hold}
-use Rattle.euler_laws.proofs.shared.Listed.{listed_as, IsIn-from_listed}
-use Rattle.euler_laws.proofs.shared.Rows.{loop_row, face_there, no_rings_means, not_lone_cycle, empty_is}
-use Rattle.euler_laws.proofs.shared.Loops.{IsLoop, loop_sound}
+use Rattle.euler_laws.proofs.Common.{all_hold, listed_as, IsIn-from_listed, loop_row, face_there, no_rings_means, not_lone_cycle, empty_is, IsLoop, loop_sound}
 use Rattle.shapes.proofs.fresh.Rows.{none_above}
 use Rattle.shapes.proofs.fresh.Tests.{none_found, none_is_lone, none_such, Left, numbers_are_left, number_fits}
-use Rattle.shapes.specs.Faces.{start, finish, boundary, items_in, loops_of, faces_of_both, least_lone}
-use Rattle.shapes.specs.Fresh.{first_such, taken_in}
-use Rattle.shapes.specs.Measure.{area, normal, is_flat, plane_of}
-use Rattle.shapes.specs.glue.Glue.{rim, outline, has_repeats, is_rotation, partner, glue_conditions, glue_refusal}
-use Rattle.shapes.specs.glue.GlueOps.{fresh_edge}
+use Rattle.shapes.specs.Common.{start, finish, boundary, items_in, loops_of, faces_of_both, least_lone, first_such, taken_in, area, normal, is_flat, plane_of, rim, outline, has_repeats, is_rotation, partner, glue_conditions, glue_refusal, fresh_edge}
 use Rattle.shapes.proofs.glue.Facing.{Facing}
 use Rattle.shapes.proofs.glue.Points.{same_is, no_points, both_points, once, turned_list, other_list, such_is, there_and_back}
 

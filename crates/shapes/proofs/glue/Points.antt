@@ -1,24 +1,13 @@
 -- Lists of points: equal ones, none twice, one turned; and where a search finds the only such number.
-use Rattle.std.proofs.Common.{◌≡◌, ℕ, zero, suc, ℤ, pos, ◌+ℤ◌, ◌-ℤ◌, ◌*ℤ◌, Bool, true, false, cond, ◌&&◌, ◌||◌, List, [], ◌∷◌, ◌++◌, refl, sym, ap, ◌∙◌, arith, true≢false, inl, inr, Some}
-use Rattle.std.specs.Prelude.{map, reverse, take, drop, length}
+use Rattle.std.proofs.Common.{◌≡◌, ℕ, zero, suc, ℤ, pos, ◌+ℤ◌, ◌-ℤ◌, ◌*ℤ◌, Bool, true, false, cond, ◌&&◌, ◌||◌, List, [], ◌∷◌, ◌++◌, refl, sym, ap, ◌∙◌, arith, true≢false, inl, inr, Some, map, reverse, take, drop, length, int_eq, append-nil, take-append-drop}
 use Rattle.std.specs.List.{list_any}
-use Rattle.std.specs.Ordering.{int_eq}
 use Rattle.std.specs.Cmp.{signed_Decides}
 use Rattle.std.proofs.lemmas.Bool.Decides.{eqb_tells}
 use Rattle.std.proofs.lemmas.Bool.{and_parts, or_parts}
-use Rattle.std.proofs.lemmas.List.{append-nil, map-append, reverse-append, reverse-reverse, take-append-drop, take-map, drop-map}
-use Rattle.euler_operators.specs.declared.Point.{Point}
-use Rattle.euler_operators.specs.Vectors.{same_point, moved, cross, origin}
-use Rattle.euler_operators.specs.Items.{IsIn}
-use Rattle.euler_operators.specs.Rings.{IsRotation}
-use Rattle.euler_operators.proofs.Lists.{tick_same, tick_other}
-use Rattle.euler_operators.proofs.Maps.{reverse-cons}
-use Rattle.shapes.specs.Fresh.{first_such}
-use Rattle.euler_operators.proofs.Integers.{dif-parts, difs, same_dif, number}
-use Rattle.euler_operators.proofs.Vectors.{same_vector}
-use Rattle.euler_operators.proofs.Tests.{or_true}
-use Rattle.euler_operators.proofs.Crossings.{same_as}
-use Rattle.shapes.specs.glue.Glue.{has_repeats, same_points, is_turned, is_rotation}
+use Rattle.std.proofs.lemmas.List.{map-append, reverse-append, reverse-reverse, take-map, drop-map}
+use Rattle.euler_operators.specs.Common.{Point, same_point, moved, cross, origin, IsIn, IsRotation}
+use Rattle.euler_operators.proofs.Common.{tick_same, tick_other, reverse-cons, dif-parts, difs, same_dif, number, same_vector, or_true, same_as}
+use Rattle.shapes.specs.Common.{first_such, has_repeats, same_points, is_turned, is_rotation}
 
 -- ---- equal points
 

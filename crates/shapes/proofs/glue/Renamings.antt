@@ -1,24 +1,12 @@
 -- Renamings by lists of pairs, one pair more; and what they make of a ring.
-use Rattle.std.proofs.Common.{◌≡◌, ◌≢◌, ℕ, ◌+◌, Bool, true, false, cond, nat_eq, List, [], ◌∷◌, ◌++◌, Option, Some, None, is_some, unwrap_or, refl, sym, ap, ◌∙◌, subst, arith, true≢false, ◌⊎◌, inl, inr}
-use Rattle.std.specs.Prelude.{map}
-use Rattle.std.specs.Option.{option_map}
+use Rattle.std.proofs.Common.{◌≡◌, ◌≢◌, ℕ, ◌+◌, Bool, true, false, cond, nat_eq, List, [], ◌∷◌, ◌++◌, Option, Some, None, is_some, unwrap_or, refl, sym, ap, ◌∙◌, subst, arith, true≢false, ◌⊎◌, inl, inr, map, option_map, ne_eqb}
 use Rattle.std.proofs.lemmas.Bool.Decides.{nat_tests, eqb_tells}
-use Rattle.std.proofs.lemmas.Bool.{ne_eqb}
 use Rattle.std.proofs.lemmas.List.{map-append}
-use Rattle.euler_operators.specs.Items.{count, IsIn, IsApart, before, after}
-use Rattle.euler_operators.specs.Rings.{canonical, rest}
-use Rattle.euler_operators.proofs.Lists.{count-append, tick_same, tick_other, split_at, count-before}
-use Rattle.euler_operators.proofs.Rotations.{canonical-rotates, rest_same, rest_parts, canonical_same}
-use Rattle.euler_operators.proofs.Tests.{nat_eq_turned, nat_eq_itself}
-use Rattle.euler_operators.proofs.Tables.{remove_turned, get-remove_other}
+use Rattle.euler_operators.specs.Common.{count, IsIn, IsApart, canonical, rest, Table, tables, Model, LoopContent, LoopRow, EdgeRow, lone, cycle, content, tail_in, no_edge, Sound}
+use Rattle.euler_operators.specs.Items.{before, after}
+use Rattle.euler_operators.proofs.Common.{count-append, tick_same, tick_other, split_at, count-before, canonical-rotates, rest_same, rest_parts, canonical_same, nat_eq_turned, nat_eq_itself, remove_turned, get-remove_other, content_row}
 use Rattle.euler_operators.specs.Table as table
-use Rattle.euler_operators.specs.Table.{Table, tables}
-use Rattle.euler_operators.specs.Model.{Model, LoopContent, LoopRow, EdgeRow, lone, cycle, content, tail_in, no_edge}
-use Rattle.euler_operators.specs.Sound.{Sound}
-use Rattle.euler_operators.proofs.Models.{content_row}
-use Rattle.shapes.specs.Rewriting.{rewritten, rewritten_row, renamed, without_rows}
-use Rattle.shapes.specs.glue.Glue.{renamed_tails}
-use Rattle.shapes.specs.glue.Part.{paired}
+use Rattle.shapes.specs.Common.{rewritten, rewritten_row, renamed, without_rows, renamed_tails, paired}
 
 -- ---- renamings
 

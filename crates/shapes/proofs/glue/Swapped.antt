@@ -1,15 +1,10 @@
 -- Rows of loops rewritten by a renaming, and by the same with one item replaced.
-use Rattle.std.proofs.Common.{◌≡◌, ℕ, List, [], ◌∷◌, Option, Some, None, refl, sym, ap, ◌∙◌, arith}
-use Rattle.std.specs.Prelude.{map}
-use Rattle.std.specs.Option.{option_map}
+use Rattle.std.proofs.Common.{◌≡◌, ℕ, List, [], ◌∷◌, Option, Some, None, refl, sym, ap, ◌∙◌, arith, map, option_map}
 use Rattle.std.proofs.lemmas.Bool.Decides.{nat_tests}
-use Rattle.euler_operators.specs.Items.{count, IsIn, IsApart}
-use Rattle.euler_operators.specs.Rings.{canonical, rest}
-use Rattle.euler_operators.proofs.Rotations.{count-canonical}
+use Rattle.euler_operators.specs.Common.{count, IsIn, IsApart, canonical, rest, Table, tables, same_table, get-map_rows, LoopContent, LoopRow, lone, cycle, items_of}
+use Rattle.euler_operators.proofs.Common.{count-canonical}
 use Rattle.euler_operators.specs.Table as table
-use Rattle.euler_operators.specs.Table.{Table, tables, same_table, get-map_rows}
-use Rattle.euler_operators.specs.Model.{LoopContent, LoopRow, lone, cycle, items_of}
-use Rattle.shapes.specs.Rewriting.{rewritten, rewritten_row}
+use Rattle.shapes.specs.Common.{rewritten, rewritten_row}
 use Rattle.shapes.proofs.glue.Renamings.{replaced, replaced_none, replaced_ring, map_agrees}
 
 pub same_cycle : (xs ys : List ℕ) → cycle xs ≡ cycle ys → xs ≡ ys

@@ -4,18 +4,11 @@ use Rattle.std.specs.List.{list_all}
 use Rattle.std.specs.Cmp.{signed_Decides}
 use Rattle.std.proofs.lemmas.Int.{ints}
 use Rattle.std.proofs.lemmas.Bool.{and_parts}
-use Rattle.euler_operators.specs.declared.Point.{Point}
-use Rattle.euler_operators.specs.declared.Plane.{Plane}
-use Rattle.euler_operators.specs.Vectors.{origin, moved, dot, cross, same_point, is_on, height, direction}
-use Rattle.euler_operators.specs.Model.{Model, LoopContent, lone, cycle, items_of, tail, content, outer, point_of}
-use Rattle.euler_operators.specs.Sound.{Sound, Has}
-use Rattle.euler_operators.specs.Conditions.{lists}
-use Rattle.euler_laws.proofs.shared.Listed.{listed_cases}
-use Rattle.shapes.specs.Faces.{start, finish, loops_of, items_in, boundary, vertices_on, vertices_in, corners}
-use Rattle.shapes.specs.Measure.{area, normal, anchor, first_vertex, plane_through, plane_of, is_plane_of, is_flat}
+use Rattle.euler_operators.specs.Common.{Point, Plane, origin, moved, dot, cross, same_point, is_on, height, direction, Model, LoopContent, lone, cycle, items_of, tail, content, outer, point_of, Sound, Has, lists}
+use Rattle.euler_laws.proofs.Common.{listed_cases}
+use Rattle.shapes.specs.Common.{start, finish, loops_of, items_in, boundary, vertices_on, vertices_in, corners, area, normal, anchor, first_vertex, plane_through, plane_of, is_plane_of, is_flat, scaled, towards}
 use Rattle.shapes.proofs.Areas.{area-append}
-use Rattle.euler_operators.proofs.Vectors.{dot_turned}
-use Rattle.shapes.specs.Vectors.{scaled, towards}
+use Rattle.euler_operators.proofs.Common.{dot_turned}
 use Rattle.shapes.proofs.measures.Products.{cross_moved, cross_nothing, flat_step, no_way, same_part}
 use Rattle.shapes.proofs.measures.Paths.{begins, Leads, IsClosed, loop_closed}
 

@@ -1,16 +1,9 @@
 -- Paths of half-edges, each of which ends where the next one starts; the loops of a sound model are closed ones.
 use Rattle.std.proofs.Common.{◌≡◌, ℕ, List, [], ◌∷◌, refl, sym, ap, ◌∙◌}
-use Rattle.euler_operators.specs.declared.Point.{Point}
-use Rattle.euler_operators.specs.Vectors.{origin}
-use Rattle.euler_operators.specs.Items.{IsIn, head_or}
-use Rattle.euler_operators.specs.Rings.{IsPath, IsRing}
-use Rattle.euler_operators.specs.Model.{Model, items_of, content, point_of, after}
-use Rattle.euler_operators.specs.Sound.{Sound}
-use Rattle.euler_operators.proofs.Models.{in-holds}
-use Rattle.euler_operators.proofs.Members.{IsIn_rest}
-use Rattle.euler_operators.proofs.Rotations.{IsIn_head}
-use Rattle.euler_laws.proofs.shared.Loops.{light}
-use Rattle.shapes.specs.Faces.{start, finish}
+use Rattle.euler_operators.specs.Common.{Point, origin, IsIn, head_or, IsPath, IsRing, Model, items_of, content, point_of, after, Sound}
+use Rattle.euler_operators.proofs.Common.{in-holds, IsIn_rest, IsIn_head}
+use Rattle.euler_laws.proofs.Common.{light}
+use Rattle.shapes.specs.Common.{start, finish}
 
 -- where a path begins that ends at e
 abbrev pub begins : Model → List ℕ → Point → Point

@@ -3,25 +3,12 @@ use Rattle.std.proofs.Common.{◌≡◌, ℕ, ◌+◌, true, ℤ, pos, ◌+ℤ�
 use Rattle.std.proofs.lemmas.Bool.Decides.{eqb_tells}
 use Rattle.std.proofs.lemmas.Int.{ints}
 use Rattle.std.proofs.lemmas.List.Sorted.{IsPermutation-reverse}
-use Rattle.euler_operators.specs.declared.Point.{Point}
-use Rattle.euler_operators.specs.Vectors.{origin, moved, dot, cross}
-use Rattle.euler_operators.specs.Items.{count, tick, IsIn, SameItems, before, after}
-use Rattle.euler_operators.proofs.Lists.{tick_same, tick_other, split_at}
-use Rattle.euler_operators.proofs.Std.{SameItems-from_permutation}
-use Rattle.euler_operators.specs.HalfEdge.{mate}
-use Rattle.euler_operators.specs.Model.{Model}
-use Rattle.euler_operators.proofs.Halves.{mate-mate}
-use Rattle.euler_operators.specs.Conditions.{lists}
-use Rattle.euler_laws.proofs.shared.Listed.{listed-from_in}
-use Rattle.euler_laws.proofs.shared.Rows.{no_items}
-use Rattle.shapes.specs.Faces.{start, finish}
-use Rattle.shapes.specs.Measure.{area, normal, anchor, volume_in}
+use Rattle.euler_operators.specs.Common.{Point, origin, moved, dot, cross, count, tick, IsIn, SameItems, mate, Model, lists}
+use Rattle.euler_operators.specs.Items.{before, after}
+use Rattle.euler_operators.proofs.Common.{tick_same, tick_other, split_at, SameItems-from_permutation, mate-mate, dif-parts, difs, neg-dif, same_dif, same_vector, none_add, add_assoc, add_exchanged, IsIn_rest, count_taken, IsIn_head}
+use Rattle.euler_laws.proofs.Common.{listed-from_in, no_items}
+use Rattle.shapes.specs.Common.{start, finish, area, normal, anchor, volume_in, negated}
 use Rattle.shapes.proofs.Areas.{area-append}
-use Rattle.euler_operators.proofs.Integers.{dif-parts, difs, neg-dif, same_dif}
-use Rattle.euler_operators.proofs.Vectors.{same_vector, none_add, add_assoc, add_exchanged}
-use Rattle.euler_operators.proofs.Members.{IsIn_rest, count_taken}
-use Rattle.euler_operators.proofs.Rotations.{IsIn_head}
-use Rattle.shapes.specs.Vectors.{negated}
 
 -- ---- opposite vectors
 

@@ -1,18 +1,11 @@
 -- Of the half-edges at a vertex the one of the least edge leads, and no other.
-use Rattle.std.proofs.Common.{◌≡◌, ℕ, ◌≤◌, ◌<◌, Bool, true, false, nat_eq, ◌||◌, Some, is_some, refl, sym, ap, ◌∙◌, arith, inl, inr}
-use Rattle.std.proofs.lemmas.Bool.{or_left, or_right, or_cases, ne_eqb, eq-eqb, eqb-true}
-use Rattle.euler_operators.specs.HalfEdge.{edge_of, plus, minus}
+use Rattle.std.proofs.Common.{◌≡◌, ℕ, ◌≤◌, ◌<◌, Bool, true, false, nat_eq, ◌||◌, Some, is_some, refl, sym, ap, ◌∙◌, arith, inl, inr, ne_eqb, eq-eqb, eqb-true}
+use Rattle.std.proofs.lemmas.Bool.{or_left, or_right, or_cases}
+use Rattle.euler_operators.specs.Common.{edge_of, plus, minus, first_where, Model, EdgeRow, tail, Sound, HasHalf}
 use Rattle.euler_operators.specs.Table as table
-use Rattle.euler_operators.specs.Table.{first_where}
-use Rattle.euler_operators.specs.Model.{Model, EdgeRow, tail}
-use Rattle.euler_operators.specs.Sound.{Sound, HasHalf}
-use Rattle.euler_operators.proofs.Halves.{plus_row, minus_row, same_edge}
-use Rattle.euler_operators.proofs.Models.{plus_tail_row, minus_tail_row}
-use Rattle.euler_operators.proofs.Tables.{row_some}
-use Rattle.euler_laws.proofs.shared.Arcs.{halves_of_edge}
-use Rattle.euler_laws.proofs.shared.Listed.{listed_passes}
-use Rattle.euler_laws.proofs.shared.FirstWhere.{first_where_least, first_passes}
-use Rattle.shapes.specs.Walks.{first_edge, leads}
+use Rattle.euler_operators.proofs.Common.{plus_row, minus_row, same_edge, plus_tail_row, minus_tail_row, row_some}
+use Rattle.euler_laws.proofs.Common.{halves_of_edge, listed_passes, first_where_least, first_passes}
+use Rattle.shapes.specs.Common.{first_edge, leads}
 
 -- ---- the edges at a vertex
 

@@ -1,23 +1,12 @@
 -- The faces of a solid, and their loops.
-use Rattle.std.proofs.Common.{◌≡◌, ℕ, ◌≤◌, ◌<◌, true, nat_eq, nat_le, ◌&&◌, List, [], ◌∷◌, ◌++◌, length, refl, sym, ap, ◌∙◌, arith, inl, inr}
+use Rattle.std.proofs.Common.{◌≡◌, ℕ, ◌≤◌, ◌<◌, true, nat_eq, nat_le, ◌&&◌, List, [], ◌∷◌, ◌++◌, length, refl, sym, ap, ◌∙◌, arith, inl, inr, append_assoc}
 use Rattle.std.proofs.lemmas.Bool.Decides.{nat_tests, eqb_tells}
-use Rattle.std.proofs.lemmas.List.{append_assoc}
-use Rattle.euler_operators.specs.Items.{count, tick, IsIn, IsApart}
-use Rattle.euler_operators.proofs.Lists.{count-append, tick_same, IsIn_or_not}
+use Rattle.euler_operators.specs.Common.{count, tick, IsIn, IsApart, Model, outer, face_of, rings_of, faces_of, solid_of, Sound, Has, lists, strictly_rises}
+use Rattle.euler_operators.proofs.Common.{count-append, tick_same, IsIn_or_not, length_below}
 use Rattle.euler_operators.specs.Table as table
-use Rattle.euler_operators.specs.Model.{Model, outer, face_of, rings_of, faces_of, solid_of}
-use Rattle.euler_operators.specs.Sound.{Sound, Has}
-use Rattle.euler_operators.specs.Conditions.{lists, strictly_rises}
-use Rattle.euler_laws.proofs.shared.Listed.{first_listed, rest_listed, listed_cases, all_where-rises, IsIn-from_listed, listed-from_in}
-use Rattle.euler_laws.proofs.shared.FaceRings.{ring_there, outer_or_ring}
-use Rattle.euler_operators.proofs.Members.{length_below}
-use Rattle.euler_laws.proofs.shared.Bounds.{ring_number}
-use Rattle.euler_laws.proofs.shared.Counted.{counted_once}
-use Rattle.euler_laws.proofs.shared.UpTo.{up_to, up_to_none, count_up_to, listed_up_to}
-use Rattle.shapes.specs.Faces.{loops_of}
-use Rattle.shapes.specs.Walks.{loops_in}
+use Rattle.euler_laws.proofs.Common.{first_listed, rest_listed, listed_cases, all_where-rises, IsIn-from_listed, listed-from_in, ring_there, outer_or_ring, ring_number, counted_once, up_to, up_to_none, count_up_to, listed_up_to, face_in, in_faces}
+use Rattle.shapes.specs.Common.{loops_of, loops_in}
 use Rattle.shapes.proofs.walks.FaceLoops.{listed_ring, ring_listed, loops_of_apart}
-use Rattle.euler_laws.proofs.merge.Part.{face_in, in_faces}
 
 pub loops_joined : (M : Model) (fs gs : List ℕ) → loops_in M (fs ++ gs) ≡ loops_in M fs ++ loops_in M gs
 loops_joined M [] gs = refl

@@ -1,13 +1,8 @@
 -- Two solids glued together at a face of each.
 use Rattle.std.specs.Prelude.{ℕ, zero, suc, Bool, true, false, not, ◌&&◌, ◌||◌, nat_eq, List, [], ◌∷◌, ◌++◌, map, reverse, length, take, drop, Option, unwrap_or}
 use Rattle.std.specs.List.{list_any}
-use Rattle.euler_operators.specs.declared.Point.{Point}
-use Rattle.euler_operators.specs.Vectors.{same_point}
-use Rattle.euler_operators.specs.HalfEdge.{mate, edge_of}
+use Rattle.euler_operators.specs.Common.{Point, same_point, mate, edge_of, Model, EdgeRow, items_of, content, tail, outer, solid_of, Condition, need, never, first_refusal, numbers_in_range, has_rings, faces_to_solid}
 use Rattle.euler_operators.specs.Table as table
-use Rattle.euler_operators.specs.Model.{Model, EdgeRow, items_of, content, tail, outer, solid_of}
-use Rattle.euler_operators.specs.Conditions.{Condition, need, never, first_refusal, numbers_in_range, has_rings}
-use Rattle.euler_operators.specs.Effect.{faces_to_solid}
 use Rattle.euler_operators.specs.declared.Refusal.{Refusal}
 use Rattle.euler_operators.specs.declared.Why.TheVariants.{NoFace, SameSolid, HasRings, LoneLoop, NotFlat, RepeatedPoint, NoMatch}
 use Rattle.shapes.specs.Faces.{least_lone, faces_of_both, start, finish}

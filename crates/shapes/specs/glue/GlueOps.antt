@@ -1,9 +1,6 @@
 -- The Euler operators of which a glue is made.
 use Rattle.std.specs.Prelude.{ℕ, ◌+◌, List, [], ◌∷◌, ◌++◌}
-use Rattle.euler_operators.specs.Items.{head_or, last_or}
-use Rattle.euler_operators.specs.declared.Corner.TheVariants.{At}
-use Rattle.euler_operators.specs.HalfEdge.{mate, half, plus, minus}
-use Rattle.euler_operators.specs.Model.{Model, outer, solid_of}
+use Rattle.euler_operators.specs.Common.{head_or, last_or, At, mate, half, plus, minus, Model, outer, solid_of}
 use Rattle.euler_operators.specs.declared.Op.{Op}
 use Rattle.euler_operators.specs.declared.Op.TheVariants.{Kev, Mef, Kef, Mekr, Kfmrh, Merge}
 use Rattle.shapes.specs.Fresh.{taken_in}

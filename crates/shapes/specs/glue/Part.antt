@@ -1,10 +1,7 @@
 -- Two solids that are being glued together.
 use Rattle.std.specs.Prelude.{ℕ, nat_eq, List, ◌∷◌, ◌++◌, map, reverse}
-use Rattle.euler_operators.specs.Rings.{canonical}
-use Rattle.euler_operators.specs.HalfEdge.{mate, edge_of}
+use Rattle.euler_operators.specs.Common.{canonical, mate, edge_of, Model, cycle, tail, outer, solid_of, faces_to_solid}
 use Rattle.euler_operators.specs.Table as table
-use Rattle.euler_operators.specs.Model.{Model, cycle, tail, outer, solid_of}
-use Rattle.euler_operators.specs.Effect.{faces_to_solid}
 use Rattle.shapes.specs.Rewriting.{rewritten_row, renamed, without_rows}
 use Rattle.shapes.specs.glue.Glue.{renamed_tails}
 

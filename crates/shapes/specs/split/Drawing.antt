@@ -1,13 +1,7 @@
 -- The second rewriting: in each face that straddles, edges are drawn between its pairs of cut places.
 use Rattle.std.specs.Prelude.{ℕ, ◌+◌, Bool, cond, ◌&&◌, nat_eq, nat_lt, List, [], ◌∷◌, ◌++◌, map, length, fold, filter}
-use Rattle.euler_operators.specs.declared.Plane.{Plane}
-use Rattle.euler_operators.specs.Vectors.{is_on}
-use Rattle.euler_operators.specs.Operators.{mef_old, mef_new, mekr_ring}
-use Rattle.euler_operators.specs.HalfEdge.{plus, minus}
+use Rattle.euler_operators.specs.Common.{Plane, is_on, mef_old, mef_new, mekr_ring, plus, minus, Model, cycle, content, tail, loop_of, cycle_of, solid_of, after, is_ring_of, rings_of, face_at, has_rings, loop_to_face}
 use Rattle.euler_operators.specs.Table as table
-use Rattle.euler_operators.specs.Model.{Model, cycle, content, tail, loop_of, cycle_of, solid_of, after, is_ring_of, rings_of}
-use Rattle.euler_operators.specs.Conditions.{face_at, has_rings}
-use Rattle.euler_operators.specs.Effect.{loop_to_face}
 use Rattle.shapes.specs.Faces.{start, vertices_on}
 use Rattle.shapes.specs.Fresh.{Taken, Growing}
 use Rattle.shapes.specs.split.Sides.{some_above, straddling_faces}

@@ -1,14 +1,7 @@
 -- The third rewriting: the solid opens along each cycle of the section, and two caps close it.
 use Rattle.std.specs.Prelude.{ℕ, zero, suc, ◌+◌, ◌*◌, Bool, false, cond, not, ◌&&◌, nat_eq, List, [], ◌∷◌, ◌++◌, map, reverse, length, filter, fold}
-use Rattle.euler_operators.specs.declared.Point.{Point}
-use Rattle.euler_operators.specs.declared.Plane.{Plane}
-use Rattle.euler_operators.specs.Rings.{canonical}
-use Rattle.euler_operators.specs.HalfEdge.{mate, plus, minus}
+use Rattle.euler_operators.specs.Common.{Point, Plane, canonical, mate, plus, minus, Table, Model, EdgeRow, cycle, tail, point_of, face_at, lists, kfmrh}
 use Rattle.euler_operators.specs.Table as table
-use Rattle.euler_operators.specs.Table.{Table}
-use Rattle.euler_operators.specs.Model.{Model, EdgeRow, cycle, tail, point_of}
-use Rattle.euler_operators.specs.Conditions.{face_at, lists}
-use Rattle.euler_operators.specs.Effect.{kfmrh}
 use Rattle.shapes.specs.Fresh.{Taken, numbers_after}
 use Rattle.shapes.specs.Rewriting.{rewritten_row, renamed}
 use Rattle.shapes.specs.split.Section.{is_hole}

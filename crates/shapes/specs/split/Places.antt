@@ -1,11 +1,7 @@
 -- The places at which a plane cuts the loops of a face, and their pairs.
 use Rattle.std.specs.Prelude.{ℕ, ◌+◌, ◌/◌, Bool, false, cond, not, ◌&&◌, ◌||◌, nat_eq, List, [], ◌∷◌, map, length, filter}
 use Rattle.std.specs.List.{list_any, list_all}
-use Rattle.euler_operators.specs.declared.Point.{Point}
-use Rattle.euler_operators.specs.declared.Plane.{Plane}
-use Rattle.euler_operators.specs.Vectors.{same_point, is_above, is_on, are_opposite, cut_between, lex_less}
-use Rattle.euler_operators.specs.Model.{Model, items_of, content, outer, before, rings_of}
-use Rattle.euler_operators.specs.Conditions.{differ}
+use Rattle.euler_operators.specs.Common.{Point, Plane, same_point, is_above, is_on, are_opposite, cut_between, lex_less, Model, items_of, content, outer, before, rings_of, differ}
 use Rattle.shapes.specs.Faces.{boundary, start, finish}
 use Rattle.shapes.specs.split.Sides.{crosses}
 

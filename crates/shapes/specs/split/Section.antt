@@ -1,13 +1,7 @@
 -- The edges of the section, between a face above and a face below, and their cycles.
 use Rattle.std.specs.Prelude.{ℕ, ◌+◌, pos, int_lt, Bool, cond, not, ◌&&◌, nat_eq, nat_lt, List, [], ◌∷◌, ◌++◌, map, length, filter, flat_map, Option, unwrap_or}
-use Rattle.euler_operators.specs.declared.Plane.{Plane}
-use Rattle.euler_operators.specs.Vectors.{dot, direction}
-use Rattle.euler_operators.specs.Items.{count, least}
-use Rattle.euler_operators.specs.Rings.{orbit}
-use Rattle.euler_operators.specs.HalfEdge.{mate, plus, minus}
+use Rattle.euler_operators.specs.Common.{Plane, dot, direction, count, least, orbit, mate, plus, minus, Model, tail, face_at, lists}
 use Rattle.euler_operators.specs.Table as table
-use Rattle.euler_operators.specs.Model.{Model, tail}
-use Rattle.euler_operators.specs.Conditions.{face_at, lists}
 use Rattle.shapes.specs.Faces.{edges_of}
 use Rattle.shapes.specs.Fresh.{first_such, found}
 use Rattle.shapes.specs.Measure.{area}

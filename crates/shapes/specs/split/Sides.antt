@@ -1,10 +1,7 @@
 -- On which side of a plane vertices, edges and faces lie.
 use Rattle.std.specs.Prelude.{ℕ, pos, int_lt, Bool, not, ◌&&◌, ◌||◌, List, filter}
 use Rattle.std.specs.List.{list_any}
-use Rattle.euler_operators.specs.declared.Plane.{Plane}
-use Rattle.euler_operators.specs.Vectors.{dot, direction, is_above, is_below, are_opposite}
-use Rattle.euler_operators.specs.HalfEdge.{plus}
-use Rattle.euler_operators.specs.Model.{Model, point_of, faces_of}
+use Rattle.euler_operators.specs.Common.{Plane, dot, direction, is_above, is_below, are_opposite, plus, Model, point_of, faces_of}
 use Rattle.shapes.specs.Faces.{corners, start, finish, edges_of}
 use Rattle.shapes.specs.Measure.{normal}
 

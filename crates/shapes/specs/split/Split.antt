@@ -1,14 +1,8 @@
 -- A solid split by a plane: what is below and on the plane keeps its number, what is above goes to a new solid.
 use Rattle.std.specs.Prelude.{ℕ, ◌+◌, ◌*◌, not, ◌&&◌, List, [], ◌∷◌, ◌++◌, map, filter, length, Option}
 use Rattle.std.specs.List.{list_any}
-use Rattle.euler_operators.specs.declared.Plane.{Plane}
-use Rattle.euler_operators.specs.Points.{is_coordinate}
-use Rattle.euler_operators.specs.Vectors.{origin, same_point, direction, cuts_lattice, is_offset}
-use Rattle.euler_operators.specs.HalfEdge.{plus}
+use Rattle.euler_operators.specs.Common.{Plane, is_coordinate, origin, same_point, direction, cuts_lattice, is_offset, plus, Model, faces_of, Condition, need, never, first_refusal, numbers_in_range, part}
 use Rattle.euler_operators.specs.Table as table
-use Rattle.euler_operators.specs.Model.{Model, faces_of}
-use Rattle.euler_operators.specs.Conditions.{Condition, need, never, first_refusal, numbers_in_range}
-use Rattle.euler_operators.specs.Effect.{part}
 use Rattle.euler_operators.specs.declared.Refusal.{Refusal}
 use Rattle.euler_operators.specs.declared.Why.TheVariants.{NoSolid, SolidTaken, PlaneRange, LoneLoop, NotFlat, PlaneMisses, NotLattice, TouchedFace, CutOften, CutCrossed, BranchedVertex, SectionHoles}
 use Rattle.shapes.specs.Faces.{least_lone, start, finish}

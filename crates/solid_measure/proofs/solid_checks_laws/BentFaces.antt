@@ -1,9 +1,7 @@
 -- The least face that isn't flat, solid by solid.
 use Rattle.std.proofs.Common.{◌≡◌, ℕ, Bool, not, ◌&&◌, ◌||◌, List, Option, sym, ap, ◌∙◌}
-use Rattle.euler_operators.specs.Model.{Model, faces_of}
-use Rattle.euler_operators.specs.Sound.{Sound}
-use Rattle.shapes.specs.Faces.{faces_of_both}
-use Rattle.shapes.specs.Fresh.{first_such}
+use Rattle.euler_operators.specs.Common.{Model, faces_of, Sound}
+use Rattle.shapes.specs.Common.{faces_of_both, first_such}
 use Rattle.solid_measure.specs.Measure.{is_flat}
 use Rattle.solid_walks.proofs.face_walks_laws.Above.{member}
 use Rattle.solid_walks.specs.Least.{lesser}

@@ -1,13 +1,9 @@
 -- What is counted of the loops of a face, of the half-edges of a loop, and of a solid's rings, and how much that can be.
-use Rattle.std.proofs.Common.{◌≡◌, ℕ, ◌≤◌, List, [], ◌∷◌, length, sym, ap, ◌∙◌, arith}
-use Rattle.std.proofs.lemmas.List.{length-append}
-use Rattle.euler_operators.specs.Model.{Model, content, outer, rings_of, faces_of}
-use Rattle.euler_operators.specs.Sound.{Sound, Has}
-use Rattle.euler_laws.proofs.shared.Listed.{listed-from_in}
-use Rattle.shapes.specs.Faces.{loops_of}
-use Rattle.shapes.specs.Walks.{loops_in}
-use Rattle.shapes.proofs.walks.FaceLoops.{loops_of_apart}
-use Rattle.shapes.proofs.walks.SolidFaces.{loops_short, all_loops_apart, loop_in_solid, face_of_loop}
+use Rattle.std.proofs.Common.{◌≡◌, ℕ, ◌≤◌, List, [], ◌∷◌, length, sym, ap, ◌∙◌, arith, length-append}
+use Rattle.euler_operators.specs.Common.{Model, content, outer, rings_of, faces_of, Sound, Has}
+use Rattle.euler_laws.proofs.Common.{listed-from_in}
+use Rattle.shapes.specs.Common.{loops_of, loops_in}
+use Rattle.shapes.proofs.Common.{loops_of_apart, loops_short, all_loops_apart, loop_in_solid, face_of_loop}
 use Rattle.solid_measure.specs.declared.solid_counts.Met.{Met}
 use Rattle.solid_measure.specs.solid_counts.Counts.{rings_in}
 use Rattle.solid_measure.specs.solid_counts.Sums.{together, nothing, IsFew, loop_met, loops_met}

@@ -1,19 +1,14 @@
 -- What a walk round a loop counts.
 use Rattle.std.proofs.Common.{◌≡◌, ◌≢◌, ℕ, ◌+◌, ◌%◌, nat_eq, Bool, true, false, cond, [], ◌∷◌, ◌++◌, sym, ap, subst, ◌∙◌, arith}
 use mir.Val.{bool_byte}
-use Rattle.euler_operators.specs.Items.{IsIn}
-use Rattle.euler_operators.specs.HalfEdge.{is_first}
+use Rattle.euler_operators.specs.Common.{IsIn, is_first, HalfEdge, Model, LoopContent, lone, cycle, items_of, content, after, Sound}
 use Rattle.euler_operators.specs.declared.Content.TheVariants as Content
-use Rattle.euler_operators.specs.declared.HalfEdge.{HalfEdge}
-use Rattle.euler_operators.specs.Model.{Model, LoopContent, lone, cycle, items_of, content, after}
-use Rattle.euler_operators.specs.Sound.{Sound}
 use Rattle.solid_walks.specs.Store.{Tells}
-use Rattle.euler_laws.proofs.shared.Bounds.{steps}
+use Rattle.euler_laws.proofs.Common.{steps, Round, round_start, round_more, round_closed, round_ended, half_in, met_once, items_apart}
 use Rattle.solid_measure.specs.declared.solid_counts.Met.{Met}
-use Rattle.shapes.specs.Walks.{leads}
+use Rattle.shapes.specs.Common.{leads}
 use Rattle.solid_measure.specs.solid_counts.Sums.{IsFew, together, nothing, half_met, halves_met, loop_met}
-use Rattle.euler_laws.proofs.shared.Rounds.{Round, round_start, round_more, round_closed, round_ended, half_in, met_once, items_apart}
-use Rattle.shapes.proofs.walks.FaceLoops.{AreHalves}
+use Rattle.shapes.proofs.Common.{AreHalves}
 use Rattle.solid_measure.proofs.solid_counts_laws.Sums.{halves_push, halves_turned, halves_few}
 
 -- the walk has come to h, and has counted what was met

@@ -1,28 +1,15 @@
 -- What walks over all loops of a solid count are its vertices and its edges.
-use Rattle.std.proofs.Common.{◌≡◌, ℕ, ◌+◌, ◌≤◌, Bool, true, nat_eq, List, [], ◌∷◌, ◌++◌, length, map, is_some, refl, sym, ap, subst, ◌∙◌, arith, inl, inr}
-use Rattle.std.specs.Prelude.{ℤ, pos, ◌-ℤ◌, FitsSigned}
+use Rattle.std.proofs.Common.{◌≡◌, ℕ, ◌+◌, ◌≤◌, Bool, true, nat_eq, List, [], ◌∷◌, ◌++◌, length, map, is_some, refl, sym, ap, subst, ◌∙◌, arith, inl, inr, ℤ, pos, ◌-ℤ◌, FitsSigned, eq-eqb, eqb-true, length-append}
 use Rattle.std.proofs.lemmas.Int.{ints, to_z-of_z, fits_signed_from_abs}
 use mir.Syntax.{w64}
 use mir.Val.{to_z, of_z}
-use Rattle.euler_operators.proofs.Magnitudes.{difference_within}
+use Rattle.euler_operators.proofs.Common.{difference_within, count-append, tick_same, tick_other, IsIn_or_not, plus_row, first_is_plus, cycle_there, loop_there, IsIn-map, IsApart-images, row_some}
 use Rattle.std.proofs.lemmas.Bool.Decides.{eqb_tells}
-use Rattle.std.proofs.lemmas.Bool.{eq-eqb, eqb-true}
-use Rattle.std.proofs.lemmas.List.{length-append, length-map}
-use Rattle.euler_operators.specs.Items.{count, IsIn, IsApart}
-use Rattle.euler_operators.proofs.Lists.{count-append, tick_same, tick_other, IsIn_or_not}
-use Rattle.euler_operators.specs.HalfEdge.{edge_of, is_first, plus}
+use Rattle.std.proofs.lemmas.List.{length-map}
+use Rattle.euler_operators.specs.Common.{count, IsIn, IsApart, edge_of, is_first, plus, Model, LoopContent, lone, cycle, items_of, tail, content, loop_of, solid_of, faces_of, Sound, Has, HasHalf, IsLoneAt, lists, is_lone, lone_vertex, face_at}
 use Rattle.euler_operators.specs.Table as table
-use Rattle.euler_operators.specs.Model.{Model, LoopContent, lone, cycle, items_of, tail, content, loop_of, solid_of, faces_of}
-use Rattle.euler_operators.specs.Sound.{Sound, Has, HasHalf, IsLoneAt}
-use Rattle.euler_operators.proofs.Halves.{plus_row, first_is_plus}
-use Rattle.euler_operators.proofs.Models.{cycle_there, loop_there}
-use Rattle.euler_operators.proofs.Members.{IsIn-map, IsApart-images}
-use Rattle.euler_operators.proofs.Tables.{row_some}
-use Rattle.euler_operators.specs.Conditions.{lists, is_lone, lone_vertex, face_at}
-use Rattle.euler_laws.proofs.shared.Rows.{lone_is}
-use Rattle.euler_laws.proofs.shared.Same.{one_solid_round}
-use Rattle.euler_laws.proofs.shared.Listed.{listed_passes, passes_listed, all_where-rises, IsIn-from_listed, listed-from_in}
-use Rattle.shapes.specs.Faces.{items_in, vertices_on, corners_in, vertices_of, edges_of}
+use Rattle.euler_laws.proofs.Common.{lone_is, one_solid_round, listed_passes, passes_listed, all_where-rises, IsIn-from_listed, listed-from_in, counted_once}
+use Rattle.shapes.specs.Common.{items_in, vertices_on, corners_in, vertices_of, edges_of, leads}
 use Rattle.solid_measure.specs.solid_counts.Counts.{rings_in, counts}
 use Rattle.solid_measure.specs.declared.solid_counts.Met.{Met}
 use Rattle.solid_measure.specs.declared.solid_counts.Tally.{Tally}
@@ -30,11 +17,7 @@ use Rattle.solid_measure.specs.solid_counts.Sums.{IsFew, loops_met}
 use Rattle.solid_measure.proofs.solid_counts_laws.HowMany.{passing, passing_are, passing_apart, of_passing, in_passing, of_map, equally_many}
 use Rattle.solid_measure.proofs.solid_counts_laws.Sums.{is_lone_loop, loops_are, loops_few}
 use Rattle.solid_measure.proofs.solid_counts_laws.FaceSums.{rings_few}
-use Rattle.shapes.specs.Walks.{leads}
-use Rattle.euler_laws.proofs.shared.Counted.{counted_once}
-use Rattle.shapes.proofs.walks.SolidFaces.{solid_loops, all_loops_apart, loop_in_solid, solid_has_loop, faces_short}
-use Rattle.shapes.proofs.walks.FirstEdges.{one_leads, only_leads}
-use Rattle.shapes.proofs.walks.Corners.{corners_are, on_one, in_some, on_some, halves_apart, half_solid, solid_half}
+use Rattle.shapes.proofs.Common.{solid_loops, all_loops_apart, loop_in_solid, solid_has_loop, faces_short, one_leads, only_leads, corners_are, on_one, in_some, on_some, halves_apart, half_solid, solid_half}
 
 -- what the code holds of counts and of their difference
 count_held : (z : ℤ) (n : ℕ) → z ≡ pos n → n ≤ 5000001 → to_z w64 (of_z w64 z) ≡ pos n

@@ -1,11 +1,10 @@
 -- How many vertices, edges, faces and rings a solid has.
 use Rattle.std.specs.Prelude.{ℕ, ◌+◌, pos, ◌-ℤ◌, List, [], ◌∷◌, ◌++◌, length, Option, Some, None, Result, Ok, Err}
 use Rattle.euler_operators.specs.Table as table
-use Rattle.euler_operators.specs.Model.{Model, faces_of, rings_of}
-use Rattle.euler_operators.specs.Conditions.{need, first_refusal, numbers_in_range}
+use Rattle.euler_operators.specs.Common.{Model, faces_of, rings_of, need, first_refusal, numbers_in_range}
 use Rattle.euler_operators.specs.declared.Refusal.{Refusal}
 use Rattle.euler_operators.specs.declared.Why.TheVariants.{NoSolid}
-use Rattle.shapes.specs.Faces.{vertices_of, edges_of}
+use Rattle.shapes.specs.Common.{vertices_of, edges_of}
 use Rattle.solid_measure.specs.declared.solid_counts.Tally.{Tally}
 
 -- the rings of some faces

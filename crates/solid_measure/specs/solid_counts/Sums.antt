@@ -1,8 +1,7 @@
 -- What walks over loops count.
 use Rattle.std.specs.Prelude.{ℕ, ◌+◌, ◌≤◌, cond, List, [], ◌∷◌}
-use Rattle.euler_operators.specs.HalfEdge.{is_first}
-use Rattle.euler_operators.specs.Model.{Model, LoopContent, lone, cycle, content}
-use Rattle.shapes.specs.Walks.{leads}
+use Rattle.euler_operators.specs.Common.{is_first, Model, LoopContent, lone, cycle, content}
+use Rattle.shapes.specs.Common.{leads}
 use Rattle.solid_measure.specs.declared.solid_counts.Met.{Met}
 
 abbrev pub together : Met → Met → Met

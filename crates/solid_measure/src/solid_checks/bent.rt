@@ -1,9 +1,8 @@
 //! Faces of solids that aren't flat.
 ghost use Rattle.std.specs.Prelude.{◌≡◌, not};
-ghost use Rattle.euler_operators.specs.Model.{faces_of};
+ghost use Rattle.euler_operators.specs.Common.{faces_of};
 ghost use Rattle.solid_walks.specs.Ready.{IsReady};
-ghost use Rattle.shapes.specs.Faces.{faces_of_both};
-ghost use Rattle.shapes.specs.Fresh.{first_such};
+ghost use Rattle.shapes.specs.Common.{faces_of_both, first_such};
 ghost use Rattle.solid_measure.specs.Measure.{is_flat};
 
 use crate::faces::is_flat;

@@ -1,8 +1,8 @@
 //! Lone loops of solids.
 ghost use Rattle.std.specs.Prelude.{◌≡◌};
-ghost use Rattle.euler_operators.specs.Model.{faces_of};
+ghost use Rattle.euler_operators.specs.Common.{faces_of};
 ghost use Rattle.solid_walks.specs.Ready.{IsReady};
-ghost use Rattle.shapes.specs.Faces.{faces_of_both, least_lone};
+ghost use Rattle.shapes.specs.Common.{faces_of_both, least_lone};
 
 use solid_walks::{Arena, faces_of, least_lone_of_face, lesser};
 

@@ -1,11 +1,9 @@
 //! Walks over the loops of a face.
 ghost use Rattle.std.specs.Prelude.{◌≡◌, length, true};
-ghost use Rattle.euler_operators.specs.Items.{IsIn};
-ghost use Rattle.euler_operators.specs.HalfEdge.{code};
-ghost use Rattle.euler_operators.specs.Model.{before, has_half, items_of, content, rings_of};
+ghost use Rattle.euler_operators.specs.Common.{IsIn, code, before, has_half, items_of, content, rings_of};
 ghost use Rattle.solid_walks.specs.Store.{has_number};
 ghost use Rattle.solid_walks.specs.Ready.{IsReady};
-ghost use Rattle.shapes.specs.Faces.{loops_of};
+ghost use Rattle.shapes.specs.Common.{loops_of};
 ghost use Rattle.solid_measure.specs.solid_counts.Sums.{IsFew, half_met, halves_met, loop_met, loops_met, together};
 
 use crate::solid_counts::Met;

@@ -1,9 +1,9 @@
 //! Counts of a solid by number.
 ghost use Rattle.std.specs.Prelude.{◌≡◌, length, true};
-ghost use Rattle.euler_operators.specs.Model.{faces_of};
+ghost use Rattle.euler_operators.specs.Common.{faces_of};
 ghost use Rattle.solid_walks.specs.Ready.{IsReady};
 ghost use Rattle.solid_measure.specs.solid_counts.Counts.{answer, counts, rings_in, solid_refusal};
-ghost use Rattle.shapes.specs.Walks.{loops_in};
+ghost use Rattle.shapes.specs.Common.{loops_in};
 ghost use Rattle.solid_measure.specs.solid_counts.Sums.{loops_met};
 
 use crate::solid_counts::loops::{face_met, together};

@@ -1,4 +1,4 @@
-use Rattle.euler_operators.specs.Vectors.{height}
+use Rattle.euler_operators.specs.Common.{height}
 use Rattle.solid_measure_laws.proofs.Cuts.{cut_on, cut_divides, cut_on_each, cut_keeps_area, cuts_either_way, some_height, cuts_miss_none}
 use Rattle.solid_measure_laws.proofs.cut_points.Goals as goal
 

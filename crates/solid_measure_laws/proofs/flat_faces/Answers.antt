@@ -1,4 +1,4 @@
-use Rattle.shapes.proofs.measures.FlatFaces.{face_told, told_anywhere, corner_told}
+use Rattle.shapes.proofs.Common.{face_told, told_anywhere, corner_told}
 use Rattle.solid_measure_laws.proofs.flat_faces.Goals as goal
 
 pub returns : goal.returns

@@ -1,4 +1,4 @@
-use Rattle.shapes.proofs.measures.Sums.{area_back}
+use Rattle.shapes.proofs.Common.{area_back}
 use Rattle.solid_measure_laws.proofs.Moved.{normal_turned, normal_opposed, volume_inverted}
 use Rattle.solid_measure_laws.proofs.turned_loops.Goals as goal
 

@@ -1,15 +1,10 @@
 -- A walk round a ring, from an item on until it is met again.
-use Rattle.std.proofs.Common.{◌≡◌, ◌≢◌, ℕ, ◌≤◌, min, List, [], ◌∷◌, ◌++◌, refl, sym, ap, subst, ◌∙◌, arith, append_assoc, is_some, inl, inr}
-use Rattle.std.proofs.lemmas.Bool.{cases_lt, ne_eqb}
-use Rattle.euler_operators.specs.Items.{count, IsIn, IsApart, before, after, head_or, least}
-use Rattle.euler_operators.specs.Rings.{rotate_to, canonical, successor, rest}
-use Rattle.euler_operators.proofs.Lists.{count-append, tick_same, split_at, count-before, before_of, after_of, least_le, least_in}
-use Rattle.euler_operators.proofs.Rotations.{rotate_to-rotates, IsApart-rotate_to, count-rotate_to, rotate_to_is}
-use Rattle.euler_operators.proofs.Rings.{successor_at, successor_same, IsIn_successor}
-use Rattle.euler_operators.specs.Model.{Model, content, loop_of, cycle_of}
+use Rattle.std.proofs.Common.{◌≡◌, ◌≢◌, ℕ, ◌≤◌, min, List, [], ◌∷◌, ◌++◌, refl, sym, ap, subst, ◌∙◌, arith, append_assoc, is_some, inl, inr, ne_eqb}
+use Rattle.std.proofs.lemmas.Bool.{cases_lt}
+use Rattle.euler_operators.specs.Common.{count, IsIn, IsApart, head_or, least, rotate_to, canonical, successor, rest, Model, content, loop_of, cycle_of, Sound, HasHalf, StandsIn}
+use Rattle.euler_operators.specs.Items.{before, after}
+use Rattle.euler_operators.proofs.Common.{count-append, tick_same, split_at, count-before, before_of, after_of, least_le, least_in, rotate_to-rotates, IsApart-rotate_to, count-rotate_to, rotate_to_is, successor_at, successor_same, IsIn_successor, in-holds, held_row, cycle_there, cycle_sound, number_real}
 use Rattle.euler_operators.specs.Model as model
-use Rattle.euler_operators.specs.Sound.{Sound, HasHalf, StandsIn}
-use Rattle.euler_operators.proofs.Models.{in-holds, held_row, cycle_there, cycle_sound, number_real}
 use Rattle.euler_conditions.proofs.Coded.{code_real}
 use Rattle.solid_walks.specs.Left.{items_left}
 pub use Rattle.solid_walks.specs.Left.{to_come}

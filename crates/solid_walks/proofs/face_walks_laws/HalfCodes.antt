@@ -3,13 +3,8 @@ use Rattle.std.proofs.Common.{◌≡◌, ◌≢◌, ℕ, true, false, ◌&&◌, 
 use mathlib.Core.Bool.{beq}
 use Rattle.std.proofs.lemmas.Bool.Decides.{nat_tests}
 use Rattle.std.proofs.lemmas.Bool.{and_parts}
-use Rattle.euler_operators.specs.declared.HalfEdge.{HalfEdge}
-use Rattle.euler_operators.specs.HalfEdge.{code, mate, plus, minus}
-use Rattle.euler_operators.specs.Table.{has}
-use Rattle.euler_operators.specs.Model.{Model}
-use Rattle.euler_operators.specs.Sound.{HasHalf}
-use Rattle.euler_operators.proofs.Halves.{edge_of-code, code-mate, same_code}
-use Rattle.euler_operators.proofs.Tests.{beq_itself, beq_true}
+use Rattle.euler_operators.specs.Common.{HalfEdge, code, mate, plus, minus, has, Model, HasHalf}
+use Rattle.euler_operators.proofs.Common.{edge_of-code, code-mate, same_code, beq_itself, beq_true}
 pub use Rattle.euler_conditions.proofs.Coded.{edge_fits, coded}
 
 pub code_plus : (e : ℕ) → code (record { edge = e; first = true }) ≡ plus e

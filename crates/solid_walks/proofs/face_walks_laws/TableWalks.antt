@@ -1,11 +1,10 @@
 -- The numbers of a table, as a walk from each to the next meets them.
-use Rattle.std.proofs.Common.{◌≡◌, ℕ, Bool, true, false, cond, ◌||◌, nat_eq, T, List, [], ◌∷◌, map, Option, Some, None, is_some, refl, sym, ap, ◌∙◌, arith, inl, inr}
+use Rattle.std.proofs.Common.{◌≡◌, ℕ, Bool, true, false, cond, ◌||◌, nat_eq, T, List, [], ◌∷◌, map, Option, Some, None, is_some, refl, sym, ap, ◌∙◌, arith, inl, inr, nat_cmp}
 use Rattle.std.proofs.lemmas.Bool.Decides.{nat_tests, eqb_tells}
-use Rattle.std.specs.Ordering.{nat_cmp}
 use Rattle.std.specs.FinMap.Entries.{find, is_sorted, below_all}
 use Rattle.std.specs.Cmp.{unsigned_tied}
-use Rattle.euler_operators.specs.Table.{Table, get, has, numbers, all_in, all_where}
-use Rattle.euler_operators.proofs.Tables.{and_left, and_right, less_means}
+use Rattle.euler_operators.specs.Common.{Table, get, has, numbers, all_in, all_where}
+use Rattle.euler_operators.proofs.Common.{and_left, and_right, less_means}
 use Rattle.solid_walks.proofs.face_walks_laws.Above.{member, AllAbove, Rising, not_member}
 
 -- whether the row is there and passes a test

@@ -2,8 +2,8 @@
 use Rattle.std.proofs.Common.{◌≡◌, ℕ, List, [], ◌∷◌, length, Some, refl, sym, ap, subst, ◌∙◌, arith}
 use Rattle.std.specs.Iterator.{Yields, YieldsFirstBy, CallableAtEachTurn, MakesProgress, item_count}
 use Rattle.std.proofs.lemmas.Fn.{serves_by}
-use Rattle.euler_operators.specs.Items.{count, IsIn}
-use Rattle.euler_operators.proofs.Lists.{tick_same}
+use Rattle.euler_operators.specs.Common.{count, IsIn}
+use Rattle.euler_operators.proofs.Common.{tick_same}
 
 module _ {A : Type 0} (code : A → ℕ) where
   pub yielded_in : (xs : List A) (s t u : List ℕ) (x : A) → Yields (YieldsFirstBy code (λ left. left)) s xs t → t ≡ code x ∷ u → IsIn (code x) s

@@ -1,12 +1,9 @@
 -- The least lone loop of a face, of some faces, of two solids.
 use Rattle.std.proofs.Common.{◌≡◌, ℕ, Bool, true, false, not, ◌&&◌, ◌||◌, nat_eq, List, [], ◌∷◌, Option, Some, None, is_some, unwrap_or, refl, sym, ap, ◌∙◌, arith, inl, inr}
 use Rattle.std.proofs.lemmas.Bool.Decides.{nat_tests, eqb_tells}
-use Rattle.euler_operators.specs.Table.{get, has, all_where}
-use Rattle.euler_operators.specs.Model.{Model, LoopRow, no_loop, face_of, outer, content, rings_of, faces_of}
-use Rattle.euler_operators.specs.Sound.{Sound, Has}
-use Rattle.euler_operators.specs.Conditions.{lists, is_lone}
-use Rattle.euler_operators.proofs.Models.{one_or_more}
-use Rattle.shapes.specs.Faces.{loops_of, least_lone, faces_of_both}
+use Rattle.euler_operators.specs.Common.{get, has, all_where, Model, LoopRow, no_loop, face_of, outer, content, rings_of, faces_of, Sound, Has, lists, is_lone}
+use Rattle.euler_operators.proofs.Common.{one_or_more}
+use Rattle.shapes.specs.Common.{loops_of, least_lone, faces_of_both}
 use Rattle.solid_walks.proofs.face_walks_laws.Above.{member, AllAbove, all_above_members}
 use Rattle.solid_walks.proofs.face_walks_laws.TableWalks.{passes, member_passing}
 use Rattle.solid_walks.proofs.face_walks_laws.RingWalks.{member_rings}

@@ -1,8 +1,7 @@
 //! The faces of a solid, one after another.
 ghost use Rattle.std.specs.Prelude.{◌≡◌};
 ghost use Rattle.std.specs.Iterator.{YieldsFirst, item_count};
-ghost use Rattle.euler_operators.specs.Model.{faces_of};
-ghost use Rattle.euler_operators.specs.Sound.{Sound};
+ghost use Rattle.euler_operators.specs.Common.{faces_of, Sound};
 
 use euler_conditions::Arena;
 use std::marker::Model;
@@ -21,7 +20,7 @@ impl<'a> Model for Faces<'a> {
 
     ghost Value = { List ℕ };
 
-    ghost use Rattle.euler_operators.specs.Model.{faces_of};
+    ghost use Rattle.euler_operators.specs.Common.{faces_of};
     ghost use Rattle.solid_walks.specs.Left.{above};
 
     ghost view = { λ w. above w.last (faces_of w.arena.now.model w.solid) };

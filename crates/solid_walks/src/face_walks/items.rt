@@ -1,12 +1,7 @@
 //! The half-edges of a loop, one after another.
 ghost use Rattle.std.specs.Prelude.{◌≡◌, true, false, map, IfOk};
 ghost use Rattle.std.specs.Iterator.{YieldsFirstBy, item_count};
-ghost use Rattle.euler_operators.specs.Items.{IsIn, least};
-ghost use Rattle.euler_operators.specs.Rings.{rotate_to};
-ghost use Rattle.euler_operators.specs.HalfEdge.{code};
-ghost use Rattle.euler_operators.specs.Model.{content, cycle_of, has_half, items_of};
-ghost use Rattle.euler_operators.specs.Conditions.{is_lone};
-ghost use Rattle.euler_operators.specs.Sound.{Sound};
+ghost use Rattle.euler_operators.specs.Common.{IsIn, least, rotate_to, code, content, cycle_of, has_half, items_of, is_lone, Sound};
 ghost use Rattle.euler_conditions.specs.Store.{has_number};
 ghost use Rattle.euler_conditions.specs.Ready.{IsReady};
 ghost use Rattle.solid_walks.specs.Left.{IsRound, items_left, to_come};

@@ -1,10 +1,9 @@
 //! The loops of a face, one after another.
 ghost use Rattle.std.specs.Prelude.{◌≡◌, true};
 ghost use Rattle.std.specs.Iterator.{YieldsFirst, item_count};
-ghost use Rattle.euler_operators.specs.Model.{rings_of};
-ghost use Rattle.euler_operators.specs.Sound.{Sound};
+ghost use Rattle.euler_operators.specs.Common.{rings_of, Sound};
 ghost use Rattle.euler_conditions.specs.Store.{has_number};
-ghost use Rattle.shapes.specs.Faces.{loops_of};
+ghost use Rattle.shapes.specs.Common.{loops_of};
 
 use euler_conditions::Arena;
 use euler_operators::Kind;
@@ -26,7 +25,7 @@ impl<'a> Model for Loops<'a> {
 
     ghost Value = { List ℕ };
 
-    ghost use Rattle.euler_operators.specs.Sound.{Has};
+    ghost use Rattle.euler_operators.specs.Common.{Has};
     ghost use Rattle.solid_walks.specs.Left.{loops_left};
 
     ghost view = { λ w. loops_left w.arena.now.model w.face w.outer w.last };

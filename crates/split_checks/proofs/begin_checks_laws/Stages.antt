@@ -1,21 +1,14 @@
 -- The conditions with which a split begins, part by part.
-use Rattle.std.specs.Prelude.{min}
 use Rattle.std.specs.List.{list_any}
-use Rattle.std.proofs.Common.{◌≡◌, ℕ, ◌+◌, true, false, cond, ◌&&◌, nat_le, List, [], ◌∷◌, ◌++◌, length, Option, Some, None, Result, Ok, Err, IfOk, IfErr, OnErr, refl, sym, ap, subst, ◌∙◌, arith}
+use Rattle.std.proofs.Common.{◌≡◌, ℕ, ◌+◌, true, false, cond, ◌&&◌, nat_le, List, [], ◌∷◌, ◌++◌, length, Option, Some, None, Result, Ok, Err, IfOk, IfErr, OnErr, refl, sym, ap, subst, ◌∙◌, arith, min}
 use Rattle.std.proofs.lemmas.Bool.Decides.{nat_tests}
-use Rattle.euler_operators.specs.declared.Plane.{Plane}
-use Rattle.euler_operators.specs.Ranges.{IsCutPlane}
-use Rattle.euler_operators.proofs.Magnitudes.{coordinate_within, offset_within}
-use Rattle.euler_operators.specs.Model.{Model, faces_of}
-use Rattle.euler_operators.specs.Conditions.{Condition, need, first_refusal, verdict}
+use Rattle.euler_operators.specs.Common.{Plane, IsCutPlane, Model, faces_of, Condition, need, first_refusal, verdict}
+use Rattle.euler_operators.proofs.Common.{coordinate_within, offset_within}
 use Rattle.euler_operators.specs.declared.Why.TheVariants.{PlaneMisses, NotLattice, NumbersSpent, TouchedFace, CutOften, CutCrossed}
 use Rattle.euler_operators.specs.declared.Refusal.{Refusal}
-use Rattle.euler_laws.proofs.shared.Goes.{all_hold, verdict_passed, verdict_failed}
-use Rattle.shapes.proofs.fresh.Tests.{first_refusal-append, first_refusal-refused}
-use Rattle.shapes.specs.Fresh.{Taken, taken_in, numbers_left, no_such, first_such}
-use Rattle.shapes.specs.split.Places.{is_touched, is_cut_often, is_crossed, pair_count}
-use Rattle.shapes.specs.split.Sides.{reaches_above, reaches_below, straddling_faces, crossing_edges}
-use Rattle.shapes.specs.split.Split.{plane_in_range, cut_conditions, first_conditions}
+use Rattle.euler_laws.proofs.Common.{all_hold, verdict_passed, verdict_failed}
+use Rattle.shapes.proofs.Common.{first_refusal-append, first_refusal-refused}
+use Rattle.shapes.specs.Common.{Taken, taken_in, numbers_left, no_such, first_such, is_touched, is_cut_often, is_crossed, pair_count, reaches_above, reaches_below, straddling_faces, crossing_edges, plane_in_range, cut_conditions, first_conditions}
 use Rattle.split_checks.specs.begin_checks.Conditions.{number_conditions, solid_conditions, early_conditions, early_refusal, face_conditions, sectioning_conditions}
 use Rattle.split_checks.specs.cut_places.Crossings.{is_off}
 

@@ -1,14 +1,9 @@
 -- The two halves of an edge that crosses a plane.
 use Rattle.std.proofs.Common.{◌≡◌, ℕ, true, sym, ap, ◌∙◌, inl, inr}
-use Rattle.euler_operators.specs.declared.Plane.{Plane}
-use Rattle.euler_operators.specs.Vectors.{height, are_opposite, cut_between}
-use Rattle.euler_operators.specs.HalfEdge.{edge_of, plus, minus}
-use Rattle.euler_operators.specs.Model.{Model}
-use Rattle.euler_operators.proofs.Halves.{mate_plus, mate_minus}
-use Rattle.euler_operators.proofs.Crossings.{opposite_turned, cut_back}
-use Rattle.euler_laws.proofs.shared.Arcs.{halves_of_edge}
-use Rattle.shapes.specs.Faces.{start, finish}
-use Rattle.shapes.specs.split.Sides.{crosses}
+use Rattle.euler_operators.specs.Common.{Plane, height, are_opposite, cut_between, edge_of, plus, minus, Model}
+use Rattle.euler_operators.proofs.Common.{mate_plus, mate_minus, opposite_turned, cut_back}
+use Rattle.euler_laws.proofs.Common.{halves_of_edge}
+use Rattle.shapes.specs.Common.{start, finish, crosses}
 
 module _ (M : Model) (p : Plane) where
   minus_crosses : (e : ℕ) → crosses M p (minus e) ≡ crosses M p (plus e)

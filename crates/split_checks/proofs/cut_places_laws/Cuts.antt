@@ -1,8 +1,6 @@
 -- Where a plane meets a segment, as it is told.
 use Rattle.std.proofs.Common.{◌≡◌, Bool, true, false, cond, not, Option, Some, None, is_some, refl, sym, ap, ◌∙◌, true≢false}
-use Rattle.euler_operators.specs.declared.Point.{Point}
-use Rattle.euler_operators.specs.declared.Plane.{Plane}
-use Rattle.euler_operators.specs.Vectors.{cuts_lattice, cut_between, cut_point}
+use Rattle.euler_operators.specs.Common.{Point, Plane, cuts_lattice, cut_between, cut_point}
 
 pub told_off : (s : Plane) (p q : Point) (found : Option Point) (off : Bool) → found ≡ cut_point s p q → is_some found ≡ not off → off ≡ not (cuts_lattice s p q)
 told_off s p q found off is e = back off (cuts_lattice s p q) (sym e ∙ ap is_some is ∙ some_where (cuts_lattice s p q)) where

@@ -1,14 +1,9 @@
 -- The height of a point over a plane along which points are cut, in 64 bits.
-use Rattle.std.proofs.Common.{◌≡◌, ℕ, ◌≤◌, true, ℤ, refl, sym, ap, subst, ◌∙◌, arith}
-use Rattle.std.specs.Prelude.{◌+ℤ◌, ◌*ℤ◌, FitsSigned}
+use Rattle.std.proofs.Common.{◌≡◌, ℕ, ◌≤◌, true, ℤ, refl, sym, ap, subst, ◌∙◌, arith, ◌+ℤ◌, ◌*ℤ◌, FitsSigned}
 use Rattle.std.proofs.lemmas.Int.{to_z-of_z, fits_signed_from_abs}
 use mir.Syntax.{w64}
-use Rattle.euler_operators.specs.declared.Point.{Point}
-use Rattle.euler_operators.specs.declared.Plane.{Plane}
-use Rattle.euler_operators.specs.Points.{IsInRange, is_coordinate}
-use Rattle.euler_operators.specs.Ranges.{IsWithin, IsCutPlane}
-use Rattle.euler_operators.specs.Vectors.{height}
-use Rattle.euler_operators.proofs.Magnitudes.{coordinates, coordinate_is, coordinate_within, fits, held, held_is, held_short, product_within, sum_within}
+use Rattle.euler_operators.specs.Common.{Point, Plane, IsInRange, is_coordinate, IsWithin, IsCutPlane, height}
+use Rattle.euler_operators.proofs.Common.{coordinates, coordinate_is, coordinate_within, fits, held, held_is, held_short, product_within, sum_within}
 
 -- what the code makes fits 64 bits, and is exact
 pub record Short (z y : ℤ) : Type 0 where

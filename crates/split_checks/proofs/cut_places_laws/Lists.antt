@@ -1,11 +1,8 @@
 -- Lists that a walk takes apart.
-use Rattle.std.proofs.Common.{◌≡◌, ◌∙◌, ℕ, suc, ◌-◌, ◌≤◌, Bool, true, false, cond, ◌||◌, List, [], ◌∷◌, ◌++◌, map, length, slice_index_or, refl, sym, ap, subst, arith}
-use Rattle.std.specs.Prelude.{take, drop, filter}
+use Rattle.std.proofs.Common.{◌≡◌, ◌∙◌, ℕ, suc, ◌-◌, ◌≤◌, Bool, true, false, cond, ◌||◌, List, [], ◌∷◌, ◌++◌, map, length, slice_index_or, refl, sym, ap, subst, arith, take, drop, filter}
 use Rattle.std.specs.List.{list_any}
 use Rattle.std.proofs.lemmas.List.{take_rest, map-append}
-use Rattle.euler_operators.specs.declared.HalfEdge.{HalfEdge}
-use Rattle.euler_operators.specs.HalfEdge.{code}
-use Rattle.euler_operators.specs.Items.{IsIn, IsApart}
+use Rattle.euler_operators.specs.Common.{HalfEdge, code, IsIn, IsApart}
 use Rattle.solid_measure.proofs.solid_counts_laws.HowMany.{passing, of_passing, passing_apart}
 use Rattle.solid_measure.proofs.face_walks_laws.Above.{AllAbove, Rising}
 

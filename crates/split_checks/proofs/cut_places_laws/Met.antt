@@ -1,27 +1,16 @@
 -- What a plane meets of corners, added up.
-use Rattle.std.specs.Prelude.{take, filter}
 use Rattle.std.specs.List.{list_any}
-use Rattle.std.proofs.Common.{◌≡◌, ℕ, ◌+◌, ◌-◌, ◌≤◌, nat_lt, vec_len, arith, Bool, true, false, cond, not, ◌&&◌, ◌||◌, List, [], ◌∷◌, ◌++◌, map, length, refl, sym, ap, ◌∙◌, subst, append_assoc}
-use Rattle.std.proofs.lemmas.List.{append-nil, map-append, length-append, length-map, take-map, take_at}
+use Rattle.std.proofs.Common.{◌≡◌, ℕ, ◌+◌, ◌-◌, ◌≤◌, nat_lt, vec_len, arith, Bool, true, false, cond, not, ◌&&◌, ◌||◌, List, [], ◌∷◌, ◌++◌, map, length, refl, sym, ap, ◌∙◌, subst, append_assoc, take, filter, append-nil, length-append, take_at}
+use Rattle.std.proofs.lemmas.List.{map-append, length-map, take-map}
 use Rattle.std.proofs.lemmas.Bool.Decides.{nat_tests}
 use Rattle.std.proofs.lemmas.List.Elements.{filter-append}
 use Rattle.std.proofs.lemmas.List.Folds.{list_any-append}
-use Rattle.euler_operators.specs.declared.Plane.{Plane}
-use Rattle.euler_operators.specs.declared.Sign.{Sign}
-use Rattle.euler_operators.specs.declared.Sign.TheVariants.{Below, On, Above}
-use Rattle.euler_operators.specs.declared.HalfEdge.{HalfEdge}
-use Rattle.euler_operators.specs.HalfEdge.{code, edge_of}
-use Rattle.euler_operators.specs.Vectors.{height, sign_of, is_on, are_opposite}
-use Rattle.euler_operators.specs.declared.Point.{Point}
+use Rattle.euler_operators.specs.Common.{Plane, Sign, Below, On, Above, HalfEdge, code, edge_of, height, sign_of, is_on, are_opposite, Point, Model, LoopContent, lone, cycle, items_of, content, outer, rings_of, tail, point_of, before}
 use Rattle.euler_operators.specs.declared.Content.TheVariants.{Lone}
-use Rattle.euler_operators.specs.Model.{Model, LoopContent, lone, cycle, items_of, content, outer, rings_of, tail, point_of, before}
 use Rattle.euler_conditions.specs.Store.{Tells}
-use Rattle.euler_operators.proofs.Halves.{edge_of-code, is_first-code}
-use Rattle.shapes.specs.Faces.{start, finish, boundary, corners, loops_of, items_in, vertices_on, vertices_in}
-use Rattle.shapes.proofs.walks.FaceLoops.{items_joined}
-use Rattle.shapes.proofs.walks.Corners.{vertices_joined}
-use Rattle.shapes.specs.split.Places.{is_place, is_touched, is_cut_often, places}
-use Rattle.shapes.specs.split.Sides.{crosses, reaches_above, reaches_below, straddles}
+use Rattle.euler_operators.proofs.Common.{edge_of-code, is_first-code}
+use Rattle.shapes.specs.Common.{start, finish, boundary, corners, loops_of, items_in, vertices_on, vertices_in, is_place, is_touched, is_cut_often, places, crosses, reaches_above, reaches_below, straddles}
+use Rattle.shapes.proofs.Common.{items_joined, vertices_joined}
 use Rattle.split_checks.specs.cut_places.Crossings.{leads_across, crossings_in, crossings_met}
 use Rattle.split_checks.specs.cut_places.Meetings.{IsMet, IsRound, IsFaceMet, IsMeeting, unmarked, with_side, face_met, all_places}
 use Rattle.split_checks.specs.cut_places.Places.{touches}

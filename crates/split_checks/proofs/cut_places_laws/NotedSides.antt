@@ -1,15 +1,10 @@
 -- Sides that are noted, and the side that corners reach.
 use Rattle.std.proofs.Common.{◌≡◌, ◌≢◌, ℕ, zero, suc, Bool, true, false, List, [], ◌∷◌, replicate, slice_index_or, slice_set, is_some, unwrap_or, refl, sym, ap, ◌∙◌, true≢false}
-use Rattle.euler_operators.specs.declared.Plane.{Plane}
-use Rattle.euler_operators.specs.declared.Sign.{Sign}
-use Rattle.euler_operators.specs.declared.Sign.TheVariants.{Below, On, Above}
+use Rattle.euler_operators.specs.Common.{Plane, Sign, Below, On, Above, height, sign_of, Model, LoopContent, lone, cycle, is_number, no_point, point_of, Sound, Has}
 use Rattle.euler_operators.specs.declared.Content.TheVariants.{Lone}
-use Rattle.euler_operators.specs.Vectors.{height, sign_of}
 use Rattle.euler_operators.specs.Table as table
-use Rattle.euler_operators.specs.Model.{Model, LoopContent, lone, cycle, is_number, no_point, point_of}
-use Rattle.euler_operators.specs.Sound.{Sound, Has}
 use Rattle.euler_conditions.specs.Store.{Tells}
-use Rattle.shapes.specs.Faces.{vertices_on}
+use Rattle.shapes.specs.Common.{vertices_on}
 use Rattle.split_checks.specs.declared.cut_places.noted.Noted.{Noted}
 use Rattle.split_checks.specs.cut_places.Noted.{IsSide, AreNoted}
 use Rattle.split_checks.specs.cut_places.Sides.{same_sign, side_reached, some_lie}

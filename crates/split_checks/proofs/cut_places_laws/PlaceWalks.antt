@@ -1,18 +1,12 @@
 -- The half-edges of a loop, taken one by one as a walk round it meets them.
-use Rattle.std.proofs.Common.{◌≡◌, ◌≢◌, ℕ, Bool, true, false, cond, List, [], ◌∷◌, ◌++◌, map, sym, ap, ◌∙◌, subst, append_assoc}
-use Rattle.std.specs.Prelude.{filter}
-use Rattle.std.proofs.lemmas.List.{append-nil, map-append}
+use Rattle.std.proofs.Common.{◌≡◌, ◌≢◌, ℕ, Bool, true, false, cond, List, [], ◌∷◌, ◌++◌, map, sym, ap, ◌∙◌, subst, append_assoc, filter, append-nil}
+use Rattle.std.proofs.lemmas.List.{map-append}
 use Rattle.std.proofs.lemmas.List.Elements.{filter-append}
-use Rattle.euler_operators.specs.declared.Plane.{Plane}
-use Rattle.euler_operators.specs.declared.HalfEdge.{HalfEdge}
-use Rattle.euler_operators.specs.HalfEdge.{code, edge_of}
-use Rattle.euler_operators.specs.Items.{IsIn}
-use Rattle.euler_operators.proofs.Rings.{IsIn_successor}
-use Rattle.euler_operators.specs.Model.{Model, cycle_of, loop_of, point_of}
+use Rattle.euler_operators.specs.Common.{Plane, HalfEdge, code, edge_of, IsIn, Model, cycle_of, loop_of, point_of, Sound, HasHalf}
+use Rattle.euler_operators.proofs.Common.{IsIn_successor}
 use Rattle.euler_operators.specs.Model as model
-use Rattle.euler_operators.specs.Sound.{Sound, HasHalf}
 use Rattle.euler_conditions.proofs.Known.{in_a_loop}
-use Rattle.shapes.specs.Faces.{start, finish}
+use Rattle.shapes.specs.Common.{start, finish}
 use Rattle.split_checks.specs.cut_places.Crossings.{crossings_in, leads_across}
 use Rattle.solid_measure.proofs.face_walks_laws.CycleWalks.{item_there, next_item}
 

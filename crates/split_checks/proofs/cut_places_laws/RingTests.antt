@@ -2,12 +2,9 @@
 use Rattle.std.proofs.Common.{◌≡◌, ◌≢◌, ℕ, Bool, true, false, ◌||◌, ◌∷◌, sym, ap, ◌∙◌}
 use Rattle.std.specs.List.{list_any}
 use Rattle.std.proofs.lemmas.List.Sorted.{list_any-IsPermutation}
-use Rattle.euler_operators.specs.Items.{IsIn}
-use Rattle.euler_operators.specs.Rings.{rotate_to}
-use Rattle.euler_operators.proofs.Rotations.{rotate_to-rotates, IsRotation-permutation}
-use Rattle.euler_operators.specs.Model.{Model, cycle_of, loop_of}
+use Rattle.euler_operators.specs.Common.{IsIn, rotate_to, Model, cycle_of, loop_of, Sound, HasHalf}
+use Rattle.euler_operators.proofs.Common.{rotate_to-rotates, IsRotation-permutation}
 use Rattle.euler_operators.specs.Model as model
-use Rattle.euler_operators.specs.Sound.{Sound, HasHalf}
 use Rattle.split_checks.proofs.cut_places_laws.Met.{or_false, or_joined}
 use Rattle.solid_measure.proofs.face_walks_laws.CycleWalks.{to_come, cycle_apart, item_in, start_is, goes_on, comes_back}
 

@@ -1,12 +1,10 @@
 -- A search in a rising list tells whether a number stands in it.
-use Rattle.std.proofs.Common.{◌≡◌, ◌≢◌, ℕ, ◌≤◌, ◌<◌, true, List, length, get_or, Result, Ok, Err, sym, ap, ◌∙◌, arith, inl, inr, true≢false}
-use Rattle.std.specs.Prelude.{is_ok}
-use Rattle.std.specs.Ordering.{nat_cmp}
+use Rattle.std.proofs.Common.{◌≡◌, ◌≢◌, ℕ, ◌≤◌, ◌<◌, true, List, length, get_or, Result, Ok, Err, sym, ap, ◌∙◌, arith, inl, inr, true≢false, is_ok, nat_cmp}
 use Rattle.std.specs.List.Sorted.{IsBinarySearchResult}
 use Rattle.std.proofs.lemmas.Bool.Decides.{eqb_tells}
 use Rattle.std.proofs.lemmas.List.Sorted.{searched}
-use Rattle.euler_operators.specs.Conditions.{lists, strictly_rises}
-use Rattle.euler_laws.proofs.shared.RisingLists.{rising, listed_at, not_found}
+use Rattle.euler_operators.specs.Common.{lists, strictly_rises}
+use Rattle.euler_laws.proofs.Common.{rising, listed_at, not_found}
 
 less : (a b : ℕ) → a ≤ b → a ≢ b → a < b
 less a b l ne = grind arith

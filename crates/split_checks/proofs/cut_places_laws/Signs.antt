@@ -1,13 +1,7 @@
 -- The signs of numbers tell on which side of a plane points lie.
-use Rattle.std.proofs.Common.{◌≡◌, ℤ, pos, negsuc, Bool, true, false, cond, not, ◌&&◌, ◌||◌, is_eq, Less, Greater, Equal, refl, ap, ◌∙◌, true≢false}
+use Rattle.std.proofs.Common.{◌≡◌, ℤ, pos, negsuc, Bool, true, false, cond, not, ◌&&◌, ◌||◌, is_eq, Less, Greater, Equal, refl, ap, ◌∙◌, true≢false, int_lt, int_eq}
 use lib.Dec.{leb-suc-zero}
-use Rattle.std.specs.Prelude.{int_lt}
-use Rattle.std.specs.Ordering.{int_eq}
-use Rattle.euler_operators.specs.declared.Point.{Point}
-use Rattle.euler_operators.specs.declared.Plane.{Plane}
-use Rattle.euler_operators.specs.declared.Sign.{Sign}
-use Rattle.euler_operators.specs.declared.Sign.TheVariants.{Below, On, Above}
-use Rattle.euler_operators.specs.Vectors.{height, sign_of, opposite}
+use Rattle.euler_operators.specs.Common.{Point, Plane, Sign, Below, On, Above, height, sign_of, opposite}
 use Rattle.split_checks.specs.cut_places.Sides.{same_sign, opposite_signs, lies}
 
 told_below : (a b : Bool) → same_sign (cond a Below (cond b Above On)) Below ≡ a

@@ -1,21 +1,12 @@
 -- The edges of a solid that cross a plane, sorted after a walk over its faces has met them.
-use Rattle.std.proofs.Common.{◌≡◌, ℕ, suc, true, ◌&&◌, List, [], ◌∷◌, refl, ap, ◌∙◌, arith, inl, inr}
-use Rattle.std.specs.List.Sorted.{IsPermutation, IsSorted, IsNonDecreasing}
-use Rattle.std.specs.Ordering.{nat_cmp}
-use Rattle.std.proofs.lemmas.Bool.{lt-ltb}
+use Rattle.std.proofs.Common.{◌≡◌, ℕ, suc, true, ◌&&◌, List, [], ◌∷◌, refl, ap, ◌∙◌, arith, inl, inr, IsPermutation, IsSorted, nat_cmp, lt-ltb}
+use Rattle.std.specs.List.Sorted.{IsNonDecreasing}
 use Rattle.std.proofs.lemmas.List.Sorted.{length_permutation, IsNonDecreasingBy-from_sort}
-use Rattle.euler_operators.specs.declared.Plane.{Plane}
-use Rattle.euler_operators.specs.Items.{tick, IsApart}
-use Rattle.euler_operators.proofs.Lists.{tick_same}
-use Rattle.euler_operators.proofs.Tests.{less_or_same}
-use Rattle.euler_operators.proofs.Std.{SameItems-from_permutation}
-use Rattle.euler_operators.specs.Model.{Model, faces_of}
-use Rattle.euler_operators.specs.Sound.{Sound}
-use Rattle.euler_operators.specs.Conditions.{strictly_rises}
-use Rattle.euler_laws.proofs.shared.RisingLists.{within}
+use Rattle.euler_operators.specs.Common.{Plane, tick, IsApart, Model, faces_of, Sound, strictly_rises}
+use Rattle.euler_operators.proofs.Common.{tick_same, less_or_same, SameItems-from_permutation}
+use Rattle.euler_laws.proofs.Common.{within, IsIn-from_listed, listed-from_in}
 use Rattle.solid_measure.proofs.face_walks_laws.Above.{Rising}
-use Rattle.euler_laws.proofs.shared.Listed.{IsIn-from_listed, listed-from_in}
-use Rattle.shapes.specs.split.Sides.{crossing_edges}
+use Rattle.shapes.specs.Common.{crossing_edges}
 use Rattle.split_checks.specs.cut_places.Crossings.{crossings_met}
 use Rattle.split_checks.proofs.cut_places_laws.Edges.{as_many, met_apart, met_crosses, rising}
 

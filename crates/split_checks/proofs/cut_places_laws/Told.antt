@@ -1,16 +1,8 @@
 -- What is told of faces that were looked at.
-use Rattle.std.specs.Prelude.{take, drop}
-use Rattle.std.specs.List.{find}
-use Rattle.std.specs.Option.{option_map}
-use Rattle.std.proofs.Common.{◌≡◌, ℕ, ◌≤◌, Bool, true, false, cond, List, [], ◌∷◌, map, length, Some, refl, sym, ap, ◌∙◌, arith}
-use Rattle.std.proofs.lemmas.List.{take_at, drop_at, take-map, drop-map, length-map, length-append}
-use Rattle.euler_operators.specs.declared.Plane.{Plane}
-use Rattle.euler_operators.specs.declared.HalfEdge.{HalfEdge}
-use Rattle.euler_operators.specs.HalfEdge.{code}
-use Rattle.euler_operators.specs.Model.{Model}
-use Rattle.shapes.specs.Fresh.{first_such}
-use Rattle.shapes.specs.split.Places.{places}
-use Rattle.shapes.specs.split.Sides.{straddling_faces}
+use Rattle.std.proofs.Common.{◌≡◌, ℕ, ◌≤◌, Bool, true, false, cond, List, [], ◌∷◌, map, length, Some, refl, sym, ap, ◌∙◌, arith, take, drop, find, option_map, take_at, drop_at, length-append}
+use Rattle.std.proofs.lemmas.List.{take-map, drop-map, length-map}
+use Rattle.euler_operators.specs.Common.{Plane, HalfEdge, code, Model}
+use Rattle.shapes.specs.Common.{first_such, places, straddling_faces}
 use Rattle.split_checks.specs.begin_checks.Flaws.{has_flaw, shows, first_showing}
 use Rattle.split_checks.specs.cut_places.Meetings.{face_met, faces_in, all_places, AreTold, IsSolidMet}
 use Rattle.split_checks.specs.declared.begin_checks.flaws.Flaw.{Flaw}

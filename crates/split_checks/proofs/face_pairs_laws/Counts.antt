@@ -1,10 +1,9 @@
 -- How many pairs the cut places of faces make.
-use Rattle.std.proofs.Common.{◌≡◌, ℕ, ◌+◌, ◌/◌, List, [], ◌∷◌, map, length, refl, sym, ap, ◌∙◌}
-use Rattle.std.proofs.lemmas.List.{length-append, length-map}
-use Rattle.euler_operators.specs.declared.Plane.{Plane}
-use Rattle.euler_operators.specs.Model.{Model}
-use Rattle.shapes.specs.split.Places.{places, place_pairs, sorted, sorted_pairs, up_first, pair_count}
-use Rattle.shapes.proofs.split.Sorted.{length-sorted, length-in_pairs}
+use Rattle.std.proofs.Common.{◌≡◌, ℕ, ◌+◌, ◌/◌, List, [], ◌∷◌, map, length, refl, sym, ap, ◌∙◌, length-append}
+use Rattle.std.proofs.lemmas.List.{length-map}
+use Rattle.euler_operators.specs.Common.{Plane, Model}
+use Rattle.shapes.specs.Common.{places, place_pairs, sorted, sorted_pairs, up_first, pair_count}
+use Rattle.shapes.proofs.Common.{length-sorted, length-in_pairs}
 use Rattle.split_checks.specs.Cuts.{all_pairs, codes}
 use Rattle.split_checks.specs.declared.cuts.Pair.{Pair}
 

@@ -1,11 +1,8 @@
 -- What cut places say once they are in order.
 use Rattle.std.proofs.Common.{◌≡◌, ℕ, Bool, true, false, cond, not, ◌||◌, ◌&&◌, List, [], ◌∷◌, map, refl, sym, ap, ◌∙◌, true≢false}
 use Rattle.std.specs.List.{list_all}
-use Rattle.euler_operators.specs.declared.Plane.{Plane}
-use Rattle.euler_operators.specs.Model.{Model}
-use Rattle.euler_operators.specs.Vectors.{same_point, lex_less}
-use Rattle.euler_operators.specs.Conditions.{differ}
-use Rattle.shapes.specs.split.Places.{place_point, goes_up, places, some_meet, sorted, in_pairs, sorted_pairs, is_up_and_down, up_first, is_crossed, place_pairs}
+use Rattle.euler_operators.specs.Common.{Plane, Model, same_point, lex_less, differ}
+use Rattle.shapes.specs.Common.{place_point, goes_up, places, some_meet, sorted, in_pairs, sorted_pairs, is_up_and_down, up_first, is_crossed, place_pairs}
 use Rattle.split_checks.specs.place_order.Order.{are_crossed}
 
 module _ (M : Model) (p : Plane) where

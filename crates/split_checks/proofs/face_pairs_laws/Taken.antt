@@ -1,12 +1,8 @@
 -- Places that are taken two by two.
-use Rattle.std.proofs.Common.{◌≡◌, ℕ, ◌<◌, Bool, ◌&&◌, not, List, [], ◌∷◌, ◌++◌, map, length, refl, sym, ap, ◌∙◌, arith, true, false, true≢false, subst}
+use Rattle.std.proofs.Common.{◌≡◌, ℕ, ◌<◌, Bool, ◌&&◌, not, List, [], ◌∷◌, ◌++◌, map, length, refl, sym, ap, ◌∙◌, arith, true, false, true≢false, subst, append-nil}
 use Rattle.std.specs.List.{list_all}
-use Rattle.std.proofs.lemmas.List.{append-nil}
-use Rattle.euler_operators.specs.declared.Plane.{Plane}
-use Rattle.euler_operators.specs.declared.HalfEdge.{HalfEdge}
-use Rattle.euler_operators.specs.HalfEdge.{code}
-use Rattle.euler_operators.specs.Model.{Model, has_half}
-use Rattle.shapes.specs.split.Places.{in_pairs, is_up_and_down, up_first}
+use Rattle.euler_operators.specs.Common.{Plane, HalfEdge, code, Model, has_half}
+use Rattle.shapes.specs.Common.{in_pairs, is_up_and_down, up_first}
 use Rattle.split_checks.specs.cut_places.Walks.{AreThere}
 use Rattle.split_checks.specs.place_order.Order.{Key, places_of}
 

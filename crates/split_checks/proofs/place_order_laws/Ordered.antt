@@ -1,15 +1,9 @@
 -- What it says of cut places that they are in order.
 use Rattle.std.proofs.Common.{◌≡◌, ℕ, true, false, cond, List, [], ◌∷◌, Option, Some, None, MatchOption, refl, sym, ap, ◌∙◌, subst}
-use Rattle.euler_operators.specs.declared.Plane.{Plane}
-use Rattle.euler_operators.specs.Vectors.{lex_less}
-use Rattle.euler_operators.specs.Items.{IsIn}
-use Rattle.euler_operators.specs.declared.HalfEdge.{HalfEdge}
-use Rattle.euler_operators.specs.Model.{Model}
-use Rattle.euler_operators.specs.Sound.{Sound, HasHalf}
-use Rattle.euler_operators.proofs.Halves.{code-half}
-use Rattle.shapes.specs.Faces.{boundary, loops_of}
-use Rattle.shapes.proofs.walks.FaceLoops.{items_there}
-use Rattle.shapes.specs.split.Places.{is_place, place_point, places, sorted_in, sorted}
+use Rattle.euler_operators.specs.Common.{Plane, lex_less, IsIn, HalfEdge, Model, Sound, HasHalf}
+use Rattle.euler_operators.proofs.Common.{code-half}
+use Rattle.shapes.specs.Common.{boundary, loops_of, is_place, place_point, places, sorted_in, sorted}
+use Rattle.shapes.proofs.Common.{items_there}
 use Rattle.split_checks.specs.cut_places.Places.{IsFaceAlong}
 use Rattle.split_checks.specs.cut_places.Walks.{AreThere}
 use Rattle.split_checks.proofs.cut_places_laws.Lists.{of_picked}

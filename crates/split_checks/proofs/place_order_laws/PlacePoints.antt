@@ -1,16 +1,9 @@
 -- The point of a cut place is where its half-edge starts, or where this crosses the plane.
-use Rattle.std.proofs.Common.{◌≡◌, ℕ, ◌<◌, Bool, true, false, cond, ◌&&◌, ◌||◌, List, map, length, slice_index_or, sym, ap, refl, ◌∙◌, true≢false}
-use Rattle.std.specs.Prelude.{get_or}
+use Rattle.std.proofs.Common.{◌≡◌, ℕ, ◌<◌, Bool, true, false, cond, ◌&&◌, ◌||◌, List, map, length, slice_index_or, sym, ap, refl, ◌∙◌, true≢false, get_or}
 use Rattle.std.proofs.lemmas.List.{get_or-map}
-use Rattle.euler_operators.specs.declared.Plane.{Plane}
-use Rattle.euler_operators.specs.Vectors.{are_opposite, is_on, cut_between}
-use Rattle.euler_operators.specs.declared.HalfEdge.{HalfEdge}
-use Rattle.euler_operators.specs.HalfEdge.{code, plus}
-use Rattle.euler_operators.proofs.Halves.{edge_of-code}
-use Rattle.euler_operators.specs.Model.{Model, before}
-use Rattle.shapes.specs.Faces.{start, finish}
-use Rattle.shapes.specs.split.Sides.{crosses}
-use Rattle.shapes.specs.split.Places.{is_place, place_point}
+use Rattle.euler_operators.specs.Common.{Plane, are_opposite, is_on, cut_between, HalfEdge, code, plus, Model, before}
+use Rattle.euler_operators.proofs.Common.{edge_of-code}
+use Rattle.shapes.specs.Common.{start, finish, crosses, is_place, place_point}
 use Rattle.split_checks.specs.declared.cuts.CutEdge.{CutEdge}
 use Rattle.split_checks.specs.Cuts.{cut_at}
 use Rattle.split_checks.proofs.cut_places_laws.CrossingHalves.{one_cut}

@@ -1,21 +1,13 @@
 -- Places put one by one into a map under their points stand there in the order of `sorted`.
-use Rattle.std.proofs.Common.{◌≡◌, ℕ, Bool, true, false, cond, ◌&&◌, ◌||◌, int_cmp, Ordering, Less, Equal, Greater, List, [], ◌∷◌, ◌++◌, is_some, Option, Some, refl, sym, ap, ◌∙◌, arith, true≢false, subst, append_assoc}
-use Rattle.std.specs.Ordering.{ordering_then, is_eq, is_gt, match_ordering}
+use Rattle.std.proofs.Common.{◌≡◌, ℕ, Bool, true, false, cond, ◌&&◌, ◌||◌, int_cmp, Ordering, Less, Equal, Greater, List, [], ◌∷◌, ◌++◌, is_some, Option, Some, refl, sym, ap, ◌∙◌, arith, true≢false, subst, append_assoc, is_eq, is_gt, append-nil}
+use Rattle.std.specs.Ordering.{ordering_then, match_ordering}
 use Rattle.std.specs.BTreeMap.{insert_entry}
 use Rattle.std.specs.Map.{lookup}
 use Rattle.std.specs.List.{list_any}
-use Rattle.std.proofs.lemmas.List.{append-nil}
 use Rattle.std.proofs.lemmas.Bool.{or_parts}
-use Rattle.euler_operators.specs.declared.Point.{Point}
-use Rattle.euler_operators.specs.declared.Plane.{Plane}
-use Rattle.euler_operators.specs.Vectors.{same_point, lex_less}
-use Rattle.euler_operators.specs.Items.{IsIn}
-use Rattle.euler_operators.proofs.Lists.{count-append, tick_same}
-use Rattle.euler_operators.proofs.Orders.{after_greater, after_equal, turned_greater, turned_equal, equal_is}
-use Rattle.euler_operators.specs.declared.HalfEdge.{HalfEdge}
-use Rattle.euler_operators.specs.HalfEdge.{half}
-use Rattle.euler_operators.specs.Model.{Model}
-use Rattle.shapes.specs.split.Places.{place_point, some_meet, sorted_in, sorted}
+use Rattle.euler_operators.specs.Common.{Point, Plane, same_point, lex_less, IsIn, HalfEdge, half, Model}
+use Rattle.euler_operators.proofs.Common.{count-append, tick_same, after_greater, after_equal, turned_greater, turned_equal, equal_is}
+use Rattle.shapes.specs.Common.{place_point, some_meet, sorted_in, sorted}
 use Rattle.split_checks.specs.place_order.Order.{Key, key, entries_of}
 
 -- the order of keys

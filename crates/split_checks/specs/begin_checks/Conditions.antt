@@ -1,19 +1,12 @@
 -- The conditions with which a split begins, by what their tests look at.
 use Rattle.std.specs.Prelude.{ℕ, not, ◌&&◌, List, [], ◌∷◌, ◌++◌, Option}
 use Rattle.std.specs.List.{list_any}
-use Rattle.euler_operators.specs.declared.Plane.{Plane}
+use Rattle.euler_operators.specs.Common.{Plane, Model, faces_of, Condition, need, never, first_refusal, numbers_in_range}
 use Rattle.euler_operators.specs.Table as table
-use Rattle.euler_operators.specs.Model.{Model, faces_of}
-use Rattle.euler_operators.specs.Conditions.{Condition, need, never, first_refusal, numbers_in_range}
 use Rattle.euler_operators.specs.declared.Refusal.{Refusal}
 use Rattle.euler_operators.specs.declared.Why.TheVariants.{NoSolid, SolidTaken, LoneLoop, NotFlat, PlaneMisses, NotLattice, TouchedFace, CutOften, CutCrossed}
-use Rattle.shapes.specs.Faces.{least_lone}
-use Rattle.shapes.specs.Fresh.{no_such, first_such}
+use Rattle.shapes.specs.Common.{least_lone, no_such, first_such, reaches_above, reaches_below, is_touched, is_cut_often, is_crossed, plane_in_range, cut_conditions, crossing_edges, straddling_faces}
 use Rattle.solid_measure.specs.Measure.{is_flat}
-use Rattle.shapes.specs.split.Sides.{reaches_above, reaches_below}
-use Rattle.shapes.specs.split.Places.{is_touched, is_cut_often, is_crossed}
-use Rattle.shapes.specs.split.Split.{plane_in_range, cut_conditions}
-use Rattle.shapes.specs.split.Sides.{crossing_edges, straddling_faces}
 use Rattle.split_checks.specs.cut_places.Crossings.{is_off}
 
 -- the solid is there, and the other number is free

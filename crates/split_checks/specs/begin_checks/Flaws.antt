@@ -1,10 +1,7 @@
 -- What a face that straddles must not be.
-use Rattle.std.specs.Prelude.{ℕ, Bool, Option, List}
-use Rattle.std.specs.List.{find}
-use Rattle.std.specs.Option.{option_map}
-use Rattle.euler_operators.specs.declared.Plane.{Plane}
-use Rattle.euler_operators.specs.Model.{Model}
-use Rattle.shapes.specs.split.Places.{is_touched, is_cut_often}
+use Rattle.std.specs.Prelude.{ℕ, Bool, Option, List, find, option_map}
+use Rattle.euler_operators.specs.Common.{Plane, Model}
+use Rattle.shapes.specs.Common.{is_touched, is_cut_often}
 use Rattle.split_checks.specs.declared.begin_checks.flaws.Flaw.{Flaw}
 use Rattle.split_checks.specs.declared.begin_checks.flaws.Flaw.TheVariants.{Touched, CutOften}
 use Rattle.split_checks.specs.declared.cut_places.found.FaceMet.{FaceMet}

@@ -1,12 +1,7 @@
 -- The edges that cross a plane, as a walk over faces meets them.
 use Rattle.std.specs.Prelude.{◌≡◌, ℕ, Bool, true, not, ◌&&◌, List, [], ◌∷◌, ◌++◌, map, filter}
-use Rattle.euler_operators.specs.declared.Plane.{Plane}
-use Rattle.euler_operators.specs.Vectors.{cuts_lattice}
-use Rattle.euler_operators.specs.HalfEdge.{plus, edge_of, is_first}
-use Rattle.euler_operators.specs.Model.{Model}
-use Rattle.euler_operators.specs.Sound.{Has}
-use Rattle.shapes.specs.Faces.{boundary, start, finish}
-use Rattle.shapes.specs.split.Sides.{crosses}
+use Rattle.euler_operators.specs.Common.{Plane, cuts_lattice, plus, edge_of, is_first, Model, Has}
+use Rattle.shapes.specs.Common.{boundary, start, finish, crosses}
 
 -- a half-edge is the plus one of an edge that crosses the plane
 abbrev pub leads_across : Model → Plane → ℕ → Bool

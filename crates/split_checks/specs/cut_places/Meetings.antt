@@ -1,14 +1,8 @@
 -- What a plane meets, as a walk over the corners of a solid adds it up.
 use Rattle.std.specs.Prelude.{◌≡◌, ℕ, false, cond, ◌||◌, List, [], ◌∷◌, ◌++◌, map, filter, length}
 use Rattle.std.specs.List.{list_any}
-use Rattle.euler_operators.specs.declared.Plane.{Plane}
-use Rattle.euler_operators.specs.declared.Sign.{Sign}
-use Rattle.euler_operators.specs.declared.Sign.TheVariants.{Below, Above}
-use Rattle.euler_operators.specs.HalfEdge.{code}
-use Rattle.euler_operators.specs.Model.{Model, tail, faces_of}
-use Rattle.shapes.specs.Faces.{boundary}
-use Rattle.shapes.specs.split.Places.{is_place, places, is_touched, is_cut_often}
-use Rattle.shapes.specs.split.Sides.{reaches_above, reaches_below, straddles, straddling_faces, crossing_edges}
+use Rattle.euler_operators.specs.Common.{Plane, Sign, Below, Above, code, Model, tail, faces_of}
+use Rattle.shapes.specs.Common.{boundary, is_place, places, is_touched, is_cut_often, reaches_above, reaches_below, straddles, straddling_faces, crossing_edges}
 use Rattle.split_checks.specs.cut_places.Crossings.{crossings_in, crossings_met}
 use Rattle.split_checks.specs.cut_places.Places.{some_touch}
 use Rattle.split_checks.specs.cut_places.Sides.{same_sign, some_lie}

@@ -1,9 +1,6 @@
 -- The sides of a plane that are noted.
 use Rattle.std.specs.Prelude.{◌≡◌, ◌≢◌, List, [], ◌∷◌}
-use Rattle.euler_operators.specs.declared.Plane.{Plane}
-use Rattle.euler_operators.specs.Vectors.{height, sign_of}
-use Rattle.euler_operators.specs.Model.{Model, point_of}
-use Rattle.euler_operators.specs.Sound.{Has}
+use Rattle.euler_operators.specs.Common.{Plane, height, sign_of, Model, point_of, Has}
 use Rattle.split_checks.specs.declared.cut_places.noted.Noted.{Noted}
 use Rattle.split_checks.specs.declared.cut_places.noted.Sides.{Sides}
 

@@ -1,15 +1,8 @@
 -- Cut places, and faces whose edges cross the plane.
 use Rattle.std.specs.Prelude.{◌≡◌, ℕ, Bool, true, not, ◌&&◌, List, [], ◌∷◌}
 use Rattle.std.specs.List.{list_any}
-use Rattle.euler_operators.specs.declared.Plane.{Plane}
-use Rattle.euler_operators.specs.Vectors.{is_on}
-use Rattle.euler_operators.specs.Items.{IsIn}
-use Rattle.euler_operators.specs.HalfEdge.{edge_of}
-use Rattle.euler_operators.specs.Model.{Model}
-use Rattle.euler_operators.specs.Sound.{Has}
-use Rattle.shapes.specs.Faces.{boundary, start}
-use Rattle.shapes.specs.split.Sides.{crosses}
-use Rattle.shapes.specs.split.Places.{is_place}
+use Rattle.euler_operators.specs.Common.{Plane, is_on, IsIn, edge_of, Model, Has}
+use Rattle.shapes.specs.Common.{boundary, start, crosses, is_place}
 
 -- a half-edge starts on the plane at a corner that is no cut place, and whether one of some does
 abbrev pub touches : Model → Plane → ℕ → Bool

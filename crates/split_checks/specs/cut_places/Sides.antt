@@ -1,13 +1,8 @@
 -- Sides of a plane, as signs.
 use Rattle.std.specs.Prelude.{ℕ, Bool, true, false, cond, List}
 use Rattle.std.specs.List.{list_any}
-use Rattle.euler_operators.specs.declared.Point.{Point}
-use Rattle.euler_operators.specs.declared.Plane.{Plane}
-use Rattle.euler_operators.specs.declared.Sign.{Sign}
-use Rattle.euler_operators.specs.declared.Sign.TheVariants.{Below, On, Above}
-use Rattle.euler_operators.specs.Vectors.{is_above, is_below, is_on}
-use Rattle.euler_operators.specs.Model.{Model, point_of}
-use Rattle.shapes.specs.Faces.{corners, start}
+use Rattle.euler_operators.specs.Common.{Point, Plane, Sign, Below, On, Above, is_above, is_below, is_on, Model, point_of}
+use Rattle.shapes.specs.Common.{corners, start}
 
 abbrev pub same_sign : Sign → Sign → Bool
 same_sign Below Below = true

@@ -1,8 +1,6 @@
 -- Half-edges, loops and faces that are there.
 use Rattle.std.specs.Prelude.{ℕ, List, [], ◌∷◌}
-use Rattle.euler_operators.specs.Table.{Table}
-use Rattle.euler_operators.specs.Model.{Model}
-use Rattle.euler_operators.specs.Sound.{Has, HasHalf}
+use Rattle.euler_operators.specs.Common.{Table, Model, Has, HasHalf}
 
 -- the edge of each half-edge is there
 abbrev pub AreThere : Model → List ℕ → Type 0

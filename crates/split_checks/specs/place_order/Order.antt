@@ -1,16 +1,8 @@
 -- Cut places under their points, as entries of a map.
 use Rattle.std.specs.Prelude.{◌≡◌, ℕ, ℤ, Bool, true, not, ◌||◌, List, map}
 use Rattle.std.specs.List.{list_all}
-use Rattle.euler_operators.specs.declared.Point.{Point}
-use Rattle.euler_operators.specs.declared.Plane.{Plane}
-use Rattle.euler_operators.specs.Items.{IsIn}
-use Rattle.euler_operators.specs.declared.HalfEdge.{HalfEdge}
-use Rattle.euler_operators.specs.HalfEdge.{code, half, edge_of}
-use Rattle.euler_operators.specs.Model.{Model}
-use Rattle.euler_operators.specs.Sound.{HasHalf}
-use Rattle.euler_operators.specs.Conditions.{strictly_rises}
-use Rattle.shapes.specs.split.Sides.{crosses}
-use Rattle.shapes.specs.split.Places.{is_place, place_point, some_meet, sorted, in_pairs, is_up_and_down}
+use Rattle.euler_operators.specs.Common.{Point, Plane, IsIn, HalfEdge, code, half, edge_of, Model, HasHalf, strictly_rises}
+use Rattle.shapes.specs.Common.{crosses, is_place, place_point, some_meet, sorted, in_pairs, is_up_and_down}
 use Rattle.split_checks.specs.declared.cuts.CutEdge.{CutEdge}
 use Rattle.split_checks.specs.Cuts.{cut_at}
 

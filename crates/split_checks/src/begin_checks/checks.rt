@@ -1,17 +1,14 @@
 //! The conditions with which a split begins, in the order in which they are tested.
 ghost use Rattle.std.specs.Prelude.{◌≡◌, ◌&&◌, map, None, Some, IfErr, IfOk, OnErr};
-ghost use Rattle.euler_operators.specs.HalfEdge.{code};
+ghost use Rattle.euler_operators.specs.Common.{code, first_refusal, verdict, IsCutPlane};
 ghost use Rattle.euler_conditions.specs.Ready.{IsReady};
-ghost use Rattle.euler_operators.specs.Conditions.{first_refusal, verdict};
-ghost use Rattle.euler_operators.specs.Ranges.{IsCutPlane};
 ghost use Rattle.split_checks.specs.Cuts.{AreCuts, all_pairs, codes, paired_face};
 ghost use Rattle.split_checks.specs.begin_checks.Conditions.{early_refusal, face_conditions, number_conditions, sectioning_conditions, solid_conditions};
 ghost use Rattle.split_checks.specs.cut_places.Meetings.{AreTold, IsSolidMet, faces_in};
 ghost use Rattle.split_checks.specs.cut_places.Noted.{AreSides};
 ghost use Rattle.split_checks.specs.cut_places.Places.{AreFacesAlong};
 ghost use Rattle.split_checks.specs.place_order.Order.{AreCrossings};
-ghost use Rattle.shapes.specs.split.Sides.{crossing_edges, straddling_faces};
-ghost use Rattle.shapes.specs.split.Split.{cut_conditions, first_conditions};
+ghost use Rattle.shapes.specs.Common.{crossing_edges, straddling_faces, cut_conditions, first_conditions};
 
 use crate::begin_checks::crossings::cut_edges;
 use crate::begin_checks::flaws::{Flaw, first_flawed};

@@ -1,8 +1,8 @@
 //! The edges that cross a plane, each with the point at which it meets it.
 ghost use Rattle.std.specs.Prelude.{◌≡◌, is_none, map, None, Some, IfErr, IfOk, IfSome};
 ghost use Rattle.euler_conditions.specs.Ready.{IsReady};
-ghost use Rattle.euler_operators.specs.Ranges.{IsCutPlane};
-ghost use Rattle.shapes.specs.Fresh.{first_such};
+ghost use Rattle.euler_operators.specs.Common.{IsCutPlane};
+ghost use Rattle.shapes.specs.Common.{first_such};
 ghost use Rattle.split_checks.specs.Cuts.{cut_at};
 ghost use Rattle.split_checks.specs.cut_places.Crossings.{AreCrossing, IsCrossing, is_off};
 

@@ -1,8 +1,8 @@
 //! Numbers that are left.
 ghost use Rattle.std.specs.Prelude.{◌≡◌, ◌+◌, ◌≤◌};
 ghost use Rattle.euler_conditions.specs.Ready.{IsReady};
-ghost use Rattle.euler_operators.specs.Conditions.{first_refusal, verdict};
-ghost use Rattle.shapes.specs.Fresh.{numbers_left, taken_in};
+ghost use Rattle.euler_operators.specs.Common.{first_refusal, verdict};
+ghost use Rattle.shapes.specs.Common.{numbers_left, taken_in};
 
 use euler_conditions::Arena;
 use euler_operators::{NUMBER_LIMIT, Refusal};

@@ -1,9 +1,7 @@
 //! The range of a plane that splits.
 ghost use Rattle.std.specs.Prelude.{◌≡◌, not};
-ghost use Rattle.euler_operators.specs.Conditions.{first_refusal, verdict};
-ghost use Rattle.euler_operators.specs.Points.{is_coordinate};
-ghost use Rattle.euler_operators.specs.Vectors.{direction, is_offset, origin, same_point};
-ghost use Rattle.shapes.specs.split.Split.{plane_in_range};
+ghost use Rattle.euler_operators.specs.Common.{first_refusal, verdict, is_coordinate, direction, is_offset, origin, same_point};
+ghost use Rattle.shapes.specs.Common.{plane_in_range};
 
 use euler_operators::{Plane, Refusal, Why, refused};
 

@@ -1,12 +1,9 @@
 //! On which side of a plane a face has corners.
 ghost use Rattle.std.specs.Prelude.{◌≡◌, true, false};
-ghost use Rattle.euler_operators.specs.HalfEdge.{code};
-ghost use Rattle.euler_operators.specs.Model.{content, cycle_of, has_half};
-ghost use Rattle.euler_operators.specs.Ranges.{IsCutPlane};
-ghost use Rattle.euler_operators.specs.declared.Sign.TheVariants.{Above, Below};
+ghost use Rattle.euler_operators.specs.Common.{code, content, cycle_of, has_half, IsCutPlane, Above, Below};
 ghost use Rattle.euler_conditions.specs.Ready.{IsReady};
 ghost use Rattle.euler_conditions.specs.Store.{has_number};
-ghost use Rattle.shapes.specs.Faces.{vertices_on};
+ghost use Rattle.shapes.specs.Common.{vertices_on};
 ghost use Rattle.split_checks.specs.cut_places.Noted.{AreSides};
 ghost use Rattle.split_checks.specs.cut_places.Sides.{reaches, side_reached, some_lie, some_start};
 

@@ -1,13 +1,9 @@
 //! What an arena and a plane say of a half-edge whose edge is there.
 ghost use Rattle.std.specs.Prelude.{◌≡◌, true};
-ghost use Rattle.euler_operators.specs.HalfEdge.{code};
-ghost use Rattle.euler_operators.specs.Model.{before, has_half};
+ghost use Rattle.euler_operators.specs.Common.{code, before, has_half, IsCutPlane, are_opposite, height, sign_of};
 ghost use Rattle.euler_conditions.specs.Ready.{IsReady};
-ghost use Rattle.euler_operators.specs.Ranges.{IsCutPlane};
-ghost use Rattle.euler_operators.specs.Vectors.{are_opposite, height, sign_of};
-ghost use Rattle.shapes.specs.Faces.{finish, start};
+ghost use Rattle.shapes.specs.Common.{finish, start, goes_up};
 ghost use Rattle.split_checks.specs.cut_places.Noted.{AreSides};
-ghost use Rattle.shapes.specs.split.Places.{goes_up};
 
 use crate::cut_places::noted::{Sides, start_side};
 use crate::cut_places::planes::{opposite, same};

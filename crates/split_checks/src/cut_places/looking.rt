@@ -1,13 +1,9 @@
 //! The corners of a loop looked at once, each with the next one.
 ghost use Rattle.std.specs.Prelude.{◌≡◌, ◌∷◌, [], true, IfOk, OnOk};
-ghost use Rattle.euler_operators.specs.HalfEdge.{code};
-ghost use Rattle.euler_operators.specs.Model.{content, cycle_of, has_half, items_of, tail};
-ghost use Rattle.euler_operators.specs.Ranges.{IsCutPlane};
-ghost use Rattle.euler_operators.specs.Vectors.{height, sign_of};
+ghost use Rattle.euler_operators.specs.Common.{code, content, cycle_of, has_half, items_of, tail, IsCutPlane, height, sign_of};
 ghost use Rattle.euler_conditions.specs.Ready.{IsReady};
 ghost use Rattle.euler_conditions.specs.Store.{has_number};
-ghost use Rattle.shapes.specs.Faces.{finish, start, vertices_on};
-ghost use Rattle.shapes.specs.split.Places.{loop_is_cut};
+ghost use Rattle.shapes.specs.Common.{finish, start, vertices_on, loop_is_cut};
 ghost use Rattle.split_checks.specs.cut_places.Meetings.{IsMet, IsRound, with_side};
 ghost use Rattle.split_checks.specs.cut_places.Noted.{AreSides};
 

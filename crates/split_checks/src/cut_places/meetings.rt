@@ -1,12 +1,10 @@
 //! What a plane meets of a solid, found in one walk over its faces.
 ghost use Rattle.std.specs.Prelude.{◌≡◌, ◌&&◌, ◌||◌, [], true, false, not, nat_eq, IfOk, OnOk};
 ghost use Rattle.std.specs.List.{list_all};
-ghost use Rattle.euler_operators.specs.Model.{rings_of};
-ghost use Rattle.euler_operators.specs.Ranges.{IsCutPlane};
+ghost use Rattle.euler_operators.specs.Common.{rings_of, IsCutPlane};
 ghost use Rattle.euler_conditions.specs.Ready.{IsReady};
 ghost use Rattle.euler_conditions.specs.Store.{has_number};
-ghost use Rattle.shapes.specs.Faces.{boundary, corners, items_in, vertices_in};
-ghost use Rattle.shapes.specs.split.Places.{is_cut_often, loop_is_cut};
+ghost use Rattle.shapes.specs.Common.{boundary, corners, items_in, vertices_in, is_cut_often, loop_is_cut};
 ghost use Rattle.split_checks.specs.cut_places.Meetings.{IsFaceMet, IsMet, IsSolidMet, unmarked};
 ghost use Rattle.split_checks.specs.cut_places.Noted.{AreSides};
 

@@ -1,13 +1,9 @@
 //! The sides of a plane on which vertices lie, noted so that they needn't be computed again.
 ghost use Rattle.std.specs.Prelude.{◌≡◌, true};
-ghost use Rattle.euler_operators.specs.HalfEdge.{code};
-ghost use Rattle.euler_operators.specs.Model.{Model, has_half, point_of};
-ghost use Rattle.euler_operators.specs.Ranges.{IsCutPlane};
-ghost use Rattle.euler_operators.specs.Vectors.{height, sign_of};
-ghost use Rattle.euler_operators.specs.declared.Plane.{Plane};
+ghost use Rattle.euler_operators.specs.Common.{code, Model, has_half, point_of, IsCutPlane, height, sign_of, Plane};
 ghost use Rattle.euler_conditions.specs.Ready.{IsReady};
 ghost use Rattle.euler_conditions.specs.Store.{has_number};
-ghost use Rattle.shapes.specs.Faces.{start};
+ghost use Rattle.shapes.specs.Common.{start};
 ghost use Rattle.split_checks.specs.cut_places.Noted.{AreSides};
 
 use crate::cut_places::planes::side_of;

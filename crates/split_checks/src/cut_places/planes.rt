@@ -1,8 +1,6 @@
 //! The sides of a plane.
 ghost use Rattle.std.specs.Prelude.{◌≡◌, ◌*ℤ◌, true};
-ghost use Rattle.euler_operators.specs.Points.{IsInRange, is_coordinate};
-ghost use Rattle.euler_operators.specs.Ranges.{IsCutPlane, IsWithin};
-ghost use Rattle.euler_operators.specs.Vectors.{height, sign_of};
+ghost use Rattle.euler_operators.specs.Common.{IsInRange, is_coordinate, IsCutPlane, IsWithin, height, sign_of};
 ghost use Rattle.split_checks.specs.cut_places.Sides.{opposite_signs, same_sign};
 
 use euler_operators::{Plane, Point, Sign};

@@ -1,10 +1,8 @@
 //! The pairs of the cut places of some faces.
 ghost use Rattle.std.specs.Prelude.{◌≡◌, map, None, Some, IfErr, IfOk};
-ghost use Rattle.euler_operators.specs.HalfEdge.{code};
-ghost use Rattle.euler_operators.specs.Ranges.{IsCutPlane};
+ghost use Rattle.euler_operators.specs.Common.{code, IsCutPlane};
 ghost use Rattle.euler_conditions.specs.Ready.{IsReady};
-ghost use Rattle.shapes.specs.Fresh.{first_such};
-ghost use Rattle.shapes.specs.split.Places.{is_crossed};
+ghost use Rattle.shapes.specs.Common.{first_such, is_crossed};
 ghost use Rattle.split_checks.specs.Cuts.{all_pairs, codes, paired_face};
 ghost use Rattle.split_checks.specs.cut_places.Meetings.{AreTold, faces_in};
 ghost use Rattle.split_checks.specs.cut_places.Noted.{AreSides};

@@ -1,12 +1,9 @@
 //! The pairs of the cut places of one face.
 ghost use Rattle.std.specs.Prelude.{◌≡◌, ◌||◌, ◌∷◌, ◌++◌, [], true, not, is_none, is_some, map, Ok, IfOk, IfSome};
 ghost use Rattle.std.specs.List.{list_all};
-ghost use Rattle.euler_operators.specs.HalfEdge.{code};
-ghost use Rattle.euler_operators.specs.Model.{has_half};
-ghost use Rattle.euler_operators.specs.Ranges.{IsCutPlane};
-ghost use Rattle.euler_operators.specs.Vectors.{same_point};
+ghost use Rattle.euler_operators.specs.Common.{code, has_half, IsCutPlane, same_point};
 ghost use Rattle.euler_conditions.specs.Ready.{IsReady};
-ghost use Rattle.shapes.specs.split.Places.{in_pairs, is_up_and_down, place_point, sorted, up_first};
+ghost use Rattle.shapes.specs.Common.{in_pairs, is_up_and_down, place_point, sorted, up_first};
 ghost use Rattle.split_checks.specs.Cuts.{codes};
 ghost use Rattle.split_checks.specs.cut_places.Noted.{AreSides};
 ghost use Rattle.split_checks.specs.cut_places.Walks.{AreThere};

@@ -1,11 +1,10 @@
 //! The points of cut places.
 ghost use Rattle.std.specs.Prelude.{◌≡◌};
-ghost use Rattle.euler_operators.specs.HalfEdge.{code};
+ghost use Rattle.euler_operators.specs.Common.{code, IsCutPlane};
 ghost use Rattle.euler_conditions.specs.Ready.{IsReady};
-ghost use Rattle.euler_operators.specs.Ranges.{IsCutPlane};
 ghost use Rattle.split_checks.specs.cut_places.Noted.{AreSides};
 ghost use Rattle.split_checks.specs.place_order.Order.{AreCrossings, IsPlaceAlong, key};
-ghost use Rattle.shapes.specs.split.Places.{place_point};
+ghost use Rattle.shapes.specs.Common.{place_point};
 
 use crate::cut_places::{Sides, same, start_side};
 use crate::cuts::Crossings;

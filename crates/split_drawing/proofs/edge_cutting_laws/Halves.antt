@@ -1,13 +1,9 @@
 -- The operator that cuts an edge, as the code has it.
 use Rattle.std.proofs.Common.{◌≡◌, ℕ, ◌+◌, sym, ap, subst, ◌∙◌}
-use Rattle.euler_operators.specs.declared.HalfEdge.{HalfEdge}
-use Rattle.euler_operators.specs.declared.Corner.TheVariants.{At}
-use Rattle.euler_operators.specs.HalfEdge.{code, half, edge_of, plus, minus}
-use Rattle.euler_operators.specs.Model.{Model, after}
-use Rattle.euler_operators.specs.Sound.{Has}
-use Rattle.euler_operators.proofs.Halves.{half-code, code-half, edge_of-code, minus_row}
+use Rattle.euler_operators.specs.Common.{HalfEdge, At, code, half, edge_of, plus, minus, Model, after, Has}
+use Rattle.euler_operators.proofs.Common.{half-code, code-half, edge_of-code, minus_row}
 use Rattle.euler_operators.specs.declared.Op.TheVariants.{Mev}
-use Rattle.shapes.specs.Fresh.{Taken, taken_in}
+use Rattle.shapes.specs.Common.{Taken, taken_in}
 use Rattle.solid_walks.specs.Counters.{taken_of}
 use Rattle.solid_walks.specs.declared.numbers.Counters.{Counters}
 use Rattle.split_checks.specs.declared.cuts.CutEdge.{CutEdge}

@@ -1,27 +1,10 @@
 -- Edges that are still to be cut.
 use Rattle.std.proofs.Common.{◌≡◌, ℕ, ◌+◌, ◌≤◌, List, [], ◌∷◌, length, map, slice_index_or, None, refl, sym, ap, ◌∙◌, subst, arith}
-use Rattle.euler_operators.specs.declared.Point.{Point}
-use Rattle.euler_operators.specs.declared.Plane.{Plane}
-use Rattle.euler_operators.specs.declared.Corner.TheVariants.{At}
+use Rattle.euler_operators.specs.Common.{Point, Plane, At, IsCutPlane, are_opposite, cut_between, count, half, plus, minus, Model, after, no_point, Sound, AllHold, first_false, effect}
 use Rattle.euler_operators.specs.declared.Op.TheVariants.{Mev}
-use Rattle.euler_operators.specs.Ranges.{IsCutPlane}
-use Rattle.euler_operators.specs.Vectors.{are_opposite, cut_between}
-use Rattle.euler_operators.proofs.Magnitudes.{coordinate_within, offset_within}
-use Rattle.euler_operators.specs.Items.{count}
-use Rattle.euler_operators.proofs.Lists.{tick_same}
-use Rattle.euler_operators.proofs.Halves.{mate_plus}
-use Rattle.euler_operators.proofs.Models.{plus_there, minus_there}
-use Rattle.euler_operators.specs.HalfEdge.{half, plus, minus}
-use Rattle.euler_operators.specs.Model.{Model, after, no_point}
-use Rattle.euler_operators.specs.Sound.{Sound}
-use Rattle.euler_operators.specs.Conditions.{AllHold, first_false}
-use Rattle.euler_operators.specs.Effect.{effect}
-use Rattle.euler_laws.proofs.shared.Goes.{all_hold}
-use Rattle.shapes.specs.Faces.{start, finish}
-use Rattle.shapes.specs.Fresh.{Taken, taken_in, Growing, growing}
-use Rattle.shapes.specs.split.Sides.{crossing_edges}
-use Rattle.shapes.specs.split.Crossings.{next_cut, all_cut, with_crossings}
-use Rattle.shapes.specs.split.Split.{first_conditions}
+use Rattle.euler_operators.proofs.Common.{coordinate_within, offset_within, tick_same, mate_plus, plus_there, minus_there}
+use Rattle.euler_laws.proofs.Common.{all_hold}
+use Rattle.shapes.specs.Common.{start, finish, Taken, taken_in, Growing, growing, crossing_edges, next_cut, all_cut, with_crossings, first_conditions}
 use Rattle.split_drawing_laws.specs.crossings.CrossingOps.{cut_edge}
 use Rattle.split_drawing_laws.proofs.crossings.Steps.{CutGoes, cut_accepted, cut_made}
 use Rattle.split_drawing_laws.proofs.crossings.Runs.{cut_at, Crossing, Going, kept_start, goes_now, next_model, going_on}

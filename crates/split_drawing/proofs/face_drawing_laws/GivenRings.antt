@@ -1,11 +1,9 @@
 -- Rings of a face: whether they stop its drawing, and rings given one after the other.
 use Rattle.std.proofs.Common.{◌≡◌, ℕ, ◌≤◌, ◌<◌, true, false, ◌&&◌, List, [], ◌∷◌, length, slice_index_or, None, not, nat_lt, sym, ap, ◌∙◌, subst, arith}
 use Rattle.std.proofs.lemmas.Bool.Decides.{nat_tests}
-use Rattle.euler_operators.specs.Model.{Model, rings_of}
+use Rattle.euler_operators.specs.Common.{Model, rings_of, first_false, has_rings, is_empty, effect}
 use Rattle.euler_operators.specs.declared.Op.TheVariants.{RingIn}
-use Rattle.euler_operators.specs.Conditions.{first_false, has_rings, is_empty}
-use Rattle.euler_operators.specs.Effect.{effect}
-use Rattle.euler_operators.proofs.Tests.{and_false}
+use Rattle.euler_operators.proofs.Common.{and_false}
 use Rattle.euler_laws.specs.Laws.{AreAccepted, effects}
 use Rattle.split_drawing_laws.specs.drawings.DrawingOps.{ring_ops}
 use Rattle.split_checks.proofs.cut_places_laws.Lists.{others, parts}

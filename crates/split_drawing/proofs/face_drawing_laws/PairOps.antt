@@ -1,11 +1,8 @@
 -- Operators on pairs as the code writes them.
 use Rattle.std.proofs.Common.{◌≡◌, ℕ, ◌+◌, true, false, cond, sym, ap, ◌∙◌}
-use Rattle.euler_operators.specs.declared.Corner.TheVariants.{At}
-use Rattle.euler_operators.specs.HalfEdge.{code, half, plus}
-use Rattle.euler_operators.specs.Model.{Model, loop_of, is_ring_of}
-use Rattle.euler_operators.proofs.Halves.{half-code}
+use Rattle.euler_operators.specs.Common.{At, code, half, plus, Model, loop_of, is_ring_of, face_at}
+use Rattle.euler_operators.proofs.Common.{half-code}
 use Rattle.euler_operators.specs.declared.Op.TheVariants.{Mef, Mekr}
-use Rattle.euler_operators.specs.Conditions.{face_at}
 use Rattle.solid_walks.proofs.face_walks_laws.HalfCodes.{code_plus}
 use Rattle.split_drawing_laws.specs.drawings.DrawingOps.{join_edge, join_pair, draw_pair}
 use Rattle.split_checks.specs.declared.cuts.Pair.{Pair}

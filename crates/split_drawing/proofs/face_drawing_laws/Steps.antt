@@ -1,11 +1,7 @@
 -- One pair more in each of the two passes.
-use Rattle.std.proofs.Common.{◌≡◌, ℕ, ◌+◌, ◌≤◌, true, false, List, [], ◌∷◌, ◌++◌, None, sym, ap, ◌∙◌, subst, arith}
-use Rattle.std.specs.Prelude.{fold}
-use Rattle.euler_operators.specs.Model.{Model}
-use Rattle.euler_operators.specs.Sound.{HasHalf}
-use Rattle.euler_operators.specs.Conditions.{first_false}
-use Rattle.euler_operators.specs.Effect.{effect}
-use Rattle.shapes.specs.split.Drawing.{Drawing, in_one_loop, joined_pair, join_next, draw_next, stuck_at}
+use Rattle.std.proofs.Common.{◌≡◌, ℕ, ◌+◌, ◌≤◌, true, false, List, [], ◌∷◌, ◌++◌, None, sym, ap, ◌∙◌, subst, arith, fold}
+use Rattle.euler_operators.specs.Common.{Model, HasHalf, first_false, effect}
+use Rattle.shapes.specs.Common.{Drawing, in_one_loop, joined_pair, join_next, draw_next, stuck_at}
 use Rattle.split_drawing_laws.specs.drawings.DrawingOps.{join_pair, draw_pair}
 use Rattle.split_drawing_laws.proofs.drawings.Runs.{Leads}
 use Rattle.split_drawing_laws.proofs.drawings.Pairs.{pair_leads, pair_draws}

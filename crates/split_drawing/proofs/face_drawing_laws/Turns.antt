@@ -1,10 +1,7 @@
 -- The next pair of a list as the code opens it, in each of the two passes.
-use Rattle.std.proofs.Common.{◌≡◌, ℕ, ◌+◌, ◌≤◌, Bool, true, false, List, [], ◌∷◌, ◌++◌, length, map, slice_index_or, None, sym, ap, ◌∙◌, subst}
-use Rattle.std.specs.Prelude.{fold}
-use Rattle.euler_operators.specs.Model.{Model}
-use Rattle.euler_operators.specs.Conditions.{first_false}
-use Rattle.euler_operators.specs.Effect.{effect}
-use Rattle.shapes.specs.split.Drawing.{Drawing, in_one_loop, join_next, draw_next}
+use Rattle.std.proofs.Common.{◌≡◌, ℕ, ◌+◌, ◌≤◌, Bool, true, false, List, [], ◌∷◌, ◌++◌, length, map, slice_index_or, None, sym, ap, ◌∙◌, subst, fold}
+use Rattle.euler_operators.specs.Common.{Model, first_false, effect}
+use Rattle.shapes.specs.Common.{Drawing, in_one_loop, join_next, draw_next}
 use Rattle.split_drawing_laws.specs.drawings.DrawingOps.{join_pair, draw_pair}
 use Rattle.split_checks.proofs.cut_places_laws.Lists.{others, parts}
 use Rattle.split_checks.specs.declared.cuts.Pair.{Pair}

@@ -1,10 +1,8 @@
 -- The next of some faces as the code opens it.
-use Rattle.std.proofs.Common.{◌≡◌, ◌≤◌, ◌+◌, List, ◌∷◌, length, map, sym, ap, ◌∙◌, [], subst, arith}
-use Rattle.std.specs.Prelude.{take, drop}
-use Rattle.std.proofs.lemmas.List.{take-map, drop-map, length-drop}
-use Rattle.euler_operators.specs.declared.Plane.{Plane}
-use Rattle.euler_operators.specs.Model.{Model}
-use Rattle.shapes.specs.split.Drawing.{drawn_between, next_drawn, faces_drawn}
+use Rattle.std.proofs.Common.{◌≡◌, ◌≤◌, ◌+◌, List, ◌∷◌, length, map, sym, ap, ◌∙◌, [], subst, arith, take, drop, length-drop}
+use Rattle.std.proofs.lemmas.List.{take-map, drop-map}
+use Rattle.euler_operators.specs.Common.{Plane, Model}
+use Rattle.shapes.specs.Common.{drawn_between, next_drawn, faces_drawn}
 use Rattle.split_checks.specs.declared.cuts.Pair.{Pair}
 use Rattle.split_checks.specs.declared.cuts.PairedFace.{PairedFace}
 use Rattle.split_checks.specs.declared.progress.Progress.{Progress}

@@ -1,9 +1,7 @@
 -- Faces drawn between their pairs, one after the other.
 use Rattle.std.proofs.Common.{◌≡◌, ℕ, List, [], ◌∷◌, map, refl, subst, arith}
-use Rattle.euler_operators.specs.declared.Plane.{Plane}
-use Rattle.euler_operators.specs.Table.{Table}
-use Rattle.euler_operators.specs.Sound.{Has}
-use Rattle.shapes.specs.split.Drawing.{Drawing, FacePairs, drawn_between, next_drawn, faces_drawn}
+use Rattle.euler_operators.specs.Common.{Plane, Table, Has}
+use Rattle.shapes.specs.Common.{Drawing, FacePairs, drawn_between, next_drawn, faces_drawn}
 use Rattle.split_drawing_laws.specs.drawings.Passing.{Ready, Drawable}
 use Rattle.split_drawing_laws.proofs.drawings.Faces.{face_goes}
 use Rattle.split_drawing_laws.proofs.drawings.Whole.{next_is, ready, drawable_on}

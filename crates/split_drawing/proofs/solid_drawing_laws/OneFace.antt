@@ -1,18 +1,11 @@
 -- One face drawn between its pairs, step by step as the code does it.
-use Rattle.std.proofs.Common.{◌≡◌, ℕ, Bool, true, false, cond, ◌&&◌, nat_eq, nat_lt, List, [], length, map, ◌≢◌, refl, sym, ap, ◌∙◌, subst}
-use Rattle.std.proofs.lemmas.Bool.{ne_eqb, eq-eqb}
+use Rattle.std.proofs.Common.{◌≡◌, ℕ, Bool, true, false, cond, ◌&&◌, nat_eq, nat_lt, List, [], length, map, ◌≢◌, refl, sym, ap, ◌∙◌, subst, ne_eqb, eq-eqb, fold}
 use Rattle.std.proofs.lemmas.List.{length-map}
-use Rattle.std.specs.Prelude.{fold}
-use Rattle.euler_operators.specs.declared.Plane.{Plane}
+use Rattle.euler_operators.specs.Common.{Plane, Model, content, Has, has_rings}
 use Rattle.euler_operators.specs.Table as table
-use Rattle.euler_operators.specs.Model.{Model, content}
-use Rattle.euler_operators.specs.Sound.{Has}
-use Rattle.euler_operators.specs.Conditions.{has_rings}
 use Rattle.euler_laws.specs.Laws.{AreAccepted}
-use Rattle.shapes.specs.Faces.{vertices_on}
-use Rattle.shapes.specs.split.Sides.{some_above}
+use Rattle.shapes.specs.Common.{vertices_on, some_above, Drawing, join_next, draw_next, all_joined, ring_free, all_drawn, rings_above, with_rings, rings_shared, drawn_between}
 use Rattle.shapes.specs.split.Drawing as drawing
-use Rattle.shapes.specs.split.Drawing.{Drawing, join_next, draw_next, all_joined, ring_free, all_drawn, rings_above, with_rings, rings_shared, drawn_between}
 use Rattle.split_drawing_laws.specs.drawings.DrawingOps.{ring_ops}
 use Rattle.split_drawing_laws.proofs.drawings.Faces.{begun_joining, joins, going, going_on, fitting_on, last, newer_face}
 use Rattle.split_drawing_laws.proofs.drawings.Rings.{Moved, rings_move, rings_are, rings_apart}

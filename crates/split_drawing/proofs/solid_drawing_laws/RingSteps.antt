@@ -1,13 +1,11 @@
 -- Rings of a face given to a new one.
 use Rattle.std.proofs.Common.{◌≡◌, ℕ, Bool, true, false, ◌&&◌, not, nat_eq, List, [], ◌∷◌, Some, refl, sym, ◌∙◌}
 use Rattle.euler_operators.specs.Table as table
-use Rattle.euler_operators.specs.Model.{Model, face_of, outer}
-use Rattle.euler_operators.specs.Sound.{Has}
+use Rattle.euler_operators.specs.Common.{Model, face_of, outer, Has, effect}
 use Rattle.euler_operators.specs.declared.Op.TheVariants.{RingIn}
-use Rattle.euler_operators.specs.Effect.{effect}
 use Rattle.euler_laws.specs.Laws.{effects}
 use Rattle.euler_conditions.specs.Store.{IsNextRing}
-use Rattle.shapes.specs.split.Drawing.{with_rings}
+use Rattle.shapes.specs.Common.{with_rings}
 use Rattle.split_drawing_laws.specs.drawings.DrawingOps.{ring_ops}
 use Rattle.split_drawing_laws.proofs.drawings.Drawn.{ring_moved}
 

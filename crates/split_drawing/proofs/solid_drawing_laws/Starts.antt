@@ -1,17 +1,11 @@
 -- The cut places of the faces that straddle, in pairs, once the edges that cross the plane are cut.
-use Rattle.std.proofs.Common.{◌≡◌, ℕ, ◌+◌, Bool, true, false, cond, List, [], ◌∷◌, ◌++◌, length, map, refl, sym, ap, ◌∙◌, arith}
-use Rattle.std.proofs.lemmas.List.{length-append, length-map, map-append, take_at, drop_at}
-use Rattle.euler_operators.specs.declared.Plane.{Plane}
-use Rattle.euler_operators.specs.Items.{IsIn}
-use Rattle.euler_operators.proofs.Lists.{tick_same}
-use Rattle.euler_operators.specs.Model.{Model}
-use Rattle.euler_operators.specs.Sound.{Sound, HasHalf}
-use Rattle.shapes.proofs.walks.FaceLoops.{items_there}
-use Rattle.shapes.specs.Faces.{loops_of, boundary}
-use Rattle.shapes.specs.split.Places.{is_place, places, goes_up, sorted, in_pairs, sorted_pairs, up_first, place_pairs}
-use Rattle.shapes.specs.split.Drawing.{FacePairs, drawn_pairs, all_pairs}
+use Rattle.std.proofs.Common.{◌≡◌, ℕ, ◌+◌, Bool, true, false, cond, List, [], ◌∷◌, ◌++◌, length, map, refl, sym, ap, ◌∙◌, arith, length-append, take_at, drop_at}
+use Rattle.std.proofs.lemmas.List.{length-map, map-append}
+use Rattle.euler_operators.specs.Common.{Plane, IsIn, Model, Sound, HasHalf}
+use Rattle.euler_operators.proofs.Common.{tick_same}
+use Rattle.shapes.proofs.Common.{items_there, count-sorted}
+use Rattle.shapes.specs.Common.{loops_of, boundary, is_place, places, goes_up, sorted, in_pairs, sorted_pairs, up_first, place_pairs, FacePairs, drawn_pairs, all_pairs}
 use Rattle.split_drawing_laws.specs.crossings.Kept.{Kept}
-use Rattle.shapes.proofs.split.Sorted.{count-sorted}
 use Rattle.split_checks.proofs.cut_places_laws.Lists.{of_picked}
 use Rattle.split_checks.specs.Cuts as split_checks
 use Rattle.split_checks.specs.Cuts.{how_many_pairs, paired, paired_face}

@@ -1,17 +1,10 @@
 -- A solid drawn, from its edges cut to its last face.
 use Rattle.std.proofs.Common.{◌≡◌, ◌≤◌, ℕ, [], is_some, length, map, refl, sym, ap, ◌∙◌, subst, arith, nat_eq, List}
 use Rattle.std.proofs.lemmas.List.{length-map}
-use Rattle.euler_operators.specs.declared.Plane.{Plane}
-use Rattle.euler_operators.specs.Items.{IsIn}
-use Rattle.euler_operators.specs.Model.{Model, faces_of}
-use Rattle.euler_operators.specs.Sound.{Sound, Has}
-use Rattle.shapes.specs.Fresh.{taken_in}
-use Rattle.shapes.specs.split.Sides.{straddles, straddling_faces}
-use Rattle.shapes.specs.split.Crossings.{with_crossings}
-use Rattle.shapes.specs.split.Drawing.{Drawing, faces_drawn, undrawn, straddling_pairs, with_drawings}
+use Rattle.euler_operators.specs.Common.{Plane, IsIn, Model, faces_of, Sound, Has}
+use Rattle.shapes.specs.Common.{taken_in, straddles, straddling_faces, with_crossings, Drawing, faces_drawn, undrawn, straddling_pairs, with_drawings}
 use Rattle.split_drawing_laws.specs.crossings.Kept.{Kept}
-use Rattle.euler_laws.proofs.shared.Counted.{all_where_has}
-use Rattle.euler_laws.proofs.shared.Listed.{IsIn-from_listed}
+use Rattle.euler_laws.proofs.Common.{all_where_has, IsIn-from_listed}
 use Rattle.split_drawing_laws.proofs.crossings.Whole.{crossings_keep, crossings_counted}
 use Rattle.split_drawing_laws.proofs.drawings.Counted.{faces_are as faces_same}
 use Rattle.split_drawing_laws.proofs.drawings.Whole.{drawable}

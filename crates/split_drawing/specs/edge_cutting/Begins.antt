@@ -1,12 +1,9 @@
 -- When a plane can begin to split a solid, and how an edge is cut.
 use Rattle.std.specs.Prelude.{ℕ, ◌+◌}
-use Rattle.euler_operators.specs.declared.Plane.{Plane}
-use Rattle.euler_operators.specs.declared.Corner.TheVariants.{At}
+use Rattle.euler_operators.specs.Common.{Plane, At, half, plus, minus, Model, after}
 use Rattle.euler_operators.specs.declared.Op.{Op}
 use Rattle.euler_operators.specs.declared.Op.TheVariants.{Mev}
-use Rattle.euler_operators.specs.HalfEdge.{half, plus, minus}
-use Rattle.euler_operators.specs.Model.{Model, after}
-use Rattle.shapes.specs.Fresh.{taken_in}
+use Rattle.shapes.specs.Common.{taken_in}
 use Rattle.split_drawing_laws.specs.crossings.Laws.{CanBegin}
 use Rattle.split_checks.specs.declared.cuts.CutEdge.{CutEdge}
 

@@ -1,8 +1,7 @@
 -- When the two passes over the pairs of a face can go on.
 use Rattle.std.specs.Prelude.{ℕ, List}
-use Rattle.euler_operators.specs.Model.{Model}
-use Rattle.euler_operators.specs.Sound.{Sound}
-use Rattle.shapes.specs.split.Drawing.{Drawing}
+use Rattle.euler_operators.specs.Common.{Model, Sound}
+use Rattle.shapes.specs.Common.{Drawing}
 use Rattle.split_drawing_laws.specs.drawings.Pairs.{AllFit}
 use Rattle.split_drawing_laws.specs.drawings.Passing.{Joining, Going}
 

@@ -1,8 +1,7 @@
 -- Faces drawn between their pairs, one after the other.
 use Rattle.std.specs.Prelude.{ℕ, List, [], map}
-use Rattle.euler_operators.specs.declared.Plane.{Plane}
-use Rattle.euler_operators.specs.Sound.{Has}
-use Rattle.shapes.specs.split.Drawing.{Drawing, FacePairs}
+use Rattle.euler_operators.specs.Common.{Plane, Has}
+use Rattle.shapes.specs.Common.{Drawing, FacePairs}
 use Rattle.split_drawing_laws.specs.drawings.Passing.{Ready, Drawable}
 use Rattle.split_checks.specs.cut_places.Walks.{AreIn}
 

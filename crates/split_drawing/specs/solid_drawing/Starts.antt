@@ -1,9 +1,7 @@
 -- Pairs of cut places, and of the half-edges that start there once the edges that cross the plane are cut.
 use Rattle.std.specs.Prelude.{ℕ, List, [], ◌∷◌, map}
-use Rattle.euler_operators.specs.declared.Plane.{Plane}
-use Rattle.euler_operators.specs.Model.{Model}
-use Rattle.euler_operators.specs.Sound.{HasHalf}
-use Rattle.shapes.specs.split.Drawing.{from_place}
+use Rattle.euler_operators.specs.Common.{Plane, Model, HasHalf}
+use Rattle.shapes.specs.Common.{from_place}
 
 -- what starts at the places of a pair, and of some pairs
 abbrev pub pair_started : Model → Plane → ℕ × ℕ → ℕ × ℕ

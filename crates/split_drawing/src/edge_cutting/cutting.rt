@@ -1,11 +1,8 @@
 //! Edges cut one after the other in a draft.
 ghost use Rattle.std.specs.Prelude.{◌≡◌, ◌≤◌, ◌+◌, None, IfOk, OnOk, OnErr, map};
-ghost use Rattle.euler_operators.specs.Conditions.{first_false};
-ghost use Rattle.euler_operators.specs.Sound.{Has, Sound};
-ghost use Rattle.shapes.specs.Fresh.{taken_in};
+ghost use Rattle.euler_operators.specs.Common.{first_false, Has, Sound};
+ghost use Rattle.shapes.specs.Common.{taken_in, with_crossings, crossing_edges};
 ghost use Rattle.undo_journal.specs.Journal.{after_step, IsFurther};
-ghost use Rattle.shapes.specs.split.Crossings.{with_crossings};
-ghost use Rattle.shapes.specs.split.Sides.{crossing_edges};
 ghost use Rattle.solid_walks.specs.Counters.{taken_of};
 ghost use Rattle.split_checks.specs.Cuts.{cut_at};
 ghost use Rattle.split_drawing.specs.edge_cutting.Begins.{CanBeCut, cut_op};

@@ -1,8 +1,8 @@
 //! The second pass over the pairs of a face: each pair that is left cuts a new face off.
 ghost use Rattle.std.specs.Prelude.{◌≡◌, ◌≤◌, ◌+◌, None, OnOk, OnErr, IfOk, fold, map};
-ghost use Rattle.euler_operators.specs.Conditions.{first_false};
+ghost use Rattle.euler_operators.specs.Common.{first_false};
 ghost use Rattle.undo_journal.specs.Journal.{after_step, IsFurther};
-ghost use Rattle.shapes.specs.split.Drawing.{draw_next};
+ghost use Rattle.shapes.specs.Common.{draw_next};
 ghost use Rattle.split_drawing_laws.specs.drawings.DrawingOps as ops;
 ghost use Rattle.split_checks.specs.Cuts.{codes};
 ghost use Rattle.split_drawing.specs.face_drawing.Stuck.{stuck_at};

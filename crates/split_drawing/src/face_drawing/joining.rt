@@ -1,10 +1,8 @@
 //! The first pass over the pairs of a face: pairs in different loops are joined.
 ghost use Rattle.std.specs.Prelude.{◌≡◌, ◌≤◌, ◌+◌, true, [], None, OnOk, OnErr, IfOk, fold, map};
-ghost use Rattle.euler_operators.specs.HalfEdge.{code};
-ghost use Rattle.euler_operators.specs.Model.{has_half};
-ghost use Rattle.euler_operators.specs.Conditions.{first_false};
+ghost use Rattle.euler_operators.specs.Common.{code, has_half, first_false};
 ghost use Rattle.undo_journal.specs.Journal.{after_step, IsFurther};
-ghost use Rattle.shapes.specs.split.Drawing.{join_next};
+ghost use Rattle.shapes.specs.Common.{join_next};
 ghost use Rattle.split_drawing_laws.specs.drawings.DrawingOps as ops;
 ghost use Rattle.split_checks.specs.Cuts.{codes};
 ghost use Rattle.split_checks.specs.Progress.{drawing_of};

@@ -1,7 +1,7 @@
 //! Rings of a face while it is drawn.
 ghost use Rattle.std.specs.Prelude.{◌≡◌, ◌&&◌, true, cond, nat_lt, OnOk};
 ghost use Rattle.euler_laws.specs.Laws.{AreAccepted, effects};
-ghost use Rattle.euler_operators.specs.Conditions.{has_rings};
+ghost use Rattle.euler_operators.specs.Common.{has_rings};
 ghost use Rattle.euler_conditions.specs.Store.{has_number};
 ghost use Rattle.split_drawing_laws.specs.drawings.DrawingOps.{ring_ops};
 ghost use Rattle.split_drawing.specs.face_drawing.Stuck.{stuck_at};

@@ -1,7 +1,7 @@
 //! A face drawn between its pairs.
 ghost use Rattle.std.specs.Prelude.{◌≡◌, [], map, IfOk, OnOk};
-ghost use Rattle.euler_operators.specs.Ranges.{IsCutPlane};
-ghost use Rattle.shapes.specs.split.Drawing.{drawn_between};
+ghost use Rattle.euler_operators.specs.Common.{IsCutPlane};
+ghost use Rattle.shapes.specs.Common.{drawn_between};
 ghost use Rattle.split_checks.specs.Cuts.{codes};
 ghost use Rattle.split_checks.specs.cut_places.Noted.{AreSides};
 ghost use Rattle.split_checks.specs.Progress.{drawing_of};

@@ -1,10 +1,8 @@
 //! The half-edges that start at cut places, once the edges that cross the plane are cut.
 ghost use Rattle.std.specs.Prelude.{◌≡◌, true, map, IfOk};
-ghost use Rattle.euler_operators.specs.HalfEdge.{code};
-ghost use Rattle.euler_operators.specs.Model.{has_half};
+ghost use Rattle.euler_operators.specs.Common.{code, has_half, IsCutPlane};
 ghost use Rattle.euler_conditions.specs.Ready.{IsReady};
-ghost use Rattle.euler_operators.specs.Ranges.{IsCutPlane};
-ghost use Rattle.shapes.specs.split.Drawing.{from_place};
+ghost use Rattle.shapes.specs.Common.{from_place};
 ghost use Rattle.split_checks.specs.Cuts.{codes};
 ghost use Rattle.split_checks.specs.cut_places.Noted.{AreSides};
 ghost use Rattle.split_drawing.specs.solid_drawing.Starts.{PairsThere, pair_started, pairs_started};

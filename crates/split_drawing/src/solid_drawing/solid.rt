@@ -1,7 +1,7 @@
 //! A solid cut and drawn.
 ghost use Rattle.std.specs.Prelude.{◌≡◌, ◌≤◌, [], length, map, IfOk, OnOk};
-ghost use Rattle.euler_operators.specs.Ranges.{IsCutPlane};
-ghost use Rattle.shapes.specs.split.Drawing.{faces_drawn, with_drawings};
+ghost use Rattle.euler_operators.specs.Common.{IsCutPlane};
+ghost use Rattle.shapes.specs.Common.{faces_drawn, with_drawings};
 ghost use Rattle.split_drawing.specs.edge_cutting.Begins.{CanBeCut};
 ghost use Rattle.split_checks.specs.Progress.{drawing_of};
 ghost use Rattle.split_checks.specs.Cuts.{AreCuts, codes, how_many_pairs, paired};

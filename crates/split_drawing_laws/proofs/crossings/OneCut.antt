@@ -1,33 +1,13 @@
 -- The lists of an edge that is cut: what mev puts before an item and what is put after its neighbour.
-use Rattle.std.specs.Prelude.{flat_map}
-use Rattle.std.specs.Option.{option_map}
-use Rattle.std.specs.Ordering.{nat_cmp}
 use Rattle.std.specs.FinMap.Entries.{find}
-use Rattle.std.proofs.Common.{◌≡◌, ℕ, ◌+◌, ◌≤◌, false, cond, nat_eq, List, [], ◌∷◌, ◌++◌, refl, sym, ap, ◌∙◌, arith, ◌≢◌, suc, ◌*◌, true, length, Option, Some, None, is_some, true≢false}
+use Rattle.std.proofs.Common.{◌≡◌, ℕ, ◌+◌, ◌≤◌, false, cond, nat_eq, List, [], ◌∷◌, ◌++◌, refl, sym, ap, ◌∙◌, arith, ◌≢◌, suc, ◌*◌, true, length, Option, Some, None, is_some, true≢false, flat_map, option_map, nat_cmp}
 use Rattle.std.proofs.lemmas.Bool.Decides.{nat_tests}
 use Rattle.std.proofs.lemmas.Option.{same_Some}
-use Rattle.euler_operators.specs.Items.{count, tick, IsIn, IsApart}
-use Rattle.euler_operators.specs.Rings.{rotate_to, canonical, rest, successor}
-use Rattle.euler_operators.specs.Edits.{insert_before, insert_after}
-use Rattle.euler_operators.specs.HalfEdge.{plus, minus, edge_of}
-use Rattle.euler_operators.specs.declared.Point.{Point}
+use Rattle.euler_operators.specs.Common.{count, tick, IsIn, IsApart, rotate_to, canonical, rest, successor, insert_before, insert_after, plus, minus, edge_of, Point, Table, same_table, get-map_rows, Model, LoopContent, lone, cycle, LoopRow, EdgeRow, items_of, holds, tail, loop_of, content, face_of, cycle_of, after, arc, Sound, Has, HasHalf, mev_at, with_before, with_tails, edge_row}
 use Rattle.euler_operators.specs.Table as table
-use Rattle.euler_operators.specs.Table.{Table, same_table, get-map_rows}
-use Rattle.euler_operators.specs.Model.{Model, LoopContent, lone, cycle, LoopRow, EdgeRow, items_of, holds, tail, loop_of, content, face_of, cycle_of, after, arc}
-use Rattle.euler_operators.specs.Sound.{Sound, Has, HasHalf}
-use Rattle.euler_operators.specs.Effect.{mev_at, with_before, with_tails, edge_row}
-use Rattle.euler_operators.proofs.Edits.{insert_before-rotates, insert_after-rotates, count-insert_before, count-insert_after}
-use Rattle.euler_operators.proofs.Operators.{apart_front}
-use Rattle.euler_operators.proofs.Rings.{rotation_at, IsIn_successor}
-use Rattle.euler_operators.proofs.Tests.{nat_eq_turned}
-use Rattle.euler_operators.proofs.Rotations.{canonical_same, IsRotation-trans, rotate_to_same, rotate_to_head, count-canonical}
-use Rattle.euler_operators.proofs.Lists.{tick_same, tick_other}
-use Rattle.euler_operators.proofs.Tables.{map_one, put_turned, row_some}
-use Rattle.euler_operators.proofs.Models.{content_row, row_of, not_held, other_loop, in-holds, holds-none, none-holds, cycle_there, cycle_sound, minus_tail_row, plus_there, minus_there}
-use Rattle.euler_operators.proofs.Halves.{plus_row, minus_row, mate_plus}
-use Rattle.euler_laws.proofs.shared.Rows.{where_held_none, where_held_there, edge_row_plus}
-use Rattle.shapes.specs.split.Crossings.{doubled, edge_cut}
-use Rattle.shapes.specs.Rewriting.{rewritten, rewritten_row}
+use Rattle.euler_operators.proofs.Common.{insert_before-rotates, insert_after-rotates, count-insert_before, count-insert_after, apart_front, rotation_at, IsIn_successor, nat_eq_turned, canonical_same, IsRotation-trans, rotate_to_same, rotate_to_head, count-canonical, tick_same, tick_other, map_one, put_turned, row_some, content_row, row_of, not_held, other_loop, in-holds, holds-none, none-holds, cycle_there, cycle_sound, minus_tail_row, plus_there, minus_there, plus_row, minus_row, mate_plus}
+use Rattle.euler_laws.proofs.Common.{where_held_none, where_held_there, edge_row_plus}
+use Rattle.shapes.specs.Common.{doubled, edge_cut, rewritten, rewritten_row}
 
 pub tick_is : (x y : ℕ) → x ≡ y → tick x y ≡ 1
 tick_is x y e = grind (arith, nat_tests)

@@ -1,33 +1,13 @@
 -- Lists that tests pick from, and the items and corners of faces.
-use Rattle.std.specs.Prelude.{filter, int_lt}
 use Rattle.std.specs.List.{list_any, list_all}
-use Rattle.std.proofs.Common.{◌≡◌, ℕ, ◌+◌, ◌≤◌, Bool, true, false, cond, not, nat_eq, ◌&&◌, ◌||◌, List, [], ◌∷◌, refl, sym, ap, ◌∙◌, subst, arith, inl, inr, ◌≢◌, ℤ, pos, length, is_some, ◌⊎◌, true≢false, None}
+use Rattle.std.proofs.Common.{◌≡◌, ℕ, ◌+◌, ◌≤◌, Bool, true, false, cond, not, nat_eq, ◌&&◌, ◌||◌, List, [], ◌∷◌, refl, sym, ap, ◌∙◌, subst, arith, inl, inr, ◌≢◌, ℤ, pos, length, is_some, ◌⊎◌, true≢false, None, filter, int_lt, eq-eqb, eqb-true}
 use Rattle.std.proofs.lemmas.Bool.Decides.{eqb_tells}
-use Rattle.std.proofs.lemmas.Bool.{eq-eqb, not-false, eqb-true}
-use Rattle.euler_operators.specs.Items.{count, tick, IsIn}
-use Rattle.euler_operators.specs.Model.{Model, items_of, content, tail, face_of, loop_of, solid_of, before, faces_of}
-use Rattle.euler_operators.specs.Sound.{Has, Sound, HasHalf, StandsIn}
-use Rattle.euler_operators.specs.declared.Plane.{Plane}
-use Rattle.euler_operators.specs.Points.{IsInRange}
-use Rattle.euler_operators.specs.Vectors.{height, opposite, are_opposite, is_on, same_point, cuts_lattice, cut_between}
-use Rattle.euler_operators.specs.HalfEdge.{plus, minus}
-use Rattle.euler_operators.specs.Conditions.{AllHold, face_at}
-use Rattle.euler_operators.proofs.Lists.{count-append, tick_same, tick_other}
-use Rattle.euler_operators.proofs.Halves.{mate_plus, mate_minus}
-use Rattle.euler_operators.proofs.Models.{held_row, cycle_there, plus_there, minus_there, solid_row}
-use Rattle.euler_operators.proofs.Members.{IsIn-filter, count-filter, filter_passes}
-use Rattle.euler_operators.proofs.Crossings.{same_as, cut_back, opposite_back, not_level, level_is, cut_fits}
-use Rattle.euler_operators.proofs.Tables.{row_some}
-use Rattle.euler_laws.proofs.shared.Goes.{not_false, no_zero}
-use Rattle.euler_laws.proofs.shared.Rows.{loop_row, face_there, point_row}
-use Rattle.euler_laws.proofs.shared.Counted.{all_where_in, all_where_has}
-use Rattle.shapes.specs.Faces.{loops_of, items_in, boundary, corners, start, finish, edges_of}
-use Rattle.shapes.specs.Fresh.{first_such, taken_in}
-use Rattle.shapes.specs.split.Sides.{crosses, straddles, straddling_faces, crossing_edges}
-use Rattle.shapes.specs.split.Places.{is_place, place_point, places, some_meet, is_touched, is_cut_often, is_crossed, is_up_and_down, sorted_pairs, pair_count}
-use Rattle.shapes.specs.split.Split.{first_conditions}
-use Rattle.shapes.proofs.walks.FaceLoops.{tail_in}
-use Rattle.shapes.proofs.fresh.Tests.{none_found, none_such, Left, numbers_are_left}
+use Rattle.std.proofs.lemmas.Bool.{not-false}
+use Rattle.euler_operators.specs.Common.{count, tick, IsIn, Model, items_of, content, tail, face_of, loop_of, solid_of, before, faces_of, Has, Sound, HasHalf, StandsIn, Plane, IsInRange, height, opposite, are_opposite, is_on, same_point, cuts_lattice, cut_between, plus, minus, AllHold, face_at}
+use Rattle.euler_operators.proofs.Common.{count-append, tick_same, tick_other, mate_plus, mate_minus, held_row, cycle_there, plus_there, minus_there, solid_row, IsIn-filter, count-filter, filter_passes, same_as, cut_back, opposite_back, not_level, level_is, cut_fits, row_some}
+use Rattle.euler_laws.proofs.Common.{not_false, no_zero, loop_row, face_there, point_row, all_where_in, all_where_has}
+use Rattle.shapes.specs.Common.{loops_of, items_in, boundary, corners, start, finish, edges_of, first_such, taken_in, crosses, straddles, straddling_faces, crossing_edges, is_place, place_point, places, some_meet, is_touched, is_cut_often, is_crossed, is_up_and_down, sorted_pairs, pair_count, first_conditions}
+use Rattle.shapes.proofs.Common.{tail_in, none_found, none_such, Left, numbers_are_left}
 use Rattle.solid_measure_laws.proofs.Cuts.{cut_on}
 use Rattle.split_drawing_laws.proofs.crossings.Runs.{Crossing}
 

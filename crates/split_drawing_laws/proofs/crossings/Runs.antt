@@ -1,26 +1,12 @@
 -- Edges cut one after the other.
 use Rattle.std.proofs.Common.{◌≡◌, ◌≢◌, ℕ, ◌+◌, ◌≤◌, ◌<◌, true, false, pos, List, [], ◌∷◌, length, None, is_some, unwrap_or, IsTrue, refl, sym, ap, ◌∙◌, subst, arith, ◌⊎◌, inl, inr}
 use Rattle.std.proofs.lemmas.Bool.Decides.{eqb_tells}
-use Rattle.euler_operators.specs.declared.Point.{Point}
-use Rattle.euler_operators.specs.declared.Plane.{Plane}
-use Rattle.euler_operators.specs.Points.{IsInRange}
-use Rattle.euler_operators.specs.Vectors.{height, cut_between}
-use Rattle.euler_operators.specs.Items.{count, tick, IsIn}
-use Rattle.euler_operators.proofs.Lists.{tick_same, tick_other}
-use Rattle.euler_operators.specs.HalfEdge.{mate, edge_of, plus, minus}
+use Rattle.euler_operators.specs.Common.{Point, Plane, IsInRange, height, cut_between, count, tick, IsIn, mate, edge_of, plus, minus, Model, tail, loop_of, point_of, no_point, is_number, Sound, Has, HasHalf}
+use Rattle.euler_operators.proofs.Common.{tick_same, tick_other, plus_row, minus_row, edge_of-mate, mate_plus, plus_there, minus_there, plus_edge, level_first, level_second}
 use Rattle.euler_operators.specs.Table as table
-use Rattle.euler_operators.specs.Model.{Model, tail, loop_of, point_of, no_point, is_number}
-use Rattle.euler_operators.specs.Sound.{Sound, Has, HasHalf}
-use Rattle.euler_operators.proofs.Halves.{plus_row, minus_row, edge_of-mate, mate_plus}
-use Rattle.euler_operators.proofs.Models.{plus_there, minus_there, plus_edge}
-use Rattle.euler_operators.proofs.Crossings.{level_first, level_second}
 use Rattle.euler_laws.specs.Laws.{AreAccepted, effects}
-use Rattle.shapes.proofs.fresh.Rows.{none_above}
-use Rattle.shapes.proofs.fresh.Tests.{number_fits}
-use Rattle.shapes.specs.Faces.{start, finish}
-use Rattle.shapes.specs.Fresh.{taken_in, Growing}
-use Rattle.shapes.specs.split.Sides.{crosses}
-use Rattle.shapes.specs.split.Crossings.{edge_cut, next_cut, all_cut}
+use Rattle.shapes.proofs.Common.{none_above, number_fits}
+use Rattle.shapes.specs.Common.{start, finish, taken_in, Growing, crosses, edge_cut, next_cut, all_cut}
 use Rattle.split_drawing_laws.specs.crossings.CrossingOps.{cut_edge, ops_from}
 use Rattle.split_drawing_laws.specs.crossings.Kept.{Kept}
 use Rattle.split_drawing_laws.proofs.crossings.Steps.{CutGoes, cut_accepted, cut_made, cut_sound, cut_keeps, edge_other, point_new, tail_old, tail_new, tail_other, taken_then}

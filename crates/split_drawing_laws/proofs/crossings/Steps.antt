@@ -1,34 +1,14 @@
 -- One edge cut: the operator that does it, and what stays.
-use Rattle.std.specs.Prelude.{flat_map}
-use Rattle.std.proofs.Common.{◌≡◌, ◌≢◌, ℕ, ◌≤◌, true, List, [], ◌∷◌, Some, None, is_some, unwrap_or, IsTrue, refl, sym, ap, ◌∙◌, subst, arith, inl, inr, true≢false, ◌<◌}
+use Rattle.std.proofs.Common.{◌≡◌, ◌≢◌, ℕ, ◌≤◌, true, List, [], ◌∷◌, Some, None, is_some, unwrap_or, IsTrue, refl, sym, ap, ◌∙◌, subst, arith, inl, inr, true≢false, ◌<◌, flat_map}
 use Rattle.std.proofs.lemmas.Bool.Decides.{eqb_tells}
-use Rattle.euler_operators.specs.declared.Point.{Point}
-use Rattle.euler_operators.specs.Points.{IsInRange}
-use Rattle.euler_operators.specs.Items.{count, IsIn}
-use Rattle.euler_operators.specs.Rings.{rotate_to, canonical}
-use Rattle.euler_operators.specs.declared.Corner.TheVariants.{At}
-use Rattle.euler_operators.specs.HalfEdge.{edge_of, is_first, plus, minus, half}
+use Rattle.euler_operators.specs.Common.{Point, IsInRange, count, IsIn, rotate_to, canonical, At, edge_of, is_first, plus, minus, half, Model, LoopContent, EdgeRow, items_of, holds, tail, tail_in, loop_of, content, after, point_of, no_point, is_number, Sound, Has, HasHalf, first_false, effect, mev_at, Table}
 use Rattle.euler_operators.specs.Table as table
-use Rattle.euler_operators.specs.Model.{Model, LoopContent, EdgeRow, items_of, holds, tail, tail_in, loop_of, content, after, point_of, no_point, is_number}
-use Rattle.euler_operators.specs.Sound.{Sound, Has, HasHalf}
 use Rattle.euler_operators.specs.declared.Op.{Op}
 use Rattle.euler_operators.specs.declared.Op.TheVariants.{Mev}
-use Rattle.euler_operators.specs.Conditions.{first_false}
-use Rattle.euler_operators.specs.Effect.{effect, mev_at}
-use Rattle.euler_operators.specs.Table.{Table}
-use Rattle.euler_operators.proofs.Lists.{count-append, tick_same, tick_other}
-use Rattle.euler_operators.proofs.Rotations.{count-canonical}
-use Rattle.euler_operators.proofs.Halves.{plus_row, minus_row, code-half, mate_minus}
-use Rattle.euler_operators.proofs.Models.{in-holds, holds_in, tail_row, plus_there, minus_there}
-use Rattle.euler_operators.proofs.Tables.{get-put_here, get-put_other, greatest-map, put_turned}
-use Rattle.euler_laws.proofs.shared.Same.{Rewritten, content-new, face-same, loop-same}
-use Rattle.euler_laws.proofs.mev.MevSound.{MevGoes}
-use Rattle.euler_laws.proofs.mev.Mev.{mev_accepted}
-use Rattle.euler_laws.proofs.Cases.{effect_keeps_sound}
-use Rattle.shapes.specs.Rewriting.{rewritten, rewritten_row}
-use Rattle.shapes.specs.split.Crossings.{doubled, edge_cut}
-use Rattle.shapes.specs.Fresh.{taken_in}
-use Rattle.shapes.proofs.fresh.Rows.{greatest-put_last, greatest_is, greatest_used, free_above, at_most_greatest}
+use Rattle.euler_operators.proofs.Common.{count-append, tick_same, tick_other, count-canonical, plus_row, minus_row, code-half, mate_minus, in-holds, holds_in, tail_row, plus_there, minus_there, get-put_here, get-put_other, greatest-map, put_turned}
+use Rattle.euler_laws.proofs.Common.{Rewritten, content-new, face-same, loop-same, MevGoes, mev_accepted, effect_keeps_sound}
+use Rattle.shapes.specs.Common.{rewritten, rewritten_row, doubled, edge_cut, taken_in}
+use Rattle.shapes.proofs.Common.{greatest-put_last, greatest_is, greatest_used, free_above, at_most_greatest}
 use Rattle.split_drawing_laws.specs.crossings.Kept.{Kept}
 use Rattle.split_drawing_laws.proofs.crossings.OneCut.{tick_is, CanCut, cut_is_mev, next_half}
 

@@ -1,35 +1,13 @@
 -- All edges of a solid that cross a plane cut: from the first conditions of a split to the model.
-use Rattle.std.specs.Prelude.{filter}
-use Rattle.std.proofs.Common.{◌≡◌, ℕ, Bool, true, false, nat_eq, [], None, is_some, unwrap_or, refl, sym, ap, ◌∙◌, arith, inl, inr, cond, ◌&&◌, ◌||◌, subst}
-use Rattle.std.proofs.lemmas.Bool.{eqb-true, false_from_ne_true, and_parts}
-use Rattle.euler_operators.specs.declared.Plane.{Plane}
-use Rattle.euler_operators.specs.Vectors.{are_opposite, height, is_on, cut_between}
-use Rattle.euler_operators.specs.Items.{count, IsIn}
-use Rattle.euler_operators.specs.HalfEdge.{plus, minus, edge_of}
+use Rattle.std.proofs.Common.{◌≡◌, ℕ, Bool, true, false, nat_eq, [], None, is_some, unwrap_or, refl, sym, ap, ◌∙◌, arith, inl, inr, cond, ◌&&◌, ◌||◌, subst, filter, eqb-true}
+use Rattle.std.proofs.lemmas.Bool.{false_from_ne_true, and_parts}
+use Rattle.euler_operators.specs.Common.{Plane, are_opposite, height, is_on, cut_between, count, IsIn, plus, minus, edge_of, Model, tail, loop_of, face_of, solid_of, no_face, after, before, point_of, Sound, Has, HasHalf, first_refusal, face_at, lists}
 use Rattle.euler_operators.specs.Table as table
-use Rattle.euler_operators.specs.Model.{Model, tail, loop_of, face_of, solid_of, no_face, after, before, point_of}
-use Rattle.euler_operators.specs.Sound.{Sound, Has, HasHalf}
-use Rattle.euler_operators.specs.Conditions.{first_refusal, face_at, lists}
-use Rattle.euler_operators.proofs.Halves.{mate_plus, mate_minus}
-use Rattle.euler_operators.proofs.Members.{IsIn-filter, count-filter, filter_passes}
-use Rattle.euler_operators.proofs.Models.{plus_there, minus_there}
-use Rattle.euler_operators.proofs.Lists.{IsIn_or_not}
-use Rattle.euler_operators.proofs.Crossings.{opposite_turned, level_on, not_level}
+use Rattle.euler_operators.proofs.Common.{mate_plus, mate_minus, IsIn-filter, count-filter, filter_passes, plus_there, minus_there, IsIn_or_not, opposite_turned, level_on, not_level}
 use Rattle.euler_laws.specs.Laws.{AreAccepted, effects}
-use Rattle.euler_laws.proofs.shared.Goes.{all_hold}
-use Rattle.euler_laws.proofs.shared.Listed.{all_where-rises, IsIn-from_listed, listed-from_in}
-use Rattle.euler_laws.proofs.shared.Counted.{counted_once, none_counted, all_where_has}
-use Rattle.euler_laws.proofs.shared.Arcs.{halves_of_edge}
-use Rattle.euler_laws.proofs.shared.Fans.{half_after, loop_after}
-use Rattle.shapes.specs.Faces.{start, edges_of, finish, loops_of, boundary}
-use Rattle.shapes.specs.Fresh.{taken_in, growing}
-use Rattle.shapes.specs.split.Sides.{crosses, crossing_edges, straddling_faces}
-use Rattle.shapes.specs.split.Crossings.{with_crossings}
-use Rattle.shapes.specs.split.Split.{first_conditions}
-use Rattle.shapes.specs.split.Places.{is_place, place_point, places}
-use Rattle.shapes.specs.split.Drawing.{from_place}
-use Rattle.shapes.proofs.walks.SolidFaces.{face_of_loop}
-use Rattle.shapes.proofs.walks.FaceLoops.{items_counted, items_there}
+use Rattle.euler_laws.proofs.Common.{all_hold, all_where-rises, IsIn-from_listed, listed-from_in, counted_once, none_counted, all_where_has, halves_of_edge, half_after, loop_after}
+use Rattle.shapes.specs.Common.{start, edges_of, finish, loops_of, boundary, taken_in, growing, crosses, crossing_edges, straddling_faces, with_crossings, first_conditions, is_place, place_point, places, from_place}
+use Rattle.shapes.proofs.Common.{face_of_loop, items_counted, items_there}
 use Rattle.split_drawing_laws.specs.crossings.CrossingOps.{crossing_ops}
 use Rattle.split_drawing_laws.specs.crossings.Kept.{Kept}
 use Rattle.split_drawing_laws.specs.crossings.AtPlace.{AtPlace}

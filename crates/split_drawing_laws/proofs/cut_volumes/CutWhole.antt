@@ -1,44 +1,18 @@
 -- Edges cut at points between their ends: the areas of loops, the normals and planes of faces and the volumes of solids stay.
-use Rattle.std.specs.Prelude.{flat_map}
-use Rattle.std.proofs.Common.{◌≡◌, ◌≢◌, ℕ, true, not, nat_eq, ◌&&◌, List, [], ◌∷◌, unwrap_or, refl, sym, ap, ◌∙◌, ◌⊎◌, inl, inr, subst, arith, ◌+◌, None}
+use Rattle.std.proofs.Common.{◌≡◌, ◌≢◌, ℕ, true, not, nat_eq, ◌&&◌, List, [], ◌∷◌, unwrap_or, refl, sym, ap, ◌∙◌, ◌⊎◌, inl, inr, subst, arith, ◌+◌, None, flat_map}
 use Rattle.std.proofs.lemmas.Bool.Decides.{eqb_tells}
-use Rattle.euler_operators.specs.declared.Point.{Point}
-use Rattle.euler_operators.specs.declared.Plane.{Plane}
-use Rattle.euler_operators.specs.Vectors.{origin, moved, cross, is_on, are_opposite, cuts_lattice, same_point, direction}
-use Rattle.euler_operators.specs.Items.{IsIn, count}
-use Rattle.euler_operators.specs.Rings.{canonical}
-use Rattle.euler_operators.specs.HalfEdge.{mate, edge_of, plus, minus}
-use Rattle.euler_operators.specs.Model.{Model, LoopContent, lone, cycle, no_face, items_of, tail, content, outer, point_of, rings_of, loop_of, face_of, solid_of, faces_of}
-use Rattle.euler_operators.specs.Sound.{HasHalf, Has, Sound}
+use Rattle.euler_operators.specs.Common.{Point, Plane, origin, moved, cross, is_on, are_opposite, cuts_lattice, same_point, direction, IsIn, count, canonical, mate, edge_of, plus, minus, Model, LoopContent, lone, cycle, no_face, items_of, tail, content, outer, point_of, rings_of, loop_of, face_of, solid_of, faces_of, HasHalf, Has, Sound, face_at, AllHold, first_refusal, lists}
 use Rattle.euler_operators.specs.Table as table
-use Rattle.euler_operators.proofs.Rotations.{count-canonical, IsIn_head}
-use Rattle.euler_operators.proofs.Halves.{plus_row, same_edge, edge_of-mate, mate_plus, mate_minus}
-use Rattle.euler_operators.proofs.Members.{IsIn_rest, IsIn_one, all_mapped}
-use Rattle.euler_operators.proofs.Models.{item_there, item_loop, mate_there, plus_there, minus_there}
-use Rattle.euler_operators.proofs.Lists.{count-append, tick_other, IsIn_or_not}
-use Rattle.euler_laws.proofs.shared.Same.{content-new}
-use Rattle.shapes.specs.Faces.{start, finish, loops_of, items_in, boundary, vertices_on, vertices_in, corners}
-use Rattle.shapes.specs.Rewriting.{rewritten}
-use Rattle.shapes.specs.Measure.{area, normal, anchor, first_vertex, plane_of, is_plane_of, is_flat, six_volume}
-use Rattle.shapes.specs.Vectors.{negated}
-use Rattle.shapes.specs.split.Crossings.{doubled, edge_cut, next_cut, all_cut, with_crossings}
-use Rattle.euler_operators.proofs.Vectors.{moved_none}
-use Rattle.shapes.proofs.Areas.{area-append, moved_turned}
-use Rattle.shapes.proofs.measures.Sums.{area_same, cross_back, moved_back}
-use Rattle.shapes.proofs.measures.FlatFaces.{are_on}
+use Rattle.euler_operators.proofs.Common.{count-canonical, IsIn_head, plus_row, same_edge, edge_of-mate, mate_plus, mate_minus, IsIn_rest, IsIn_one, all_mapped, item_there, item_loop, mate_there, plus_there, minus_there, count-append, tick_other, IsIn_or_not, moved_none}
+use Rattle.euler_laws.proofs.Common.{content-new, all_hold, IsIn-from_listed}
+use Rattle.shapes.specs.Common.{start, finish, loops_of, items_in, boundary, vertices_on, vertices_in, corners, rewritten, area, normal, anchor, first_vertex, plane_of, is_plane_of, is_flat, six_volume, negated, doubled, edge_cut, next_cut, all_cut, with_crossings, Growing, first_such, growing, crossing_edges, first_conditions}
+use Rattle.shapes.proofs.Common.{area-append, moved_turned, area_same, cross_back, moved_back, are_on, none_such, none_found}
 use Rattle.split_drawing_laws.specs.crossings.Kept.{Kept}
 use Rattle.split_drawing_laws.proofs.crossings.OneCut.{doubled_none}
 use Rattle.split_drawing_laws.proofs.crossings.Steps.{CutGoes, cut_sound, rewrites, cut_keeps, point_new, tail_old, tail_new, tail_other}
 use Rattle.split_drawing_laws.proofs.crossings.Runs.{kept_point, cut_at, Crossing, same_start, same_finish, Going, crossing_now, uncut_now, goes_now, next_model, going_on}
 use Rattle.split_drawing_laws.proofs.cut_volumes.Told.{same_rings, loop_on, loops_on, item_on, item_ends_on, Measured, measured_none, measured_on, solid_stays, same_plane, flat_still, all_volumes}
 use Rattle.std.proofs.lemmas.Bool.{and_parts, not-false}
-use Rattle.euler_operators.specs.Conditions.{face_at, AllHold, first_refusal, lists}
-use Rattle.euler_laws.proofs.shared.Goes.{all_hold}
-use Rattle.euler_laws.proofs.shared.Listed.{IsIn-from_listed}
-use Rattle.shapes.specs.Fresh.{Growing, first_such, growing}
-use Rattle.shapes.specs.split.Sides.{crossing_edges}
-use Rattle.shapes.specs.split.Split.{first_conditions}
-use Rattle.shapes.proofs.fresh.Tests.{none_such, none_found}
 use Rattle.solid_measure_laws.proofs.Cuts.{cut_on_each, cut_keeps_area}
 use Rattle.split_drawing_laws.proofs.crossings.Premises.{edge_facts, solid_facts, in_solid}
 use Rattle.split_drawing_laws.proofs.crossings.Whole.{can_cut, begins, crossings_sound}

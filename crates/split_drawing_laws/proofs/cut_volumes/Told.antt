@@ -4,27 +4,12 @@ use Rattle.std.proofs.Common.{◌≡◌, ◌≢◌, ℕ, ◌≤◌, ℤ, ◌+ℤ
 use Rattle.std.proofs.lemmas.Int.{ints}
 use Rattle.std.proofs.lemmas.Bool.Decides.{eqb_tells}
 use Rattle.std.proofs.lemmas.Bool.{and_parts}
-use Rattle.euler_operators.specs.Items.{count, tick, IsIn}
+use Rattle.euler_operators.specs.Common.{count, tick, IsIn, Model, solid_of, faces_of, LoopContent, items_of, content, point_of, is_ring_of, rings_of, after, no_face, Has, Sound, Plane, is_on, origin, dot, same_point, direction, lists, strictly_rises}
 use Rattle.euler_operators.specs.Table as table
-use Rattle.euler_operators.specs.Model.{Model, solid_of, faces_of, LoopContent, items_of, content, point_of, is_ring_of, rings_of, after, no_face}
-use Rattle.euler_operators.specs.Sound.{Has, Sound}
-use Rattle.euler_operators.specs.declared.Plane.{Plane}
-use Rattle.euler_operators.specs.Vectors.{is_on, origin, dot, same_point, direction}
-use Rattle.euler_operators.specs.Conditions.{lists, strictly_rises}
-use Rattle.euler_operators.proofs.Lists.{tick_same, tick_other, IsIn_or_not}
-use Rattle.euler_operators.proofs.Members.{IsIn_rest, each_mapped}
-use Rattle.euler_operators.proofs.Rotations.{IsIn_head}
-use Rattle.euler_operators.proofs.Models.{same_solid, item_there}
-use Rattle.euler_operators.proofs.Vectors.{add_assoc, dot_turned}
-use Rattle.euler_laws.proofs.shared.Listed.{all_where-rises, IsIn-from_listed}
-use Rattle.euler_laws.proofs.shared.Counted.{counted_once}
-use Rattle.euler_laws.proofs.shared.RisingLists.{within}
-use Rattle.euler_laws.proofs.shared.Rounds.{next_in}
-use Rattle.shapes.specs.Measure.{six_volume, normal, anchor, plane_through, plane_of, is_flat, volume_in}
-use Rattle.shapes.specs.Faces.{start, finish, vertices_on, vertices_in, corners}
-use Rattle.shapes.proofs.measures.Sums.{total, volume_of, volume_is, unchanged, same_volumes}
-use Rattle.shapes.proofs.measures.FlatFaces.{list_parts, are_on, anchor_on, plane_told}
-use Rattle.shapes.proofs.walks.FaceLoops.{listed_ring, ring_listed, rings_rise}
+use Rattle.euler_operators.proofs.Common.{tick_same, tick_other, IsIn_or_not, IsIn_rest, each_mapped, IsIn_head, same_solid, item_there, add_assoc, dot_turned}
+use Rattle.euler_laws.proofs.Common.{all_where-rises, IsIn-from_listed, counted_once, within, next_in}
+use Rattle.shapes.specs.Common.{six_volume, normal, anchor, plane_through, plane_of, is_flat, volume_in, start, finish, vertices_on, vertices_in, corners}
+use Rattle.shapes.proofs.Common.{total, volume_of, volume_is, unchanged, same_volumes, list_parts, are_on, anchor_on, plane_told, listed_ring, ring_listed, rings_rise}
 use Rattle.split_drawing_laws.proofs.crossings.Premises.{solid_facts, in_solid}
 
 -- ---- the faces of a solid

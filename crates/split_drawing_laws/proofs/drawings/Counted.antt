@@ -1,21 +1,13 @@
 -- What is asked of a drawing: fresh numbers, how many pairs there are, and that no face is drawn twice.
-use Rattle.std.proofs.Common.{◌≡◌, ℕ, ◌+◌, ◌/◌, nat_eq, List, [], ◌∷◌, length, refl, ap, arith}
-use Rattle.std.specs.Prelude.{map}
+use Rattle.std.proofs.Common.{◌≡◌, ℕ, ◌+◌, ◌/◌, nat_eq, List, [], ◌∷◌, length, refl, ap, arith, map}
 use Rattle.std.proofs.lemmas.List.{length-map}
-use Rattle.euler_operators.specs.declared.Plane.{Plane}
-use Rattle.euler_operators.specs.Items.{IsApart}
-use Rattle.euler_operators.specs.Model.{Model, faces_of}
-use Rattle.euler_operators.proofs.Members.{count-filter}
-use Rattle.euler_laws.proofs.shared.Listed.{all_where-rises}
-use Rattle.shapes.proofs.fresh.Rows.{none_above}
-use Rattle.euler_laws.proofs.shared.Counted.{counted_once}
-use Rattle.shapes.specs.Fresh.{taken_in}
-use Rattle.shapes.specs.split.Sides.{straddles, straddling_faces}
-use Rattle.shapes.specs.split.Places.{places, sorted_pairs, place_pairs, pair_count}
-use Rattle.shapes.specs.split.Drawing.{drawn_pairs, all_pairs}
+use Rattle.euler_operators.specs.Common.{Plane, IsApart, Model, faces_of}
+use Rattle.euler_operators.proofs.Common.{count-filter}
+use Rattle.euler_laws.proofs.Common.{all_where-rises, counted_once}
+use Rattle.shapes.proofs.Common.{none_above, length-sorted, length-in_pairs}
+use Rattle.shapes.specs.Common.{taken_in, straddles, straddling_faces, places, sorted_pairs, place_pairs, pair_count, drawn_pairs, all_pairs}
 use Rattle.split_drawing_laws.specs.drawings.DrawnIn.{Fresh}
 use Rattle.split_drawing_laws.specs.drawings.Pairs.{pairs_in}
-use Rattle.shapes.proofs.split.Sorted.{length-sorted, length-in_pairs}
 
 -- above the greatest numbers in use all are free
 pub fresh_taken : (M : Model) → Fresh M (taken_in M)

@@ -1,26 +1,12 @@
 -- What is drawn in a face is what the operators make, and none of them is refused.
 use Rattle.std.proofs.Common.{◌≡◌, ◌≢◌, ℕ, List, ◌∷◌, Some, None, is_some, IsTrue, refl, sym, ap, ◌∙◌, subst, arith}
 use Rattle.std.proofs.lemmas.Bool.Decides.{nat_tests}
-use Rattle.euler_operators.specs.Rings.{rotate_to}
-use Rattle.euler_operators.specs.declared.HalfEdge.{HalfEdge}
-use Rattle.euler_operators.specs.declared.Corner.TheVariants.{At}
-use Rattle.euler_operators.specs.HalfEdge.{plus, code, half}
+use Rattle.euler_operators.specs.Common.{rotate_to, HalfEdge, At, plus, code, half, Table, tables, same_table, Model, LoopRow, tail, loop_of, cycle_of, solid_of, outer, is_number, Sound, HasHalf, first_false, face_at, effect, mef, mekr, ring_in}
 use Rattle.euler_operators.specs.Table as table
-use Rattle.euler_operators.specs.Table.{Table, tables, same_table}
-use Rattle.euler_operators.specs.Model.{Model, LoopRow, tail, loop_of, cycle_of, solid_of, outer, is_number}
-use Rattle.euler_operators.specs.Sound.{Sound, HasHalf}
-use Rattle.euler_operators.proofs.Halves.{plus_row, code-half, edge_of-code, mate_plus}
-use Rattle.euler_operators.proofs.Models.{row_of}
-use Rattle.euler_operators.specs.Conditions.{first_false, face_at}
-use Rattle.euler_operators.specs.Effect.{effect, mef, mekr, ring_in}
+use Rattle.euler_operators.proofs.Common.{plus_row, code-half, edge_of-code, mate_plus, row_of, get-put_here, get-put_other}
 use Rattle.euler_operators.specs.declared.Op.TheVariants.{RingIn}
-use Rattle.euler_operators.proofs.Tables.{get-put_here, get-put_other}
-use Rattle.euler_laws.proofs.shared.Rows.{of_half, edge_row_plus}
-use Rattle.euler_laws.proofs.mef.MefUndo.{loops-mef}
-use Rattle.euler_laws.proofs.mef.Kef.{mef_accepted}
-use Rattle.euler_laws.proofs.kemr.Kemr.{CornerAt, MekrGoes, mekr_accepted}
-use Rattle.euler_laws.proofs.Cases.{effect_keeps_sound}
-use Rattle.shapes.specs.split.Drawing.{face_drawn, loops_joined, with_rings}
+use Rattle.euler_laws.proofs.Common.{of_half, edge_row_plus, loops-mef, mef_accepted, CornerAt, MekrGoes, mekr_accepted, effect_keeps_sound}
+use Rattle.shapes.specs.Common.{face_drawn, loops_joined, with_rings}
 use Rattle.split_drawing_laws.specs.drawings.DrawingOps.{draw_edge, join_edge}
 
 -- ---- the faces where an edge is drawn or two loops are joined

@@ -1,14 +1,8 @@
 -- Whole faces drawn, one after the other.
-use Rattle.std.proofs.Common.{◌≡◌, ℕ, suc, ◌+◌, Bool, true, false, cond, nat_eq, nat_lt, ◌&&◌, List, [], ◌∷◌, length, refl, sym, ap, ◌∙◌, subst, arith}
-use Rattle.std.proofs.lemmas.Bool.{eqb-true}
-use Rattle.euler_operators.specs.declared.Plane.{Plane}
-use Rattle.euler_operators.specs.Model.{Model, content}
+use Rattle.std.proofs.Common.{◌≡◌, ℕ, suc, ◌+◌, Bool, true, false, cond, nat_eq, nat_lt, ◌&&◌, List, [], ◌∷◌, length, refl, sym, ap, ◌∙◌, subst, arith, eqb-true}
+use Rattle.euler_operators.specs.Common.{Plane, Model, content, has_rings, face_at, ring_in}
 use Rattle.euler_operators.specs.declared.Op.{Op}
-use Rattle.euler_operators.specs.Conditions.{has_rings, face_at}
-use Rattle.euler_operators.specs.Effect.{ring_in}
-use Rattle.shapes.specs.Faces.{vertices_on}
-use Rattle.shapes.specs.split.Sides.{some_above}
-use Rattle.shapes.specs.split.Drawing.{Drawing, face_drawn, loops_joined, stuck_at, all_joined, ring_free, all_drawn, rings_above, with_rings, drawn_between}
+use Rattle.shapes.specs.Common.{vertices_on, some_above, Drawing, face_drawn, loops_joined, stuck_at, all_joined, ring_free, all_drawn, rings_above, with_rings, drawn_between}
 use Rattle.split_drawing_laws.specs.drawings.DrawingOps.{draw_ops, ring_ops, share_ops, drawn_ops, join_ops, face_ops}
 use Rattle.split_drawing_laws.specs.drawings.DrawnIn.{DrawnIn, Fresh, PairsHaveRoom}
 use Rattle.split_drawing_laws.specs.drawings.Pairs.{Fits, AllFit}

@@ -1,17 +1,12 @@
 -- A pair joined, and a pair between which an edge is drawn.
-use Rattle.std.proofs.Common.{◌≡◌, ◌≢◌, ℕ, ◌<◌, Bool, true, false, cond, not, nat_eq, ◌&&◌, [], ◌∷◌, None, IsTrue, refl, sym, ap, ◌∙◌, arith, ◌⊎◌, inl, inr, true≢false}
+use Rattle.std.proofs.Common.{◌≡◌, ◌≢◌, ℕ, ◌<◌, Bool, true, false, cond, not, nat_eq, ◌&&◌, [], ◌∷◌, None, IsTrue, refl, sym, ap, ◌∙◌, arith, ◌⊎◌, inl, inr, true≢false, eqb-true}
 use Rattle.std.proofs.lemmas.Bool.Decides.{nat_tests, eqb_tells}
-use Rattle.std.proofs.lemmas.Bool.{eqb-true, eqb-false}
+use Rattle.std.proofs.lemmas.Bool.{eqb-false}
 use Rattle.euler_operators.specs.Table as table
-use Rattle.euler_operators.specs.Model.{Model, loop_of, face_of, is_number, is_ring_of}
-use Rattle.euler_operators.specs.Sound.{Sound, HasHalf}
-use Rattle.euler_operators.proofs.Models.{row_of}
-use Rattle.euler_operators.proofs.Tables.{no_row, row_elsewhere}
-use Rattle.euler_operators.specs.Conditions.{face_at}
-use Rattle.euler_laws.proofs.shared.Fans.{half_face}
-use Rattle.euler_laws.proofs.mekr.MekrSpots.{ring_is}
-use Rattle.shapes.specs.Fresh.{Taken}
-use Rattle.shapes.specs.split.Drawing.{face_drawn, loops_joined, in_one_loop, joined_pair}
+use Rattle.euler_operators.specs.Common.{Model, loop_of, face_of, is_number, is_ring_of, Sound, HasHalf, face_at}
+use Rattle.euler_operators.proofs.Common.{row_of, no_row, row_elsewhere}
+use Rattle.euler_laws.proofs.Common.{half_face, ring_is}
+use Rattle.shapes.specs.Common.{Taken, face_drawn, loops_joined, in_one_loop, joined_pair}
 use Rattle.split_drawing_laws.specs.drawings.DrawingOps.{join_edge, join_pair, draw_edge}
 use Rattle.split_drawing_laws.specs.drawings.DrawnIn.{JoinedIn, Stays, DrawnIn, Fresh}
 use Rattle.split_drawing_laws.specs.drawings.Pairs.{Fits}

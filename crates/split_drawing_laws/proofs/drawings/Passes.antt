@@ -1,13 +1,9 @@
 -- The two passes over the pairs of a face.
-use Rattle.std.proofs.Common.{◌≡◌, ◌≢◌, ℕ, suc, ◌+◌, ◌<◌, Bool, true, false, cond, List, [], ◌∷◌, ◌++◌, length, None, refl, sym, ap, subst, arith, IsTrue}
-use Rattle.std.specs.Prelude.{fold}
+use Rattle.std.proofs.Common.{◌≡◌, ◌≢◌, ℕ, suc, ◌+◌, ◌<◌, Bool, true, false, cond, List, [], ◌∷◌, ◌++◌, length, None, refl, sym, ap, subst, arith, IsTrue, fold}
 use Rattle.euler_operators.specs.Table as table
-use Rattle.euler_operators.specs.Model.{Model, is_number}
-use Rattle.euler_operators.specs.Sound.{Sound}
-use Rattle.euler_operators.specs.Conditions.{face_at}
-use Rattle.shapes.proofs.fresh.Tests.{number_fits}
-use Rattle.shapes.specs.Fresh.{Taken}
-use Rattle.shapes.specs.split.Drawing.{Drawing, face_drawn, loops_joined, in_one_loop, joined_pair, join_next, draw_next, stuck_at}
+use Rattle.euler_operators.specs.Common.{Model, is_number, Sound, face_at}
+use Rattle.shapes.proofs.Common.{number_fits}
+use Rattle.shapes.specs.Common.{Taken, Drawing, face_drawn, loops_joined, in_one_loop, joined_pair, join_next, draw_next, stuck_at}
 use Rattle.split_drawing_laws.specs.drawings.DrawingOps.{join_pair, join_ops, draw_pair, draw_ops}
 use Rattle.split_drawing_laws.specs.drawings.DrawnIn.{PairsHaveRoom}
 use Rattle.split_drawing_laws.specs.drawings.Pairs.{Fits, AllFit}

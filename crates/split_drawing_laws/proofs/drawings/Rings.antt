@@ -1,29 +1,14 @@
 -- Rings of a face given to a new one.
-use Rattle.std.proofs.Common.{◌≡◌, ◌≢◌, ℕ, Bool, true, false, not, nat_eq, ◌&&◌, List, [], ◌∷◌, None, is_some, unwrap_or, refl, sym, ap, ◌∙◌, subst, arith, inl, inr, true≢false}
-use Rattle.std.specs.Prelude.{filter}
+use Rattle.std.proofs.Common.{◌≡◌, ◌≢◌, ℕ, Bool, true, false, not, nat_eq, ◌&&◌, List, [], ◌∷◌, None, is_some, unwrap_or, refl, sym, ap, ◌∙◌, subst, arith, inl, inr, true≢false, filter, eqb-true}
 use Rattle.std.proofs.lemmas.Bool.Decides.{eqb_tells}
-use Rattle.std.proofs.lemmas.Bool.{eqb-true, eqb-false}
-use Rattle.euler_operators.specs.Rings.{successor}
-use Rattle.euler_operators.specs.Items.{tick, IsIn, IsApart}
-use Rattle.euler_operators.proofs.Lists.{tick_same}
-use Rattle.euler_operators.specs.HalfEdge.{edge_of, is_first}
+use Rattle.std.proofs.lemmas.Bool.{eqb-false}
+use Rattle.euler_operators.specs.Common.{successor, tick, IsIn, IsApart, edge_of, is_first, Model, no_edge, holds, tail, tail_in, items_of, content, loop_of, face_of, solid_of, outer, after, rings_of, Sound, Has, HasHalf, face_at, first_false, effect, ring_in}
+use Rattle.euler_operators.proofs.Common.{tick_same, face_row, count-filter, no_row, row_elsewhere}
 use Rattle.euler_operators.specs.Table as table
-use Rattle.euler_operators.specs.Model.{Model, no_edge, holds, tail, tail_in, items_of, content, loop_of, face_of, solid_of, outer, after, rings_of}
-use Rattle.euler_operators.specs.Sound.{Sound, Has, HasHalf}
-use Rattle.euler_operators.proofs.Models.{face_row}
-use Rattle.euler_operators.proofs.Members.{count-filter}
-use Rattle.euler_operators.proofs.Tables.{no_row, row_elsewhere}
 use Rattle.euler_operators.specs.declared.Op.TheVariants.{RingIn}
-use Rattle.euler_operators.specs.Conditions.{face_at, first_false}
-use Rattle.euler_operators.specs.Effect.{effect, ring_in}
-use Rattle.euler_laws.proofs.shared.Goes.{taken}
-use Rattle.euler_laws.proofs.shared.Faces.{SameWalks}
-use Rattle.euler_laws.proofs.shared.Listed.{listed_passes, all_where-rises, listed-from_in}
+use Rattle.euler_laws.proofs.Common.{taken, SameWalks, listed_passes, all_where-rises, listed-from_in, RingGoes, ring_in_accepted, sound-ring_in, counted_once}
 use Rattle.euler_laws.proofs.faces.RingIn as moved
-use Rattle.euler_laws.proofs.faces.RingIn.{RingGoes, ring_in_accepted, sound-ring_in}
-use Rattle.euler_laws.proofs.shared.Counted.{counted_once}
-use Rattle.shapes.specs.Fresh.{Taken}
-use Rattle.shapes.specs.split.Drawing.{with_rings}
+use Rattle.shapes.specs.Common.{Taken, with_rings}
 use Rattle.split_drawing_laws.specs.drawings.DrawnIn.{Stays, DrawnIn, Fresh}
 use Rattle.split_drawing_laws.specs.drawings.DrawingOps.{ring_ops}
 use Rattle.split_drawing_laws.proofs.drawings.Runs.{Leads, leads_none, leads_one, leads_on}

@@ -1,23 +1,11 @@
 -- What stays as an edge is drawn, as two loops are joined, and as a ring is moved.
 use Rattle.std.proofs.Common.{◌≡◌, ◌≢◌, ℕ, ◌+◌, ◌≤◌, ◌<◌, List, ◌∷◌, ◌++◌, Some, None, is_some, unwrap_or, refl, sym, ap, ◌∙◌, subst, arith, ◌⊎◌, inl, inr}
 use Rattle.std.proofs.lemmas.Bool.Decides.{eqb_tells}
-use Rattle.euler_operators.specs.Items.{count, IsIn}
-use Rattle.euler_operators.specs.Rings.{rotate_to}
-use Rattle.euler_operators.specs.Operators.{mef_old, mef_new, mekr_ring}
-use Rattle.euler_operators.proofs.Lists.{count-append, IsIn_or_not}
-use Rattle.euler_operators.proofs.Rotations.{count-canonical, count-rotate_to}
-use Rattle.euler_operators.specs.HalfEdge.{edge_of, is_first, plus, minus}
+use Rattle.euler_operators.specs.Common.{count, IsIn, rotate_to, mef_old, mef_new, mekr_ring, edge_of, is_first, plus, minus, Model, cycle, no_edge, items_of, holds, tail, tail_in, loop_of, content, face_of, solid_of, cycle_of, Sound, Has, HasHalf, face_at}
+use Rattle.euler_operators.proofs.Common.{count-append, IsIn_or_not, count-canonical, count-rotate_to, plus_row, minus_row, content_row, face_row, tail_row, in-holds, cycle_there, same_content, same_face, loop_there, row_elsewhere, get-put_here, get-put_other, get-remove_here, get-remove_other}
 use Rattle.euler_operators.specs.Table as table
-use Rattle.euler_operators.specs.Model.{Model, cycle, no_edge, items_of, holds, tail, tail_in, loop_of, content, face_of, solid_of, cycle_of}
-use Rattle.euler_operators.specs.Sound.{Sound, Has, HasHalf}
-use Rattle.euler_operators.proofs.Halves.{plus_row, minus_row}
-use Rattle.euler_operators.proofs.Models.{content_row, face_row, tail_row, in-holds, cycle_there, same_content, same_face, loop_there}
-use Rattle.euler_operators.proofs.Tables.{row_elsewhere, get-put_here, get-put_other, get-remove_here, get-remove_other}
-use Rattle.euler_operators.specs.Conditions.{face_at}
-use Rattle.euler_laws.proofs.shared.Rows.{count-halves}
-use Rattle.euler_laws.proofs.shared.Fans.{half_face}
-use Rattle.euler_laws.proofs.mef.MefUndo.{count-mef_old, count-mef_new}
-use Rattle.shapes.specs.split.Drawing.{face_drawn, loops_joined}
+use Rattle.euler_laws.proofs.Common.{count-halves, half_face, count-mef_old, count-mef_new}
+use Rattle.shapes.specs.Common.{face_drawn, loops_joined}
 use Rattle.split_drawing_laws.specs.drawings.DrawnIn.{Stays}
 use Rattle.split_drawing_laws.proofs.drawings.Drawn.{CanDraw, draw_sound, CanJoin, join_sound, face_drawn_new, face_drawn_else, loops_joined_faces}
 

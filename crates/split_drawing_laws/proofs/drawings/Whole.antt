@@ -1,16 +1,10 @@
 -- The drawing of some faces, from its first operator to its model.
-use Rattle.std.proofs.Common.{◌≡◌, ◌≢◌, ℕ, ◌+◌, List, [], ◌∷◌, map, refl, sym, ap, ◌∙◌, subst, arith}
-use Rattle.std.specs.Prelude.{fold}
-use Rattle.euler_operators.specs.declared.Plane.{Plane}
-use Rattle.euler_operators.specs.Items.{count, tick}
-use Rattle.euler_operators.proofs.Lists.{tick_same}
-use Rattle.euler_operators.specs.Model.{Model, loop_of}
-use Rattle.euler_operators.specs.Sound.{Sound, HasHalf}
+use Rattle.std.proofs.Common.{◌≡◌, ◌≢◌, ℕ, ◌+◌, List, [], ◌∷◌, map, refl, sym, ap, ◌∙◌, subst, arith, fold}
+use Rattle.euler_operators.specs.Common.{Plane, count, tick, Model, loop_of, Sound, HasHalf, face_at}
+use Rattle.euler_operators.proofs.Common.{tick_same}
 use Rattle.euler_operators.specs.declared.Op.{Op}
-use Rattle.euler_operators.specs.Conditions.{face_at}
 use Rattle.euler_laws.specs.Laws.{AreAccepted, effects}
-use Rattle.shapes.specs.Fresh.{Growing}
-use Rattle.shapes.specs.split.Drawing.{Drawing, FacePairs, drawn_between, next_drawn, faces_drawn, undrawn}
+use Rattle.shapes.specs.Common.{Growing, Drawing, FacePairs, drawn_between, next_drawn, faces_drawn, undrawn}
 use Rattle.split_drawing_laws.specs.drawings.DrawingOps.{face_ops, ops_from, drawing_ops}
 use Rattle.split_drawing_laws.specs.drawings.DrawnIn.{Stays, DrawnIn, Fresh, PairsHaveRoom}
 use Rattle.split_drawing_laws.specs.drawings.Pairs.{AllFit, LoneInOneLoop, FacesFit, pairs_in}

@@ -2,41 +2,19 @@
 use Rattle.std.proofs.Common.{◌≡◌, ◌≢◌, ℕ, true, ◌&&◌, List, [], ◌∷◌, Some, is_some, unwrap_or, refl, sym, ap, ◌∙◌, subst, arith, inl, inr, ◌⊎◌, ◌+◌, ◌++◌, true≢false}
 use Rattle.std.proofs.lemmas.Bool.{and_parts}
 use Rattle.std.proofs.lemmas.Bool.Decides.{eqb_tells}
-use Rattle.euler_operators.specs.declared.Plane.{Plane}
-use Rattle.euler_operators.specs.Vectors.{moved, cross, is_on}
-use Rattle.euler_operators.specs.Items.{count, IsIn, SameItems, tick}
-use Rattle.euler_operators.specs.HalfEdge.{mate, plus, minus}
+use Rattle.euler_operators.specs.Common.{Plane, moved, cross, is_on, count, IsIn, SameItems, tick, mate, plus, minus, Model, LoopContent, lone, cycle, no_point, items_of, tail, content, outer, point_of, loop_of, face_of, EdgeRow, no_face, solid_of, cycle_of, Sound, Has, HasHalf, face_at, Point, rotate_to}
 use Rattle.euler_operators.specs.Table as table
-use Rattle.euler_operators.specs.Model.{Model, LoopContent, lone, cycle, no_point, items_of, tail, content, outer, point_of, loop_of, face_of, EdgeRow, no_face, solid_of, cycle_of}
-use Rattle.euler_operators.specs.Sound.{Sound, Has, HasHalf}
-use Rattle.euler_operators.specs.Conditions.{face_at}
-use Rattle.euler_operators.specs.declared.Point.{Point}
-use Rattle.euler_operators.proofs.Lists.{IsIn_or_not, tick_same, tick_other, count-append}
-use Rattle.euler_operators.proofs.Models.{cycle_there, loop_there, lone_there, item_there, item_loop, never_lone, mate_there, content_row, face_row, same_content, same_face, same_outer}
-use Rattle.euler_operators.proofs.Members.{IsIn_rest, all_mapped}
-use Rattle.euler_operators.proofs.Rotations.{IsIn_head, count-canonical}
-use Rattle.euler_operators.proofs.Halves.{plus_row, minus_row, mate_plus, plus_other}
-use Rattle.euler_operators.proofs.Tables.{get-put_here, row_elsewhere}
-use Rattle.euler_laws.proofs.shared.Listed.{listed-from_in}
-use Rattle.shapes.specs.Faces.{start, finish, loops_of, boundary, vertices_on, corners}
-use Rattle.shapes.specs.Measure.{area, anchor, first_vertex, normal}
-use Rattle.shapes.proofs.measures.FlatFaces.{are_on}
-use Rattle.shapes.proofs.walks.SolidFaces.{face_of_loop}
-use Rattle.shapes.proofs.walks.FaceLoops.{AreHalves, different_items, loops_of_apart}
-use Rattle.euler_operators.proofs.Vectors.{moved_twice, none_moved}
-use Rattle.shapes.proofs.Areas.{area-append}
-use Rattle.shapes.proofs.measures.Sums.{area_same, halves_cancel}
+use Rattle.euler_operators.proofs.Common.{IsIn_or_not, tick_same, tick_other, count-append, cycle_there, loop_there, lone_there, item_there, item_loop, never_lone, mate_there, content_row, face_row, same_content, same_face, same_outer, IsIn_rest, all_mapped, IsIn_head, count-canonical, plus_row, minus_row, mate_plus, plus_other, get-put_here, row_elsewhere, moved_twice, none_moved}
+use Rattle.euler_laws.proofs.Common.{listed-from_in, count-mef_old, count-mef_new, half_face}
+use Rattle.shapes.specs.Common.{start, finish, loops_of, boundary, vertices_on, corners, area, anchor, first_vertex, normal, face_drawn, loops_joined}
+use Rattle.shapes.proofs.Common.{are_on, face_of_loop, AreHalves, different_items, loops_of_apart, area-append, area_same, halves_cancel}
 use Rattle.split_drawing_laws.specs.drawings.DrawnIn.{Stays}
 use Rattle.split_drawing_laws.proofs.crossings.Premises.{loop_in_face, item_in_face}
 use Rattle.split_drawing_laws.proofs.crossings.Whole.{item_face}
 use Rattle.split_drawing_laws.proofs.cut_volumes.Told.{loop_on, loops_on, item_on}
-use Rattle.euler_laws.proofs.mef.MefUndo.{count-mef_old, count-mef_new}
-use Rattle.euler_laws.proofs.shared.Fans.{half_face}
-use Rattle.shapes.specs.split.Drawing.{face_drawn, loops_joined}
 use Rattle.split_drawing_laws.proofs.drawings.Drawn.{CanDraw, draw_sound, face_drawn_new, face_drawn_else, CanJoin, join_sound, loops_joined_faces}
 use Rattle.split_drawing_laws.proofs.drawings.Stays.{stands_at, row_old, row_new, row_else, edges_are, draw_stays, draw_tails, draw_beside, draw_within, row_joined, row_other, row_gone, joined_edges, join_stays, join_tails, join_faces}
 use Rattle.split_drawing_laws.proofs.loop_sides.Parting.{none_new, halves_drawn, halves_joined}
-use Rattle.euler_operators.specs.Rings.{rotate_to}
 
 -- the half-edges and the lone vertices of face f lie on the plane
 pub record OnFace (N : Model) (t : Plane) (f : ℕ) : Type 0 where

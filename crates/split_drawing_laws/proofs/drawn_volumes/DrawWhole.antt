@@ -1,24 +1,11 @@
 -- Faces drawn: volumes stay, and each face of the solid lies on the planes of one that was there before.
-use Rattle.std.specs.Prelude.{fold, map}
-use Rattle.std.proofs.Common.{◌≡◌, ◌≢◌, ℕ, None, is_some, refl, sym, ap, ◌∙◌, subst, ◌⊎◌, inl, inr, ◌+◌, Bool, true, false, List, [], ◌∷◌, arith, ◌&&◌}
+use Rattle.std.proofs.Common.{◌≡◌, ◌≢◌, ℕ, None, is_some, refl, sym, ap, ◌∙◌, subst, ◌⊎◌, inl, inr, ◌+◌, Bool, true, false, List, [], ◌∷◌, arith, ◌&&◌, fold, map}
 use Rattle.std.proofs.lemmas.Bool.Decides.{eqb_tells}
-use Rattle.euler_operators.specs.declared.Plane.{Plane}
+use Rattle.euler_operators.specs.Common.{Plane, Model, solid_of, faces_of, Sound, Has, face_at, first_refusal, lists, ring_in, IsIn}
 use Rattle.euler_operators.specs.Table as table
-use Rattle.euler_operators.specs.Model.{Model, solid_of, faces_of}
-use Rattle.euler_operators.specs.Sound.{Sound, Has}
-use Rattle.euler_operators.specs.Conditions.{face_at, first_refusal, lists}
-use Rattle.euler_operators.specs.Effect.{ring_in}
-use Rattle.euler_operators.specs.Items.{IsIn}
-use Rattle.euler_operators.proofs.Models.{same_solid}
-use Rattle.euler_operators.proofs.Lists.{tick_same}
-use Rattle.euler_operators.proofs.Tables.{no_row}
-use Rattle.euler_laws.proofs.shared.Fans.{half_face}
-use Rattle.euler_laws.proofs.shared.Listed.{IsIn-from_listed, listed-from_in}
-use Rattle.shapes.specs.split.Drawing.{face_drawn, loops_joined, Drawing, drawn_between, FacePairs, next_drawn, faces_drawn, undrawn, straddling_pairs, with_drawings}
-use Rattle.shapes.specs.Measure.{six_volume, plane_of, is_flat}
-use Rattle.shapes.specs.split.Sides.{straddling_faces}
-use Rattle.shapes.specs.split.Crossings.{with_crossings}
-use Rattle.shapes.specs.split.Split.{first_conditions}
+use Rattle.euler_operators.proofs.Common.{same_solid, tick_same, no_row}
+use Rattle.euler_laws.proofs.Common.{half_face, IsIn-from_listed, listed-from_in}
+use Rattle.shapes.specs.Common.{face_drawn, loops_joined, Drawing, drawn_between, FacePairs, next_drawn, faces_drawn, undrawn, straddling_pairs, with_drawings, six_volume, plane_of, is_flat, straddling_faces, with_crossings, first_conditions}
 use Rattle.split_drawing_laws.specs.drawings.DrawnIn.{DrawnIn}
 use Rattle.split_drawing_laws.specs.drawings.Pairs.{pairs_in}
 use Rattle.split_drawing_laws.specs.drawings.Passing.{Ready, Drawable}

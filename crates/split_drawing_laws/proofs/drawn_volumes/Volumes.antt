@@ -1,31 +1,17 @@
 -- A ring given to another face; and each solid keeps its six volumes where an edge is drawn, two loops are joined or a ring is moved.
-use Rattle.std.proofs.Common.{◌≡◌, ◌≢◌, ℕ, ◌++◌, sym, ap, ◌∙◌, arith, inl, inr, ℤ, ◌+ℤ◌, ◌-ℤ◌, true, not, cond, nat_eq, ◌&&◌, ◌∷◌, is_some, refl, subst}
+use Rattle.std.proofs.Common.{◌≡◌, ◌≢◌, ℕ, ◌++◌, sym, ap, ◌∙◌, arith, inl, inr, ℤ, ◌+ℤ◌, ◌-ℤ◌, true, not, cond, nat_eq, ◌&&◌, ◌∷◌, is_some, refl, subst, ne_eqb, eq-eqb}
 use Rattle.std.proofs.lemmas.Bool.Decides.{eqb_tells}
-use Rattle.euler_operators.specs.declared.Plane.{Plane}
-use Rattle.euler_operators.specs.Vectors.{moved, is_on, origin, dot, same_point, direction}
-use Rattle.euler_operators.specs.Items.{count, SameItems}
-use Rattle.euler_operators.proofs.Lists.{count-append, tick_same, tick_other}
-use Rattle.euler_operators.specs.Model.{Model, loop_of, face_of, outer, solid_of, faces_of}
-use Rattle.euler_operators.specs.Sound.{Sound, Has, HasHalf}
-use Rattle.euler_operators.specs.Conditions.{face_at}
-use Rattle.euler_operators.specs.Effect.{ring_in}
+use Rattle.euler_operators.specs.Common.{Plane, moved, is_on, origin, dot, same_point, direction, count, SameItems, Model, loop_of, face_of, outer, solid_of, faces_of, Sound, Has, HasHalf, face_at, ring_in, Point}
+use Rattle.euler_operators.proofs.Common.{count-append, tick_same, tick_other, dot_sum}
 use Rattle.euler_laws.proofs.faces.RingIn as moving
-use Rattle.euler_laws.proofs.faces.RingIn.{RingGoes}
-use Rattle.shapes.specs.Faces.{boundary}
-use Rattle.shapes.specs.Measure.{normal, anchor, six_volume}
-use Rattle.shapes.proofs.Areas.{area-append}
-use Rattle.shapes.proofs.measures.Sums.{area_same, total, volume_of, unchanged, total_same}
+use Rattle.euler_laws.proofs.Common.{RingGoes, half_face}
+use Rattle.shapes.specs.Common.{boundary, normal, anchor, six_volume, face_drawn, loops_joined}
+use Rattle.shapes.proofs.Common.{area-append, area_same, total, volume_of, unchanged, total_same, anchor_on, told_anywhere}
 use Rattle.split_drawing_laws.proofs.drawn_volumes.Bounds.{OnFace, anchor_still, bound_one, bound_none, point_still, start_still, half_there, area_after, one_count, no_count, normal_kept, normal_is, face_on}
 use Rattle.split_drawing_laws.proofs.drawings.Rings.{ring_sound, same_walks, ring_stays, ring_back, place_is, face_else, face_kept, ring_faces}
 use Rattle.std.proofs.lemmas.Int.{ints}
-use Rattle.std.proofs.lemmas.Bool.{ne_eqb, eq-eqb}
-use Rattle.euler_operators.specs.declared.Point.{Point}
 use Rattle.euler_operators.specs.Table as table
-use Rattle.euler_laws.proofs.shared.Fans.{half_face}
-use Rattle.shapes.proofs.measures.FlatFaces.{anchor_on, told_anywhere}
-use Rattle.shapes.specs.split.Drawing.{face_drawn, loops_joined}
 use Rattle.split_drawing_laws.proofs.drawings.Drawn.{CanDraw, CanJoin}
-use Rattle.euler_operators.proofs.Vectors.{dot_sum}
 use Rattle.split_drawing_laws.proofs.drawn_volumes.Bounds as draws
 use Rattle.split_drawing_laws.proofs.cut_volumes.Told.{counted_in, counted_out, same_count, six_is, changed_one}
 use Rattle.split_drawing_laws.proofs.crossings.Premises.{solid_facts}

@@ -1,32 +1,13 @@
 -- The loops of a solid whose faces straddle a plane: each holds a half-edge, which tells its side, so that once the faces are drawn each lies on one side.
-use Rattle.std.specs.Prelude.{map}
-use Rattle.std.proofs.Common.{◌≡◌, ℕ, Bool, true, false, ◌&&◌, ◌||◌, List, [], ◌∷◌, is_some, refl, sym, ap, ◌∙◌, subst, arith, inl, inr, map, not, nat_eq}
+use Rattle.std.proofs.Common.{◌≡◌, ℕ, Bool, true, false, ◌&&◌, ◌||◌, List, [], ◌∷◌, is_some, refl, sym, ap, ◌∙◌, subst, arith, inl, inr, map, not, nat_eq, eqb-true, eq-eqb}
 use Rattle.std.proofs.lemmas.Bool.Decides.{eqb_tells}
-use Rattle.std.proofs.lemmas.Bool.{eqb-true, false_from_ne_true, eq-eqb}
-use Rattle.euler_operators.proofs.Tests.{first_fails, and_false}
-use Rattle.euler_operators.specs.declared.Plane.{Plane}
-use Rattle.euler_operators.specs.Vectors.{is_above, is_below}
-use Rattle.euler_operators.specs.Items.{count, IsIn, head_or}
-use Rattle.euler_operators.proofs.Lists.{tick_other, count-append, tick_same, IsIn_or_not}
+use Rattle.std.proofs.lemmas.Bool.{false_from_ne_true}
+use Rattle.euler_operators.proofs.Common.{first_fails, and_false, tick_other, count-append, tick_same, IsIn_or_not, in-holds, content_cycle, cycle_there, lone_there, same_outer, never_lone, same_solid as solid_same, zero_first_where, IsIn-map, IsIn-filter, IsIn_one, IsIn_some_head, from_map}
+use Rattle.euler_operators.specs.Common.{Plane, is_above, is_below, count, IsIn, head_or, Model, cycle, items_of, content, tail, loop_of, face_of, solid_of, outer, after, cycle_of, point_of, faces_of, LoopContent, has_half, Sound, Has, HasHalf, face_at, is_lone, lists}
 use Rattle.euler_operators.specs.Table as table
-use Rattle.euler_operators.specs.Model.{Model, cycle, items_of, content, tail, loop_of, face_of, solid_of, outer, after, cycle_of, point_of, faces_of, LoopContent, has_half}
-use Rattle.euler_operators.specs.Sound.{Sound, Has, HasHalf}
-use Rattle.euler_operators.proofs.Models.{in-holds, content_cycle, cycle_there, lone_there, same_outer, never_lone, same_solid as solid_same}
-use Rattle.euler_operators.proofs.Tables.{zero_first_where}
-use Rattle.euler_operators.proofs.Members.{IsIn-map, IsIn-filter, IsIn_one, IsIn_some_head}
-use Rattle.euler_operators.proofs.Maps.{from_map}
-use Rattle.euler_operators.specs.Conditions.{face_at, is_lone, lists}
-use Rattle.euler_laws.proofs.shared.Fans.{half_after, loop_after, half_face}
-use Rattle.euler_laws.proofs.shared.Goes.{all_hold, no_zero}
-use Rattle.euler_laws.proofs.shared.Rows.{loop_row, not_lone_cycle}
-use Rattle.euler_laws.proofs.shared.Listed.{IsIn-from_listed, listed-from_in}
-use Rattle.shapes.proofs.fresh.Tests.{none_found, none_is_lone}
-use Rattle.shapes.specs.Faces.{start, finish, least_lone, boundary, vertices_on, loops_of, vertices_in, corners}
-use Rattle.shapes.specs.split.Sides.{some_above, reaches_above, straddling_faces, straddles, reaches_below}
-use Rattle.shapes.specs.split.Places.{is_place, places}
-use Rattle.shapes.specs.split.Crossings.{with_crossings}
-use Rattle.shapes.specs.split.Drawing.{from_place, drawn_pairs, all_pairs, faces_drawn, undrawn, straddling_pairs, with_drawings}
-use Rattle.shapes.specs.split.Split.{first_conditions}
+use Rattle.euler_laws.proofs.Common.{half_after, loop_after, half_face, all_hold, no_zero, loop_row, not_lone_cycle, IsIn-from_listed, listed-from_in, none_counted}
+use Rattle.shapes.proofs.Common.{none_found, none_is_lone}
+use Rattle.shapes.specs.Common.{start, finish, least_lone, boundary, vertices_on, loops_of, vertices_in, corners, some_above, reaches_above, straddling_faces, straddles, reaches_below, is_place, places, with_crossings, from_place, drawn_pairs, all_pairs, faces_drawn, undrawn, straddling_pairs, with_drawings, first_conditions}
 use Rattle.split_drawing_laws.specs.crossings.Kept.{Kept}
 use Rattle.split_drawing_laws.specs.crossings.Laws.{CanBegin}
 use Rattle.split_drawing_laws.proofs.crossings.Premises.{item_in_face, face_facts, in_solid, faces_not_zero, loop_in_face, solid_facts}
@@ -49,7 +30,6 @@ use Rattle.split_drawing_laws.specs.face_sides.Lone.{NoLoopIsLone}
 use Rattle.split_drawing_laws.specs.face_sides.Laws.{IsDrawn}
 use Rattle.split_drawing_laws.proofs.drawn_volumes.Bounds.{loop_facts}
 use Rattle.split_drawing_laws.proofs.drawings.Counted.{faces_are}
-use Rattle.euler_laws.proofs.shared.Counted.{none_counted}
 
 -- the half-edges of pairs that fit are there
 fits_old : (N : Model) (f : ℕ) (qs : List (ℕ × ℕ)) → AllFit N f qs → AllOld N qs

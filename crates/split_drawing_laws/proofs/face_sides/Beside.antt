@@ -1,25 +1,11 @@
 -- What stays beside a face in which edges are drawn: the rows of other faces and of their loops.
-use Rattle.std.specs.Prelude.{fold}
-use Rattle.std.specs.Option.{option_map}
-use Rattle.std.proofs.Common.{◌≡◌, ◌≢◌, ℕ, true, false, cond, List, [], ◌∷◌, Option, Some, None, is_some, refl, sym, ap, ◌∙◌, subst, arith, ◌⊎◌, inl, inr, true≢false, ◌++◌}
+use Rattle.std.proofs.Common.{◌≡◌, ◌≢◌, ℕ, true, false, cond, List, [], ◌∷◌, Option, Some, None, is_some, refl, sym, ap, ◌∙◌, subst, arith, ◌⊎◌, inl, inr, true≢false, ◌++◌, fold, option_map}
 use Rattle.std.proofs.lemmas.Bool.Decides.{eqb_tells}
 use Rattle.euler_operators.specs.Table as table
-use Rattle.euler_operators.specs.Table.{Table, get-map_rows}
-use Rattle.euler_operators.specs.Model.{Model, LoopRow, loop_of, face_of, content, items_of, tail, outer, cycle_of}
-use Rattle.euler_operators.specs.Sound.{Has, HasHalf}
-use Rattle.euler_operators.specs.Conditions.{face_at, lists}
-use Rattle.euler_operators.specs.Effect.{loop_to_face}
-use Rattle.euler_operators.specs.Items.{IsIn}
-use Rattle.euler_operators.specs.Rings.{rotate_to, upto, onward}
-use Rattle.euler_operators.specs.Operators.{mef_old, mef_new}
-use Rattle.euler_operators.specs.HalfEdge.{plus, minus}
-use Rattle.euler_operators.proofs.Models.{face_row, same_face, content_row, cycle_there, outer_row, same_outer, loop_there}
-use Rattle.euler_operators.proofs.Lists.{count-append, tick_same, from_is}
-use Rattle.euler_operators.proofs.Rotations.{rotate_to_is, count-rotate_to, count-canonical}
-use Rattle.euler_operators.proofs.Tables.{row_elsewhere}
-use Rattle.euler_laws.proofs.shared.Rows.{content_either}
-use Rattle.euler_laws.proofs.shared.Fans.{half_face}
-use Rattle.shapes.specs.split.Drawing.{face_drawn, loops_joined, with_rings}
+use Rattle.euler_operators.specs.Common.{Table, get-map_rows, Model, LoopRow, loop_of, face_of, content, items_of, tail, outer, cycle_of, Has, HasHalf, face_at, lists, loop_to_face, IsIn, rotate_to, upto, onward, mef_old, mef_new, plus, minus}
+use Rattle.euler_operators.proofs.Common.{face_row, same_face, content_row, cycle_there, outer_row, same_outer, loop_there, count-append, tick_same, from_is, rotate_to_is, count-rotate_to, count-canonical, row_elsewhere}
+use Rattle.euler_laws.proofs.Common.{content_either, half_face}
+use Rattle.shapes.specs.Common.{face_drawn, loops_joined, with_rings}
 use Rattle.split_drawing_laws.specs.drawings.DrawnIn.{Stays}
 use Rattle.split_drawing_laws.proofs.drawings.Drawn.{CanDraw, CanJoin, face_drawn_else, loops_joined_faces, draw_sound, face_drawn_new}
 use Rattle.split_drawing_laws.proofs.drawings.Stays.{row_old, row_new, row_else, row_joined, row_gone, row_other, stands_at, draw_beside}

@@ -1,19 +1,12 @@
 -- Faces drawn one after the other: what stays beside each, and that it and the faces that are cut off it lie each on one side.
-use Rattle.std.specs.Prelude.{fold, map}
-use Rattle.std.proofs.Common.{◌≡◌, ℕ, ◌+◌, List, [], ◌∷◌, ◌++◌, ◌∙◌, ◌≢◌, suc, Bool, true, false, cond, nat_eq, nat_lt, ◌&&◌, length, None, is_some, refl, sym, ap, subst, arith, inl, inr}
+use Rattle.std.proofs.Common.{◌≡◌, ℕ, ◌+◌, List, [], ◌∷◌, ◌++◌, ◌∙◌, ◌≢◌, suc, Bool, true, false, cond, nat_eq, nat_lt, ◌&&◌, length, None, is_some, refl, sym, ap, subst, arith, inl, inr, fold, map}
 use Rattle.std.proofs.lemmas.Bool.Decides.{nat_tests, eqb_tells}
 use Rattle.std.proofs.lemmas.Bool.{false_from_ne_true}
-use Rattle.euler_operators.specs.Model.{Model, holds, content, loop_of, face_of, outer, solid_of}
-use Rattle.euler_operators.specs.Sound.{Sound, HasHalf, Has}
-use Rattle.euler_operators.specs.Conditions.{face_at, lists, has_rings}
-use Rattle.euler_operators.specs.declared.Plane.{Plane}
+use Rattle.euler_operators.specs.Common.{Model, holds, content, loop_of, face_of, outer, solid_of, Sound, HasHalf, Has, face_at, lists, has_rings, Plane, count, IsIn}
 use Rattle.euler_operators.specs.Table as table
-use Rattle.euler_operators.proofs.Models.{same_content, same_face, same_outer, loop_there, same_solid}
-use Rattle.euler_operators.proofs.Tables.{row_elsewhere, no_row}
-use Rattle.euler_laws.proofs.shared.Rows.{no_rings_means}
-use Rattle.shapes.specs.split.Drawing.{Drawing, join_next, draw_next, face_drawn, stuck_at, all_joined, ring_free, all_drawn, rings_above, with_rings, rings_shared, drawn_between, FacePairs, next_drawn}
-use Rattle.shapes.specs.Faces.{vertices_on}
-use Rattle.shapes.specs.split.Sides.{some_above}
+use Rattle.euler_operators.proofs.Common.{same_content, same_face, same_outer, loop_there, same_solid, row_elsewhere, no_row, tick_same, tick_other}
+use Rattle.euler_laws.proofs.Common.{no_rings_means}
+use Rattle.shapes.specs.Common.{Drawing, join_next, draw_next, face_drawn, stuck_at, all_joined, ring_free, all_drawn, rings_above, with_rings, rings_shared, drawn_between, FacePairs, next_drawn, vertices_on, some_above}
 use Rattle.split_drawing_laws.specs.drawings.DrawnIn.{Stays, PairsHaveRoom, DrawnIn}
 use Rattle.split_drawing_laws.specs.drawings.Pairs.{AllFit, pairs_in}
 use Rattle.split_drawing_laws.specs.drawings.Passing.{Joining, Going, Ready, Drawable}
@@ -26,8 +19,6 @@ use Rattle.split_drawing_laws.proofs.drawings.Faces.{drawn_is, face_goes, begun_
 use Rattle.split_drawing_laws.proofs.loop_sides.SidesWhole.{draws_go_on, not_stuck}
 use Rattle.split_drawing_laws.proofs.half_sides.PlaceEnds.{AllUp}
 use Rattle.split_drawing_laws.proofs.face_sides.Shared.{above_stays, HeldOn, LiesOnSide, Cut, old_lies, new_lies}
-use Rattle.euler_operators.specs.Items.{count, IsIn}
-use Rattle.euler_operators.proofs.Lists.{tick_same, tick_other}
 use Rattle.split_drawing_laws.proofs.drawings.Whole.{ready, drawable_on, next_is}
 
 -- the half-edges of pairs are in B

@@ -1,25 +1,14 @@
 -- What is told of corners stays while edges are drawn.
-use Rattle.std.specs.Prelude.{map, List}
 use Rattle.std.specs.List.{list_any}
-use Rattle.std.proofs.Common.{◌≡◌, ℕ, Bool, true, false, ◌||◌, List, [], ◌∷◌, unwrap_or, refl, sym, ap, ◌∙◌, arith, true≢false, ◌≢◌, nat_eq, is_some, subst, inl, inr}
+use Rattle.std.proofs.Common.{◌≡◌, ℕ, Bool, true, false, ◌||◌, List, [], ◌∷◌, unwrap_or, refl, sym, ap, ◌∙◌, arith, true≢false, ◌≢◌, nat_eq, is_some, subst, inl, inr, map, ne_eqb, eq-eqb}
 use Rattle.std.proofs.lemmas.Bool.Decides.{eqb_tells}
-use Rattle.std.proofs.lemmas.Bool.{ne_eqb, eq-eqb, false_from_ne_true}
-use Rattle.euler_operators.specs.declared.Plane.{Plane}
-use Rattle.euler_operators.specs.Vectors.{is_above}
-use Rattle.euler_operators.specs.Items.{IsIn}
+use Rattle.std.proofs.lemmas.Bool.{false_from_ne_true}
+use Rattle.euler_operators.specs.Common.{Plane, is_above, IsIn, Model, LoopContent, lone, cycle, items_of, content, tail, point_of, no_point, holds, loop_of, face_of, outer, rings_of, Sound, HasHalf, Has, StandsIn, face_at, lists}
 use Rattle.euler_operators.specs.Table as table
-use Rattle.euler_operators.specs.Model.{Model, LoopContent, lone, cycle, items_of, content, tail, point_of, no_point, holds, loop_of, face_of, outer, rings_of}
-use Rattle.euler_operators.specs.Sound.{Sound, HasHalf, Has, StandsIn}
-use Rattle.euler_operators.specs.Conditions.{face_at, lists}
-use Rattle.euler_operators.proofs.Lists.{tick_same}
-use Rattle.euler_operators.proofs.Models.{in-holds, same_face}
-use Rattle.euler_operators.proofs.Members.{IsIn-filter, filter_passes}
-use Rattle.euler_laws.proofs.shared.Rows.{test_ring}
-use Rattle.euler_laws.proofs.shared.Listed.{IsIn-from_listed, listed-from_in}
-use Rattle.shapes.specs.Faces.{vertices_on}
-use Rattle.shapes.specs.split.Sides.{some_above}
-use Rattle.shapes.specs.split.Drawing.{face_drawn, rings_above, with_rings}
-use Rattle.shapes.proofs.walks.FaceLoops.{ring_listed}
+use Rattle.euler_operators.proofs.Common.{tick_same, in-holds, same_face, IsIn-filter, filter_passes}
+use Rattle.euler_laws.proofs.Common.{test_ring, IsIn-from_listed, listed-from_in}
+use Rattle.shapes.specs.Common.{vertices_on, some_above, face_drawn, rings_above, with_rings}
+use Rattle.shapes.proofs.Common.{ring_listed}
 use Rattle.split_drawing_laws.specs.drawings.DrawnIn.{Stays}
 use Rattle.split_drawing_laws.proofs.drawings.Drawn.{CanDraw, draw_sound}
 use Rattle.split_drawing_laws.proofs.drawings.Rings.{RingOf, rings_are}

@@ -1,25 +1,10 @@
 -- What follows what once an edge is cut.
 use Rattle.std.proofs.Common.{◌≡◌, ◌≢◌, ℕ, refl, sym, ap, ◌∙◌, subst, arith, ◌+◌, List, [], ◌∷◌, None, is_some, ◌⊎◌, inl, inr, true≢false}
 use Rattle.std.proofs.lemmas.Bool.Decides.{eqb_tells}
-use Rattle.euler_operators.specs.declared.Point.{Point}
-use Rattle.euler_operators.specs.Operators.{after_mev}
-use Rattle.euler_operators.specs.HalfEdge.{mate, plus, minus, edge_of}
-use Rattle.euler_operators.specs.Model.{Model, loop_of, after, before, tail}
-use Rattle.euler_operators.specs.Sound.{Sound, HasHalf, Has}
-use Rattle.euler_operators.specs.Effect.{mev_at}
-use Rattle.euler_operators.specs.declared.Plane.{Plane}
-use Rattle.euler_operators.specs.Items.{count, tick, IsIn}
-use Rattle.euler_operators.specs.Conditions.{first_refusal}
-use Rattle.euler_operators.proofs.Halves.{mate_plus, plus_row, minus_row}
-use Rattle.euler_operators.proofs.Lists.{tick_same, tick_other}
-use Rattle.euler_operators.proofs.Models.{plus_there, minus_there, plus_edge}
-use Rattle.euler_laws.proofs.shared.Fans.{loop_after}
-use Rattle.euler_laws.proofs.shared.Loops.{after-walks}
-use Rattle.euler_laws.proofs.mev.MevSound.{walks}
-use Rattle.shapes.specs.split.Crossings.{edge_cut, next_cut, all_cut, with_crossings}
-use Rattle.shapes.specs.Fresh.{Growing, growing}
-use Rattle.shapes.specs.split.Sides.{crossing_edges}
-use Rattle.shapes.specs.split.Split.{first_conditions}
+use Rattle.euler_operators.specs.Common.{Point, after_mev, mate, plus, minus, edge_of, Model, loop_of, after, before, tail, Sound, HasHalf, Has, mev_at, Plane, count, tick, IsIn, first_refusal}
+use Rattle.euler_operators.proofs.Common.{mate_plus, plus_row, minus_row, tick_same, tick_other, plus_there, minus_there, plus_edge}
+use Rattle.euler_laws.proofs.Common.{loop_after, after-walks, walks}
+use Rattle.shapes.specs.Common.{edge_cut, next_cut, all_cut, with_crossings, Growing, growing, crossing_edges, first_conditions}
 use Rattle.split_drawing_laws.proofs.crossings.OneCut.{cut_is_mev}
 use Rattle.split_drawing_laws.proofs.crossings.Steps.{CutGoes, mev_goes, cut_keeps, edge_stays, edge_other, edge_new, tail_new, tail_other}
 use Rattle.split_drawing_laws.proofs.pairs.LoopPlaces.{before_after}

@@ -1,42 +1,24 @@
 -- The half-edges that start at the cut places of faces, each once, and the sides that the half-edges of the solid take.
-use Rattle.std.specs.Prelude.{map}
 use Rattle.std.specs.List.{list_all}
-use Rattle.std.proofs.Common.{◌≡◌, ℕ, ◌≤◌, List, [], ◌∷◌, ap, subst, arith, inl, inr, ◌≢◌, Bool, true, false, cond, not, pos, refl, sym, ◌∙◌, true≢false, ◌&&◌, ◌||◌}
+use Rattle.std.proofs.Common.{◌≡◌, ℕ, ◌≤◌, List, [], ◌∷◌, ap, subst, arith, inl, inr, ◌≢◌, Bool, true, false, cond, not, pos, refl, sym, ◌∙◌, true≢false, ◌&&◌, ◌||◌, map, eqb-true}
 use Rattle.std.proofs.lemmas.Bool.Decides.{eqb_tells}
-use Rattle.std.proofs.lemmas.Bool.{and_parts, eqb-true, false_from_ne_true}
-use Rattle.euler_operators.specs.declared.Plane.{Plane}
-use Rattle.euler_operators.specs.Items.{count, IsIn, IsApart, tick}
-use Rattle.euler_operators.specs.Model.{Model, solid_of, after, tail, loop_of, face_of, point_of, faces_of}
-use Rattle.euler_operators.specs.Vectors.{height, is_on, cut_between, are_opposite, is_above, is_below}
-use Rattle.euler_operators.specs.HalfEdge.{edge_of, plus, minus}
-use Rattle.euler_operators.specs.Sound.{Sound, Has, HasHalf}
-use Rattle.euler_operators.specs.Conditions.{face_at, differ, lists}
-use Rattle.euler_operators.proofs.Lists.{count-append, tick_same, tick_other, IsIn_or_not}
-use Rattle.euler_operators.proofs.Halves.{plus_row, mate_plus, mate_minus}
-use Rattle.euler_operators.proofs.Members.{IsIn-map, IsApart-images, count-filter, filter_passes, IsIn-filter}
-use Rattle.euler_operators.proofs.Maps.{from_map}
-use Rattle.euler_operators.proofs.Crossings.{level_on}
-use Rattle.euler_laws.proofs.shared.Arcs.{halves_of_edge}
-use Rattle.euler_laws.proofs.shared.Fans.{back_of, half_after, loop_after, half_face}
-use Rattle.euler_laws.proofs.shared.Listed.{listed-from_in, IsIn-from_listed}
-use Rattle.shapes.specs.split.Drawing.{drawn_pairs, all_pairs, from_place, straddling_pairs}
-use Rattle.shapes.specs.Faces.{start, finish, boundary, corners, edges_of}
-use Rattle.shapes.specs.split.Sides.{crosses, reaches_above, straddling_faces, crossing_edges, straddles, reaches_below}
-use Rattle.shapes.specs.split.Places.{is_place, place_point, places, goes_up, is_crossed, is_up_and_down, in_pairs, sorted, sorted_pairs, place_pairs}
-use Rattle.shapes.specs.split.Crossings.{with_crossings}
+use Rattle.std.proofs.lemmas.Bool.{and_parts, false_from_ne_true}
+use Rattle.euler_operators.specs.Common.{Plane, count, IsIn, IsApart, tick, Model, solid_of, after, tail, loop_of, face_of, point_of, faces_of, height, is_on, cut_between, are_opposite, is_above, is_below, edge_of, plus, minus, Sound, Has, HasHalf, face_at, differ, lists}
+use Rattle.euler_operators.proofs.Common.{count-append, tick_same, tick_other, IsIn_or_not, plus_row, mate_plus, mate_minus, IsIn-map, IsApart-images, count-filter, filter_passes, IsIn-filter, from_map, level_on, cycle_there, loop_there}
+use Rattle.euler_laws.proofs.Common.{halves_of_edge, back_of, half_after, loop_after, half_face, listed-from_in, IsIn-from_listed}
+use Rattle.shapes.specs.Common.{drawn_pairs, all_pairs, from_place, straddling_pairs, start, finish, boundary, corners, edges_of, crosses, reaches_above, straddling_faces, crossing_edges, straddles, reaches_below, is_place, place_point, places, goes_up, is_crossed, is_up_and_down, in_pairs, sorted, sorted_pairs, place_pairs, with_crossings}
 use Rattle.split_drawing_laws.specs.loop_sides.Parted.{ends, all_ends, Crosses, AllCross, LiesOn, FacesCross}
 use Rattle.split_drawing_laws.specs.crossings.AtPlace.{AtPlace}
 use Rattle.split_drawing_laws.specs.crossings.Laws.{CanBegin}
 use Rattle.split_drawing_laws.specs.half_sides.HalfSides.{half_is_above, side_of, is_own}
 use Rattle.split_drawing_laws.proofs.crossings.Whole.{at_place, item_there, item_face, turned, in_crossing, on_when, can_cut, crossings_sound, same_solid, none_crosses}
 use Rattle.split_drawing_laws.proofs.crossings.Premises.{edge_facts, crossing_here, crossing_point, one_point, face_facts, any_passes, tail_in_face, faces_not_zero, in_solid, edge_listed}
-use Rattle.shapes.proofs.split.Sorted.{count-sorted}
+use Rattle.shapes.proofs.Common.{count-sorted}
 use Rattle.split_drawing_laws.proofs.pairs.Sorted.{between, drawn, points_apart, all_places_drawn, sorted_apart}
 use Rattle.split_drawing_laws.proofs.pairs.LoopPlaces.{places_even, none_passes}
 use Rattle.split_drawing_laws.proofs.pairs.Whole.{places_apart, place_face}
 use Rattle.split_drawing_laws.proofs.half_sides.Starts.{side_ahead, TurnAt, turn_at, side_kept, side_changed, starts_above, starts_below, crosses_back, comes_from}
 use Rattle.euler_operators.specs.Table as table
-use Rattle.euler_operators.proofs.Models.{cycle_there, loop_there}
 use Rattle.split_drawing_laws.proofs.drawings.Counted.{straddling_apart, faces_are}
 use Rattle.split_drawing_laws.specs.loop_sides.Laws.{TakeSides}
 use Rattle.split_drawing_laws.proofs.loop_sides.Parting.{on_both}

@@ -1,27 +1,11 @@
 -- The side of a half-edge, by the heights of its ends.
-use Rattle.std.specs.Prelude.{int_lt}
-use Rattle.std.specs.Ordering.{int_eq}
-use Rattle.std.proofs.Common.{◌≡◌, true, false, not, ◌||◌, ℤ, pos, arith, ℕ, cond, ◌&&◌, List, sym, ap, ◌∙◌, subst, ◌⊎◌, inl, inr, true≢false}
+use Rattle.std.proofs.Common.{◌≡◌, true, false, not, ◌||◌, ℤ, pos, arith, ℕ, cond, ◌&&◌, List, sym, ap, ◌∙◌, subst, ◌⊎◌, inl, inr, true≢false, int_lt, int_eq}
 use Rattle.std.proofs.lemmas.Int.{ints}
 use Rattle.std.proofs.lemmas.Bool.{and_parts}
-use Rattle.euler_operators.specs.Vectors.{opposite, height, are_opposite, is_on}
-use Rattle.euler_operators.specs.declared.Plane.{Plane}
-use Rattle.euler_operators.specs.Items.{count, IsIn}
-use Rattle.euler_operators.specs.HalfEdge.{edge_of, plus, minus}
-use Rattle.euler_operators.specs.Model.{Model, tail, loop_of, face_of, after, before, point_of}
-use Rattle.euler_operators.specs.Sound.{Sound, HasHalf}
-use Rattle.euler_operators.specs.Conditions.{face_at}
-use Rattle.euler_operators.proofs.Lists.{IsIn_or_not}
-use Rattle.euler_operators.proofs.Halves.{edge_of-mate, mate_plus, mate_minus}
-use Rattle.euler_operators.proofs.Models.{cycle_there, plus_there, minus_there, loop_there, mate_there}
-use Rattle.euler_operators.proofs.Members.{IsIn-filter}
-use Rattle.euler_laws.proofs.shared.Arcs.{halves_of_edge}
-use Rattle.euler_laws.proofs.shared.Fans.{half_after, loop_after, back_of}
-use Rattle.shapes.specs.Faces.{start, finish, boundary}
-use Rattle.shapes.specs.split.Sides.{crosses, straddling_faces, crossing_edges}
-use Rattle.shapes.specs.split.Places.{is_place, places}
-use Rattle.shapes.specs.split.Crossings.{with_crossings}
-use Rattle.shapes.specs.split.Drawing.{from_place}
+use Rattle.euler_operators.specs.Common.{opposite, height, are_opposite, is_on, Plane, count, IsIn, edge_of, plus, minus, Model, tail, loop_of, face_of, after, before, point_of, Sound, HasHalf, face_at}
+use Rattle.euler_operators.proofs.Common.{IsIn_or_not, edge_of-mate, mate_plus, mate_minus, cycle_there, plus_there, minus_there, loop_there, mate_there, IsIn-filter}
+use Rattle.euler_laws.proofs.Common.{halves_of_edge, half_after, loop_after, back_of}
+use Rattle.shapes.specs.Common.{start, finish, boundary, crosses, straddling_faces, crossing_edges, is_place, places, with_crossings, from_place}
 use Rattle.split_drawing_laws.specs.crossings.Kept.{Kept}
 use Rattle.split_drawing_laws.specs.crossings.Laws.{CanBegin}
 use Rattle.split_drawing_laws.proofs.crossings.Premises.{item_in_face, Cuttable, crossing_is_place, edge_facts, plus_crosses, minus_crosses, minus_is}

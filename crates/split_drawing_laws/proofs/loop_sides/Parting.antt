@@ -1,30 +1,12 @@
 -- What follows what in a model, once an edge is drawn or loops are joined.
-use Rattle.std.specs.Prelude.{int_lt}
-use Rattle.std.specs.Ordering.{int_eq}
-use Rattle.std.proofs.Common.{◌≡◌, ◌≢◌, ℕ, ◌++◌, None, is_some, sym, ap, ◌∙◌, subst, arith, ◌⊎◌, inl, inr, true≢false, ◌+◌, Bool, true, false, not, List, [], ◌∷◌, unwrap_or, ℤ, pos, refl}
+use Rattle.std.proofs.Common.{◌≡◌, ◌≢◌, ℕ, ◌++◌, None, is_some, sym, ap, ◌∙◌, subst, arith, ◌⊎◌, inl, inr, true≢false, ◌+◌, Bool, true, false, not, List, [], ◌∷◌, unwrap_or, ℤ, pos, refl, int_lt, int_eq}
 use Rattle.std.proofs.lemmas.Bool.Decides.{eqb_tells}
 use Rattle.std.proofs.lemmas.Int.{ints}
-use Rattle.euler_operators.specs.Items.{count, IsIn, IsApart, tick, head_or}
-use Rattle.euler_operators.specs.Rings.{IsRing, IsPath}
-use Rattle.euler_operators.specs.Operators.{mef_old, mef_new, mekr_ring, after_mef}
-use Rattle.euler_operators.specs.HalfEdge.{edge_of, plus, minus}
+use Rattle.euler_operators.specs.Common.{count, IsIn, IsApart, tick, head_or, IsRing, IsPath, mef_old, mef_new, mekr_ring, after_mef, edge_of, plus, minus, Model, items_of, loop_of, content, cycle_of, after, tail, point_of, no_point, Sound, Has, HasHalf, Point, Plane, height, is_on, ring_in}
 use Rattle.euler_operators.specs.Table as table
-use Rattle.euler_operators.specs.Model.{Model, items_of, loop_of, content, cycle_of, after, tail, point_of, no_point}
-use Rattle.euler_operators.specs.Sound.{Sound, Has, HasHalf}
-use Rattle.euler_operators.specs.declared.Point.{Point}
-use Rattle.euler_operators.specs.declared.Plane.{Plane}
-use Rattle.euler_operators.specs.Vectors.{height, is_on}
-use Rattle.euler_operators.specs.Effect.{ring_in}
-use Rattle.euler_operators.proofs.Lists.{count-append, IsIn_or_not, tick_same, tick_other}
-use Rattle.euler_operators.proofs.Rings.{next_is_successor}
-use Rattle.euler_operators.proofs.Leads.{IsRing-mef, IsRing-mekr, IsRing-led_over_other, IsRing-splice_other}
-use Rattle.euler_operators.proofs.Halves.{plus_row, minus_row, same_edge, mate_plus, plus_other}
-use Rattle.euler_operators.proofs.Models.{content_row, in-holds, cycle_there, cycle_sound, same_content, loop_there}
-use Rattle.euler_operators.proofs.Tables.{row_elsewhere, get-put_other}
-use Rattle.euler_laws.proofs.shared.Loops.{light, none_free}
-use Rattle.euler_laws.proofs.shared.Fans.{half_after}
-use Rattle.shapes.specs.split.Drawing.{face_drawn, loops_joined}
-use Rattle.shapes.specs.Faces.{start}
+use Rattle.euler_operators.proofs.Common.{count-append, IsIn_or_not, tick_same, tick_other, next_is_successor, IsRing-mef, IsRing-mekr, IsRing-led_over_other, IsRing-splice_other, plus_row, minus_row, same_edge, mate_plus, plus_other, content_row, in-holds, cycle_there, cycle_sound, same_content, loop_there, row_elsewhere, get-put_other}
+use Rattle.euler_laws.proofs.Common.{light, none_free, half_after}
+use Rattle.shapes.specs.Common.{face_drawn, loops_joined, start}
 use Rattle.split_drawing_laws.specs.drawings.DrawnIn.{Stays, DrawnIn}
 use Rattle.split_drawing_laws.specs.loop_sides.Parted.{Sided, LiesOn, Parted}
 use Rattle.split_drawing_laws.proofs.drawings.Drawn.{CanDraw, draw_sound, CanJoin, join_sound}

@@ -1,19 +1,10 @@
 -- The sides of half-edges through the two passes over the pairs of a face.
-use Rattle.std.specs.Prelude.{fold, map}
-use Rattle.std.proofs.Common.{◌≡◌, ◌≢◌, ℕ, ◌+◌, Bool, true, false, cond, List, [], ◌∷◌, ◌++◌, None, IsTrue, refl, sym, ap, subst, arith, ◌⊎◌, inl, inr, nat_eq, nat_lt, ◌&&◌, length, ◌∙◌}
-use Rattle.std.proofs.lemmas.Bool.{eqb-true}
+use Rattle.std.proofs.Common.{◌≡◌, ◌≢◌, ℕ, ◌+◌, Bool, true, false, cond, List, [], ◌∷◌, ◌++◌, None, IsTrue, refl, sym, ap, subst, arith, ◌⊎◌, inl, inr, nat_eq, nat_lt, ◌&&◌, length, ◌∙◌, fold, map, eqb-true}
 use Rattle.std.proofs.lemmas.Bool.Decides.{eqb_tells}
-use Rattle.euler_operators.specs.declared.Plane.{Plane}
-use Rattle.euler_operators.specs.Items.{count, tick, IsIn}
+use Rattle.euler_operators.specs.Common.{Plane, count, tick, IsIn, Model, loop_of, is_number, is_ring_of, content, Sound, HasHalf, face_at, has_rings}
 use Rattle.euler_operators.specs.Table as table
-use Rattle.euler_operators.specs.Model.{Model, loop_of, is_number, is_ring_of, content}
-use Rattle.euler_operators.specs.Sound.{Sound, HasHalf}
-use Rattle.euler_operators.specs.Conditions.{face_at, has_rings}
-use Rattle.euler_operators.proofs.Lists.{count-append, tick_same}
-use Rattle.shapes.specs.split.Drawing.{Drawing, loops_joined, in_one_loop, joined_pair, join_next, draw_next, stuck_at, all_joined, ring_free, all_drawn, rings_above, with_rings, drawn_between, FacePairs, next_drawn, faces_drawn, undrawn}
-use Rattle.shapes.specs.Faces.{vertices_on, start}
-use Rattle.shapes.specs.split.Sides.{some_above}
-use Rattle.shapes.specs.Fresh.{Growing}
+use Rattle.euler_operators.proofs.Common.{count-append, tick_same}
+use Rattle.shapes.specs.Common.{Drawing, loops_joined, in_one_loop, joined_pair, join_next, draw_next, stuck_at, all_joined, ring_free, all_drawn, rings_above, with_rings, drawn_between, FacePairs, next_drawn, faces_drawn, undrawn, vertices_on, start, some_above, Growing}
 use Rattle.split_drawing_laws.specs.drawings.Pairs.{Fits, AllFit}
 use Rattle.split_drawing_laws.specs.loop_sides.Parted.{Parted, ends, Crosses, AllCross, Open, LiesOn, FacesCross, all_ends}
 use Rattle.split_drawing_laws.specs.drawings.DrawnIn.{JoinedIn}

@@ -1,26 +1,13 @@
 -- The signs of three heights that follow one another, the first two and the last two of which are those of neighbours.
-use Rattle.std.specs.Prelude.{int_lt, ◌-◌, filter}
-use Rattle.std.specs.Ordering.{int_eq}
 use Rattle.std.specs.List.{list_any}
-use Rattle.std.proofs.Common.{◌≡◌, Bool, true, false, cond, not, ◌&&◌, ◌||◌, ℤ, pos, arith, ℕ, suc, ◌+◌, ◌*◌, List, [], ◌∷◌, length, refl, sym, ap, ◌∙◌, true≢false, ◌≤◌, ◌++◌, subst}
+use Rattle.std.proofs.Common.{◌≡◌, Bool, true, false, cond, not, ◌&&◌, ◌||◌, ℤ, pos, arith, ℕ, suc, ◌+◌, ◌*◌, List, [], ◌∷◌, length, refl, sym, ap, ◌∙◌, true≢false, ◌≤◌, ◌++◌, subst, int_lt, ◌-◌, filter, int_eq, length-append}
 use Rattle.std.proofs.lemmas.Int.{ints}
-use Rattle.std.proofs.lemmas.List.{length-append}
 use Rattle.std.proofs.lemmas.List.Elements.{filter-append}
 use Rattle.std.proofs.lemmas.Bool.{not-false, false_from_ne_true}
-use Rattle.euler_operators.specs.Vectors.{opposite, height, is_on}
-use Rattle.euler_operators.specs.Items.{IsIn, head_or, count}
-use Rattle.euler_operators.specs.Rings.{IsPath, IsRing}
-use Rattle.euler_operators.specs.declared.Plane.{Plane}
-use Rattle.euler_operators.specs.Model.{Model, items_of, content, outer, loop_of, before, after, point_of, rings_of}
-use Rattle.euler_operators.specs.Sound.{Sound, HasHalf}
-use Rattle.euler_operators.proofs.Lists.{tick_same, count-append, tick_le}
-use Rattle.euler_operators.proofs.Rings.{predecessor-successor}
-use Rattle.euler_operators.proofs.Models.{in-holds, cycle_there, cycle_sound}
-use Rattle.euler_operators.proofs.Members.{count-filter}
-use Rattle.euler_laws.proofs.shared.Fans.{loop_after}
-use Rattle.euler_laws.proofs.shared.Loops.{light}
-use Rattle.shapes.specs.Faces.{start, finish, loops_of, items_in, boundary}
-use Rattle.shapes.specs.split.Places.{is_place, places, is_touched, loop_is_cut}
+use Rattle.euler_operators.specs.Common.{opposite, height, is_on, IsIn, head_or, count, IsPath, IsRing, Plane, Model, items_of, content, outer, loop_of, before, after, point_of, rings_of, Sound, HasHalf}
+use Rattle.euler_operators.proofs.Common.{tick_same, count-append, tick_le, predecessor-successor, in-holds, cycle_there, cycle_sound, count-filter}
+use Rattle.euler_laws.proofs.Common.{loop_after, light}
+use Rattle.shapes.specs.Common.{start, finish, loops_of, items_in, boundary, is_place, places, is_touched, loop_is_cut}
 use Rattle.split_drawing_laws.proofs.crossings.Premises.{any_passes}
 
 -- b and c are opposite, or b is 0 and its neighbours are

@@ -1,14 +1,9 @@
 -- Places sorted by their points: what holds of them and of their pairs.
-use Rattle.std.specs.Prelude.{map}
-use Rattle.std.proofs.Common.{◌≡◌, ℕ, ◌+◌, true, false, cond, List, [], ◌∷◌, length, refl, ap, ◌∙◌, arith, ◌≢◌, ◌*◌, Bool, sym, subst, true≢false}
-use Rattle.std.proofs.lemmas.Bool.{eq-eqb}
-use Rattle.euler_operators.specs.declared.Plane.{Plane}
-use Rattle.euler_operators.specs.Items.{count, tick, IsApart, IsIn}
-use Rattle.euler_operators.specs.Model.{Model, loop_of}
-use Rattle.euler_operators.proofs.Lists.{tick_same}
-use Rattle.shapes.specs.split.Places.{place_point, sorted_in, sorted, goes_up, in_pairs, up_first, places, sorted_pairs, place_pairs, is_crossed}
-use Rattle.shapes.specs.split.Drawing.{from_place, drawn_pairs}
-use Rattle.shapes.proofs.split.Sorted.{count-sorted, length-sorted}
+use Rattle.std.proofs.Common.{◌≡◌, ℕ, ◌+◌, true, false, cond, List, [], ◌∷◌, length, refl, ap, ◌∙◌, arith, ◌≢◌, ◌*◌, Bool, sym, subst, true≢false, map, eq-eqb}
+use Rattle.euler_operators.specs.Common.{Plane, count, tick, IsApart, IsIn, Model, loop_of}
+use Rattle.euler_operators.proofs.Common.{tick_same}
+use Rattle.shapes.specs.Common.{place_point, sorted_in, sorted, goes_up, in_pairs, up_first, places, sorted_pairs, place_pairs, is_crossed, from_place, drawn_pairs}
+use Rattle.shapes.proofs.Common.{count-sorted, length-sorted}
 use Rattle.split_drawing_laws.specs.drawings.Pairs.{Fits, AllFit, LoneInOneLoop}
 use Rattle.split_drawing_laws.specs.loop_sides.Parted.{ends}
 use Rattle.split_drawing_laws.proofs.pairs.LoopPlaces.{IsEven, two_less}

@@ -2,25 +2,12 @@
 use Rattle.std.specs.List.{list_all}
 use Rattle.std.proofs.Common.{◌≡◌, ℕ, ◌+◌, List, [], ◌∷◌, length, refl, sym, ap, ◌∙◌, subst, arith, ◌≢◌, ◌*◌, true, false, not, nat_eq, ◌&&◌}
 use Rattle.std.proofs.lemmas.List.{length-map}
-use Rattle.euler_operators.specs.declared.Plane.{Plane}
-use Rattle.euler_operators.specs.Model.{Model, tail, loop_of, face_of, outer, point_of, rings_of}
-use Rattle.euler_operators.specs.Items.{IsIn, IsApart}
-use Rattle.euler_operators.specs.Sound.{Sound}
-use Rattle.euler_operators.specs.Conditions.{face_at, lists}
-use Rattle.euler_operators.proofs.Lists.{tick_same}
-use Rattle.euler_operators.proofs.Tests.{not_or_fails}
-use Rattle.euler_operators.proofs.Members.{count-filter}
+use Rattle.euler_operators.specs.Common.{Plane, Model, tail, loop_of, face_of, outer, point_of, rings_of, IsIn, IsApart, Sound, face_at, lists}
+use Rattle.euler_operators.proofs.Common.{tick_same, not_or_fails, count-filter}
 use Rattle.euler_laws.specs.Laws.{AreAccepted, effects}
-use Rattle.euler_laws.proofs.Runs.{AreAccepted-append, effects-append}
-use Rattle.euler_laws.proofs.shared.Listed.{listed-from_in, IsIn-from_listed}
-use Rattle.shapes.specs.Fresh.{Taken, Growing, growing, taken_in}
-use Rattle.shapes.specs.split.Sides.{straddling_faces, crossing_edges}
-use Rattle.shapes.specs.split.Places.{pair_count, is_place, places, loop_is_cut, is_cut_often, sorted, sorted_pairs, place_pairs}
-use Rattle.shapes.specs.split.Crossings.{next_cut, all_cut, with_crossings}
-use Rattle.shapes.specs.split.Drawing.{straddling_pairs, from_place, drawn_pairs, all_pairs, with_drawings}
-use Rattle.shapes.specs.Faces.{loops_of, boundary}
-use Rattle.shapes.proofs.fresh.Tests.{Left}
-use Rattle.shapes.proofs.walks.FaceLoops.{different_items, loops_of_apart}
+use Rattle.euler_laws.proofs.Common.{AreAccepted-append, effects-append, listed-from_in, IsIn-from_listed}
+use Rattle.shapes.specs.Common.{Taken, Growing, growing, taken_in, straddling_faces, crossing_edges, pair_count, is_place, places, loop_is_cut, is_cut_often, sorted, sorted_pairs, place_pairs, next_cut, all_cut, with_crossings, straddling_pairs, from_place, drawn_pairs, all_pairs, with_drawings, loops_of, boundary}
+use Rattle.shapes.proofs.Common.{Left, different_items, loops_of_apart, count-sorted, length-sorted}
 use Rattle.split_drawing_laws.specs.drawings.DrawnIn.{PairsHaveRoom, Fresh}
 use Rattle.split_drawing_laws.specs.drawings.Pairs.{pairs_in, Fits, AllFit, LoneInOneLoop, FacesFit}
 use Rattle.split_drawing_laws.specs.crossings.AtPlace.{AtPlace}
@@ -33,7 +20,6 @@ use Rattle.split_drawing_laws.proofs.drawings.Counted.{pairs_counted, fresh_take
 use Rattle.split_drawing_laws.proofs.crossings.Whole.{at_place, item_face, can_cut, crossings_accepted, crossings_made, crossings_sound, crossings_counted, crossings_keep}
 use Rattle.split_drawing_laws.proofs.crossings.Premises.{Cuttable, face_facts}
 use Rattle.split_drawing_laws.proofs.drawings.Whole.{drawing_accepted, drawing_made, drawing_sound}
-use Rattle.shapes.proofs.split.Sorted.{count-sorted, length-sorted}
 use Rattle.split_drawing_laws.proofs.pairs.Sorted.{sorted_apart, all_paired, between, drawn, all_fit, lone_in_loop, points_apart}
 use Rattle.split_drawing_laws.proofs.pairs.LoopPlaces.{places_even, two_outer, IsEven}
 

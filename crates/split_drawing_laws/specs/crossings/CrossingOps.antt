@@ -1,16 +1,9 @@
 -- The Euler operators by which the edges that cross a plane are cut.
 use Rattle.std.specs.Prelude.{ℕ, ◌+◌, List, [], ◌∷◌}
-use Rattle.euler_operators.specs.declared.Plane.{Plane}
-use Rattle.euler_operators.specs.Vectors.{cut_between}
-use Rattle.euler_operators.specs.declared.Corner.TheVariants.{At}
-use Rattle.euler_operators.specs.HalfEdge.{half, plus, minus}
-use Rattle.euler_operators.specs.Model.{Model, after}
+use Rattle.euler_operators.specs.Common.{Plane, cut_between, At, half, plus, minus, Model, after}
 use Rattle.euler_operators.specs.declared.Op.{Op}
 use Rattle.euler_operators.specs.declared.Op.TheVariants.{Mev}
-use Rattle.shapes.specs.Faces.{start, finish}
-use Rattle.shapes.specs.Fresh.{Growing, growing}
-use Rattle.shapes.specs.split.Sides.{crossing_edges}
-use Rattle.shapes.specs.split.Crossings.{next_cut}
+use Rattle.shapes.specs.Common.{start, finish, Growing, growing, crossing_edges, next_cut}
 
 -- a new edge to a new vertex where e meets the plane, between e's plus half and what follows its minus half
 abbrev pub cut_edge : Plane → Growing → ℕ → Op

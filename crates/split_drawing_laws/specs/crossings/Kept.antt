@@ -1,8 +1,7 @@
 -- What stays while edges are cut.
 use Rattle.std.specs.Prelude.{◌≡◌, ℕ}
 use Rattle.euler_operators.specs.Table as table
-use Rattle.euler_operators.specs.Model.{Model, loop_of, face_of}
-use Rattle.euler_operators.specs.Sound.{Has, HasHalf}
+use Rattle.euler_operators.specs.Common.{Model, loop_of, face_of, Has, HasHalf}
 
 -- solids and faces stay, each loop keeps its face, each half-edge its loop, and each vertex its point
 pub record Kept (M N : Model) : Type 0 where

@@ -1,16 +1,8 @@
 -- The laws of the first rewriting of a split, over every sound model in which the first conditions hold.
 use Rattle.std.specs.Prelude.{◌≡◌, ℕ, true, false, [], None}
-use Rattle.euler_operators.specs.declared.Plane.{Plane}
-use Rattle.euler_operators.specs.HalfEdge.{plus, minus}
-use Rattle.euler_operators.specs.Model.{Model, tail}
-use Rattle.euler_operators.specs.Sound.{Sound, Has}
-use Rattle.euler_operators.specs.Conditions.{first_refusal, lists}
+use Rattle.euler_operators.specs.Common.{Plane, plus, minus, Model, tail, Sound, Has, first_refusal, lists}
 use Rattle.euler_laws.specs.Laws.{AreAccepted, effects}
-use Rattle.shapes.specs.Fresh.{taken_in}
-use Rattle.shapes.specs.split.Sides.{crossing_edges, straddling_faces}
-use Rattle.shapes.specs.split.Places.{places}
-use Rattle.shapes.specs.split.Crossings.{with_crossings}
-use Rattle.shapes.specs.split.Split.{first_conditions}
+use Rattle.shapes.specs.Common.{taken_in, crossing_edges, straddling_faces, places, with_crossings, first_conditions}
 use Rattle.split_drawing_laws.specs.crossings.CrossingOps.{crossing_ops}
 use Rattle.split_drawing_laws.specs.crossings.Kept.{Kept}
 use Rattle.split_drawing_laws.specs.crossings.AtPlace.{AtPlace}

@@ -1,12 +1,7 @@
 -- What the first rewriting of a split leaves as it was: normals, planes and volumes.
 use Rattle.std.specs.Prelude.{◌≡◌, ℕ, true}
-use Rattle.euler_operators.specs.declared.Plane.{Plane}
-use Rattle.euler_operators.specs.Model.{Model, faces_of}
-use Rattle.euler_operators.specs.Sound.{Sound}
-use Rattle.euler_operators.specs.Conditions.{lists}
-use Rattle.shapes.specs.Faces.{corners}
-use Rattle.shapes.specs.Measure.{normal, plane_of, is_plane_of, is_flat, six_volume}
-use Rattle.shapes.specs.split.Crossings.{with_crossings}
+use Rattle.euler_operators.specs.Common.{Plane, Model, faces_of, Sound, lists}
+use Rattle.shapes.specs.Common.{corners, normal, plane_of, is_plane_of, is_flat, six_volume, with_crossings}
 use Rattle.split_drawing_laws.specs.crossings.Laws.{CanBegin}
 
 -- each face keeps its normal while the edges that cross the plane are cut

@@ -1,14 +1,9 @@
 -- The Euler operators by which edges are drawn in the faces that straddle a plane.
 use Rattle.std.specs.Prelude.{ℕ, ◌+◌, cond, nat_eq, List, [], ◌∷◌, ◌++◌, length}
-use Rattle.euler_operators.specs.declared.Plane.{Plane}
-use Rattle.euler_operators.specs.declared.Corner.TheVariants.{At}
-use Rattle.euler_operators.specs.HalfEdge.{half, plus}
-use Rattle.euler_operators.specs.Model.{Model, loop_of, is_ring_of}
+use Rattle.euler_operators.specs.Common.{Plane, At, half, plus, Model, loop_of, is_ring_of, face_at}
 use Rattle.euler_operators.specs.declared.Op.{Op}
 use Rattle.euler_operators.specs.declared.Op.TheVariants.{Mef, Mekr, RingIn}
-use Rattle.euler_operators.specs.Conditions.{face_at}
-use Rattle.shapes.specs.Fresh.{Taken, Growing}
-use Rattle.shapes.specs.split.Drawing.{Drawing, in_one_loop, join_next, all_joined, ring_free, draw_next, all_drawn, rings_above, FacePairs, next_drawn, undrawn}
+use Rattle.shapes.specs.Common.{Taken, Growing, Drawing, in_one_loop, join_next, all_joined, ring_free, draw_next, all_drawn, rings_above, FacePairs, next_drawn, undrawn}
 
 -- an edge from the corner of c to that of d, whose loop is a ring
 abbrev pub join_edge : ℕ → ℕ → ℕ → Op

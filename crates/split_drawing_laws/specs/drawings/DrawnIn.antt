@@ -1,10 +1,8 @@
 -- What stays while edges are drawn in a face.
 use Rattle.std.specs.Prelude.{◌≡◌, ◌≢◌, ◌⊎◌, ℕ, ◌+◌, ◌≤◌, ◌<◌, None}
 use Rattle.euler_operators.specs.Table as table
-use Rattle.euler_operators.specs.Model.{Model, tail, loop_of}
-use Rattle.euler_operators.specs.Sound.{Sound, Has, HasHalf}
-use Rattle.euler_operators.specs.Conditions.{face_at}
-use Rattle.shapes.specs.Fresh.{Taken}
+use Rattle.euler_operators.specs.Common.{Model, tail, loop_of, Sound, Has, HasHalf, face_at}
+use Rattle.shapes.specs.Common.{Taken}
 
 -- each half-edge stays and starts where it did, and vertices and faces stay
 pub record Stays (M N : Model) : Type 0 where

@@ -1,11 +1,8 @@
 -- The laws of drawing edges in faces, each over every sound model and all faces whose pairs of half-edges fit.
 use Rattle.std.specs.Prelude.{◌≡◌, List, map}
-use Rattle.euler_operators.specs.declared.Plane.{Plane}
-use Rattle.euler_operators.specs.Items.{IsApart}
-use Rattle.euler_operators.specs.Sound.{Sound}
+use Rattle.euler_operators.specs.Common.{Plane, IsApart, Sound}
 use Rattle.euler_laws.specs.Laws.{effects, AreAccepted}
-use Rattle.shapes.specs.Fresh.{Growing}
-use Rattle.shapes.specs.split.Drawing.{FacePairs, faces_drawn, undrawn}
+use Rattle.shapes.specs.Common.{Growing, FacePairs, faces_drawn, undrawn}
 use Rattle.split_drawing_laws.specs.drawings.DrawingOps.{drawing_ops}
 use Rattle.split_drawing_laws.specs.drawings.DrawnIn.{Stays, Fresh, PairsHaveRoom}
 use Rattle.split_drawing_laws.specs.drawings.Pairs.{FacesFit, pairs_in}

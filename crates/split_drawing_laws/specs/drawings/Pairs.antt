@@ -1,9 +1,7 @@
 -- Pairs of half-edges between which edges can be drawn in a face.
 use Rattle.std.specs.Prelude.{◌≡◌, ◌≢◌, ℕ, ◌+◌, true, List, [], ◌∷◌, length}
-use Rattle.euler_operators.specs.Model.{Model, tail}
-use Rattle.euler_operators.specs.Sound.{HasHalf}
-use Rattle.euler_operators.specs.Conditions.{face_at}
-use Rattle.shapes.specs.split.Drawing.{FacePairs, in_one_loop}
+use Rattle.euler_operators.specs.Common.{Model, tail, HasHalf, face_at}
+use Rattle.shapes.specs.Common.{FacePairs, in_one_loop}
 
 -- the two are of face f and start at different vertices
 pub record Fits (M : Model) (f : ℕ) (q : ℕ × ℕ) : Type 0 where

@@ -1,10 +1,7 @@
 -- What holds while the pairs of a face are passed over, and then one face after the other.
 use Rattle.std.specs.Prelude.{ℕ, ◌+◌, List, map, length}
-use Rattle.euler_operators.specs.declared.Plane.{Plane}
-use Rattle.euler_operators.specs.Items.{IsApart}
-use Rattle.euler_operators.specs.Model.{Model}
-use Rattle.euler_operators.specs.Sound.{Sound}
-use Rattle.shapes.specs.split.Drawing.{Drawing, FacePairs}
+use Rattle.euler_operators.specs.Common.{Plane, IsApart, Model, Sound}
+use Rattle.shapes.specs.Common.{Drawing, FacePairs}
 use Rattle.split_drawing_laws.specs.drawings.DrawnIn.{JoinedIn, DrawnIn, Fresh, PairsHaveRoom}
 use Rattle.split_drawing_laws.specs.drawings.Pairs.{AllFit, LoneInOneLoop, FacesFit, pairs_in}
 

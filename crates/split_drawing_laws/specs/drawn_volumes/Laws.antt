@@ -1,12 +1,7 @@
 -- What the second rewriting of a split leaves as it was: planes and volumes.
 use Rattle.std.specs.Prelude.{◌≡◌, ℕ, true}
-use Rattle.euler_operators.specs.declared.Plane.{Plane}
-use Rattle.euler_operators.specs.Model.{Model, faces_of}
-use Rattle.euler_operators.specs.Sound.{Sound, Has}
-use Rattle.euler_operators.specs.Conditions.{lists}
-use Rattle.shapes.specs.Faces.{corners}
-use Rattle.shapes.specs.Measure.{plane_of, is_plane_of, six_volume}
-use Rattle.shapes.specs.split.Drawing.{with_drawings}
+use Rattle.euler_operators.specs.Common.{Plane, Model, faces_of, Sound, Has, lists}
+use Rattle.shapes.specs.Common.{corners, plane_of, is_plane_of, six_volume, with_drawings}
 use Rattle.split_drawing_laws.specs.crossings.Laws.{CanBegin}
 
 -- face f of N lies on the plane of a face of solid s of M: on its own, where it was a face of M

@@ -1,13 +1,8 @@
 -- The laws of the sides on which the loops and the faces of a solid lie once a split has drawn its edges, and that none of these loops
 -- is lone, over every sound model in which the first conditions of a split hold.
 use Rattle.std.specs.Prelude.{◌≡◌, ℕ, Bool, true, false}
-use Rattle.euler_operators.specs.declared.Plane.{Plane}
-use Rattle.euler_operators.specs.Model.{Model, loop_of, solid_of, faces_of}
-use Rattle.euler_operators.specs.Sound.{Sound, HasHalf}
-use Rattle.euler_operators.specs.Conditions.{face_at, lists}
-use Rattle.shapes.specs.Faces.{start}
-use Rattle.shapes.specs.split.Sides.{straddles}
-use Rattle.shapes.specs.split.Drawing.{with_drawings}
+use Rattle.euler_operators.specs.Common.{Plane, Model, loop_of, solid_of, faces_of, Sound, HasHalf, face_at, lists}
+use Rattle.shapes.specs.Common.{start, straddles, with_drawings}
 use Rattle.split_drawing_laws.specs.crossings.Laws.{CanBegin}
 use Rattle.split_drawing_laws.specs.loop_sides.Parted.{LiesOn}
 use Rattle.split_drawing_laws.specs.face_sides.Lone.{NoLoopIsLone}

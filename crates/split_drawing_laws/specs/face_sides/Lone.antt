@@ -1,7 +1,6 @@
 -- Solids none of whose loops is lone.
 use Rattle.std.specs.Prelude.{◌≢◌, ℕ}
-use Rattle.euler_operators.specs.Model.{Model, face_of, solid_of}
-use Rattle.euler_operators.specs.Sound.{IsLoneAt}
+use Rattle.euler_operators.specs.Common.{Model, face_of, solid_of, IsLoneAt}
 
 -- no loop of solid s is lone
 abbrev pub NoLoopIsLone : Model → ℕ → Type 0

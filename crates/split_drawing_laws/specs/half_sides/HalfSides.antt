@@ -1,12 +1,7 @@
 -- On which side of a plane half-edges lie, once the edges of a solid that cross it are cut.
 use Rattle.std.specs.Prelude.{ℕ, Bool, cond, not, ◌||◌, nat_eq}
-use Rattle.euler_operators.specs.declared.Plane.{Plane}
-use Rattle.euler_operators.specs.Vectors.{is_above}
-use Rattle.euler_operators.specs.Model.{Model, has_half, solid_of}
-use Rattle.euler_operators.specs.Conditions.{face_at, lists}
-use Rattle.shapes.specs.Faces.{start, finish}
-use Rattle.shapes.specs.split.Sides.{reaches_above, straddling_faces}
-use Rattle.shapes.specs.split.Crossings.{with_crossings}
+use Rattle.euler_operators.specs.Common.{Plane, is_above, Model, has_half, solid_of, face_at, lists}
+use Rattle.shapes.specs.Common.{start, finish, reaches_above, straddling_faces, with_crossings}
 
 -- a half-edge is above where one of its ends lies strictly above
 abbrev pub half_is_above : Model → Plane → ℕ → Bool

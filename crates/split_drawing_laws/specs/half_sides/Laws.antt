@@ -1,10 +1,7 @@
 -- The laws of the sides on which a split's loops and faces lie, over every sound model in which its first conditions hold.
 use Rattle.std.specs.Prelude.{ℕ}
-use Rattle.euler_operators.specs.declared.Plane.{Plane}
-use Rattle.euler_operators.specs.Model.{Model}
-use Rattle.euler_operators.specs.Sound.{Sound}
-use Rattle.shapes.specs.split.Crossings.{with_crossings}
-use Rattle.shapes.specs.split.Drawing.{straddling_pairs}
+use Rattle.euler_operators.specs.Common.{Plane, Model, Sound}
+use Rattle.shapes.specs.Common.{with_crossings, straddling_pairs}
 use Rattle.split_drawing_laws.specs.crossings.Laws.{CanBegin}
 use Rattle.split_drawing_laws.specs.loop_sides.Laws.{TakeSides}
 use Rattle.split_drawing_laws.specs.half_sides.HalfSides.{side_of, is_own}

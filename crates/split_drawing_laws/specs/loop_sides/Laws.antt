@@ -1,12 +1,7 @@
 -- The law of the sides on which loops lie once edges are drawn.
 use Rattle.std.specs.Prelude.{◌≡◌, ◌≢◌, ℕ, Bool, true, List, map}
-use Rattle.euler_operators.specs.declared.Plane.{Plane}
-use Rattle.euler_operators.specs.Items.{IsIn}
-use Rattle.euler_operators.specs.Model.{loop_of, after}
-use Rattle.euler_operators.specs.Sound.{HasHalf}
-use Rattle.shapes.specs.Faces.{start}
-use Rattle.shapes.specs.Fresh.{Growing}
-use Rattle.shapes.specs.split.Drawing.{FacePairs, faces_drawn, undrawn}
+use Rattle.euler_operators.specs.Common.{Plane, IsIn, loop_of, after, HasHalf}
+use Rattle.shapes.specs.Common.{start, Growing, FacePairs, faces_drawn, undrawn}
 use Rattle.split_drawing_laws.specs.drawings.Laws.{CanBeDrawn}
 use Rattle.split_drawing_laws.specs.loop_sides.Parted.{Sided, LiesOn, Open, FacesCross, all_ends}
 

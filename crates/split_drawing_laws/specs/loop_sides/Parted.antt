@@ -1,13 +1,7 @@
 -- On which side of a plane half-edges lie while edges are drawn.
 use Rattle.std.specs.Prelude.{◌≡◌, ◌≢◌, ℕ, Bool, true, false, not, List, [], ◌∷◌, ◌++◌}
-use Rattle.euler_operators.specs.declared.Point.{Point}
-use Rattle.euler_operators.specs.declared.Plane.{Plane}
-use Rattle.euler_operators.specs.Vectors.{is_above, is_below, is_on}
-use Rattle.euler_operators.specs.Items.{count, IsIn, IsApart}
-use Rattle.euler_operators.specs.Model.{Model, after}
-use Rattle.euler_operators.specs.Sound.{HasHalf}
-use Rattle.shapes.specs.Faces.{start}
-use Rattle.shapes.specs.split.Drawing.{FacePairs}
+use Rattle.euler_operators.specs.Common.{Point, Plane, is_above, is_below, is_on, count, IsIn, IsApart, Model, after, HasHalf}
+use Rattle.shapes.specs.Common.{start, FacePairs}
 use Rattle.split_drawing_laws.specs.drawings.DrawnIn.{Stays}
 
 -- going on from x the side stays, but where one comes to an open place it changes

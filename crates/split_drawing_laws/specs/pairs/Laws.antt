@@ -1,15 +1,9 @@
 -- The laws by which the first conditions of a split allow its second rewriting, over every sound model in which they hold.
 use Rattle.std.specs.Prelude.{◌≡◌, ℕ, ◌*◌, true, List, ◌++◌, length}
-use Rattle.euler_operators.specs.declared.Plane.{Plane}
-use Rattle.euler_operators.specs.Model.{Model}
-use Rattle.euler_operators.specs.Sound.{Sound}
+use Rattle.euler_operators.specs.Common.{Plane, Model, Sound, lists}
 use Rattle.euler_operators.specs.declared.Op.{Op}
-use Rattle.euler_operators.specs.Conditions.{lists}
 use Rattle.euler_laws.specs.Laws.{AreAccepted, effects}
-use Rattle.shapes.specs.split.Sides.{straddling_faces}
-use Rattle.shapes.specs.split.Places.{places, place_pairs}
-use Rattle.shapes.specs.split.Crossings.{with_crossings}
-use Rattle.shapes.specs.split.Drawing.{straddling_pairs, with_drawings}
+use Rattle.shapes.specs.Common.{straddling_faces, places, place_pairs, with_crossings, straddling_pairs, with_drawings}
 use Rattle.split_drawing_laws.specs.crossings.CrossingOps.{crossing_ops}
 use Rattle.split_drawing_laws.specs.crossings.Laws.{CanBegin}
 use Rattle.split_drawing_laws.specs.drawings.DrawingOps.{drawing_ops}

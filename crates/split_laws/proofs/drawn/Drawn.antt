@@ -1,26 +1,13 @@
 -- What the conditions of a split say once the faces are drawn: the solid can be opened along its section, and has a face on either side.
-use Rattle.std.proofs.Common.{◌≡◌, ℕ, ◌+◌, ◌*◌, ◌<◌, true, false, nat_eq, List, [], ◌++◌, length, None, IsTrue, ap, ◌∙◌, subst, arith, not, ◌&&◌, ◌||◌, is_some, unwrap_or, refl, sym, inl, inr, true≢false}
-use Rattle.std.proofs.lemmas.List.{append-nil}
+use Rattle.std.proofs.Common.{◌≡◌, ℕ, ◌+◌, ◌*◌, ◌<◌, true, false, nat_eq, List, [], ◌++◌, length, None, IsTrue, ap, ◌∙◌, subst, arith, not, ◌&&◌, ◌||◌, is_some, unwrap_or, refl, sym, inl, inr, true≢false, append-nil, pos, int_lt}
 use Rattle.std.proofs.lemmas.Bool.{and_parts, not-true, false_from_ne_true}
 use Rattle.std.specs.List.{list_any}
-use Rattle.euler_operators.specs.declared.Plane.{Plane}
+use Rattle.euler_operators.specs.Common.{Plane, Model, solid_of, is_number, faces_of, no_point, content, tail, loop_of, face_of, point_of, Sound, Has, HasHalf, AllHold, lists, face_at, is_lone, is_above, is_below, dot, direction, IsIn, edge_of, plus, minus}
 use Rattle.euler_operators.specs.Table as table
-use Rattle.euler_operators.specs.Model.{Model, solid_of, is_number, faces_of, no_point, content, tail, loop_of, face_of, point_of}
-use Rattle.euler_operators.specs.Sound.{Sound, Has, HasHalf}
-use Rattle.euler_operators.specs.Conditions.{AllHold, lists, face_at, is_lone}
-use Rattle.euler_operators.proofs.Members.{count-filter, IsIn-filter, filter_passes}
-use Rattle.euler_operators.proofs.Tables.{no_row, zero_first_where}
-use Rattle.euler_laws.proofs.shared.Goes.{all_hold, none_refuses, all_hold-front, all_hold-back, no_zero}
-use Rattle.euler_laws.proofs.shared.Listed.{all_where-rises, IsIn-from_listed, listed-from_in}
-use Rattle.shapes.proofs.fresh.Rows.{none_above}
-use Rattle.shapes.proofs.fresh.Tests.{none_found, zero_found, Left, numbers_are_left, none_is_lone}
-use Rattle.shapes.specs.Faces.{least_lone, loops_of, corners}
-use Rattle.shapes.specs.Fresh.{found, taken_in}
-use Rattle.shapes.specs.split.Sides.{reaches_above, reaches_below, face_is_above, faces_above, straddles, crossing_edges}
-use Rattle.shapes.specs.split.Crossings.{with_crossings}
-use Rattle.shapes.specs.split.Drawing.{Drawing, undrawn, straddling_pairs, with_drawings}
-use Rattle.shapes.specs.split.Section.{below_halves, section_ends, least_branched, section_cycles, has_stray_hole}
-use Rattle.shapes.specs.split.Split.{first_conditions, later_conditions, section_conditions, split_conditions, split_refusal}
+use Rattle.euler_operators.proofs.Common.{count-filter, IsIn-filter, filter_passes, no_row, zero_first_where, first_fails, IsIn_or_not, in-holds, cycle_there, plus_there, minus_there, loop_there}
+use Rattle.euler_laws.proofs.Common.{all_hold, none_refuses, all_hold-front, all_hold-back, no_zero, all_where-rises, IsIn-from_listed, listed-from_in, halves_of_edge, loop_after, half_face, loop_row, not_lone_cycle}
+use Rattle.shapes.proofs.Common.{none_above, none_found, zero_found, Left, numbers_are_left, none_is_lone, face_of_loop}
+use Rattle.shapes.specs.Common.{least_lone, loops_of, corners, found, taken_in, reaches_above, reaches_below, face_is_above, faces_above, straddles, crossing_edges, with_crossings, Drawing, undrawn, straddling_pairs, with_drawings, below_halves, section_ends, least_branched, section_cycles, has_stray_hole, first_conditions, later_conditions, section_conditions, split_conditions, split_refusal, normal}
 use Rattle.split_drawing_laws.specs.crossings.Laws.{CanBegin}
 use Rattle.split_drawing_laws.proofs.crossings.Whole.{crossings_counted, crossings_keep, crossings_cut, crossings_sound, same_solid, not_cut}
 use Rattle.split_drawing_laws.proofs.crossings.Premises.{solid_facts, any_passes, tail_in_face, in_solid}
@@ -37,22 +24,10 @@ use Rattle.split_opening_laws.specs.sections.InTurn.{CanBeOpenedInTurn}
 use Rattle.split_opening_laws.proofs.sections.InTurn.{can_be_opened}
 use Rattle.split_laws.specs.drawn.Kept.{KeepsSolids, HasFace}
 use Rattle.split_laws.proofs.drawn.Solids.{drawing_keeps}
-use Rattle.std.specs.Prelude.{pos, int_lt}
-use Rattle.euler_operators.proofs.Tests.{first_fails}
-use Rattle.euler_operators.specs.Vectors.{is_above, is_below, dot, direction}
-use Rattle.euler_operators.specs.Items.{IsIn}
-use Rattle.euler_operators.proofs.Lists.{IsIn_or_not}
-use Rattle.euler_operators.specs.HalfEdge.{edge_of, plus, minus}
-use Rattle.euler_operators.proofs.Models.{in-holds, cycle_there, plus_there, minus_there, loop_there}
-use Rattle.euler_laws.proofs.shared.Arcs.{halves_of_edge}
-use Rattle.euler_laws.proofs.shared.Fans.{loop_after, half_face}
-use Rattle.euler_laws.proofs.shared.Rows.{loop_row, not_lone_cycle}
-use Rattle.shapes.specs.Measure.{normal}
 use Rattle.split_drawing_laws.proofs.half_sides.Pieces.{CutBy, crossing_pieces}
 use Rattle.split_drawing_laws.proofs.half_sides.Starts.{old_face}
 use Rattle.split_drawing_laws.proofs.face_sides.Begun.{TailIn, tail_in, none_straddles}
 use Rattle.split_drawing_laws.proofs.face_sides.Shared.{any_from}
-use Rattle.shapes.proofs.walks.SolidFaces.{face_of_loop}
 
 -- a half-edge of N that starts at point v, of face f
 pub record HalfAt (N : Model) (v f : ℕ) : Type 0 where

@@ -1,16 +1,10 @@
 -- Each half-edge stays in its solid while faces are drawn, and solids stay.
-use Rattle.std.proofs.Common.{◌≡◌, ◌≢◌, ℕ, ◌+◌, List, [], ◌∷◌, None, is_some, refl, sym, ap, ◌∙◌, subst, arith, inl, inr, true≢false}
-use Rattle.std.specs.Prelude.{fold}
+use Rattle.std.proofs.Common.{◌≡◌, ◌≢◌, ℕ, ◌+◌, List, [], ◌∷◌, None, is_some, refl, sym, ap, ◌∙◌, subst, arith, inl, inr, true≢false, fold}
 use Rattle.std.proofs.lemmas.Bool.Decides.{eqb_tells}
-use Rattle.euler_operators.specs.declared.Plane.{Plane}
+use Rattle.euler_operators.specs.Common.{Plane, Model, solid_of, Sound, Has, HasHalf, face_at, ring_in}
 use Rattle.euler_operators.specs.Table as table
-use Rattle.euler_operators.specs.Model.{Model, solid_of}
-use Rattle.euler_operators.specs.Sound.{Sound, Has, HasHalf}
-use Rattle.euler_operators.specs.Conditions.{face_at}
-use Rattle.euler_operators.specs.Effect.{ring_in}
-use Rattle.euler_operators.proofs.Models.{solid_row, same_solid}
-use Rattle.shapes.specs.Fresh.{Growing}
-use Rattle.shapes.specs.split.Drawing.{Drawing, face_drawn, loops_joined, drawn_between, FacePairs, next_drawn, faces_drawn, undrawn}
+use Rattle.euler_operators.proofs.Common.{solid_row, same_solid}
+use Rattle.shapes.specs.Common.{Growing, Drawing, face_drawn, loops_joined, drawn_between, FacePairs, next_drawn, faces_drawn, undrawn}
 use Rattle.split_drawing_laws.specs.drawings.DrawnIn.{DrawnIn}
 use Rattle.split_drawing_laws.specs.drawings.Pairs.{Fits, pairs_in}
 use Rattle.split_drawing_laws.specs.drawings.Laws.{CanBeDrawn}
@@ -20,7 +14,7 @@ use Rattle.split_drawing_laws.proofs.drawings.Whole.{ready, drawable, drawable_o
 use Rattle.split_drawing_laws.proofs.drawings.Drawn.{face_drawn_new, face_drawn_else}
 use Rattle.split_drawing_laws.proofs.face_sides.Beside.{never_free}
 use Rattle.split_laws.specs.drawn.Kept.{KeepsSolids}
-use Rattle.euler_laws.proofs.shared.Fans.{half_face}
+use Rattle.euler_laws.proofs.Common.{half_face}
 
 -- X is M with edges drawn in face f: M's faces have their rows, and the new ones are of the solid of f
 pub record NewOf (M X : Model) (f : ℕ) : Type 0 where

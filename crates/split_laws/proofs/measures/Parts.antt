@@ -1,15 +1,8 @@
 -- The two parts of a split solid: from the drawn model to the one that the split makes.
 use Rattle.std.proofs.Common.{◌≡◌, ◌≢◌, ℕ, ◌+ℤ◌, false, List, None, refl, sym, ◌∙◌}
-use Rattle.euler_operators.specs.declared.Plane.{Plane}
-use Rattle.euler_operators.specs.Vectors.{is_above, is_below}
-use Rattle.euler_operators.specs.Model.{Model}
-use Rattle.euler_operators.specs.Sound.{Sound, Has}
-use Rattle.euler_operators.proofs.Models.{lone_there}
-use Rattle.shapes.specs.Faces.{start, vertices_of}
-use Rattle.shapes.specs.Measure.{six_volume}
-use Rattle.shapes.specs.split.Sides.{some_above, some_below, faces_above}
-use Rattle.shapes.specs.split.Drawing.{with_drawings}
-use Rattle.shapes.specs.split.Split.{split_refusal, split_model}
+use Rattle.euler_operators.specs.Common.{Plane, is_above, is_below, Model, Sound, Has}
+use Rattle.euler_operators.proofs.Common.{lone_there}
+use Rattle.shapes.specs.Common.{start, vertices_of, six_volume, some_above, some_below, faces_above, with_drawings, split_refusal, split_model}
 use Rattle.split_drawing_laws.specs.face_sides.Lone.{NoLoopIsLone}
 use Rattle.split_drawing_laws.proofs.drawn_volumes.DrawWhole.{drawings_volumes}
 use Rattle.split_drawing_laws.proofs.face_sides.Begun.{none_lone}

@@ -1,31 +1,13 @@
 -- The drawn model of a split that isn't refused: its faces are flat, and its section lies on the plane.
-use Rattle.std.proofs.Common.{◌≡◌, ◌≢◌, ℕ, true, false, not, ℤ, pos, List, [], ◌∷◌, None, is_some, refl, sym, ap, subst, ◌∙◌, arith, true≢false, inl, inr}
-use Rattle.std.specs.Prelude.{int_lt}
-use Rattle.std.specs.Ordering.{int_eq}
+use Rattle.std.proofs.Common.{◌≡◌, ◌≢◌, ℕ, true, false, not, ℤ, pos, List, [], ◌∷◌, None, is_some, refl, sym, ap, subst, ◌∙◌, arith, true≢false, inl, inr, int_lt, int_eq, append-nil}
 use Rattle.std.proofs.lemmas.Int.{ints}
-use Rattle.std.proofs.lemmas.List.{append-nil}
 use Rattle.std.proofs.lemmas.Bool.{and_parts, not-true}
-use Rattle.euler_operators.specs.declared.Plane.{Plane}
-use Rattle.euler_operators.specs.Vectors.{height, origin, same_point, direction, is_on, is_above, is_below}
-use Rattle.euler_operators.specs.Items.{IsIn}
-use Rattle.euler_operators.proofs.Lists.{count-append, IsIn_or_not}
-use Rattle.euler_operators.specs.HalfEdge.{mate}
+use Rattle.euler_operators.specs.Common.{Plane, height, origin, same_point, direction, is_on, is_above, is_below, IsIn, mate, Model, tail, after, loop_of, face_of, outer, point_of, solid_of, faces_of, Sound, Has, HasHalf, AllHold, face_at, lists}
+use Rattle.euler_operators.proofs.Common.{count-append, IsIn_or_not, mate-mate, cycle_there, loop_there as has_loop, item_there, mate_there, item_loop}
 use Rattle.euler_operators.specs.Table as table
-use Rattle.euler_operators.specs.Model.{Model, tail, after, loop_of, face_of, outer, point_of, solid_of, faces_of}
-use Rattle.euler_operators.specs.Sound.{Sound, Has, HasHalf}
-use Rattle.euler_operators.proofs.Halves.{mate-mate}
-use Rattle.euler_operators.proofs.Models.{cycle_there, loop_there as has_loop, item_there, mate_there, item_loop}
-use Rattle.euler_operators.specs.Conditions.{AllHold, face_at, lists}
-use Rattle.euler_laws.proofs.shared.Fans.{half_after, loop_after, half_face}
-use Rattle.euler_laws.proofs.shared.Goes.{all_hold}
-use Rattle.euler_laws.proofs.shared.Listed.{listed-from_in}
-use Rattle.shapes.specs.Faces.{start, corners}
-use Rattle.shapes.specs.Measure.{plane_of}
-use Rattle.shapes.proofs.measures.FlatFaces.{are_on, told_anywhere}
-use Rattle.shapes.specs.split.Sides.{faces_above}
-use Rattle.shapes.specs.split.Drawing.{with_drawings}
-use Rattle.shapes.specs.split.Section.{below_halves, section_cycles}
-use Rattle.shapes.specs.split.Split.{first_conditions, split_refusal}
+use Rattle.euler_laws.proofs.Common.{half_after, loop_after, half_face, all_hold, listed-from_in}
+use Rattle.shapes.specs.Common.{start, corners, plane_of, faces_above, with_drawings, below_halves, section_cycles, first_conditions, split_refusal}
+use Rattle.shapes.proofs.Common.{are_on, told_anywhere}
 use Rattle.split_opening_laws.specs.cycles.SectionCycles.{IsBelowHalf, AreSectionCycles}
 use Rattle.split_drawing_laws.specs.drawn_volumes.Laws.{LiesOnOld}
 use Rattle.split_drawing_laws.proofs.drawn_volumes.Bounds.{OnFace, on_face}

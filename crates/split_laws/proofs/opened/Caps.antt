@@ -1,34 +1,13 @@
 -- The two caps that close a solid once it is opened along a cycle on a plane: they lie along the plane, and have opposite normals.
-use Rattle.std.proofs.Common.{◌≡◌, ℕ, zero, suc, ◌+◌, ◌≤◌, ◌<◌, true, not, List, [], ◌∷◌, length, Some, unwrap_or, refl, sym, ap, ◌∙◌, arith, inl, inr, ◌++◌}
-use Rattle.std.specs.Prelude.{map, reverse, get_or}
+use Rattle.std.proofs.Common.{◌≡◌, ℕ, zero, suc, ◌+◌, ◌≤◌, ◌<◌, true, not, List, [], ◌∷◌, length, Some, unwrap_or, refl, sym, ap, ◌∙◌, arith, inl, inr, ◌++◌, map, reverse, get_or}
 use Rattle.std.specs.List.{list_all}
 use Rattle.std.proofs.lemmas.Bool.Decides.{eqb_tells}
 use Rattle.std.proofs.lemmas.Bool.{and_parts}
-use Rattle.euler_operators.specs.declared.Point.{Point}
-use Rattle.euler_operators.specs.declared.Plane.{Plane}
-use Rattle.euler_operators.specs.Vectors.{origin, moved, cross, same_point, direction, is_on}
-use Rattle.euler_operators.specs.Items.{count, IsIn, head_or}
-use Rattle.euler_operators.specs.Rings.{canonical}
-use Rattle.euler_operators.proofs.Lists.{tick_other}
-use Rattle.euler_operators.proofs.Maps.{from_map, count-reverse}
-use Rattle.euler_operators.proofs.Rotations.{count-canonical, IsIn_head}
-use Rattle.euler_operators.specs.HalfEdge.{mate, minus}
+use Rattle.euler_operators.specs.Common.{Point, Plane, origin, moved, cross, same_point, direction, is_on, count, IsIn, head_or, canonical, mate, minus, Model, cycle, no_face, tail, content, outer, point_of, rings_of, items_of}
+use Rattle.euler_operators.proofs.Common.{tick_other, from_map, count-reverse, count-canonical, IsIn_head, content_row, mate_there, get-put_here, get-put_other, none_moved, IsIn_rest, IsIn_some_head, IsIn-map}
 use Rattle.euler_operators.specs.Table as table
-use Rattle.euler_operators.specs.Model.{Model, cycle, no_face, tail, content, outer, point_of, rings_of, items_of}
-use Rattle.euler_operators.proofs.Models.{content_row, mate_there}
-use Rattle.euler_operators.proofs.Tables.{get-put_here, get-put_other}
-use Rattle.shapes.specs.Faces.{start, finish, items_in}
-use Rattle.shapes.specs.Fresh.{Taken, numbers_after}
-use Rattle.shapes.specs.Prism.{next_place}
-use Rattle.shapes.specs.Measure.{area, normal, anchor, first_vertex, is_plane_of}
-use Rattle.euler_operators.proofs.Vectors.{none_moved}
-use Rattle.euler_operators.proofs.Members.{IsIn_rest, IsIn_some_head, IsIn-map}
-use Rattle.shapes.specs.Vectors.{negated}
-use Rattle.shapes.proofs.measures.FlatFaces.{flat_closed}
-use Rattle.shapes.proofs.measures.Paths.{Leads, IsClosed}
-use Rattle.shapes.proofs.measures.Products.{cross_moved, cross_nothing}
-use Rattle.shapes.proofs.measures.Sums.{none_left, area_same, area_mates}
-use Rattle.shapes.specs.split.Opening.{opened_along}
+use Rattle.shapes.specs.Common.{start, finish, items_in, Taken, numbers_after, next_place, area, normal, anchor, first_vertex, is_plane_of, negated, opened_along}
+use Rattle.shapes.proofs.Common.{flat_closed, Leads, IsClosed, cross_moved, cross_nothing, none_left, area_same, area_mates}
 use Rattle.split_opening_laws.specs.strips.Opened.{CanBeOpened}
 use Rattle.split_opening_laws.proofs.strips.Cycle.{next_cases, next_within, half_in, mate_start, place_of}
 pub use Rattle.split_opening_laws.proofs.sections.InTurn.{lower_row, loop_kinds}

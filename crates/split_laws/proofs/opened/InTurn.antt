@@ -1,35 +1,15 @@
 -- The six volumes of a solid that is opened along a cycle on a plane, and those of the other solids.
-use Rattle.std.specs.Prelude.{map}
 use Rattle.std.specs.List.{list_all}
-use Rattle.std.proofs.Common.{◌≡◌, ◌≢◌, ℕ, ◌+◌, ℤ, pos, ◌+ℤ◌, neg_ℤ, Bool, true, not, nat_eq, List, [], ◌∷◌, length, is_some, refl, sym, ap, subst, ◌∙◌, arith, inl, inr, false, ◌&&◌, true≢false, ◌⊎◌}
+use Rattle.std.proofs.Common.{◌≡◌, ◌≢◌, ℕ, ◌+◌, ℤ, pos, ◌+ℤ◌, neg_ℤ, Bool, true, not, nat_eq, List, [], ◌∷◌, length, is_some, refl, sym, ap, subst, ◌∙◌, arith, inl, inr, false, ◌&&◌, true≢false, ◌⊎◌, map, ne_eqb, eqb-true}
 use Rattle.std.proofs.lemmas.Bool.Decides.{eqb_tells}
-use Rattle.std.proofs.lemmas.Bool.{and_parts, ne_eqb, eqb-true}
+use Rattle.std.proofs.lemmas.Bool.{and_parts}
 use Rattle.std.proofs.lemmas.Int.{ints}
-use Rattle.euler_operators.specs.declared.Plane.{Plane}
-use Rattle.euler_operators.specs.Vectors.{origin, dot, same_point, direction, cross, is_on}
-use Rattle.euler_operators.specs.Items.{count, IsIn, SameItems}
-use Rattle.euler_operators.specs.HalfEdge.{mate}
+use Rattle.euler_operators.specs.Common.{Plane, origin, dot, same_point, direction, cross, is_on, count, IsIn, SameItems, mate, Model, FaceRow, items_of, tail, content, face_of, loop_of, outer, solid_of, faces_of, cycle, point_of, Has, HasHalf, lists, canonical}
 use Rattle.euler_operators.specs.Table as table
-use Rattle.euler_operators.specs.Model.{Model, FaceRow, items_of, tail, content, face_of, loop_of, outer, solid_of, faces_of, cycle, point_of}
-use Rattle.euler_operators.specs.Sound.{Has, HasHalf}
-use Rattle.euler_operators.specs.Conditions.{lists}
-use Rattle.euler_operators.specs.Rings.{canonical}
-use Rattle.euler_operators.proofs.Lists.{tick_same, tick_other, count-append}
-use Rattle.euler_operators.proofs.Maps.{from_map}
-use Rattle.euler_operators.proofs.Models.{in-holds}
-use Rattle.euler_operators.proofs.Tables.{in_use_within, get-put_other, row_some}
-use Rattle.euler_operators.proofs.Vectors.{none_added}
-use Rattle.euler_operators.proofs.Rotations.{count-canonical, IsIn_head}
-use Rattle.euler_laws.proofs.shared.Listed.{listed_passes}
-use Rattle.euler_laws.proofs.shared.Rows.{face_there}
-use Rattle.shapes.specs.Fresh.{Taken}
-use Rattle.shapes.specs.Measure.{area, anchor, is_plane_of, volume_in, six_volume, normal}
-use Rattle.shapes.specs.split.Opening.{opened_along, Caps, Opening, all_opened}
-use Rattle.shapes.specs.Faces.{start}
-use Rattle.shapes.specs.Rewriting.{rewritten}
-use Rattle.shapes.proofs.measures.FlatFaces.{told_alike, some_direction}
-use Rattle.shapes.proofs.measures.Sums.{dot_back}
-use Rattle.shapes.proofs.fresh.Rows.{get-put_cases}
+use Rattle.euler_operators.proofs.Common.{tick_same, tick_other, count-append, from_map, in-holds, in_use_within, get-put_other, row_some, none_added, count-canonical, IsIn_head}
+use Rattle.euler_laws.proofs.Common.{listed_passes, face_there}
+use Rattle.shapes.specs.Common.{Taken, area, anchor, is_plane_of, volume_in, six_volume, normal, opened_along, Caps, Opening, all_opened, start, rewritten}
+use Rattle.shapes.proofs.Common.{told_alike, some_direction, dot_back, get-put_cases}
 use Rattle.split_opening_laws.specs.strips.Opened.{CanBeOpened}
 use Rattle.split_opening_laws.specs.sections.InTurn.{halves_in, CanBeOpenedInTurn}
 use Rattle.split_opening_laws.specs.sections.Capped.{ArePlain, HasCaps}

@@ -1,26 +1,12 @@
 -- Faces whose loops are rewritten: where what stands in the place of a half-edge starts and ends as that did, they keep their normals,
 -- and what they add to the six volumes.
-use Rattle.std.proofs.Common.{◌≡◌, ℕ, Bool, true, not, nat_eq, ◌&&◌, List, [], ◌∷◌, Option, Some, None, is_some, unwrap_or, refl, sym, ap, ◌∙◌, arith, true≢false, ◌⊎◌, inl, inr}
-use Rattle.std.proofs.lemmas.Bool.{ne_eqb}
-use Rattle.std.specs.Prelude.{map}
-use Rattle.euler_operators.specs.Vectors.{moved, dot}
-use Rattle.euler_operators.specs.Items.{count, IsIn, head_or}
-use Rattle.euler_operators.specs.Rings.{canonical}
-use Rattle.euler_operators.proofs.Rotations.{count-canonical, IsIn_head}
-use Rattle.euler_operators.proofs.Maps.{from_map}
+use Rattle.std.proofs.Common.{◌≡◌, ℕ, Bool, true, not, nat_eq, ◌&&◌, List, [], ◌∷◌, Option, Some, None, is_some, unwrap_or, refl, sym, ap, ◌∙◌, arith, true≢false, ◌⊎◌, inl, inr, ne_eqb, map}
+use Rattle.euler_operators.specs.Common.{moved, dot, count, IsIn, head_or, canonical, Model, LoopContent, lone, cycle, LoopRow, no_face, items_of, content, face_of, outer, solid_of, point_of, rings_of, Sound, Has, HasHalf, lists}
+use Rattle.euler_operators.proofs.Common.{count-canonical, IsIn_head, from_map, in-holds, content_row, face_row, IsIn_first}
 use Rattle.euler_operators.specs.Table as table
-use Rattle.euler_operators.specs.Model.{Model, LoopContent, lone, cycle, LoopRow, no_face, items_of, content, face_of, outer, solid_of, point_of, rings_of}
-use Rattle.euler_operators.specs.Sound.{Sound, Has, HasHalf}
-use Rattle.euler_operators.proofs.Models.{in-holds, content_row, face_row}
-use Rattle.euler_operators.proofs.Members.{IsIn_first}
-use Rattle.euler_operators.specs.Conditions.{lists}
-use Rattle.euler_laws.proofs.shared.Listed.{first_listed, rest_listed, listed_cases, listed_passes}
-use Rattle.euler_laws.proofs.shared.Rows.{loop_row}
-use Rattle.shapes.specs.Faces.{start, finish, items_in, loops_of, boundary}
-use Rattle.shapes.specs.Rewriting.{rewritten, rewritten_row}
-use Rattle.shapes.specs.Measure.{area, normal, anchor, first_vertex}
-use Rattle.shapes.proofs.Areas.{area-append}
-use Rattle.shapes.proofs.measures.Sums.{area_same, area_renamed}
+use Rattle.euler_laws.proofs.Common.{first_listed, rest_listed, listed_cases, listed_passes, loop_row}
+use Rattle.shapes.specs.Common.{start, finish, items_in, loops_of, boundary, rewritten, rewritten_row, area, normal, anchor, first_vertex}
+use Rattle.shapes.proofs.Common.{area-append, area_same, area_renamed}
 use Rattle.gluing_laws.proofs.Listed.{one_if, passed, same_search, volume_of}
 use Rattle.split_laws.specs.opened.Told.{TellsAlike}
 

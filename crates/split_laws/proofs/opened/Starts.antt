@@ -1,23 +1,12 @@
 -- Where half-edges start and end once a solid is opened along a cycle: where they did, and what stands in the place of a mate starts
 -- and ends where that did.
-use Rattle.std.proofs.Common.{◌≡◌, ℕ, zero, suc, ◌+◌, ◌≤◌, ◌<◌, Bool, cond, not, ◌&&◌, List, length, Some, unwrap_or, sym, ap, ◌∙◌, arith, inl, inr}
-use Rattle.std.specs.Prelude.{map, get_or}
+use Rattle.std.proofs.Common.{◌≡◌, ℕ, zero, suc, ◌+◌, ◌≤◌, ◌<◌, Bool, cond, not, ◌&&◌, List, length, Some, unwrap_or, sym, ap, ◌∙◌, arith, inl, inr, map, get_or}
 use Rattle.std.proofs.lemmas.Bool.Decides.{eqb_tells}
 use Rattle.std.proofs.lemmas.List.{length-map, get_or-map}
-use Rattle.euler_operators.specs.HalfEdge.{mate, plus, minus}
+use Rattle.euler_operators.specs.Common.{mate, plus, minus, Model, tail, tail_in, no_point, point_of, HasHalf, face_at, lists}
 use Rattle.euler_operators.specs.Table as table
-use Rattle.euler_operators.specs.Model.{Model, tail, tail_in, no_point, point_of}
-use Rattle.euler_operators.specs.Sound.{HasHalf}
-use Rattle.euler_operators.proofs.Halves.{mate-mate, plus_row, minus_row, mate_plus, mate_minus}
-use Rattle.euler_operators.proofs.Models.{tail_row, mate_there}
-use Rattle.euler_operators.proofs.Tests.{less_still}
-use Rattle.euler_operators.proofs.Tables.{get-put_here, get-put_other}
-use Rattle.euler_operators.specs.Conditions.{face_at, lists}
-use Rattle.shapes.specs.Faces.{start, finish}
-use Rattle.shapes.specs.Fresh.{Taken, numbers_after}
-use Rattle.shapes.specs.Prism.{next_place}
-use Rattle.shapes.specs.Rewriting.{renamed}
-use Rattle.shapes.specs.split.Opening.{opened_row, with_copies, both_lists, opened_along}
+use Rattle.euler_operators.proofs.Common.{mate-mate, plus_row, minus_row, mate_plus, mate_minus, tail_row, mate_there, less_still, get-put_here, get-put_other}
+use Rattle.shapes.specs.Common.{start, finish, Taken, numbers_after, next_place, renamed, opened_row, with_copies, both_lists, opened_along}
 use Rattle.split_opening_laws.specs.strips.Opened.{CanBeOpened}
 use Rattle.split_opening_laws.specs.strips.Strips.{copied}
 use Rattle.split_opening_laws.proofs.strips.Copied.{points_next}

@@ -1,28 +1,11 @@
 -- The sides on which faces lie, and that no loop of a solid is lone, from step to step of a split.
-use Rattle.std.specs.Prelude.{map}
-use Rattle.std.proofs.Common.{◌≡◌, ◌≢◌, ℕ, ◌+◌, Bool, true, false, cond, List, [], ◌∷◌, ◌++◌, length, is_some, refl, sym, ap, subst, ◌∙◌, arith, true≢false, inl, inr}
+use Rattle.std.proofs.Common.{◌≡◌, ◌≢◌, ℕ, ◌+◌, Bool, true, false, cond, List, [], ◌∷◌, ◌++◌, length, is_some, refl, sym, ap, subst, ◌∙◌, arith, true≢false, inl, inr, map, append-nil, eq-eqb}
 use Rattle.std.proofs.lemmas.Bool.Decides.{eqb_tells}
-use Rattle.std.proofs.lemmas.List.{append-nil}
-use Rattle.euler_operators.specs.declared.Point.{Point}
-use Rattle.euler_operators.specs.declared.Plane.{Plane}
-use Rattle.euler_operators.specs.Vectors.{is_on, is_above, is_below}
-use Rattle.euler_operators.specs.Items.{count, IsIn}
+use Rattle.euler_operators.specs.Common.{Point, Plane, is_on, is_above, is_below, count, IsIn, Model, items_of, tail, content, face_of, outer, solid_of, LoopContent, lone, point_of, faces_of, cycle, Has, IsLoneAt, Sound, lists, kfmrh, part}
 use Rattle.euler_operators.specs.Table as table
-use Rattle.euler_operators.specs.Model.{Model, items_of, tail, content, face_of, outer, solid_of, LoopContent, lone, point_of, faces_of, cycle}
-use Rattle.euler_operators.specs.Sound.{Has, IsLoneAt, Sound}
-use Rattle.euler_operators.specs.Conditions.{lists}
-use Rattle.euler_operators.specs.Effect.{kfmrh, part}
-use Rattle.euler_operators.proofs.Tables.{row_some}
-use Rattle.euler_operators.proofs.Models.{content_row, never_lone, lone_there}
-use Rattle.euler_laws.proofs.shared.Listed.{other_last, passes_listed, IsIn-from_listed, listed-from_in}
-use Rattle.shapes.specs.Faces.{start, loops_of, corners, corners_in, vertices_of}
-use Rattle.shapes.specs.Fresh.{Taken}
-use Rattle.shapes.specs.Measure.{is_plane_of}
-use Rattle.shapes.specs.split.Drawing.{Drawing}
-use Rattle.shapes.specs.split.Section.{below_halves, section_cycles}
-use Rattle.shapes.specs.split.Opening.{Opening, opened_along, all_opened}
-use Rattle.shapes.specs.split.Split.{split_drawn}
-use Rattle.shapes.specs.Rewriting.{rewritten}
+use Rattle.euler_operators.proofs.Common.{row_some, content_row, never_lone, lone_there, filter_passes, count-append, tick_same, IsIn_or_not}
+use Rattle.euler_laws.proofs.Common.{other_last, passes_listed, IsIn-from_listed, listed-from_in, face_there, all_where_has}
+use Rattle.shapes.specs.Common.{start, loops_of, corners, corners_in, vertices_of, Taken, is_plane_of, Drawing, below_halves, section_cycles, Opening, opened_along, all_opened, split_drawn, rewritten, reaches_above, reaches_below, straddles, face_is_above, faces_above}
 use Rattle.split_opening_laws.specs.strips.Opened.{CanBeOpened}
 use Rattle.split_opening_laws.specs.sections.InTurn.{upper_faces, CanBeOpenedInTurn}
 use Rattle.split_opening_laws.proofs.sections.InTurn.{upper_next, can_open, openings_carry, new_caps}
@@ -39,13 +22,7 @@ use Rattle.split_laws.proofs.volumes.Taken.{CanTake}
 use Rattle.split_laws.proofs.volumes.Closed.{closing_carries}
 use Rattle.split_laws.proofs.volumes.Split as split
 use Rattle.std.specs.List.{list_any}
-use Rattle.std.proofs.lemmas.Bool.{eq-eqb}
-use Rattle.euler_operators.proofs.Members.{filter_passes}
-use Rattle.euler_operators.proofs.Lists.{count-append, tick_same, IsIn_or_not}
-use Rattle.euler_laws.proofs.shared.Rows.{face_there}
-use Rattle.euler_laws.proofs.shared.Counted.{all_where_has}
-use Rattle.shapes.specs.split.Sides.{reaches_above, reaches_below, straddles, face_is_above, faces_above}
-use Rattle.shapes.proofs.walks.SolidFaces.{face_of_loop}
+use Rattle.shapes.proofs.Common.{face_of_loop}
 use Rattle.split_opening_laws.proofs.cycles.Meets.{count_filter}
 use Rattle.split_drawing_laws.specs.face_sides.Lone.{NoLoopIsLone}
 use Rattle.split_drawing_laws.proofs.crossings.Premises.{tail_in_face, solid_facts}

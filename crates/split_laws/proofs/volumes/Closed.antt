@@ -1,15 +1,8 @@
 -- The holes of a section closed, one cap after the other.
-use Rattle.std.proofs.Common.{◌≡◌, ◌≢◌, ℕ, ◌≤◌, List, [], ◌∷◌, refl, sym, ap, subst, ◌∙◌, arith, inl, inr}
-use Rattle.std.specs.Prelude.{fold, filter}
-use Rattle.euler_operators.specs.declared.Plane.{Plane}
-use Rattle.euler_operators.specs.Vectors.{origin, direction}
-use Rattle.euler_operators.specs.Items.{count, tick, IsIn, IsApart}
-use Rattle.euler_operators.proofs.Lists.{tick_same}
-use Rattle.euler_operators.specs.Model.{Model, solid_of, rings_of}
-use Rattle.euler_operators.specs.Sound.{Has}
-use Rattle.euler_operators.specs.Effect.{kfmrh}
-use Rattle.shapes.specs.Measure.{six_volume}
-use Rattle.shapes.specs.split.Opening.{Caps, outer_caps, hole_closed, holes_closed}
+use Rattle.std.proofs.Common.{◌≡◌, ◌≢◌, ℕ, ◌≤◌, List, [], ◌∷◌, refl, sym, ap, subst, ◌∙◌, arith, inl, inr, fold, filter}
+use Rattle.euler_operators.specs.Common.{Plane, origin, direction, count, tick, IsIn, IsApart, Model, solid_of, rings_of, Has, kfmrh}
+use Rattle.euler_operators.proofs.Common.{tick_same}
+use Rattle.shapes.specs.Common.{six_volume, Caps, outer_caps, hole_closed, holes_closed}
 use Rattle.split_opening_laws.specs.sections.Capped.{IsPlain, ArePlain, cap_faces}
 use Rattle.split_opening_laws.proofs.sections.InTurn.{plain_alone}
 use Rattle.split_laws.specs.opened.Told.{LiesAlong, OutersAreOwn, AllLieAlong}

@@ -1,29 +1,11 @@
 -- The six volumes of a solid some of whose faces go to a new solid.
-use Rattle.std.specs.Option.{option_map}
-use Rattle.std.specs.Prelude.{map, filter}
 use Rattle.std.specs.List.{list_any}
-use Rattle.std.proofs.Common.{◌≡◌, ◌≢◌, ℕ, ◌+◌, ◌+ℤ◌, Bool, true, false, cond, not, nat_eq, ◌&&◌, List, [], ◌∷◌, ◌++◌, Option, Some, None, is_some, unwrap_or, refl, sym, ap, ◌∙◌, arith, ◌<◌, length, subst, true≢false, ◌⊎◌, inl, inr, ◌≤◌}
-use Rattle.std.proofs.lemmas.Bool.{ne_eqb, eq-eqb}
-use Rattle.std.proofs.lemmas.List.{append-nil}
-use Rattle.euler_operators.specs.Vectors.{dot}
-use Rattle.euler_operators.specs.Items.{SameItems, count}
+use Rattle.std.proofs.Common.{◌≡◌, ◌≢◌, ℕ, ◌+◌, ◌+ℤ◌, Bool, true, false, cond, not, nat_eq, ◌&&◌, List, [], ◌∷◌, ◌++◌, Option, Some, None, is_some, unwrap_or, refl, sym, ap, ◌∙◌, arith, ◌<◌, length, subst, true≢false, ◌⊎◌, inl, inr, ◌≤◌, option_map, map, filter, ne_eqb, eq-eqb, append-nil}
+use Rattle.euler_operators.specs.Common.{dot, SameItems, count, get-map_rows, Model, FaceRow, no_face, tail, content, outer, point_of, faces_of, solid_of, lists, strictly_rises, part, faces_to_solid, Plane, Has}
 use Rattle.euler_operators.specs.Table as table
-use Rattle.euler_operators.specs.Table.{get-map_rows}
-use Rattle.euler_operators.specs.Model.{Model, FaceRow, no_face, tail, content, outer, point_of, faces_of, solid_of}
-use Rattle.euler_operators.specs.Conditions.{lists, strictly_rises}
-use Rattle.euler_operators.specs.Effect.{part, faces_to_solid}
-use Rattle.euler_operators.specs.declared.Plane.{Plane}
-use Rattle.euler_operators.specs.Sound.{Has}
-use Rattle.euler_operators.proofs.Lists.{count-append, IsIn_or_not}
-use Rattle.euler_operators.proofs.Models.{solid_row}
-use Rattle.euler_operators.proofs.Tables.{get-put_here, get-put_other}
-use Rattle.euler_laws.proofs.shared.Rows.{solid_either}
-use Rattle.shapes.specs.Faces.{start, items_in, loops_of, boundary}
-use Rattle.shapes.specs.Measure.{area, normal, six_volume}
-use Rattle.shapes.specs.split.Drawing.{Drawing}
-use Rattle.shapes.specs.split.Section.{is_hole, below_halves, section_cycles, has_stray_hole}
-use Rattle.shapes.specs.split.Opening.{Caps, Opening, holes_closed}
-use Rattle.shapes.specs.split.Split.{opened_at, split_drawn}
+use Rattle.euler_operators.proofs.Common.{count-append, IsIn_or_not, solid_row, get-put_here, get-put_other}
+use Rattle.euler_laws.proofs.Common.{solid_either}
+use Rattle.shapes.specs.Common.{start, items_in, loops_of, boundary, area, normal, six_volume, Drawing, is_hole, below_halves, section_cycles, has_stray_hole, Caps, Opening, holes_closed, opened_at, split_drawn}
 use Rattle.gluing_laws.proofs.Listed.{one_if, passed, count_where, same_search, volume_of, volume_append, volume_same, same_volumes}
 use Rattle.split_opening_laws.specs.sections.InTurn.{upper_faces, CanBeOpenedInTurn}
 use Rattle.split_opening_laws.specs.sections.Capped.{cap_faces, HasCaps}

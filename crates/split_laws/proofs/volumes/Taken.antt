@@ -1,34 +1,17 @@
 -- A cap that becomes a ring of another cap on the same plane: their normals add up, and so do what they add to the six volumes.
-use Rattle.std.proofs.Common.{◌≡◌, ◌≢◌, ℕ, ◌+◌, ℤ, ◌+ℤ◌, Bool, cond, not, nat_eq, ◌&&◌, List, [], ◌∷◌, ◌++◌, Option, Some, None, is_some, refl, sym, ap, ◌∙◌, arith, true≢false, inl, inr}
-use Rattle.std.specs.Option.{option_map}
+use Rattle.std.proofs.Common.{◌≡◌, ◌≢◌, ℕ, ◌+◌, ℤ, ◌+ℤ◌, Bool, cond, not, nat_eq, ◌&&◌, List, [], ◌∷◌, ◌++◌, Option, Some, None, is_some, refl, sym, ap, ◌∙◌, arith, true≢false, inl, inr, option_map, ne_eqb, eq-eqb}
 use Rattle.std.proofs.lemmas.Bool.Decides.{eqb_tells}
-use Rattle.std.proofs.lemmas.Bool.{ne_eqb, eq-eqb}
-use Rattle.euler_operators.specs.declared.Plane.{Plane}
-use Rattle.euler_operators.specs.Vectors.{origin, moved, dot, cross, direction, is_on}
-use Rattle.euler_operators.specs.Items.{count, tick, IsIn, SameItems, before, after}
-use Rattle.euler_operators.proofs.Lists.{count-append, tick_same, tick_other, split_at}
+use Rattle.euler_operators.specs.Common.{Plane, origin, moved, dot, cross, direction, is_on, count, tick, IsIn, SameItems, get-map_rows, Model, FaceRow, LoopRow, items_of, tail, content, face_of, outer, solid_of, point_of, rings_of, faces_of, Has, kfmrh, loop_to_face}
+use Rattle.euler_operators.specs.Items.{before, after}
+use Rattle.euler_operators.proofs.Common.{count-append, tick_same, tick_other, split_at, face_row, dot_turned, dot_moved, none_moved, add_exchanged, add_assoc, count_taken}
 use Rattle.euler_operators.specs.Table as table
-use Rattle.euler_operators.specs.Table.{get-map_rows}
-use Rattle.euler_operators.specs.Model.{Model, FaceRow, LoopRow, items_of, tail, content, face_of, outer, solid_of, point_of, rings_of, faces_of}
-use Rattle.euler_operators.specs.Sound.{Has}
-use Rattle.euler_operators.proofs.Models.{face_row}
-use Rattle.euler_operators.specs.Effect.{kfmrh, loop_to_face}
-use Rattle.euler_laws.proofs.shared.Rows.{no_items, face_there}
-use Rattle.euler_laws.proofs.shared.Parts.{FaceSet, row_here, row_other, outer_other, solid_other}
-use Rattle.euler_laws.proofs.shared.Faces.{LoopMoves, face_moved, face_kept, walks_same}
-use Rattle.shapes.specs.Faces.{start, items_in, loops_of, boundary}
-use Rattle.shapes.specs.Measure.{area, normal, volume_in, six_volume}
-use Rattle.shapes.proofs.Areas.{area-append}
-use Rattle.euler_operators.proofs.Vectors.{dot_turned, dot_moved, none_moved, add_exchanged, add_assoc}
-use Rattle.euler_operators.proofs.Members.{count_taken}
-use Rattle.shapes.proofs.measures.FlatFaces.{told_alike}
-use Rattle.shapes.proofs.measures.Products.{cross_moved}
-use Rattle.shapes.proofs.measures.Sums.{area_same}
+use Rattle.euler_laws.proofs.Common.{no_items, face_there, FaceSet, row_here, row_other, outer_other, solid_other, LoopMoves, face_moved, face_kept, walks_same}
+use Rattle.shapes.specs.Common.{start, items_in, loops_of, boundary, area, normal, volume_in, six_volume}
+use Rattle.shapes.proofs.Common.{area-append, told_alike, cross_moved, area_same, items_joined}
 use Rattle.gluing_laws.proofs.Listed.{one_if, passed, count_where, same_search, volume_of, volume_same}
 use Rattle.gluing_laws.proofs.Measures.{only_loop}
 use Rattle.split_laws.specs.opened.Told.{LiesAlong, OutersAreOwn}
 use Rattle.split_laws.proofs.opened.Caps.{anchor_along, SamePlaces, same_start, same_area, same_anchor}
-use Rattle.shapes.proofs.walks.FaceLoops.{items_joined}
 
 -- ---- lists of loops, and of faces
 

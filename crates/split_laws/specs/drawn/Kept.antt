@@ -1,8 +1,6 @@
 -- What a model with its faces drawn has.
 use Rattle.std.specs.Prelude.{◌≡◌, ℕ, Bool, List}
-use Rattle.euler_operators.specs.Model.{Model, solid_of}
-use Rattle.euler_operators.specs.Sound.{Has, HasHalf}
-use Rattle.euler_operators.specs.Conditions.{face_at, lists}
+use Rattle.euler_operators.specs.Common.{Model, solid_of, Has, HasHalf, face_at, lists}
 
 -- solids stay, and each half-edge is of the solid that it was of
 pub record KeepsSolids (M N : Model) : Type 0 where

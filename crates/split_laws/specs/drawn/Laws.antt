@@ -1,13 +1,7 @@
 -- The laws of splits once their faces are drawn, over every sound model and every split that isn't refused.
 use Rattle.std.specs.Prelude.{◌≡◌, ℕ, true, false, [], None}
-use Rattle.euler_operators.specs.declared.Plane.{Plane}
-use Rattle.euler_operators.specs.Model.{Model}
-use Rattle.euler_operators.specs.Sound.{Sound}
-use Rattle.shapes.specs.split.Sides.{faces_above}
-use Rattle.shapes.specs.split.Crossings.{with_crossings}
-use Rattle.shapes.specs.split.Drawing.{with_drawings}
-use Rattle.shapes.specs.split.Section.{below_halves, section_cycles}
-use Rattle.shapes.specs.split.Split.{split_refusal}
+use Rattle.euler_operators.specs.Common.{Plane, Model, Sound}
+use Rattle.shapes.specs.Common.{faces_above, with_crossings, with_drawings, below_halves, section_cycles, split_refusal}
 use Rattle.split_opening_laws.specs.sections.InTurn.{CanBeOpenedInTurn}
 use Rattle.split_laws.specs.drawn.Kept.{KeepsSolids, HasFace}
 

@@ -1,14 +1,7 @@
 -- What the two parts of a split solid measure and where they lie, over every sound model and every split that isn't refused.
 use Rattle.std.specs.Prelude.{◌≡◌, ◌≢◌, ℕ, ◌+ℤ◌, false, None}
-use Rattle.euler_operators.specs.declared.Plane.{Plane}
-use Rattle.euler_operators.specs.Vectors.{is_above, is_below}
-use Rattle.euler_operators.specs.Model.{Model}
-use Rattle.euler_operators.specs.Sound.{Sound, Has}
-use Rattle.shapes.specs.Faces.{start, vertices_of}
-use Rattle.shapes.specs.Measure.{six_volume}
-use Rattle.shapes.specs.split.Sides.{some_above, some_below, faces_above}
-use Rattle.shapes.specs.split.Drawing.{with_drawings}
-use Rattle.shapes.specs.split.Split.{split_refusal, split_model}
+use Rattle.euler_operators.specs.Common.{Plane, is_above, is_below, Model, Sound, Has}
+use Rattle.shapes.specs.Common.{start, vertices_of, six_volume, some_above, some_below, faces_above, with_drawings, split_refusal, split_model}
 use Rattle.split_drawing_laws.specs.face_sides.Lone.{NoLoopIsLone}
 use Rattle.split_laws.specs.volumes.Laws.{CanBeSplit}
 use Rattle.split_laws.specs.sides.Sided.{IsOfSolid}

@@ -1,13 +1,7 @@
 -- What the six volumes of solids are once a solid is opened along cycles of its section that lie on a plane.
 use Rattle.std.specs.Prelude.{◌≡◌, ℕ, true, false, List, map}
-use Rattle.euler_operators.specs.declared.Plane.{Plane}
-use Rattle.euler_operators.specs.Vectors.{origin, same_point, direction, is_on}
-use Rattle.euler_operators.specs.Items.{IsIn}
-use Rattle.euler_operators.specs.Model.{Model, tail}
-use Rattle.shapes.specs.Faces.{start}
-use Rattle.shapes.specs.Fresh.{Taken}
-use Rattle.shapes.specs.Measure.{is_plane_of, six_volume}
-use Rattle.shapes.specs.split.Opening.{Opening, opened_along, all_opened}
+use Rattle.euler_operators.specs.Common.{Plane, origin, same_point, direction, is_on, IsIn, Model, tail}
+use Rattle.shapes.specs.Common.{start, Taken, is_plane_of, six_volume, Opening, opened_along, all_opened}
 use Rattle.split_opening_laws.specs.strips.Opened.{CanBeOpened}
 use Rattle.split_opening_laws.specs.sections.InTurn.{halves_in, CanBeOpenedInTurn}
 use Rattle.split_opening_laws.specs.sections.Capped.{HasCaps}

@@ -1,13 +1,7 @@
 -- What is asked of the faces of a solid that is opened, so that its six volumes stay.
 use Rattle.std.specs.Prelude.{◌≡◌, ◌≢◌, ℕ, true, List, [], ◌∷◌}
-use Rattle.euler_operators.specs.declared.Plane.{Plane}
-use Rattle.euler_operators.specs.Vectors.{origin, dot, cross, direction, is_on}
-use Rattle.euler_operators.specs.Items.{IsIn}
-use Rattle.euler_operators.specs.Model.{Model, cycle, items_of, content, face_of, outer, solid_of}
-use Rattle.euler_operators.specs.Sound.{Has}
-use Rattle.shapes.specs.Faces.{start}
-use Rattle.shapes.specs.Measure.{normal, anchor}
-use Rattle.shapes.specs.split.Opening.{Caps}
+use Rattle.euler_operators.specs.Common.{Plane, origin, dot, cross, direction, is_on, IsIn, Model, cycle, items_of, content, face_of, outer, solid_of, Has}
+use Rattle.shapes.specs.Common.{start, normal, anchor, Caps}
 
 -- each corner of the face's outer loop has the same product along its normal, as those of a flat face have
 abbrev pub TellsAlike : Model → ℕ → Type 0

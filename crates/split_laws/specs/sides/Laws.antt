@@ -1,15 +1,7 @@
 -- On which sides of the plane the two parts of a split solid lie.
 use Rattle.std.specs.Prelude.{◌≡◌, ℕ, true, false, List}
-use Rattle.euler_operators.specs.declared.Plane.{Plane}
-use Rattle.euler_operators.specs.Vectors.{is_above, is_below}
-use Rattle.euler_operators.specs.Model.{Model, faces_of}
-use Rattle.euler_operators.specs.Sound.{Sound}
-use Rattle.euler_operators.specs.Conditions.{lists}
-use Rattle.shapes.specs.Faces.{start}
-use Rattle.shapes.specs.split.Sides.{straddles, faces_above}
-use Rattle.shapes.specs.split.Drawing.{Drawing}
-use Rattle.shapes.specs.split.Opening.{Opening, all_opened}
-use Rattle.shapes.specs.split.Split.{split_drawn}
+use Rattle.euler_operators.specs.Common.{Plane, is_above, is_below, Model, faces_of, Sound, lists}
+use Rattle.shapes.specs.Common.{start, straddles, faces_above, Drawing, Opening, all_opened, split_drawn}
 use Rattle.split_opening_laws.specs.sections.InTurn.{upper_faces, CanBeOpenedInTurn}
 use Rattle.split_laws.specs.opened.Laws.{LieOn}
 use Rattle.split_laws.specs.volumes.Laws.{CanBeSplit}

@@ -1,13 +1,7 @@
 -- On which sides of a plane the faces of a solid lie.
 use Rattle.std.specs.Prelude.{◌≡◌, ℕ, Bool, false, cond, List}
-use Rattle.euler_operators.specs.declared.Point.{Point}
-use Rattle.euler_operators.specs.declared.Plane.{Plane}
-use Rattle.euler_operators.specs.Vectors.{is_above, is_below}
-use Rattle.euler_operators.specs.Items.{IsIn}
-use Rattle.euler_operators.specs.Model.{Model, items_of, content, face_of, solid_of}
-use Rattle.euler_operators.specs.Sound.{Has}
-use Rattle.euler_operators.specs.Conditions.{lists}
-use Rattle.shapes.specs.Faces.{start}
+use Rattle.euler_operators.specs.Common.{Point, Plane, is_above, is_below, IsIn, Model, items_of, content, face_of, solid_of, Has, lists}
+use Rattle.shapes.specs.Common.{start}
 
 -- a point lies on or above the plane, or on or below it
 abbrev pub IsOnSide : Plane → Bool → Point → Type 0

@@ -1,11 +1,8 @@
 -- When the holes among the caps of a section can be closed.
 use Rattle.std.specs.Prelude.{◌≡◌, ◌≢◌, ◌⊎◌, ℕ, true, not, List, [], filter}
 use Rattle.std.specs.List.{list_any}
-use Rattle.euler_operators.specs.declared.Plane.{Plane}
-use Rattle.euler_operators.specs.Vectors.{origin, direction}
-use Rattle.euler_operators.specs.Items.{IsApart}
-use Rattle.euler_operators.specs.Model.{Model}
-use Rattle.shapes.specs.split.Opening.{Caps}
+use Rattle.euler_operators.specs.Common.{Plane, origin, direction, IsApart, Model}
+use Rattle.shapes.specs.Common.{Caps}
 use Rattle.split_opening_laws.specs.sections.Capped.{ArePlain, cap_faces}
 use Rattle.split_laws.specs.opened.Told.{OutersAreOwn, AllLieAlong}
 

@@ -1,16 +1,8 @@
 -- What the six volumes of solids are once the holes of a section are closed, and its upper faces parted from the solid.
 use Rattle.std.specs.Prelude.{◌≡◌, ◌≢◌, ℕ, ◌+ℤ◌, true, false, List, [], None}
-use Rattle.euler_operators.specs.declared.Plane.{Plane}
+use Rattle.euler_operators.specs.Common.{Plane, Model, solid_of, Has, lists, strictly_rises, part}
 use Rattle.euler_operators.specs.Table as table
-use Rattle.euler_operators.specs.Model.{Model, solid_of}
-use Rattle.euler_operators.specs.Sound.{Has}
-use Rattle.euler_operators.specs.Conditions.{lists, strictly_rises}
-use Rattle.euler_operators.specs.Effect.{part}
-use Rattle.shapes.specs.Measure.{six_volume}
-use Rattle.shapes.specs.split.Drawing.{Drawing}
-use Rattle.shapes.specs.split.Section.{below_halves, section_cycles, has_stray_hole}
-use Rattle.shapes.specs.split.Opening.{Caps, holes_closed}
-use Rattle.shapes.specs.split.Split.{split_drawn}
+use Rattle.shapes.specs.Common.{six_volume, Drawing, below_halves, section_cycles, has_stray_hole, Caps, holes_closed, split_drawn}
 use Rattle.split_opening_laws.specs.sections.InTurn.{CanBeOpenedInTurn}
 use Rattle.split_laws.specs.opened.Laws.{LieOn}
 use Rattle.split_laws.specs.opened.Told.{AllTellAlike}

@@ -1,32 +1,15 @@
 -- Numbers in a run, and the rows of such numbers that go.
-use Rattle.std.specs.Prelude.{reverse, take, get_or}
-use Rattle.std.proofs.Common.{◌≡◌, ◌≢◌, ℕ, zero, suc, ◌+◌, ◌≤◌, ◌<◌, map, None, is_some, refl, sym, ap, ◌∙◌, arith, inl, inr, List, [], ◌∷◌, ◌++◌, length, Some, unwrap_or, subst}
+use Rattle.std.proofs.Common.{◌≡◌, ◌≢◌, ℕ, zero, suc, ◌+◌, ◌≤◌, ◌<◌, map, None, is_some, refl, sym, ap, ◌∙◌, arith, inl, inr, List, [], ◌∷◌, ◌++◌, length, Some, unwrap_or, subst, reverse, take, get_or, append_assoc}
 use Rattle.std.proofs.lemmas.Bool.Decides.{nat_tests, eqb_tells}
 use Rattle.std.proofs.Math.Seq.{take-suc}
-use Rattle.std.proofs.lemmas.List.{append_assoc, map-append, reverse-append}
-use Rattle.euler_operators.specs.Items.{IsIn, IsApart}
-use Rattle.euler_operators.specs.Rings.{canonical, rest}
-use Rattle.euler_operators.specs.HalfEdge.{minus, edge_of, mate, plus, half}
+use Rattle.std.proofs.lemmas.List.{map-append, reverse-append}
+use Rattle.euler_operators.specs.Common.{IsIn, IsApart, canonical, rest, minus, edge_of, mate, plus, half, Table, tables, same_table, Has, Sound, Model, cycle, no_face, loop_of, face_of, outer, cycle_of, face_at, first_false, effect, kef}
 use Rattle.euler_operators.specs.Table as table
-use Rattle.euler_operators.specs.Table.{Table, tables, same_table}
-use Rattle.euler_operators.specs.Sound.{Has, Sound}
-use Rattle.euler_operators.specs.Model.{Model, cycle, no_face, loop_of, face_of, outer, cycle_of}
 use Rattle.euler_operators.specs.declared.Op.TheVariants.{Kef}
-use Rattle.euler_operators.specs.Conditions.{face_at, first_false}
-use Rattle.euler_operators.specs.Effect.{effect, kef}
-use Rattle.euler_operators.proofs.Lists.{count-append, tick_same}
-use Rattle.euler_operators.proofs.Tables.{get-remove_other, remove_turned, get-put_here, get-put_other}
-use Rattle.euler_operators.proofs.Rotations.{canonical-rotates, canonical_same, rest_same, rest_at}
-use Rattle.euler_operators.proofs.Halves.{minus_row, code-half, mate_minus}
-use Rattle.euler_operators.proofs.Models.{same_face}
-use Rattle.euler_operators.proofs.Maps.{from_map}
+use Rattle.euler_operators.proofs.Common.{count-append, tick_same, get-remove_other, remove_turned, get-put_here, get-put_other, canonical-rotates, canonical_same, rest_same, rest_at, minus_row, code-half, mate_minus, same_face, from_map}
 use Rattle.euler_laws.proofs.mef.KefSound as kill
-use Rattle.euler_laws.proofs.mef.KefSound.{KefGoes}
-use Rattle.euler_laws.proofs.mef.Kef.{kef_accepted}
-use Rattle.euler_laws.proofs.shared.KnownLoop.{Around, apart_xs, loop_is, half_is, cycle_is, face_is}
-use Rattle.shapes.specs.Fresh.{numbers_after, Taken}
-use Rattle.shapes.specs.Rewriting.{without_rows}
-use Rattle.shapes.specs.Prism.{next_place}
+use Rattle.euler_laws.proofs.Common.{KefGoes, kef_accepted, Around, apart_xs, loop_is, half_is, cycle_is, face_is}
+use Rattle.shapes.specs.Common.{numbers_after, Taken, without_rows, next_place}
 use Rattle.sweeps_laws.proofs.lamina.Lists.{canonical_first, numbers_last}
 use Rattle.sweeps_laws.proofs.prism.Sides.{next_inner}
 use Rattle.split_opening_laws.proofs.sections.Numbered.{in_numbers}

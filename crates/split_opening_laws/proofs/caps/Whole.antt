@@ -1,41 +1,23 @@
 -- All strips joined: kemr of the first strip_riser parts their loop, and mfkrh makes a face of the ring; from the strips to the caps.
-use Rattle.std.proofs.Common.{◌≡◌, ◌≢◌, ℕ, suc, ◌+◌, ◌-◌, ◌≤◌, List, [], ◌∷◌, ◌++◌, map, length, Some, None, is_some, unwrap_or, cond, refl, sym, ap, ◌∙◌, subst, arith, inl, inr, zero, ◌<◌}
-use Rattle.std.specs.Prelude.{reverse, take, get_or}
-use Rattle.std.proofs.lemmas.Bool.{eq-eqb, ne_eqb, cases_lt}
-use Rattle.std.proofs.lemmas.List.{append_assoc, length-reverse, take_all, map-append}
-use Rattle.euler_operators.specs.Items.{count, IsIn, IsApart}
-use Rattle.euler_operators.specs.Rings.{canonical, rest, successor}
-use Rattle.euler_operators.proofs.Lists.{count-append, tick_same, before_at, after_at}
-use Rattle.euler_operators.proofs.Rotations.{canonical-rotates, rest_same, rest_at}
-use Rattle.euler_operators.specs.HalfEdge.{plus, minus, half}
+use Rattle.std.proofs.Common.{◌≡◌, ◌≢◌, ℕ, suc, ◌+◌, ◌-◌, ◌≤◌, List, [], ◌∷◌, ◌++◌, map, length, Some, None, is_some, unwrap_or, cond, refl, sym, ap, ◌∙◌, subst, arith, inl, inr, zero, ◌<◌, reverse, take, get_or, eq-eqb, ne_eqb, append_assoc, take_all}
+use Rattle.std.proofs.lemmas.Bool.{cases_lt}
+use Rattle.std.proofs.lemmas.List.{length-reverse, map-append}
+use Rattle.euler_operators.specs.Common.{count, IsIn, IsApart, canonical, rest, successor, plus, minus, half, Model, LoopRow, cycle, no_face, loop_of, face_of, solid_of, outer, cycle_of, tail, after, Sound, first_false, effect, kemr, mfkrh, cycle_or_lone, loop_to_face}
+use Rattle.euler_operators.proofs.Common.{count-append, tick_same, before_at, after_at, canonical-rotates, rest_same, rest_at, plus_row, code-half, mate_plus, mate_minus, map_one, get-put_here, put-put, put_same, face_row, successor_same, successor_head, successor_last}
 use Rattle.euler_operators.specs.Table as table
-use Rattle.euler_operators.specs.Model.{Model, LoopRow, cycle, no_face, loop_of, face_of, solid_of, outer, cycle_of, tail, after}
-use Rattle.euler_operators.specs.Sound.{Sound}
-use Rattle.euler_operators.proofs.Halves.{plus_row, code-half, mate_plus, mate_minus}
-use Rattle.euler_operators.proofs.Tables.{map_one, get-put_here, put-put, put_same}
-use Rattle.euler_operators.proofs.Models.{face_row}
 use Rattle.euler_operators.specs.declared.Op.TheVariants.{Kemr, Mfkrh, Kef}
-use Rattle.euler_operators.specs.Conditions.{first_false}
-use Rattle.euler_operators.specs.Effect.{effect, kemr, mfkrh, cycle_or_lone, loop_to_face}
 use Rattle.euler_laws.proofs.kemr.KemrSound as parted
-use Rattle.euler_laws.proofs.kemr.KemrSound.{KemrGoes}
+use Rattle.euler_laws.proofs.Common.{KemrGoes, MakeGoes, mfkrh_accepted, effect_keeps_sound, Around, apart_xs, loop_is, half_is, cycle_is, face_is, effects-append, AreAccepted-append, effects_keep_sound}
 use Rattle.euler_laws.proofs.mekr.Mekr.{kemr_accepted}
-use Rattle.euler_laws.proofs.faces.Kfmrh.{MakeGoes, mfkrh_accepted}
-use Rattle.euler_laws.proofs.Cases.{effect_keeps_sound}
 use Rattle.euler_laws.specs.Laws.{effects, AreAccepted}
-use Rattle.euler_laws.proofs.shared.KnownLoop.{Around, apart_xs, loop_is, half_is, cycle_is, face_is}
 use Rattle.sweeps_laws.proofs.prism.Sides.{next_last}
-use Rattle.shapes.specs.Fresh.{Taken, numbers_after}
-use Rattle.shapes.specs.Rewriting.{without_rows}
+use Rattle.shapes.specs.Common.{Taken, numbers_after, without_rows, next_place}
 use Rattle.split_opening_laws.specs.caps.Strips.{HasStrips, strip_riser, strip_loop}
 use Rattle.split_opening_laws.specs.caps.Caps.{joined_loop, joined_part, capped}
 use Rattle.split_opening_laws.specs.caps.CapOps.{partings, joinings, cap_ops}
 use Rattle.split_opening_laws.proofs.caps.Joined.{canonical_run, gone_first, gone_free, gone_below, joined_faces, joined_loops, joined_edges, at_first, at_else, next_joined}
 use Rattle.std.proofs.Math.Seq.{take-suc}
 use Rattle.euler_operators.specs.declared.Op.{Op}
-use Rattle.euler_operators.proofs.Rings.{successor_same, successor_head, successor_last}
-use Rattle.euler_laws.proofs.Runs.{effects-append, AreAccepted-append, effects_keep_sound}
-use Rattle.shapes.specs.Prism.{next_place}
 use Rattle.sweeps_laws.proofs.lamina.Lists.{numbers_last}
 
 -- some items make a cycle

@@ -1,32 +1,12 @@
 -- What the loops hold, and where half-edges start, once one copy more is raised.
-use Rattle.std.proofs.Common.{◌≡◌, ◌≢◌, ℕ, suc, ◌+◌, ◌≤◌, ◌<◌, cond, List, [], ◌∷◌, ◌++◌, length, Some, None, is_some, refl, sym, ap, ◌∙◌, subst, arith, inl, inr, Bool, true, false, true≢false, nat_eq, ◌⊎◌}
-use Rattle.std.specs.Prelude.{map, get_or, nat_lt, not, ◌&&◌}
-use Rattle.std.specs.Option.{option_map}
+use Rattle.std.proofs.Common.{◌≡◌, ◌≢◌, ℕ, suc, ◌+◌, ◌≤◌, ◌<◌, cond, List, [], ◌∷◌, ◌++◌, length, Some, None, is_some, refl, sym, ap, ◌∙◌, subst, arith, inl, inr, Bool, true, false, true≢false, nat_eq, ◌⊎◌, map, get_or, nat_lt, not, ◌&&◌, option_map, lt-ltb, append_assoc}
 use Rattle.std.proofs.lemmas.Bool.Decides.{nat_tests, eqb_tells}
-use Rattle.std.proofs.lemmas.Bool.{lt-ltb}
-use Rattle.std.proofs.lemmas.List.{append_assoc}
-use Rattle.euler_operators.specs.Items.{count, IsIn, IsApart}
-use Rattle.euler_operators.specs.Rings.{canonical}
-use Rattle.euler_operators.specs.Edits.{insert_before}
-use Rattle.euler_operators.proofs.Lists.{tick_other, count-append, tick_same}
-use Rattle.euler_operators.proofs.Rotations.{canonical-rotates, count-canonical, canonical_same}
-use Rattle.euler_operators.proofs.Edits.{insert_before_at, insert_before_same}
-use Rattle.euler_operators.specs.HalfEdge.{mate, edge_of, plus, minus}
+use Rattle.euler_operators.specs.Common.{count, IsIn, IsApart, canonical, insert_before, mate, edge_of, plus, minus, Table, get-map_rows, Model, LoopRow, cycle, loop_of, EdgeRow, tail, arc, point_of, is_number, Sound, Has, HasHalf, with_before, with_tails, edge_row, effect, mev_at, face_at, lists, first_false}
+use Rattle.euler_operators.proofs.Common.{tick_other, count-append, tick_same, canonical-rotates, count-canonical, canonical_same, insert_before_at, insert_before_same, plus_row, minus_row, mate_plus, code-half, map_same, in_use_within, map_alike, in-holds, holds-none, none-holds, other_loop, not_held, plus_tail_row, minus_tail_row}
 use Rattle.euler_operators.specs.Table as table
-use Rattle.euler_operators.specs.Table.{Table, get-map_rows}
-use Rattle.euler_operators.specs.Model.{Model, LoopRow, cycle, loop_of, EdgeRow, tail, arc, point_of, is_number}
-use Rattle.euler_operators.specs.Sound.{Sound, Has, HasHalf}
-use Rattle.euler_operators.proofs.Halves.{plus_row, minus_row, mate_plus, code-half}
-use Rattle.euler_operators.proofs.Tables.{map_same, in_use_within, map_alike}
-use Rattle.euler_operators.proofs.Models.{in-holds, holds-none, none-holds, other_loop, not_held, plus_tail_row, minus_tail_row}
-use Rattle.euler_operators.specs.Effect.{with_before, with_tails, edge_row, effect, mev_at}
-use Rattle.euler_laws.proofs.shared.Same.{map_twice, mapped_some}
-use Rattle.euler_laws.proofs.shared.Undo.{put_apart}
+use Rattle.euler_laws.proofs.Common.{map_twice, mapped_some, put_apart, loop_is, apart_xs, where_held_none, where_held_there, edge_row_plus, point_row, MevGoes, mev_accepted}
 use Rattle.sweeps_laws.proofs.prism.Steps.{edge_plus}
-use Rattle.shapes.specs.Fresh.{Taken}
-use Rattle.shapes.specs.Prism.{next_place}
-use Rattle.shapes.specs.Rewriting.{rewritten_row, renamed}
-use Rattle.shapes.specs.split.Opening.{opened_row, opened_tail}
+use Rattle.shapes.specs.Common.{Taken, next_place, rewritten_row, renamed, opened_row, opened_tail}
 use Rattle.split_opening_laws.specs.strips.Strips.{with_rows, put_out, copy_riser, riser_edge, copied, raised_items, raised_loop, raised_edge, copies_raised}
 use Rattle.split_opening_laws.specs.strips.StripOps.{place_before, raise_copy}
 use Rattle.split_opening_laws.specs.strips.Opened.{CanBeOpened}
@@ -35,11 +15,6 @@ use Rattle.split_opening_laws.proofs.strips.Cycle as on
 use Rattle.split_opening_laws.proofs.strips.Cycle.{before_below, before_apart, next-before, next_once}
 use Rattle.split_opening_laws.proofs.copies.Raised as raised
 use Rattle.split_opening_laws.proofs.copies.Raised.{not_less, arc_first, arc_up, arc_down, arc_else}
-use Rattle.euler_laws.proofs.shared.KnownLoop.{loop_is, apart_xs}
-use Rattle.euler_laws.proofs.shared.Rows.{where_held_none, where_held_there, edge_row_plus, point_row}
-use Rattle.euler_operators.specs.Conditions.{face_at, lists, first_false}
-use Rattle.euler_laws.proofs.mev.MevSound.{MevGoes}
-use Rattle.euler_laws.proofs.mev.Mev.{mev_accepted}
 use Rattle.sweeps_laws.proofs.prism.Sides.{fits}
 use Rattle.split_opening_laws.proofs.strips.Copied as copy
 

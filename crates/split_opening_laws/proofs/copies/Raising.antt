@@ -1,19 +1,11 @@
 -- All copies raised, one after the other.
-use Rattle.std.proofs.Common.{◌≡◌, ℕ, zero, suc, ◌≤◌, Bool, true, false, cond, List, [], ◌∷◌, length, refl, sym, ap, ◌∙◌, subst, arith}
-use Rattle.std.specs.Prelude.{map, not, ◌&&◌}
-use Rattle.euler_operators.specs.HalfEdge.{mate, plus, minus}
+use Rattle.std.proofs.Common.{◌≡◌, ℕ, zero, suc, ◌≤◌, Bool, true, false, cond, List, [], ◌∷◌, length, refl, sym, ap, ◌∙◌, subst, arith, map, not, ◌&&◌}
+use Rattle.euler_operators.specs.Common.{mate, plus, minus, Table, Model, LoopRow, Sound, face_at, lists, effect}
 use Rattle.euler_operators.specs.Table as table
-use Rattle.euler_operators.specs.Table.{Table}
-use Rattle.euler_operators.specs.Model.{Model, LoopRow}
-use Rattle.euler_operators.specs.Sound.{Sound}
-use Rattle.euler_operators.proofs.Tables.{map_same}
-use Rattle.euler_operators.specs.Conditions.{face_at, lists}
-use Rattle.euler_operators.specs.Effect.{effect}
+use Rattle.euler_operators.proofs.Common.{map_same}
 use Rattle.euler_laws.specs.Laws.{effects, AreAccepted}
-use Rattle.euler_laws.proofs.Runs.{effects-append, AreAccepted-append, effects_keep_sound}
-use Rattle.shapes.specs.Fresh.{Taken}
-use Rattle.shapes.specs.Rewriting.{rewritten_row, renamed}
-use Rattle.shapes.specs.split.Opening.{opened_tail, opened_row, with_copies}
+use Rattle.euler_laws.proofs.Common.{effects-append, AreAccepted-append, effects_keep_sound}
+use Rattle.shapes.specs.Common.{Taken, rewritten_row, renamed, opened_tail, opened_row, with_copies}
 use Rattle.split_opening_laws.specs.strips.Strips.{with_rows, put_out, strip_face, strip_row, copied, raised_loop, raised_edge, strips_cut, copies_raised}
 use Rattle.split_opening_laws.specs.strips.StripOps.{raise_copy, copy_ops}
 use Rattle.split_opening_laws.specs.strips.Opened.{CanBeOpened}

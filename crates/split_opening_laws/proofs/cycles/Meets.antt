@@ -1,11 +1,8 @@
 -- Sums over a list, and how many items of a list stand in another, counted from either side.
-use Rattle.std.specs.Prelude.{filter, flat_map}
-use Rattle.std.proofs.Common.{◌≡◌, ℕ, ◌+◌, ◌≤◌, Bool, true, false, cond, List, [], ◌∷◌, map, refl, sym, ap, ◌∙◌, arith, inl, inr, not, ◌&&◌}
+use Rattle.std.proofs.Common.{◌≡◌, ℕ, ◌+◌, ◌≤◌, Bool, true, false, cond, List, [], ◌∷◌, map, refl, sym, ap, ◌∙◌, arith, inl, inr, not, ◌&&◌, filter, flat_map}
 use Rattle.std.proofs.lemmas.Bool.Decides.{eqb_tells}
-use Rattle.euler_operators.specs.Items.{tick, count, IsIn, IsApart, head_or}
-use Rattle.euler_operators.specs.Rings.{IsPath, IsRing}
-use Rattle.euler_operators.proofs.Lists.{tick_same, tick_other, count-append}
-use Rattle.euler_operators.proofs.Members.{IsIn-map}
+use Rattle.euler_operators.specs.Common.{tick, count, IsIn, IsApart, head_or, IsPath, IsRing}
+use Rattle.euler_operators.proofs.Common.{tick_same, tick_other, count-append, IsIn-map}
 
 abbrev pub total : (ℕ → ℕ) → List ℕ → ℕ
 total f [] = 0

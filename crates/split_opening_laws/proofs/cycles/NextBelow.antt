@@ -1,31 +1,16 @@
 -- Where no vertex is branched, each below half leads to one other, and no two to the same: so they form cycles.
-use Rattle.std.proofs.Common.{◌≡◌, ℕ, ◌≤◌, Bool, true, false, cond, nat_eq, nat_lt, List, [], ◌∷◌, map, Some, is_some, unwrap_or, refl, sym, ap, ◌∙◌, arith, true≢false, inl, inr, subst, ◌≢◌, zero, suc, ◌+◌, ◌<◌, ◌++◌, length, get_or, ◌⊎◌}
+use Rattle.std.proofs.Common.{◌≡◌, ℕ, ◌≤◌, Bool, true, false, cond, nat_eq, nat_lt, List, [], ◌∷◌, map, Some, is_some, unwrap_or, refl, sym, ap, ◌∙◌, arith, true≢false, inl, inr, subst, ◌≢◌, zero, suc, ◌+◌, ◌<◌, ◌++◌, length, get_or, ◌⊎◌, eq-eqb, eqb-true, ne_eqb, flat_map}
 use Rattle.std.proofs.lemmas.Bool.Decides.{nat_tests, eqb_tells}
-use Rattle.std.proofs.lemmas.Bool.{eq-eqb, eqb-true, ne_eqb}
-use Rattle.euler_operators.specs.Items.{count, IsIn, IsApart, SameItems, head_or, least}
-use Rattle.euler_operators.proofs.Lists.{tick_same, tick_other, count-append, IsIn_or_not}
-use Rattle.euler_operators.proofs.Maps.{from_map, IsApart-map}
-use Rattle.euler_operators.specs.HalfEdge.{mate}
+use Rattle.euler_operators.specs.Common.{count, IsIn, IsApart, SameItems, head_or, least, mate, Model, tail, Sound, Has, HasHalf, IsPath, IsRing, face_at, lists, strictly_rises}
+use Rattle.euler_operators.proofs.Common.{tick_same, tick_other, count-append, IsIn_or_not, from_map, IsApart-map, zero_first_where, row_some, IsIn-map, apart_within, IsIn-get_or, mate-mate, mate_there}
 use Rattle.euler_operators.specs.Table as table
-use Rattle.euler_operators.specs.Model.{Model, tail}
-use Rattle.euler_operators.specs.Sound.{Sound, Has, HasHalf}
-use Rattle.euler_operators.proofs.Tables.{zero_first_where, row_some}
-use Rattle.euler_operators.proofs.Members.{IsIn-map, apart_within}
-use Rattle.euler_laws.proofs.shared.Goes.{no_zero}
-use Rattle.shapes.proofs.fresh.Tests.{zero_found}
-use Rattle.shapes.specs.Fresh.{first_such}
-use Rattle.shapes.specs.split.Section.{below_halves, section_ends, next_below, cycle_from, section_cycles}
+use Rattle.euler_laws.proofs.Common.{no_zero}
+use Rattle.shapes.proofs.Common.{zero_found}
+use Rattle.shapes.specs.Common.{first_such, below_halves, section_ends, next_below, cycle_from, section_cycles, next_place}
 use Rattle.split_opening_laws.specs.cycles.Permuting.{Permutes}
 use Rattle.split_opening_laws.specs.cycles.SectionCycles.{AreOf, IsUnbranched, IsSectionCycle, AreSectionCycles, AreApartCycles}
 use Rattle.split_opening_laws.proofs.cycles.Meets.{known_by}
 use Rattle.split_opening_laws.proofs.cycles.BelowHalves.{halves_apart, half_there, starts_are_ends, halves_rise, halves_are, is_half}
-use Rattle.std.specs.Prelude.{flat_map}
-use Rattle.euler_operators.specs.Rings.{IsPath, IsRing}
-use Rattle.euler_operators.proofs.Std.{IsIn-get_or}
-use Rattle.euler_operators.proofs.Halves.{mate-mate}
-use Rattle.euler_operators.proofs.Models.{mate_there}
-use Rattle.euler_operators.specs.Conditions.{face_at, lists, strictly_rises}
-use Rattle.shapes.specs.Prism.{next_place}
 use Rattle.split_opening_laws.proofs.cycles.RisingLists.{filter_rises}
 use Rattle.split_opening_laws.proofs.cycles.Orbits.{around, around_is, around_ring, around_apart, around_within, leaders, leader_in, leader_least, covers}
 

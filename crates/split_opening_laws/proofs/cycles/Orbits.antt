@@ -1,18 +1,8 @@
 -- The orbits of a function that permutes the items of a list.
-use Rattle.std.specs.Prelude.{filter, flat_map}
-use Rattle.std.proofs.Common.{◌≡◌, ℕ, zero, suc, ◌+◌, ◌≤◌, List, [], ◌∷◌, ◌++◌, length, map, refl, sym, ap, subst, ◌∙◌, arith, inl, inr, Bool, true, nat_eq}
+use Rattle.std.proofs.Common.{◌≡◌, ℕ, zero, suc, ◌+◌, ◌≤◌, List, [], ◌∷◌, ◌++◌, length, map, refl, sym, ap, subst, ◌∙◌, arith, inl, inr, Bool, true, nat_eq, filter, flat_map, length-append, eq-eqb, eqb-true}
 use Rattle.std.proofs.lemmas.Bool.Decides.{eqb_tells}
-use Rattle.std.proofs.lemmas.List.{length-append}
-use Rattle.std.proofs.lemmas.Bool.{eq-eqb, eqb-true}
-use Rattle.euler_operators.specs.Items.{tick, count, IsIn, IsApart, SameItems, last_or, least}
-use Rattle.euler_operators.specs.Rings.{IsPath, IsRing, orbit, rotate_to}
-use Rattle.euler_operators.proofs.Lists.{tick_same, tick_other, count-append, least_in, least_same, IsIn_or_not}
-use Rattle.euler_operators.proofs.Rotations.{count-rotate_to}
-use Rattle.euler_operators.proofs.Operators.{apart_back}
-use Rattle.euler_operators.proofs.Maps.{IsApart-map}
-use Rattle.euler_operators.proofs.Rings.{IsPath-append, orbit_ring, orbit_from, IsIn_last}
-use Rattle.euler_operators.proofs.Closed.{IsPath_last}
-use Rattle.euler_operators.proofs.Members.{apart_within, count-filter, filter_passes}
+use Rattle.euler_operators.specs.Common.{tick, count, IsIn, IsApart, SameItems, last_or, least, IsPath, IsRing, orbit, rotate_to}
+use Rattle.euler_operators.proofs.Common.{tick_same, tick_other, count-append, least_in, least_same, IsIn_or_not, count-rotate_to, apart_back, IsApart-map, IsPath-append, orbit_ring, orbit_from, IsIn_last, IsPath_last, apart_within, count-filter, filter_passes}
 use Rattle.split_opening_laws.specs.cycles.Permuting.{Permutes}
 use Rattle.split_opening_laws.proofs.cycles.Meets.{total, total_same, total_ticks, count_filter, count_flat}
 

@@ -1,12 +1,9 @@
 -- Strictly rising lists put together, and thinned out.
-use Rattle.std.proofs.Common.{◌≡◌, ℕ, ◌<◌, Bool, true, nat_lt, ◌&&◌, List, [], ◌∷◌, refl, ap, ◌∙◌, arith}
-use Rattle.std.specs.Prelude.{filter}
+use Rattle.std.proofs.Common.{◌≡◌, ℕ, ◌<◌, Bool, true, nat_lt, ◌&&◌, List, [], ◌∷◌, refl, ap, ◌∙◌, arith, filter}
 use Rattle.std.proofs.lemmas.Bool.Decides.{nat_tests}
-use Rattle.euler_operators.specs.Items.{IsIn}
-use Rattle.euler_operators.specs.Conditions.{strictly_rises}
-use Rattle.euler_operators.proofs.Members.{count-filter}
-use Rattle.euler_laws.proofs.shared.Listed.{first_listed, IsIn-from_listed}
-use Rattle.euler_laws.proofs.Sizes.{rises_over, rises_on}
+use Rattle.euler_operators.specs.Common.{IsIn, strictly_rises}
+use Rattle.euler_operators.proofs.Common.{count-filter}
+use Rattle.euler_laws.proofs.Common.{first_listed, IsIn-from_listed, rises_over, rises_on}
 
 pub rises_cons : (n : ℕ) (ns : List ℕ) → ((k : ℕ) → IsIn k ns → n < k) → strictly_rises ns ≡ true → strictly_rises (n ∷ ns) ≡ true
 rises_cons n [] l r = refl

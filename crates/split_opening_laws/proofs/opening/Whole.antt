@@ -1,23 +1,13 @@
 -- Once the copies are raised there are strips along the mates.
-use Rattle.std.specs.Prelude.{map, reverse}
-use Rattle.std.specs.Option.{option_map}
-use Rattle.std.proofs.Common.{◌≡◌, ℕ, suc, ◌+◌, ◌<◌, List, ◌++◌, length, Option, Some, None, is_some, refl, sym, ap, ◌∙◌, subst, arith, inl, inr, true≢false, zero, ◌≤◌, ◌-◌}
-use Rattle.std.proofs.lemmas.Bool.{lt-ltb, cases_lt}
+use Rattle.std.proofs.Common.{◌≡◌, ℕ, suc, ◌+◌, ◌<◌, List, ◌++◌, length, Option, Some, None, is_some, refl, sym, ap, ◌∙◌, subst, arith, inl, inr, true≢false, zero, ◌≤◌, ◌-◌, map, reverse, option_map, lt-ltb}
+use Rattle.std.proofs.lemmas.Bool.{cases_lt}
 use Rattle.std.proofs.lemmas.List.{length-map, get_or-map}
-use Rattle.euler_operators.specs.Rings.{canonical}
-use Rattle.euler_operators.specs.HalfEdge.{mate, minus}
+use Rattle.euler_operators.specs.Common.{canonical, mate, minus, get-map_rows, Table, same_table, Model, LoopRow, cycle, face_of, EdgeRow, FaceRow, Has, Sound}
 use Rattle.euler_operators.specs.Table as table
-use Rattle.euler_operators.specs.Table.{get-map_rows, Table, same_table}
-use Rattle.euler_operators.specs.Model.{Model, LoopRow, cycle, face_of, EdgeRow, FaceRow}
-use Rattle.euler_operators.specs.Sound.{Has, Sound}
-use Rattle.euler_operators.proofs.Models.{face_row}
-use Rattle.euler_operators.proofs.Tables.{get-put_here, get-put_other, put-put}
+use Rattle.euler_operators.proofs.Common.{face_row, get-put_here, get-put_other, put-put}
 use Rattle.euler_laws.specs.Laws.{effects, AreAccepted}
-use Rattle.euler_laws.proofs.Runs.{Leads, leads_on, effects_keep_sound}
-use Rattle.shapes.specs.Fresh.{Taken, numbers_after}
-use Rattle.shapes.specs.Prism.{next_place}
-use Rattle.shapes.specs.Rewriting.{rewritten_row, renamed, without_rows}
-use Rattle.shapes.specs.split.Opening.{with_rim, opened_row, opened_along}
+use Rattle.euler_laws.proofs.Common.{Leads, leads_on, effects_keep_sound}
+use Rattle.shapes.specs.Common.{Taken, numbers_after, next_place, rewritten_row, renamed, without_rows, with_rim, opened_row, opened_along}
 use Rattle.sweeps_laws.proofs.prism.Sides.{fits}
 use Rattle.split_opening_laws.specs.strips.Strips.{with_rows, put_out, strip_face, raised_items, raised_loop, copies_raised, copied, raised_edge, riser_edge, strips_cut}
 use Rattle.split_opening_laws.specs.strips.Opened.{CanBeOpened}

@@ -1,29 +1,14 @@
 -- A solid is opened along the cycles of its section one after the other, and then nothing holds its upper faces to the others.
-use Rattle.std.specs.Option.{option_map}
-use Rattle.std.proofs.Common.{◌≡◌, ℕ, ◌+◌, ◌*◌, true, List, [], ◌∷◌, ◌++◌, length, map, is_some, refl, sym, ap, subst, ◌∙◌, arith, length-append, ◌≤◌, ◌<◌, Option, Some, None, unwrap_or, true≢false, ◌⊎◌, inl, inr}
-use Rattle.std.proofs.lemmas.List.{append_assoc, append-nil, map-append}
+use Rattle.std.proofs.Common.{◌≡◌, ℕ, ◌+◌, ◌*◌, true, List, [], ◌∷◌, ◌++◌, length, map, is_some, refl, sym, ap, subst, ◌∙◌, arith, length-append, ◌≤◌, ◌<◌, Option, Some, None, unwrap_or, true≢false, ◌⊎◌, inl, inr, option_map, append_assoc, append-nil}
+use Rattle.std.proofs.lemmas.List.{map-append}
 use Rattle.std.proofs.lemmas.Bool.Decides.{eqb_tells}
 use Rattle.std.proofs.lemmas.Grind.{flat_map-append}
-use Rattle.euler_operators.specs.declared.Plane.{Plane}
-use Rattle.euler_operators.specs.Items.{IsIn, count}
-use Rattle.euler_operators.specs.HalfEdge.{mate, plus}
+use Rattle.euler_operators.specs.Common.{Plane, IsIn, count, mate, plus, Model, solid_of, rings_of, LoopRow, no_face, face_of, outer, Sound, Has, lists, torn_edge, strictly_rises, get-map_rows}
 use Rattle.euler_operators.specs.Table as table
-use Rattle.euler_operators.specs.Model.{Model, solid_of, rings_of, LoopRow, no_face, face_of, outer}
-use Rattle.euler_operators.specs.Sound.{Sound, Has}
-use Rattle.euler_operators.specs.Conditions.{lists, torn_edge, strictly_rises}
-use Rattle.euler_operators.specs.Table.{get-map_rows}
-use Rattle.euler_operators.proofs.Halves.{plus_row, minus_row, mate_plus, mate_minus}
-use Rattle.euler_operators.proofs.Tables.{all_where_none, first_where_zero, in_use_within, get-put_here, get-put_other}
-use Rattle.euler_operators.proofs.Lists.{count-append, tick_same, tick_other, IsIn_or_not}
-use Rattle.euler_operators.proofs.Models.{face_row}
-use Rattle.euler_laws.proofs.shared.Rows.{loop_row}
-use Rattle.euler_laws.proofs.shared.Listed.{listed_front, listed-from_in}
-use Rattle.euler_laws.proofs.Sizes.{rises_over, rises_on}
-use Rattle.shapes.specs.Fresh.{Taken, numbers_after}
-use Rattle.shapes.specs.split.Section.{below_halves, section_cycles, is_hole}
-use Rattle.shapes.specs.split.Opening.{Caps, Opening, opened_along, next_opened, all_opened, both_lists}
-use Rattle.shapes.specs.Rewriting.{rewritten_row, renamed}
-use Rattle.shapes.proofs.fresh.Rows.{get-put_cases}
+use Rattle.euler_operators.proofs.Common.{plus_row, minus_row, mate_plus, mate_minus, all_where_none, first_where_zero, in_use_within, get-put_here, get-put_other, count-append, tick_same, tick_other, IsIn_or_not, face_row}
+use Rattle.euler_laws.proofs.Common.{loop_row, listed_front, listed-from_in, rises_over, rises_on}
+use Rattle.shapes.specs.Common.{Taken, numbers_after, below_halves, section_cycles, is_hole, Caps, Opening, opened_along, next_opened, all_opened, both_lists, rewritten_row, renamed}
+use Rattle.shapes.proofs.Common.{get-put_cases}
 use Rattle.split_opening_laws.specs.cycles.SectionCycles.{AreOf, IsUnbranched}
 use Rattle.split_opening_laws.specs.Numbers.{AreFree, AreLeft}
 use Rattle.split_opening_laws.specs.sections.InTurn.{halves_in, AreBetween, upper_faces, CanBeOpenedInTurn}

@@ -1,20 +1,12 @@
 -- Rows put at the numbers that follow a number, and numbers renamed by two lists.
-use Rattle.std.proofs.Common.{◌≡◌, ◌≢◌, ℕ, zero, suc, ◌+◌, ◌≤◌, ◌<◌, cond, nat_eq, List, [], ◌∷◌, ◌++◌, length, Some, refl, sym, ap, ◌∙◌, subst, arith, ◌⊎◌, inl, inr, false}
-use Rattle.std.specs.Prelude.{get_or}
+use Rattle.std.proofs.Common.{◌≡◌, ◌≢◌, ℕ, zero, suc, ◌+◌, ◌≤◌, ◌<◌, cond, nat_eq, List, [], ◌∷◌, ◌++◌, length, Some, refl, sym, ap, ◌∙◌, subst, arith, ◌⊎◌, inl, inr, false, get_or, ne_eqb}
 use Rattle.std.proofs.lemmas.Bool.Decides.{eqb_tells, nat_tests}
-use Rattle.std.proofs.lemmas.Bool.{ne_eqb}
-use Rattle.euler_operators.specs.Items.{IsIn, tick, count, IsApart}
-use Rattle.euler_operators.proofs.Lists.{tick_same, tick_other}
+use Rattle.euler_operators.specs.Common.{IsIn, tick, count, IsApart, Table, EdgeRow}
+use Rattle.euler_operators.proofs.Common.{tick_same, tick_other, map-put, get-put_here, get-put_other, nat_eq_itself, nat_eq_turned}
 use Rattle.euler_operators.specs.Table as table
-use Rattle.euler_operators.specs.Table.{Table}
-use Rattle.euler_operators.proofs.Tables.{map-put, get-put_here, get-put_other}
-use Rattle.euler_operators.proofs.Tests.{nat_eq_itself, nat_eq_turned}
-use Rattle.shapes.specs.Fresh.{numbers_after}
-use Rattle.shapes.specs.Rewriting.{renamed}
-use Rattle.shapes.specs.split.Opening.{both_lists, with_rim}
+use Rattle.shapes.specs.Common.{numbers_after, renamed, both_lists, with_rim}
 use Rattle.split_opening_laws.specs.strips.Strips.{with_rows}
-use Rattle.euler_operators.specs.Model.{EdgeRow}
-use Rattle.shapes.proofs.fresh.Rows.{get-put_cases}
+use Rattle.shapes.proofs.Common.{get-put_cases}
 
 -- ---- rows
 

@@ -1,26 +1,12 @@
 -- Once a solid is opened along a cycle, the other cycles of its section are still such.
-use Rattle.std.specs.Prelude.{flat_map}
-use Rattle.std.proofs.Common.{◌≡◌, ◌≢◌, ℕ, ◌<◌, List, [], ◌∷◌, length, map, get_or, is_some, refl, sym, ap, subst, ◌∙◌, arith, ◌⊎◌, inl, inr, ◌+◌, ◌≤◌, true, false, ◌++◌, unwrap_or, true≢false}
+use Rattle.std.proofs.Common.{◌≡◌, ◌≢◌, ℕ, ◌<◌, List, [], ◌∷◌, length, map, get_or, is_some, refl, sym, ap, subst, ◌∙◌, arith, ◌⊎◌, inl, inr, ◌+◌, ◌≤◌, true, false, ◌++◌, unwrap_or, true≢false, flat_map}
 use Rattle.std.proofs.lemmas.List.{map-append, get_or_default}
 use Rattle.std.proofs.lemmas.Bool.Decides.{eqb_tells}
-use Rattle.euler_operators.specs.Items.{count, IsIn, IsApart}
-use Rattle.euler_operators.specs.HalfEdge.{mate, edge_of}
-use Rattle.euler_operators.specs.Model.{Model, tail, solid_of, loop_of, no_face}
-use Rattle.euler_operators.specs.Sound.{Sound, HasHalf, Has}
-use Rattle.euler_operators.specs.Conditions.{face_at, lists}
+use Rattle.euler_operators.specs.Common.{count, IsIn, IsApart, mate, edge_of, Model, tail, solid_of, loop_of, no_face, Sound, HasHalf, Has, face_at, lists}
 use Rattle.euler_operators.specs.Table as table
-use Rattle.euler_operators.proofs.Lists.{tick_same, count-append, IsIn_or_not}
-use Rattle.euler_operators.proofs.Std.{IsIn-get_or, Contains-from_in}
-use Rattle.euler_operators.proofs.Maps.{from_map}
-use Rattle.euler_operators.proofs.Halves.{mate-mate}
-use Rattle.euler_operators.proofs.Models.{row_of, mate_there, mate_there as half_mate}
-use Rattle.euler_operators.proofs.Members.{IsIn-map}
-use Rattle.euler_operators.proofs.Tables.{in_use_within}
-use Rattle.euler_laws.proofs.shared.Arcs.{halves_of_edge}
-use Rattle.euler_laws.proofs.shared.Listed.{first_listed, rest_listed, other_last}
-use Rattle.shapes.specs.Fresh.{Taken, numbers_after}
-use Rattle.shapes.specs.Prism.{next_place}
-use Rattle.shapes.specs.split.Opening.{opened_along}
+use Rattle.euler_operators.proofs.Common.{tick_same, count-append, IsIn_or_not, IsIn-get_or, Contains-from_in, from_map, mate-mate, row_of, mate_there, mate_there as half_mate, IsIn-map, in_use_within}
+use Rattle.euler_laws.proofs.Common.{halves_of_edge, first_listed, rest_listed, other_last}
+use Rattle.shapes.specs.Common.{Taken, numbers_after, next_place, opened_along}
 use Rattle.sweeps_laws.proofs.swept.Numbers.{next_within}
 use Rattle.split_opening_laws.specs.cycles.SectionCycles.{IsBelowHalf, IsSectionCycle, AreSectionCycles, AreApartCycles}
 use Rattle.split_opening_laws.specs.Numbers.{AreFree}

@@ -1,18 +1,9 @@
 -- The numbers above those that an opening takes are free after it.
-use Rattle.std.proofs.Common.{◌≡◌, ℕ, ◌+◌, ◌*◌, ◌<◌, List, [], ◌∷◌, length, None, refl, ap, ◌∙◌, arith}
-use Rattle.std.specs.Prelude.{fold}
-use Rattle.std.specs.Option.{option_map}
-use Rattle.euler_operators.specs.declared.Point.{Point}
-use Rattle.euler_operators.specs.declared.Plane.{Plane}
-use Rattle.euler_operators.specs.Items.{count}
-use Rattle.euler_operators.proofs.Lists.{tick_same}
-use Rattle.euler_operators.proofs.Tables.{get-put_other}
+use Rattle.std.proofs.Common.{◌≡◌, ℕ, ◌+◌, ◌*◌, ◌<◌, List, [], ◌∷◌, length, None, refl, ap, ◌∙◌, arith, fold, option_map}
+use Rattle.euler_operators.specs.Common.{Point, Plane, count, Table, get-map_rows, Model, tail, point_of}
+use Rattle.euler_operators.proofs.Common.{tick_same, get-put_other}
 use Rattle.euler_operators.specs.Table as table
-use Rattle.euler_operators.specs.Table.{Table, get-map_rows}
-use Rattle.euler_operators.specs.Model.{Model, tail, point_of}
-use Rattle.shapes.specs.Fresh.{Taken, numbers_after}
-use Rattle.shapes.specs.Rewriting.{rewritten_row, renamed}
-use Rattle.shapes.specs.split.Opening.{opened_row, both_lists, opened_along, Opening, next_opened}
+use Rattle.shapes.specs.Common.{Taken, numbers_after, rewritten_row, renamed, opened_row, both_lists, opened_along, Opening, next_opened}
 use Rattle.split_opening_laws.specs.Numbers.{AreFree}
 use Rattle.split_opening_laws.proofs.sections.Numbered.{in_numbers, rim_above}
 use Rattle.split_opening_laws.proofs.sections.OpenedRows.{faces_are, loops_are, edges_are, vertices_are}

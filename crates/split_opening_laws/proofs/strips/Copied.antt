@@ -1,14 +1,11 @@
 -- The renaming of the first vertices of a cycle to their copies.
-use Rattle.std.proofs.Common.{◌≡◌, ◌≢◌, ℕ, suc, ◌+◌, ◌≤◌, ◌<◌, cond, nat_eq, zero, None, List, [], ◌∷◌, ◌++◌, length, sym, ap, ◌∙◌, arith, inl, inr}
-use Rattle.std.specs.Prelude.{map, get_or}
+use Rattle.std.proofs.Common.{◌≡◌, ◌≢◌, ℕ, suc, ◌+◌, ◌≤◌, ◌<◌, cond, nat_eq, zero, None, List, [], ◌∷◌, ◌++◌, length, sym, ap, ◌∙◌, arith, inl, inr, map, get_or}
 use Rattle.std.proofs.lemmas.List.{length-map, get_or-map}
 use Rattle.std.proofs.lemmas.List.Sums.{fold-append}
 use Rattle.euler_operators.specs.Table as table
-use Rattle.euler_operators.specs.Model.{Model, tail, point_of}
-use Rattle.euler_operators.proofs.Tables.{get-put_other}
-use Rattle.shapes.specs.Fresh.{Taken, numbers_after}
-use Rattle.shapes.specs.Rewriting.{renamed}
-use Rattle.shapes.specs.split.Opening.{with_copies}
+use Rattle.euler_operators.specs.Common.{Model, tail, point_of}
+use Rattle.euler_operators.proofs.Common.{get-put_other}
+use Rattle.shapes.specs.Common.{Taken, numbers_after, renamed, with_copies}
 use Rattle.split_opening_laws.specs.strips.Strips.{copied}
 use Rattle.split_opening_laws.specs.strips.Opened.{CanBeOpened}
 use Rattle.split_opening_laws.proofs.sections.Numbered.{length-numbers_after, numbers_at, in_numbers, both_more, both_none, renamed_cases, misses_both, renamed_more}

@@ -1,30 +1,12 @@
 -- What is known of a cycle along which a solid can be opened, place by place.
-use Rattle.std.specs.Prelude.{map, get_or}
-use Rattle.std.specs.Option.{option_map}
-use Rattle.std.proofs.Common.{◌≡◌, ◌≢◌, ℕ, zero, suc, ◌+◌, ◌-◌, ◌≤◌, ◌<◌, true, false, cond, List, [], ◌∷◌, length, is_some, refl, sym, ap, ◌∙◌, subst, arith, ◌⊎◌, inl, inr, true≢false, nat_eq, ◌++◌, Some}
+use Rattle.std.proofs.Common.{◌≡◌, ◌≢◌, ℕ, zero, suc, ◌+◌, ◌-◌, ◌≤◌, ◌<◌, true, false, cond, List, [], ◌∷◌, length, is_some, refl, sym, ap, ◌∙◌, subst, arith, ◌⊎◌, inl, inr, true≢false, nat_eq, ◌++◌, Some, map, get_or, option_map}
 use Rattle.std.proofs.lemmas.Bool.Decides.{eqb_tells}
 use Rattle.std.proofs.lemmas.List.{length-map, get_or-map, map-append}
-use Rattle.euler_operators.specs.Items.{IsIn}
-use Rattle.euler_operators.specs.HalfEdge.{mate, edge_of, plus}
-use Rattle.euler_operators.specs.Model.{Model, tail, LoopRow, cycle, holds, loop_of, face_of, cycle_of}
-use Rattle.euler_operators.specs.Sound.{HasHalf, Sound, Has}
-use Rattle.euler_operators.specs.Conditions.{face_at, lists}
-use Rattle.euler_operators.specs.Rings.{canonical}
+use Rattle.euler_operators.specs.Common.{IsIn, mate, edge_of, plus, Model, tail, LoopRow, cycle, holds, loop_of, face_of, cycle_of, HasHalf, Sound, Has, face_at, lists, canonical, get-map_rows}
 use Rattle.euler_operators.specs.Table as table
-use Rattle.euler_operators.specs.Table.{get-map_rows}
-use Rattle.euler_operators.proofs.Lists.{tick_same, tick_other}
-use Rattle.euler_operators.proofs.Maps.{from_map}
-use Rattle.euler_operators.proofs.Std.{IsIn-get_or, Contains-from_in, AllPairs-from_apart}
-use Rattle.euler_operators.proofs.Halves.{mate-mate, plus_row}
-use Rattle.euler_operators.proofs.Tables.{in_use_within}
-use Rattle.euler_operators.proofs.Models.{mate_there as half_mate, content_row, face_row, in-holds, cycle_there, row_of}
-use Rattle.euler_operators.proofs.Rotations.{count-canonical}
-use Rattle.euler_operators.proofs.Members.{IsIn-map}
-use Rattle.euler_laws.proofs.shared.Listed.{IsIn-from_listed, listed-from_in}
-use Rattle.shapes.specs.Fresh.{Taken, numbers_after}
-use Rattle.shapes.specs.Prism.{next_place}
-use Rattle.shapes.specs.Rewriting.{rewritten_row, renamed}
-use Rattle.shapes.specs.split.Opening.{both_lists}
+use Rattle.euler_operators.proofs.Common.{tick_same, tick_other, from_map, IsIn-get_or, Contains-from_in, AllPairs-from_apart, mate-mate, plus_row, in_use_within, mate_there as half_mate, content_row, face_row, in-holds, cycle_there, row_of, count-canonical, IsIn-map}
+use Rattle.euler_laws.proofs.Common.{IsIn-from_listed, listed-from_in}
+use Rattle.shapes.specs.Common.{Taken, numbers_after, next_place, rewritten_row, renamed, both_lists}
 use Rattle.sweeps_laws.proofs.lamina.Lists.{numbers_last}
 pub use Rattle.sweeps_laws.proofs.swept.Numbers.{next_cases, next_within}
 use Rattle.split_opening_laws.specs.strips.StripOps.{place_before}

@@ -1,17 +1,12 @@
 -- All strips cut off, one after the other.
-use Rattle.std.proofs.Common.{◌≡◌, ℕ, zero, suc, ◌≤◌, List, [], ◌∷◌, length, sym, ap, ◌∙◌, subst, arith}
-use Rattle.std.specs.Prelude.{map}
-use Rattle.euler_operators.specs.HalfEdge.{mate}
+use Rattle.std.proofs.Common.{◌≡◌, ℕ, zero, suc, ◌≤◌, List, [], ◌∷◌, length, sym, ap, ◌∙◌, subst, arith, map}
+use Rattle.euler_operators.specs.Common.{mate, Model, Sound, effect}
 use Rattle.euler_operators.specs.Table as table
-use Rattle.euler_operators.specs.Model.{Model}
-use Rattle.euler_operators.specs.Sound.{Sound}
-use Rattle.euler_operators.proofs.Tables.{map_same}
-use Rattle.euler_operators.specs.Effect.{effect}
+use Rattle.euler_operators.proofs.Common.{map_same}
 use Rattle.euler_laws.specs.Laws.{effects, AreAccepted}
-use Rattle.euler_laws.proofs.Runs.{effects-append, AreAccepted-append, effects_keep_sound}
-use Rattle.shapes.specs.Fresh.{Taken}
-use Rattle.shapes.specs.Rewriting.{rewritten_row, renamed}
-use Rattle.shapes.proofs.glue.Renamings.{row_unrenamed}
+use Rattle.euler_laws.proofs.Common.{effects-append, AreAccepted-append, effects_keep_sound}
+use Rattle.shapes.specs.Common.{Taken, rewritten_row, renamed}
+use Rattle.shapes.proofs.Common.{row_unrenamed}
 use Rattle.split_opening_laws.specs.strips.Strips.{strips_cut}
 use Rattle.split_opening_laws.specs.strips.StripOps.{cut_strip, strip_ops}
 use Rattle.split_opening_laws.specs.strips.Opened.{CanBeOpened}

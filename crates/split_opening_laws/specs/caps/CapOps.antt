@@ -1,9 +1,9 @@
 -- The Euler operators that make two caps of the strips along a cycle.
 use Rattle.std.specs.Prelude.{ℕ, ◌+◌, ◌-◌, List, [], ◌∷◌, ◌++◌, map}
-use Rattle.euler_operators.specs.HalfEdge.{half, plus, minus}
+use Rattle.euler_operators.specs.Common.{half, plus, minus}
 use Rattle.euler_operators.specs.declared.Op.{Op}
 use Rattle.euler_operators.specs.declared.Op.TheVariants.{Kef, Kemr, Mfkrh}
-use Rattle.shapes.specs.Fresh.{Taken, numbers_after}
+use Rattle.shapes.specs.Common.{Taken, numbers_after}
 use Rattle.split_opening_laws.specs.caps.Strips.{strip_riser}
 
 -- the n risers after the first go, so that the first strip takes in the n next ones

@@ -1,12 +1,8 @@
 -- Strips joined into one, and that one parted along the first strip_riser into the two caps.
 use Rattle.std.specs.Prelude.{ℕ, suc, ◌+◌, ◌-◌, List, [], ◌∷◌, ◌++◌, map, reverse, length, take}
-use Rattle.euler_operators.specs.Rings.{canonical}
-use Rattle.euler_operators.specs.HalfEdge.{plus, minus}
+use Rattle.euler_operators.specs.Common.{canonical, plus, minus, Model, cycle}
 use Rattle.euler_operators.specs.Table as table
-use Rattle.euler_operators.specs.Model.{Model, cycle}
-use Rattle.shapes.specs.Fresh.{Taken, numbers_after}
-use Rattle.shapes.specs.Prism.{next_place}
-use Rattle.shapes.specs.Rewriting.{without_rows}
+use Rattle.shapes.specs.Common.{Taken, numbers_after, next_place, without_rows}
 use Rattle.split_opening_laws.specs.caps.Strips.{strip_riser}
 
 -- the first strip with the n next ones: back along their mates, up the first strip_riser, along their copies, and down the next strip_riser

@@ -1,9 +1,8 @@
 -- The laws of caps, each over every sound model with strips along a cycle.
 use Rattle.std.specs.Prelude.{◌≡◌, ◌≤◌, ◌<◌, ℕ, List, length}
-use Rattle.euler_operators.specs.Model.{Model}
-use Rattle.euler_operators.specs.Sound.{Sound}
+use Rattle.euler_operators.specs.Common.{Model, Sound}
 use Rattle.euler_laws.specs.Laws.{effects, AreAccepted}
-use Rattle.shapes.specs.Fresh.{Taken}
+use Rattle.shapes.specs.Common.{Taken}
 use Rattle.split_opening_laws.specs.caps.Strips.{HasStrips}
 use Rattle.split_opening_laws.specs.caps.Caps.{joined_part, capped}
 use Rattle.split_opening_laws.specs.caps.CapOps.{joinings, cap_ops}

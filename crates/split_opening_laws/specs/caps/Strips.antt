@@ -2,13 +2,9 @@
 -- taken from c on: the strip at place i, from 0 on, of m has face c.face + i + 1, loop c.loop + i + 1 and edge c.edge + i + 1, its copy
 -- of a section edge, and edge c.edge + m + i + 1, its strip_riser.
 use Rattle.std.specs.Prelude.{◌≡◌, ◌≤◌, ◌<◌, ℕ, suc, ◌+◌, true, List, [], ◌∷◌, length, get_or, Some, None}
-use Rattle.euler_operators.specs.Rings.{canonical}
-use Rattle.euler_operators.specs.HalfEdge.{plus, minus}
+use Rattle.euler_operators.specs.Common.{canonical, plus, minus, Model, cycle, face_of, is_number, Has}
 use Rattle.euler_operators.specs.Table as table
-use Rattle.euler_operators.specs.Model.{Model, cycle, face_of, is_number}
-use Rattle.euler_operators.specs.Sound.{Has}
-use Rattle.shapes.specs.Fresh.{Taken}
-use Rattle.shapes.specs.Prism.{next_place}
+use Rattle.shapes.specs.Common.{Taken, next_place}
 
 -- the edge that rises from the start of the strip at place i, of m strips in a ring
 abbrev pub strip_riser : Taken → ℕ → ℕ → ℕ

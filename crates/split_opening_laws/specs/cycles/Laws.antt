@@ -1,11 +1,7 @@
 -- The laws of a section's cycles, over every sound model and all lists of faces of a solid.
 use Rattle.std.specs.Prelude.{◌≡◌, ℕ, true, List, map, flat_map, length}
-use Rattle.euler_operators.specs.Items.{count, IsIn, IsApart, SameItems, head_or, least}
-use Rattle.euler_operators.specs.HalfEdge.{mate}
-use Rattle.euler_operators.specs.Model.{Model, tail}
-use Rattle.euler_operators.specs.Sound.{Sound}
-use Rattle.euler_operators.specs.Conditions.{strictly_rises}
-use Rattle.shapes.specs.split.Section.{below_halves, section_ends, next_below, section_cycles}
+use Rattle.euler_operators.specs.Common.{count, IsIn, IsApart, SameItems, head_or, least, mate, Model, tail, Sound, strictly_rises}
+use Rattle.shapes.specs.Common.{below_halves, section_ends, next_below, section_cycles}
 use Rattle.split_opening_laws.specs.cycles.Permuting.{Permutes}
 use Rattle.split_opening_laws.specs.cycles.SectionCycles.{AreOf, IsBelowHalf, IsUnbranched, AreSectionCycles, AreApartCycles}
 

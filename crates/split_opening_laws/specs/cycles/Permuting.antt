@@ -1,6 +1,6 @@
 -- A function that permutes the items of a list.
 use Rattle.std.specs.Prelude.{◌≡◌, ℕ, List}
-use Rattle.euler_operators.specs.Items.{IsIn, IsApart}
+use Rattle.euler_operators.specs.Common.{IsIn, IsApart}
 
 -- no item stands twice, and next leads from each item to one of the list, from no two to the same
 pub record Permutes (next : ℕ → ℕ) (xs : List ℕ) : Type 0 where

@@ -1,12 +1,7 @@
 -- What the below halves of a section are, and the cycles that they form.
 use Rattle.std.specs.Prelude.{◌≡◌, ◌≢◌, ◌⊎◌, ℕ, ◌≤◌, ◌<◌, true, false, List, [], ◌∷◌, map, flat_map, length, get_or, None}
-use Rattle.euler_operators.specs.Items.{IsIn, IsApart}
-use Rattle.euler_operators.specs.HalfEdge.{mate}
-use Rattle.euler_operators.specs.Model.{Model, tail, solid_of}
-use Rattle.euler_operators.specs.Sound.{HasHalf}
-use Rattle.euler_operators.specs.Conditions.{face_at, lists}
-use Rattle.shapes.specs.Prism.{next_place}
-use Rattle.shapes.specs.split.Section.{section_ends, least_branched}
+use Rattle.euler_operators.specs.Common.{IsIn, IsApart, mate, Model, tail, solid_of, HasHalf, face_at, lists}
+use Rattle.shapes.specs.Common.{next_place, section_ends, least_branched}
 
 -- all these faces are of solid s
 abbrev pub AreOf : Model → List ℕ → ℕ → Type 0

@@ -1,11 +1,8 @@
 -- The laws of solids opened along one cycle of section edges, each over every model and every cycle along which a solid can be opened.
 use Rattle.std.specs.Prelude.{◌≡◌, ℕ, List, map, length}
-use Rattle.euler_operators.specs.HalfEdge.{mate}
-use Rattle.euler_operators.specs.Model.{Model}
-use Rattle.euler_operators.specs.Sound.{Sound}
+use Rattle.euler_operators.specs.Common.{mate, Model, Sound}
 use Rattle.euler_laws.specs.Laws.{effects, AreAccepted}
-use Rattle.shapes.specs.Fresh.{Taken}
-use Rattle.shapes.specs.split.Opening.{opened_along}
+use Rattle.shapes.specs.Common.{Taken, opened_along}
 use Rattle.split_opening_laws.specs.strips.Strips.{copies_raised}
 use Rattle.split_opening_laws.specs.strips.Opened.{CanBeOpened}
 use Rattle.split_opening_laws.specs.caps.Strips.{HasStrips}

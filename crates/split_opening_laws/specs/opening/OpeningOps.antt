@@ -1,8 +1,8 @@
 -- The Euler operators by which a solid opens along one cycle of section edges.
 use Rattle.std.specs.Prelude.{ℕ, List, ◌++◌, length}
-use Rattle.euler_operators.specs.Model.{Model}
+use Rattle.euler_operators.specs.Common.{Model}
 use Rattle.euler_operators.specs.declared.Op.{Op}
-use Rattle.shapes.specs.Fresh.{Taken}
+use Rattle.shapes.specs.Common.{Taken}
 use Rattle.split_opening_laws.specs.strips.StripOps.{strip_ops, copy_ops}
 use Rattle.split_opening_laws.specs.caps.CapOps.{cap_ops}
 

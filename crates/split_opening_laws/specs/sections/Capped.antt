@@ -1,9 +1,7 @@
 -- The caps of the cycles along which a solid is opened.
 use Rattle.std.specs.Prelude.{◌≡◌, ℕ, true, List, [], ◌∷◌, ◌++◌, flat_map}
-use Rattle.euler_operators.specs.Model.{Model, face_of, solid_of, outer}
-use Rattle.euler_operators.specs.Sound.{Has}
-use Rattle.euler_operators.specs.Conditions.{strictly_rises}
-use Rattle.shapes.specs.split.Opening.{Caps, Opening}
+use Rattle.euler_operators.specs.Common.{Model, face_of, solid_of, outer, Has, strictly_rises}
+use Rattle.shapes.specs.Common.{Caps, Opening}
 use Rattle.split_opening_laws.specs.sections.InTurn.{upper_faces}
 
 -- f is a face of solid s without rings

@@ -1,11 +1,7 @@
 -- Solids that are opened along the cycles of a section, one after the other.
 use Rattle.std.specs.Prelude.{◌≡◌, ℕ, true, false, List, ◌++◌, map, flat_map, length}
-use Rattle.euler_operators.specs.Items.{IsIn}
-use Rattle.euler_operators.specs.HalfEdge.{mate}
-use Rattle.euler_operators.specs.Model.{Model, solid_of}
-use Rattle.euler_operators.specs.Sound.{Sound, Has, HasHalf}
-use Rattle.euler_operators.specs.Conditions.{face_at, lists}
-use Rattle.shapes.specs.split.Opening.{Caps, Opening}
+use Rattle.euler_operators.specs.Common.{IsIn, mate, Model, solid_of, Sound, Has, HasHalf, face_at, lists}
+use Rattle.shapes.specs.Common.{Caps, Opening}
 use Rattle.split_opening_laws.specs.Numbers.{AreFree, AreLeft}
 use Rattle.split_opening_laws.specs.cycles.SectionCycles.{AreApartCycles}
 

@@ -1,12 +1,7 @@
 -- The laws of solids opened along the cycles of a section, one after the other.
 use Rattle.std.specs.Prelude.{◌≡◌, ℕ, true, List, [], ◌∷◌, length}
-use Rattle.euler_operators.specs.declared.Plane.{Plane}
-use Rattle.euler_operators.specs.Model.{Model}
-use Rattle.euler_operators.specs.Sound.{Sound, Has}
-use Rattle.euler_operators.specs.Conditions.{lists, torn_edge}
-use Rattle.shapes.specs.Fresh.{Taken}
-use Rattle.shapes.specs.split.Section.{below_halves, section_cycles}
-use Rattle.shapes.specs.split.Opening.{opened_along, Opening, next_opened, all_opened}
+use Rattle.euler_operators.specs.Common.{Plane, Model, Sound, Has, lists, torn_edge}
+use Rattle.shapes.specs.Common.{Taken, below_halves, section_cycles, opened_along, Opening, next_opened, all_opened}
 use Rattle.split_opening_laws.specs.cycles.SectionCycles.{AreOf, IsUnbranched, AreApartCycles}
 use Rattle.split_opening_laws.specs.sections.Capped.{HasCaps}
 use Rattle.split_opening_laws.specs.Numbers.{AreFree, AreLeft}

@@ -1,9 +1,8 @@
 -- The laws of strips, each over every model and every cycle along which a solid can be opened.
 use Rattle.std.specs.Prelude.{◌≡◌, ℕ, List, length}
-use Rattle.euler_operators.specs.Model.{Model}
-use Rattle.euler_operators.specs.Sound.{Sound}
+use Rattle.euler_operators.specs.Common.{Model, Sound}
 use Rattle.euler_laws.specs.Laws.{effects, AreAccepted}
-use Rattle.shapes.specs.Fresh.{Taken}
+use Rattle.shapes.specs.Common.{Taken}
 use Rattle.split_opening_laws.specs.strips.Strips.{strips_cut}
 use Rattle.split_opening_laws.specs.strips.StripOps.{strip_ops}
 use Rattle.split_opening_laws.specs.strips.Opened.{CanBeOpened}

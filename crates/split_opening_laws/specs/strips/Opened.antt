@@ -1,9 +1,7 @@
 -- When a solid can be opened along a cycle of below halves.
 use Rattle.std.specs.Prelude.{◌≡◌, ℕ, true, List, length}
-use Rattle.euler_operators.specs.Model.{Model}
-use Rattle.euler_operators.specs.Sound.{Sound, Has}
-use Rattle.euler_operators.specs.Conditions.{lists}
-use Rattle.shapes.specs.Fresh.{Taken}
+use Rattle.euler_operators.specs.Common.{Model, Sound, Has, lists}
+use Rattle.shapes.specs.Common.{Taken}
 use Rattle.split_opening_laws.specs.Numbers.{AreFree, AreLeft}
 use Rattle.split_opening_laws.specs.cycles.SectionCycles.{IsSectionCycle}
 

@@ -1,11 +1,9 @@
 -- The Euler operators that cut the strips off and raise the copies.
 use Rattle.std.specs.Prelude.{ℕ, zero, suc, ◌+◌, ◌-◌, cond, nat_eq, List, [], ◌∷◌, ◌++◌, length, get_or}
-use Rattle.euler_operators.specs.declared.Corner.TheVariants.{At}
-use Rattle.euler_operators.specs.HalfEdge.{half, mate, plus, minus}
-use Rattle.euler_operators.specs.Model.{Model, tail, point_of, after}
+use Rattle.euler_operators.specs.Common.{At, half, mate, plus, minus, Model, tail, point_of, after}
 use Rattle.euler_operators.specs.declared.Op.{Op}
 use Rattle.euler_operators.specs.declared.Op.TheVariants.{Mev, Mef}
-use Rattle.shapes.specs.Fresh.{Taken}
+use Rattle.shapes.specs.Common.{Taken}
 use Rattle.split_opening_laws.specs.strips.Strips.{copy_riser, strips_cut}
 
 -- the strip at a place: mef from ai up to what follows it in the model then

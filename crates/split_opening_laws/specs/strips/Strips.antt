@@ -2,15 +2,9 @@
 -- edge, and then each vertex of the cycle gets a copy, at which the faces above meet.
 -- bs are the below halves b1 .. bm, ai is the mate of bi, xi the start of bi; numbers are taken from c on.
 use Rattle.std.specs.Prelude.{ℕ, zero, suc, ◌+◌, cond, nat_lt, List, [], ◌∷◌, ◌++◌, map, length, get_or}
-use Rattle.euler_operators.specs.Rings.{canonical}
-use Rattle.euler_operators.specs.HalfEdge.{mate, plus, minus}
+use Rattle.euler_operators.specs.Common.{canonical, mate, plus, minus, Table, Model, FaceRow, LoopRow, EdgeRow, cycle, tail}
 use Rattle.euler_operators.specs.Table as table
-use Rattle.euler_operators.specs.Table.{Table}
-use Rattle.euler_operators.specs.Model.{Model, FaceRow, LoopRow, EdgeRow, cycle, tail}
-use Rattle.shapes.specs.Fresh.{Taken, numbers_after}
-use Rattle.shapes.specs.Prism.{next_place}
-use Rattle.shapes.specs.Rewriting.{rewritten_row, renamed}
-use Rattle.shapes.specs.split.Opening.{opened_row, with_copies, both_lists}
+use Rattle.shapes.specs.Common.{Taken, numbers_after, next_place, rewritten_row, renamed, opened_row, with_copies, both_lists}
 
 -- i rows put at the numbers after k; `row` tells each by its place, from 0 on
 abbrev pub with_rows : {X : Type 0} → Table X → ℕ → (ℕ → X) → ℕ → Table X

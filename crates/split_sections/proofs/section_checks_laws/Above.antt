@@ -1,22 +1,14 @@
 -- The faces above a plane, and the below halves and cycles along them.
-use Rattle.std.proofs.Common.{◌≡◌, ℕ, ◌≤◌, Bool, true, false, cond, nat_eq, List, [], ◌∷◌, length, map, refl, ap, ◌∙◌, arith}
-use Rattle.std.proofs.lemmas.Bool.{eqb-true}
-use Rattle.std.specs.Prelude.{filter, unwrap_or}
-use Rattle.euler_operators.specs.declared.Plane.{Plane}
-use Rattle.euler_operators.specs.Items.{least}
-use Rattle.euler_operators.specs.Model.{Model, solid_of, faces_of, no_face}
-use Rattle.euler_operators.specs.Sound.{Sound}
-use Rattle.euler_operators.specs.Conditions.{strictly_rises}
-use Rattle.euler_operators.proofs.Members.{count-filter}
-use Rattle.euler_laws.proofs.shared.Listed.{all_where-rises, IsIn-from_listed}
-use Rattle.shapes.specs.split.Sides.{face_is_above, faces_above}
-use Rattle.shapes.specs.split.Section.{below_halves, cycle_from, section_cycles}
+use Rattle.std.proofs.Common.{◌≡◌, ℕ, ◌≤◌, Bool, true, false, cond, nat_eq, List, [], ◌∷◌, length, map, refl, ap, ◌∙◌, arith, eqb-true, filter, unwrap_or}
+use Rattle.euler_operators.specs.Common.{Plane, least, Model, solid_of, faces_of, no_face, Sound, strictly_rises}
+use Rattle.euler_operators.proofs.Common.{count-filter}
+use Rattle.euler_laws.proofs.Common.{all_where-rises, IsIn-from_listed, all_where_has}
+use Rattle.shapes.specs.Common.{face_is_above, faces_above, below_halves, cycle_from, section_cycles}
 use Rattle.split_opening_laws.specs.cycles.SectionCycles.{AreOf}
 use Rattle.split_opening_laws.proofs.cycles.RisingLists.{filter_rises}
 use Rattle.split_opening_laws.proofs.cycles.BelowHalves.{halves_apart, halves_are}
 use Rattle.split_sections.specs.section_cycles.Halves.{AreThere}
-use Rattle.euler_laws.proofs.shared.Counted.{all_where_has}
-use Rattle.shapes.proofs.walks.FaceLoops.{halves_short}
+use Rattle.shapes.proofs.Common.{halves_short}
 
 as_long : (f : ℕ → List ℕ) (bs : List ℕ) → length (map f bs) ≡ length bs
 as_long f [] = refl

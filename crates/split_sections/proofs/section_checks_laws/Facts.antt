@@ -1,16 +1,9 @@
 -- What the conditions of a section come to, from the half-edges and cycles that were found.
 use Rattle.std.proofs.Common.{◌≡◌, ℕ, ◌+◌, ◌*◌, ◌≤◌, Bool, true, false, List, map, length, vec_len, Vec, Global, Option, Some, None, sym, ap, subst, ◌∙◌, arith}
 use Rattle.std.proofs.lemmas.List.{length-map}
-use Rattle.euler_operators.specs.declared.Plane.{Plane}
-use Rattle.euler_operators.specs.declared.HalfEdge.{HalfEdge}
-use Rattle.euler_operators.specs.HalfEdge.{code}
-use Rattle.euler_operators.specs.Model.{Model}
-use Rattle.euler_operators.specs.Sound.{Sound}
-use Rattle.euler_operators.specs.Conditions.{first_refusal, strictly_rises}
+use Rattle.euler_operators.specs.Common.{Plane, HalfEdge, code, Model, Sound, first_refusal, strictly_rises}
 use Rattle.euler_operators.specs.declared.Why.TheVariants.{BranchedVertex, SectionHoles}
-use Rattle.shapes.specs.Fresh.{Taken, numbers_left}
-use Rattle.shapes.specs.split.Section.{below_halves, section_ends, least_branched, next_below, section_cycles, is_hole, has_stray_hole}
-use Rattle.shapes.specs.split.Split.{section_conditions}
+use Rattle.shapes.specs.Common.{Taken, numbers_left, below_halves, section_ends, least_branched, next_below, section_cycles, is_hole, has_stray_hole, section_conditions}
 use Rattle.split_opening_laws.specs.cycles.Permuting.{Permutes}
 use Rattle.split_opening_laws.specs.cycles.SectionCycles.{AreOf, IsUnbranched}
 use Rattle.split_opening_laws.proofs.cycles.BelowHalves.{halves_rise, starts_are_ends}

@@ -1,9 +1,7 @@
 -- Word on which cycles are holes, cycle by cycle.
-use Rattle.std.proofs.Common.{◌≡◌, ◌+◌, ◌≤◌, Bool, true, false, cond, not, ◌&&◌, nat_eq, nat_lt, List, [], ◌∷◌, map, length, refl, sym, ap, arith, true≢false}
-use Rattle.std.specs.Prelude.{filter}
-use Rattle.euler_operators.specs.declared.Plane.{Plane}
-use Rattle.euler_operators.specs.Model.{Model}
-use Rattle.shapes.specs.split.Section.{is_hole, has_stray_hole}
+use Rattle.std.proofs.Common.{◌≡◌, ◌+◌, ◌≤◌, Bool, true, false, cond, not, ◌&&◌, nat_eq, nat_lt, List, [], ◌∷◌, map, length, refl, sym, ap, arith, true≢false, filter}
+use Rattle.euler_operators.specs.Common.{Plane, Model}
+use Rattle.shapes.specs.Common.{is_hole, has_stray_hole}
 use Rattle.split_sections.specs.section_checks.Cycles.{has_stray}
 use Rattle.split_sections.specs.section_cycles.Halves.{halves_of}
 use Rattle.split_sections.specs.declared.section_cycles.cycle.Cycle.{Cycle}

@@ -1,15 +1,9 @@
 -- The conditions that are tested once the faces are drawn, part by part.
 use Rattle.std.proofs.Common.{◌≡◌, ℕ, ◌+◌, ◌*◌, Bool, true, false, cond, not, nat_eq, List, ◌∷◌, length, Option, Some, None, Result, Ok, Err, refl, sym, ap, subst, ◌∙◌}
-use Rattle.euler_operators.specs.declared.Plane.{Plane}
-use Rattle.euler_operators.specs.Model.{Model}
-use Rattle.euler_operators.specs.Conditions.{Condition, first_refusal}
+use Rattle.euler_operators.specs.Common.{Plane, Model, Condition, first_refusal}
 use Rattle.euler_operators.specs.declared.Refusal.{Refusal}
 use Rattle.euler_operators.specs.declared.Why.TheVariants.{CutCrossed, BranchedVertex, SectionHoles}
-use Rattle.shapes.specs.Fresh.{Taken, numbers_left, no_such}
-use Rattle.shapes.specs.split.Drawing.{Drawing}
-use Rattle.shapes.specs.split.Sides.{faces_above}
-use Rattle.shapes.specs.split.Section.{below_halves, section_ends, least_branched, section_cycles, has_stray_hole}
-use Rattle.shapes.specs.split.Split.{cycle_conditions, section_conditions, later_conditions}
+use Rattle.shapes.specs.Common.{Taken, numbers_left, no_such, Drawing, faces_above, below_halves, section_ends, least_branched, section_cycles, has_stray_hole, cycle_conditions, section_conditions, later_conditions}
 
 module _ (M : Model) (s : ℕ) (p : Plane) (c : Taken) (bs : List ℕ) where
   abbrev numbers : Option Refusal

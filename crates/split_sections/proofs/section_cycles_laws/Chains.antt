@@ -1,18 +1,11 @@
 -- Half-edges by the vertices at which they start, as they are put into a map from the last to the first.
-use Rattle.std.proofs.Common.{◌≡◌, ℕ, zero, suc, ◌+◌, Bool, true, false, cond, ◌&&◌, ◌||◌, nat_eq, nat_lt, List, [], ◌∷◌, ◌++◌, map, Option, Some, None, is_some, unwrap_or, refl, sym, ap, ◌∙◌, subst, arith, ◌-◌, ◌≤◌, ◌<◌, length, slice_index_or, inl, inr}
-use Rattle.std.specs.BTreeMap.{BTreeMap, get}
+use Rattle.std.proofs.Common.{◌≡◌, ℕ, zero, suc, ◌+◌, Bool, true, false, cond, ◌&&◌, ◌||◌, nat_eq, nat_lt, List, [], ◌∷◌, ◌++◌, map, Option, Some, None, is_some, unwrap_or, refl, sym, ap, ◌∙◌, subst, arith, ◌-◌, ◌≤◌, ◌<◌, length, slice_index_or, inl, inr, BTreeMap, nat_cmp, is_eq, append_assoc, append-nil}
+use Rattle.std.specs.BTreeMap.{get}
 use Rattle.std.specs.Map.{lookup}
-use Rattle.std.specs.Ordering.{nat_cmp, is_eq}
 use Rattle.std.proofs.lemmas.Bool.Decides.{nat_tests, eqb_tells}
-use Rattle.std.proofs.lemmas.List.{append_assoc, append-nil}
-use Rattle.euler_operators.specs.Items.{count, tick}
-use Rattle.euler_operators.proofs.Lists.{tick_same, tick_other, count-append}
-use Rattle.euler_operators.proofs.Tests.{number_tied}
-use Rattle.euler_operators.specs.declared.HalfEdge.{HalfEdge}
-use Rattle.euler_operators.specs.HalfEdge.{code}
-use Rattle.euler_operators.specs.Model.{Model, tail}
-use Rattle.euler_operators.specs.Sound.{HasHalf}
-use Rattle.shapes.specs.Fresh.{first_such}
+use Rattle.euler_operators.specs.Common.{count, tick, HalfEdge, code, Model, tail, HasHalf}
+use Rattle.euler_operators.proofs.Common.{tick_same, tick_other, count-append, number_tied}
+use Rattle.shapes.specs.Common.{first_such}
 use Rattle.split_checks.specs.Least.{only, lesser}
 use Rattle.split_checks.proofs.Searches.{IsLeast, least_same, least_either}
 use Rattle.split_checks.proofs.cut_places_laws.Lists.{fewer, last_code}

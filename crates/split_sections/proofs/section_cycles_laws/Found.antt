@@ -1,18 +1,11 @@
 -- The cycles found half by half: a half that no cycle found so far has begins one, and is the least of it.
-use Rattle.std.proofs.Common.{◌≡◌, ℕ, ◌≤◌, ◌<◌, Bool, true, false, cond, ◌||◌, nat_eq, List, [], ◌∷◌, ◌++◌, map, length, refl, sym, ap, ◌∙◌, arith, true≢false, ◌⊎◌, inl, inr}
-use Rattle.std.specs.Prelude.{filter}
+use Rattle.std.proofs.Common.{◌≡◌, ℕ, ◌≤◌, ◌<◌, Bool, true, false, cond, ◌||◌, nat_eq, List, [], ◌∷◌, ◌++◌, map, length, refl, sym, ap, ◌∙◌, arith, true≢false, ◌⊎◌, inl, inr, filter, ne_eqb, eq-eqb, append_assoc, append-nil}
 use Rattle.std.proofs.lemmas.Bool.Decides.{eqb_tells}
-use Rattle.std.proofs.lemmas.Bool.{ne_eqb, eq-eqb}
-use Rattle.std.proofs.lemmas.List.{append_assoc, append-nil}
-use Rattle.euler_operators.specs.Items.{tick, count, IsIn, SameItems, least}
-use Rattle.euler_operators.proofs.Lists.{tick_same, tick_other, count-append, IsIn_or_not, least_le, least_in, least_same}
-use Rattle.euler_operators.proofs.Members.{apart_within}
-use Rattle.euler_operators.specs.Rings.{orbit}
-use Rattle.euler_operators.specs.Conditions.{lists, strictly_rises}
-use Rattle.euler_laws.proofs.Sizes.{rises_over, rises_on}
+use Rattle.euler_operators.specs.Common.{tick, count, IsIn, SameItems, least, orbit, lists, strictly_rises}
+use Rattle.euler_operators.proofs.Common.{tick_same, tick_other, count-append, IsIn_or_not, least_le, least_in, least_same, apart_within}
+use Rattle.euler_laws.proofs.Common.{rises_over, rises_on, IsIn-from_listed, listed-from_in}
 use Rattle.split_opening_laws.specs.cycles.Permuting.{Permutes}
 use Rattle.split_opening_laws.proofs.cycles.Orbits.{around_apart, around_within, around_here, around_same}
-use Rattle.euler_laws.proofs.shared.Listed.{IsIn-from_listed, listed-from_in}
 
 -- what stands before an item of a rising list is less
 before_less : (done : List ℕ) (b : ℕ) (rest : List ℕ) → strictly_rises (done ++ b ∷ rest) ≡ true → (d : ℕ) → IsIn d done → d < b

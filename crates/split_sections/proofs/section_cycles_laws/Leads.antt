@@ -1,13 +1,8 @@
 -- The half-edge to which one of some half-edges leads.
-use Rattle.std.proofs.Common.{◌≡◌, ◌≢◌, ℕ, List, sym, ◌∙◌}
-use Rattle.std.specs.BTreeMap.{BTreeMap}
-use Rattle.euler_operators.specs.Items.{IsIn}
-use Rattle.euler_operators.specs.declared.HalfEdge.{HalfEdge}
-use Rattle.euler_operators.specs.HalfEdge.{mate}
-use Rattle.euler_operators.specs.Model.{Model, tail}
-use Rattle.euler_operators.specs.Sound.{Sound}
-use Rattle.euler_operators.proofs.Models.{half_number}
-use Rattle.shapes.specs.split.Section.{next_below}
+use Rattle.std.proofs.Common.{◌≡◌, ◌≢◌, ℕ, List, sym, ◌∙◌, BTreeMap}
+use Rattle.euler_operators.specs.Common.{IsIn, HalfEdge, mate, Model, tail, Sound}
+use Rattle.euler_operators.proofs.Common.{half_number}
+use Rattle.shapes.specs.Common.{next_below}
 use Rattle.split_sections.specs.section_cycles.Halves.{AreThere}
 use Rattle.split_sections.specs.section_cycles.Starts.{half_at, AreStarts}
 

@@ -1,12 +1,7 @@
 -- Half-edges that are met, in a set of their codes.
-use Rattle.std.proofs.Common.{◌≡◌, ℕ, ◌≤◌, Bool, true, false, cond, ◌||◌, nat_eq, List, map, length, slice_index_or, refl, sym, ap, subst, ◌∙◌, arith}
-use Rattle.std.specs.Ordering.{nat_cmp, is_eq}
-use Rattle.euler_operators.specs.Items.{IsIn}
-use Rattle.euler_operators.proofs.Lists.{tick_same}
-use Rattle.euler_operators.proofs.Tests.{number_tied}
-use Rattle.euler_operators.specs.declared.HalfEdge.{HalfEdge}
-use Rattle.euler_operators.specs.HalfEdge.{code, plus, minus}
-use Rattle.euler_operators.specs.Conditions.{lists}
+use Rattle.std.proofs.Common.{◌≡◌, ℕ, ◌≤◌, Bool, true, false, cond, ◌||◌, nat_eq, List, map, length, slice_index_or, refl, sym, ap, subst, ◌∙◌, arith, nat_cmp, is_eq}
+use Rattle.euler_operators.specs.Common.{IsIn, HalfEdge, code, plus, minus, lists}
+use Rattle.euler_operators.proofs.Common.{tick_same, number_tied}
 use Rattle.split_checks.proofs.cut_places_laws.Lists.{others, parts}
 
 abbrev AreLow : List ℕ → Type 0

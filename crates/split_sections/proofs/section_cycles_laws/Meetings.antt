@@ -1,20 +1,13 @@
 -- The vertices at which section edges meet.
 use Rattle.std.proofs.Common.{◌≡◌, ℕ, ◌+◌, ◌≤◌, ◌<◌, true, false, nat_lt, List, [], ◌∷◌, map, length, slice_index_or, Option, Some, None, is_some, refl, sym, ap, subst, ◌∙◌, arith, true≢false, ◌⊎◌, inl, inr}
 use Rattle.std.proofs.lemmas.Bool.Decides.{nat_tests}
-use Rattle.euler_operators.specs.declared.Point.{Point}
-use Rattle.euler_operators.specs.Items.{count, IsIn}
-use Rattle.euler_operators.proofs.Lists.{tick_same, count-append, IsIn_or_not}
-use Rattle.euler_operators.proofs.Maps.{from_map}
-use Rattle.euler_operators.proofs.Models.{mate_there}
-use Rattle.euler_operators.specs.declared.HalfEdge.{HalfEdge}
-use Rattle.euler_operators.specs.HalfEdge.{code, mate}
+use Rattle.euler_operators.specs.Common.{Point, count, IsIn, HalfEdge, code, mate, Model, tail, is_number, Sound, HasHalf, Has}
+use Rattle.euler_operators.proofs.Common.{tick_same, count-append, IsIn_or_not, from_map, mate_there}
 use Rattle.euler_operators.specs.Table as table
-use Rattle.euler_operators.specs.Model.{Model, tail, is_number}
-use Rattle.euler_operators.specs.Sound.{Sound, HasHalf, Has}
 use Rattle.solid_walks.proofs.face_walks_laws.Above.{AllAbove, all_above_members}
 use Rattle.solid_walks.proofs.face_walks_laws.TableWalks.{passes, member_passing}
 use Rattle.split_checks.proofs.Searches.{IsLeast, one_least, least_same, least_row}
-use Rattle.shapes.specs.split.Section.{section_ends, least_branched}
+use Rattle.shapes.specs.Common.{section_ends, least_branched}
 use Rattle.split_checks.proofs.cut_places_laws.Lists.{others, parts}
 use Rattle.split_sections.specs.section_cycles.Halves.{AreThere}
 use Rattle.split_sections.specs.section_cycles.Starts.{AreBalanced}

@@ -1,21 +1,12 @@
 -- Sums of cross products over the mates of some below halves.
-use Rattle.std.proofs.Common.{◌≡◌, ℕ, List, [], ◌∷◌, ◌++◌, map, refl, sym, ap, subst, ◌∙◌, arith}
-use Rattle.std.proofs.lemmas.List.{map-append, append_assoc, append-nil}
-use Rattle.euler_operators.specs.declared.Point.{Point}
-use Rattle.euler_operators.specs.Ranges.{IsVectorWithin, normal_limit}
-use Rattle.euler_operators.specs.Vectors.{origin, moved, cross}
-use Rattle.euler_operators.specs.Items.{count, IsApart}
-use Rattle.euler_operators.proofs.Lists.{count-append}
-use Rattle.euler_operators.proofs.Maps.{IsApart-map, from_map}
-use Rattle.euler_operators.specs.HalfEdge.{mate}
-use Rattle.euler_operators.specs.Model.{Model}
-use Rattle.euler_operators.specs.Sound.{Sound, HasHalf}
-use Rattle.euler_operators.proofs.Halves.{mate-mate}
-use Rattle.euler_operators.proofs.Models.{mate_there}
-use Rattle.shapes.specs.Faces.{start, finish}
+use Rattle.std.proofs.Common.{◌≡◌, ℕ, List, [], ◌∷◌, ◌++◌, map, refl, sym, ap, subst, ◌∙◌, arith, append_assoc, append-nil}
+use Rattle.std.proofs.lemmas.List.{map-append}
+use Rattle.euler_operators.specs.Common.{Point, IsVectorWithin, normal_limit, origin, moved, cross, count, IsApart, mate, Model, Sound, HasHalf}
+use Rattle.euler_operators.proofs.Common.{count-append, IsApart-map, from_map, mate-mate, mate_there}
+use Rattle.shapes.specs.Common.{start, finish}
 use Rattle.split_checks.specs.Measure.{area, area_limit}
 use Rattle.split_checks.proofs.Areas.{area_push, area_limited}
-use Rattle.shapes.proofs.walks.FaceLoops.{AreHalves}
+use Rattle.shapes.proofs.Common.{AreHalves}
 use Rattle.split_sections.specs.section_cycles.Halves.{AreThere}
 
 -- of all halves these are left, and the sum is now that over the mates of the others

@@ -1,15 +1,9 @@
 -- The cycles of the below halves, all found.
 use Rattle.std.proofs.Common.{◌≡◌, ℕ, ◌≤◌, Bool, true, false, List, [], ◌∷◌, ◌++◌, map, length, sym, ap, ◌∙◌, arith}
 use Rattle.std.proofs.lemmas.List.{length-map, map-append}
-use Rattle.euler_operators.specs.Items.{count, IsIn, IsApart}
-use Rattle.euler_operators.specs.declared.HalfEdge.{HalfEdge}
-use Rattle.euler_operators.specs.declared.Plane.{Plane}
-use Rattle.euler_operators.specs.HalfEdge.{code}
-use Rattle.euler_operators.specs.Conditions.{strictly_rises}
-use Rattle.euler_operators.specs.Model.{Model}
-use Rattle.euler_operators.specs.Sound.{Sound}
-use Rattle.euler_laws.proofs.shared.Bounds.{steps_are, half_below}
-use Rattle.shapes.specs.split.Section.{next_below, cycle_from, section_cycles, is_hole}
+use Rattle.euler_operators.specs.Common.{count, IsIn, IsApart, HalfEdge, Plane, code, strictly_rises, Model, Sound}
+use Rattle.euler_laws.proofs.Common.{steps_are, half_below}
+use Rattle.shapes.specs.Common.{next_below, cycle_from, section_cycles, is_hole}
 use Rattle.split_opening_laws.specs.cycles.Permuting.{Permutes}
 use Rattle.split_opening_laws.proofs.cycles.Orbits.{around_apart, around_within}
 use Rattle.split_sections.specs.section_cycles.Halves.{AreThere, halves_of}

@@ -1,17 +1,11 @@
 -- The section edges of one face: none where it is above, else those whose mates lie in faces above.
-use Rattle.std.proofs.Common.{◌≡◌, ℕ, Bool, true, false, cond, not, ◌&&◌, List, [], ◌∷◌, ◌++◌, refl, sym, ap, ◌∙◌, arith}
-use Rattle.std.specs.Prelude.{filter}
+use Rattle.std.proofs.Common.{◌≡◌, ℕ, Bool, true, false, cond, not, ◌&&◌, List, [], ◌∷◌, ◌++◌, refl, sym, ap, ◌∙◌, arith, filter}
 use Rattle.std.proofs.lemmas.List.Elements.{filter-append}
-use Rattle.euler_operators.specs.Items.{count, IsIn, SameItems}
-use Rattle.euler_operators.specs.Rings.{IsRotation}
-use Rattle.euler_operators.proofs.Lists.{count-append, tick_same}
-use Rattle.euler_operators.specs.Model.{Model, loop_of}
-use Rattle.euler_operators.specs.Sound.{Sound, Has}
-use Rattle.euler_operators.specs.Conditions.{face_at, lists}
-use Rattle.euler_laws.proofs.shared.Listed.{listed-from_in}
-use Rattle.shapes.specs.Faces.{loops_of, boundary}
-use Rattle.shapes.proofs.walks.FaceLoops.{items_counted}
-use Rattle.shapes.proofs.walks.SolidFaces.{face_of_loop}
+use Rattle.euler_operators.specs.Common.{count, IsIn, SameItems, IsRotation, Model, loop_of, Sound, Has, face_at, lists}
+use Rattle.euler_operators.proofs.Common.{count-append, tick_same}
+use Rattle.euler_laws.proofs.Common.{listed-from_in}
+use Rattle.shapes.specs.Common.{loops_of, boundary}
+use Rattle.shapes.proofs.Common.{items_counted, face_of_loop}
 use Rattle.split_sections.specs.section_edges.BelowHalves.{leads_above, below_in, leading_above}
 
 module _ (M : Model) (above : List ℕ) (f : ℕ) where

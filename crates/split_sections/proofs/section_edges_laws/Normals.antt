@@ -1,15 +1,11 @@
 -- What an arena answers of the normal of a face that is there.
 use Rattle.std.proofs.Common.{◌≡◌, ℕ, ℤ, List, [], ◌∷◌, None, Result, Ok, Err, sym, ap, subst, ◌∙◌, arith}
-use Rattle.euler_operators.specs.Ranges.{IsVectorWithin, normal_limit}
-use Rattle.euler_operators.specs.Vectors.{vector_of, numbers_of}
-use Rattle.euler_operators.specs.Model.{Model}
-use Rattle.euler_operators.specs.Sound.{Sound, Has}
-use Rattle.euler_operators.specs.Conditions.{need, first_refusal}
+use Rattle.euler_operators.specs.Common.{IsVectorWithin, normal_limit, vector_of, numbers_of, Model, Sound, Has, need, first_refusal}
 use Rattle.euler_operators.specs.declared.Refusal.{Refusal}
 use Rattle.euler_operators.specs.declared.Why.TheVariants.{NumberRange, NoFace}
-use Rattle.euler_operators.proofs.Magnitudes.{vector_within}
-use Rattle.shapes.specs.Faces.{boundary, loops_of}
-use Rattle.shapes.proofs.walks.FaceLoops.{different_items, loops_of_apart}
+use Rattle.euler_operators.proofs.Common.{vector_within}
+use Rattle.shapes.specs.Common.{boundary, loops_of}
+use Rattle.shapes.proofs.Common.{different_items, loops_of_apart}
 use Rattle.split_checks.specs.Measure.{normal, answer, face_refusal, area_limit}
 use Rattle.split_checks.proofs.Areas.{area_limited}
 

@@ -1,22 +1,12 @@
 -- The halves in faces below, sorted by their edges after a walk over faces has met them.
-use Rattle.std.proofs.Common.{◌≡◌, ℕ, suc, ◌<◌, true, ◌&&◌, List, [], ◌∷◌, map, refl, sym, ap, ◌∙◌, arith, true≢false, inl, inr}
-use Rattle.std.specs.List.Sorted.{IsPermutation, IsNonDecreasingBy}
-use Rattle.std.proofs.lemmas.Bool.{lt-ltb}
+use Rattle.std.proofs.Common.{◌≡◌, ℕ, suc, ◌<◌, true, ◌&&◌, List, [], ◌∷◌, map, refl, sym, ap, ◌∙◌, arith, true≢false, inl, inr, IsPermutation, lt-ltb}
+use Rattle.std.specs.List.Sorted.{IsNonDecreasingBy}
 use Rattle.std.proofs.lemmas.List.Sorted.{IsPermutation-map}
-use Rattle.euler_operators.specs.Items.{tick, IsIn, IsApart, SameItems}
-use Rattle.euler_operators.proofs.Lists.{tick_same}
-use Rattle.euler_operators.specs.declared.HalfEdge.{HalfEdge}
-use Rattle.euler_operators.specs.HalfEdge.{code, edge_of}
-use Rattle.euler_operators.specs.Model.{Model, faces_of}
-use Rattle.euler_operators.specs.Sound.{Sound}
-use Rattle.euler_operators.proofs.Halves.{edge_of-code, same_edge}
-use Rattle.euler_operators.proofs.Tests.{less_or_same}
-use Rattle.euler_operators.proofs.Std.{SameItems-from_permutation}
-use Rattle.euler_operators.specs.Conditions.{face_at, lists, strictly_rises}
-use Rattle.euler_laws.proofs.shared.RisingLists.{within}
-use Rattle.euler_laws.proofs.shared.Listed.{IsIn-from_listed, listed-from_in}
+use Rattle.euler_operators.specs.Common.{tick, IsIn, IsApart, SameItems, HalfEdge, code, edge_of, Model, faces_of, Sound, face_at, lists, strictly_rises}
+use Rattle.euler_operators.proofs.Common.{tick_same, edge_of-code, same_edge, less_or_same, SameItems-from_permutation}
+use Rattle.euler_laws.proofs.Common.{within, IsIn-from_listed, listed-from_in}
 use Rattle.split_checks.proofs.HowMany.{equally_many}
-use Rattle.shapes.specs.split.Section.{below_halves}
+use Rattle.shapes.specs.Common.{below_halves}
 use Rattle.split_opening_laws.specs.cycles.SectionCycles.{IsBelowHalf}
 use Rattle.split_opening_laws.proofs.cycles.BelowHalves.{halves_rise, halves_apart, halves_are, are_halves}
 use Rattle.split_sections.specs.section_edges.BelowHalves.{below_met}

@@ -1,22 +1,14 @@
 -- The halves in faces below that a walk over the faces of a solid meets are the below halves of its section.
-use Rattle.std.specs.Prelude.{filter}
-use Rattle.std.proofs.Common.{◌≡◌, ℕ, Bool, not, ◌&&◌, List, [], ◌∷◌, ◌++◌, refl, sym, ap, subst, ◌∙◌}
+use Rattle.std.proofs.Common.{◌≡◌, ℕ, Bool, not, ◌&&◌, List, [], ◌∷◌, ◌++◌, refl, sym, ap, subst, ◌∙◌, filter}
 use Rattle.std.proofs.lemmas.Bool.{and_parts, not-true}
 use Rattle.std.proofs.lemmas.List.Elements.{filter-append}
-use Rattle.euler_operators.specs.Items.{IsIn, IsApart}
-use Rattle.euler_operators.specs.HalfEdge.{mate}
-use Rattle.euler_operators.specs.Model.{Model, faces_of}
-use Rattle.euler_operators.specs.Sound.{Sound}
-use Rattle.euler_operators.proofs.Members.{IsIn-filter}
-use Rattle.euler_operators.specs.Conditions.{face_at, lists}
-use Rattle.shapes.specs.Faces.{items_in, loops_of, boundary}
-use Rattle.shapes.proofs.walks.Corners.{halves_apart, half_solid, solid_half}
+use Rattle.euler_operators.specs.Common.{IsIn, IsApart, mate, Model, faces_of, Sound, face_at, lists}
+use Rattle.euler_operators.proofs.Common.{IsIn-filter}
+use Rattle.shapes.specs.Common.{items_in, loops_of, boundary, loops_in}
+use Rattle.shapes.proofs.Common.{halves_apart, half_solid, solid_half, items_joined, solid_loops}
 use Rattle.split_checks.proofs.cut_places_laws.Lists.{of_picked, picked_apart}
 use Rattle.split_opening_laws.specs.cycles.SectionCycles.{IsBelowHalf}
 use Rattle.split_sections.specs.section_edges.BelowHalves.{is_below, below_met}
-use Rattle.shapes.specs.Walks.{loops_in}
-use Rattle.shapes.proofs.walks.FaceLoops.{items_joined}
-use Rattle.shapes.proofs.walks.SolidFaces.{solid_loops}
 
 module _ (M : Model) (sound : Sound M) (above : List ℕ) (s : ℕ) where
   abbrev halves : List ℕ

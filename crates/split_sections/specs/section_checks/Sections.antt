@@ -1,9 +1,7 @@
 -- The section of a solid, as the code has it.
 use Rattle.std.specs.Prelude.{◌≡◌, ℕ, Bool, List, map}
-use Rattle.euler_operators.specs.declared.Plane.{Plane}
-use Rattle.euler_operators.specs.Model.{Model}
-use Rattle.shapes.specs.split.Section.{below_halves, section_cycles, is_hole}
-use Rattle.shapes.specs.split.Sides.{faces_above}
+use Rattle.euler_operators.specs.Common.{Plane, Model}
+use Rattle.shapes.specs.Common.{below_halves, section_cycles, is_hole, faces_above}
 use Rattle.split_sections.specs.section_cycles.Halves.{halves_of}
 use Rattle.split_sections.specs.declared.section_checks.section.Section.{Section}
 

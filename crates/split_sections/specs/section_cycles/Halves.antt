@@ -1,8 +1,6 @@
 -- Lists of half-edges, as the code has them.
 use Rattle.std.specs.Prelude.{◌≡◌, ℕ, true, List, map}
-use Rattle.euler_operators.specs.Items.{IsIn}
-use Rattle.euler_operators.specs.HalfEdge.{code}
-use Rattle.euler_operators.specs.Model.{Model, has_half}
+use Rattle.euler_operators.specs.Common.{IsIn, code, Model, has_half}
 use Rattle.split_sections.specs.declared.section_cycles.cycle.Cycle.{Cycle}
 
 -- the halves of a cycle

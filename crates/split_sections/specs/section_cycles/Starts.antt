@@ -2,11 +2,8 @@
 use Rattle.std.specs.Prelude.{◌≡◌, ℕ, nat_eq, List, map, Option, Some, None, unwrap_or}
 use Rattle.std.specs.BTreeMap.{BTreeMap, get}
 use Rattle.std.specs.Ordering.{nat_cmp}
-use Rattle.euler_operators.specs.Items.{count}
-use Rattle.euler_operators.specs.declared.HalfEdge.{HalfEdge}
-use Rattle.euler_operators.specs.HalfEdge.{code, mate}
-use Rattle.euler_operators.specs.Model.{Model, tail}
-use Rattle.shapes.specs.Fresh.{first_such}
+use Rattle.euler_operators.specs.Common.{count, HalfEdge, code, mate, Model, tail}
+use Rattle.shapes.specs.Common.{first_such}
 
 -- the code of a half-edge, or 0
 abbrev pub code_or_none : Option HalfEdge → ℕ

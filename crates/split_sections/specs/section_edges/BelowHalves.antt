@@ -1,9 +1,7 @@
 -- The halves of section edges in the faces below, as a walk over faces meets them.
 use Rattle.std.specs.Prelude.{ℕ, Bool, not, ◌&&◌, List, [], ◌∷◌, ◌++◌, filter}
-use Rattle.euler_operators.specs.HalfEdge.{mate}
-use Rattle.euler_operators.specs.Model.{Model}
-use Rattle.euler_operators.specs.Conditions.{face_at, lists}
-use Rattle.shapes.specs.Faces.{boundary}
+use Rattle.euler_operators.specs.Common.{mate, Model, face_at, lists}
+use Rattle.shapes.specs.Common.{boundary}
 
 -- the mate of a half-edge lies in a face above
 abbrev pub leads_above : Model → List ℕ → ℕ → Bool

@@ -2,13 +2,11 @@
 ghost use Rattle.std.specs.Prelude.{◌≡◌, true, [], None, Some, Ok, Err, Vec};
 ghost use Rattle.std.specs.declared.alloc.Global.{Global};
 ghost use Rattle.euler_conditions.specs.Ready.{IsReady};
-ghost use Rattle.euler_operators.specs.Conditions.{first_refusal, strictly_rises};
+ghost use Rattle.euler_operators.specs.Common.{first_refusal, strictly_rises, IsCutPlane};
 ghost use Rattle.euler_operators.specs.declared.Refusal.{Refusal};
 ghost use Rattle.euler_conditions.specs.Store.{has_number};
-ghost use Rattle.euler_operators.specs.Ranges.{IsCutPlane};
 ghost use Rattle.split_opening_laws.specs.cycles.SectionCycles.{AreOf};
-ghost use Rattle.shapes.specs.split.Section.{below_halves};
-ghost use Rattle.shapes.specs.split.Split.{later_conditions, section_conditions};
+ghost use Rattle.shapes.specs.Common.{below_halves, later_conditions, section_conditions};
 ghost use Rattle.solid_walks.specs.Counters.{taken_of};
 ghost use Rattle.split_checks.specs.cut_places.Noted.{AreSides};
 ghost use Rattle.split_checks.specs.Progress.{drawing_of};

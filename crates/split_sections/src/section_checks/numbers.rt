@@ -1,7 +1,7 @@
 //! Numbers that are left.
 ghost use Rattle.std.specs.Prelude.{◌≡◌, ◌+◌, ◌*◌, ◌≤◌};
-ghost use Rattle.euler_operators.specs.Conditions.{first_refusal, verdict};
-ghost use Rattle.shapes.specs.Fresh.{numbers_left};
+ghost use Rattle.euler_operators.specs.Common.{first_refusal, verdict};
+ghost use Rattle.shapes.specs.Common.{numbers_left};
 ghost use Rattle.solid_walks.specs.Counters.{taken_of};
 
 use euler_operators::Refusal;

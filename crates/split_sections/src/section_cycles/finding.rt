@@ -2,13 +2,10 @@
 ghost use Rattle.std.specs.Prelude.{◌≡◌, ◌≤◌, ◌||◌, ℕ, true, IfOk, OnOk, map};
 ghost use Rattle.std.specs.BTreeSet.{contains};
 ghost use Rattle.std.specs.Ordering.{nat_cmp};
-ghost use Rattle.euler_operators.specs.Items.{IsIn};
-ghost use Rattle.euler_operators.specs.HalfEdge.{code};
+ghost use Rattle.euler_operators.specs.Common.{IsIn, code, IsCutPlane, lists, strictly_rises};
 ghost use Rattle.euler_conditions.specs.Ready.{IsReady};
-ghost use Rattle.euler_operators.specs.Ranges.{IsCutPlane};
-ghost use Rattle.euler_operators.specs.Conditions.{lists, strictly_rises};
 ghost use Rattle.split_opening_laws.specs.cycles.Permuting.{Permutes};
-ghost use Rattle.shapes.specs.split.Section.{cycle_from, is_hole, next_below, section_cycles};
+ghost use Rattle.shapes.specs.Common.{cycle_from, is_hole, next_below, section_cycles};
 ghost use Rattle.split_sections.specs.section_cycles.Halves.{AreThere, halves_of};
 ghost use Rattle.split_sections.specs.section_cycles.Starts.{AreStarts};
 

@@ -1,13 +1,9 @@
 //! Whether a cycle of a section is a hole.
 ghost use Rattle.std.specs.Prelude.{◌≡◌, true, map};
-ghost use Rattle.euler_operators.specs.Points.{IsInRange};
-ghost use Rattle.euler_operators.specs.Ranges.{IsCutPlane, IsVectorWithin, IsWithin};
-ghost use Rattle.euler_operators.specs.Vectors.{dot};
-ghost use Rattle.euler_operators.specs.Items.{IsApart};
-ghost use Rattle.euler_operators.specs.HalfEdge.{code, mate};
+ghost use Rattle.euler_operators.specs.Common.{IsInRange, IsCutPlane, IsVectorWithin, IsWithin, dot, IsApart, code, mate};
 ghost use Rattle.euler_conditions.specs.Ready.{IsReady};
 ghost use Rattle.split_checks.specs.Measure.{area, area_limit, read};
-ghost use Rattle.shapes.specs.split.Section.{is_hole};
+ghost use Rattle.shapes.specs.Common.{is_hole};
 ghost use Rattle.split_sections.specs.section_cycles.Halves.{AreThere};
 
 use crate::section_edges::direction;

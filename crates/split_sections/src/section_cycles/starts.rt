@@ -1,9 +1,8 @@
 //! The below halves by the vertices at which they start.
 ghost use Rattle.std.specs.Prelude.{◌≡◌, ◌≢◌, true, IfOk, map};
-ghost use Rattle.euler_operators.specs.HalfEdge.{code, mate};
-ghost use Rattle.euler_operators.specs.Model.{has_half, tail};
+ghost use Rattle.euler_operators.specs.Common.{code, mate, has_half, tail};
 ghost use Rattle.euler_conditions.specs.Ready.{IsReady};
-ghost use Rattle.shapes.specs.split.Section.{least_branched, section_ends};
+ghost use Rattle.shapes.specs.Common.{least_branched, section_ends};
 ghost use Rattle.split_checks.specs.Least.{only};
 ghost use Rattle.split_sections.specs.section_cycles.Halves.{AreThere};
 ghost use Rattle.split_sections.specs.section_cycles.Starts.{AreBalanced, AreStarts, half_at};

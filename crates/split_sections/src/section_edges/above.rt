@@ -2,12 +2,10 @@
 ghost use Rattle.std.specs.Prelude.{◌≡◌, pos, int_lt, true, IfOk};
 ghost use Rattle.euler_conditions.specs.Ready.{IsReady};
 ghost use Rattle.euler_conditions.specs.Store.{has_number};
-ghost use Rattle.euler_operators.specs.Points.{IsInRange};
-ghost use Rattle.euler_operators.specs.Ranges.{IsCutPlane};
-ghost use Rattle.euler_operators.specs.Vectors.{direction, dot};
+ghost use Rattle.euler_operators.specs.Common.{IsInRange, IsCutPlane, direction, dot};
 ghost use Rattle.split_checks.specs.Measure.{normal};
 ghost use Rattle.split_checks.specs.cut_places.Noted.{AreSides};
-ghost use Rattle.shapes.specs.split.Sides.{face_is_above, faces_above};
+ghost use Rattle.shapes.specs.Common.{face_is_above, faces_above};
 
 use euler_conditions::Arena;
 use euler_operators::{Kind, Plane, Point, Sign, dot};

@@ -1,13 +1,9 @@
 //! The halves of the section edges that lie in faces below.
 ghost use Rattle.std.specs.Prelude.{◌≡◌, ◌++◌, true, map, IfOk, OnOk};
-ghost use Rattle.euler_operators.specs.HalfEdge.{code};
-ghost use Rattle.euler_operators.specs.Items.{SameItems};
-ghost use Rattle.euler_operators.specs.Model.{content, cycle_of, faces_of, has_half, items_of};
+ghost use Rattle.euler_operators.specs.Common.{code, SameItems, content, cycle_of, faces_of, has_half, items_of, face_at, lists, strictly_rises};
 ghost use Rattle.euler_conditions.specs.Ready.{IsReady};
-ghost use Rattle.euler_operators.specs.Conditions.{face_at, lists, strictly_rises};
 ghost use Rattle.euler_conditions.specs.Store.{has_number};
-ghost use Rattle.shapes.specs.Faces.{boundary};
-ghost use Rattle.shapes.specs.split.Section.{below_halves};
+ghost use Rattle.shapes.specs.Common.{boundary, below_halves};
 ghost use Rattle.split_sections.specs.section_edges.BelowHalves.{below_in, below_met, leads_above, leading_above};
 
 use euler_conditions::Arena;

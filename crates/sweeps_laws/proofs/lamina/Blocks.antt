@@ -1,29 +1,14 @@
 -- Where a block can be made: the lamina of its base can be made, and then its first face can be swept up.
-use Rattle.std.specs.Prelude.{length, int_le}
-use Rattle.std.specs.Ordering.{int_eq}
-use Rattle.std.proofs.Common.{◌≡◌, ◌≢◌, ℕ, zero, suc, ◌+◌, ◌*◌, ◌<◌, ℤ, pos, negsuc, ◌+ℤ◌, Bool, true, false, cond, not, ◌&&◌, List, [], ◌∷◌, ◌++◌, Some, None, is_some, refl, sym, ap, ◌∙◌, subst, arith, true≢false, Option}
+use Rattle.std.proofs.Common.{◌≡◌, ◌≢◌, ℕ, zero, suc, ◌+◌, ◌*◌, ◌<◌, ℤ, pos, negsuc, ◌+ℤ◌, Bool, true, false, cond, not, ◌&&◌, List, [], ◌∷◌, ◌++◌, Some, None, is_some, refl, sym, ap, ◌∙◌, subst, arith, true≢false, Option, length, int_le, int_eq}
 use Rattle.std.proofs.lemmas.Bool.Decides.{nat_tests}
 use Rattle.std.proofs.lemmas.Int.{ints}
-use Rattle.euler_operators.specs.declared.Point.{Point}
-use Rattle.euler_operators.specs.Points.{is_coordinate, is_in_range}
-use Rattle.euler_operators.specs.Vectors.{origin, moved, same_point}
-use Rattle.euler_operators.specs.HalfEdge.{plus}
+use Rattle.euler_operators.specs.Common.{Point, is_coordinate, is_in_range, origin, moved, same_point, plus, Model, cycle, outer, tail, point_of, Sound, Condition, need, never, first_refusal, numbers_in_range}
 use Rattle.euler_operators.specs.Table as table
-use Rattle.euler_operators.specs.Model.{Model, cycle, outer, tail, point_of}
-use Rattle.euler_operators.specs.Sound.{Sound}
-use Rattle.euler_operators.proofs.Models.{content_row, outer_row, plus_tail_row}
-use Rattle.euler_operators.proofs.Tests.{and_first, and_second}
-use Rattle.euler_operators.proofs.Vectors.{add_none}
-use Rattle.euler_operators.specs.Conditions.{Condition, need, never, first_refusal, numbers_in_range}
+use Rattle.euler_operators.proofs.Common.{content_row, outer_row, plus_tail_row, and_first, and_second, add_none}
 use Rattle.euler_operators.specs.declared.Why.TheVariants.{NoFace, ZeroSweep, LoneLoop, PointRange}
-use Rattle.euler_laws.proofs.shared.Goes.{all_hold, none_refuses}
-use Rattle.shapes.proofs.fresh.Rows.{greatest-put_last}
-use Rattle.shapes.proofs.fresh.Tests.{Left, numbers_are_left, left_numbers_hold, number_fits}
-use Rattle.shapes.specs.Faces.{corners, loops_of, vertices_in, vertices_on, least_lone}
-use Rattle.shapes.specs.Fresh.{Taken, taken_in, numbers_left, no_such, first_such}
-use Rattle.shapes.specs.Lamina.{first_far, first_repeated, lamina_conditions, lamina_model}
-use Rattle.shapes.specs.Prism.{prism_conditions, prism_refusal}
-use Rattle.shapes.specs.Block.{vector, base_of, block_conditions, block_refusal}
+use Rattle.euler_laws.proofs.Common.{all_hold, none_refuses}
+use Rattle.shapes.proofs.Common.{greatest-put_last, Left, numbers_are_left, left_numbers_hold, number_fits}
+use Rattle.shapes.specs.Common.{corners, loops_of, vertices_in, vertices_on, least_lone, Taken, taken_in, numbers_left, no_such, first_such, first_far, first_repeated, lamina_conditions, lamina_model, prism_conditions, prism_refusal, vector, base_of, block_conditions, block_refusal}
 use Rattle.sweeps_laws.specs.lamina.Laws.{BlocksHaveBases, BasesRise}
 use Rattle.sweeps_laws.proofs.lamina.Lists.{plus_halves}
 use Rattle.sweeps_laws.proofs.swept.Lifted.{Bounded}

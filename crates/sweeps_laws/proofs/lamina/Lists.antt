@@ -1,14 +1,10 @@
 -- The loop along a path and back, as a list.
-use Rattle.std.specs.Prelude.{map, reverse}
-use Rattle.std.proofs.Common.{◌≡◌, ℕ, zero, suc, ◌+◌, ◌≤◌, ◌<◌, List, [], ◌∷◌, ◌++◌, refl, sym, ap, ◌∙◌, arith, inl, inr}
-use Rattle.std.proofs.lemmas.List.{append_assoc, append-nil, map-append, reverse-append}
+use Rattle.std.proofs.Common.{◌≡◌, ℕ, zero, suc, ◌+◌, ◌≤◌, ◌<◌, List, [], ◌∷◌, ◌++◌, refl, sym, ap, ◌∙◌, arith, inl, inr, map, reverse, append_assoc, append-nil}
+use Rattle.std.proofs.lemmas.List.{map-append, reverse-append}
 use Rattle.std.proofs.lemmas.Bool.Decides.{eqb_tells}
-use Rattle.euler_operators.specs.Items.{count, IsIn, IsApart, least}
-use Rattle.euler_operators.specs.Rings.{rotate_to, canonical}
-use Rattle.euler_operators.proofs.Lists.{count-append, tick_other, tick_le, least_with_le, least_with_in}
-use Rattle.euler_operators.proofs.Rotations.{rotate_to_head, canonical_same, IsIn_head}
-use Rattle.euler_operators.specs.HalfEdge.{plus, minus}
-use Rattle.shapes.specs.Fresh.{numbers_after}
+use Rattle.euler_operators.specs.Common.{count, IsIn, IsApart, least, rotate_to, canonical, plus, minus}
+use Rattle.euler_operators.proofs.Common.{count-append, tick_other, tick_le, least_with_le, least_with_in, rotate_to_head, canonical_same, IsIn_head}
+use Rattle.shapes.specs.Common.{numbers_after}
 use Rattle.sweeps_laws.specs.lamina.Path.{out, back}
 
 -- a list from its least item on is in its canonical form

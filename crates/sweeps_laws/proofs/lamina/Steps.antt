@@ -1,32 +1,14 @@
 -- Each operator of a lamina is accepted, and leads from one model of the path to the next.
-use Rattle.std.specs.Prelude.{map, reverse, length, get_or, ◌-◌}
-use Rattle.std.proofs.Common.{◌≡◌, ℕ, zero, suc, ◌+◌, ◌≤◌, ◌<◌, true, List, [], ◌∷◌, ◌++◌, Some, None, unwrap_or, is_some, refl, sym, ap, ◌∙◌, arith, IsTrue}
-use Rattle.euler_operators.specs.declared.Point.{Point}
-use Rattle.euler_operators.specs.Points.{IsInRange}
-use Rattle.euler_operators.specs.Rings.{canonical}
-use Rattle.euler_operators.specs.HalfEdge.{code, mate, edge_of, plus, minus}
+use Rattle.std.proofs.Common.{◌≡◌, ℕ, zero, suc, ◌+◌, ◌≤◌, ◌<◌, true, List, [], ◌∷◌, ◌++◌, Some, None, unwrap_or, is_some, refl, sym, ap, ◌∙◌, arith, IsTrue, map, reverse, length, get_or, ◌-◌}
+use Rattle.euler_operators.specs.Common.{Point, IsInRange, canonical, code, mate, edge_of, plus, minus, Table, Model, cycle, EdgeRow, no_point, no_face, content, face_of, solid_of, tail, is_number, Sound, first_false, lone_vertex, effect, edge_row, mvfs, mev_lone, mef}
 use Rattle.euler_operators.specs.Table as table
-use Rattle.euler_operators.specs.Table.{Table}
-use Rattle.euler_operators.specs.Model.{Model, cycle, EdgeRow, no_point, no_face, content, face_of, solid_of, tail, is_number}
-use Rattle.euler_operators.specs.Sound.{Sound}
-use Rattle.euler_operators.proofs.Halves.{plus_row, mate_plus}
-use Rattle.euler_operators.proofs.Models.{content_row, face_row, plus_tail_row, minus_tail_row}
-use Rattle.euler_operators.proofs.Tables.{get-put_here, get-put_other, put-put}
-use Rattle.euler_operators.specs.Conditions.{first_false, lone_vertex}
-use Rattle.euler_operators.specs.Effect.{effect, edge_row, mvfs, mev_lone, mef}
-use Rattle.euler_laws.proofs.shared.Rows.{edge_row_plus}
-use Rattle.euler_laws.proofs.mev.Mev.{lone_accepted, mev_accepted}
+use Rattle.euler_operators.proofs.Common.{plus_row, mate_plus, content_row, face_row, plus_tail_row, minus_tail_row, get-put_here, get-put_other, put-put, canonical_same}
+use Rattle.euler_laws.proofs.Common.{edge_row_plus, lone_accepted, mev_accepted, mef_accepted, mvfs_accepted, Around, apart_xs}
 use Rattle.euler_laws.proofs.mev.MevLoneSound.{LoneGoes}
-use Rattle.euler_laws.proofs.mef.Kef.{mef_accepted}
-use Rattle.euler_laws.proofs.faces.Solids.{mvfs_accepted}
-use Rattle.shapes.proofs.fresh.Rows.{greatest-put_last, none_above}
-use Rattle.shapes.proofs.fresh.Tests.{Left, number_fits}
-use Rattle.shapes.specs.Fresh.{Taken, numbers_after}
-use Rattle.shapes.specs.Lamina.{with_points, with_path, with_ring, lamina_at}
+use Rattle.shapes.proofs.Common.{greatest-put_last, none_above, Left, number_fits}
+use Rattle.shapes.specs.Common.{Taken, numbers_after, with_points, with_path, with_ring, lamina_at}
 use Rattle.sweeps_laws.specs.lamina.Path.{out, back, path_content, path_at, first_half, second_half, first_point, next_point, last_edge}
 use Rattle.sweeps_laws.proofs.lamina.Lists.{two_halves, path_read, longer, later, ring_plus, ring_minus, out_first, plus_halves, minus_halves}
-use Rattle.euler_operators.proofs.Rotations.{canonical_same}
-use Rattle.euler_laws.proofs.shared.KnownLoop.{Around, apart_xs}
 use Rattle.sweeps_laws.proofs.prism.Steps.{spur_goes, mev_here, chord_goes, mef_here}
 
 -- ---- the tables of a path

@@ -1,20 +1,11 @@
 -- From the conditions of a lamina: its operators in order, and the model that they leave.
-use Rattle.std.specs.Prelude.{length, get_or, ◌-◌}
-use Rattle.std.proofs.Common.{◌≡◌, ℕ, zero, suc, ◌+◌, ◌<◌, true, false, cond, List, [], ◌∷◌, ◌++◌, Some, None, is_some, refl, ap, subst, ◌∙◌, arith, true≢false}
-use Rattle.std.proofs.lemmas.Bool.{not-true, leb-true}
-use Rattle.euler_operators.specs.declared.Point.{Point}
-use Rattle.euler_operators.specs.Points.{is_in_range}
-use Rattle.euler_operators.specs.Model.{Model, no_point}
-use Rattle.euler_operators.specs.Sound.{Sound}
-use Rattle.euler_operators.specs.Conditions.{first_false}
-use Rattle.euler_operators.specs.Effect.{effect}
-use Rattle.euler_operators.proofs.Tables.{no_row}
-use Rattle.euler_laws.proofs.shared.Goes.{all_hold}
-use Rattle.euler_laws.proofs.Cases.{effect_keeps_sound}
-use Rattle.euler_laws.proofs.Runs.{Leads, leads_none, leads_one, leads_on, leads_first, leads_sound}
-use Rattle.shapes.proofs.fresh.Tests.{none_found, numbers_are_left}
-use Rattle.shapes.specs.Fresh.{Taken, taken_in}
-use Rattle.shapes.specs.Lamina.{first_far, lamina_conditions, lamina_refusal, lamina_at, lamina_model}
+use Rattle.std.proofs.Common.{◌≡◌, ℕ, zero, suc, ◌+◌, ◌<◌, true, false, cond, List, [], ◌∷◌, ◌++◌, Some, None, is_some, refl, ap, subst, ◌∙◌, arith, true≢false, length, get_or, ◌-◌, leb-true}
+use Rattle.std.proofs.lemmas.Bool.{not-true}
+use Rattle.euler_operators.specs.Common.{Point, is_in_range, Model, no_point, Sound, first_false, effect}
+use Rattle.euler_operators.proofs.Common.{no_row}
+use Rattle.euler_laws.proofs.Common.{all_hold, effect_keeps_sound, Leads, leads_none, leads_one, leads_on, leads_first, leads_sound}
+use Rattle.shapes.proofs.Common.{none_found, numbers_are_left}
+use Rattle.shapes.specs.Common.{Taken, taken_in, first_far, lamina_conditions, lamina_refusal, lamina_at, lamina_model}
 use Rattle.sweeps_laws.specs.lamina.Path.{path_at, first_point, next_point, further_points, last_edge, lamina_operators}
 use Rattle.sweeps_laws.specs.lamina.Laws.{OperatorsAreAccepted, OperatorsMakeLamina, LaminaIsSound}
 use Rattle.sweeps_laws.proofs.lamina.Steps.{Goes, first_accepted, first_made, second_accepted, second_made, further_accepted, further_made, last_accepted, last_made}

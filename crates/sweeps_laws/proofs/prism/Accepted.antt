@@ -2,29 +2,13 @@
 use Rattle.std.proofs.Common.{◌≡◌, ℕ, ◌*◌, true, false, not, nat_eq, ◌&&◌, ◌||◌, [], ◌∷◌, length, Some, None, refl, ap, ◌∙◌, subst, arith}
 use Rattle.std.proofs.lemmas.Bool.Decides.{nat_tests}
 use Rattle.std.proofs.lemmas.Bool.{not-false}
-use Rattle.euler_operators.specs.declared.Point.{Point}
-use Rattle.euler_operators.specs.Points.{is_in_range, IsInRange}
-use Rattle.euler_operators.specs.Vectors.{moved}
-use Rattle.euler_operators.specs.Items.{IsIn}
+use Rattle.euler_operators.specs.Common.{Point, is_in_range, IsInRange, moved, IsIn, Model, cycle, items_of, content, face_of, tail, point_of, Sound, Has, AllHold, is_lone, lists}
 use Rattle.euler_operators.specs.Table as table
-use Rattle.euler_operators.specs.Model.{Model, cycle, items_of, content, face_of, tail, point_of}
-use Rattle.euler_operators.specs.Sound.{Sound, Has}
-use Rattle.euler_operators.proofs.Tables.{zero_first_where}
-use Rattle.euler_operators.proofs.Models.{item_there, loop_number}
-use Rattle.euler_operators.proofs.Tests.{first_fails}
-use Rattle.euler_operators.specs.Conditions.{AllHold, is_lone, lists}
+use Rattle.euler_operators.proofs.Common.{zero_first_where, item_there, loop_number, first_fails}
 use Rattle.euler_laws.specs.Laws.{AreAccepted, effects}
-use Rattle.euler_laws.proofs.Runs.{effects_keep_sound}
-use Rattle.euler_laws.proofs.shared.Goes.{all_hold}
-use Rattle.euler_laws.proofs.shared.Listed.{listed-from_in}
-use Rattle.euler_laws.proofs.shared.Rows.{loop_row, not_lone_cycle}
-use Rattle.shapes.proofs.fresh.Rows.{none_above}
-use Rattle.shapes.proofs.fresh.Tests.{none_found, none_is_lone, none_such, Left, numbers_are_left}
-use Rattle.shapes.proofs.walks.FaceLoops.{loops_of_apart, tail_in}
-use Rattle.shapes.proofs.walks.SolidFaces.{face_of_loop}
-use Rattle.shapes.specs.Faces.{start, loops_of, corners, vertices_in, least_lone}
-use Rattle.shapes.specs.Fresh.{first_such, taken_in}
-use Rattle.shapes.specs.Prism.{prism_conditions, prism_refusal, prism_model}
+use Rattle.euler_laws.proofs.Common.{effects_keep_sound, all_hold, listed-from_in, loop_row, not_lone_cycle}
+use Rattle.shapes.proofs.Common.{none_above, none_found, none_is_lone, none_such, Left, numbers_are_left, loops_of_apart, tail_in, face_of_loop}
+use Rattle.shapes.specs.Common.{start, loops_of, corners, vertices_in, least_lone, first_such, taken_in, prism_conditions, prism_refusal, prism_model}
 use Rattle.sweeps_laws.specs.prism.SweepOps.{sweep_ops}
 use Rattle.sweeps_laws.proofs.prism.Whole.{Going, loops_swept}
 

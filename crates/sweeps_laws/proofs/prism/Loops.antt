@@ -1,37 +1,19 @@
 -- A whole loop swept: the first item raised, the rounds, and the last side closed.
-use Rattle.std.proofs.Common.{◌≡◌, ◌≢◌, ℕ, zero, suc, ◌+◌, ◌-◌, ◌≤◌, ◌<◌, List, [], ◌∷◌, ◌++◌, length, Some, None, refl, sym, ap, ◌∙◌, subst, arith, inl, inr}
-use Rattle.std.specs.Prelude.{get_or, drop}
+use Rattle.std.proofs.Common.{◌≡◌, ◌≢◌, ℕ, zero, suc, ◌+◌, ◌-◌, ◌≤◌, ◌<◌, List, [], ◌∷◌, ◌++◌, length, Some, None, refl, sym, ap, ◌∙◌, subst, arith, inl, inr, get_or, drop}
 use Rattle.std.proofs.lemmas.Bool.Decides.{nat_tests, eqb_tells}
 use Rattle.std.proofs.lemmas.List.{drop_all}
-use Rattle.euler_operators.specs.declared.Point.{Point}
-use Rattle.euler_operators.specs.Vectors.{moved}
-use Rattle.euler_operators.specs.Items.{IsIn}
-use Rattle.euler_operators.specs.Rings.{canonical}
-use Rattle.euler_operators.proofs.Lists.{count-append, tick_other}
-use Rattle.euler_operators.proofs.Rotations.{canonical_same}
-use Rattle.euler_operators.proofs.Std.{IsIn-get_or}
-use Rattle.euler_operators.proofs.Tables.{get-put_here, get-put_other}
-use Rattle.euler_operators.proofs.Models.{plus_tail_row, minus_tail_row}
-use Rattle.euler_operators.specs.HalfEdge.{plus, minus}
+use Rattle.euler_operators.specs.Common.{Point, moved, IsIn, canonical, plus, minus, Table, tables, same_table, Model, cycle, tail, solid_of, Sound, first_false, effect}
+use Rattle.euler_operators.proofs.Common.{count-append, tick_other, canonical_same, IsIn-get_or, get-put_here, get-put_other, plus_tail_row, minus_tail_row}
 use Rattle.euler_operators.specs.Table as table
-use Rattle.euler_operators.specs.Table.{Table, tables, same_table}
-use Rattle.euler_operators.specs.Model.{Model, cycle, tail, solid_of}
-use Rattle.euler_operators.specs.Sound.{Sound}
 use Rattle.euler_operators.specs.declared.Op.{Op}
-use Rattle.euler_operators.specs.Conditions.{first_false}
-use Rattle.euler_operators.specs.Effect.{effect}
 use Rattle.euler_laws.specs.Laws.{AreAccepted, effects}
-use Rattle.euler_laws.proofs.Cases.{effect_keeps_sound}
-use Rattle.euler_laws.proofs.Runs.{Leads, leads_one, leads_on, leads_sound}
-use Rattle.shapes.specs.Faces.{start}
-use Rattle.shapes.specs.Fresh.{Taken}
-use Rattle.shapes.specs.Prism.{riser, top_edge, top_items, next_place, with_side, with_sides, lifted}
+use Rattle.euler_laws.proofs.Common.{effect_keeps_sound, Leads, leads_one, leads_on, leads_sound, Around, apart_xs}
+use Rattle.shapes.specs.Common.{start, Taken, riser, top_edge, top_items, next_place, with_side, with_sides, lifted}
 use Rattle.sweeps_laws.specs.prism.Part.{lifted_part, prism_part}
 use Rattle.sweeps_laws.specs.prism.SweepOps.{raise, close, close_last, rounds, loop_ops}
 use Rattle.sweeps_laws.proofs.prism.Steps.{with_chord, mev_does, mev_fits, mef_does, mef_fits}
 use Rattle.sweeps_laws.proofs.prism.Sides.{fits, riser_is, next_last, two_items, from_least, drop_next, loop_within, part_loop, part_edge_free, part_face_free, part_loop_free, part_riser, part_solid, round_accepted, round_is}
 use Rattle.sweeps_laws.proofs.swept.Numbers.{top_cases}
-use Rattle.euler_laws.proofs.shared.KnownLoop.{Around, apart_xs}
 use Rattle.sweeps_laws.specs.prism.Ready.{Ready}
 use Rattle.sweeps_laws.proofs.lamina.Lists.{canonical_first}
 

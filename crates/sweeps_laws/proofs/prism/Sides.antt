@@ -1,37 +1,19 @@
 -- One round of the sweep of a loop: the numbers that it takes, what the sides leave as it was, an item raised and the side before it closed.
-use Rattle.std.proofs.Common.{◌≡◌, ◌≢◌, ℕ, zero, suc, ◌+◌, ◌*◌, ◌≤◌, ◌<◌, cond, List, [], ◌∷◌, length, is_some, unwrap_or, IsTrue, refl, sym, ap, ◌∙◌, subst, arith, ◌⊎◌, ◌++◌, Some, None}
-use Rattle.std.proofs.lemmas.Bool.{eq-eqb, ne_eqb, cases_eq}
+use Rattle.std.proofs.Common.{◌≡◌, ◌≢◌, ℕ, zero, suc, ◌+◌, ◌*◌, ◌≤◌, ◌<◌, cond, List, [], ◌∷◌, length, is_some, unwrap_or, IsTrue, refl, sym, ap, ◌∙◌, subst, arith, ◌⊎◌, ◌++◌, Some, None, eq-eqb, ne_eqb, get_or, drop, append_assoc}
+use Rattle.std.proofs.lemmas.Bool.{cases_eq}
 use Rattle.std.proofs.lemmas.Bool.Decides.{nat_tests}
-use Rattle.euler_operators.specs.declared.Point.{Point}
-use Rattle.euler_operators.specs.Items.{IsIn}
-use Rattle.euler_operators.specs.Rings.{canonical, successor}
-use Rattle.euler_operators.proofs.Lists.{tick_same}
-use Rattle.euler_operators.proofs.Rings.{successor_head}
-use Rattle.euler_operators.specs.HalfEdge.{edge_of, is_first, plus, minus}
+use Rattle.euler_operators.specs.Common.{Point, IsIn, canonical, successor, edge_of, is_first, plus, minus, Model, cycle, items_of, holds, tail, tail_in, no_edge, no_face, no_point, content, solid_of, point_of, loop_of, after, cycle_of, is_number, Has, HasHalf, Sound, moved, Table, tables, same_table, first_false, effect}
+use Rattle.euler_operators.proofs.Common.{tick_same, successor_head, content_row, face_row, in-holds, minus_tail_row, get-put_other, in_use_within, get-put_here, put_turned, canonical_same, IsIn-get_or}
 use Rattle.euler_operators.specs.Table as table
-use Rattle.euler_operators.specs.Model.{Model, cycle, items_of, holds, tail, tail_in, no_edge, no_face, no_point, content, solid_of, point_of, loop_of, after, cycle_of, is_number}
-use Rattle.euler_operators.specs.Sound.{Has, HasHalf, Sound}
-use Rattle.euler_operators.proofs.Models.{content_row, face_row, in-holds, minus_tail_row}
-use Rattle.euler_operators.proofs.Tables.{get-put_other, in_use_within, get-put_here, put_turned}
-use Rattle.shapes.specs.Faces.{start}
-use Rattle.shapes.specs.Fresh.{Taken}
-use Rattle.shapes.specs.Prism.{riser, top_edge, next_place, with_side, with_sides, top_items}
+use Rattle.shapes.specs.Common.{start, Taken, riser, top_edge, next_place, with_side, with_sides, top_items}
 use Rattle.sweeps_laws.proofs.swept.Numbers.{top_cases}
 use Rattle.sweeps_laws.specs.prism.Ready.{Ready}
-use Rattle.std.specs.Prelude.{get_or, drop}
-use Rattle.std.proofs.lemmas.List.{append_assoc, drop_more}
-use Rattle.euler_operators.specs.Vectors.{moved}
-use Rattle.euler_operators.proofs.Rotations.{canonical_same}
-use Rattle.euler_operators.proofs.Std.{IsIn-get_or}
-use Rattle.euler_operators.specs.Table.{Table, tables, same_table}
-use Rattle.euler_operators.specs.Conditions.{first_false}
-use Rattle.euler_operators.specs.Effect.{effect}
+use Rattle.std.proofs.lemmas.List.{drop_more}
 use Rattle.euler_laws.specs.Laws.{AreAccepted, effects}
-use Rattle.euler_laws.proofs.Cases.{effect_keeps_sound}
+use Rattle.euler_laws.proofs.Common.{effect_keeps_sound, Around, apart_xs}
 use Rattle.sweeps_laws.specs.prism.Part.{lifted_part, prism_part}
 use Rattle.sweeps_laws.specs.prism.SweepOps.{raise, close}
 use Rattle.sweeps_laws.proofs.prism.Steps.{with_spur, with_chord, mev_does, mev_fits, mef_does, mef_fits}
-use Rattle.euler_laws.proofs.shared.KnownLoop.{Around, apart_xs}
 
 -- ---- numbers
 

@@ -1,25 +1,12 @@
 -- The steps of a loop's sweep, as they are taken one after the other.
-use Rattle.std.proofs.Common.{◌≡◌, ◌≢◌, ℕ, suc, ◌+◌, ◌-◌, ◌≤◌, ◌<◌, List, [], ◌∷◌, length, None, is_some, true≢false, unwrap_or, sym, ap, ◌∙◌, subst, arith}
-use Rattle.std.specs.Prelude.{get_or}
-use Rattle.euler_operators.specs.declared.Point.{Point}
-use Rattle.euler_operators.specs.Points.{IsInRange}
-use Rattle.euler_operators.specs.Vectors.{moved}
-use Rattle.euler_operators.specs.Items.{IsIn}
-use Rattle.euler_operators.proofs.Std.{IsIn-get_or}
-use Rattle.euler_operators.proofs.Tables.{get-put_other, in_use_within}
-use Rattle.euler_operators.specs.declared.Corner.TheVariants.{At}
-use Rattle.euler_operators.specs.HalfEdge.{edge_of, half, plus}
+use Rattle.std.proofs.Common.{◌≡◌, ◌≢◌, ℕ, suc, ◌+◌, ◌-◌, ◌≤◌, ◌<◌, List, [], ◌∷◌, length, None, is_some, true≢false, unwrap_or, sym, ap, ◌∙◌, subst, arith, get_or}
+use Rattle.euler_operators.specs.Common.{Point, IsInRange, moved, IsIn, At, edge_of, half, plus, Model, no_point, point_of, tail, HasHalf, first_false, effect}
+use Rattle.euler_operators.proofs.Common.{IsIn-get_or, get-put_other, in_use_within}
 use Rattle.euler_operators.specs.Table as table
-use Rattle.euler_operators.specs.Model.{Model, no_point, point_of, tail}
-use Rattle.euler_operators.specs.Sound.{HasHalf}
 use Rattle.euler_operators.specs.declared.Op.TheVariants.{Mev}
-use Rattle.euler_operators.specs.Conditions.{first_false}
-use Rattle.euler_operators.specs.Effect.{effect}
 use Rattle.euler_laws.specs.Laws.{AreAccepted, effects}
-use Rattle.euler_laws.proofs.Runs.{effects-append, AreAccepted-back}
-use Rattle.shapes.specs.Faces.{start}
-use Rattle.shapes.specs.Fresh.{Taken}
-use Rattle.shapes.specs.Prism.{riser}
+use Rattle.euler_laws.proofs.Common.{effects-append, AreAccepted-back}
+use Rattle.shapes.specs.Common.{start, Taken, riser}
 use Rattle.sweeps_laws.specs.prism.Part.{prism_part}
 use Rattle.sweeps_laws.specs.prism.SweepOps.{raise_item, raise, close, close_last, rounds, loop_ops}
 use Rattle.sweeps_laws.proofs.prism.Sides.{riser_is, half_there, old_edge, sides_vertices, part_tail}

@@ -1,29 +1,14 @@
 -- The loops of a face swept one after the other.
-use Rattle.std.proofs.Common.{◌≡◌, ◌≢◌, ℕ, zero, suc, ◌+◌, ◌-◌, ◌*◌, ◌≤◌, ◌<◌, List, [], ◌∷◌, ◌++◌, length, Some, None, is_some, sym, ap, ◌∙◌, subst, arith}
-use Rattle.std.specs.Prelude.{get_or, map}
-use Rattle.std.proofs.lemmas.List.{length-append, length-map}
-use Rattle.euler_operators.specs.declared.Point.{Point}
-use Rattle.euler_operators.specs.Points.{IsInRange}
-use Rattle.euler_operators.specs.Vectors.{moved}
-use Rattle.euler_operators.specs.Items.{count, IsIn, IsApart}
-use Rattle.euler_operators.proofs.Lists.{tick_same}
-use Rattle.euler_operators.proofs.Std.{IsIn-get_or}
-use Rattle.euler_operators.specs.declared.Corner.TheVariants.{At}
-use Rattle.euler_operators.specs.HalfEdge.{edge_of, half, plus}
+use Rattle.std.proofs.Common.{◌≡◌, ◌≢◌, ℕ, zero, suc, ◌+◌, ◌-◌, ◌*◌, ◌≤◌, ◌<◌, List, [], ◌∷◌, ◌++◌, length, Some, None, is_some, sym, ap, ◌∙◌, subst, arith, get_or, map, length-append}
+use Rattle.std.proofs.lemmas.List.{length-map}
+use Rattle.euler_operators.specs.Common.{Point, IsInRange, moved, count, IsIn, IsApart, At, edge_of, half, plus, face_of, Model, cycle, items_of, content, tail, point_of, solid_of, Sound, HasHalf}
+use Rattle.euler_operators.proofs.Common.{tick_same, IsIn-get_or, content_row, face_row, IsIn_rest, IsIn_head, get-put_other, in_use_within}
 use Rattle.euler_operators.specs.Table as table
-use Rattle.euler_operators.specs.Model.{face_of, Model, cycle, items_of, content, tail, point_of, solid_of}
-use Rattle.euler_operators.specs.Sound.{Sound, HasHalf}
-use Rattle.euler_operators.proofs.Models.{content_row, face_row}
-use Rattle.euler_operators.proofs.Members.{IsIn_rest}
-use Rattle.euler_operators.proofs.Rotations.{IsIn_head}
-use Rattle.euler_operators.proofs.Tables.{get-put_other, in_use_within}
 use Rattle.euler_operators.specs.declared.Op.{Op}
 use Rattle.euler_operators.specs.declared.Op.TheVariants.{Mev}
 use Rattle.euler_laws.specs.Laws.{AreAccepted, effects}
-use Rattle.euler_laws.proofs.Runs.{Leads, leads_none, leads_on, effects_keep_sound}
-use Rattle.shapes.specs.Faces.{start, vertices_on, vertices_in}
-use Rattle.shapes.specs.Fresh.{Taken}
-use Rattle.shapes.specs.Prism.{riser, top_items, with_sides, lifted, raised, raised_over, prism_from}
+use Rattle.euler_laws.proofs.Common.{Leads, leads_none, leads_on, effects_keep_sound}
+use Rattle.shapes.specs.Common.{start, vertices_on, vertices_in, Taken, riser, top_items, with_sides, lifted, raised, raised_over, prism_from}
 use Rattle.sweeps_laws.specs.prism.SweepOps.{close, close_last, rounds, loop_ops, taken_after, ops_from}
 use Rattle.sweeps_laws.proofs.prism.Sides.{riser_is, old_edge, old_start, sides_edges, sides_faces, sides_loops, sides_vertices, two_items, loop_within}
 use Rattle.sweeps_laws.proofs.prism.Loops.{loop_swept}

@@ -1,12 +1,10 @@
 -- Tables with rows put at the numbers after a, one after the other, and with one row rewritten.
-use Rattle.std.proofs.Common.{◌≡◌, ◌≢◌, ℕ, zero, suc, ◌+◌, ◌≤◌, ◌<◌, Bool, true, false, cond, nat_le, [], ◌∷◌, ◌++◌, Some, refl, sym, ap, subst, ◌∙◌, arith, ◌⊎◌, inl, inr, append-nil}
+use Rattle.std.proofs.Common.{◌≡◌, ◌≢◌, ℕ, zero, suc, ◌+◌, ◌≤◌, ◌<◌, Bool, true, false, cond, nat_le, [], ◌∷◌, ◌++◌, Some, refl, sym, ap, subst, ◌∙◌, arith, ◌⊎◌, inl, inr, append-nil, leb-true}
 use Rattle.std.proofs.lemmas.Bool.Decides.{nat_tests, eqb_tells}
-use Rattle.std.proofs.lemmas.Bool.{leb-true}
 use Rattle.euler_operators.specs.Table as table
-use Rattle.euler_operators.specs.Table.{Table}
-use Rattle.euler_operators.proofs.Tables.{get-put_here, get-put_other}
-use Rattle.euler_operators.proofs.Tests.{less_still}
-use Rattle.shapes.proofs.fresh.Rows.{all_where-put_last, greatest-put_last}
+use Rattle.euler_operators.specs.Common.{Table}
+use Rattle.euler_operators.proofs.Common.{get-put_here, get-put_other, less_still}
+use Rattle.shapes.proofs.Common.{all_where-put_last, greatest-put_last}
 
 -- a number is at most a, one of the n after a, or above these
 pub place_cases : (q a n : ℕ) → (q ≤ a) ⊎ (((i : ℕ) × (i < n) × (q ≡ a + 1 + i)) ⊎ (a + n < q))

@@ -1,20 +1,11 @@
 -- One loop of a face swept: the model after lies within its counters, and the other loops are the paths that they were.
 use Rattle.std.proofs.Common.{◌≡◌, ◌≢◌, ℕ, zero, suc, ◌+◌, ◌*◌, ◌≤◌, ◌<◌, Bool, true, false, List, [], ◌∷◌, ◌++◌, length, get_or, Option, Some, is_some, unwrap_or, refl, sym, ap, subst, ◌∙◌, arith, ◌⊎◌, inl, inr}
 use Rattle.std.proofs.lemmas.Bool.Decides.{eqb_tells}
-use Rattle.euler_operators.specs.declared.Point.{Point}
-use Rattle.euler_operators.specs.Items.{IsIn}
-use Rattle.euler_operators.proofs.Lists.{count-append, tick_other, IsIn_or_not}
-use Rattle.euler_operators.proofs.Std.{IsIn-get_or}
-use Rattle.euler_operators.specs.HalfEdge.{edge_of, is_first, plus, minus}
+use Rattle.euler_operators.specs.Common.{Point, IsIn, edge_of, is_first, plus, minus, Model, lone, EdgeRow, no_edge, items_of, tail, tail_in, content, face_of, outer, solid_of, Has}
+use Rattle.euler_operators.proofs.Common.{count-append, tick_other, IsIn_or_not, IsIn-get_or, plus_row, minus_row, greatest-map, get-put_here, get-put_other, same_outer, same_solid, never_lone}
 use Rattle.euler_operators.specs.Table as table
-use Rattle.euler_operators.specs.Model.{Model, lone, EdgeRow, no_edge, items_of, tail, tail_in, content, face_of, outer, solid_of}
-use Rattle.euler_operators.specs.Sound.{Has}
-use Rattle.euler_operators.proofs.Halves.{plus_row, minus_row}
-use Rattle.euler_operators.proofs.Tables.{greatest-map, get-put_here, get-put_other}
-use Rattle.euler_operators.proofs.Models.{same_outer, same_solid, never_lone}
-use Rattle.shapes.specs.Fresh.{Taken}
-use Rattle.shapes.specs.Prism.{riser, top_edge, top_items, next_place}
-use Rattle.shapes.proofs.fresh.Rows.{at_most_greatest}
+use Rattle.shapes.specs.Common.{Taken, riser, top_edge, top_items, next_place}
+use Rattle.shapes.proofs.Common.{at_most_greatest}
 use Rattle.sweeps_laws.proofs.swept.Filled.{place_cases, filled_greatest}
 use Rattle.sweeps_laws.proofs.swept.Numbers.{next_within, riser_most, top_most}
 use Rattle.sweeps_laws.proofs.swept.Sides.{start_kept, finish_kept, grown, item, side_face, side_items, side_loop, side_riser, side_top, faces_grown, edges_step}

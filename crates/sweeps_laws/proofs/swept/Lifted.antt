@@ -1,25 +1,13 @@
 -- One loop of a face swept: what the readers answer of the model after.
 use Rattle.std.proofs.Common.{◌≡◌, ◌≢◌, ℕ, ◌+◌, ◌≤◌, ◌<◌, true, false, cond, not, nat_eq, ◌&&◌, List, [], ◌∷◌, ◌++◌, length, get_or, Some, refl, sym, ap, subst, ◌∙◌, arith, inl, inr, append-nil}
 use Rattle.std.proofs.lemmas.Bool.Decides.{nat_tests, eqb_tells}
-use Rattle.euler_operators.specs.declared.Point.{Point}
-use Rattle.euler_operators.specs.Vectors.{moved}
-use Rattle.euler_operators.specs.Items.{IsIn, least, from, before}
-use Rattle.euler_operators.specs.Rings.{canonical, rotate_to}
-use Rattle.euler_operators.proofs.Lists.{from_at, before_at}
-use Rattle.euler_operators.proofs.Std.{IsIn-get_or}
-use Rattle.euler_operators.specs.HalfEdge.{edge_of, plus, minus}
+use Rattle.euler_operators.specs.Common.{Point, moved, IsIn, least, from, canonical, rotate_to, edge_of, plus, minus, map_rows, Model, lone, cycle, LoopRow, items_of, tail, content, face_of, outer, point_of, rings_of, Has}
+use Rattle.euler_operators.specs.Items.{before}
+use Rattle.euler_operators.proofs.Common.{from_at, before_at, IsIn-get_or, map_one, all_where_none, all_where-map, get-put_here, get-put_other, content_row, face_row, outer_row, plus_tail_row, minus_tail_row, same_content, same_face, same_outer, none_but}
 use Rattle.euler_operators.specs.Table as table
-use Rattle.euler_operators.specs.Table.{map_rows}
-use Rattle.euler_operators.specs.Model.{Model, lone, cycle, LoopRow, items_of, tail, content, face_of, outer, point_of, rings_of}
-use Rattle.euler_operators.specs.Sound.{Has}
-use Rattle.euler_operators.proofs.Tables.{map_one, all_where_none, all_where-map, get-put_here, get-put_other}
-use Rattle.euler_operators.proofs.Models.{content_row, face_row, outer_row, plus_tail_row, minus_tail_row, same_content, same_face, same_outer}
-use Rattle.euler_operators.proofs.Tests.{none_but}
-use Rattle.euler_laws.proofs.shared.Rows.{loop_row}
-use Rattle.shapes.specs.Faces.{start, finish}
-use Rattle.shapes.specs.Fresh.{Taken}
-use Rattle.shapes.specs.Prism.{riser, top_edge, top_items, next_place, lifted}
-use Rattle.shapes.proofs.fresh.Rows.{at_most_greatest}
+use Rattle.euler_laws.proofs.Common.{loop_row}
+use Rattle.shapes.specs.Common.{start, finish, Taken, riser, top_edge, top_items, next_place, lifted}
+use Rattle.shapes.proofs.Common.{at_most_greatest}
 use Rattle.sweeps_laws.proofs.swept.Filled.{place_cases, filled, filled_old, filled_new, filled_past, filled_none, same_search}
 use Rattle.sweeps_laws.proofs.swept.Numbers.{riser_above, top_above, next_within}
 use Rattle.sweeps_laws.proofs.swept.Sides.{Keeps, start_kept, finish_kept, grown, item, side_face, side_items, side_loop, faces_grown, loops_grown, keeps_grown, riser_row, top_row, point_grown}

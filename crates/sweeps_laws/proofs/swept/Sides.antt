@@ -1,22 +1,13 @@
 -- The tables of a model to which the sides over some items have been added.
 use Rattle.std.proofs.Common.{◌≡◌, ℕ, zero, suc, ◌+◌, ◌≤◌, ◌<◌, List, [], ◌∷◌, length, get_or, Some, refl, sym, ap, subst, ◌∙◌, arith, inl, inr}
 use Rattle.std.proofs.lemmas.Bool.Decides.{eqb_tells}
-use Rattle.euler_operators.specs.declared.Point.{Point}
-use Rattle.euler_operators.specs.Vectors.{moved}
-use Rattle.euler_operators.specs.Rings.{canonical}
-use Rattle.euler_operators.specs.HalfEdge.{mate, edge_of, plus, minus}
+use Rattle.euler_operators.specs.Common.{Point, moved, canonical, mate, edge_of, plus, minus, Model, cycle, FaceRow, LoopRow, EdgeRow, tail, point_of}
 use Rattle.euler_operators.specs.Table as table
-use Rattle.euler_operators.specs.Model.{Model, cycle, FaceRow, LoopRow, EdgeRow, tail, point_of}
-use Rattle.euler_operators.proofs.Halves.{edge_of-mate}
-use Rattle.euler_operators.proofs.Models.{point_row}
-use Rattle.euler_operators.proofs.Tables.{get-put_here, get-put_other}
-use Rattle.euler_operators.proofs.Tests.{less_still}
-use Rattle.shapes.specs.Faces.{start, finish}
-use Rattle.shapes.specs.Fresh.{Taken}
-use Rattle.shapes.specs.Prism.{riser, top_edge, next_place, with_side, with_sides}
+use Rattle.euler_operators.proofs.Common.{edge_of-mate, point_row, get-put_here, get-put_other, less_still}
+use Rattle.shapes.specs.Common.{start, finish, Taken, riser, top_edge, next_place, with_side, with_sides}
 use Rattle.sweeps_laws.proofs.swept.Filled.{filled, filled_old, filled_new}
 use Rattle.sweeps_laws.proofs.swept.Numbers.{riser_above, top_above, riser_apart, top_apart, riser_no_top}
-use Rattle.euler_laws.proofs.shared.Same.{same_tail, same_point}
+use Rattle.euler_laws.proofs.Common.{same_tail, same_point}
 
 -- edges up to e and vertices up to v answer as they did
 pub record Keeps (M N : Model) (e v : ℕ) : Type 0 where

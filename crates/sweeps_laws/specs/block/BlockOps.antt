@@ -1,10 +1,8 @@
 -- The Euler operators of which a block is made.
 use Rattle.std.specs.Prelude.{ℕ, ℤ, pos, List, ◌++◌}
-use Rattle.euler_operators.specs.declared.Point.{Point}
-use Rattle.euler_operators.specs.Model.{Model}
+use Rattle.euler_operators.specs.Common.{Point, Model}
 use Rattle.euler_operators.specs.declared.Op.{Op}
-use Rattle.shapes.specs.Lamina.{lamina_model, lamina_face}
-use Rattle.shapes.specs.Block.{vector, base_of}
+use Rattle.shapes.specs.Common.{lamina_model, lamina_face, vector, base_of}
 use Rattle.sweeps_laws.specs.lamina.Path.{lamina_operators}
 use Rattle.sweeps_laws.specs.prism.SweepOps.{sweep_ops}
 

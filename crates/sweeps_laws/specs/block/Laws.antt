@@ -1,10 +1,8 @@
 -- The laws of blocks, each over every sound model and every block that isn't refused.
 use Rattle.std.specs.Prelude.{◌≡◌, ℕ, ℤ, None}
-use Rattle.euler_operators.specs.declared.Point.{Point}
-use Rattle.euler_operators.specs.Model.{Model}
-use Rattle.euler_operators.specs.Sound.{Sound}
+use Rattle.euler_operators.specs.Common.{Point, Model, Sound}
 use Rattle.euler_laws.specs.Laws.{effects, AreAccepted}
-use Rattle.shapes.specs.Block.{block_refusal, block_model}
+use Rattle.shapes.specs.Common.{block_refusal, block_model}
 use Rattle.sweeps_laws.specs.block.BlockOps.{block_ops}
 
 -- each operator is accepted in its turn

@@ -1,12 +1,8 @@
 -- The laws of the lamina, over every sound model in which its conditions hold.
 use Rattle.std.specs.Prelude.{◌≡◌, ℕ, ℤ, pos, List, None}
-use Rattle.euler_operators.specs.declared.Point.{Point}
-use Rattle.euler_operators.specs.Model.{Model}
-use Rattle.euler_operators.specs.Sound.{Sound}
+use Rattle.euler_operators.specs.Common.{Point, Model, Sound}
 use Rattle.euler_laws.specs.Laws.{AreAccepted, effects}
-use Rattle.shapes.specs.Lamina.{lamina_refusal, lamina_model, lamina_face}
-use Rattle.shapes.specs.Prism.{prism_refusal}
-use Rattle.shapes.specs.Block.{vector, base_of, block_refusal}
+use Rattle.shapes.specs.Common.{lamina_refusal, lamina_model, lamina_face, prism_refusal, vector, base_of, block_refusal}
 use Rattle.sweeps_laws.specs.lamina.Path.{lamina_operators}
 
 -- none of the lamina's operators is refused

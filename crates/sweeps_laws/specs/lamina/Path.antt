@@ -1,16 +1,10 @@
 -- A lamina in the making: the models between its operators, and the operators.
 use Rattle.std.specs.Prelude.{ℕ, zero, suc, ◌+◌, ◌-◌, true, false, List, [], ◌∷◌, ◌++◌, length, get_or}
-use Rattle.euler_operators.specs.declared.Point.{Point}
-use Rattle.euler_operators.specs.declared.HalfEdge.{HalfEdge}
-use Rattle.euler_operators.specs.declared.Corner.{Corner}
-use Rattle.euler_operators.specs.declared.Corner.TheVariants.{At, Lone}
-use Rattle.euler_operators.specs.HalfEdge.{plus, minus}
+use Rattle.euler_operators.specs.Common.{Point, HalfEdge, Corner, At, Lone, plus, minus, Model, LoopContent, lone, cycle, no_point}
 use Rattle.euler_operators.specs.Table as table
-use Rattle.euler_operators.specs.Model.{Model, LoopContent, lone, cycle, no_point}
 use Rattle.euler_operators.specs.declared.Op.{Op}
 use Rattle.euler_operators.specs.declared.Op.TheVariants.{Mvfs, Mev, Mef}
-use Rattle.shapes.specs.Fresh.{Taken, taken_in}
-use Rattle.shapes.specs.Lamina.{with_points, with_path}
+use Rattle.shapes.specs.Common.{Taken, taken_in, with_points, with_path}
 
 -- the plus halves of j edges from e + 1 on, and the minus halves of these, the last first
 abbrev pub out : ℕ → ℕ → List ℕ

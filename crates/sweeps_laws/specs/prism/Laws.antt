@@ -1,10 +1,8 @@
 -- The laws of sweeps, each over every sound model and every sweep that isn't refused.
 use Rattle.std.specs.Prelude.{◌≡◌, ℕ, None}
-use Rattle.euler_operators.specs.declared.Point.{Point}
-use Rattle.euler_operators.specs.Model.{Model}
-use Rattle.euler_operators.specs.Sound.{Sound}
+use Rattle.euler_operators.specs.Common.{Point, Model, Sound}
 use Rattle.euler_laws.specs.Laws.{effects, AreAccepted}
-use Rattle.shapes.specs.Prism.{prism_refusal, prism_model}
+use Rattle.shapes.specs.Common.{prism_refusal, prism_model}
 use Rattle.sweeps_laws.specs.prism.SweepOps.{sweep_ops}
 
 -- each operator is accepted in its turn

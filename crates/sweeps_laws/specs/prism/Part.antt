@@ -1,14 +1,8 @@
 -- A loop that is being swept.
 use Rattle.std.specs.Prelude.{ℕ, ◌+◌, List, ◌∷◌, ◌++◌, length, get_or, drop}
-use Rattle.euler_operators.specs.declared.Point.{Point}
-use Rattle.euler_operators.specs.Vectors.{moved}
-use Rattle.euler_operators.specs.Rings.{canonical}
-use Rattle.euler_operators.specs.HalfEdge.{plus, minus}
+use Rattle.euler_operators.specs.Common.{Point, moved, canonical, plus, minus, Model, cycle, tail, solid_of}
 use Rattle.euler_operators.specs.Table as table
-use Rattle.euler_operators.specs.Model.{Model, cycle, tail, solid_of}
-use Rattle.shapes.specs.Faces.{start}
-use Rattle.shapes.specs.Fresh.{Taken}
-use Rattle.shapes.specs.Prism.{riser, with_sides, top_items}
+use Rattle.shapes.specs.Common.{start, Taken, riser, with_sides, top_items}
 
 -- the loop of the face then: up the first riser, along the top edges, down the riser at item i, and on from that item
 abbrev pub lifted_part : Taken → List ℕ → ℕ → List ℕ

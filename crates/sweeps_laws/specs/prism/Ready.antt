@@ -1,14 +1,8 @@
 -- A loop ready to be swept.
 use Rattle.std.specs.Prelude.{◌≡◌, ℕ, ◌+◌, ◌*◌, ◌≤◌, ◌<◌, List, length, Some, None}
-use Rattle.euler_operators.specs.declared.Point.{Point}
-use Rattle.euler_operators.specs.Points.{IsInRange}
-use Rattle.euler_operators.specs.Vectors.{moved}
-use Rattle.euler_operators.specs.Items.{IsIn}
+use Rattle.euler_operators.specs.Common.{Point, IsInRange, moved, IsIn, Model, cycle, Sound}
 use Rattle.euler_operators.specs.Table as table
-use Rattle.euler_operators.specs.Model.{Model, cycle}
-use Rattle.euler_operators.specs.Sound.{Sound}
-use Rattle.shapes.specs.Faces.{start}
-use Rattle.shapes.specs.Fresh.{Taken}
+use Rattle.shapes.specs.Common.{start, Taken}
 
 -- loop l of face f in a sound model holds the cycle hs; all numbers above those taken are free, and there are enough of them; the moved points are in range
 pub record Ready (M : Model) (c : Taken) (f l : ℕ) (d : Point) (hs : List ℕ) : Type 0 where

@@ -1,15 +1,9 @@
 -- The Euler operators of which a sweep is made.
 use Rattle.std.specs.Prelude.{ℕ, zero, suc, ◌+◌, ◌*◌, ◌-◌, List, [], ◌∷◌, ◌++◌, length, get_or}
-use Rattle.euler_operators.specs.declared.Point.{Point}
-use Rattle.euler_operators.specs.Vectors.{moved}
-use Rattle.euler_operators.specs.declared.Corner.TheVariants.{At}
-use Rattle.euler_operators.specs.HalfEdge.{half, plus, minus}
-use Rattle.euler_operators.specs.Model.{Model, items_of, content}
+use Rattle.euler_operators.specs.Common.{Point, moved, At, half, plus, minus, Model, items_of, content}
 use Rattle.euler_operators.specs.declared.Op.{Op}
 use Rattle.euler_operators.specs.declared.Op.TheVariants.{Mev, Mef}
-use Rattle.shapes.specs.Faces.{loops_of, start}
-use Rattle.shapes.specs.Fresh.{Taken, taken_in}
-use Rattle.shapes.specs.Prism.{riser, top_edge}
+use Rattle.shapes.specs.Common.{loops_of, start, Taken, taken_in, riser, top_edge}
 
 -- item h, the one at place i of a loop, gets the edge that rises from its start
 abbrev pub raise_item : Model → Taken → Point → ℕ → ℕ → Op

@@ -2,7 +2,7 @@ use Rattle.std.proofs.Common.{◌≡◌, suc, ◌+◌, pos, ap, subst, ◌∙◌
 use Rattle.sweeps.specs.Journal.{Journal, new_journal}
 use Rattle.sweeps.specs.Machine.{block, block_refusal}
 use Rattle.sweeps.specs.PlainMachine.{Machine, start, depth, held}
-use Rattle.sweeps.specs.Vectors.{origin}
+use Rattle.euler_operators.specs.Common.{origin}
 use Rattle.command_laws.specs.NewFaces.{last_face, IsFaceOf}
 use Rattle.block_machining.specs.Machines.{blank}
 use Rattle.block_machining.specs.Meeting.{top, near_side}

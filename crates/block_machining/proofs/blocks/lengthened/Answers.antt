@@ -1,6 +1,6 @@
 use Rattle.std.proofs.Common.{◌≡◌, ℕ, ℤ, pos, ◌+ℤ◌, refl, sym, ap, subst, ◌∙◌, arith}
 use Rattle.sweeps.specs.Measure.{six_volume}
-use Rattle.sweeps.specs.Model.{Model, solid_of}
+use Rattle.euler_operators.specs.Common.{Model, solid_of}
 use Rattle.sweeps.specs.PlainMachine.{held}
 use Rattle.gluing.specs.Machine.{glue, glue_refusal}
 use Rattle.command_laws.specs.Accepted.{AreLeft}

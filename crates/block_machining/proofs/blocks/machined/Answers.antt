@@ -1,5 +1,5 @@
 use Rattle.std.proofs.Common.{pos, sym, subst, arith, refl}
-use Rattle.sweeps.specs.declared.Point.{Point}
+use Rattle.euler_operators.specs.Common.{Point}
 use Rattle.sweeps.specs.Machine.{sweep_refusal}
 use Rattle.command_laws.specs.Accepted.{AreLeft}
 use Rattle.block_machining.specs.Meeting.{top}

@@ -1,7 +1,6 @@
-use Rattle.std.proofs.Common.{◌≡◌, ℕ, ℤ, suc, ◌<◌, length, false, List, [], ◌∷◌, pos, neg_ℤ, arith, refl, subst, sym, ap, ◌∙◌}
-use Rattle.std.specs.Prelude.{get_or}
-use Rattle.shapes.specs.split.Opening.{Caps, no_caps}
-use Rattle.sweeps.specs.Model.{Model}
+use Rattle.std.proofs.Common.{◌≡◌, ℕ, ℤ, suc, ◌<◌, length, false, List, [], ◌∷◌, pos, neg_ℤ, arith, refl, subst, sym, ap, ◌∙◌, get_or}
+use Rattle.shapes.specs.Common.{Caps, no_caps}
+use Rattle.euler_operators.specs.Common.{Model}
 use Rattle.command_laws.specs.Counted.{counts}
 use Rattle.split_caps.specs.Capped.{caps_of}
 use Rattle.block_machining.specs.Cutting.{IsCapAt}

@@ -1,5 +1,5 @@
 use Rattle.std.proofs.Common.{◌≡◌, suc, refl, sym, ap, ◌∙◌}
-use Rattle.sweeps.specs.Model.{Model}
+use Rattle.euler_operators.specs.Common.{Model}
 use Rattle.sweeps.specs.PlainMachine.{act_refusal, held}
 use Rattle.command_laws.specs.Counted.{counts}
 use Rattle.command_laws.specs.Operators.{counted_on, solid_in}

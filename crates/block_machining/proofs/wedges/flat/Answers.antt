@@ -3,7 +3,7 @@ use Rattle.sweeps.specs.Journal.{Journal, new_journal}
 use Rattle.sweeps.specs.Machine.{lamina, lamina_refusal}
 use Rattle.sweeps.specs.Measure.{is_flat}
 use Rattle.sweeps.specs.PlainMachine.{Machine, start, held}
-use Rattle.shapes.specs.Lamina.{lamina_face}
+use Rattle.shapes.specs.Common.{lamina_face}
 use Rattle.command_laws.specs.Commands.{IsLamina}
 use Rattle.command_laws.specs.Flat.{lie_flat}
 use Rattle.command_laws.specs.NewFaces.{last_face, IsFaceOf}

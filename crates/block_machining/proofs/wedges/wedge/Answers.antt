@@ -1,11 +1,8 @@
 use Rattle.std.proofs.Common.{◌≡◌, pos, ◌+ℤ◌, ◌*ℤ◌, sym, ap, subst, ◌∙◌, arith, refl}
-use Rattle.sweeps.specs.declared.Point.{Point}
+use Rattle.euler_operators.specs.Common.{Point, Model, solid_of, Has, dot, direction}
 use Rattle.sweeps.specs.Machine.{sweep_refusal}
 use Rattle.sweeps.specs.Measure.{six_volume, normal, plane_of}
-use Rattle.sweeps.specs.Model.{Model, solid_of}
-use Rattle.sweeps.specs.Sound.{Has}
 use Rattle.sweeps.specs.PlainMachine.{held}
-use Rattle.sweeps.specs.Vectors.{dot, direction}
 use Rattle.command_laws.specs.Accepted.{AreLeft}
 use Rattle.command_laws.specs.NewFaces.{IsFaceOf, plane_round}
 use Rattle.block_machining.specs.Machines.{triangle}

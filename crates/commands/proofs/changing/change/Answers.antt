@@ -1,5 +1,5 @@
 use Rattle.std.proofs.Common.{sym, ap, ◌∙◌}
-use Rattle.shapes.specs.Lamina.{lamina_refusal}
+use Rattle.shapes.specs.Common.{lamina_refusal}
 use Rattle.undo_journal.specs.Machine.{held}
 use Rattle.commands.proofs.Settling.{named, lacks_where_accepted, lacks_where_ended}
 use Rattle.commands.proofs.changing.change.Goals as goal

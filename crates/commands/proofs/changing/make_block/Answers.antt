@@ -1,7 +1,6 @@
-use Rattle.std.specs.Prelude.{◌↔◌}
-use Rattle.std.proofs.Common.{◌≡◌, Some, Err, w64}
+use Rattle.std.proofs.Common.{◌≡◌, Some, Err, w64, ◌↔◌}
 use Rattle.std.proofs.lemmas.Int.{to_z-of_z}
-use Rattle.shapes.specs.Block.{block_refusal}
+use Rattle.shapes.specs.Common.{block_refusal}
 use Rattle.undo_journal.specs.declared.session.Failure.TheVariants as failure
 use Rattle.undo_journal.specs.Machine.{held}
 use Rattle.sweeps.proofs.BlockSteps.{at_sizes}

@@ -1,5 +1,5 @@
 use Rattle.std.proofs.Common.{◌≡◌, [], ◌∷◌, refl, sym, ap, subst}
-use Rattle.euler_operators.specs.Effect.{inverse}
+use Rattle.euler_operators.specs.Common.{inverse}
 use Rattle.undo_journal.specs.Machine.{held}
 use Rattle.undo_journal.specs.Journal.{Journal, IsRecorded, after_act}
 use Rattle.commands.proofs.Settling.{settled_act}

@@ -1,5 +1,5 @@
 use Rattle.std.proofs.Common.{ap, ◌∙◌}
-use Rattle.euler_operators.specs.Model.{has_half, tail}
+use Rattle.euler_operators.specs.Common.{has_half, tail}
 use Rattle.euler_conditions.proofs.Coded.{coded}
 use Rattle.euler_conditions.proofs.codes.tail_of_code.Goals as goal
 

@@ -1,7 +1,6 @@
-use Rattle.std.proofs.Common.{sym, ap, ◌∙◌}
-use Rattle.std.proofs.lemmas.Bool.{eqb-true}
-use Rattle.euler_operators.specs.declared.Corner.TheVariants.{At}
-use Rattle.euler_operators.proofs.Halves.{same_code}
+use Rattle.std.proofs.Common.{sym, ap, ◌∙◌, eqb-true}
+use Rattle.euler_operators.specs.Common.{At}
+use Rattle.euler_operators.proofs.Common.{same_code}
 use Rattle.euler_conditions.proofs.corners.are_one.Goals as goal
 
 pub returns-in-At-to : goal.returns-in-At-to

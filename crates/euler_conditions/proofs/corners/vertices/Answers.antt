@@ -1,8 +1,6 @@
 use Rattle.std.proofs.Common.{rules, ◌≡◌, ℕ, Bool, true, false, cond, [], ◌∷◌, Result, None, Some, refl, sym, subst, ◌∙◌, true≢false}
-use Rattle.euler_operators.specs.declared.Corner.{Corner}
+use Rattle.euler_operators.specs.Common.{Corner, Model, corner_known, corner_lone, corner_tail, first_refusal}
 use Rattle.euler_operators.specs.declared.Refusal.{Refusal}
-use Rattle.euler_operators.specs.Model.{Model}
-use Rattle.euler_operators.specs.Conditions.{corner_known, corner_lone, corner_tail, first_refusal}
 use Rattle.euler_conditions.specs.Answer.{answer}
 use Rattle.euler_conditions.proofs.corners.vertices.Goals as goal
 

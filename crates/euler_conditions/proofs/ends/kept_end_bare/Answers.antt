@@ -1,6 +1,5 @@
 use Rattle.std.proofs.Common.{◌≡◌, true, not, nat_eq, ◌&&◌, sym, ap, ◌∙◌}
-use Rattle.euler_operators.specs.HalfEdge.{code, mate}
-use Rattle.euler_operators.specs.Model.{after}
+use Rattle.euler_operators.specs.Common.{code, mate, after}
 use Rattle.euler_conditions.proofs.ends.kept_end_bare.Goals as goal
 
 pub returns-then-same : goal.returns-then-same

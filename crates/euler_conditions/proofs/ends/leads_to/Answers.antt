@@ -1,6 +1,6 @@
 use Rattle.std.proofs.Common.{ap, ◌∙◌}
-use Rattle.euler_operators.specs.Model.{has_half, tail}
-use Rattle.euler_operators.proofs.Models.{mate_there}
+use Rattle.euler_operators.specs.Common.{has_half, tail}
+use Rattle.euler_operators.proofs.Common.{mate_there}
 use Rattle.euler_conditions.proofs.Known.{leads_far}
 use Rattle.euler_conditions.proofs.ends.leads_to.Goals as goal
 

@@ -1,11 +1,8 @@
 use Rattle.std.proofs.Common.{◌≡◌, subst, sym}
-use Rattle.euler_operators.specs.HalfEdge.{code}
-use Rattle.euler_operators.specs.Model.{after}
-use Rattle.euler_operators.specs.Sound.{HasHalf}
+use Rattle.euler_operators.specs.Common.{code, after, HasHalf}
 use Rattle.euler_conditions.proofs.Known.{in_a_loop}
 use Rattle.euler_conditions.proofs.halves.next.Goals as goal
-use Rattle.euler_laws.proofs.shared.Fans.{half_after}
-use Rattle.euler_laws.proofs.shared.Rows.{half_of, of_half}
+use Rattle.euler_laws.proofs.Common.{half_after, half_of, of_half}
 
 pub next-requires : goal.next-requires
 next-requires c = half_of c.args.arena.now.model c.args.h c.requires.there

@@ -1,8 +1,5 @@
-use Rattle.std.proofs.Common.{◌≡◌, not, [], ◌∷◌, sym, ap, ◌∙◌}
-use Rattle.std.proofs.lemmas.Bool.{ne_eqb}
-use Rattle.euler_operators.specs.HalfEdge.{code, mate}
-use Rattle.euler_operators.specs.Model.{loop_of}
-use Rattle.euler_operators.specs.Conditions.{conditions, first_false, numbers_in_range}
+use Rattle.std.proofs.Common.{◌≡◌, not, [], ◌∷◌, sym, ap, ◌∙◌, ne_eqb}
+use Rattle.euler_operators.specs.Common.{code, mate, loop_of, conditions, first_false, numbers_in_range}
 use Rattle.euler_operators.specs.declared.Why.TheVariants.{DifferentLoops}
 use Rattle.euler_conditions.proofs.Tests.{refuses, all_pass, passes, fails}
 use Rattle.euler_conditions.proofs.killing.check_kemr.Goals as goal

@@ -1,6 +1,6 @@
 use Rattle.std.proofs.Common.{ap, ◌∙◌, sym}
 use Rattle.euler_operators.specs.Table as table
-use Rattle.euler_operators.specs.Model.{faces_of}
+use Rattle.euler_operators.specs.Common.{faces_of}
 use Rattle.euler_conditions.proofs.Solids.{only_face_there, one_face, not_one_face}
 use Rattle.euler_conditions.proofs.killing.is_bare.Goals as goal
 

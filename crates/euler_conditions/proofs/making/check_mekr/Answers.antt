@@ -1,13 +1,9 @@
-use Rattle.std.proofs.Common.{◌≡◌, ◌≢◌, ℕ, ◌∙◌, false, not, nat_eq, refl, sym, ap, [], ◌∷◌, Ok, Err}
+use Rattle.std.proofs.Common.{◌≡◌, ◌≢◌, ℕ, ◌∙◌, false, not, nat_eq, refl, sym, ap, [], ◌∷◌, Ok, Err, ne_eqb, eq-eqb}
 use Rattle.std.proofs.lemmas.Result.{err_from_is_err_and}
-use Rattle.std.proofs.lemmas.Bool.{ne_eqb, eq-eqb}
-use Rattle.euler_operators.specs.declared.Corner.{Corner}
-use Rattle.euler_operators.specs.declared.HalfEdge.{HalfEdge}
+use Rattle.euler_operators.specs.Common.{Corner, HalfEdge, Model, face_of, is_ring_of, conditions, first_false, first_refusal, verdict, numbers_in_range, need, never, corner_number, corner_known, corner_lone, corner_loop, corner_tail}
 use Rattle.euler_operators.specs.Table as table
-use Rattle.euler_operators.specs.Model.{Model, face_of, is_ring_of}
 use Rattle.euler_operators.specs.declared.Why.TheVariants.{DifferentFaces, NotRing, SameTail}
 use Rattle.euler_operators.specs.declared.Op.TheVariants.{Mekr}
-use Rattle.euler_operators.specs.Conditions.{conditions, first_false, first_refusal, verdict, numbers_in_range, need, never, corner_number, corner_known, corner_lone, corner_loop, corner_tail}
 use Rattle.euler_conditions.proofs.Orders.{answer_refuses, middle_refuses}
 use Rattle.euler_conditions.proofs.Tests.{refuses, passes, fails, all_pass, answer_holds, same_numbers, other_numbers}
 use Rattle.euler_conditions.proofs.making.check_mekr.Goals as goal

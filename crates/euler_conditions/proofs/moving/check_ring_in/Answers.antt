@@ -1,9 +1,7 @@
-use Rattle.std.proofs.Common.{◌∙◌, sym, ap, [], ◌∷◌, Err}
+use Rattle.std.proofs.Common.{◌∙◌, sym, ap, [], ◌∷◌, Err, nat_eq}
 use Rattle.std.proofs.lemmas.Result.{err_from_is_err_and}
-use Rattle.euler_operators.specs.Conditions.{conditions, first_false, ring_and_face, never}
+use Rattle.euler_operators.specs.Common.{conditions, first_false, ring_and_face, never, face_of}
 use Rattle.euler_operators.specs.declared.Why.TheVariants.{SameFace}
-use Rattle.std.specs.Prelude.{nat_eq}
-use Rattle.euler_operators.specs.Model.{face_of}
 use Rattle.euler_conditions.proofs.Orders.{part_refuses}
 use Rattle.euler_conditions.proofs.moving.check_ring_in.Goals as goal
 

@@ -1,5 +1,4 @@
-use Rattle.std.proofs.Common.{sym, ◌∙◌}
-use Rattle.std.proofs.lemmas.Bool.{eq-eqb}
+use Rattle.std.proofs.Common.{sym, ◌∙◌, eq-eqb}
 use Rattle.euler_conditions.proofs.Borders.{not_empty, bad_all, bad_torn}
 use Rattle.euler_conditions.proofs.parts.is_bad_part.Goals as goal
 

@@ -1,6 +1,6 @@
 use Rattle.std.proofs.Common.{◌≡◌, [], ◌∷◌, Ok, Err, sym, ap, ◌∙◌}
 use Rattle.std.proofs.lemmas.Result.{err_from_is_err_and}
-use Rattle.euler_operators.specs.Conditions.{first_refusal, verdict, numbers_in_range, faces_known, faces_in}
+use Rattle.euler_operators.specs.Common.{first_refusal, verdict, numbers_in_range, faces_known, faces_in}
 use Rattle.euler_conditions.proofs.Orders.{part_refuses, part_holds}
 use Rattle.euler_conditions.proofs.Borders.{list_refused, solid_refused, taken_refused, faces_left, known_there}
 use Rattle.euler_conditions.proofs.parts.parts_known.Goals as goal

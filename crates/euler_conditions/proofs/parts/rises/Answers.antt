@@ -1,5 +1,5 @@
 use Rattle.std.proofs.Common.{◌-◌, drop, sym, ◌∙◌, arith, length-drop}
-use Rattle.euler_laws.proofs.shared.RisingLists.{short_rises}
+use Rattle.euler_laws.proofs.Common.{short_rises}
 use Rattle.euler_conditions.proofs.parts.rises.Goals as goal
 
 pub returns : goal.returns

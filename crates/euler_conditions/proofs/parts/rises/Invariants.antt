@@ -1,5 +1,5 @@
 use Rattle.std.proofs.Common.{◌≡◌, ◌-◌, drop}
-use Rattle.euler_operators.specs.Conditions.{strictly_rises}
+use Rattle.euler_operators.specs.Common.{strictly_rises}
 use Rattle.euler_conditions.proofs.parts.rises.Given as goal
 
 abbrev pub invariant-faces : goal.invariant-faces

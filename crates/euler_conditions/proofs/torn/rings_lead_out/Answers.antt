@@ -1,5 +1,4 @@
-use Rattle.euler_laws.proofs.shared.FaceRings.{ring_there}
-use Rattle.euler_laws.proofs.shared.Bounds.{ring_number}
+use Rattle.euler_laws.proofs.Common.{ring_there, ring_number}
 use Rattle.euler_conditions.proofs.Borders.{rings_met, rings_done}
 use Rattle.euler_conditions.proofs.torn.rings_lead_out.Goals as goal
 

@@ -1,5 +1,5 @@
 use Rattle.std.proofs.Common.{ℕ, ◌≡◌, ◌≤◌, ◌-◌, true}
-use Rattle.euler_operators.specs.Model.{is_ring_of}
+use Rattle.euler_operators.specs.Common.{is_ring_of}
 use Rattle.euler_conditions.specs.Parts.{StaysIn}
 use Rattle.euler_conditions.proofs.torn.rings_lead_out.Given as goal
 

@@ -1,6 +1,6 @@
 use Rattle.std.proofs.Common.{rules, ap, sym, ◌∙◌}
 use Rattle.shapes.specs.glue.Glue as shapes
-use Rattle.shapes.specs.glue.Glue.{glue_model}
+use Rattle.shapes.specs.Common.{glue_model}
 use Rattle.undo_journal.specs.Journal.{Journal, DraftJournal}
 use Rattle.undo_journal.specs.Machine.{accepted}
 use Rattle.gluing.specs.glue_checks.Conditions.{early_refusal}

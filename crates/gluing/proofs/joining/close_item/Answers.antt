@@ -1,9 +1,9 @@
 use Rattle.std.proofs.Common.{refl, ap}
 use Rattle.std.proofs.lemmas.Result.{on_ok_weaker}
-use Rattle.euler_operators.specs.HalfEdge.{code, half, mate, minus}
-use Rattle.euler_operators.proofs.Halves.{code-half}
+use Rattle.euler_operators.specs.Common.{code, half, mate, minus}
+use Rattle.euler_operators.proofs.Common.{code-half}
 use Rattle.undo_journal.specs.Journal.{DraftJournal}
-use Rattle.euler_laws.proofs.Runs.{next_goes, next_taken, all_taken}
+use Rattle.euler_laws.proofs.Common.{next_goes, next_taken, all_taken}
 use Rattle.undo_journal.proofs.Marks.{further_on}
 use Rattle.gluing.proofs.Remaining.{closing_left}
 use Rattle.gluing.proofs.joining.close_item.Goals as goal

@@ -1,9 +1,7 @@
 use Rattle.std.proofs.Common.{◌≡◌, ℕ, ◌+◌, ap, sym, arith}
-use Rattle.euler_operators.specs.Table.{greatest}
-use Rattle.euler_operators.specs.Model.{Model}
-use Rattle.shapes.specs.Fresh.{taken_in}
-use Rattle.shapes.proofs.fresh.Rows.{greatest_is}
-use Rattle.shapes.specs.glue.GlueOps.{fresh_edge}
+use Rattle.euler_operators.specs.Common.{greatest, Model}
+use Rattle.shapes.specs.Common.{taken_in, fresh_edge}
+use Rattle.shapes.proofs.Common.{greatest_is}
 use Rattle.gluing.proofs.joining.fresh_edge.Goals as goal
 
 counted : (M : Model) (n : ℕ) → greatest M.edges ≡ n → n + 1 ≡ fresh_edge M

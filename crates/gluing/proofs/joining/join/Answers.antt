@@ -1,16 +1,11 @@
 use Rattle.std.proofs.Common.{◌∙◌, ap, sym, subst}
 use Rattle.std.proofs.lemmas.Result.{on_ok_weaker}
-use Rattle.euler_operators.specs.Items.{head_or, last_or}
-use Rattle.euler_operators.specs.HalfEdge.{code, half}
-use Rattle.euler_operators.specs.Model.{before, after, outer, point_of}
-use Rattle.euler_operators.specs.Sound.{Sound, Has, HasHalf}
-use Rattle.euler_operators.proofs.Halves.{half-code}
+use Rattle.euler_operators.specs.Common.{head_or, last_or, code, half, before, after, outer, point_of, Sound, Has, HasHalf}
+use Rattle.euler_operators.proofs.Common.{half-code}
 use Rattle.euler_operators.specs.declared.Op.TheVariants.{Kef}
 use Rattle.undo_journal.specs.Journal.{DraftJournal}
-use Rattle.shapes.specs.Faces.{start}
+use Rattle.shapes.specs.Common.{start, rim, partner, glue_refusal, fresh_edge}
 use Rattle.solid_walks.proofs.face_walks_laws.HalfCodes.{codes_same, codes_differ}
-use Rattle.shapes.specs.glue.Glue.{rim, partner, glue_refusal}
-use Rattle.shapes.specs.glue.GlueOps.{fresh_edge}
 use Rattle.undo_journal.proofs.Marks.{further_on}
 use Rattle.gluing.proofs.Opened as opened
 use Rattle.gluing.proofs.Joined as joined

@@ -1,6 +1,5 @@
 use Rattle.std.proofs.Common.{length}
-use Rattle.euler_operators.specs.HalfEdge.{code}
-use Rattle.euler_operators.specs.Model.{cycle_of}
+use Rattle.euler_operators.specs.Common.{code, cycle_of}
 use Rattle.undo_journal.specs.Journal.{IsFurther}
 use Rattle.gluing.proofs.Joined.{Joining}
 use Rattle.gluing.proofs.joining.join.Given as goal

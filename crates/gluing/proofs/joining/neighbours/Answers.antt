@@ -1,4 +1,4 @@
-use Rattle.euler_operators.specs.HalfEdge.{code}
+use Rattle.euler_operators.specs.Common.{code}
 use Rattle.euler_conditions.proofs.Known.{in_a_loop}
 use Rattle.gluing.proofs.joining.neighbours.Goals as goal
 

@@ -1,9 +1,8 @@
 use Rattle.std.proofs.Common.{refl, ap, ◌∙◌}
 use Rattle.std.proofs.lemmas.Result.{on_ok_weaker}
-use Rattle.euler_operators.specs.HalfEdge.{half, plus}
-use Rattle.euler_operators.specs.Model.{solid_of}
+use Rattle.euler_operators.specs.Common.{half, plus, solid_of}
 use Rattle.undo_journal.specs.Journal.{DraftJournal}
-use Rattle.euler_laws.proofs.Runs.{next_goes, next_taken, all_taken}
+use Rattle.euler_laws.proofs.Common.{next_goes, next_taken, all_taken}
 use Rattle.undo_journal.proofs.Marks.{further_on}
 use Rattle.gluing.proofs.Remaining.{opening_left}
 use Rattle.gluing.proofs.joining.open_seam.Goals as goal

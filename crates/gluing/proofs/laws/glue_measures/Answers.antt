@@ -1,7 +1,7 @@
 use Rattle.std.proofs.Common.{ap, ◌∙◌}
-use Rattle.euler_operators.specs.Model.{solid_of}
+use Rattle.euler_operators.specs.Common.{solid_of}
 use Rattle.undo_journal.specs.Machine.{held}
-use Rattle.shapes.specs.Measure.{six_volume}
+use Rattle.shapes.specs.Common.{six_volume}
 use Rattle.gluing_laws.proofs.FromConditions.{glue_adds, glue_keeps_others}
 use Rattle.gluing.proofs.laws.glue_measures.Goals as goal
 

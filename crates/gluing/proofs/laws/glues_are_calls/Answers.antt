@@ -1,5 +1,5 @@
 use Rattle.std.proofs.Common.{ap, ◌∙◌}
-use Rattle.shapes.specs.glue.GlueOps.{glue_ops}
+use Rattle.shapes.specs.Common.{glue_ops}
 use Rattle.undo_journal.specs.Machine.{held, accepted}
 use Rattle.undo_journal.proofs.Consistent.{larger_commands_are_calls}
 use Rattle.gluing_laws.proofs.glue.Glued.{glue_accepted, glue_is_glued}

@@ -1,6 +1,5 @@
 use Rattle.std.proofs.Common.{sym, ap, ◌∙◌}
-use Rattle.euler_operators.specs.Items.{head_or, least}
-use Rattle.euler_operators.specs.HalfEdge.{code}
+use Rattle.euler_operators.specs.Common.{head_or, least, code}
 use Rattle.solid_walks.proofs.face_walks_laws.CycleWalks.{from_least}
 use Rattle.gluing.proofs.rims.first_item.Goals as goal
 

@@ -1,15 +1,9 @@
-use Rattle.std.proofs.Common.{◌∙◌, ℕ, Bool, ap, sym, subst, rules, tests, of_calls, is_some}
-use Rattle.std.specs.Prelude.{unwrap_or}
-use Rattle.std.specs.Option.{option_map}
+use Rattle.std.proofs.Common.{◌∙◌, ℕ, Bool, ap, sym, subst, rules, tests, of_calls, is_some, unwrap_or, option_map}
 use Rattle.std.proofs.lemmas.Iterator.Consumers.{YieldsList-from_first}
 use Rattle.std.proofs.lemmas.Iterator.Search.{find_from_yields_List}
-use Rattle.euler_operators.specs.Items.{IsIn}
-use Rattle.euler_operators.specs.Vectors.{same_point}
-use Rattle.euler_operators.specs.HalfEdge.{code}
-use Rattle.euler_operators.specs.Model.{content, outer}
-use Rattle.euler_operators.proofs.Crossings.{same_as}
-use Rattle.shapes.specs.Faces.{start}
-use Rattle.shapes.specs.glue.Glue.{rim}
+use Rattle.euler_operators.specs.Common.{IsIn, same_point, code, content, outer}
+use Rattle.euler_operators.proofs.Common.{same_as}
+use Rattle.shapes.specs.Common.{start, rim}
 use Rattle.solid_walks.proofs.face_walks_laws.Yielded.{serves_listed}
 use Rattle.solid_walks.proofs.lone_laws.Searches.{first_is}
 use Rattle.gluing.specs.Rims.{item_at}

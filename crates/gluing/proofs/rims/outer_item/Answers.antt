@@ -1,7 +1,5 @@
 use Rattle.std.proofs.Common.{ap, sym, subst, ◌∙◌}
-use Rattle.euler_operators.specs.Conditions.{is_lone}
-use Rattle.euler_operators.specs.Model.{content, items_of}
-use Rattle.euler_operators.specs.Sound.{Has}
+use Rattle.euler_operators.specs.Common.{is_lone, content, items_of, Has}
 use Rattle.gluing.proofs.rims.outer_item.Goals as goal
 
 pub some_item-requires-clause-there : goal.some_item-requires-clause-there

@@ -1,10 +1,8 @@
 use Rattle.std.proofs.Common.{◌∙◌, subst, rules, tests, of_calls}
 use Rattle.std.proofs.lemmas.Iterator.{YieldsList-from_map, items_from_collect}
 use Rattle.std.proofs.lemmas.Iterator.Consumers.{YieldsList-from_first, YieldsList-at}
-use Rattle.euler_operators.specs.HalfEdge.{code}
-use Rattle.euler_operators.specs.Items.{IsIn}
-use Rattle.shapes.specs.Faces.{start}
-use Rattle.shapes.specs.glue.Glue.{rim}
+use Rattle.euler_operators.specs.Common.{code, IsIn}
+use Rattle.shapes.specs.Common.{start, rim}
 use Rattle.solid_walks.proofs.face_walks_laws.Yielded.{serves_listed}
 use Rattle.gluing.proofs.Found.{rim_there}
 use Rattle.gluing.proofs.rims.outline.Goals as goal

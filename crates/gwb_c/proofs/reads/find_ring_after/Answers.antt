@@ -1,5 +1,5 @@
 use Rattle.std.proofs.Common.{subst}
-use Rattle.euler_operators.specs.Model.{Model}
+use Rattle.euler_operators.specs.Common.{Model}
 use Rattle.session_slots.specs.Reading.{IsRingAfter}
 use Rattle.session_slots.proofs.Acting.{seen}
 use Rattle.gwb_c.proofs.reads.find_ring_after.Goals as goal

@@ -1,5 +1,4 @@
-use Rattle.std.proofs.Common.{refl, arith}
-use Rattle.std.specs.Prelude.{◌-ℤ◌, ◌*ℤ◌}
+use Rattle.std.proofs.Common.{refl, arith, ◌-ℤ◌, ◌*ℤ◌}
 use Rattle.lattice.proofs.Magnitudes.{Told, held, product_told, difference_told}
 use Rattle.lattice.proofs.planes.cut_multiple.Goals as goal
 

@@ -1,5 +1,4 @@
-use Rattle.std.proofs.Common.{◌∙◌, arith}
-use Rattle.std.specs.Prelude.{◌+ℤ◌, ◌*ℤ◌}
+use Rattle.std.proofs.Common.{◌∙◌, arith, ◌+ℤ◌, ◌*ℤ◌}
 use Rattle.lattice.proofs.Magnitudes.{fits, held_is, sum_told}
 use Rattle.lattice.proofs.planes.height.Goals as goal
 

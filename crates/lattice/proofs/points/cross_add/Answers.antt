@@ -1,5 +1,4 @@
-use Rattle.std.proofs.Common.{◌≡◌, [], ◌∷◌, pos, get_or, ap, ◌∙◌, arith}
-use Rattle.std.specs.Prelude.{◌+ℤ◌, ◌-ℤ◌, ◌*ℤ◌}
+use Rattle.std.proofs.Common.{◌≡◌, [], ◌∷◌, pos, get_or, ap, ◌∙◌, arith, ◌+ℤ◌, ◌-ℤ◌, ◌*ℤ◌}
 use Rattle.lattice.proofs.Magnitudes.{coordinates, coordinate_held, minor_of, sum_told}
 use Rattle.lattice.proofs.points.cross_add.Goals as goal
 

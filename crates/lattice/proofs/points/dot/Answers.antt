@@ -1,5 +1,4 @@
-use Rattle.std.proofs.Common.{pos, get_or, ◌∙◌, arith}
-use Rattle.std.specs.Prelude.{◌+ℤ◌}
+use Rattle.std.proofs.Common.{pos, get_or, ◌∙◌, arith, ◌+ℤ◌}
 use Rattle.lattice.proofs.Magnitudes.{coordinates, coordinate_held, fits, held_within, times_of, made_of, sum_told}
 use Rattle.lattice.proofs.points.dot.Goals as goal
 

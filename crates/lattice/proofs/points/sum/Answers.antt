@@ -1,5 +1,4 @@
-use Rattle.std.proofs.Common.{rules}
-use Rattle.std.specs.Prelude.{FitsSigned}
+use Rattle.std.proofs.Common.{rules, FitsSigned}
 use mir.Syntax.{w64}
 use Rattle.lattice.specs.Vectors.{moved}
 use Rattle.lattice.proofs.Magnitudes.{coordinates, coordinate_sum, coordinate_sum_fits}

@@ -1,7 +1,6 @@
 use Rattle.std.proofs.Common.{ap, ◌∙◌}
 use Rattle.euler_operators.specs.Table as table
-use Rattle.euler_laws.proofs.mef.Kef.{kef_goes}
-use Rattle.euler_laws.proofs.shared.Rows.{of_half}
+use Rattle.euler_laws.proofs.Common.{kef_goes, of_half}
 use Rattle.low_euler.proofs.Accepted.{mate_there}
 use Rattle.low_euler.proofs.Inverses.{half_then, kef_inverse}
 use Rattle.low_euler.proofs.inverse.kef.Goals as goal

@@ -1,5 +1,4 @@
-use Rattle.euler_laws.proofs.kemr.Kemr.{kemr_goes}
-use Rattle.euler_laws.proofs.shared.Rows.{of_half}
+use Rattle.euler_laws.proofs.Common.{kemr_goes, of_half}
 use Rattle.low_euler.proofs.Accepted.{mate_there}
 use Rattle.low_euler.proofs.Inverses.{kemr_inverse}
 use Rattle.low_euler.proofs.inverse.kemr.Goals as goal

@@ -1,11 +1,10 @@
 use Rattle.std.proofs.Common.{ap, ◌∙◌}
-use Rattle.euler_operators.specs.HalfEdge.{code}
+use Rattle.euler_operators.specs.Common.{code}
 use Rattle.euler_operators.specs.Table as table
-use Rattle.euler_laws.proofs.kev.Kev.{kev_goes}
+use Rattle.euler_laws.proofs.Common.{kev_goes, half_of, of_half}
 use Rattle.low_euler.proofs.Accepted.{mate_there}
 use Rattle.low_euler.proofs.Inverses.{kev_inverse}
 use Rattle.low_euler.proofs.inverse.kev.Goals as goal
-use Rattle.euler_laws.proofs.shared.Rows.{half_of, of_half}
 
 pub tail-killed-requires : goal.tail-killed-requires
 tail-killed-requires c = half_of c.args.arena.now.model c.mate.result (mate_there c.args.arena.now.model c.args.h c.mate.result c.mate.ensures (of_half c.args.arena.now.model c.args.h (kev_goes c.args.arena.now.model c.args.h c.requires.ready.sound c.requires.accepted).h_there))

@@ -1,5 +1,4 @@
-use Rattle.euler_laws.proofs.kev.Kev.{kev_goes}
-use Rattle.euler_laws.proofs.shared.Rows.{of_half}
+use Rattle.euler_laws.proofs.Common.{kev_goes, of_half}
 use Rattle.low_euler.proofs.Accepted.{mate_there}
 use Rattle.std.proofs.Common.{true, false, refl, sym, ◌∙◌}
 use Rattle.low_euler.proofs.Inverses.{corners}

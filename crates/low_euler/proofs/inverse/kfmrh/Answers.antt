@@ -1,7 +1,7 @@
 use Rattle.std.proofs.Common.{ap}
-use Rattle.euler_operators.specs.Effect.{inverse}
+use Rattle.euler_operators.specs.Common.{inverse}
 use Rattle.euler_operators.specs.declared.Op.TheVariants.{Mfkrh}
-use Rattle.euler_laws.proofs.faces.Kfmrh.{kfmrh_goes}
+use Rattle.euler_laws.proofs.Common.{kfmrh_goes}
 use Rattle.low_euler.proofs.inverse.kfmrh.Goals as goal
 
 pub outer-ring-requires : goal.outer-ring-requires

@@ -1,7 +1,6 @@
 use Rattle.std.proofs.Common.{◌≡◌, is_some, true≢false, sym, ap, ◌∙◌}
 use Rattle.euler_operators.specs.Table as table
-use Rattle.euler_operators.specs.Model.{outer, content}
-use Rattle.euler_operators.specs.Conditions.{is_lone, lone_vertex}
+use Rattle.euler_operators.specs.Common.{outer, content, is_lone, lone_vertex}
 use Rattle.low_euler.proofs.vertex_operators_laws.SolidRows.{face_there, solid_there, outer_there, outer_lone, vertex_there, has_one_face}
 use Rattle.low_euler.proofs.Inverses.{kvfs_inverse}
 use Rattle.low_euler.proofs.inverse.kvfs.Goals as goal

@@ -1,5 +1,5 @@
 use Rattle.std.proofs.Common.{ap}
-use Rattle.euler_operators.specs.Effect.{inverse}
+use Rattle.euler_operators.specs.Common.{inverse}
 use Rattle.euler_operators.specs.declared.Op.TheVariants.{Kemr}
 use Rattle.low_euler.proofs.Accepted.{mekr_second}
 use Rattle.low_euler.proofs.inverse.mekr.Goals as goal

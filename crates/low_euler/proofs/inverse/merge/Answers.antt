@@ -1,7 +1,7 @@
 use Rattle.std.proofs.Common.{ap}
-use Rattle.euler_operators.specs.Effect.{inverse}
+use Rattle.euler_operators.specs.Common.{inverse}
 use Rattle.euler_operators.specs.declared.Op.TheVariants.{Part}
-use Rattle.euler_laws.proofs.merge.Merge.{merge_goes}
+use Rattle.euler_laws.proofs.Common.{merge_goes}
 use Rattle.low_euler.proofs.inverse.merge.Goals as goal
 
 pub in_use-requires : goal.in_use-requires

@@ -1,8 +1,7 @@
 use Rattle.std.proofs.Common.{ap, ◌∙◌}
-use Rattle.euler_operators.specs.Effect.{inverse}
-use Rattle.euler_operators.specs.Model.{outer}
+use Rattle.euler_operators.specs.Common.{inverse, outer}
 use Rattle.euler_operators.specs.declared.Op.TheVariants.{Outer}
-use Rattle.euler_laws.proofs.faces.RingOut.{ring_out_goes}
+use Rattle.euler_laws.proofs.Common.{ring_out_goes}
 use Rattle.low_euler.proofs.inverse.ring_out.Goals as goal
 
 pub outer-old-requires : goal.outer-old-requires

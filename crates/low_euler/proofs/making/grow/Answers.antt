@@ -1,5 +1,5 @@
 use Rattle.std.proofs.lemmas.Result.{on_ok_weaker}
-use Rattle.euler_operators.proofs.Models.{number_fits}
+use Rattle.euler_operators.proofs.Common.{number_fits}
 use Rattle.low_euler.proofs.Made.{least}
 use Rattle.low_euler.proofs.making.grow.Goals as goal
 

@@ -1,5 +1,4 @@
-use Rattle.std.specs.Prelude.{OnOk}
-use Rattle.std.proofs.Common.{refl, sym, subst}
+use Rattle.std.proofs.Common.{refl, sym, subst, OnOk}
 use Rattle.euler_operators.specs.declared.Op.{Op}
 use Rattle.euler_conditions.specs.Ready.{HasRoomFor, made}
 use Rattle.low_euler.specs.Room.{AllFit}

@@ -1,7 +1,7 @@
 use Rattle.std.specs.Prelude.{[], ◌∷◌}
 use Rattle.std.proofs.lemmas.Bool.{false≢true}
 use Rattle.std.proofs.lemmas.Result.{on_ok_weaker}
-use Rattle.euler_operators.specs.declared.Kind.TheVariants.{Solid, Face, Loop, Vertex}
+use Rattle.euler_operators.specs.Common.{Solid, Face, Loop, Vertex}
 use Rattle.low_euler.proofs.Made.{grown_more, room_kept}
 use Rattle.low_euler.proofs.making.room_for_solid.Goals as goal
 

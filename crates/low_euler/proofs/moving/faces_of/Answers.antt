@@ -1,5 +1,5 @@
 use Rattle.std.proofs.Common.{◌++◌, ◌∷◌, [], List, ℕ, sym, ap, subst, ◌∙◌, append_assoc}
-use Rattle.euler_operators.specs.Model.{faces_of}
+use Rattle.euler_operators.specs.Common.{faces_of}
 use Rattle.euler_conditions.specs.Store.{IsNextFace}
 use Rattle.low_euler.proofs.Faces.{faces_above, next_faces, no_faces, all_faces, all_met, some_listed}
 use Rattle.low_euler.proofs.moving.faces_of.Goals as goal

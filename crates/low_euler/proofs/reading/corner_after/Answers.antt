@@ -1,7 +1,5 @@
 use Rattle.std.proofs.Common.{◌≡◌, true, false, cond, nat_eq, sym, ap, ◌∙◌}
-use Rattle.euler_operators.specs.HalfEdge.{code, half}
-use Rattle.euler_operators.specs.Model.{after}
-use Rattle.euler_operators.specs.declared.Corner.TheVariants.{At, Lone}
+use Rattle.euler_operators.specs.Common.{code, half, after, At, Lone}
 use Rattle.low_euler.proofs.Inverses.{half_then}
 use Rattle.low_euler.proofs.reading.corner_after.Goals as goal
 

@@ -1,6 +1,6 @@
 use Rattle.std.proofs.Common.{[], Ok, sym, ap, subst, ◌∙◌}
-use Rattle.euler_operators.specs.Conditions.{verdict}
-use Rattle.shapes.specs.split.Split.{split_above}
+use Rattle.euler_operators.specs.Common.{verdict}
+use Rattle.shapes.specs.Common.{split_above}
 use Rattle.split_drawing.specs.Noted.{AreSides}
 use Rattle.split_drawing.specs.Progress.{drawing_of}
 use Rattle.split_sections.specs.section_checks.Sections.{IsSection}

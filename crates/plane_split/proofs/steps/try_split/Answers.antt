@@ -1,6 +1,6 @@
 use Rattle.std.proofs.Common.{Ok, Err, sym, ap, ◌∙◌}
-use Rattle.shapes.specs.split.Split.{split_refusal}
-use Rattle.euler_laws.proofs.shared.Goes.{verdict_passed, verdict_failed}
+use Rattle.shapes.specs.Common.{split_refusal}
+use Rattle.euler_laws.proofs.Common.{verdict_passed, verdict_failed}
 use Rattle.plane_split.proofs.Conditions.{same_refusal}
 use Rattle.plane_split.proofs.steps.try_split.Goals as goal
 

@@ -41,7 +41,7 @@ use lib.ListN.{length}
 use types.Kit.{flt_l, flt_i}
 use types.Run.{bin}
 use denote.Builtin.{usize}
-use Rattle.std.specs.Prelude.{None}
+use Rattle.std.specs.Prelude.{None, IfOk, Ok, Err}
 use Rattle.core.proofs.mem.Param.{El, R, elτ}
 use Rattle.std_alloc.proofs.RawLayout.{as_written}
 use Rattle.circular_buffer.specs.Ownership.{slots}
@@ -67,7 +67,6 @@ use denote.Struct.Struct.{Struct, Struct-Makes}
 use denote.Struct.Declared as Declared
 use denote.Triple.Statement.{Triple}
 use denote.Triple.Call.{calls_at}
-use Rattle.std.specs.Prelude.{IfOk, Ok, Err}
 use Rattle.std.specs.Vec.Ownership.{FitsInBlock}
 use Rattle.core.specs.contracts.result.Result as RS
 use Rattle.core.specs.contracts.alloc.AllocError as AE

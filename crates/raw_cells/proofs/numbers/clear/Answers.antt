@@ -1,6 +1,5 @@
-use Rattle.std.proofs.Common.{◌*◌, ◌/◌, ◌%◌, ◌^◌, bit_and}
-use Rattle.std.specs.Int.{bit_not, w64}
-use Rattle.std.proofs.lemmas.List.{length-set, get_or-set_other}
+use Rattle.std.proofs.Common.{◌*◌, ◌/◌, ◌%◌, ◌^◌, bit_and, w64, length-set, get_or-set_other}
+use Rattle.std.specs.Int.{bit_not}
 use Rattle.raw_cells.proofs.numbers_laws.Words.{uses_cleared}
 use Rattle.raw_cells.proofs.numbers.clear.Goals as goal
 

@@ -1,5 +1,4 @@
-use Rattle.std.proofs.Common.{◌*◌, ◌/◌, ◌%◌, ◌^◌, bit_or}
-use Rattle.std.proofs.lemmas.List.{length-set, get_or-set_other}
+use Rattle.std.proofs.Common.{◌*◌, ◌/◌, ◌%◌, ◌^◌, bit_or, length-set, get_or-set_other}
 use Rattle.raw_cells.proofs.numbers_laws.Words.{uses_set}
 use Rattle.raw_cells.proofs.numbers.set.Goals as goal
 

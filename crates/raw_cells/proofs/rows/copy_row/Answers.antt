@@ -1,6 +1,4 @@
-use Rattle.std.proofs.Common.{true≢false, sym, ap, ◌∙◌, length, Some, None}
-use Rattle.std.specs.Prelude.{slice_index_or}
-use Rattle.std.proofs.lemmas.List.{length-set, get_or-set_same, get_or-set_other}
+use Rattle.std.proofs.Common.{true≢false, sym, ap, ◌∙◌, length, Some, None, slice_index_or, length-set, get_or-set_same, get_or-set_other}
 use Rattle.raw_cells.proofs.rows.copy_row.Goals as goal
 
 pub put-requires : goal.put-requires

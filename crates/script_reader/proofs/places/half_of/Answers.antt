@@ -1,5 +1,5 @@
 use Rattle.std.proofs.Common.{true, false, Bool, Option, Some, List, ℕ, rules, ap, sym, ◌∙◌}
-use Rattle.euler_operators.specs.declared.HalfEdge.{HalfEdge}
+use Rattle.euler_operators.specs.Common.{HalfEdge}
 use Rattle.script_reader.proofs.NumberLaws.{no_half, some_half}
 use Rattle.script_reader.proofs.places.half_of.Goals as goal
 use Rattle.script_reader.proofs.places.half_of.Goals.{in-43, in-45}

@@ -1,6 +1,5 @@
-use Rattle.std.proofs.Common.{rules, arith, ◌≢◌, [], length, ◌<◌}
+use Rattle.std.proofs.Common.{rules, arith, ◌≢◌, [], length, ◌<◌, length-append}
 use Rattle.std.proofs.lemmas.Result.{err_from_is_err_and}
-use Rattle.std.proofs.lemmas.List.{length-append}
 use Rattle.std.proofs.lemmas.Grind.{common_steps}
 use Rattle.script_reader.specs.Words.{words}
 use Rattle.script_reader.specs.Places.{points_of}

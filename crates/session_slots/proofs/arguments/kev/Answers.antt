@@ -1,5 +1,5 @@
 use Rattle.std.proofs.Common.{ap}
-use Rattle.euler_operators.specs.declared.HalfEdge.{HalfEdge}
+use Rattle.euler_operators.specs.Common.{HalfEdge}
 use Rattle.euler_operators.specs.declared.Op.TheVariants as operator
 use Rattle.session_slots.proofs.arguments.kev.Goals as goal
 

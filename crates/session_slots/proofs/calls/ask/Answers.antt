@@ -1,5 +1,5 @@
 use Rattle.std.proofs.Common.{◌∙◌, refl, ap}
-use Rattle.euler_operators.specs.Model.{Model}
+use Rattle.euler_operators.specs.Common.{Model}
 use Rattle.commands.specs.Telling.{asked, shown}
 use Rattle.commands.specs.declared.command.Told.{Told}
 use Rattle.session_slots.specs.Slots.{answer_after}

@@ -1,5 +1,5 @@
 use Rattle.std.proofs.Common.{length}
-use Rattle.euler_operators.specs.Model.{cycle_of}
+use Rattle.euler_operators.specs.Common.{cycle_of}
 use Rattle.solid_walks.proofs.face_walks_laws.CycleWalks.{to_come}
 use Rattle.session_slots.proofs.CycleRounds.{CycleRound}
 use Rattle.session_slots.proofs.cycles.write_from.Given as goal

@@ -1,6 +1,5 @@
 use Rattle.std.proofs.Common.{◌∙◌, sym, ap, subst}
-use Rattle.euler_operators.specs.Model.{content, loop_of, cycle_of}
-use Rattle.euler_operators.specs.Sound.{HasHalf}
+use Rattle.euler_operators.specs.Common.{content, loop_of, cycle_of, HasHalf}
 use Rattle.solid_listing.proofs.Contents.{not_empty, told_there}
 use Rattle.solid_walks.proofs.face_walks_laws.HalfCodes.{edge_fits}
 use Rattle.session_slots.proofs.Numbers.{told_cycle, told_loop, lone_items}

@@ -1,5 +1,5 @@
 use Rattle.std.proofs.Common.{◌∙◌, List, subst}
-use Rattle.euler_operators.specs.declared.Point.{Point}
+use Rattle.euler_operators.specs.Common.{Point}
 use Rattle.commands.specs.declared.command.Change.TheVariants as change
 use Rattle.session_slots.specs.Lines.{changes, Slot_says}
 use Rattle.session_slots.proofs.lines.carry_lamina.Goals as goal

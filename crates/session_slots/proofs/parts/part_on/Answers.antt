@@ -2,7 +2,7 @@ use Rattle.std.proofs.Common.{◌≡◌, inl, ◌∙◌, get_or, Option, Some, N
 use Rattle.euler_operators.specs.declared.Op.{Op}
 use Rattle.euler_operators.specs.declared.Op.TheVariants as operator
 use Rattle.euler_operators.specs.declared.Refusal.{Refusal}
-use Rattle.euler_operators.specs.Model.{Model, solid_of}
+use Rattle.euler_operators.specs.Common.{Model, solid_of}
 use Rattle.solid_measure.specs.Measure.{face_refusal}
 use Rattle.commands.specs.declared.command.Change.TheVariants as change
 use Rattle.commands.specs.declared.command.Command.TheVariants as command

@@ -1,4 +1,4 @@
-use Rattle.euler_operators.proofs.Models.{number_fits}
+use Rattle.euler_operators.proofs.Common.{number_fits}
 use Rattle.session_slots.proofs.readers.code_after.Goals as goal
 
 pub code-requires : goal.code-requires

@@ -1,7 +1,6 @@
 use Rattle.std.proofs.Common.{◌≡◌, ◌∙◌, ap}
-use Rattle.euler_operators.specs.HalfEdge.{plus, minus}
-use Rattle.euler_operators.specs.Model.{tail, has_half}
-use Rattle.euler_operators.proofs.Models.{mate_there}
+use Rattle.euler_operators.specs.Common.{plus, minus, tail, has_half}
+use Rattle.euler_operators.proofs.Common.{mate_there}
 use Rattle.solid_walks.proofs.face_walks_laws.HalfCodes.{code_plus, mate_plus, plus_there}
 use Rattle.session_slots.proofs.readers.ends.Goals as goal
 

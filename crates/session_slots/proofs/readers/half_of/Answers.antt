@@ -1,6 +1,6 @@
 use Rattle.std.proofs.Common.{◌∙◌, ap, sym}
-use Rattle.euler_operators.specs.HalfEdge.{code, edge_of}
-use Rattle.euler_operators.proofs.Halves.{code-half, edge_of-code}
+use Rattle.euler_operators.specs.Common.{code, edge_of}
+use Rattle.euler_operators.proofs.Common.{code-half, edge_of-code}
 use Rattle.session_slots.proofs.readers.half_of.Goals as goal
 
 pub returns : goal.returns

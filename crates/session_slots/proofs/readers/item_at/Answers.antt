@@ -1,5 +1,5 @@
 use Rattle.std.proofs.Common.{Some, subst, sym, ℕ}
-use Rattle.euler_operators.specs.Model.{content}
+use Rattle.euler_operators.specs.Common.{content}
 use Rattle.euler_conditions.proofs.Known.{filled}
 use Rattle.solid_listing.proofs.Contents.{told_there}
 use Rattle.solid_walks.proofs.face_walks_laws.HalfCodes.{edge_fits}

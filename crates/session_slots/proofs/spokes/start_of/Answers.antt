@@ -1,5 +1,5 @@
 use Rattle.std.proofs.Common.{◌+◌, ◌*◌, ap}
-use Rattle.euler_operators.specs.Model.{tail}
+use Rattle.euler_operators.specs.Common.{tail}
 use Rattle.session_slots.specs.declared.readers.EdgeRow.{EdgeRow}
 use Rattle.session_slots.proofs.Spoken.{first, second, starts, neither}
 use Rattle.session_slots.proofs.spokes.start_of.Goals as goal

@@ -1,6 +1,6 @@
 use Rattle.std.proofs.Common.{◌∙◌, ap, sym, ◌∷◌, map, length, arith, refl}
 use Rattle.std.proofs.lemmas.Result.{err_from_is_err_and}
-use Rattle.euler_operators.specs.HalfEdge.{code}
+use Rattle.euler_operators.specs.Common.{code}
 use Rattle.solid_listing.specs.Lines.{spaced}
 use Rattle.solid_listing.specs.Listing.{half_word}
 use Rattle.solid_walks.proofs.face_walks_laws.HalfCodes.{codes_same, codes_differ}

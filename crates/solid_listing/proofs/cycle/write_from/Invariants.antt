@@ -1,7 +1,5 @@
 use Rattle.std.proofs.Common.{◌∷◌, length, map}
-use Rattle.euler_operators.specs.Items.{IsIn}
-use Rattle.euler_operators.specs.HalfEdge.{code}
-use Rattle.euler_operators.specs.Model.{cycle_of}
+use Rattle.euler_operators.specs.Common.{IsIn, code, cycle_of}
 use Rattle.solid_listing.specs.Lines.{spaced}
 use Rattle.solid_listing.specs.Listing.{half_word}
 use Rattle.solid_walks.proofs.face_walks_laws.CycleWalks.{to_come}

@@ -1,5 +1,5 @@
 use Rattle.std.proofs.Common.{ap, subst, ℕ, List}
-use Rattle.euler_operators.specs.Model.{content}
+use Rattle.euler_operators.specs.Common.{content}
 use Rattle.solid_listing.specs.Lines.{spaced}
 use Rattle.solid_listing.specs.Listing.{content_words}
 use Rattle.solid_listing.specs.Writing.{outgoing, Tells}

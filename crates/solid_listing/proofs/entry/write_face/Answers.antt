@@ -1,7 +1,6 @@
 use Rattle.std.proofs.Common.{◌≡◌, sym, subst, ℕ, List, [], ◌∷◌, ◌++◌, map, codes, decimal}
 use Rattle.std.proofs.lemmas.Result.{err_from_is_err_and}
-use Rattle.euler_operators.specs.declared.Kind.TheVariants.{Face}
-use Rattle.euler_operators.specs.Model.{Model, solid_of, outer, rings_of}
+use Rattle.euler_operators.specs.Common.{Face, Model, solid_of, outer, rings_of}
 use Rattle.solid_listing.specs.Lines.{spaced, line_text}
 use Rattle.solid_listing.specs.Listing.{line}
 use Rattle.solid_listing.specs.Writing.{Gathers, outgoing}

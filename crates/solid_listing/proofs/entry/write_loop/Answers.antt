@@ -1,7 +1,6 @@
 use Rattle.std.proofs.Common.{◌≡◌, sym, subst, ℕ, List, [], ◌∷◌, ◌++◌, codes, decimal}
 use Rattle.std.proofs.lemmas.Result.{err_from_is_err_and}
-use Rattle.euler_operators.specs.declared.Kind.TheVariants.{Loop}
-use Rattle.euler_operators.specs.Model.{Model, content}
+use Rattle.euler_operators.specs.Common.{Loop, Model, content}
 use Rattle.solid_listing.specs.Lines.{spaced, line_text}
 use Rattle.solid_listing.specs.Listing.{line, content_words}
 use Rattle.solid_listing.specs.Writing.{outgoing}

@@ -1,5 +1,5 @@
 use Rattle.std.proofs.Common.{length, map, decimal}
-use Rattle.euler_operators.specs.Model.{rings_of}
+use Rattle.euler_operators.specs.Common.{rings_of}
 use Rattle.solid_listing.specs.Lines.{spaced}
 use Rattle.solid_walks.proofs.face_walks_laws.Above.{above}
 use Rattle.solid_listing.proofs.TellingLaws.{Telling}

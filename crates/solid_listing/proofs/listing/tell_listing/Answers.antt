@@ -1,5 +1,5 @@
 use Rattle.std.proofs.Common.{sym, subst, List, ℕ}
-use Rattle.euler_operators.specs.declared.Kind.TheVariants.{Solid}
+use Rattle.euler_operators.specs.Common.{Solid}
 use Rattle.euler_conditions.specs.Store.{IsGreatest}
 use Rattle.solid_listing.specs.Writing.{outgoing, Tells}
 use Rattle.solid_listing.proofs.EmptyModels.{empty_text, lines_text}

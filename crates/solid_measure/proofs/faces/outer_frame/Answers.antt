@@ -1,12 +1,9 @@
 use Rattle.std.proofs.Common.{◌≡◌, refl, ap, ◌∙◌}
-use Rattle.euler_operators.specs.declared.Content.{Content}
-use Rattle.euler_operators.specs.declared.HalfEdge.{HalfEdge}
-use Rattle.euler_operators.specs.Items.{head_or}
-use Rattle.euler_operators.specs.Model.{Model, LoopContent, lone, cycle, content, items_of, point_of}
+use Rattle.euler_operators.specs.Common.{Content, HalfEdge, head_or, Model, LoopContent, lone, cycle, content, items_of, point_of}
 use Rattle.euler_operators.specs.Table as table
 use Rattle.solid_walks.specs.Store.{Tells}
 use Rattle.solid_walks.proofs.Known.{filled}
-use Rattle.shapes.specs.Faces.{start}
+use Rattle.shapes.specs.Common.{start}
 use Rattle.solid_measure.specs.Measure.{first_vertex}
 use Rattle.solid_measure.proofs.faces.outer_frame.Goals as goal
 

@@ -1,9 +1,6 @@
 use Rattle.std.proofs.Common.{sym, ap, subst, ◌∙◌, arith}
-use Rattle.euler_operators.specs.Ranges.{IsVectorWithin}
-use Rattle.euler_operators.specs.Vectors.{moved}
-use Rattle.euler_operators.specs.Model.{items_of, content}
-use Rattle.euler_laws.proofs.shared.FaceRings.{ring_there}
-use Rattle.euler_laws.proofs.shared.Bounds.{ring_number}
+use Rattle.euler_operators.specs.Common.{IsVectorWithin, moved, items_of, content}
+use Rattle.euler_laws.proofs.Common.{ring_there, ring_number}
 use Rattle.solid_measure.specs.Measure.{area, area_limit}
 use Rattle.solid_measure.proofs.Boundaries.{area_to_limited, area_to_start, area_to_next, area_to_end}
 use Rattle.solid_measure.proofs.faces.rings_added.Goals as goal

@@ -1,6 +1,6 @@
 use Rattle.std.proofs.Common.{ap, ◌∙◌, arith}
-use Rattle.euler_operators.specs.Vectors.{dot}
-use Rattle.euler_operators.proofs.Magnitudes.{fits, held_is}
+use Rattle.euler_operators.specs.Common.{dot}
+use Rattle.euler_operators.proofs.Common.{fits, held_is}
 use Rattle.solid_measure.specs.Measure.{read}
 use Rattle.solid_measure.proofs.Planes.{held_vector_is}
 use Rattle.solid_measure.proofs.Volumes.{face_volume}

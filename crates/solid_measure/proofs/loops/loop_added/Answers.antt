@@ -1,4 +1,4 @@
-use Rattle.euler_operators.specs.Model.{content}
+use Rattle.euler_operators.specs.Common.{content}
 use Rattle.solid_walks.proofs.Known.{filled}
 use Rattle.solid_walks.proofs.Borders.{ring_has}
 use Rattle.solid_measure.specs.Measure.{read}

@@ -1,9 +1,6 @@
-use Rattle.std.proofs.Common.{◌∙◌, ap}
-use Rattle.std.specs.Prelude.{map}
+use Rattle.std.proofs.Common.{◌∙◌, ap, map}
 use Rattle.std.specs.List.{list_all}
-use Rattle.euler_operators.specs.Vectors.{is_on}
-use Rattle.euler_operators.specs.HalfEdge.{code}
-use Rattle.euler_operators.specs.Model.{content, point_of, tail}
+use Rattle.euler_operators.specs.Common.{is_on, code, content, point_of, tail}
 use Rattle.solid_walks.proofs.Known.{filled}
 use Rattle.solid_walks.proofs.Borders.{ring_has}
 use Rattle.solid_walks.proofs.face_walks_laws.CycleWalks.{item_of}

@@ -1,13 +1,9 @@
 use Rattle.std.proofs.Common.{◌∙◌, sym, subst, rules, tests, of_calls}
 use Rattle.std.proofs.lemmas.Iterator.Consumers.{YieldsList-from_first}
 use Rattle.std.proofs.lemmas.Iterator.Search.{all_from_yields_List}
-use Rattle.euler_operators.specs.Vectors.{is_on}
-use Rattle.euler_operators.specs.Rings.{rotate_to}
-use Rattle.euler_operators.proofs.Rotations.{rotate_to-rotates}
-use Rattle.euler_operators.specs.HalfEdge.{code}
-use Rattle.euler_operators.specs.Model.{cycle_of, point_of, tail}
-use Rattle.shapes.specs.Faces.{start}
-use Rattle.euler_operators.specs.Items.{IsIn}
+use Rattle.euler_operators.specs.Common.{is_on, rotate_to, code, cycle_of, point_of, tail, IsIn}
+use Rattle.euler_operators.proofs.Common.{rotate_to-rotates}
+use Rattle.shapes.specs.Common.{start}
 use Rattle.solid_walks.proofs.face_walks_laws.CycleWalks.{round_there}
 use Rattle.solid_walks.proofs.face_walks_laws.Yielded.{serves_listed}
 use Rattle.solid_measure.proofs.FlatFaces.{all_turned, all_mapped}

@@ -1,9 +1,6 @@
 use Rattle.std.proofs.Common.{◌≡◌, ◌≢◌, ℕ, ◌+◌, ◌-◌, refl, sym, ap, subst, ◌∙◌, arith}
-use Rattle.euler_operators.specs.HalfEdge.{code}
-use Rattle.euler_operators.specs.Vectors.{origin}
-use Rattle.euler_operators.specs.Model.{has_half}
-use Rattle.euler_laws.proofs.shared.Bounds.{steps, steps_are}
-use Rattle.euler_laws.proofs.shared.Rounds.{half_in}
+use Rattle.euler_operators.specs.Common.{code, origin, has_half}
+use Rattle.euler_laws.proofs.Common.{steps, steps_are, half_in}
 use Rattle.solid_walks.proofs.face_walks_laws.HalfCodes.{edge_fits}
 use Rattle.solid_measure.specs.Measure.{read}
 use Rattle.solid_measure.proofs.AreaRounds.{area_ended}

@@ -1,8 +1,7 @@
 use Rattle.std.proofs.Common.{◌≡◌, ◌-◌}
-use Rattle.euler_operators.specs.Points.{IsInRange}
-use Rattle.euler_operators.specs.HalfEdge.{code}
-use Rattle.euler_laws.proofs.shared.Bounds.{steps}
-use Rattle.shapes.specs.Faces.{start}
+use Rattle.euler_operators.specs.Common.{IsInRange, code}
+use Rattle.euler_laws.proofs.Common.{steps}
+use Rattle.shapes.specs.Common.{start}
 use Rattle.solid_measure.specs.Measure.{read}
 use Rattle.solid_measure.proofs.SweptRounds.{SweptRound}
 use Rattle.solid_measure.proofs.LeastRounds.{LeastRound}

@@ -1,5 +1,4 @@
-use Rattle.euler_operators.proofs.Magnitudes.{coordinate_held, coordinates}
-use Rattle.euler_operators.proofs.Vectors.{same_vector}
+use Rattle.euler_operators.proofs.Common.{coordinate_held, coordinates, same_vector}
 use Rattle.solid_measure.proofs.ShortNumbers.{crossed_short}
 use Rattle.solid_measure.proofs.short.short_crossed.Goals as goal
 

@@ -1,4 +1,4 @@
-use Rattle.euler_operators.proofs.Vectors.{same_vector}
+use Rattle.euler_operators.proofs.Common.{same_vector}
 use Rattle.solid_measure.proofs.ShortNumbers.{widened_is}
 use Rattle.solid_measure.proofs.short.widened.Goals as goal
 

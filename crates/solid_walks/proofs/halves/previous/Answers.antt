@@ -1,6 +1,5 @@
 use Rattle.std.proofs.Common.{subst, sym}
-use Rattle.euler_operators.specs.HalfEdge.{code}
-use Rattle.euler_operators.specs.Sound.{HasHalf}
+use Rattle.euler_operators.specs.Common.{code, HasHalf}
 use Rattle.euler_conditions.proofs.Known.{in_a_loop}
 use Rattle.solid_walks.proofs.TwoWays.{before_there}
 use Rattle.solid_walks.proofs.halves.previous.Goals as goal

@@ -1,5 +1,5 @@
 use Rattle.std.proofs.Common.{ap, ◌∙◌}
-use Rattle.euler_operators.specs.HalfEdge.{code}
+use Rattle.euler_operators.specs.Common.{code}
 use Rattle.euler_operators.specs.Table as table
 use Rattle.solid_walks.proofs.halves.start.Goals as goal
 

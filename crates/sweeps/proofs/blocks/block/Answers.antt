@@ -1,5 +1,4 @@
-use Rattle.std.specs.Prelude.{◌↔◌}
-use Rattle.std.proofs.Common.{◌≡◌, None, Some, Err, OnOk, w64}
+use Rattle.std.proofs.Common.{◌≡◌, None, Some, Err, OnOk, w64, ◌↔◌}
 use Rattle.std.proofs.lemmas.Int.{to_z-of_z}
 use Rattle.undo_journal.specs.declared.session.Failure.TheVariants as failure
 use Rattle.sweeps.specs.Machine.{block, block_refusal}

@@ -1,7 +1,6 @@
-use Rattle.std.specs.Prelude.{◌↔◌}
-use Rattle.std.proofs.Common.{◌≡◌, None, Some, Err, OnOk, w64}
+use Rattle.std.proofs.Common.{◌≡◌, None, Some, Err, OnOk, w64, ◌↔◌}
 use Rattle.std.proofs.lemmas.Int.{to_z-of_z}
-use Rattle.shapes.specs.Block.{block_refusal, block_model}
+use Rattle.shapes.specs.Common.{block_refusal, block_model}
 use Rattle.undo_journal.specs.declared.session.Failure.TheVariants as failure
 use Rattle.sweeps.proofs.BlockSteps.{at_sizes}
 use Rattle.sweeps.proofs.blocks.block_in.Goals as goal

@@ -1,6 +1,5 @@
 use Rattle.std.proofs.Common.{rules, ap, sym, ◌∙◌}
-use Rattle.shapes.specs.Fresh.{taken_in}
-use Rattle.shapes.specs.Block.{block_refusal, block_model}
+use Rattle.shapes.specs.Common.{taken_in, block_refusal, block_model}
 use Rattle.undo_journal.specs.Journal.{Journal, DraftJournal}
 use Rattle.undo_journal.specs.Machine.{accepted}
 use Rattle.sweeps.proofs.Drawing.{passed}

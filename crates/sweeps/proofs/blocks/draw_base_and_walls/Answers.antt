@@ -1,9 +1,8 @@
 use Rattle.std.proofs.Common.{◌≡◌, ap, arith, length, map, subst, sym, refl, ◌∙◌}
 use Rattle.std.proofs.lemmas.Result.{on_ok_weaker}
-use Rattle.euler_operators.specs.HalfEdge.{code, plus}
-use Rattle.euler_operators.specs.Model.{Model}
-use Rattle.shapes.proofs.fresh.Tests.{Left}
-use Rattle.shapes.specs.Fresh.{Taken, numbers_after, taken_in}
+use Rattle.euler_operators.specs.Common.{code, plus, Model}
+use Rattle.shapes.proofs.Common.{Left}
+use Rattle.shapes.specs.Common.{Taken, numbers_after, taken_in}
 use Rattle.solid_walks.specs.declared.numbers.Counters.{Counters}
 use Rattle.solid_walks.specs.Counters.{taken_of}
 use Rattle.sweeps.specs.Raising.{with_lamina}

@@ -1,9 +1,7 @@
-use Rattle.std.proofs.Common.{◌∙◌, [], refl, ap, subst, rules, tests, of_calls}
-use Rattle.std.specs.List.{fold}
+use Rattle.std.proofs.Common.{◌∙◌, [], refl, ap, subst, rules, tests, of_calls, fold}
 use Rattle.std.proofs.lemmas.Iterator.Consumers.{YieldsList-from_first, fold_from_yields_List}
-use Rattle.euler_operators.specs.Items.{IsIn}
-use Rattle.euler_operators.specs.Model.{content}
-use Rattle.shapes.specs.Faces.{corners, loops_of, vertices_in, vertices_on}
+use Rattle.euler_operators.specs.Common.{IsIn, content}
+use Rattle.shapes.specs.Common.{corners, loops_of, vertices_in, vertices_on}
 use Rattle.solid_walks.proofs.face_walks_laws.FaceWalks.{loop_in}
 use Rattle.solid_walks.proofs.face_walks_laws.Yielded.{serves_folding}
 use Rattle.sweeps.specs.Corners.{joined, tally}

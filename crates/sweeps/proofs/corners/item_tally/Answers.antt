@@ -1,6 +1,5 @@
 use Rattle.std.proofs.Common.{[], ◌∷◌, ap, subst, sym, ◌∙◌}
-use Rattle.euler_operators.specs.HalfEdge.{code}
-use Rattle.euler_operators.specs.Sound.{Has}
+use Rattle.euler_operators.specs.Common.{code, Has}
 use Rattle.sweeps.specs.Corners.{tally}
 use Rattle.sweeps.proofs.corners.item_tally.Goals as goal
 

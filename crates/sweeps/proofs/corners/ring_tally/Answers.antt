@@ -1,10 +1,6 @@
-use Rattle.std.proofs.Common.{◌∙◌, [], ◌∷◌, refl, ap, subst, rules, tests, of_calls}
-use Rattle.std.specs.List.{fold}
-use Rattle.std.specs.Prelude.{map}
+use Rattle.std.proofs.Common.{◌∙◌, [], ◌∷◌, refl, ap, subst, rules, tests, of_calls, fold, map}
 use Rattle.std.proofs.lemmas.Iterator.Consumers.{YieldsList-from_first, fold_from_yields_List}
-use Rattle.euler_operators.specs.Items.{IsIn}
-use Rattle.euler_operators.specs.HalfEdge.{code}
-use Rattle.euler_operators.specs.Model.{cycle_of, tail}
+use Rattle.euler_operators.specs.Common.{IsIn, code, cycle_of, tail}
 use Rattle.solid_walks.proofs.face_walks_laws.CycleWalks.{item_there}
 use Rattle.solid_walks.proofs.face_walks_laws.Yielded.{serves_folding}
 use Rattle.sweeps.specs.Corners.{joined, tally}

@@ -2,7 +2,7 @@ use Rattle.std.proofs.Common.{rules, arith, ◌≡◌, ◌<◌, ◌+◌, length,
 use Rattle.std.proofs.lemmas.Bool.Decides.{nat_tests}
 use Rattle.std.proofs.lemmas.Result.{on_ok_weaker}
 use Rattle.euler_operators.specs.declared.Op.TheVariants.{Mef}
-use Rattle.euler_operators.proofs.Halves.{half-plus, half-minus}
+use Rattle.euler_operators.proofs.Common.{half-plus, half-minus}
 use Rattle.undo_journal.specs.Journal.{DraftJournal}
 use Rattle.sweeps.proofs.Drawing.{begun, first_is, first_goes, first_along, next_goes, next_along, last_goes, last_done}
 use Rattle.undo_journal.proofs.Marks.{further_on}

@@ -1,5 +1,5 @@
 use Rattle.std.proofs.Common.{◌≡◌, ◌≤◌, [], length, take, drop, ◌-◌}
-use Rattle.shapes.specs.Lamina.{first_repeated}
+use Rattle.shapes.specs.Common.{first_repeated}
 use Rattle.sweeps.proofs.laminas.first_repeated.Given as goal
 
 abbrev pub invariant-points : goal.invariant-points

@@ -1,6 +1,5 @@
 use Rattle.std.proofs.Common.{ap, sym, ◌∙◌}
-use Rattle.shapes.specs.Fresh.{taken_in}
-use Rattle.shapes.specs.Lamina.{lamina_refusal, lamina_model}
+use Rattle.shapes.specs.Common.{taken_in, lamina_refusal, lamina_model}
 use Rattle.undo_journal.specs.Journal.{Journal, DraftJournal}
 use Rattle.undo_journal.specs.Machine.{accepted}
 use Rattle.sweeps.proofs.Drawing.{passed}

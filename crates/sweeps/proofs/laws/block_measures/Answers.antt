@@ -1,6 +1,6 @@
 use Rattle.std.proofs.Common.{ap, ◌∙◌}
 use Rattle.undo_journal.specs.Machine.{held}
-use Rattle.shapes.specs.Measure.{six_volume}
+use Rattle.shapes.specs.Common.{six_volume}
 use Rattle.sweeps_laws.proofs.Block.{block_volume, block_keeps_others}
 use Rattle.sweeps.proofs.laws.block_measures.Goals as goal
 

@@ -1,10 +1,7 @@
-use Rattle.std.specs.Prelude.{get_or}
-use Rattle.std.proofs.Common.{◌≡◌, pos, ◌-ℤ◌, true, sym, ap, subst, ◌∙◌}
-use Rattle.euler_operators.specs.Vectors.{dot}
-use Rattle.euler_operators.specs.Model.{no_point}
+use Rattle.std.proofs.Common.{◌≡◌, pos, ◌-ℤ◌, true, sym, ap, subst, ◌∙◌, get_or}
+use Rattle.euler_operators.specs.Common.{dot, no_point}
 use Rattle.undo_journal.specs.Machine.{held}
-use Rattle.shapes.specs.Lamina.{lamina_face}
-use Rattle.shapes.specs.Measure.{normal, is_flat, six_volume}
+use Rattle.shapes.specs.Common.{lamina_face, normal, is_flat, six_volume}
 use Rattle.sweeps_laws.proofs.Block.{lamina_measures, flat_laminas_measure_nothing, lamina_keeps_others}
 use Rattle.sweeps.proofs.laws.lamina_measures.Goals as goal
 

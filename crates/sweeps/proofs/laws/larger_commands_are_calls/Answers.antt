@@ -1,11 +1,8 @@
-use Rattle.std.proofs.Common.{ap, subst, sym, ◌∙◌}
-use Rattle.euler_laws.proofs.Runs.{effects-append, AreAccepted-append}
+use Rattle.std.proofs.Common.{ap, subst, sym, ◌∙◌, ◌≡◌, pos}
+use Rattle.euler_laws.proofs.Common.{effects-append, AreAccepted-append}
 use Rattle.euler_laws.specs.Laws.{effects, AreAccepted}
-use Rattle.euler_operators.specs.Model.{Model}
-use Rattle.euler_operators.specs.Sound.{Sound}
-use Rattle.shapes.specs.Lamina.{lamina_model, lamina_face}
-use Rattle.shapes.specs.Block.{base_of, vector, block_model}
-use Rattle.std.specs.Prelude.{◌≡◌, pos}
+use Rattle.euler_operators.specs.Common.{Model, Sound}
+use Rattle.shapes.specs.Common.{lamina_model, lamina_face, base_of, vector, block_model}
 use Rattle.sweeps.specs.Calls.{LaminasAreCalls, BlocksAreCalls, SweepsAreCalls, block_operators}
 use Rattle.sweeps_laws.proofs.lamina.Blocks.{blocks_have_bases, bases_rise}
 use Rattle.sweeps_laws.proofs.lamina.Walk.{operators_are_accepted, operators_make_lamina, lamina_is_sound}

@@ -1,11 +1,8 @@
 use Rattle.std.proofs.Common.{◌≡◌, ◌∙◌, Ok, ap, sym, subst, true}
 use Rattle.std.proofs.lemmas.Iterator.{items_from_collect}
 use Rattle.std.proofs.lemmas.Iterator.Consumers.{YieldsList-from_first}
-use Rattle.euler_operators.specs.Table.{has}
-use Rattle.euler_operators.specs.Model.{rings_of}
-use Rattle.euler_operators.specs.Sound.{Sound}
-use Rattle.shapes.specs.Fresh.{taken_in}
-use Rattle.shapes.specs.Prism.{prism_from}
+use Rattle.euler_operators.specs.Common.{has, rings_of, Sound}
+use Rattle.shapes.specs.Common.{taken_in, prism_from}
 use Rattle.sweeps_laws.proofs.prism.Whole.{Going}
 use Rattle.sweeps_laws.proofs.prism.Accepted.{face_there}
 use Rattle.solid_walks.specs.Counters.{taken_of}

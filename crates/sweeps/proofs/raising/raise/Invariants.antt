@@ -1,5 +1,5 @@
 use Rattle.std.proofs.Common.{◌≡◌, length}
-use Rattle.shapes.specs.Prism.{prism_from, prism_model}
+use Rattle.shapes.specs.Common.{prism_from, prism_model}
 use Rattle.sweeps_laws.proofs.prism.Whole.{Going}
 use Rattle.solid_walks.specs.Counters.{taken_of}
 use Rattle.undo_journal.specs.Journal.{IsFurther}

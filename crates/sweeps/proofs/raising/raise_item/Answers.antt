@@ -1,11 +1,6 @@
-use Rattle.std.proofs.Common.{◌≡◌, ◌∙◌, ap, sym, subst, true}
-use Rattle.euler_operators.specs.Vectors.{moved}
-use Rattle.euler_operators.specs.HalfEdge.{code, half, plus}
-use Rattle.euler_operators.specs.Model.{has_half, point_of}
-use Rattle.euler_operators.specs.Sound.{Has}
-use Rattle.euler_operators.specs.Conditions.{first_false}
-use Rattle.shapes.specs.Faces.{start}
-use Rattle.std.specs.Result.{OnOk}
+use Rattle.std.proofs.Common.{◌≡◌, ◌∙◌, ap, sym, subst, true, OnOk}
+use Rattle.euler_operators.specs.Common.{moved, code, half, plus, has_half, point_of, Has, first_false}
+use Rattle.shapes.specs.Common.{start}
 use Rattle.undo_journal.specs.Journal.{after_step}
 use Rattle.solid_walks.specs.Counters.{taken_of}
 use Rattle.sweeps.proofs.RaisedItems.{same_raise}

@@ -1,7 +1,6 @@
 use Rattle.std.proofs.Common.{◌≡◌, ◌∙◌, ap, refl, ℕ, ◌+◌, ◌-◌, ◌<◌, ◌≤◌, arith}
 use Rattle.std.proofs.lemmas.Result.{on_ok_weaker}
-use Rattle.euler_operators.specs.Conditions.{first_false}
-use Rattle.euler_operators.specs.Effect.{effect}
+use Rattle.euler_operators.specs.Common.{first_false, effect}
 use Rattle.undo_journal.specs.Journal.{DraftJournal}
 use Rattle.sweeps_laws.specs.prism.SweepOps.{close, close_last}
 use Rattle.sweeps_laws.proofs.prism.Sides.{two_items}

@@ -1,5 +1,5 @@
 use Rattle.std.proofs.Common.{◌≡◌, ◌<◌, ◌-◌, length, map}
-use Rattle.euler_operators.specs.HalfEdge.{code}
+use Rattle.euler_operators.specs.Common.{code}
 use Rattle.euler_laws.specs.Laws.{effects}
 use Rattle.sweeps_laws.specs.prism.SweepOps.{rounds}
 use Rattle.solid_walks.specs.Counters.{taken_of}

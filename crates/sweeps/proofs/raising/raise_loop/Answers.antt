@@ -1,7 +1,5 @@
 use Rattle.std.proofs.Common.{◌∙◌, ap, sym, subst, map}
-use Rattle.euler_operators.specs.HalfEdge.{code}
-use Rattle.euler_operators.specs.Model.{items_of, content, face_of}
-use Rattle.euler_operators.specs.Conditions.{is_lone}
+use Rattle.euler_operators.specs.Common.{code, items_of, content, face_of, is_lone}
 use Rattle.euler_laws.specs.Laws.{effects}
 use Rattle.sweeps_laws.specs.prism.SweepOps.{loop_ops, taken_after}
 use Rattle.sweeps_laws.specs.prism.Ready.{Ready}

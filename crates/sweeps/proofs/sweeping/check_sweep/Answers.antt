@@ -1,6 +1,6 @@
 use Rattle.std.proofs.Common.{rules, tests, arith}
 use Rattle.std.proofs.lemmas.Grind.{common_steps}
-use Rattle.shapes.specs.Prism.{prism_conditions}
+use Rattle.shapes.specs.Common.{prism_conditions}
 use Rattle.sweeps.specs.Corners.{tally}
 use Rattle.sweeps.proofs.sweeping.check_sweep.Goals as goal
 

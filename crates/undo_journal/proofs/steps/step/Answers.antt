@@ -1,8 +1,7 @@
-use Rattle.std.specs.Prelude.{◌≡◌, ◌++◌, ℕ, List, [], ◌∷◌, length, set, slice_index_or, vec_len}
-use Rattle.std.proofs.Common.{ap, refl, ◌∙◌, arith}
+use Rattle.std.proofs.Common.{ap, refl, ◌∙◌, arith, ◌≡◌, ◌++◌, ℕ, List, [], ◌∷◌, length, set, slice_index_or, vec_len}
 use Rattle.euler_operators.specs.declared.Op.{Op}
 use Rattle.euler_operators.specs.declared.Op.TheVariants.{Kvfs}
-use Rattle.euler_operators.specs.Effect.{inverse}
+use Rattle.euler_operators.specs.Common.{inverse}
 use Rattle.undo_journal.proofs.steps.step.Goals as goal
 
 -- the last item, and another one in its place

@@ -1,5 +1,5 @@
 use Rattle.std.proofs.Common.{ap}
-use Rattle.arena_rows.specs.owner_chains.Chains.{is_of}
+use Rattle.arena_rows.specs.Common.{is_of}
 use Rattle.arena_rows.proofs.owner_chains.chains.insert_within.Goals as goal
 
 pub place_of-place-requires-clause-free : goal.place_of-place-requires-clause-free

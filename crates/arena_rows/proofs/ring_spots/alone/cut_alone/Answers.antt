@@ -3,8 +3,7 @@ use Rattle.std.specs.FinMap.{contains_key}
 use Rattle.raw_ring.specs.Rings.{or_zero, spot}
 use Rattle.raw_ring.proofs.Mapping.{IsLive-next}
 use Rattle.arena_rows.specs.declared.ring_spots.labels.Label.{Label}
-use Rattle.arena_rows.specs.ring_spots.Spots.{Spots, live, ring, AreRings}
-use Rattle.arena_rows.specs.ring_spots.Labels.{AreLabelled, has_label}
+use Rattle.arena_rows.specs.Common.{Spots, live, ring, AreRings, AreLabelled, has_label}
 use Rattle.arena_rows.proofs.ring_spots_laws.RingMaps.{live_known}
 use Rattle.arena_rows.proofs.ring_spots_laws.LabelLaws.{labelled_alike, share-cut_to}
 use Rattle.arena_rows.proofs.ring_spots_laws.Alone.{cut_off, seen-apart, seen-cut_alone, labelled_off}

@@ -1,5 +1,5 @@
 use Rattle.std.proofs.Common.{ℕ, Bool, ap, ◌∙◌, cond, nat_eq}
-use Rattle.arena_rows.specs.ring_spots.Labels.{own, holder, has_label}
+use Rattle.arena_rows.specs.Common.{own, holder, has_label}
 use Rattle.arena_rows.proofs.ring_spots.labels.hand_over.Goals as goal
 
 pub tie-requires-clause-code : goal.tie-requires-clause-code

@@ -3,7 +3,7 @@ use Rattle.std.specs.FinMap.{contains_key}
 use Rattle.raw_ring.specs.Rings.{RingMap, spot}
 use Rattle.boundary_model.specs.Items.{IsIn}
 use Rattle.boundary_model.proofs.Lists.{IsIn_or_not}
-use Rattle.arena_rows.specs.ring_spots.Spots.{codes, next, ring}
+use Rattle.arena_rows.specs.Common.{codes, next, ring}
 use Rattle.arena_rows.proofs.ring_spots_laws.RingMaps.{known-with}
 use Rattle.arena_rows.proofs.ring_spots_laws.SpotTables.{codes_are}
 use Rattle.arena_rows.proofs.ring_spots_laws.Relabelling.{walk_items, missed_more, missed_last, missed_over, not_met, half_start, half_next, half_live, half_last, half_more, half_over, step_in, label_step, known_step, next_step}

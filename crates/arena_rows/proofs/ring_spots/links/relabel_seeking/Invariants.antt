@@ -3,7 +3,7 @@ use Rattle.std.specs.FinMap.{contains_key}
 use Rattle.raw_ring.specs.Rings.{spot}
 use Rattle.boundary_model.specs.Items.{IsIn}
 use Rattle.boundary_model.specs.Rings.{walk_to}
-use Rattle.arena_rows.specs.ring_spots.Spots.{codes, next, ring, HalfDone}
+use Rattle.arena_rows.specs.Common.{codes, next, ring, HalfDone}
 use Rattle.arena_rows.proofs.ring_spots.links.relabel_seeking.Given as goal
 
 abbrev pub invariant-round : goal.invariant-round

@@ -4,7 +4,7 @@ use Rattle.raw_ring.specs.Rings.{RingMap, Spot, spot, of_spot, next_of}
 use Rattle.raw_ring.proofs.Mapping.{IsLive-next}
 use Rattle.boundary_model.specs.HalfEdge.{plus, minus}
 use Rattle.boundary_model.proofs.Halves.{plus_other}
-use Rattle.arena_rows.specs.ring_spots.Spots.{asleep}
+use Rattle.arena_rows.specs.Common.{asleep}
 use Rattle.arena_rows.proofs.ring_spots_laws.RingMaps.{spot-insert, spot-asleep, known-same, live_known}
 use Rattle.arena_rows.proofs.ring_spots.links.sleep_edge.Goals as goal
 

@@ -1,8 +1,7 @@
 use Rattle.std.proofs.Common.{ℕ, cond, nat_eq, ap, ◌∙◌}
 use Rattle.raw_ring.specs.Rings.{spot}
 use Rattle.arena_rows.specs.declared.ring_spots.labels.Label.{Label}
-use Rattle.arena_rows.specs.ring_spots.Spots.{woken_as}
-use Rattle.arena_rows.specs.ring_spots.Labels.{has_label, loop_at}
+use Rattle.arena_rows.specs.Common.{woken_as, has_label, loop_at}
 use Rattle.arena_rows.proofs.ring_spots_laws.LabelEdges.{spot-woken_as, known-woken_as}
 use Rattle.arena_rows.proofs.ring_spots.links.wake.Goals as goal
 

@@ -2,8 +2,7 @@ use Rattle.std.proofs.Common.{ap, ◌∙◌, ◌≡◌, ℕ, Bool, true, cond, n
 use Rattle.raw_ring.specs.Rings.{spot}
 use Rattle.boundary_model.specs.HalfEdge.{plus, minus}
 use Rattle.boundary_model.proofs.Halves.{plus_other}
-use Rattle.arena_rows.specs.ring_spots.Spots.{Spots, live, woken_as}
-use Rattle.arena_rows.specs.ring_spots.Labels.{own, loop_at, has_label}
+use Rattle.arena_rows.specs.Common.{Spots, live, woken_as, own, loop_at, has_label}
 use Rattle.arena_rows.proofs.ring_spots_laws.LabelEdges.{live-woken_other, labelled-woken, loops-woken}
 use Rattle.arena_rows.proofs.ring_spots.links.wake_edge.Goals as goal
 

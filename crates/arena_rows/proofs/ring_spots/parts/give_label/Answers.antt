@@ -1,8 +1,7 @@
 use Rattle.std.proofs.Common.{◌≡◌, ◌≢◌, ℕ, Bool, sym, ap, subst, ◌∙◌}
 use Rattle.raw_ring.specs.Rings.{or_zero, spot}
 use Rattle.boundary_model.specs.Items.{count}
-use Rattle.arena_rows.specs.ring_spots.Spots.{Spots, labelled, label, ring}
-use Rattle.arena_rows.specs.ring_spots.Labels.{own, holder}
+use Rattle.arena_rows.specs.Common.{Spots, labelled, label, ring, own, holder}
 use Rattle.arena_rows.proofs.ring_spots_laws.RingMaps.{live_known}
 use Rattle.arena_rows.proofs.ring_spots_laws.SpotLaws.{label-labelled_out}
 use Rattle.arena_rows.proofs.ring_spots_laws.LabelLaws.{labelled-apart, relabelled_part, own_kept}

@@ -1,7 +1,7 @@
 use Rattle.std.proofs.Common.{◌-◌, ◌+◌, true≢false, ap, arith}
 use Rattle.std.proofs.lemmas.Bool.{false≢true}
 use Rattle.raw_ring.specs.Rings.{spot, or_zero}
-use Rattle.arena_rows.specs.ring_spots.Spots.{codes}
+use Rattle.arena_rows.specs.Common.{codes}
 use Rattle.arena_rows.proofs.ring_spots_laws.SpotTables.{codes_are}
 use Rattle.arena_rows.proofs.ring_spots_laws.Lengths.{counted_none, counted_all, counted_more, counted_some, counted_over}
 use Rattle.arena_rows.proofs.ring_spots.parts.is_shorter.Goals as goal

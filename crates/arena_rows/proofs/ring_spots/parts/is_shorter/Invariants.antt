@@ -1,6 +1,6 @@
 use Rattle.std.proofs.Common.{◌≡◌, ◌-◌, true}
 use Rattle.raw_ring.specs.Rings.{spot}
-use Rattle.arena_rows.specs.ring_spots.Spots.{codes, live}
+use Rattle.arena_rows.specs.Common.{codes, live}
 use Rattle.arena_rows.proofs.ring_spots_laws.Lengths.{Counted}
 use Rattle.arena_rows.proofs.ring_spots.parts.is_shorter.Given as goal
 

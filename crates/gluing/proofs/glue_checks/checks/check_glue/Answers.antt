@@ -1,8 +1,7 @@
 use Rattle.std.proofs.Common.{◌∙◌, ap, sym}
 use Rattle.std.proofs.lemmas.Result.{err_from_is_err_and}
-use Rattle.euler_operators.specs.Model.{solid_of}
-use Rattle.euler_operators.specs.Conditions.{first_refusal, verdict}
-use Rattle.shapes.specs.Fresh.{numbers_left}
+use Rattle.euler_operators.specs.Common.{solid_of, first_refusal, verdict}
+use Rattle.shapes.specs.Common.{numbers_left}
 use Rattle.gluing.specs.glue_checks.Conditions.{face_conditions, solid_conditions, outline_conditions}
 use Rattle.gluing.proofs.glue_checks_laws.Conditions.{all_passed, faces_failed, solids_failed, outlines_failed, numbers_decide, early_passed, first_held, second_held}
 use Rattle.gluing.proofs.glue_checks.checks.check_glue.Goals as goal

@@ -1,6 +1,5 @@
-use Rattle.std.proofs.Common.{◌≡◌, ◌∙◌, ap, sym, false}
-use Rattle.std.specs.Prelude.{reverse}
-use Rattle.shapes.specs.glue.Glue.{has_repeats, is_rotation, outline}
+use Rattle.std.proofs.Common.{◌≡◌, ◌∙◌, ap, sym, false, reverse}
+use Rattle.shapes.specs.Common.{has_repeats, is_rotation, outline}
 use Rattle.gluing.proofs.glue_checks_laws.Conditions.{no_match}
 use Rattle.gluing.proofs.glue_checks_laws.Points.{repeats_turned}
 use Rattle.gluing.proofs.glue_checks.checks.check_outlines.Goals as goal

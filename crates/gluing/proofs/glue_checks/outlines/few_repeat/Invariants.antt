@@ -1,5 +1,5 @@
 use Rattle.std.proofs.Common.{◌≡◌, length}
-use Rattle.shapes.specs.glue.Glue.{has_repeats}
+use Rattle.shapes.specs.Common.{has_repeats}
 use Rattle.gluing.proofs.glue_checks.outlines.few_repeat.Given as goal
 
 abbrev pub invariant-points : goal.invariant-points

@@ -1,5 +1,5 @@
 use Rattle.std.proofs.Common.{◌≡◌, length}
-use Rattle.shapes.specs.glue.Glue.{same_points}
+use Rattle.shapes.specs.Common.{same_points}
 use Rattle.gluing.proofs.glue_checks.outlines.same_points.Given as goal
 
 abbrev pub invariant-points : goal.invariant-points

@@ -2,7 +2,7 @@ use Rattle.std.proofs.Common.{ap, subst, sym, ◌∙◌}
 use Rattle.std.specs.FinMap as map
 use Rattle.std.proofs.lemmas.Result.{IfOk-at_ok}
 use Rattle.arena_rows.specs.RawRings.{spot}
-use Rattle.arena_rows.specs.View.{IsWhole}
+use Rattle.arena_rows.specs.Common.{IsWhole}
 use Rattle.halfedge_arena.proofs.arena.Arena.copy.Goals as goal
 
 -- each part of the copy is that of the arena, one after the other

@@ -3,7 +3,7 @@ use Rattle.arena_rows.specs.RawRings.{spot, or_zero}
 use Rattle.arena_rows.specs.declared.rows.LoopCell.{LoopCell}
 use Rattle.boundary_model.specs.HalfEdge.{code}
 use Rattle.arena_rows.specs.RawRows.{row_at}
-use Rattle.arena_rows.specs.ring_spots.Spots.{label}
+use Rattle.arena_rows.specs.Common.{label}
 use Rattle.arena_rows.proofs.ring_spots_laws.RingMaps.{next_some}
 use Rattle.arena_rows.proofs.ring_spots_laws.SpotTables.{edge_below}
 use Rattle.arena_rows.proofs.Stands.{half_there}

@@ -1,5 +1,5 @@
 use Rattle.std.proofs.Common.{ap, ◌∙◌, length}
-use Rattle.arena_rows.specs.owner_chains.Owners.{owned}
+use Rattle.arena_rows.specs.Common.{owned}
 use Rattle.arena_rows.proofs.Indexed.{face_count_is}
 use Rattle.halfedge_arena.proofs.arena.Arena.face_count.Goals as goal
 

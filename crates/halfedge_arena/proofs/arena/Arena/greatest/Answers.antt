@@ -1,4 +1,4 @@
-use Rattle.arena_rows.specs.View.{solid_row, face_row, loop_row}
+use Rattle.arena_rows.specs.Common.{solid_row, face_row, loop_row}
 use Rattle.arena_rows.proofs.Empty.{greatest_row, greatest_edge}
 use Rattle.halfedge_arena.proofs.arena.Arena.greatest.Goals as goal
 

@@ -1,7 +1,7 @@
 use Rattle.std.proofs.Common.{sym, ◌∙◌, ap, ◌≡◌, Some}
 use Rattle.arena_rows.specs.RawRings.{spot}
 use Rattle.boundary_model.specs.HalfEdge.{code}
-use Rattle.arena_rows.specs.ring_spots.Spots.{label}
+use Rattle.arena_rows.specs.Common.{label}
 use Rattle.arena_rows.proofs.ring_spots_laws.RingMaps.{next_some}
 use Rattle.arena_rows.proofs.ring_spots_laws.SpotTables.{edge_below}
 use Rattle.arena_rows.proofs.Stands.{half_there, loop_of_is}

@@ -1,7 +1,7 @@
 use Rattle.std.proofs.Common.{sym, ◌∙◌, arith, true, false}
 use Rattle.std.specs.FinMap.{contains_key}
 use Rattle.arena_rows.specs.RawRings.{spot}
-use Rattle.arena_rows.specs.View.{face_row}
+use Rattle.arena_rows.specs.Common.{face_row}
 use Rattle.arena_rows.proofs.Views.{has-row}
 use Rattle.arena_rows.proofs.Indexed.{rings_counted}
 use Rattle.halfedge_arena.proofs.arena.Arena.ring_count.Goals as goal

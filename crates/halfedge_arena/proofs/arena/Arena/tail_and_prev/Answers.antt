@@ -2,7 +2,7 @@ use Rattle.std.proofs.Common.{ap, sym, ◌∙◌, ◌≡◌, true}
 use Rattle.arena_rows.specs.RawRings.{or_zero, spot}
 use Rattle.boundary_model.specs.HalfEdge.{code}
 use Rattle.arena_rows.proofs.RawMapping.{IsLive-next}
-use Rattle.arena_rows.specs.ring_spots.Spots.{live}
+use Rattle.arena_rows.specs.Common.{live}
 use Rattle.boundary_model.proofs.Halves.{code-half}
 use Rattle.arena_rows.proofs.ring_spots_laws.SpotTables.{edge_below}
 use Rattle.arena_rows.proofs.Stands.{half_there, tail_is, before_is, loose_before}

@@ -1,7 +1,6 @@
 use Rattle.std.proofs.Common.{◌≡◌, length, true, false}
-use Rattle.euler_operators.specs.declared.Kind.TheVariants.{Solid}
+use Rattle.euler_operators.specs.Common.{Solid, faces_of}
 use Rattle.euler_operators.specs.Table as table
-use Rattle.euler_operators.specs.Model.{faces_of}
 use Rattle.euler_conditions.specs.Store.{has_room, is_face_of}
 use Rattle.euler_operators.specs.declared.Op.TheVariants.{Merge}
 use Rattle.euler_conditions.specs.Ready.{after}

@@ -1,7 +1,7 @@
 use Rattle.std.proofs.Common.{ap, ◌∙◌}
 use Rattle.euler_operators.specs.Table as table
 use Rattle.euler_conditions.specs.Store.{Store}
-use Rattle.euler_operators.specs.Effect.{effect, part}
+use Rattle.euler_operators.specs.Common.{effect, part}
 use Rattle.low_euler.specs.face_operators.Moving.{moved}
 use Rattle.low_euler.proofs.face_operators_laws.Handing.{part_has}
 use Rattle.low_euler.proofs.face_operators.moving.part.Goals as goal

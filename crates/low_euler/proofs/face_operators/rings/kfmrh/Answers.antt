@@ -1,12 +1,9 @@
 use Rattle.std.proofs.Common.{sym, ap, ◌∙◌}
 use Rattle.euler_operators.specs.Table as table
-use Rattle.euler_operators.specs.Table.{Table}
-use Rattle.euler_operators.specs.Model.{LoopRow, outer}
-use Rattle.euler_operators.specs.Sound.{Has}
+use Rattle.euler_operators.specs.Common.{Table, LoopRow, outer, Has, effect, kfmrh}
 use Rattle.euler_conditions.specs.Store.{Store, set_face, take_face}
-use Rattle.euler_operators.specs.Effect.{effect, kfmrh}
 use Rattle.low_euler.proofs.face_operators_laws.Rows.{loop_moved}
-use Rattle.euler_laws.proofs.faces.Kfmrh.{kfmrh_goes}
+use Rattle.euler_laws.proofs.Common.{kfmrh_goes}
 use Rattle.low_euler.proofs.face_operators.rings.kfmrh.Goals as goal
 
 pub outer-ring-requires : goal.outer-ring-requires

@@ -1,12 +1,9 @@
 use Rattle.std.proofs.Common.{is_some, ap, ◌∙◌}
 use Rattle.euler_operators.specs.Table as table
-use Rattle.euler_operators.specs.Table.{Table, put}
-use Rattle.euler_operators.specs.Model.{FaceRow, face_of, solid_of}
-use Rattle.euler_operators.specs.Sound.{Has}
+use Rattle.euler_operators.specs.Common.{Table, put, FaceRow, face_of, solid_of, Has, effect, mfkrh}
 use Rattle.euler_conditions.specs.Store.{Store, put_face, set_face}
-use Rattle.euler_operators.specs.Effect.{effect, mfkrh}
 use Rattle.low_euler.proofs.face_operators_laws.Swaps.{loop_given, face_put}
-use Rattle.euler_laws.proofs.faces.Kfmrh.{mfkrh_goes}
+use Rattle.euler_laws.proofs.Common.{mfkrh_goes}
 use Rattle.low_euler.proofs.face_operators.rings.mfkrh.Goals as goal
 
 pub face_of-requires : goal.face_of-requires

@@ -1,7 +1,6 @@
 use Rattle.std.proofs.Common.{◌≡◌, true, false, is_some, sym, ap, ◌∙◌, subst, true≢false}
-use Rattle.euler_operators.specs.HalfEdge.{code}
+use Rattle.euler_operators.specs.Common.{code, before, face_of, solid_of}
 use Rattle.euler_operators.specs.Table as table
-use Rattle.euler_operators.specs.Model.{before, face_of, solid_of}
 use Rattle.euler_conditions.specs.Store.{Store, cut, put_face}
 use Rattle.low_euler.specs.steps.Steps.{IsStanding, IsUnused, put_before}
 use Rattle.low_euler.proofs.loop_operators_laws.MefSteps as steps

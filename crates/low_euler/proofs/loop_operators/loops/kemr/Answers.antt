@@ -1,7 +1,6 @@
 use Rattle.std.proofs.Common.{◌≡◌, true, is_some, sym, ap, ◌∙◌, subst, true≢false}
-use Rattle.euler_operators.specs.HalfEdge.{code, mate}
+use Rattle.euler_operators.specs.Common.{code, mate, face_of}
 use Rattle.euler_operators.specs.Table as table
-use Rattle.euler_operators.specs.Model.{face_of}
 use Rattle.euler_conditions.specs.Store.{Store, put_loop, cut}
 use Rattle.low_euler.specs.steps.Steps.{IsStanding, take_out, kill_edge}
 use Rattle.low_euler.proofs.loop_operators_laws.KemrSteps as steps

@@ -1,5 +1,5 @@
 use Rattle.std.proofs.Common.{sym, subst, ◌∙◌}
-use Rattle.euler_operators.specs.HalfEdge.{code}
+use Rattle.euler_operators.specs.Common.{code}
 use Rattle.euler_conditions.specs.Store.{Store, join, take_loop}
 use Rattle.low_euler.specs.steps.Steps.{CanTake, put_at}
 use Rattle.low_euler.proofs.loop_operators_laws.MekrSteps as steps

@@ -1,6 +1,6 @@
 use Rattle.std.proofs.Common.{sym, ap, ◌∙◌, subst}
-use Rattle.euler_operators.specs.HalfEdge.{code, mate, plus, minus}
-use Rattle.euler_operators.proofs.Halves.{edge_of-code}
+use Rattle.euler_operators.specs.Common.{code, mate, plus, minus}
+use Rattle.euler_operators.proofs.Common.{edge_of-code}
 use Rattle.euler_operators.specs.Table as table
 use Rattle.euler_conditions.specs.Store.{Store, take_edge}
 use Rattle.low_euler.specs.steps.Steps.{IsStanding, take_out}

@@ -1,5 +1,5 @@
 use Rattle.std.proofs.Common.{sym, ap, ◌∙◌, subst}
-use Rattle.euler_operators.specs.HalfEdge.{code}
+use Rattle.euler_operators.specs.Common.{code}
 use Rattle.euler_conditions.specs.Store.{Store}
 use Rattle.low_euler.specs.steps.Steps.{IsLoose, CanTake, with_edge, put_at}
 use Rattle.low_euler.proofs.steps_laws.EdgeSteps.{first_loose, second_loose}

@@ -1,7 +1,5 @@
-use Rattle.std.proofs.Common.{◌≡◌, ℕ, Bool, true, nat_eq, refl, sym, ap, ◌∙◌, subst}
-use Rattle.std.proofs.lemmas.Bool.{eqb-true}
-use Rattle.euler_operators.specs.declared.Corner.TheVariants.{At}
-use Rattle.euler_operators.specs.HalfEdge.{code, mate}
+use Rattle.std.proofs.Common.{◌≡◌, ℕ, Bool, true, nat_eq, refl, sym, ap, ◌∙◌, subst, eqb-true}
+use Rattle.euler_operators.specs.Common.{At, code, mate}
 use Rattle.euler_conditions.specs.Store.{Store}
 use Rattle.low_euler.specs.steps.Steps.{IsStanding, IsLoose, with_edge, put_before}
 use Rattle.low_euler.proofs.steps_laws.StoreSteps.{joins_alone, was_put}

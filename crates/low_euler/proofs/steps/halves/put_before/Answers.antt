@@ -1,6 +1,6 @@
 use Rattle.std.proofs.Common.{ap, ◌∙◌}
-use Rattle.euler_operators.specs.HalfEdge.{code}
-use Rattle.euler_operators.proofs.Models.{in_no_loop}
+use Rattle.euler_operators.specs.Common.{code}
+use Rattle.euler_operators.proofs.Common.{in_no_loop}
 use Rattle.euler_conditions.specs.Store.{join}
 use Rattle.low_euler.proofs.steps_laws.StoreSteps.{join_puts}
 use Rattle.low_euler.proofs.steps.halves.put_before.Goals as goal

@@ -1,7 +1,6 @@
 use Rattle.std.proofs.Common.{◌<◌, length, ap, sym, subst, ◌∙◌}
-use Rattle.euler_operators.specs.HalfEdge.{code, mate}
-use Rattle.euler_operators.specs.Model.{has_half, arc}
-use Rattle.euler_operators.proofs.Halves.{code-half}
+use Rattle.euler_operators.specs.Common.{code, mate, has_half, arc}
+use Rattle.euler_operators.proofs.Common.{code-half}
 use Rattle.euler_conditions.specs.Store.{Store, set_tail}
 use Rattle.low_euler.proofs.steps_laws.Tails.{HasCome, edge_fits, come_first, half_now, mate_there, next_shorter, come_next, come_last}
 use Rattle.low_euler.proofs.steps.tails.move_tails.Goals as goal

@@ -1,6 +1,5 @@
 use Rattle.std.proofs.Common.{length}
-use Rattle.euler_operators.specs.HalfEdge.{code}
-use Rattle.euler_operators.specs.Model.{arc}
+use Rattle.euler_operators.specs.Common.{code, arc}
 use Rattle.low_euler.proofs.steps_laws.Tails.{HasCome}
 use Rattle.low_euler.proofs.steps.tails.move_tails.Given as goal
 

@@ -1,7 +1,6 @@
 use Rattle.std.proofs.Common.{◌≡◌, ap, sym, subst, ◌∙◌}
-use Rattle.euler_operators.specs.HalfEdge.{code, mate}
+use Rattle.euler_operators.specs.Common.{code, mate, before}
 use Rattle.euler_operators.specs.Table as table
-use Rattle.euler_operators.specs.Model.{before}
 use Rattle.euler_conditions.specs.Store.{Store, Extents, within, put_vertex}
 use Rattle.low_euler.specs.steps.Steps.{LoopsStandApart, IsStanding, IsUnused, put_before}
 use Rattle.low_euler.proofs.steps_laws.Tails.{room-tails}

@@ -1,6 +1,5 @@
 use Rattle.std.proofs.Common.{ap, sym, subst, ◌∙◌}
-use Rattle.euler_operators.specs.HalfEdge.{code, mate}
-use Rattle.euler_operators.specs.declared.Corner.TheVariants.{Lone}
+use Rattle.euler_operators.specs.Common.{code, mate, Lone}
 use Rattle.euler_operators.specs.Table as table
 use Rattle.euler_conditions.specs.Store.{Store, fill}
 use Rattle.low_euler.specs.steps.Steps.{IsStanding, IsUnused, CanTake, put_before}

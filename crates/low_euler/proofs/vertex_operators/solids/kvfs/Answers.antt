@@ -1,7 +1,6 @@
 use Rattle.std.proofs.Common.{ap, sym, refl, is_some, true≢false, ◌∙◌, ◌≡◌}
 use Rattle.euler_operators.specs.Table as table
-use Rattle.euler_operators.specs.Model.{outer, items_of, content}
-use Rattle.euler_operators.specs.Conditions.{is_lone, lone_vertex}
+use Rattle.euler_operators.specs.Common.{outer, items_of, content, is_lone, lone_vertex}
 use Rattle.euler_conditions.specs.Store.{Store, take_vertex, take_loop, take_face, take_solid}
 use Rattle.low_euler.proofs.vertex_operators_laws.SolidRows.{face_there, solid_there, outer_there, outer_lone, outer_bare, vertex_there, has_one_face, kvfs_made}
 use Rattle.low_euler.proofs.steps_laws.LoopsApart.{content-same}

@@ -2,7 +2,7 @@ use Rattle.std.proofs.Common.{ap}
 use Rattle.std.proofs.lemmas.Result.{on_ok_weaker}
 use Rattle.undo_journal.specs.Journal.{DraftJournal}
 use Rattle.split_drawing.specs.Counters.{taken_of}
-use Rattle.euler_laws.proofs.Runs.{next_goes, next_taken, all_taken}
+use Rattle.euler_laws.proofs.Common.{next_goes, next_taken, all_taken}
 use Rattle.plane_split.proofs.solid_opening_laws.Killed.{joinings_go, partings_left}
 use Rattle.plane_split.proofs.solid_opening.joinings.make_caps.Goals as goal
 

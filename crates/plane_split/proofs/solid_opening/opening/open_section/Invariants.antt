@@ -1,6 +1,5 @@
 use Rattle.std.proofs.Common.{◌≡◌, length, map}
-use Rattle.shapes.specs.split.Section.{is_hole}
-use Rattle.shapes.specs.split.Opening.{all_opened}
+use Rattle.shapes.specs.Common.{is_hole, all_opened}
 use Rattle.split_opening_laws.specs.sections.InTurn.{CanBeOpenedInTurn}
 use Rattle.split_sections.specs.section_cycles.Halves.{halves_of}
 use Rattle.plane_split.specs.solid_opening.Capped.{opening_of, opened_section}

@@ -1,5 +1,5 @@
 use Rattle.std.proofs.Common.{◌≡◌, length}
-use Rattle.shapes.specs.split.Opening.{outer_caps}
+use Rattle.shapes.specs.Common.{outer_caps}
 use Rattle.plane_split.specs.solid_opening.Capped.{all_caps}
 use Rattle.plane_split.proofs.solid_opening.parting.outer_caps.Given as goal
 

@@ -2,7 +2,7 @@ use Rattle.std.proofs.Common.{◌∙◌, ◌++◌, ap}
 use Rattle.std.proofs.lemmas.Result.{on_ok_weaker}
 use Rattle.undo_journal.specs.Journal.{DraftJournal}
 use Rattle.plane_split.specs.solid_opening.Closing.{outer_uppers}
-use Rattle.euler_laws.proofs.Runs.{next_goes, next_taken, all_taken}
+use Rattle.euler_laws.proofs.Common.{next_goes, next_taken, all_taken}
 use Rattle.plane_split.proofs.solid_opening_laws.Closed.{closings_go, part_left}
 use Rattle.plane_split.proofs.solid_opening.parting.part_upper.Goals as goal
 

@@ -1,6 +1,5 @@
-use Rattle.std.proofs.Common.{◌≡◌, ◌∙◌, ap, subst}
-use Rattle.std.specs.Result.{OnOk}
-use Rattle.euler_operators.specs.Conditions.{first_false}
+use Rattle.std.proofs.Common.{◌≡◌, ◌∙◌, ap, subst, OnOk}
+use Rattle.euler_operators.specs.Common.{first_false}
 use Rattle.undo_journal.specs.Journal.{after_step}
 use Rattle.split_drawing.specs.Counters.{taken_of}
 use Rattle.plane_split.proofs.solid_opening_laws.Items.{strip_op, next_there}

@@ -1,5 +1,5 @@
 use Rattle.std.proofs.Common.{◌≡◌, ◌∙◌, map, length, ap, arith}
-use Rattle.euler_operators.specs.HalfEdge.{code}
+use Rattle.euler_operators.specs.Common.{code}
 use Rattle.euler_laws.specs.Laws.{effects}
 use Rattle.undo_journal.specs.Journal.{DraftJournal}
 use Rattle.split_drawing.specs.Counters.{taken_of}

@@ -1,5 +1,5 @@
 use Rattle.std.proofs.Common.{List, subst, ◌∙◌}
-use Rattle.euler_operators.specs.declared.Point.{Point}
+use Rattle.euler_operators.specs.Common.{Point}
 use Rattle.commands.specs.declared.command.Change.TheVariants as change
 use Rattle.commands.specs.declared.command.Command.TheVariants as command
 use Rattle.script_running.specs.script_judging.Judging.{Gives}

@@ -1,5 +1,5 @@
 use Rattle.std.proofs.Common.{◌≡◌, ◌∙◌, ap}
-use Rattle.euler_operators.specs.Model.{tail, has_half}
+use Rattle.euler_operators.specs.Common.{tail, has_half}
 use Rattle.solid_walks.proofs.face_walks_laws.HalfCodes.{coded}
 use Rattle.session_slots.proofs.cycles.HalfEdgeRowWritten.of.Goals as goal
 

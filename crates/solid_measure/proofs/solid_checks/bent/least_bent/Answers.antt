@@ -1,10 +1,8 @@
-use Rattle.std.proofs.Common.{◌∙◌, sym, subst, rules, tests, of_calls}
-use Rattle.std.specs.Prelude.{not}
+use Rattle.std.proofs.Common.{◌∙◌, sym, subst, rules, tests, of_calls, not}
 use Rattle.std.proofs.lemmas.Iterator.Adapters.{option_map_id}
 use Rattle.std.proofs.lemmas.Iterator.Consumers.{YieldsList-from_first}
 use Rattle.std.proofs.lemmas.Iterator.Search.{find_from_yields_List}
-use Rattle.euler_operators.specs.Model.{faces_of}
-use Rattle.euler_operators.specs.Items.{IsIn}
+use Rattle.euler_operators.specs.Common.{faces_of, IsIn}
 use Rattle.solid_walks.proofs.face_walks_laws.FaceWalks.{face_in}
 use Rattle.solid_walks.proofs.face_walks_laws.Yielded.{serves_listed}
 use Rattle.solid_measure.specs.Measure.{is_flat}

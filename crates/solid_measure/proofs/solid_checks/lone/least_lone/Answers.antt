@@ -1,8 +1,7 @@
 use Rattle.std.proofs.Common.{◌∙◌, subst, rules, tests, of_calls, None, [], ◌∷◌}
 use Rattle.std.proofs.lemmas.Iterator.Consumers.{YieldsList-from_first, fold_from_yields_List}
-use Rattle.euler_operators.specs.Model.{faces_of}
-use Rattle.euler_operators.specs.Items.{IsIn}
-use Rattle.shapes.specs.Faces.{least_lone}
+use Rattle.euler_operators.specs.Common.{faces_of, IsIn}
+use Rattle.shapes.specs.Common.{least_lone}
 use Rattle.solid_walks.specs.Least.{lesser}
 use Rattle.solid_walks.proofs.face_walks_laws.FaceWalks.{face_in}
 use Rattle.solid_walks.proofs.face_walks_laws.Yielded.{serves_folding}

@@ -1,7 +1,6 @@
 use Rattle.std.proofs.Common.{sym, ap, subst, ◌∙◌}
-use Rattle.euler_operators.specs.Items.{IsIn}
+use Rattle.euler_operators.specs.Common.{IsIn, content}
 use Rattle.euler_operators.specs.Table as table
-use Rattle.euler_operators.specs.Model.{content}
 use Rattle.solid_walks.proofs.face_walks_laws.FaceWalks.{loop_in}
 use Rattle.solid_walks.proofs.face_walks_laws.Yielded.{yielded_in}
 use Rattle.solid_measure.specs.solid_counts.Sums.{IsFew, together, loop_met, loops_met}

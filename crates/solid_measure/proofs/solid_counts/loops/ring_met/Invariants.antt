@@ -1,7 +1,6 @@
 use Rattle.std.proofs.Common.{◌≡◌, ◌-◌}
-use Rattle.euler_operators.specs.HalfEdge.{code}
-use Rattle.euler_operators.specs.Model.{before}
-use Rattle.euler_laws.proofs.shared.Bounds.{steps}
+use Rattle.euler_operators.specs.Common.{code, before}
+use Rattle.euler_laws.proofs.Common.{steps}
 use Rattle.solid_measure.proofs.solid_counts_laws.LoopRounds.{MetRound}
 use Rattle.solid_measure.proofs.solid_counts.loops.ring_met.Given as goal
 

@@ -1,9 +1,6 @@
-use Rattle.std.proofs.Common.{length, sym, ap, subst, ◌∙◌, arith}
-use Rattle.std.proofs.lemmas.List.{length-append}
-use Rattle.euler_operators.specs.Items.{IsIn}
-use Rattle.euler_operators.specs.Model.{rings_of}
-use Rattle.shapes.specs.Faces.{loops_of}
-use Rattle.shapes.specs.Walks.{loops_in}
+use Rattle.std.proofs.Common.{length, sym, ap, subst, ◌∙◌, arith, length-append}
+use Rattle.euler_operators.specs.Common.{IsIn, rings_of}
+use Rattle.shapes.specs.Common.{loops_of, loops_in}
 use Rattle.solid_walks.proofs.face_walks_laws.FaceWalks.{face_in}
 use Rattle.solid_walks.proofs.face_walks_laws.Yielded.{yielded_in}
 use Rattle.solid_measure.specs.solid_counts.Counts.{rings_in}

@@ -1,6 +1,6 @@
 use Rattle.std.proofs.Common.{◌≡◌, ◌+◌, length}
-use Rattle.euler_operators.specs.Model.{faces_of}
-use Rattle.shapes.specs.Walks.{loops_in}
+use Rattle.euler_operators.specs.Common.{faces_of}
+use Rattle.shapes.specs.Common.{loops_in}
 use Rattle.solid_measure.specs.solid_counts.Counts.{rings_in}
 use Rattle.solid_measure.specs.solid_counts.Sums.{together, loops_met}
 use Rattle.solid_measure.proofs.solid_counts.solids.solid_met.Given as goal

@@ -1,6 +1,5 @@
 use Rattle.std.proofs.lemmas.Iterator.Consumers.{YieldsList-from_first, map_from_collect}
-use Rattle.euler_operators.specs.HalfEdge.{code}
-use Rattle.euler_operators.specs.Model.{cycle_of}
+use Rattle.euler_operators.specs.Common.{code, cycle_of}
 use Rattle.solid_walks.proofs.face_walks.items.items_from.Goals as goal
 
 pub returns : goal.returns

@@ -1,9 +1,6 @@
 use Rattle.std.proofs.Common.{ap, sym, ◌∙◌}
-use Rattle.euler_operators.specs.Items.{least}
-use Rattle.euler_operators.specs.Rings.{rotate_to, canonical}
-use Rattle.euler_operators.specs.HalfEdge.{code}
-use Rattle.euler_operators.specs.Model.{cycle_of}
-use Rattle.euler_operators.proofs.Models.{cycle_sound}
+use Rattle.euler_operators.specs.Common.{least, rotate_to, canonical, code, cycle_of}
+use Rattle.euler_operators.proofs.Common.{cycle_sound}
 use Rattle.solid_walks.proofs.face_walks.items.items_of.Goals as goal
 
 pub returns : goal.returns

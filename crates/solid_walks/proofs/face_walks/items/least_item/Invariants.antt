@@ -1,6 +1,5 @@
 use Rattle.std.proofs.Common.{◌≤◌, ℕ, length}
-use Rattle.euler_operators.specs.Items.{IsIn}
-use Rattle.euler_operators.specs.Model.{cycle_of}
+use Rattle.euler_operators.specs.Common.{IsIn, cycle_of}
 use Rattle.solid_walks.proofs.face_walks_laws.CycleWalks.{seen, to_come}
 use Rattle.solid_walks.proofs.face_walks.items.least_item.Given as goal
 

@@ -1,11 +1,7 @@
 use Rattle.std.proofs.Common.{◌≡◌, ℕ, false, true≢false, ap, subst, refl}
-use Rattle.euler_operators.specs.declared.Content.{Content}
+use Rattle.euler_operators.specs.Common.{Content, is_lone, code, LoopContent, lone, cycle, content, items_of, StandsIn}
 use Rattle.euler_operators.specs.declared.Content.TheVariants.{Lone}
-use Rattle.euler_operators.specs.Conditions.{is_lone}
-use Rattle.euler_operators.specs.HalfEdge.{code}
-use Rattle.euler_operators.specs.Model.{LoopContent, lone, cycle, content, items_of}
-use Rattle.euler_operators.specs.Sound.{StandsIn}
-use Rattle.euler_operators.proofs.Models.{in-holds}
+use Rattle.euler_operators.proofs.Common.{in-holds}
 use Rattle.euler_conditions.specs.Store.{Tells}
 use Rattle.euler_conditions.proofs.Borders.{ring_has}
 use Rattle.solid_walks.proofs.face_walks.items.some_item.Goals as goal

@@ -1,14 +1,8 @@
-use Rattle.std.proofs.Common.{◌≡◌, ◌∙◌, ◌+◌, ℕ, List, Result, Ok, IfOk, Some, None, Vec, Global, map, length, vec_len, sym, ap, subst, arith}
-use Rattle.std.specs.Prelude.{min}
-use Rattle.euler_operators.specs.declared.Plane.{Plane}
+use Rattle.std.proofs.Common.{◌≡◌, ◌∙◌, ◌+◌, ℕ, List, Result, Ok, IfOk, Some, None, Vec, Global, map, length, vec_len, sym, ap, subst, arith, min}
+use Rattle.euler_operators.specs.Common.{Plane, code, Model, first_refusal, strictly_rises}
 use Rattle.euler_operators.specs.declared.Refusal.{Refusal}
-use Rattle.euler_operators.specs.HalfEdge.{code}
-use Rattle.euler_operators.specs.Model.{Model}
-use Rattle.euler_operators.specs.Conditions.{first_refusal, strictly_rises}
-use Rattle.euler_laws.proofs.shared.Goes.{verdict_passed, verdict_failed}
-use Rattle.shapes.specs.Fresh.{first_such, numbers_left, taken_in}
-use Rattle.shapes.specs.split.Sides.{crossing_edges, straddling_faces}
-use Rattle.shapes.specs.split.Split.{cut_conditions}
+use Rattle.euler_laws.proofs.Common.{verdict_passed, verdict_failed}
+use Rattle.shapes.specs.Common.{first_such, numbers_left, taken_in, crossing_edges, straddling_faces, cut_conditions}
 use Rattle.split_checks.specs.declared.cuts.Pair.{Pair}
 use Rattle.split_checks.specs.Cuts.{all_pairs, codes, cut_at, paired_face}
 use Rattle.split_checks.specs.begin_checks.Conditions.{face_conditions}

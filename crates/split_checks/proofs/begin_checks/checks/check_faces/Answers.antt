@@ -1,7 +1,6 @@
 use Rattle.std.proofs.Common.{◌≡◌, ◌∙◌, Some, None, map, sym, ap}
-use Rattle.euler_operators.specs.HalfEdge.{code}
-use Rattle.shapes.specs.Fresh.{first_such}
-use Rattle.shapes.specs.split.Places.{is_crossed}
+use Rattle.euler_operators.specs.Common.{code}
+use Rattle.shapes.specs.Common.{first_such, is_crossed}
 use Rattle.split_checks.specs.cut_places.Meetings.{faces_in}
 use Rattle.split_checks.specs.declared.begin_checks.flaws.Flaw.TheVariants.{Touched, CutOften}
 use Rattle.split_checks.proofs.begin_checks_laws.Stages.{at_ok, at_err, touched_refused, often_refused, crossed_refused, none_refused}

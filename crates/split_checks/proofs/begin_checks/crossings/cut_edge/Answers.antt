@@ -1,8 +1,7 @@
 use Rattle.std.proofs.Common.{◌∙◌, true, false, not, is_some, sym, ap}
-use Rattle.euler_operators.specs.Vectors.{are_opposite, cuts_lattice, cut_between}
-use Rattle.euler_operators.specs.declared.Point.{Point}
+use Rattle.euler_operators.specs.Common.{are_opposite, cuts_lattice, cut_between, Point}
 use Rattle.solid_measure.proofs.face_walks_laws.HalfCodes.{plus_there, code_plus}
-use Rattle.shapes.specs.Faces.{start, finish}
+use Rattle.shapes.specs.Common.{start, finish}
 use Rattle.split_checks.proofs.cut_places_laws.Cuts.{told_off, told_point}
 use Rattle.split_checks.proofs.begin_checks.crossings.cut_edge.Goals as goal
 

@@ -1,5 +1,5 @@
 use Rattle.std.proofs.Common.{◌∙◌, ℕ, cond, List, ◌∷◌, ◌++◌, Some, map, slice_index_or, sym, ap, subst, append_assoc}
-use Rattle.shapes.specs.Fresh.{first_such}
+use Rattle.shapes.specs.Common.{first_such}
 use Rattle.split_checks.specs.Cuts.{cut_at}
 use Rattle.split_checks.specs.cut_places.Crossings.{AreCrossing, is_off}
 use Rattle.split_checks.specs.declared.cuts.CutEdge.{CutEdge}

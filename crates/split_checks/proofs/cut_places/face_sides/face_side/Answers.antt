@@ -1,8 +1,6 @@
 use Rattle.std.proofs.Common.{◌≡◌, ◌∙◌, ◌||◌, false, ap, sym, length, arith}
-use Rattle.euler_operators.specs.Model.{content, rings_of}
-use Rattle.euler_operators.specs.declared.Sign.{Sign}
-use Rattle.euler_operators.specs.declared.Sign.TheVariants.{Above, Below}
-use Rattle.shapes.specs.Faces.{vertices_in, vertices_on}
+use Rattle.euler_operators.specs.Common.{content, rings_of, Sign, Above, Below}
+use Rattle.shapes.specs.Common.{vertices_in, vertices_on}
 use Rattle.solid_measure.proofs.face_walks_laws.Above.{above}
 use Rattle.solid_measure.proofs.face_walks_laws.RingWalks.{next_ring}
 use Rattle.split_checks.specs.cut_places.Sides.{reaches, side_reached, some_lie}

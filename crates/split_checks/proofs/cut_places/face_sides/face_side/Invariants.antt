@@ -1,7 +1,6 @@
 use Rattle.std.proofs.Common.{◌≡◌, ◌||◌, length}
-use Rattle.euler_operators.specs.Model.{rings_of}
-use Rattle.euler_operators.specs.declared.Sign.TheVariants.{Above, Below}
-use Rattle.shapes.specs.Faces.{vertices_in}
+use Rattle.euler_operators.specs.Common.{rings_of, Above, Below}
+use Rattle.shapes.specs.Common.{vertices_in}
 use Rattle.solid_measure.proofs.face_walks_laws.Above.{above}
 use Rattle.split_checks.specs.cut_places.Noted.{AreSides}
 use Rattle.split_checks.specs.cut_places.Sides.{reaches, some_lie}

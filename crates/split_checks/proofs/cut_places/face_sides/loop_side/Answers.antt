@@ -1,10 +1,7 @@
 use Rattle.std.proofs.Common.{◌≡◌, ◌∙◌, ap, sym}
 use Rattle.std.specs.List.{list_any}
-use Rattle.euler_operators.specs.declared.Sign.{Sign}
-use Rattle.euler_operators.specs.declared.Sign.TheVariants.{Above, Below}
-use Rattle.euler_operators.specs.HalfEdge.{code}
-use Rattle.euler_operators.specs.Model.{content, cycle_of, items_of, point_of, tail}
-use Rattle.shapes.specs.Faces.{start, vertices_on}
+use Rattle.euler_operators.specs.Common.{Sign, Above, Below, code, content, cycle_of, items_of, point_of, tail}
+use Rattle.shapes.specs.Common.{start, vertices_on}
 use Rattle.euler_conditions.proofs.Known.{filled}
 use Rattle.split_checks.specs.cut_places.Sides.{lies, side_reached, some_lie, some_start}
 use Rattle.split_checks.proofs.cut_places_laws.Lists.{any_map}

@@ -1,8 +1,6 @@
 use Rattle.std.proofs.Common.{◌≡◌, ◌∙◌, ◌||◌, true, ap, sym, length, arith}
-use Rattle.euler_operators.specs.declared.Sign.{Sign}
-use Rattle.euler_operators.specs.declared.Sign.TheVariants.{Above, Below}
-use Rattle.euler_operators.specs.Model.{cycle_of, has_half}
-use Rattle.shapes.specs.Faces.{start}
+use Rattle.euler_operators.specs.Common.{Sign, Above, Below, cycle_of, has_half}
+use Rattle.shapes.specs.Common.{start}
 use Rattle.euler_conditions.proofs.Coded.{edge_fits}
 use Rattle.solid_measure.proofs.face_walks_laws.CycleWalks.{item_there, item_in, goes_on}
 use Rattle.split_checks.specs.cut_places.Sides.{lies, same_sign, side_reached, some_start}

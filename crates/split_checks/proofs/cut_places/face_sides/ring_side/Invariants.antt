@@ -1,7 +1,5 @@
 use Rattle.std.proofs.Common.{◌≡◌, ◌||◌, ◌∷◌, length}
-use Rattle.euler_operators.specs.Items.{IsIn}
-use Rattle.euler_operators.specs.Model.{cycle_of}
-use Rattle.euler_operators.specs.declared.Sign.TheVariants.{Above, Below}
+use Rattle.euler_operators.specs.Common.{IsIn, cycle_of, Above, Below}
 use Rattle.solid_measure.proofs.face_walks_laws.CycleWalks.{to_come}
 use Rattle.split_checks.specs.cut_places.Noted.{AreSides}
 use Rattle.split_checks.specs.cut_places.Sides.{some_start}

@@ -1,11 +1,8 @@
 use Rattle.std.proofs.Common.{◌∙◌, ap}
-use Rattle.euler_operators.specs.HalfEdge.{code}
+use Rattle.euler_operators.specs.Common.{code, has_half, height, sign_of, Above}
 use Rattle.euler_operators.specs.Table as table
-use Rattle.euler_operators.specs.Model.{has_half}
-use Rattle.euler_operators.specs.Vectors.{height, sign_of}
-use Rattle.euler_operators.specs.declared.Sign.TheVariants.{Above}
-use Rattle.euler_operators.proofs.Halves.{edge_of-mate}
-use Rattle.shapes.specs.Faces.{finish, start}
+use Rattle.euler_operators.proofs.Common.{edge_of-mate}
+use Rattle.shapes.specs.Common.{finish, start}
 use Rattle.split_checks.specs.cut_places.Sides.{same_sign}
 use Rattle.split_checks.proofs.cut_places_laws.Signs.{sign_lies}
 use Rattle.split_checks.proofs.cut_places.halves.goes_up.Goals as goal

@@ -1,6 +1,5 @@
-use Rattle.std.proofs.Common.{◌∙◌, true, false, ◌&&◌, List, [], ◌∷◌, ◌++◌, sym, ap}
-use Rattle.std.proofs.lemmas.List.{append-nil}
-use Rattle.euler_operators.specs.declared.HalfEdge.{HalfEdge}
+use Rattle.std.proofs.Common.{◌∙◌, true, false, ◌&&◌, List, [], ◌∷◌, ◌++◌, sym, ap, append-nil}
+use Rattle.euler_operators.specs.Common.{HalfEdge}
 use Rattle.split_checks.specs.declared.cut_places.found.Looked.{Looked}
 use Rattle.split_checks.proofs.cut_places_laws.Met.{one_met, across_is, place_across, place_on, place_off, touch_place, touch_on, touch_off, or_false, or_true, and_false}
 use Rattle.split_checks.proofs.cut_places.looking.look_at.Goals.{then-h+in_ok-push, else-h}

@@ -1,9 +1,7 @@
 use Rattle.std.proofs.Common.{◌∙◌, [], ◌∷◌, ap, sym, subst, ℕ, List, length, arith}
-use Rattle.euler_operators.specs.Items.{least}
-use Rattle.euler_operators.specs.Vectors.{height, sign_of}
-use Rattle.euler_operators.specs.Model.{cycle_of, has_half, tail}
+use Rattle.euler_operators.specs.Common.{least, height, sign_of, cycle_of, has_half, tail}
 use Rattle.euler_conditions.proofs.Coded.{coded, edge_fits}
-use Rattle.shapes.specs.Faces.{finish, start}
+use Rattle.shapes.specs.Common.{finish, start}
 use Rattle.solid_measure.proofs.face_walks_laws.CycleWalks.{to_come, item_there, item_in, from_least, goes_on, comes_back}
 use Rattle.split_checks.specs.cut_places.Meetings.{IsMet, IsRound}
 use Rattle.split_checks.proofs.cut_places_laws.PlaceWalks.{next_starts}

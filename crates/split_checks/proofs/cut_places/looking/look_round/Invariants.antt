@@ -1,8 +1,6 @@
 use Rattle.std.proofs.Common.{◌≡◌, ◌∷◌, length}
-use Rattle.euler_operators.specs.Items.{IsIn}
-use Rattle.euler_operators.specs.Vectors.{height, sign_of}
-use Rattle.euler_operators.specs.Model.{cycle_of}
-use Rattle.shapes.specs.Faces.{start}
+use Rattle.euler_operators.specs.Common.{IsIn, height, sign_of, cycle_of}
+use Rattle.shapes.specs.Common.{start}
 use Rattle.solid_measure.proofs.face_walks_laws.CycleWalks.{to_come}
 use Rattle.split_checks.specs.cut_places.Noted.{AreSides}
 use Rattle.split_checks.proofs.cut_places_laws.Met.{Walked}

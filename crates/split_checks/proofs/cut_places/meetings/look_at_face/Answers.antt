@@ -1,7 +1,6 @@
-use Rattle.std.proofs.Common.{◌∙◌, ap, sym, subst, true, false, [], ◌∷◌, ◌++◌, refl, map}
-use Rattle.std.proofs.lemmas.List.{append-nil}
-use Rattle.euler_operators.specs.HalfEdge.{code}
-use Rattle.shapes.specs.Faces.{boundary, corners}
+use Rattle.std.proofs.Common.{◌∙◌, ap, sym, subst, true, false, [], ◌∷◌, ◌++◌, refl, map, append-nil}
+use Rattle.euler_operators.specs.Common.{code}
+use Rattle.shapes.specs.Common.{boundary, corners}
 use Rattle.split_checks.specs.cut_places.Meetings.{IsMet, unmarked}
 use Rattle.split_checks.specs.declared.cut_places.found.FaceMet.{FaceMet}
 use Rattle.split_checks.proofs.cut_places_laws.Met.{no_fewer, cut_back, face_done, face_told, places_told, places_added}

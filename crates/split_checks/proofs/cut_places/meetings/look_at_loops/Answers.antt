@@ -1,6 +1,5 @@
 use Rattle.std.proofs.Common.{◌∙◌, ap, ◌&&◌, ◌||◌, not, nat_eq}
-use Rattle.shapes.specs.Faces.{boundary, corners}
-use Rattle.shapes.specs.split.Places.{is_cut_often, loop_is_cut, places}
+use Rattle.shapes.specs.Common.{boundary, corners, is_cut_often, loop_is_cut, places}
 use Rattle.split_checks.proofs.cut_places_laws.Met.{face_looked, no_fewer, counted}
 use Rattle.split_checks.proofs.cut_places.meetings.look_at_loops.Goals as goal
 

@@ -1,7 +1,7 @@
 use Rattle.std.proofs.Common.{◌≡◌, ◌&&◌, length}
 use Rattle.std.specs.List.{list_all}
-use Rattle.euler_operators.specs.Model.{rings_of}
-use Rattle.shapes.specs.split.Places.{loop_is_cut}
+use Rattle.euler_operators.specs.Common.{rings_of}
+use Rattle.shapes.specs.Common.{loop_is_cut}
 use Rattle.solid_measure.proofs.face_walks_laws.Above.{above}
 use Rattle.split_checks.specs.cut_places.Noted.{AreSides}
 use Rattle.split_checks.proofs.cut_places_laws.Met.{LoopsWalked}

@@ -1,5 +1,5 @@
 use Rattle.std.proofs.Common.{length}
-use Rattle.euler_operators.specs.Model.{faces_of}
+use Rattle.euler_operators.specs.Common.{faces_of}
 use Rattle.solid_measure.proofs.face_walks_laws.Above.{above}
 use Rattle.split_checks.specs.cut_places.Noted.{AreSides}
 use Rattle.split_checks.proofs.cut_places_laws.Met.{FacesWalked}

@@ -1,7 +1,6 @@
 use Rattle.std.proofs.Common.{◌∙◌, ap}
-use Rattle.euler_operators.specs.Vectors.{height, sign_of}
-use Rattle.euler_operators.specs.Model.{has_half}
-use Rattle.shapes.specs.Faces.{start}
+use Rattle.euler_operators.specs.Common.{height, sign_of, has_half}
+use Rattle.shapes.specs.Common.{start}
 use Rattle.euler_conditions.proofs.Coded.{coded}
 use Rattle.split_checks.proofs.cut_places.noted.side_of_code.Goals as goal
 

@@ -1,5 +1,5 @@
 use Rattle.std.proofs.Common.{◌∙◌, ap}
-use Rattle.euler_operators.specs.HalfEdge.{code}
+use Rattle.euler_operators.specs.Common.{code}
 use Rattle.euler_operators.specs.Table as table
 use Rattle.split_checks.proofs.cut_places.noted.start_side.Goals as goal
 

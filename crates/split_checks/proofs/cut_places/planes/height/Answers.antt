@@ -1,4 +1,4 @@
-use Rattle.euler_operators.proofs.Magnitudes.{coordinates, coordinate_held}
+use Rattle.euler_operators.proofs.Common.{coordinates, coordinate_held}
 use Rattle.split_checks.proofs.cut_places_laws.Heights.{number_held, level_told, rise_told, offset_told, whole_told, height_told}
 use Rattle.split_checks.proofs.cut_places.planes.height.Goals as goal
 

@@ -1,7 +1,6 @@
 use Rattle.std.proofs.Common.{◌≡◌, ◌∙◌, ℕ, ◌/◌, true, false, cond, not, length, Ok, List, [], ◌∷◌, ◌++◌, Some, map, slice_index_or, sym, ap, subst, append_assoc}
-use Rattle.euler_operators.specs.HalfEdge.{code}
-use Rattle.shapes.specs.Fresh.{first_such}
-use Rattle.shapes.specs.split.Places.{is_crossed, place_pairs}
+use Rattle.euler_operators.specs.Common.{code}
+use Rattle.shapes.specs.Common.{first_such, is_crossed, place_pairs}
 use Rattle.split_checks.specs.Cuts.{codes, all_pairs, paired_face}
 use Rattle.split_checks.specs.cut_places.Meetings.{AreTold, faces_in}
 use Rattle.split_checks.specs.cut_places.Places.{AreFacesAlong}

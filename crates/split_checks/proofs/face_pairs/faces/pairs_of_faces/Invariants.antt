@@ -1,7 +1,6 @@
 use Rattle.std.proofs.Common.{◌≡◌, ◌++◌, map, length}
-use Rattle.euler_operators.specs.HalfEdge.{code}
-use Rattle.shapes.specs.Fresh.{first_such}
-use Rattle.shapes.specs.split.Places.{is_crossed}
+use Rattle.euler_operators.specs.Common.{code}
+use Rattle.shapes.specs.Common.{first_such, is_crossed}
 use Rattle.split_checks.specs.Cuts.{all_pairs, codes, paired_face}
 use Rattle.split_checks.specs.cut_places.Meetings.{AreTold, faces_in}
 use Rattle.split_checks.specs.cut_places.Noted.{AreSides}

@@ -1,8 +1,8 @@
 use Rattle.std.proofs.Common.{◌≡◌, ◌∙◌, ℕ, [], List, ◌∷◌, ◌++◌, ◌&&◌, map, refl, sym, ap, subst, append_assoc}
 use Rattle.std.specs.List.{list_all}
 use Rattle.std.proofs.lemmas.List.{map-append}
-use Rattle.euler_operators.specs.declared.HalfEdge.{HalfEdge}
-use Rattle.shapes.specs.split.Places.{in_pairs, is_up_and_down, up_first}
+use Rattle.euler_operators.specs.Common.{HalfEdge}
+use Rattle.shapes.specs.Common.{in_pairs, is_up_and_down, up_first}
 use Rattle.split_checks.specs.Cuts.{codes}
 use Rattle.split_checks.specs.cut_places.Walks.{AreThere}
 use Rattle.split_checks.specs.place_order.Order.{Key, places_of}

@@ -1,6 +1,6 @@
 use Rattle.std.proofs.Common.{◌≡◌, ◌++◌, map, length}
 use Rattle.std.specs.List.{list_all}
-use Rattle.shapes.specs.split.Places.{in_pairs, is_up_and_down, up_first}
+use Rattle.shapes.specs.Common.{in_pairs, is_up_and_down, up_first}
 use Rattle.split_checks.specs.Cuts.{codes}
 use Rattle.split_checks.specs.cut_places.Noted.{AreSides}
 use Rattle.split_checks.specs.cut_places.Walks.{AreThere}

@@ -1,7 +1,7 @@
 use Rattle.std.proofs.Common.{◌≡◌, List, ℕ, ◌++◌, true, false, not, map, slice_index_or, sym, ap, subst, arith, refl, Ok, IfOk}
-use Rattle.euler_operators.specs.HalfEdge.{code}
-use Rattle.euler_operators.proofs.Lists.{tick_same}
-use Rattle.shapes.specs.split.Places.{some_meet, sorted, in_pairs, up_first}
+use Rattle.euler_operators.specs.Common.{code}
+use Rattle.euler_operators.proofs.Common.{tick_same}
+use Rattle.shapes.specs.Common.{some_meet, sorted, in_pairs, up_first}
 use Rattle.split_checks.specs.Cuts.{codes}
 use Rattle.split_checks.specs.place_order.Order.{ArePlacesAlong, entries_of, places_of}
 use Rattle.split_checks.proofs.place_order_laws.Ordered.{at_some, at_none, held_in_order, order_there}

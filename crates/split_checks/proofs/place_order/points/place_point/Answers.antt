@@ -1,11 +1,9 @@
 use Rattle.std.proofs.Common.{◌∙◌, List, length, sym, ap, subst, arith}
 use Rattle.std.proofs.lemmas.List.{length-map}
-use Rattle.euler_operators.specs.HalfEdge.{code}
-use Rattle.euler_operators.specs.Items.{IsIn}
-use Rattle.euler_operators.specs.declared.Sign.TheVariants.{On}
-use Rattle.euler_operators.proofs.Halves.{edge_of-code}
-use Rattle.euler_laws.proofs.shared.Listed.{listed-from_in}
-use Rattle.shapes.specs.Faces.{start}
+use Rattle.euler_operators.specs.Common.{code, IsIn, On}
+use Rattle.euler_operators.proofs.Common.{edge_of-code}
+use Rattle.euler_laws.proofs.Common.{listed-from_in}
+use Rattle.shapes.specs.Common.{start}
 use Rattle.split_checks.specs.Cuts.{cut_at}
 use Rattle.split_checks.specs.cut_places.Sides.{same_sign}
 use Rattle.split_checks.specs.declared.cuts.CutEdge.{CutEdge}

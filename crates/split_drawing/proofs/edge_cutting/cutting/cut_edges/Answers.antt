@@ -1,9 +1,7 @@
 use Rattle.std.proofs.Common.{◌∙◌, ap, sym, subst}
 use Rattle.undo_journal.specs.Journal.{DraftJournal}
-use Rattle.euler_operators.specs.Conditions.{first_false}
-use Rattle.euler_operators.specs.Effect.{effect}
-use Rattle.shapes.specs.Fresh.{taken_in}
-use Rattle.shapes.specs.split.Sides.{crossing_edges}
+use Rattle.euler_operators.specs.Common.{first_false, effect}
+use Rattle.shapes.specs.Common.{taken_in, crossing_edges}
 use Rattle.split_drawing.proofs.edge_cutting_laws.Remaining.{Cutting, AreAt, edges_in, no_cut, all_at, edges_at, begins, opened, opened_at, next_goes, next_crosses, next_op, next_taken, next_counted, edge_left, vertex_left}
 use Rattle.undo_journal.proofs.Marks.{further_none, further_on}
 use Rattle.split_drawing.proofs.edge_cutting.cutting.cut_edges.Goals as goal

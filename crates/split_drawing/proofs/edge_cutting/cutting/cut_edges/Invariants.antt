@@ -1,5 +1,5 @@
 use Rattle.std.proofs.Common.{◌≡◌, length}
-use Rattle.shapes.specs.Fresh.{taken_in}
+use Rattle.shapes.specs.Common.{taken_in}
 use Rattle.solid_walks.specs.Counters.{taken_of}
 use Rattle.split_drawing.proofs.edge_cutting_laws.Remaining.{Cutting, AreAt, edges_in}
 use Rattle.undo_journal.specs.Journal.{IsFurther}

@@ -1,6 +1,5 @@
-use Rattle.std.proofs.Common.{◌≡◌, [], length, map}
-use Rattle.std.specs.Prelude.{fold}
-use Rattle.shapes.specs.split.Drawing.{join_next}
+use Rattle.std.proofs.Common.{◌≡◌, [], length, map, fold}
+use Rattle.shapes.specs.Common.{join_next}
 use Rattle.split_checks.specs.Cuts.{codes}
 use Rattle.split_checks.specs.Progress.{drawing_of}
 use Rattle.split_drawing.specs.face_drawing.Passes.{CanJoin}

@@ -1,6 +1,5 @@
 use Rattle.std.proofs.Common.{[], map, sym, subst}
-use Rattle.euler_operators.specs.Model.{Model}
-use Rattle.euler_operators.specs.Sound.{Has}
+use Rattle.euler_operators.specs.Common.{Model, Has}
 use Rattle.split_checks.specs.Cuts.{codes}
 use Rattle.split_checks.specs.Progress.{drawing_of}
 use Rattle.split_drawing.proofs.solid_drawing_laws.OneFace.{can_join, then_there, then_draw, last_there, last_noted, last_rings, with_shared, with_none}

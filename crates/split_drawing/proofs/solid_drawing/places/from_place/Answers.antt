@@ -1,9 +1,7 @@
 use Rattle.std.proofs.Common.{◌∙◌, ap, sym, cond}
-use Rattle.euler_operators.specs.HalfEdge.{code}
-use Rattle.euler_operators.specs.declared.Sign.TheVariants.{On}
-use Rattle.euler_operators.specs.Model.{after}
+use Rattle.euler_operators.specs.Common.{code, On, after}
 use Rattle.euler_conditions.proofs.Known.{in_a_loop}
-use Rattle.shapes.specs.Faces.{start}
+use Rattle.shapes.specs.Common.{start}
 use Rattle.split_checks.specs.cut_places.Sides.{same_sign}
 use Rattle.split_checks.proofs.cut_places_laws.Signs.{sign_lies}
 use Rattle.split_drawing.proofs.solid_drawing.places.from_place.Goals as goal

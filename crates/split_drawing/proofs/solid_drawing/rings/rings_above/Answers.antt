@@ -1,12 +1,8 @@
-use Rattle.std.proofs.Common.{◌∙◌, ap, sym, ℕ, Bool, List, [], ◌∷◌, ◌++◌, cond, length, arith, append_assoc}
-use Rattle.std.specs.Prelude.{filter}
-use Rattle.std.proofs.lemmas.List.{append-nil}
-use Rattle.euler_operators.specs.declared.Plane.{Plane}
-use Rattle.euler_operators.specs.Model.{Model, rings_of, content}
-use Rattle.shapes.specs.Faces.{vertices_on}
+use Rattle.std.proofs.Common.{◌∙◌, ap, sym, ℕ, Bool, List, [], ◌∷◌, ◌++◌, cond, length, arith, append_assoc, filter, append-nil}
+use Rattle.euler_operators.specs.Common.{Plane, Model, rings_of, content}
+use Rattle.shapes.specs.Common.{vertices_on, some_above}
 use Rattle.solid_walks.proofs.face_walks_laws.Above.{above}
 use Rattle.solid_walks.proofs.face_walks_laws.RingWalks.{next_ring, no_ring, rings_from_zero}
-use Rattle.shapes.specs.split.Sides.{some_above}
 use Rattle.split_checks.proofs.cut_places_laws.NotedSides.{told_up}
 use Rattle.split_drawing.proofs.solid_drawing_laws.RingSteps.{ring_there}
 use Rattle.split_drawing.proofs.solid_drawing.rings.rings_above.Goals as goal

@@ -1,10 +1,7 @@
-use Rattle.std.proofs.Common.{◌≡◌, ◌++◌, length}
-use Rattle.std.specs.Prelude.{filter}
-use Rattle.euler_operators.specs.Model.{rings_of, content}
-use Rattle.shapes.specs.Faces.{vertices_on}
+use Rattle.std.proofs.Common.{◌≡◌, ◌++◌, length, filter}
+use Rattle.euler_operators.specs.Common.{rings_of, content}
+use Rattle.shapes.specs.Common.{vertices_on, some_above, rings_above}
 use Rattle.solid_walks.proofs.face_walks_laws.Above.{above}
-use Rattle.shapes.specs.split.Sides.{some_above}
-use Rattle.shapes.specs.split.Drawing.{rings_above}
 use Rattle.split_checks.specs.cut_places.Noted.{AreSides}
 use Rattle.split_drawing.proofs.solid_drawing.rings.rings_above.Given as goal
 

@@ -1,7 +1,7 @@
 use Rattle.std.proofs.Common.{◌∙◌, ap, refl, subst, sym}
-use Rattle.euler_operators.specs.Model.{Model}
+use Rattle.euler_operators.specs.Common.{Model}
 use Rattle.euler_laws.specs.Laws.{effects}
-use Rattle.shapes.specs.split.Drawing.{rings_above, with_rings}
+use Rattle.shapes.specs.Common.{rings_above, with_rings}
 use Rattle.split_checks.specs.cut_places.Noted.{AreSides}
 use Rattle.split_checks.proofs.cut_places_laws.NotedSides.{noted_still}
 use Rattle.split_drawing_laws.specs.drawings.DrawingOps.{ring_ops}

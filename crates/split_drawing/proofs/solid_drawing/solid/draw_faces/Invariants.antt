@@ -1,5 +1,5 @@
 use Rattle.std.proofs.Common.{◌≡◌, ◌≤◌, [], map, length}
-use Rattle.shapes.specs.split.Drawing.{faces_drawn}
+use Rattle.shapes.specs.Common.{faces_drawn}
 use Rattle.split_checks.specs.Progress.{drawing_of}
 use Rattle.split_checks.specs.Cuts.{codes, how_many_pairs, paired}
 use Rattle.split_checks.specs.cut_places.Noted.{AreSides}

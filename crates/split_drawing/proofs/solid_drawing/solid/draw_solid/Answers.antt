@@ -1,7 +1,6 @@
 use Rattle.std.proofs.Common.{◌≡◌, ◌∙◌, [], map, IfOk, ap, sym, subst}
-use Rattle.euler_operators.specs.Model.{Model}
-use Rattle.shapes.specs.split.Crossings.{with_crossings}
-use Rattle.shapes.specs.split.Drawing.{Drawing}
+use Rattle.euler_operators.specs.Common.{Model}
+use Rattle.shapes.specs.Common.{with_crossings, Drawing}
 use Rattle.split_drawing.proofs.edge_cutting_laws.Remaining.{cut_plane}
 use Rattle.split_checks.specs.Progress.{drawing_of}
 use Rattle.split_checks.specs.Cuts.{codes}

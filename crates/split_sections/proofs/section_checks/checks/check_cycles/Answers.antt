@@ -1,8 +1,7 @@
 use Rattle.std.proofs.Common.{◌≡◌, ◌∙◌, None, Vec, Global, arith}
-use Rattle.euler_operators.specs.Conditions.{first_refusal}
-use Rattle.euler_laws.proofs.shared.Goes.{verdict_passed, verdict_failed}
-use Rattle.shapes.specs.split.Section.{below_halves}
-use Rattle.shapes.specs.split.Split.{section_conditions}
+use Rattle.euler_operators.specs.Common.{first_refusal}
+use Rattle.euler_laws.proofs.Common.{verdict_passed, verdict_failed}
+use Rattle.shapes.specs.Common.{below_halves, section_conditions}
 use Rattle.solid_walks.specs.Counters.{taken_of}
 use Rattle.split_sections.specs.section_checks.Cycles.{AreCyclesOf}
 use Rattle.split_sections.specs.declared.section_cycles.cycle.Cycle.{Cycle}

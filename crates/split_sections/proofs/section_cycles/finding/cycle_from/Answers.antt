@@ -1,8 +1,7 @@
 use Rattle.std.proofs.Common.{◌≡◌, ◌∙◌, ℕ, ◌+◌, ◌-◌, ◌==◌, List, [], ◌∷◌, map, length, sym, ap, subst, arith}
 use Rattle.std.proofs.lemmas.List.{length-map, map-append}
-use Rattle.euler_operators.specs.declared.HalfEdge.{HalfEdge}
-use Rattle.euler_operators.specs.HalfEdge.{code}
-use Rattle.shapes.specs.split.Section.{next_below}
+use Rattle.euler_operators.specs.Common.{HalfEdge, code}
+use Rattle.shapes.specs.Common.{next_below}
 use Rattle.split_sections.proofs.section_cycles_laws.Rounds.{Going, set_out, back, onward, out_of_steps}
 use Rattle.split_sections.proofs.section_cycles_laws.Leads.{leads_on, is_next}
 use Rattle.split_sections.proofs.section_cycles.finding.cycle_from.Goals as goal

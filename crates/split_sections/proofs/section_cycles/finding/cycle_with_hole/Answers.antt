@@ -1,7 +1,6 @@
 use Rattle.std.proofs.Common.{◌∙◌, ℕ, List, map, ap}
-use Rattle.euler_operators.specs.declared.HalfEdge.{HalfEdge}
-use Rattle.euler_operators.specs.HalfEdge.{code}
-use Rattle.shapes.specs.split.Section.{is_hole}
+use Rattle.euler_operators.specs.Common.{HalfEdge, code}
+use Rattle.shapes.specs.Common.{is_hole}
 use Rattle.split_sections.proofs.section_cycles_laws.Whole.{round_there, round_apart}
 use Rattle.split_sections.proofs.section_cycles.finding.cycle_with_hole.Goals as goal
 

@@ -1,13 +1,9 @@
-use Rattle.std.proofs.Common.{◌≡◌, ◌∙◌, ℕ, ◌≤◌, ◌||◌, List, length, map, vec_len, refl, sym, ap, subst, arith}
+use Rattle.std.proofs.Common.{◌≡◌, ◌∙◌, ℕ, ◌≤◌, ◌||◌, List, length, map, vec_len, refl, sym, ap, subst, arith, nat_cmp, is_eq}
 use Rattle.std.specs.BTreeSet.{contains}
-use Rattle.std.specs.Ordering.{nat_cmp, is_eq}
 use Rattle.std.specs.List.{list_any}
-use Rattle.euler_operators.specs.Items.{IsIn}
-use Rattle.euler_operators.specs.Conditions.{lists}
-use Rattle.euler_operators.specs.declared.HalfEdge.{HalfEdge}
-use Rattle.euler_operators.specs.HalfEdge.{code}
+use Rattle.euler_operators.specs.Common.{IsIn, lists, HalfEdge, code}
 use Rattle.solid_walks.proofs.face_walks_laws.HalfCodes.{edge_fits}
-use Rattle.shapes.specs.split.Section.{next_below}
+use Rattle.shapes.specs.Common.{next_below}
 use Rattle.split_sections.specs.section_cycles.Halves.{halves_of}
 use Rattle.split_sections.specs.declared.section_cycles.cycle.Cycle.{Cycle}
 use Rattle.split_checks.proofs.cut_places_laws.Lists.{no_half}

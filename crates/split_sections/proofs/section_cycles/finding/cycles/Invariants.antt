@@ -1,8 +1,7 @@
-use Rattle.std.proofs.Common.{map, length}
+use Rattle.std.proofs.Common.{map, length, nat_cmp}
 use Rattle.std.specs.BTreeSet.{contains}
-use Rattle.std.specs.Ordering.{nat_cmp}
-use Rattle.euler_operators.specs.HalfEdge.{code}
-use Rattle.shapes.specs.split.Section.{next_below}
+use Rattle.euler_operators.specs.Common.{code}
+use Rattle.shapes.specs.Common.{next_below}
 use Rattle.split_sections.specs.section_cycles.Halves.{halves_of}
 use Rattle.split_sections.proofs.section_cycles_laws.Found.{Finding}
 use Rattle.split_sections.proofs.section_cycles_laws.Whole.{AreTold}

@@ -1,9 +1,6 @@
-use Rattle.std.proofs.Common.{◌≡◌, ℕ, ◌≤◌, ◌||◌, map, length}
+use Rattle.std.proofs.Common.{◌≡◌, ℕ, ◌≤◌, ◌||◌, map, length, nat_cmp}
 use Rattle.std.specs.BTreeSet.{contains}
-use Rattle.std.specs.Ordering.{nat_cmp}
-use Rattle.euler_operators.specs.Items.{IsIn}
-use Rattle.euler_operators.specs.HalfEdge.{code}
-use Rattle.euler_operators.specs.Conditions.{lists}
+use Rattle.euler_operators.specs.Common.{IsIn, code, lists}
 use Rattle.split_sections.proofs.section_cycles.finding.meet.Given as goal
 
 abbrev pub invariant-halves : goal.invariant-halves

@@ -1,6 +1,6 @@
 use Rattle.std.proofs.Common.{◌∙◌, ap, arith}
-use Rattle.euler_operators.specs.Vectors.{dot}
-use Rattle.euler_operators.proofs.Magnitudes.{fits, held_is}
+use Rattle.euler_operators.specs.Common.{dot}
+use Rattle.euler_operators.proofs.Common.{fits, held_is}
 use Rattle.split_checks.specs.Measure.{read}
 use Rattle.split_checks.proofs.Planes.{held_vector_is}
 use Rattle.split_sections.proofs.section_cycles.holes.along.Goals as goal

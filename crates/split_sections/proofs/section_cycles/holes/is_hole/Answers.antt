@@ -1,11 +1,8 @@
-use Rattle.std.proofs.Common.{◌∙◌, ap, map, arith}
-use Rattle.std.specs.Prelude.{pos, int_lt, ℤ}
-use Rattle.euler_operators.specs.declared.Point.{Point}
-use Rattle.euler_operators.specs.Vectors.{dot}
-use Rattle.euler_operators.proofs.Magnitudes.{fits, held_is}
-use Rattle.euler_operators.specs.HalfEdge.{code, mate}
+use Rattle.std.proofs.Common.{◌∙◌, ap, map, arith, pos, int_lt, ℤ}
+use Rattle.euler_operators.specs.Common.{Point, dot, code, mate}
+use Rattle.euler_operators.proofs.Common.{fits, held_is}
 use Rattle.split_checks.specs.Measure.{area}
-use Rattle.shapes.specs.split.Section.{is_hole}
+use Rattle.shapes.specs.Common.{is_hole}
 use Rattle.split_sections.proofs.section_cycles.holes.is_hole.Goals as goal
 
 pub returns : goal.returns

@@ -1,9 +1,7 @@
 use Rattle.std.proofs.Common.{◌∙◌, map, sym, ap, subst}
-use Rattle.euler_operators.specs.HalfEdge.{code}
-use Rattle.euler_operators.specs.Sound.{HasHalf}
-use Rattle.euler_operators.specs.Vectors.{moved, cross}
-use Rattle.euler_operators.proofs.Models.{mate_there}
-use Rattle.shapes.specs.Faces.{start, finish}
+use Rattle.euler_operators.specs.Common.{code, HasHalf, moved, cross}
+use Rattle.euler_operators.proofs.Common.{mate_there}
+use Rattle.shapes.specs.Common.{start, finish}
 use Rattle.split_checks.specs.Measure.{read}
 use Rattle.split_sections.proofs.section_cycles_laws.Meetings.{first_there, others_there, first_code}
 use Rattle.split_sections.proofs.section_cycles_laws.Sums.{more_summed, sum_limited, sum_room}

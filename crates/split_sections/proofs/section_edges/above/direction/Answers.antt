@@ -1,11 +1,8 @@
-use Rattle.std.proofs.Common.{◌≡◌, ◌&&◌, true, ℤ, sym, ap, subst, ◌∙◌, arith}
-use Rattle.std.specs.Prelude.{FitsSigned}
+use Rattle.std.proofs.Common.{◌≡◌, ◌&&◌, true, ℤ, sym, ap, subst, ◌∙◌, arith, FitsSigned}
 use Rattle.std.proofs.lemmas.Int.{fits_signed_from_abs}
 use mir.Syntax.{w64}
-use Rattle.euler_operators.specs.Points.{is_coordinate}
-use Rattle.euler_operators.specs.Ranges.{IsWithin}
-use Rattle.euler_operators.proofs.Crossings.{within_coordinate}
-use Rattle.euler_operators.proofs.Magnitudes.{coordinate_is, fits, held, held_is, held_short}
+use Rattle.euler_operators.specs.Common.{is_coordinate, IsWithin}
+use Rattle.euler_operators.proofs.Common.{within_coordinate, coordinate_is, fits, held, held_is, held_short}
 use Rattle.split_sections.proofs.section_edges.above.direction.Goals as goal
 
 -- a number of a plane fits 64 bits, and is the same there

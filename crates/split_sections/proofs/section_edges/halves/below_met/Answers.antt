@@ -1,11 +1,7 @@
-use Rattle.std.proofs.Common.{◌∙◌, ap, sym, ℕ, List, ◌++◌, map, length, arith}
-use Rattle.std.proofs.lemmas.List.{append-nil}
-use Rattle.euler_operators.specs.Items.{count}
-use Rattle.euler_operators.specs.declared.HalfEdge.{HalfEdge}
-use Rattle.euler_operators.specs.HalfEdge.{code}
-use Rattle.euler_operators.specs.Model.{faces_of}
+use Rattle.std.proofs.Common.{◌∙◌, ap, sym, ℕ, List, ◌++◌, map, length, arith, append-nil}
+use Rattle.euler_operators.specs.Common.{count, HalfEdge, code, faces_of}
 use Rattle.solid_walks.proofs.face_walks_laws.Above.{above}
-use Rattle.shapes.specs.Faces.{boundary}
+use Rattle.shapes.specs.Common.{boundary}
 use Rattle.split_checks.proofs.FaceWalks.{next_face, no_face_left, faces_from_zero}
 use Rattle.split_sections.specs.section_edges.BelowHalves.{below_in, below_met}
 use Rattle.split_sections.proofs.section_edges_laws.Leading.{more_met}

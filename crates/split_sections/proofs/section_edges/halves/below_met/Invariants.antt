@@ -1,7 +1,5 @@
 use Rattle.std.proofs.Common.{◌++◌, map, length}
-use Rattle.euler_operators.specs.Items.{SameItems}
-use Rattle.euler_operators.specs.HalfEdge.{code}
-use Rattle.euler_operators.specs.Model.{faces_of}
+use Rattle.euler_operators.specs.Common.{SameItems, code, faces_of}
 use Rattle.solid_walks.proofs.face_walks_laws.Above.{above}
 use Rattle.split_sections.specs.section_edges.BelowHalves.{below_met}
 use Rattle.split_sections.proofs.section_edges.halves.below_met.Given as goal

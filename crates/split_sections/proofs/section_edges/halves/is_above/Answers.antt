@@ -1,9 +1,6 @@
 use Rattle.std.proofs.Common.{◌∙◌, ap}
-use Rattle.euler_operators.specs.HalfEdge.{code}
-use Rattle.euler_operators.specs.Table.{has}
-use Rattle.euler_operators.specs.Model.{face_of}
-use Rattle.euler_operators.specs.Conditions.{lists}
-use Rattle.euler_operators.proofs.Models.{loop_there}
+use Rattle.euler_operators.specs.Common.{code, has, face_of, lists}
+use Rattle.euler_operators.proofs.Common.{loop_there}
 use Rattle.split_sections.proofs.section_edges.halves.is_above.Goals as goal
 
 pub face_of-requires : goal.face_of-requires

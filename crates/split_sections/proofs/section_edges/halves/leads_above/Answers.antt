@@ -1,7 +1,6 @@
 use Rattle.std.proofs.Common.{ap, ◌∙◌}
-use Rattle.euler_operators.specs.HalfEdge.{code}
-use Rattle.euler_operators.specs.Model.{has_half}
-use Rattle.euler_operators.proofs.Models.{mate_there}
+use Rattle.euler_operators.specs.Common.{code, has_half}
+use Rattle.euler_operators.proofs.Common.{mate_there}
 use Rattle.split_sections.proofs.section_edges.halves.leads_above.Goals as goal
 
 pub is_above-requires-clause-there : goal.is_above-requires-clause-there

@@ -1,10 +1,7 @@
-use Rattle.std.proofs.Common.{◌∙◌, ap, sym, subst, ℕ, List, ◌++◌, map, length, arith}
-use Rattle.std.proofs.lemmas.List.{append-nil}
+use Rattle.std.proofs.Common.{◌∙◌, ap, sym, subst, ℕ, List, ◌++◌, map, length, arith, append-nil}
 use Rattle.std.proofs.lemmas.List.Elements.{filter-append}
-use Rattle.euler_operators.specs.Items.{count, SameItems}
-use Rattle.euler_operators.specs.HalfEdge.{code}
-use Rattle.euler_operators.specs.Model.{content, items_of, outer, rings_of}
-use Rattle.shapes.specs.Faces.{items_in}
+use Rattle.euler_operators.specs.Common.{count, SameItems, code, content, items_of, outer, rings_of}
+use Rattle.shapes.specs.Common.{items_in}
 use Rattle.solid_walks.proofs.face_walks_laws.Above.{above}
 use Rattle.solid_walks.proofs.face_walks_laws.RingWalks.{next_ring}
 use Rattle.split_checks.proofs.cut_places_laws.Rings.{outer_items, ring_items, no_items}

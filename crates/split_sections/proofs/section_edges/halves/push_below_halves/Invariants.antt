@@ -1,8 +1,6 @@
 use Rattle.std.proofs.Common.{◌++◌, map, length}
-use Rattle.euler_operators.specs.Items.{SameItems}
-use Rattle.euler_operators.specs.HalfEdge.{code}
-use Rattle.euler_operators.specs.Model.{rings_of}
-use Rattle.shapes.specs.Faces.{boundary, items_in}
+use Rattle.euler_operators.specs.Common.{SameItems, code, rings_of}
+use Rattle.shapes.specs.Common.{boundary, items_in}
 use Rattle.solid_walks.proofs.face_walks_laws.Above.{above}
 use Rattle.split_sections.specs.section_edges.BelowHalves.{leading_above}
 use Rattle.split_sections.proofs.section_edges.halves.push_below_halves.Given as goal

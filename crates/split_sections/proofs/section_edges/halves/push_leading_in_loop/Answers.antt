@@ -1,8 +1,5 @@
-use Rattle.std.proofs.Common.{◌∙◌, ℕ, List, ◌++◌, OnOk, map, subst, sym, ap}
-use Rattle.std.proofs.lemmas.List.{append-nil}
-use Rattle.euler_operators.specs.Items.{count, SameItems}
-use Rattle.euler_operators.specs.HalfEdge.{code}
-use Rattle.euler_operators.specs.Model.{content}
+use Rattle.std.proofs.Common.{◌∙◌, ℕ, List, ◌++◌, OnOk, map, subst, sym, ap, append-nil}
+use Rattle.euler_operators.specs.Common.{count, SameItems, code, content}
 use Rattle.euler_conditions.proofs.Known.{filled}
 use Rattle.split_checks.proofs.cut_places_laws.Walks.{ring_there, ring_cycle, lone_items}
 use Rattle.split_sections.specs.section_edges.BelowHalves.{leading_above}

@@ -1,9 +1,6 @@
 use Rattle.std.proofs.Common.{◌∙◌, ap, sym, subst, ℕ, List, ◌++◌, map, refl}
-use Rattle.euler_operators.specs.Items.{count, IsIn}
-use Rattle.euler_operators.specs.Rings.{rotate_to}
-use Rattle.euler_operators.proofs.Rotations.{rotate_to-rotates}
-use Rattle.euler_operators.specs.HalfEdge.{code}
-use Rattle.euler_operators.specs.Model.{cycle_of}
+use Rattle.euler_operators.specs.Common.{count, IsIn, rotate_to, code, cycle_of}
+use Rattle.euler_operators.proofs.Common.{rotate_to-rotates}
 use Rattle.solid_walks.proofs.face_walks_laws.CycleWalks.{round_there}
 use Rattle.solid_walks.proofs.face_walks_laws.Yielded.{yielded_in}
 use Rattle.split_checks.proofs.cut_places_laws.PlaceWalks.{taken, passed_by, none_left}

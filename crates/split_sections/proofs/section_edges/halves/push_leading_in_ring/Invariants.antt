@@ -1,7 +1,5 @@
 use Rattle.std.proofs.Common.{◌≡◌, ◌++◌, map}
-use Rattle.euler_operators.specs.Rings.{rotate_to}
-use Rattle.euler_operators.specs.HalfEdge.{code}
-use Rattle.euler_operators.specs.Model.{cycle_of}
+use Rattle.euler_operators.specs.Common.{rotate_to, code, cycle_of}
 use Rattle.split_sections.specs.section_edges.BelowHalves.{leading_above}
 use Rattle.split_sections.proofs.section_edges.halves.push_leading_in_ring.Given as goal
 

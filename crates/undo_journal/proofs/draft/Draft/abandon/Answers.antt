@@ -1,5 +1,4 @@
-use Rattle.std.specs.Prelude.{◌≡◌, reverse}
-use Rattle.std.proofs.Common.{sym, subst, ap, ◌∙◌}
+use Rattle.std.proofs.Common.{sym, subst, ap, ◌∙◌, ◌≡◌, reverse}
 use Rattle.low_euler.specs.Store.{Store}
 use Rattle.low_euler.specs.Ready.{IsReady}
 use Rattle.undo_journal.specs.Sessions.{AllHaveRoom, IsKept, all_after}

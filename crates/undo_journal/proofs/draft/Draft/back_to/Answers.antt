@@ -1,5 +1,4 @@
-use Rattle.std.specs.Prelude.{◌≡◌, List, take, drop, reverse}
-use Rattle.std.proofs.Common.{sym, subst, ap, ◌∙◌}
+use Rattle.std.proofs.Common.{sym, subst, ap, ◌∙◌, ◌≡◌, List, take, drop, reverse}
 use Rattle.euler_operators.specs.declared.Op.{Op}
 use Rattle.euler_laws.specs.Laws.{AreAccepted}
 use Rattle.low_euler.specs.Store.{Store}

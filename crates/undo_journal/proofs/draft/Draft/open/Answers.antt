@@ -1,5 +1,4 @@
-use Rattle.std.specs.Prelude.{List, []}
-use Rattle.std.proofs.Common.{ap, ◌∙◌}
+use Rattle.std.proofs.Common.{ap, ◌∙◌, List, []}
 use Rattle.euler_operators.specs.declared.Op.{Op}
 use Rattle.undo_journal.specs.declared.record.Record.{Record}
 use Rattle.undo_journal.specs.Sessions.{draft_of}

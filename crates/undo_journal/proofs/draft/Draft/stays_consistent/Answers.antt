@@ -1,5 +1,5 @@
 use Rattle.std.proofs.Common.{subst}
-use Rattle.euler_operators.specs.Sound.{Sound}
+use Rattle.euler_operators.specs.Common.{Sound}
 use Rattle.undo_journal.specs.Machine.{held}
 use Rattle.undo_journal.specs.Journal.{DraftJournal}
 use Rattle.undo_journal.specs.Histories.{Follows, IsConsistent}

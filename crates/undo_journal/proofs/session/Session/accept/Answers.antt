@@ -1,8 +1,6 @@
-use Rattle.std.specs.Prelude.{◌≡◌, None, ◌+◌, ◌++◌, List, [], ◌∷◌, take}
-use Rattle.std.proofs.Common.{sym, subst, ap, ◌∙◌}
+use Rattle.std.proofs.Common.{sym, subst, ap, ◌∙◌, ◌≡◌, None, ◌+◌, ◌++◌, List, [], ◌∷◌, take}
 use Rattle.euler_operators.specs.declared.Op.{Op}
-use Rattle.euler_operators.specs.Conditions.{first_false}
-use Rattle.euler_operators.specs.Effect.{inverse}
+use Rattle.euler_operators.specs.Common.{first_false, inverse}
 use Rattle.low_euler.specs.Store.{Store, HasGrown}
 use Rattle.undo_journal.specs.declared.record.Record.{Record}
 use Rattle.low_euler.specs.Room.{IsStepped}

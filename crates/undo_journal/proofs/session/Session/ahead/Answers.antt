@@ -1,5 +1,4 @@
-use Rattle.std.specs.Prelude.{ℕ, ◌-◌}
-use Rattle.std.proofs.Common.{ap, ◌∙◌}
+use Rattle.std.proofs.Common.{ap, ◌∙◌, ℕ, ◌-◌}
 use Rattle.undo_journal.proofs.Seen.{ahead_seen}
 use Rattle.undo_journal.proofs.session.Session.ahead.Goals as goal
 

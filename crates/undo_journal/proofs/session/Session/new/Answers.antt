@@ -1,5 +1,4 @@
-use Rattle.std.specs.Prelude.{List}
-use Rattle.std.proofs.Common.{sym, subst, ap, ◌∙◌}
+use Rattle.std.proofs.Common.{sym, subst, ap, ◌∙◌, List}
 use Rattle.low_euler.specs.Store.{Store, empty_store}
 use Rattle.undo_journal.specs.declared.record.Record.{Record}
 use Rattle.undo_journal.specs.Sessions.{journal_of, IsKept}

@@ -1,5 +1,4 @@
-use Rattle.std.specs.Prelude.{List, slice_index_or}
-use Rattle.std.proofs.Common.{◌<◌, ◌+◌, length, arith, ap, ◌∙◌}
+use Rattle.std.proofs.Common.{◌<◌, ◌+◌, length, arith, ap, ◌∙◌, List, slice_index_or}
 use Rattle.undo_journal.specs.declared.record.Record.{Record}
 use Rattle.undo_journal.specs.Recorded.{model_at}
 use Rattle.undo_journal.specs.Sessions.{Leads}

@@ -1,5 +1,4 @@
-use Rattle.std.specs.Prelude.{◌≡◌, ◌+◌, ◌<◌, length}
-use Rattle.std.proofs.Common.{sym, subst, ap, ◌∙◌, arith}
+use Rattle.std.proofs.Common.{sym, subst, ap, ◌∙◌, arith, ◌≡◌, ◌+◌, ◌<◌, length}
 use Rattle.low_euler.specs.Store.{Store}
 use Rattle.euler_laws.specs.Laws.{AreAccepted}
 use Rattle.low_euler.specs.Ready.{IsReady}

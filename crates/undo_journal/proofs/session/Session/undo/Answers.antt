@@ -1,9 +1,8 @@
-use Rattle.std.specs.Prelude.{◌≡◌, ℕ, zero, ◌-◌, ◌<◌, Bool, false, [], ◌∷◌, nat_eq, Ok}
-use Rattle.std.proofs.Common.{sym, subst, ap, ◌∙◌, arith}
+use Rattle.std.proofs.Common.{sym, subst, ap, ◌∙◌, arith, ◌≡◌, ℕ, zero, ◌-◌, ◌<◌, Bool, false, [], ◌∷◌, nat_eq, Ok}
 use Rattle.std.proofs.lemmas.Bool.Decides.{nat_tests}
 use Rattle.low_euler.specs.Store.{Store}
 use Rattle.euler_laws.specs.Laws.{AreAccepted}
-use Rattle.euler_operators.specs.Conditions.{verdict, first_refusal, never}
+use Rattle.euler_operators.specs.Common.{verdict, first_refusal, never}
 use Rattle.euler_operators.specs.declared.Why.TheVariants.{NothingToUndo}
 use Rattle.low_euler.specs.Ready.{IsReady}
 use Rattle.undo_journal.specs.Machine.{depth}

@@ -1,8 +1,7 @@
 use Rattle.std.proofs.Common.{◌≡◌, sym, ◌∙◌, subst}
 use Rattle.raw_ring.specs.Rings.{spot}
 use Rattle.boundary_model.specs.Items.{IsIn}
-use Rattle.arena_rows.specs.ring_spots.Spots.{Spots, label, ring, labelled, spliced_at}
-use Rattle.arena_rows.specs.ring_spots.Labels.{map_in_loops}
+use Rattle.arena_rows.specs.Common.{Spots, label, ring, labelled, spliced_at, map_in_loops}
 use Rattle.arena_rows.proofs.ring_spots_laws.RingViews.{seen_live, seen_label, seen_ring, seen_as, known_as}
 use Rattle.arena_rows.proofs.ring_spots_laws.LiveEdges.{edges_cut}
 use Rattle.arena_rows.proofs.ring_spots.edge_rings.EdgeRings.cut.Goals as goal

@@ -1,7 +1,6 @@
 use Rattle.std.proofs.Common.{ap, sym, ◌∙◌}
 use Rattle.raw_ring.specs.Rings.{spot}
-use Rattle.arena_rows.specs.ring_spots.Spots.{Spots, retailed}
-use Rattle.arena_rows.specs.ring_spots.Labels.{in_loops}
+use Rattle.arena_rows.specs.Common.{Spots, retailed, in_loops}
 use Rattle.arena_rows.proofs.ring_spots_laws.LoopSpots.{loops-retailed}
 use Rattle.arena_rows.proofs.ring_spots_laws.LabelEdges.{labelled-retailed}
 use Rattle.arena_rows.proofs.ring_spots_laws.LiveEdges.{edges_retailed}
