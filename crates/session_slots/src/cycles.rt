@@ -1,6 +1,6 @@
 //! Half-edges written into a buffer of the caller's: those of a loop by their codes, or those of a face, a row of each.
 ghost use Rattle.std.specs.Prelude.{◌≡◌, ℕ, ◌+◌, ◌≤◌, true, length, map, slice_set};
-ghost use Rattle.euler_operators.specs.Common.{rotate_to, Model, has_half, cycle_of, loop_of, face_of, rings_of, after};
+ghost use Rattle.euler_operators.specs.Common.{rotate_to, Model, Sound, has_half, cycle_of, loop_of, face_of, rings_of, after};
 ghost use Rattle.euler_conditions.specs.Store.{has_number};
 ghost use Rattle.euler_conditions.specs.Ready.{IsReady};
 ghost use Rattle.session_slots.specs.Written.{laid_at, WritesOne, WritesFrom};
@@ -77,7 +77,7 @@ fn write_from<T: Written>(
     place: usize,
     buf: &mut [T],
 ) -> usize
-    requires ready { IsReady arena.now }
+    requires sound { Sound arena.now.model }
     requires there { has_half arena.now.model first ≡ true }
     requires of_loop { of_loop ≡ loop_of arena.now.model first }
     requires face { face ≡ face_of arena.now.model of_loop }
@@ -100,7 +100,7 @@ fn write_from<T: Written>(
 
 /// The same for a loop that is there, from any half-edge on; one with a vertex alone has none.
 fn write_loop<T: Written>(arena: &Arena, l: u32, place: usize, buf: &mut [T]) -> usize
-    requires ready { IsReady arena.now }
+    requires sound { Sound arena.now.model }
     requires there { has_number arena.now Kind.Loop l ≡ true }
     requires place { place ≤ 2000002 }
     ensures { WritesFrom (AreTold T.told l arena.now.model) place buf.old buf.new result }
@@ -113,7 +113,7 @@ fn write_loop<T: Written>(arena: &Arena, l: u32, place: usize, buf: &mut [T]) ->
 
 /// Writes the half-edges of a loop in their order round it, as far as there is room, and says how many there are.
 pub fn half_edges(arena: &Arena, l: u32, buf: &mut [u32]) -> usize
-    requires { IsReady arena.now }
+    requires { Sound arena.now.model }
     ensures { WritesOne (AreHalfEdges l arena.now.model) buf.old buf.new result }
 {
     if !arena.has(Kind::Loop, l) {
