@@ -10,7 +10,7 @@ use Rattle.lattice.specs.Point.{is_coordinate, IsInRange}
 use Rattle.lattice.specs.Ranges.{IsWithin, IsCutPlane}
 use Rattle.lattice.specs.Vectors.{height, opposite, whole_quotient}
 use Rattle.lattice.proofs.Crossings.{cut_within, quotient_within, within_coordinate}
-use Rattle.lattice.proofs.Magnitudes.{coordinates, coordinate_within, product_within, sum_within, fits, held, held_short, held_is, coordinate_is, Told, difference_told}
+use Rattle.lattice.proofs.Magnitudes.{coordinates, coordinate_within, product_within, sum_within, fits, held, held_short, held_is, coordinate_is, IsExactWithin, difference_told}
 
 pub height_within : (s : Plane) (p : Point) → IsCutPlane s → IsInRange p → IsWithin 6000000000000000000 (height s p)
 height_within s p w r =
@@ -57,7 +57,7 @@ module _ (m w : ℤ) (fm : FitsSigned w128 m) (fw : FitsSigned w128 w) (range : 
   none_told ne = sym (ap (λ b. cond b (Some (int_div m w)) None) (no_zero_bits (int_rem m w) remainder_fits (λ z. ne ((λ i. cast_unsigned w128 (int_rem (held_is m fm i) (held_is w fw i))) ∙ z))))
 
 -- the difference of two heights
-pub gap_told : (m n : ℤ) → IsWithin 6000000000000000000 m → IsWithin 6000000000000000000 n → Told 12000000000000000000 (held m -ℤ held n) (m -ℤ n)
+pub gap_told : (m n : ℤ) → IsWithin 6000000000000000000 m → IsWithin 6000000000000000000 n → IsExactWithin 12000000000000000000 (held m -ℤ held n) (m -ℤ n)
 gap_told m n wm wn = difference_told _ _ _ m n m n refl refl wm wn (omega arith) (omega arith)
 
 -- the multiple that the code makes is r

@@ -81,7 +81,7 @@ held_within m z w least = subst (IsWithin m) (sym (held_is z (fits m z w least))
 -- ---- what the code makes of sums and differences
 
 -- what the code makes fits, is exact, and is at most k in magnitude
-pub record Told (k : ℕ) (z y : ℤ) : Type 0 where
+pub record IsExactWithin (k : ℕ) (z y : ℤ) : Type 0 where
   pub fits : FitsSigned w128 z
   pub made : z ≡ y
   pub kept : held z ≡ y
@@ -90,12 +90,12 @@ pub record Told (k : ℕ) (z y : ℤ) : Type 0 where
   pub kept_within : IsWithin k (held z)
 
 -- what is equal to a number at most k in magnitude
-told_as : (k : ℕ) (z y : ℤ) → z ≡ y → IsWithin k y → k ≤ 100000000000000000000000000000000000000 → Told k z y
+told_as : (k : ℕ) (z y : ℤ) → z ≡ y → IsWithin k y → k ≤ 100000000000000000000000000000000000000 → IsExactWithin k z y
 told_as k z y e w least = grind (arith, fits k y w least, held_as z y e, fits_as z y e)
 
 -- a number at most m in magnitude times a coordinate, which the code holds as r
 pub scaled_told : (m k : ℕ) (a x r : ℤ) → IsWithin m a → is_coordinate x ≡ true → FitsSigned w128 a → FitsSigned w128 r → r ≡ held_short x → m * 1000000000 ≡ k →
-    k ≤ 100000000000000000000000000000000000000 → Told k (held a *ℤ held r) (a *ℤ x)
+    k ≤ 100000000000000000000000000000000000000 → IsExactWithin k (held a *ℤ held r) (a *ℤ x)
 scaled_told m k a x r w kx fa fr e room least = told_as k (held a *ℤ held r) (a *ℤ x) (product_is a x r fa fr (e ∙ coordinate_is x kx)) (product_within a x m _ k w (coordinate_within x kx) room) least
 
 module _ (k l m : ℕ) (p q a b : ℤ) (is_a : p ≡ a) (is_b : q ≡ b) (wa : IsWithin k a) (wb : IsWithin l b) (room : k + l ≤ m) (least : m ≤ 100000000000000000000000000000000000000) where
@@ -103,7 +103,7 @@ module _ (k l m : ℕ) (p q a b : ℤ) (is_a : p ≡ a) (is_b : q ≡ b) (wa : I
   parts_are = λ i. held_as p a is_a (fits k a wa (omega arith)) i -ℤ held_as q b is_b (fits l b wb (omega arith)) i
 
   -- the difference of two numbers that the code made
-  pub difference_told : Told m (held p -ℤ held q) (a -ℤ b)
+  pub difference_told : IsExactWithin m (held p -ℤ held q) (a -ℤ b)
   difference_told = told_as m (held p -ℤ held q) (a -ℤ b) parts_are (difference_within a b k l m wa wb room) least
 
 -- ---- one number of a cross product
@@ -160,7 +160,7 @@ module _ (m n k : ℕ) (a b : ℤ) (wa : IsWithin m a) (wb : IsWithin n b) (room
   made_is : held a +ℤ held b ≡ a +ℤ b
   made_is = sum_is a b first_fits second_fits
 
-  pub sum_told : Told k (held a +ℤ held b) (a +ℤ b)
+  pub sum_told : IsExactWithin k (held a +ℤ held b) (a +ℤ b)
   sum_told = told_as k (held a +ℤ held b) (a +ℤ b) made_is (sum_within a b m n k wa wb room) least
 
 -- what the numbers of a cross product are told as
@@ -182,6 +182,6 @@ coordinate_sum a b fa fb k = ap held_short (λ i. to_z-of_z w64 a fa i +ℤ to_z
 
 -- the product of a coordinate's number r and a number m at most k in magnitude
 pub product_told : (k l : ℕ) (x m r : ℤ) → is_coordinate x ≡ true → IsWithin k m → FitsSigned w128 r → FitsSigned w128 m → r ≡ held_short x → 1000000000 * k ≡ l →
-    l ≤ 100000000000000000000000000000000000000 → Told l (held r *ℤ held m) (x *ℤ m)
+    l ≤ 100000000000000000000000000000000000000 → IsExactWithin l (held r *ℤ held m) (x *ℤ m)
 product_told k l x m r kx w fr fm e room least =
     told_as l (held r *ℤ held m) (x *ℤ m) (λ i. (held_is r fr ∙ e ∙ coordinate_is x kx) i *ℤ held_is m fm i) (product_within x m _ k l (coordinate_within x kx) w room) least

@@ -7,7 +7,7 @@ ghost use Rattle.low_euler.specs.Room.{faces_for};
 use crate::face_operators::{kfmrh, merge, mfkrh, outer, part, ring_in, ring_out};
 use crate::inverse::inverse_of;
 use crate::loop_operators::{kef, kemr, mef, mekr};
-use crate::making::Room;
+use crate::making::MovedFaces;
 use crate::vertex_operators::{kev, kvfs, mev, mvfs};
 use euler_conditions::Arena;
 use euler_operators::Op;
@@ -52,7 +52,7 @@ pub fn replay(arena: &mut Arena, op: &Op)
 /// its numbers have their room, and its effect is the model before. `room` is what `room_op` gave for `op` in this model.
 ///
 /// It takes no memory and always succeeds. Its cost is that of the change.
-pub fn apply(arena: &mut Arena, op: &Op, room: Room) -> Op
+pub fn apply(arena: &mut Arena, op: &Op, room: MovedFaces) -> Op
     requires accepted { Accepts arena.old op.now }
     requires listed { room.faces ≡ faces_for arena.old.model op.now }
     ensures effect { arena.new ≡ after arena.old op.now }

@@ -4,7 +4,7 @@ ghost use Rattle.euler_operators.specs.Common.{code, first_false, inverse, kev_c
 ghost use Rattle.euler_conditions.specs.Ready.{IsReady, HasRoomFor};
 ghost use Rattle.low_euler.specs.Room.{faces_for};
 
-use crate::making::Room;
+use crate::making::MovedFaces;
 use crate::reading;
 use euler_conditions::{Arena, corner_loop, loop_of, next, same};
 use euler_operators::{Corner, HalfEdge, Kind, Op};
@@ -156,7 +156,7 @@ fn outer(arena: &Arena, ring: u32, face: u32) -> Op
     Op::RingOut(old, home)
 }
 
-fn merge(arena: &Arena, kept: u32, gone: u32, room: Room) -> Op
+fn merge(arena: &Arena, kept: u32, gone: u32, room: MovedFaces) -> Op
     requires accepted { first_false arena.now.model (Op.Merge kept gone) ≡ None }
     requires listed { room.faces ≡ faces_for arena.now.model (Op.Merge kept gone) }
     ensures is { result ≡ inverse arena.now.model (Op.Merge kept gone) }
@@ -168,7 +168,7 @@ fn merge(arena: &Arena, kept: u32, gone: u32, room: Room) -> Op
 
 /// The operator that takes `op` back, where `op` is accepted. Every number that it makes has its room. It walks over nothing.
 #[tactic(auto, unfolding(euler_operators::specs::Effect::inverse))]
-pub(crate) fn inverse_of(arena: &Arena, op: &Op, room: Room) -> Op
+pub(crate) fn inverse_of(arena: &Arena, op: &Op, room: MovedFaces) -> Op
     requires ready { IsReady arena.now }
     requires accepted { first_false arena.now.model op.now ≡ None }
     requires listed { room.faces ≡ faces_for arena.now.model op.now }

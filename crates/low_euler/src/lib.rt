@@ -29,4 +29,4 @@ mod vertex_operators;
 pub use advancing::advance;
 pub use applying::{apply, replay};
 pub use euler_conditions::{Arena, check};
-pub use making::{Room, room_op};
+pub use making::{MovedFaces, room_op};

@@ -12,7 +12,7 @@ use std::alloc::{AllocError, Global};
 
 /// What an operator takes with it where it is applied: for a merge the faces that it moves, rising, else nothing.
 #[derive(Drop)]
-pub struct Room {
+pub struct MovedFaces {
     pub faces: FaceList,
 }
 
@@ -146,7 +146,7 @@ fn faces_for(alloc: Global, arena: &Arena, op: &Op) -> Result<FaceList, AllocErr
 ///
 /// On `AllocError` the model is as it was, and no room is lost. It comes only where some number had no room, or where faces
 /// are listed.
-pub fn room_op(alloc: Global, arena: &mut Arena, op: &Op) -> Result<Room, AllocError>
+pub fn room_op(alloc: Global, arena: &mut Arena, op: &Op) -> Result<MovedFaces, AllocError>
     requires ready { IsReady arena.old }
     requires accepted { first_false arena.old.model op.now ≡ None }
     ensures grown { HasGrown arena.old arena.new }
@@ -156,5 +156,5 @@ pub fn room_op(alloc: Global, arena: &mut Arena, op: &Op) -> Result<Room, AllocE
 {
     let faces = faces_for(alloc, arena, op)?;
     room_for_op(arena, op)?;
-    Ok(Room { faces })
+    Ok(MovedFaces { faces })
 }

@@ -32,9 +32,9 @@ pub record IsLed (heads heads' : List (Option Head)) (links links' : List (Optio
   pub others : (w : ℕ) → w ≢ l.o → is_of w l.row ≡ is_of w (link_at links l.n)
 
 -- row n leads to its neighbours
-abbrev pub Leads : List (Option Link) → ℕ → ℕ → Option Link → Type 0
-Leads links end n None = Unit {0}
-Leads links end n (Some link) = IsAbove (items links link.owner) n link.next × IsBelow (items links link.owner) n link.previous × (link.owner < end)
+abbrev pub LiesBetween : List (Option Link) → ℕ → ℕ → Option Link → Type 0
+LiesBetween links end n None = Unit {0}
+LiesBetween links end n (Some link) = IsAbove (items links link.owner) n link.next × IsBelow (items links link.owner) n link.previous × (link.owner < end)
 
 -- what the new row, the new neighbours and the owner's row say
 pub record IsRight (heads : List (Option Head)) (links links' : List (Option Link)) (l : Lead) : Type 0 where
@@ -42,7 +42,7 @@ pub record IsRight (heads : List (Option Head)) (links links' : List (Option Lin
   pub nexts : (q k : ℕ) → q ≢ l.n → q ≢ l.a → (q ≢ 0 → items links l.o q ≡ true) → IsAbove (items links l.o) q k → IsAbove (items links' l.o) q k
   pub back : l.b ≢ 0 → IsBelow (items links' l.o) l.b l.y
   pub previous : (q k : ℕ) → q ≢ l.n → q ≢ l.b → items links l.o q ≡ true → IsBelow (items links l.o) q k → IsBelow (items links' l.o) q k
-  pub row : Leads links' (length heads) l.n l.row
+  pub row : LiesBetween links' (length heads) l.n l.row
   pub finger : l.head.finger ≢ 0 → items links' l.o l.head.finger ≡ true
   pub count : l.head.count ≡ length (owned l.o (owners_of links'))
   pub counts : (w : ℕ) → w ≢ l.o → length (owned w (owners_of links)) ≡ length (owned w (owners_of links'))
@@ -115,9 +115,9 @@ module _ (heads heads' : List (Option Head)) (links links' : List (Option Link))
             (below_same (items links r.link.owner) (items links' r.link.owner) (same_others r.link.owner p.1) q r.link.previous (c.are.previous q r.link r.was))
       ])
 
-    leads : (q : ℕ) (now : Link) → link_at links' q ≡ Some now → Leads links' (length heads) q (Some now)
+    leads : (q : ℕ) (now : Link) → link_at links' q ≡ Some now → LiesBetween links' (length heads) q (Some now)
     leads q now at = elim (eqb_tells q l.n) [
-      | inl p ↦ subst (λ k. Leads links' (length heads) k (Some now)) (sym p.1) (subst (Leads links' (length heads) l.n) (sym row_now ∙ sym (ap (link_at links') p.1) ∙ at) f.row)
+      | inl p ↦ subst (λ k. LiesBetween links' (length heads) k (Some now)) (sym p.1) (subst (LiesBetween links' (length heads) l.n) (sym row_now ∙ sym (ap (link_at links') p.1) ∙ at) f.row)
       | inr p ↦ let s = r q now at p.1 in (next_after q now at p.1, previous_before q now at p.1, omega (arith, s.owner, c.are.reached q s.link s.was))
     ]
 

@@ -9,7 +9,7 @@ use Rattle.boundary_model.proofs.Lists.{IsIn_or_not, tick_same, tick_other}
 use Rattle.boundary_model.proofs.Rotations.{count-rotate_to, IsIn_head}
 use Rattle.boundary_model.proofs.Rings.{orbit_from}
 use Rattle.boundary_model.proofs.Places.{walk_to_more}
-use Rattle.arena_rows.specs.Common.{Spots, codes, live, next, ring, is_in, map_spot, labelled, AreRings, HalfDone}
+use Rattle.arena_rows.specs.Common.{Spots, codes, live, next, ring, is_in, map_spot, labelled, AreRings, PartlyLabelled}
 use Rattle.boundary_model.proofs.Members.{length_below}
 use Rattle.arena_rows.proofs.ring_spots_laws.SpotLaws.{either, next-labelled, live-labelled, next_in_ring, ring_same, is_in-yes, is_in-no, next-label, live-map}
 
@@ -20,8 +20,8 @@ walk_items sp R from n a e x =
     let w : walk_to (next sp) from from n ≡ rotate_to from (ring sp from) = orbit_from (next sp) from (ring sp from) n o.leads o.apart o.item (omega (arith, length_below codes (ring sp from) o.apart (λ x i. R.bound x (o.awake x i)))) in
     ap (count x) w ∙ count-rotate_to x from (ring sp from)
 
-pub half_start : (sp : Spots) (R : AreRings sp) (from l n : ℕ) → live sp from ≡ true → n ≡ codes → HalfDone sp sp l (ring sp from) (walk_to (next sp) from from n)
-half_start sp R from l n a e =
+pub partly_start : (sp : Spots) (R : AreRings sp) (from l n : ℕ) → live sp from ≡ true → n ≡ codes → PartlyLabelled sp sp l (ring sp from) (walk_to (next sp) from from n)
+partly_start sp R from l n a e =
     let o = R.rings from a in
     let same : (x : ℕ) → count x (walk_to (next sp) from from n) ≡ count x (ring sp from) = walk_items sp R from n a e in
     record {
@@ -33,14 +33,14 @@ half_start sp R from l n a e =
       ];
     }
 
-pub half_next : (sp now : Spots) (l : ℕ) (hs waiting : List ℕ) → HalfDone sp now l hs waiting → (q : ℕ) → next now q ≡ next sp q
-half_next sp now l hs waiting d q = ap (λ o. or_zero (of_spot (λ s. s.next) o)) (d.at q) ∙ either (λ o. or_zero (of_spot (λ s. s.next) o)) (is_in q waiting) _ _ _ refl (next-labelled sp l hs q)
+pub partly_next : (sp now : Spots) (l : ℕ) (hs waiting : List ℕ) → PartlyLabelled sp now l hs waiting → (q : ℕ) → next now q ≡ next sp q
+partly_next sp now l hs waiting d q = ap (λ o. or_zero (of_spot (λ s. s.next) o)) (d.at q) ∙ either (λ o. or_zero (of_spot (λ s. s.next) o)) (is_in q waiting) _ _ _ refl (next-labelled sp l hs q)
 
-pub half_live : (sp now : Spots) (l : ℕ) (hs waiting : List ℕ) → HalfDone sp now l hs waiting → (q : ℕ) → live now q ≡ live sp q
-half_live sp now l hs waiting d q = ap is_some (d.at q) ∙ either is_some (is_in q waiting) _ _ _ refl (live-labelled sp l hs q)
+pub partly_live : (sp now : Spots) (l : ℕ) (hs waiting : List ℕ) → PartlyLabelled sp now l hs waiting → (q : ℕ) → live now q ≡ live sp q
+partly_live sp now l hs waiting d q = ap is_some (d.at q) ∙ either is_some (is_in q waiting) _ _ _ refl (live-labelled sp l hs q)
 
-pub half_step : (sp now new : Spots) (l h : ℕ) (hs rest : List ℕ) → HalfDone sp now l hs (h ∷ rest) → ((q : ℕ) → new q ≡ cond (nat_eq q h) (map_spot (λ s. record s { label = l }) (now q)) (now q)) → HalfDone sp new l hs rest
-half_step sp now new l h hs rest d is = record {
+pub partly_step : (sp now new : Spots) (l h : ℕ) (hs rest : List ℕ) → PartlyLabelled sp now l hs (h ∷ rest) → ((q : ℕ) → new q ≡ cond (nat_eq q h) (map_spot (λ s. record s { label = l }) (now q)) (now q)) → PartlyLabelled sp new l hs rest
+partly_step sp now new l h hs rest d is = record {
   apart = λ x. omega (arith, d.apart x);
   inside = λ x i. d.inside x (omega arith);
   at = λ q. is q ∙ elim (eqb_tells q h) [
@@ -59,25 +59,25 @@ half_step sp now new l h hs rest d is = record {
   ];
 }
 
-pub half_end : (sp now : Spots) (l : ℕ) (hs : List ℕ) → HalfDone sp now l hs [] → now ≡ labelled sp l hs
-half_end sp now l hs d = λ i q. (d.at q ∙ ap (λ b. cond b (sp q) (labelled sp l hs q)) (is_in-no q [] refl)) i
+pub partly_end : (sp now : Spots) (l : ℕ) (hs : List ℕ) → PartlyLabelled sp now l hs [] → now ≡ labelled sp l hs
+partly_end sp now l hs d = λ i q. (d.at q ∙ ap (λ b. cond b (sp q) (labelled sp l hs q)) (is_in-no q [] refl)) i
 
 -- one step of the walk: what is left after h
-pub half_walk : (sp now : Spots) (l from h n k : ℕ) (hs : List ℕ) → n ≡ k + 1 → HalfDone sp now l hs (walk_to (next sp) from h n) → HalfDone sp now l hs (h ∷ cond (eqb (next sp h) from) [] (walk_to (next sp) from (next sp h) k))
-half_walk sp now l from h n k hs e d = subst (HalfDone sp now l hs) (walk_to_more (next sp) from h n k e) d
+pub partly_walk : (sp now : Spots) (l from h n k : ℕ) (hs : List ℕ) → n ≡ k + 1 → PartlyLabelled sp now l hs (walk_to (next sp) from h n) → PartlyLabelled sp now l hs (h ∷ cond (eqb (next sp h) from) [] (walk_to (next sp) from (next sp h) k))
+partly_walk sp now l from h n k hs e d = subst (PartlyLabelled sp now l hs) (walk_to_more (next sp) from h n k e) d
 
 -- round the ring once
-pub half_last : (sp now new : Spots) (l from h x n : ℕ) (hs : List ℕ) → 0 < n → HalfDone sp now l hs (walk_to (next sp) from h n) → ((q : ℕ) → new q ≡ cond (nat_eq q h) (map_spot (λ s. record s { label = l }) (now q)) (now q)) → next sp h ≡ x → x ≡ from → new ≡ labelled sp l hs
-half_last sp now new l from h x n hs some d is to back =
-    half_end sp new l hs (subst (HalfDone sp new l hs) (ap (λ b. cond b [] (walk_to (next sp) from (next sp h) (n - 1))) (eq-eqb (next sp h) from (to ∙ back))) (half_step sp now new l h hs _ (half_walk sp now l from h n (n - 1) hs (omega arith) d) is))
+pub partly_last : (sp now new : Spots) (l from h x n : ℕ) (hs : List ℕ) → 0 < n → PartlyLabelled sp now l hs (walk_to (next sp) from h n) → ((q : ℕ) → new q ≡ cond (nat_eq q h) (map_spot (λ s. record s { label = l }) (now q)) (now q)) → next sp h ≡ x → x ≡ from → new ≡ labelled sp l hs
+partly_last sp now new l from h x n hs some d is to back =
+    partly_end sp new l hs (subst (PartlyLabelled sp new l hs) (ap (λ b. cond b [] (walk_to (next sp) from (next sp h) (n - 1))) (eq-eqb (next sp h) from (to ∙ back))) (partly_step sp now new l h hs _ (partly_walk sp now l from h n (n - 1) hs (omega arith) d) is))
 
-pub half_more : (sp now new : Spots) (l from h x n k : ℕ) (hs : List ℕ) → n ≡ k + 1 → HalfDone sp now l hs (walk_to (next sp) from h n) → ((q : ℕ) → new q ≡ cond (nat_eq q h) (map_spot (λ s. record s { label = l }) (now q)) (now q)) → next sp h ≡ x → x ≢ from → HalfDone sp new l hs (walk_to (next sp) from x k)
-half_more sp now new l from h x n k hs e d is to on =
-    subst (λ z. HalfDone sp new l hs (walk_to (next sp) from z k)) to
-    (subst (HalfDone sp new l hs) (ap (λ b. cond b [] (walk_to (next sp) from (next sp h) k)) (ne_eqb (next sp h) from (λ q. on (sym to ∙ q)))) (half_step sp now new l h hs _ (half_walk sp now l from h n k hs e d) is))
+pub partly_more : (sp now new : Spots) (l from h x n k : ℕ) (hs : List ℕ) → n ≡ k + 1 → PartlyLabelled sp now l hs (walk_to (next sp) from h n) → ((q : ℕ) → new q ≡ cond (nat_eq q h) (map_spot (λ s. record s { label = l }) (now q)) (now q)) → next sp h ≡ x → x ≢ from → PartlyLabelled sp new l hs (walk_to (next sp) from x k)
+partly_more sp now new l from h x n k hs e d is to on =
+    subst (λ z. PartlyLabelled sp new l hs (walk_to (next sp) from z k)) to
+    (subst (PartlyLabelled sp new l hs) (ap (λ b. cond b [] (walk_to (next sp) from (next sp h) k)) (ne_eqb (next sp h) from (λ q. on (sym to ∙ q)))) (partly_step sp now new l h hs _ (partly_walk sp now l from h n k hs e d) is))
 
-pub half_over : (sp now : Spots) (l from h n : ℕ) (hs : List ℕ) → n ≡ 0 → HalfDone sp now l hs (walk_to (next sp) from h n) → now ≡ labelled sp l hs
-half_over sp now l from h n hs e d = half_end sp now l hs (subst (λ k. HalfDone sp now l hs (walk_to (next sp) from h k)) e d)
+pub partly_over : (sp now : Spots) (l from h n : ℕ) (hs : List ℕ) → n ≡ 0 → PartlyLabelled sp now l hs (walk_to (next sp) from h n) → now ≡ labelled sp l hs
+partly_over sp now l from h n hs e d = partly_end sp now l hs (subst (λ k. PartlyLabelled sp now l hs (walk_to (next sp) from h k)) e d)
 
 -- a code that hasn't been met yet
 module _ (f : ℕ → ℕ) (from h x n s : ℕ) (to : f h ≡ x) (ne : s ≢ h) where

@@ -76,7 +76,7 @@ pub record AreRings (sp : Spots) : Type 0 where
   pub mates : (c : ℕ) → live sp c ≡ true → live sp (mate c) ≡ true
 
 -- the items of hs but those of waiting have the label l now, and nothing else has changed
-pub record HalfDone (sp now : Spots) (l : ℕ) (hs waiting : List ℕ) : Type 0 where
+pub record PartlyLabelled (sp now : Spots) (l : ℕ) (hs waiting : List ℕ) : Type 0 where
   pub apart : IsApart waiting
   pub inside : (x : ℕ) → IsIn x waiting → IsIn x hs
   pub at : (q : ℕ) → now q ≡ cond (is_in q waiting) (sp q) (labelled sp l hs q)

@@ -35,51 +35,52 @@ arc_is M ws g k d r there i j = arc_ring (round M) g k ws (2 * length M.edges.ro
 
 -- ---- the laws of vertices, at the half-edges of a model
 
-abbrev pub Leads : (ℕ → ℕ) → List ℕ → Type 0
-Leads next ws = IsRing (λ x. next (mate x)) ws
+-- the half-edges of ws are a fan: next, from each one's mate, leads round them
+abbrev pub IsFan : (ℕ → ℕ) → List ℕ → Type 0
+IsFan next ws = IsRing (λ x. next (mate x)) ws
 
-pub fan_mev : (next : ℕ → ℕ) (h c e : ℕ) (ws : List ℕ) → IsApart ws → IsIn c ws → IsIn e ws → count h ws ≡ 0 → count (mate h) ws ≡ 0 → Leads next ws →
-    Leads (after_mev next h (mate h) c e) (mate h ∷ upto c e ws) × Leads (after_mev next h (mate h) c e) (h ∷ onward c e ws)
+pub fan_mev : (next : ℕ → ℕ) (h c e : ℕ) (ws : List ℕ) → IsApart ws → IsIn c ws → IsIn e ws → count h ws ≡ 0 → count (mate h) ws ≡ 0 → IsFan next ws →
+    IsFan (after_mev next h (mate h) c e) (mate h ∷ upto c e ws) × IsFan (after_mev next h (mate h) c e) (h ∷ onward c e ws)
 unfolding mate is_first
 fan_mev = vertex_mev
 
-pub fan_mev_other : (next : ℕ → ℕ) (h c e : ℕ) → h ≢ e → (ws : List ℕ) → IsApart ws → count h ws ≡ 0 → count (mate h) ws ≡ 0 → Leads next ws → count c ws ≡ 0 → count e ws ≡ 0 →
-    Leads (after_mev next h (mate h) c e) ws
+pub fan_mev_other : (next : ℕ → ℕ) (h c e : ℕ) → h ≢ e → (ws : List ℕ) → IsApart ws → count h ws ≡ 0 → count (mate h) ws ≡ 0 → IsFan next ws → count c ws ≡ 0 → count e ws ≡ 0 →
+    IsFan (after_mev next h (mate h) c e) ws
 unfolding mate is_first
 fan_mev_other = vertex_mev_other
 
-pub fan_mef_first : (next : ℕ → ℕ) (h c e : ℕ) → h ≢ e → (ws : List ℕ) → IsApart ws → count h ws ≡ 0 → count (mate h) ws ≡ 0 → Leads next ws → IsIn c ws → count e ws ≡ 0 →
-    Leads (after_mef next h (mate h) c e) (put_ring h c ws)
+pub fan_mef_first : (next : ℕ → ℕ) (h c e : ℕ) → h ≢ e → (ws : List ℕ) → IsApart ws → count h ws ≡ 0 → count (mate h) ws ≡ 0 → IsFan next ws → IsIn c ws → count e ws ≡ 0 →
+    IsFan (after_mef next h (mate h) c e) (put_ring h c ws)
 unfolding mate is_first
 fan_mef_first = vertex_mef_first
 
-pub fan_mef_second : (next : ℕ → ℕ) (h c e : ℕ) → h ≢ e → (ws : List ℕ) → IsApart ws → count h ws ≡ 0 → count (mate h) ws ≡ 0 → Leads next ws → IsIn e ws → count c ws ≡ 0 →
-    Leads (after_mef next h (mate h) c e) (put_ring (mate h) e ws)
+pub fan_mef_second : (next : ℕ → ℕ) (h c e : ℕ) → h ≢ e → (ws : List ℕ) → IsApart ws → count h ws ≡ 0 → count (mate h) ws ≡ 0 → IsFan next ws → IsIn e ws → count c ws ≡ 0 →
+    IsFan (after_mef next h (mate h) c e) (put_ring (mate h) e ws)
 unfolding mate is_first
 fan_mef_second = vertex_mef_second
 
-pub fan_mef_other : (next : ℕ → ℕ) (h c e : ℕ) → h ≢ e → (ws : List ℕ) → IsApart ws → count h ws ≡ 0 → count (mate h) ws ≡ 0 → Leads next ws → count c ws ≡ 0 → count e ws ≡ 0 →
-    Leads (after_mef next h (mate h) c e) ws
+pub fan_mef_other : (next : ℕ → ℕ) (h c e : ℕ) → h ≢ e → (ws : List ℕ) → IsApart ws → count h ws ≡ 0 → count (mate h) ws ≡ 0 → IsFan next ws → count c ws ≡ 0 → count e ws ≡ 0 →
+    IsFan (after_mef next h (mate h) c e) ws
 unfolding mate is_first
 fan_mef_other = vertex_mef_other
 
-pub fan_kef_first : (next : ℕ → ℕ) (h : ℕ) (ws : List ℕ) → IsApart ws → Leads next ws → IsIn h ws → count (mate h) ws ≡ 0 → next (mate h) ≢ h → Leads (after_kef next h (mate h)) (take_ring h ws)
+pub fan_kef_first : (next : ℕ → ℕ) (h : ℕ) (ws : List ℕ) → IsApart ws → IsFan next ws → IsIn h ws → count (mate h) ws ≡ 0 → next (mate h) ≢ h → IsFan (after_kef next h (mate h)) (take_ring h ws)
 unfolding mate is_first
 fan_kef_first = vertex_kef_first
 
-pub fan_kef_second : (next : ℕ → ℕ) (h : ℕ) (ws : List ℕ) → IsApart ws → Leads next ws → IsIn (mate h) ws → count h ws ≡ 0 → next (mate (mate h)) ≢ mate h → Leads (after_kef next h (mate h)) (take_ring (mate h) ws)
+pub fan_kef_second : (next : ℕ → ℕ) (h : ℕ) (ws : List ℕ) → IsApart ws → IsFan next ws → IsIn (mate h) ws → count h ws ≡ 0 → next (mate (mate h)) ≢ mate h → IsFan (after_kef next h (mate h)) (take_ring (mate h) ws)
 unfolding mate is_first
 fan_kef_second = vertex_kef_second
 
-pub fan_kef_other : (next : ℕ → ℕ) (h : ℕ) (ws : List ℕ) → IsApart ws → Leads next ws → count h ws ≡ 0 → count (mate h) ws ≡ 0 → Leads (after_kef next h (mate h)) ws
+pub fan_kef_other : (next : ℕ → ℕ) (h : ℕ) (ws : List ℕ) → IsApart ws → IsFan next ws → count h ws ≡ 0 → count (mate h) ws ≡ 0 → IsFan (after_kef next h (mate h)) ws
 unfolding mate is_first
 fan_kef_other = vertex_kef_other
 
-pub fan_kev : (next : ℕ → ℕ) (h : ℕ) (ws vs : List ℕ) → IsApart (ws ++ vs) → IsIn h ws → IsIn (mate h) vs → next (mate h) ≢ h → Leads next ws → Leads next vs →
-    Leads (after_kev next h (mate h)) (canonical (rest h ws ++ rest (mate h) vs))
+pub fan_kev : (next : ℕ → ℕ) (h : ℕ) (ws vs : List ℕ) → IsApart (ws ++ vs) → IsIn h ws → IsIn (mate h) vs → next (mate h) ≢ h → IsFan next ws → IsFan next vs →
+    IsFan (after_kev next h (mate h)) (canonical (rest h ws ++ rest (mate h) vs))
 unfolding mate is_first
 fan_kev = vertex_kev
 
-pub fan_kev_other : (next : ℕ → ℕ) (h : ℕ) (ws : List ℕ) → count h ws ≡ 0 → count (mate h) ws ≡ 0 → Leads next ws → Leads (after_kev next h (mate h)) ws
+pub fan_kev_other : (next : ℕ → ℕ) (h : ℕ) (ws : List ℕ) → count h ws ≡ 0 → count (mate h) ws ≡ 0 → IsFan next ws → IsFan (after_kev next h (mate h)) ws
 unfolding mate is_first
 fan_kev_other = vertex_kev_other

@@ -10,7 +10,7 @@ use Rattle.shapes.specs.Common.{start, finish, loops_of, items_in, boundary, ver
 use Rattle.shapes.proofs.Areas.{area-append}
 use Rattle.euler_operators.proofs.Common.{dot_turned}
 use Rattle.shapes.proofs.measures.Products.{cross_moved, cross_nothing, flat_step, no_way, same_part}
-use Rattle.shapes.proofs.measures.Paths.{begins, Leads, IsClosed, loop_closed}
+use Rattle.shapes.proofs.measures.Paths.{begins, IsPathTo, IsClosed, loop_closed}
 
 -- ---- tests
 
@@ -38,7 +38,7 @@ module _ (M : Model) (s : Plane) where
   begins_on [] e on on_e = on_e
   begins_on (h ∷ hs) e on on_e = on_plane s (start M h) (and_parts _ _ on).0
 
-  flat_path : (hs : List ℕ) (e : Point) → Leads M hs e → are_on M s (map (tail M) hs) ≡ true → dot (direction s) e ≡ neg_ℤ s.d →
+  flat_path : (hs : List ℕ) (e : Point) → IsPathTo M hs e → are_on M s (map (tail M) hs) ≡ true → dot (direction s) e ≡ neg_ℤ s.d →
       cross (direction s) (area M hs) ≡ scaled (neg_ℤ s.d) (towards e (begins M hs e))
   flat_path [] e leads on on_e = cross_nothing (direction s) ∙ sym (no_way (neg_ℤ s.d) e)
   flat_path (h ∷ hs) e leads on on_e =

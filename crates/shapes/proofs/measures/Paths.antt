@@ -11,13 +11,13 @@ begins M [] e = e
 begins M (h ∷ hs) e = start M h
 
 -- each half-edge ends where the next one starts, and the last one at e
-abbrev pub Leads : Model → List ℕ → Point → Type 0
-Leads M [] e = Unit {0}
-Leads M (h ∷ hs) e = (finish M h ≡ begins M hs e) × Leads M hs e
+abbrev pub IsPathTo : Model → List ℕ → Point → Type 0
+IsPathTo M [] e = Unit {0}
+IsPathTo M (h ∷ hs) e = (finish M h ≡ begins M hs e) × IsPathTo M hs e
 
 -- a closed path
 abbrev pub IsClosed : Model → List ℕ → Type 0
-IsClosed M hs = Leads M hs (begins M hs origin)
+IsClosed M hs = IsPathTo M hs (begins M hs origin)
 
 module _ (M : Model) (next : ℕ → ℕ) where
   heads : (hs : List ℕ) (d : ℕ) → start M (head_or d hs) ≡ begins M hs (start M d)
@@ -25,7 +25,7 @@ module _ (M : Model) (next : ℕ → ℕ) where
   heads (h ∷ hs) d = refl
 
   -- where next leads from each half-edge to one that starts at its end
-  path_leads : (hs : List ℕ) (d : ℕ) → IsPath next hs d → ((h : ℕ) → IsIn h hs → finish M h ≡ start M (next h)) → Leads M hs (start M d)
+  path_leads : (hs : List ℕ) (d : ℕ) → IsPath next hs d → ((h : ℕ) → IsIn h hs → finish M h ≡ start M (next h)) → IsPathTo M hs (start M d)
   path_leads [] d p meet = tt
   path_leads (h ∷ hs) d p meet = (meet h (IsIn_head h hs) ∙ ap (start M) p.0 ∙ heads hs d, path_leads hs d p.1 (λ g i. meet g (IsIn_rest g h hs i)))
 

@@ -6,12 +6,12 @@ use Rattle.boundary_model.proofs.Lists.{IsIn_or_not}
 use Rattle.arena_rows.specs.Common.{codes, next, ring}
 use Rattle.arena_rows.proofs.ring_spots_laws.RingMaps.{known-with}
 use Rattle.arena_rows.proofs.ring_spots_laws.SpotTables.{codes_are}
-use Rattle.arena_rows.proofs.ring_spots_laws.Relabelling.{walk_items, missed_more, missed_last, missed_over, not_met, half_start, half_next, half_live, half_last, half_more, half_over, step_in, label_step, known_step, next_step}
+use Rattle.arena_rows.proofs.ring_spots_laws.Relabelling.{walk_items, missed_more, missed_last, missed_over, not_met, partly_start, partly_next, partly_live, partly_last, partly_more, partly_over, step_in, label_step, known_step, next_step}
 use Rattle.arena_rows.proofs.ring_spots.links.relabel_seeking.Goals as goal
 
 pub round-init : goal.round-init
 round-init c = record {
-  done = half_start (spot c.args.rings.now) c.requires.rings c.args.from c.args.l (codes - 0) c.requires.there (omega arith);
+  done = partly_start (spot c.args.rings.now) c.requires.rings c.args.from c.args.l (codes - 0) c.requires.there (omega arith);
   here = (c.requires.rings.rings c.args.from c.requires.there).item;
   known = refl;
   missed = λ _ i. let same = walk_items (spot c.args.rings.now) c.requires.rings c.args.from (codes - 0) c.requires.there (omega arith) c.args.sought in omega (arith, i, same);
@@ -19,18 +19,18 @@ round-init c = record {
 
 pub set_label-requires : goal.set_label-requires
 set_label-requires c =
-    half_live _ _ _ _ _ c.round.invariant.done c.round.h ∙ (c.requires.rings.rings c.args.from c.requires.there).awake c.round.h c.round.invariant.here
+    partly_live _ _ _ _ _ c.round.invariant.done c.round.h ∙ (c.requires.rings.rings c.args.from c.requires.there).awake c.round.h c.round.invariant.here
 
 pub next-h-requires : goal.next-h-requires
 next-h-requires c =
     label_step c.round.rings c.set_label.new.self c.round.h c.args.l c.round.h c.set_label.ensures
-    ∙ half_live _ _ _ _ _ c.round.invariant.done c.round.h ∙ (c.requires.rings.rings c.args.from c.requires.there).awake c.round.h c.round.invariant.here
+    ∙ partly_live _ _ _ _ _ c.round.invariant.done c.round.h ∙ (c.requires.rings.rings c.args.from c.requires.there).awake c.round.h c.round.invariant.here
 
 pub returns-then-h-from-clause-spots : goal.returns-then-h-from-clause-spots
 returns-then-h-from-clause-spots c =
-    half_last (spot c.args.rings.now) (spot c.round.rings) (spot c.set_label.new.self) c.args.l c.args.from c.round.h c.next-h.result (codes - c.round.counter) (ring (spot c.args.rings.now) c.args.from) (omega (arith, codes_are)) c.round.invariant.done
+    partly_last (spot c.args.rings.now) (spot c.round.rings) (spot c.set_label.new.self) c.args.l c.args.from c.round.h c.next-h.result (codes - c.round.counter) (ring (spot c.args.rings.now) c.args.from) (omega (arith, codes_are)) c.round.invariant.done
     (known_step c.round.rings c.set_label.new.self c.round.h c.args.l c.set_label.ensures)
-    (next_step c.round.rings c.set_label.new.self c.round.h c.args.l c.set_label.ensures (half_next _ _ _ _ _ c.round.invariant.done c.round.h) c.next-h.result c.next-h.ensures.next) c.if-h-from.true
+    (next_step c.round.rings c.set_label.new.self c.round.h c.args.l c.set_label.ensures (partly_next _ _ _ _ _ c.round.invariant.done c.round.h) c.next-h.result c.next-h.ensures.next) c.if-h-from.true
 
 pub returns-then-h-from-clause-known : goal.returns-then-h-from-clause-known
 returns-then-h-from-clause-known c = ap (λ (m : RingMap). contains_key m) c.set_label.ensures ∙ (λ i q. known-with c.round.rings c.round.h (λ s. record s { label = c.args.l }) q i) ∙ c.round.invariant.known
@@ -40,29 +40,29 @@ returns-then-h-from-clause-missed c = λ m. elim (IsIn_or_not c.args.sought (rin
   | inl i ↦
       let out = not_met c.round.met c.round.h c.args.sought m in
       absurd (missed_last (next (spot c.args.rings.now)) c.args.from c.round.h c.next-h.result (codes - c.round.counter) c.args.sought
-      (next_step c.round.rings c.set_label.new.self c.round.h c.args.l c.set_label.ensures (half_next _ _ _ _ _ c.round.invariant.done c.round.h) c.next-h.result c.next-h.ensures.next) out.1
+      (next_step c.round.rings c.set_label.new.self c.round.h c.args.l c.set_label.ensures (partly_next _ _ _ _ _ c.round.invariant.done c.round.h) c.next-h.result c.next-h.ensures.next) out.1
       (omega (arith, codes_are)) c.if-h-from.true (c.round.invariant.missed out.0 i))
   | inr n ↦ n
 ]
 
 pub round-preserved : goal.round-preserved
 round-preserved c = record {
-  done = half_more (spot c.args.rings.now) (spot c.round.rings) (spot c.set_label.new.self) c.args.l c.args.from c.round.h c.next-h.result (codes - c.round.counter) (codes - (c.round.counter + 1)) (ring (spot c.args.rings.now) c.args.from) (omega (arith, codes_are)) c.round.invariant.done
+  done = partly_more (spot c.args.rings.now) (spot c.round.rings) (spot c.set_label.new.self) c.args.l c.args.from c.round.h c.next-h.result (codes - c.round.counter) (codes - (c.round.counter + 1)) (ring (spot c.args.rings.now) c.args.from) (omega (arith, codes_are)) c.round.invariant.done
       (known_step c.round.rings c.set_label.new.self c.round.h c.args.l c.set_label.ensures)
-      (next_step c.round.rings c.set_label.new.self c.round.h c.args.l c.set_label.ensures (half_next _ _ _ _ _ c.round.invariant.done c.round.h) c.next-h.result c.next-h.ensures.next) c.if-h-from.false;
-  here = subst (λ z. IsIn z (ring (spot c.args.rings.now) c.args.from)) (next_step c.round.rings c.set_label.new.self c.round.h c.args.l c.set_label.ensures (half_next _ _ _ _ _ c.round.invariant.done c.round.h) c.next-h.result c.next-h.ensures.next)
+      (next_step c.round.rings c.set_label.new.self c.round.h c.args.l c.set_label.ensures (partly_next _ _ _ _ _ c.round.invariant.done c.round.h) c.next-h.result c.next-h.ensures.next) c.if-h-from.false;
+  here = subst (λ z. IsIn z (ring (spot c.args.rings.now) c.args.from)) (next_step c.round.rings c.set_label.new.self c.round.h c.args.l c.set_label.ensures (partly_next _ _ _ _ _ c.round.invariant.done c.round.h) c.next-h.result c.next-h.ensures.next)
       (step_in (spot c.args.rings.now) c.requires.rings c.args.from c.round.h c.requires.there c.round.invariant.here);
   known = ap (λ (m : RingMap). contains_key m) c.set_label.ensures ∙ (λ i q. known-with c.round.rings c.round.h (λ s. record s { label = c.args.l }) q i) ∙ c.round.invariant.known;
   missed = λ m i.
       let out = not_met c.round.met c.round.h c.args.sought m in
       missed_more (next (spot c.args.rings.now)) c.args.from c.round.h c.next-h.result (codes - c.round.counter) c.args.sought
-      (next_step c.round.rings c.set_label.new.self c.round.h c.args.l c.set_label.ensures (half_next _ _ _ _ _ c.round.invariant.done c.round.h) c.next-h.result c.next-h.ensures.next) out.1
+      (next_step c.round.rings c.set_label.new.self c.round.h c.args.l c.set_label.ensures (partly_next _ _ _ _ _ c.round.invariant.done c.round.h) c.next-h.result c.next-h.ensures.next) out.1
       (codes - (c.round.counter + 1)) (omega (arith, codes_are)) c.if-h-from.false (c.round.invariant.missed out.0 i);
 }
 
 pub returns : goal.returns
 returns c = record {
-  spots = half_over (spot c.args.rings.now) (spot c.round.rings) c.args.l c.args.from c.round.h (codes - c.round.counter) (ring (spot c.args.rings.now) c.args.from) (omega (arith, codes_are)) c.round.invariant.done;
+  spots = partly_over (spot c.args.rings.now) (spot c.round.rings) c.args.l c.args.from c.round.h (codes - c.round.counter) (ring (spot c.args.rings.now) c.args.from) (omega (arith, codes_are)) c.round.invariant.done;
   known = c.round.invariant.known;
   missed = λ m. elim (IsIn_or_not c.args.sought (ring (spot c.args.rings.now) c.args.from)) [
     | inl i ↦ absurd (missed_over (next (spot c.args.rings.now)) c.args.from c.round.h (codes - c.round.counter) c.args.sought (omega (arith, codes_are)) (c.round.invariant.missed m i))
