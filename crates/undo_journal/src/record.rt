@@ -22,9 +22,8 @@ pub struct OpList {
 #[derive(Drop)]
 enum Ops {
     One(Op),
-    Many(Vec<Op>),
-    /// The first operator of the list stands last.
-    Turned(Vec<Op>),
+    /// Whether the first operator of the list stands last.
+    Many(Vec<Op>, bool),
 }
 
 impl Model for OpList {
@@ -50,7 +49,7 @@ impl OpList {
         ensures { result ≡ ops.items }
     {
         OpList {
-            ops: Ops::Many(ops),
+            ops: Ops::Many(ops, false),
         }
     }
 
@@ -59,7 +58,7 @@ impl OpList {
         ensures { result ≡ reverse ops.items }
     {
         OpList {
-            ops: Ops::Turned(ops),
+            ops: Ops::Many(ops, true),
         }
     }
 
@@ -73,8 +72,8 @@ impl OpList {
     {
         match &self.ops {
             Ops::One(op) => replay(arena, op),
-            Ops::Many(ops) => replay_all(arena, ops.as_slice()),
-            Ops::Turned(ops) => replay_back(arena, ops.as_slice()),
+            Ops::Many(ops, false) => replay_all(arena, ops.as_slice()),
+            Ops::Many(ops, true) => replay_back(arena, ops.as_slice()),
         }
     }
 
@@ -84,8 +83,7 @@ impl OpList {
     {
         match &self.ops {
             Ops::One(_) => 1,
-            Ops::Many(ops) => ops.len(),
-            Ops::Turned(ops) => ops.len(),
+            Ops::Many(ops, _) => ops.len(),
         }
     }
 
@@ -96,8 +94,8 @@ impl OpList {
     {
         match &self.ops {
             Ops::One(op) => op,
-            Ops::Many(ops) => &ops[index],
-            Ops::Turned(ops) => &ops[ops.len() - 1 - index],
+            Ops::Many(ops, false) => &ops[index],
+            Ops::Many(ops, true) => &ops[ops.len() - 1 - index],
         }
     }
 }
