@@ -2,12 +2,12 @@
 use Rattle.std.proofs.Common.{◌≡◌, ◌≢◌, ℕ, zero, suc, ◌+◌, ◌-◌, ◌≤◌, ◌<◌, ◌⊎◌, inl, inr, ℤ, pos, ◌+ℤ◌, ◌-ℤ◌, ◌*ℤ◌, neg_ℤ, is_some, true, false, not, List, [], ◌∷◌, refl, sym, ap, subst, ◌∙◌, arith, true≢false, int_le, length}
 use Rattle.std.proofs.lemmas.Bool.{cases_eq, cases_lt, not-true}
 use Rattle.std.proofs.lemmas.Int.{ints}
-use Rattle.euler_operators.specs.Common.{Point, origin, moved, cross, content, face_of, outer, rings_of, solid_of, Sound, Has, IsIn, is_empty, is_lone, lists, has_rings}
+use Rattle.euler_operators.specs.Common.{Point, origin, moved, cross, content, face_of, solid_of, Sound, Has, IsIn, is_empty, is_lone, has_rings}
 use Rattle.euler_operators.proofs.Common.{same_vector, same_content, same_solid}
 use Rattle.euler_operators.specs.Table as table
-use Rattle.euler_laws.proofs.Common.{all_hold, no_rings_means, IsIn-from_listed, listed-from_in, first_listed, rest_listed, outer_or_ring}
+use Rattle.euler_laws.proofs.Common.{all_hold, no_rings_means, listed-from_in}
 use Rattle.shapes.specs.Common.{loops_of, towards, next_place, vector, base_of, block_conditions, is_flat}
-use Rattle.shapes.proofs.Common.{face_of_loop, ring_listed, at_most_greatest, no_product}
+use Rattle.shapes.proofs.Common.{face_of_loop, at_most_greatest, no_product}
 use Rattle.sweeps_laws.proofs.BlockOps.{blocks_are_sound}
 use Rattle.undo_journal.specs.Machine.{Machine, held}
 use Rattle.command_laws.specs.Commands.{IsBlock}
@@ -17,6 +17,7 @@ use Rattle.command_laws.specs.LeftAlone.{StandsAsBefore}
 use Rattle.command_laws.proofs.BlockFaces.{block_has_top_and_bottom, block_has_four_sides, block_takes_six_faces}
 use Rattle.command_laws.proofs.Kept.{block_keeps_faces}
 use Rattle.command_laws.proofs.Accepted.{outer_cycles}
+use Rattle.command_laws.proofs.OnFaces.{loop_in_face}
 use Rattle.command_laws.proofs.LyingFlat.{faces_lie_flat, sides_lie_flat, parallelogram, stands_flat}
 use Rattle.command_laws.proofs.DrawnAlone.{block_keeps_loops, block_keeps_shapes}
 
@@ -230,15 +231,6 @@ module _ (before after : Machine) (s : ℕ) (p : Point) (dx dy dz : ℤ) (sound 
 
   -- ---- other solids
 
-  -- a loop is one of the loops of its face
-  loop_in : (l : ℕ) → Has (held after).loops l → IsIn l (loops_of (held after) (face_of (held after) l))
-  unfolding loops_of
-  loop_in l has = let k = face_of (held after) l in
-      IsIn-from_listed l (outer (held after) k ∷ rings_of (held after) k) (elim (outer_or_ring (held after) k l has refl) [
-        | inl o ↦ ap (λ q. lists (q ∷ rings_of (held after) k) l) o ∙ first_listed l (rings_of (held after) k)
-        | inr r ↦ rest_listed (outer (held after) k) l (rings_of (held after) k) (ring_listed (held after) sound_after k l r)
-      ])
-
   of_block : (k : ℕ) → IsOneOf (last_face before) k → solid_of (held after) k ≡ s
   of_block k (inl e) = ap (solid_of (held after)) e ∙ (block_has_top_and_bottom before after s p dx dy dz sound made).0.solid
   of_block k (inr (inl e)) = ap (solid_of (held after)) e ∙ (block_has_top_and_bottom before after s p dx dy dz sound made).1.solid
@@ -272,7 +264,7 @@ module _ (before after : Machine) (s : ℕ) (p : Point) (dx dy dz : ℤ) (sound 
 
     still_closed : (l : ℕ) → Has (held after).loops l → face_of (held after) l ≡ k → is_lone (content (held after) l) ≡ false
     still_closed l has on =
-        let inside = subst (λ ls. IsIn l ls) (ap (loops_of (held after)) on ∙ same_loops) (loop_in l has) in
+        let inside = subst (λ ls. IsIn l ls) (ap (loops_of (held after)) on ∙ same_loops) (loop_in_face (held after) sound_after l has) in
         let old = face_of_loop (held before) sound k l had (listed-from_in l (loops_of (held before) k) inside) in
         ap is_lone (same_content (held before) (held after) l (block_keeps_loops before after s p dx dy dz sound made l old.0 tt)) ∙ was.closed l old.0 (ap (solid_of (held before)) old.1 ∙ of_before)
 

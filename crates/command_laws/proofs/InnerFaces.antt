@@ -19,20 +19,20 @@ use Rattle.command_laws.proofs.Inner.{same_row}
 use Rattle.command_laws.proofs.Standing.{rings_same, stands}
 
 -- what is left of face k: its row, its loops and their edges; and all vertices
-record HasLeft (M N : Model) (k : ℕ) : Type 0 where
-  row : table.get N.faces k ≡ table.get M.faces k
-  loops : (l : ℕ) → Has M.loops l → face_of M l ≡ k → table.get N.loops l ≡ table.get M.loops l
-  loops_back : (l : ℕ) → Has N.loops l → face_of N l ≡ k → table.get N.loops l ≡ table.get M.loops l
-  edges : (h : ℕ) → HasHalf M h → face_at M h ≡ k → table.get N.edges (edge_of h) ≡ table.get M.edges (edge_of h)
-  vertices : N.vertices ≡ M.vertices
+pub record HasLeft (M N : Model) (k : ℕ) : Type 0 where
+  pub row : table.get N.faces k ≡ table.get M.faces k
+  pub loops : (l : ℕ) → Has M.loops l → face_of M l ≡ k → table.get N.loops l ≡ table.get M.loops l
+  pub loops_back : (l : ℕ) → Has N.loops l → face_of N l ≡ k → table.get N.loops l ≡ table.get M.loops l
+  pub edges : (h : ℕ) → HasHalf M h → face_at M h ≡ k → table.get N.edges (edge_of h) ≡ table.get M.edges (edge_of h)
+  pub vertices : N.vertices ≡ M.vertices
 
-left_stands : (M N : Model) (k : ℕ) → Sound M → Has M.faces k → HasLeft M N k → StandsAsBefore M N k
+pub left_stands : (M N : Model) (k : ℕ) → Sound M → Has M.faces k → HasLeft M N k → StandsAsBefore M N k
 left_stands M N k sound there w = stands M N (λ j. j ≡ k) sound w.loops w.edges (λ l v i at. ap (λ t. table.get t v) w.vertices) k there refl w.row (rings_same M N k w.row w.loops w.loops_back)
 
-off_first : (a k : ℕ) (ns : List ℕ) → lists (a ∷ ns) k ≡ false → k ≢ a
+pub off_first : (a k : ℕ) (ns : List ℕ) → lists (a ∷ ns) k ≡ false → k ≢ a
 off_first a k ns off e = true≢false (sym (first_listed a ns) ∙ ap (lists (a ∷ ns)) (sym e) ∙ off)
 
-off_rest : (a k : ℕ) (ns : List ℕ) → lists (a ∷ ns) k ≡ false → lists ns k ≡ false
+pub off_rest : (a k : ℕ) (ns : List ℕ) → lists (a ∷ ns) k ≡ false → lists ns k ≡ false
 off_rest a k ns off = false_from_ne_true (lists ns k) (λ i. true≢false (sym (rest_listed a k ns i) ∙ off))
 
 -- ---- mef and kef
@@ -135,7 +135,7 @@ mfkrh_left M l f k goes there ne =
 
 -- ---- each operator
 
-each_left : (op : Op) (M : Model) (k : ℕ) → Sound M → first_false M op ≡ None → leaves_vertices op ≡ true → Has M.faces k → lists (faces_met M op) k ≡ false → HasLeft M (effect M op) k
+pub each_left : (op : Op) (M : Model) (k : ℕ) → Sound M → first_false M op ≡ None → leaves_vertices op ≡ true → Has M.faces k → lists (faces_met M op) k ≡ false → HasLeft M (effect M op) k
 unfolding effect
 each_left (Mef g j h f l) M k sound e i there off = mef_left M sound (code g) (code j) (code h) f l (mef_goes M g j h f l e) k there (off_first _ k (f ∷ []) off)
 each_left (Kef h) M k sound e i there off = kef_left M sound (code h) (kef_goes M h e) k (off_first _ k (face_at M (mate (code h)) ∷ []) off) (off_first _ k [] (off_rest (face_at M (code h)) k (face_at M (mate (code h)) ∷ []) off))

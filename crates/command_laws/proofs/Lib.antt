@@ -31,3 +31,5 @@ mod GluedFlat
 mod Inner
 mod InnerCounts
 mod InnerFaces
+mod Redrawn
+mod InnerVolumes

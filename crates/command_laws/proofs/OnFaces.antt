@@ -1,8 +1,10 @@
 -- Half-edges and vertices on the loops of faces.
-use Rattle.std.proofs.Common.{◌≡◌, ℕ, subst, ◌⊎◌, inl, inr, arith}
-use Rattle.euler_operators.specs.Common.{IsIn, Model, lone, items_of, tail, content, Sound, Has}
+use Rattle.std.proofs.Common.{◌≡◌, ℕ, ◌∷◌, refl, ap, ◌∙◌, subst, ◌⊎◌, inl, inr, arith}
+use Rattle.euler_operators.specs.Common.{IsIn, Model, lone, items_of, tail, content, face_of, outer, rings_of, Sound, Has, lists}
 use Rattle.euler_operators.proofs.Common.{from_map, item_there}
-use Rattle.shapes.specs.Common.{vertices_on}
+use Rattle.euler_laws.proofs.Common.{IsIn-from_listed, first_listed, outer_or_ring, rest_listed}
+use Rattle.shapes.specs.Common.{loops_of, vertices_on}
+use Rattle.shapes.proofs.Common.{ring_listed}
 
 -- a vertex on a loop is that of the lone loop, or some item starts there
 pub vertex_cases : (M : Model) (l v : ℕ) → IsIn v (vertices_on M (content M l)) → (content M l ≡ lone v) ⊎ ((h : ℕ) × IsIn h (items_of (content M l)) × (tail M h ≡ v))
@@ -14,3 +16,11 @@ module _ (M : Model) (sound : Sound M) where
     | inl e ↦ sound.lone_at_vertex l v e
     | inr p ↦ subst (Has M.vertices) p.2 (sound.tails_there p.0 (item_there M sound l p.0 p.1))
   ]
+
+  -- a loop is one of the loops of its face
+  pub loop_in_face : (l : ℕ) → Has M.loops l → IsIn l (loops_of M (face_of M l))
+  unfolding loops_of
+  loop_in_face l has = let k = face_of M l in IsIn-from_listed l (outer M k ∷ rings_of M k) (elim (outer_or_ring M k l has refl) [
+    | inl o ↦ ap (λ q. lists (q ∷ rings_of M k) l) o ∙ first_listed l (rings_of M k)
+    | inr r ↦ rest_listed (outer M k) l (rings_of M k) (ring_listed M sound k l r)
+  ])

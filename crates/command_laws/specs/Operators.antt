@@ -1,8 +1,9 @@
--- What `counts` answers after one operator, an `act` of a session or a `step` of a draft, and which faces stand.
+-- What `counts` answers after one operator, an `act` of a session or a `step` of a draft, which faces stand, and which volumes are kept.
 use Rattle.std.specs.Prelude.{◌≡◌, ◌≢◌, ℕ, ◌+◌, ◌-◌, pos, ◌+ℤ◌, ◌-ℤ◌, Bool, true, false, List, [], ◌∷◌, None}
-use Rattle.euler_operators.specs.Common.{code, mate, Model, face_of, solid_of, Sound, Has, corner_loop, face_at, first_false, lists, effect}
+use Rattle.euler_operators.specs.Common.{Plane, code, mate, Model, face_of, solid_of, Sound, Has, corner_loop, face_at, first_false, lists, effect}
 use Rattle.euler_operators.specs.declared.Op.{Op}
 use Rattle.euler_operators.specs.declared.Op.TheVariants.{Mev, Kev, Mef, Kef, Kemr, Mekr, Kfmrh, Mfkrh}
+use Rattle.shapes.specs.Common.{corners, is_plane_of, six_volume}
 use Rattle.solid_measure.specs.declared.solid_counts.Tally.{Tally}
 use Rattle.solid_measure.specs.solid_counts.Counts.{counts}
 use Rattle.command_laws.specs.LeftAlone.{StandsAsBefore}
@@ -76,3 +77,11 @@ faces_met M op = []
 -- every other face stands as it did
 abbrev pub OperatorsKeepShapes : Type 0
 OperatorsKeepShapes = (M N : Model) (op : Op) (k : ℕ) → Sound M → IsStep M op N → leaves_vertices op ≡ true → Has M.faces k → lists (faces_met M op) k ≡ false → StandsAsBefore M N k
+
+-- each of these faces that is there lies on plane p, with all its corners
+abbrev pub LieOnPlane : Model → Plane → List ℕ → Type 0
+LieOnPlane M p ks = (k : ℕ) → Has M.faces k → lists ks k ≡ true → is_plane_of M p (corners M k) ≡ true
+
+-- where the faces that it changes, makes or kills lie on one plane, as far as they are there, each solid keeps its six volumes
+abbrev pub OperatorsKeepVolumes : Type 0
+OperatorsKeepVolumes = (M N : Model) (op : Op) (p : Plane) (u : ℕ) → Sound M → IsStep M op N → leaves_vertices op ≡ true → LieOnPlane M p (faces_met M op) → six_volume N u ≡ six_volume M u

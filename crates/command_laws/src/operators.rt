@@ -1,5 +1,5 @@
-//! What one operator makes of the counts, in a session or a draft, and which faces it leaves.
-ghost use Rattle.command_laws.specs.Operators.{OperatorsCount, OperatorsKeepCounts, OperatorsKeepShapes};
+//! What one operator makes of the counts, in a session or a draft, which faces it leaves, and where it keeps the volumes.
+ghost use Rattle.command_laws.specs.Operators.{OperatorsCount, OperatorsKeepCounts, OperatorsKeepShapes, OperatorsKeepVolumes};
 
 /// An operator that makes or kills an edge, a face or a ring within a solid changes what `counts` answers of it: mev makes a vertex and an
 /// edge, mef an edge and a face, kemr a ring of an edge, and mfkrh a face of a ring; kev, kef, mekr and kfmrh take that back. Every other
@@ -12,4 +12,10 @@ pub fn operators_count()
 /// After mef, kef, kemr, mekr, kfmrh and mfkrh each face that the operator doesn't change, make or kill stands as it did.
 pub fn operators_leave_faces()
     ensures { OperatorsKeepShapes }
+{}
+
+/// Where the faces that one of these changes, makes or kills lie on one plane, each solid keeps its six volumes: an edge drawn in a flat
+/// face or taken away between two of one plane, a ring of such a face, also as a face of its own.
+pub fn operators_keep_volumes()
+    ensures { OperatorsKeepVolumes }
 {}
