@@ -22,8 +22,8 @@ pub struct OpList {
 #[derive(Drop)]
 enum Ops {
     One(Op),
-    /// Whether the first operator of the list stands last.
-    Many(Vec<Op>, bool),
+    /// Several; turned where the first of them stands last.
+    Many { ops: Vec<Op>, turned: bool },
 }
 
 impl Model for OpList {
@@ -49,7 +49,7 @@ impl OpList {
         ensures { result ≡ ops.items }
     {
         OpList {
-            ops: Ops::Many(ops, false),
+            ops: Ops::Many { ops, turned: false },
         }
     }
 
@@ -58,7 +58,7 @@ impl OpList {
         ensures { result ≡ reverse ops.items }
     {
         OpList {
-            ops: Ops::Many(ops, true),
+            ops: Ops::Many { ops, turned: true },
         }
     }
 
@@ -72,8 +72,8 @@ impl OpList {
     {
         match &self.ops {
             Ops::One(op) => replay(arena, op),
-            Ops::Many(ops, false) => replay_all(arena, ops.as_slice()),
-            Ops::Many(ops, true) => replay_back(arena, ops.as_slice()),
+            Ops::Many { ops, turned: false } => replay_all(arena, ops.as_slice()),
+            Ops::Many { ops, turned: true } => replay_back(arena, ops.as_slice()),
         }
     }
 
@@ -83,7 +83,7 @@ impl OpList {
     {
         match &self.ops {
             Ops::One(_) => 1,
-            Ops::Many(ops, _) => ops.len(),
+            Ops::Many { ops, .. } => ops.len(),
         }
     }
 
@@ -94,8 +94,8 @@ impl OpList {
     {
         match &self.ops {
             Ops::One(op) => op,
-            Ops::Many(ops, false) => &ops[index],
-            Ops::Many(ops, true) => &ops[ops.len() - 1 - index],
+            Ops::Many { ops, turned: false } => &ops[index],
+            Ops::Many { ops, turned: true } => &ops[ops.len() - 1 - index],
         }
     }
 }
