@@ -1,47 +1,65 @@
 -- What a walk round a loop counts.
-use Rattle.std.proofs.Common.{◌≡◌, ◌≢◌, ℕ, ◌+◌, ◌%◌, nat_eq, Bool, true, false, cond, [], ◌∷◌, ◌++◌, sym, ap, subst, ◌∙◌, arith}
+use Rattle.std.proofs.Common.{◌≡◌, ◌≢◌, ℕ, ◌%◌, ◌≤◌, ◌<◌, nat_eq, Bool, true, false, cond, List, [], ◌∷◌, length, refl, sym, ap, ◌∙◌, arith}
 use mir.Val.{bool_byte}
-use Rattle.euler_operators.specs.Common.{IsIn, is_first, HalfEdge, Model, LoopContent, lone, cycle, items_of, content, after, Sound}
+use Rattle.euler_operators.specs.Common.{count, IsIn, rotate_to, is_first, HalfEdge, Model, LoopContent, lone, cycle, items_of, cycle_of, after, Sound, HasHalf}
+use Rattle.euler_operators.specs.Items.{before, after as rest_after}
+use Rattle.euler_operators.proofs.Common.{count-append, split_at, rotate_to-rotates, count-rotate_to}
 use Rattle.euler_operators.specs.declared.Content.TheVariants as Content
 use Rattle.solid_walks.specs.Store.{Tells}
-use Rattle.euler_laws.proofs.Common.{steps, Round, round_start, round_more, round_closed, round_ended, half_in, met_once, items_apart}
+use Rattle.solid_walks.proofs.face_walks_laws.CycleWalks.{seen, to_come, item_in, item_there, cycle_apart, start_seen, comes_back, goes_on}
 use Rattle.solid_measure.specs.declared.solid_counts.Met.{Met}
 use Rattle.shapes.specs.Common.{leads}
 use Rattle.solid_measure.specs.solid_counts.Sums.{IsFew, together, nothing, half_met, halves_met, loop_met}
 use Rattle.shapes.proofs.Common.{AreHalves}
-use Rattle.solid_measure.proofs.solid_counts_laws.Sums.{halves_push, halves_turned, halves_few}
+use Rattle.solid_measure.proofs.solid_counts_laws.Sums.{nothing_together, together_nothing, halves_push, halves_turned, halves_few}
 
--- the walk has come to h, and has counted what was met
-pub record MetRound (M : Model) (l first h n : ℕ) (now : Met) : Type 0 where
-  pub round : Round M l first h n
-  pub counted : now ≡ halves_met M round.met
+-- the walk from `first` has come to h: with h it has counted what it has seen
+pub record MetRound (M : Model) (first h : ℕ) (now : Met) : Type 0 where
+  pub here : IsIn h (cycle_of M first)
+  pub counted : together now (half_met M h) ≡ halves_met M (seen first (cycle_of M first) h)
 
-module _ (M : Model) (sound : Sound M) (l first : ℕ) (item : IsIn first (items_of (content M l))) where
-  pub met_start : MetRound M l first first steps nothing
-  met_start = record { round = round_start M sound l first item; counted = λ i. nothing }
+module _ (M : Model) (sound : Sound M) (first : ℕ) (there : HasHalf M first) where
+  pub met_start : MetRound M first first nothing
+  met_start = let i = item_in M sound first there in record {
+    here = i;
+    counted = nothing_together (half_met M first) ∙ sym (together_nothing (half_met M first)) ∙ sym (ap (halves_met M) (start_seen first (cycle_of M first) (cycle_apart M sound first there) i));
+  }
 
-  module _ (h n : ℕ) (now : Met) (w : MetRound M l first h n now) where
-    met_halves : AreHalves M w.round.met
-    met_halves = record {
-      apart = λ x. omega (arith, met_once M sound l first item h n w.round x, items_apart M sound l first item x);
-      there = λ x i. half_in M sound l first item x (omega (arith, i, met_once M sound l first item h n w.round x));
+  -- what was seen is some of the loop's
+  seen_in : (h x : ℕ) → IsIn h (cycle_of M first) → count x (seen first (cycle_of M first) h) ≤ count x (cycle_of M first)
+  seen_in h x i =
+      let ys : List ℕ = rotate_to first (cycle_of M first) in
+      let turned : (y : ℕ) → count y ys ≡ count y (cycle_of M first) = λ y. count-rotate_to y first (cycle_of M first) in
+      omega (arith, turned x, ap (count x) (split_at h ys (omega (arith, i, turned h))), count-append x (before h ys) (h ∷ rest_after h ys), count-append x (before h ys) (h ∷ []))
+
+  module _ (h : ℕ) (now : Met) (w : MetRound M first h now) where
+    seen_halves : AreHalves M (seen first (cycle_of M first) h)
+    seen_halves = record {
+      apart = λ x. omega (arith, seen_in h x w.here, cycle_apart M sound first there x);
+      there = λ x i. item_there M sound first there x (omega (arith, i, seen_in h x w.here));
     }
 
     pub met_few : IsFew now
-    met_few = subst IsFew (sym w.counted) (halves_few M sound w.round.met met_halves)
+    met_few =
+        let few = halves_few M sound (seen first (cycle_of M first) h) seen_halves in
+        (omega (arith, few.0, ap (λ (m : Met). m.vertices) w.counted), omega (arith, few.1, ap (λ (m : Met). m.edges) w.counted))
 
-    pub met_ended : n ≡ 0 → now ≡ halves_met M (items_of (content M l))
-    met_ended z = w.counted ∙ sym (halves_turned M (items_of (content M l)) w.round.met (round_ended M sound l first item h n w.round z))
+    module _ (next : Met) (adds : next ≡ together now (half_met M h)) where
+      pub met_closed : after M h ≡ first → next ≡ halves_met M (cycle_of M first)
+      met_closed e =
+          adds ∙ w.counted ∙ ap (halves_met M) (comes_back M sound first there h (after M h) w.here (λ _. refl) e).1
+          ∙ sym (halves_turned M (cycle_of M first) (rotate_to first (cycle_of M first)) (rotate_to-rotates first (cycle_of M first)))
 
-    module _ (k : ℕ) (more : n ≡ k + 1) (next : Met) (adds : next ≡ together now (half_met M h)) where
-      counted_more : next ≡ halves_met M (w.round.met ++ h ∷ [])
-      counted_more = adds ∙ ap (λ m. together m (half_met M h)) w.counted ∙ sym (halves_push M w.round.met h)
+      pub met_more : after M h ≢ first → MetRound M first (after M h) next
+      met_more ne =
+          let on = goes_on M sound first there h (after M h) w.here (λ _. refl) ne in record {
+            here = on.0;
+            counted = ap (λ m. together m (half_met M (after M h))) (adds ∙ w.counted) ∙ sym (halves_push M (seen first (cycle_of M first) h) (after M h)) ∙ sym (ap (halves_met M) on.2);
+          }
 
-      pub met_closed : after M h ≡ first → next ≡ halves_met M (items_of (content M l))
-      met_closed e = counted_more ∙ sym (halves_turned M (items_of (content M l)) (w.round.met ++ h ∷ []) (round_closed M sound l first item h n k w.round more e))
-
-      pub met_more : after M h ≢ first → MetRound M l first (after M h) k next
-      met_more ne = record { round = round_more M sound l first item h n k w.round more ne; counted = counted_more }
+      -- fewer are still to come
+      pub met_fewer : after M h ≢ first → length (to_come first (cycle_of M first) (after M h)) < length (to_come first (cycle_of M first) h)
+      met_fewer ne = omega (arith, ap length (goes_on M sound first there h (after M h) w.here (λ _. refl) ne).1)
 
 -- a lone loop counts for its vertex
 pub lone_counts : (M : Model) (c : LoopContent) (v : ℕ) → Tells c (Content.Lone v) → ◌≡◌ {A = Met} (record { vertices = 1; edges = 0 }) (loop_met M c)

@@ -7,7 +7,7 @@ ghost use Rattle.shapes.specs.Common.{loops_of};
 ghost use Rattle.solid_measure.specs.solid_counts.Sums.{IsFew, half_met, halves_met, loop_met, loops_met, together};
 
 use crate::solid_counts::Met;
-use euler_operators::{Content, HALF_EDGE_CODES, HalfEdge, Kind};
+use euler_operators::{Content, HalfEdge, Kind};
 use solid_walks::{Arena, leads, loops_of, next_code, previous_code};
 
 /// What two walks have counted together.
@@ -49,7 +49,7 @@ fn ring_met(arena: &Arena, l: u32, first: HalfEdge) -> Met
     let begin = first.code();
     let mut last = previous_code(arena, begin);
     let mut code = begin;
-    'round: for _ in 0..HALF_EDGE_CODES {
+    'round: loop {
         sum = together(sum, half_met(arena, last, code));
         last = code;
         code = next_code(arena, code);
@@ -57,7 +57,6 @@ fn ring_met(arena: &Arena, l: u32, first: HalfEdge) -> Met
             return sum;
         }
     }
-    sum
 }
 
 /// What the loop counts for: its vertex where it is lone, else what its half-edges do.

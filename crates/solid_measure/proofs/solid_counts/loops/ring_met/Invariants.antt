@@ -1,11 +1,14 @@
-use Rattle.std.proofs.Common.{◌≡◌, ◌-◌}
-use Rattle.euler_operators.specs.Common.{code, before}
-use Rattle.euler_laws.proofs.Common.{steps}
+use Rattle.std.proofs.Common.{◌≡◌, length}
+use Rattle.euler_operators.specs.Common.{before, cycle_of}
+use Rattle.solid_walks.proofs.face_walks_laws.CycleWalks.{to_come}
 use Rattle.solid_measure.proofs.solid_counts_laws.LoopRounds.{MetRound}
 use Rattle.solid_measure.proofs.solid_counts.loops.ring_met.Given as goal
 
 abbrev pub invariant-round : goal.invariant-round
 invariant-round l = record {
-  met : MetRound l.arena.model l.l (code l.fn.first) l.code (steps - l.counter) l.sum;
+  met : MetRound l.arena.model l.begin l.code l.sum;
   last : l.last ≡ before l.arena.model l.code;
 }
+
+abbrev pub decreases-round : goal.decreases-round
+decreases-round l = length (to_come l.begin (cycle_of l.arena.model l.begin) l.code)
