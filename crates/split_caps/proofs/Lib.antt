@@ -1,3 +1,4 @@
+mod block_cuts
 mod PartCaps
 mod Whole
 mod SplitCounts

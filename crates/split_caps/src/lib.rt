@@ -13,13 +13,17 @@
 //! edges that is, and how many faces more than rings, by the edges that are cut, the edges drawn between cut places and the half-
 //! edges round the section; `v - e + f - r`, by the cycles of the section and its holes alone. Of every other solid `counts`
 //! answers what it did. Where kfmrh makes a face a ring of another on the same plane, as the holes are closed, and where mfkrh makes
-//! such a face, each solid keeps its six volumes. Not proved: that the holes of a section have less area than its outer cycle, so
+//! such a face, each solid keeps its six volumes. A split of a block that is alone in the session, across an axis and strictly
+//! between its ends, is accepted. Not proved: that the holes of a section have less area than its outer cycle, so
 //! that the cap below points along the direction then too; what each part counts alone; the faces and the rings apart from each
 //! other by the section.
 
 ghost use Rattle.split_caps.specs.Counted.{SplitSharesCounts, SplitSharesSums, SplitMakesCounts, SplitKeepsCounts};
 ghost use Rattle.split_caps.specs.Ringed.{KfmrhKeepsVolumes, MfkrhKeepsVolumes};
+ghost use Rattle.split_caps.specs.LoneBlocks.{LoneBlockSplitsFit};
 ghost use Rattle.split_caps.specs.Laws.{CrossedAreCapped, SectionsAreCapped, CapsAreNumbered, CapsStand, HolesAreClosed, CapsHaveNormals, CapsFaceApart};
+
+use command_laws::faces_lie_flat;
 
 /// Each cycle of the section has two caps, numbered on from the last face that was drawn, and each half-edge of the section stands in a
 /// cycle. So there are caps where a face above meets one that isn't, once the faces are drawn; and those of an outer cycle where an edge
@@ -59,3 +63,11 @@ pub fn rings_keep_volumes()
     ensures killed { KfmrhKeepsVolumes }
     ensures made { MfkrhKeepsVolumes }
 {}
+
+/// A block that is alone in the session can be split across each of its axes, strictly between its ends, whichever side of the plane is the
+/// upper one: the split is accepted, if the upper part gets a number of its own.
+pub fn lone_block_splits_fit()
+    ensures { LoneBlockSplitsFit }
+{
+    faces_lie_flat();
+}
