@@ -1,16 +1,23 @@
 -- The machines of this program computed: what they have taken, that the glue and the split are accepted, and what the parts measure.
-use Rattle.std.proofs.Common.{sym, subst, arith, ◌≡◌, ◌≤◌, ℕ, ◌+◌, pos, neg_ℤ, None, false, refl, [], ◌∷◌}
+use Rattle.std.specs.FinMap.Entries.{find}
+use Rattle.std.specs.List.{list_all}
+use Rattle.std.specs.Ordering.{eq_by_cmp, nat_cmp}
+use Rattle.std.proofs.lemmas.Bool.{and_parts, not-true}
+use Rattle.std.proofs.lemmas.Bool.Decides.{eqb_tells}
+use Rattle.std.proofs.Common.{sym, Bool, Some, cond, ap, ◌∙◌, true, not, ◌&&◌, ◌⊎◌, inl, inr, List, true≢false, length, unwrap_or, subst, arith, ◌≡◌, ◌≤◌, ℕ, ◌+◌, pos, neg_ℤ, None, false, refl, [], ◌∷◌}
 use Rattle.sweeps.specs.Measure.{six_volume}
 use Rattle.sweeps.specs.PlainMachine.{Machine, start, held}
 use Rattle.plane_split.specs.Machine.{plane_with, split_refusal}
 use Rattle.command_laws.specs.Accepted.{AreLeft}
-use Rattle.command_laws.specs.Operators.{solid_in}
-use Rattle.euler_operators.specs.Common.{first_false, rotate_to, canonical, rest, mate, code, half, edge_of, is_first, empty_model, content, tail, loop_of, face_of, solid_of, outer, arc, holds, after, before, point_of, conditions, has_rings, effect, inverse, mvfs, kvfs_at, mev_lone, mev_at, kev, mef, kef, kemr, mekr, kfmrh, mfkrh, ring_in, ring_out, take_outer, merge, part}
+use Rattle.command_laws.specs.NewFaces.{all_moved, corner_points, last_face}
+use Rattle.command_laws.specs.Operators.{LieOnPlane, faces_met, solid_in}
+use Rattle.euler_operators.specs.declared.Op.TheVariants.{Kfmrh, Merge}
+use Rattle.euler_operators.specs.Common.{Plane, Point, LoopRow, dot, is_in_range, is_lone, lists, no_loop, first_false, rotate_to, canonical, rest, mate, code, half, edge_of, is_first, empty_model, content, tail, loop_of, face_of, solid_of, outer, arc, holds, after, before, point_of, conditions, has_rings, effect, inverse, mvfs, kvfs_at, mev_lone, mev_at, kev, mef, kef, kemr, mekr, kfmrh, mfkrh, ring_in, ring_out, take_outer, merge, part}
 use Rattle.solid_measure.specs.solid_counts.Counts.{counts}
 use Rattle.split_caps.specs.Capped.{caps_of}
-use Rattle.shapes.specs.Common.{lamina_face, glue_conditions, glue_model, loops_of, boundary, corners, taken_in, lamina_conditions, lamina_model, prism_conditions, with_side, raised, prism_model, block_conditions, block_model, normal, plane_of, is_flat, straddles, face_is_above, is_place, place_point, places, is_touched, is_cut_often, is_crossed, sorted_pairs, place_pairs, edge_cut, next_cut, with_crossings, drawn_pairs, face_drawn, loops_joined, join_next, draw_next, next_drawn, with_drawings, below_halves, section_cycles, is_hole, opened_along, next_opened, first_conditions, section_conditions, split_conditions, split_model}
+use Rattle.shapes.specs.Common.{is_plane_of, lamina_face, glue_conditions, glue_model, loops_of, boundary, corners, taken_in, lamina_conditions, lamina_model, prism_conditions, with_side, raised, prism_model, block_conditions, block_model, normal, plane_of, is_flat, straddles, face_is_above, is_place, place_point, places, is_touched, is_cut_often, is_crossed, sorted_pairs, place_pairs, edge_cut, next_cut, with_crossings, drawn_pairs, face_drawn, loops_joined, join_next, draw_next, next_drawn, with_drawings, below_halves, section_cycles, is_hole, opened_along, next_opened, first_conditions, section_conditions, split_conditions, split_model}
 use Rattle.euler_operators.specs.Table as table
-use Rattle.block_machining.specs.Machines.{blank, spur, paired, lengthened, parted, triangular}
+use Rattle.block_machining.specs.Machines.{blank, bossed, lengthened, merged, paired, parted, score, spur, stacked, triangular}
 
 -- opens the definitions that the machines compute by
 unfoldable computed : ℕ
@@ -56,6 +63,9 @@ lamina_left = left start 0 0 0 0 2 2 3 3 start_taken (omega arith) (omega arith)
 
 pub blank_left : AreLeft blank 6 6 12 8
 blank_left = left blank 6 6 12 8 6 6 12 8 blank_taken (omega arith) (omega arith) (omega arith) (omega arith)
+
+pub blank_room : AreLeft blank 2 2 3 3
+blank_room = left blank 6 6 12 8 2 2 3 3 blank_taken (omega arith) (omega arith) (omega arith) (omega arith)
 
 pub sweep_left : AreLeft blank 4 4 8 4
 sweep_left = left blank 6 6 12 8 4 4 8 4 blank_taken (omega arith) (omega arith) (omega arith) (omega arith)
@@ -103,11 +113,131 @@ pub one_cap : caps_of (held lengthened) 1 (plane_with (pos 1) (pos 0) (pos 0) (n
 unfolding computed glue_conditions glue_model blank paired lengthened
 one_cap = refl
 
+-- ---- an edge across the top
+
+pub score_accepted : first_false (held blank) score ≡ None
+unfolding computed blank
+score_accepted = refl
+
+pub score_in : solid_in (held blank) score ≡ 1
+unfolding computed blank
+score_in = refl
+
+-- one of two numbers
+one_of_two : (a b k : ℕ) → lists (a ∷ b ∷ []) k ≡ true → (k ≡ a) ⊎ (k ≡ b)
+one_of_two a b k e = grind (arith, eqb_tells a k, eqb_tells b k)
+
+-- the plane z = 2
+abbrev pub top_plane : Plane
+top_plane = record { a = pos 0; b = pos 0; c = pos 1; d = neg_ℤ (pos 2) }
+
+score_meets : faces_met (held blank) score ≡ 1 ∷ 7 ∷ []
+unfolding computed blank
+score_meets = refl
+
+top_lies : is_plane_of (held blank) top_plane (corners (held blank) 1) ≡ true
+unfolding computed blank
+top_lies = refl
+
+seven_free : table.has (held blank).faces 7 ≡ false
+unfolding computed blank
+seven_free = refl
+
+pub score_lies : LieOnPlane (held blank) top_plane (faces_met (held blank) score)
+score_lies = subst (LieOnPlane (held blank) top_plane) (sym score_meets) (λ k there l. elim (one_of_two 1 7 k l) [
+  | inl e ↦ subst (λ k. is_plane_of (held blank) top_plane (corners (held blank) k) ≡ true) (sym e) top_lies
+  | inr e ↦ absurd (true≢false (sym there ∙ ap (table.has (held blank).faces) e ∙ seven_free))
+])
+
+-- ---- a boss on the top
+
+pub merge_accepted : first_false (held stacked) (Merge 1 2) ≡ None
+unfolding computed blank stacked
+merge_accepted = refl
+
+pub ring_accepted : first_false (held merged) (Kfmrh 1 8) ≡ None
+unfolding computed blank stacked merged
+ring_accepted = refl
+
+pub ring_in_solid : solid_in (held merged) (Kfmrh 1 8) ≡ 1
+unfolding computed blank stacked merged
+ring_in_solid = refl
+
+pub merged_is : six_volume (held merged) 1 ≡ pos 156
+unfolding computed blank stacked merged
+merged_is = refl
+
+pub merged_counts : counts (held merged) 1 ≡ record { v = 16; e = 24; f = 12; r = 0; sum = pos 4 }
+unfolding computed blank stacked merged counts
+merged_counts = refl
+
+both_lie : (is_plane_of (held merged) top_plane (corners (held merged) 1) ≡ true) × (is_plane_of (held merged) top_plane (corners (held merged) 8) ≡ true)
+unfolding computed blank stacked merged
+both_lie = (refl, refl)
+
+pub ring_lies : LieOnPlane (held merged) top_plane (faces_met (held merged) (Kfmrh 1 8))
+ring_lies k there l = elim (one_of_two 1 8 k l) [
+  | inl e ↦ subst (λ k. is_plane_of (held merged) top_plane (corners (held merged) k) ≡ true) (sym e) both_lie.0
+  | inr e ↦ subst (λ k. is_plane_of (held merged) top_plane (corners (held merged) k) ≡ true) (sym e) both_lie.1
+]
+
+-- where no row is of a lone loop, none is lone
+abbrev no_lone : List (ℕ × LoopRow) → Bool
+no_lone [] = true
+no_lone (e ∷ es) = not (is_lone e.1.content) && no_lone es
+
+none_found : (l : ℕ) (es : List (ℕ × LoopRow)) → no_lone es ≡ true → is_lone (unwrap_or (find nat_cmp l es) no_loop).content ≡ false
+none_found l [] all = refl
+none_found l (e ∷ es) all =
+    let both = and_parts (not (is_lone e.1.content)) (no_lone es) all in
+    go (eq_by_cmp nat_cmp l e.0) (not-true (is_lone e.1.content) both.0) (none_found l es both.1) where
+      go : (b : Bool) → is_lone e.1.content ≡ false → is_lone (unwrap_or (find nat_cmp l es) no_loop).content ≡ false → is_lone (unwrap_or (cond b (Some e.1) (find nat_cmp l es)) no_loop).content ≡ false
+      go true first rest = first
+      go false first rest = rest
+
+pub none_lone : (l : ℕ) → is_lone (content (held bossed) l) ≡ false
+unfolding computed blank stacked merged bossed
+none_lone l = none_found l (held bossed).loops.rows refl
+
+bossed_taken : HasTaken bossed 12 12 24 16
+unfolding computed blank stacked merged bossed
+bossed_taken = record { of_faces = refl; of_loops = refl; of_edges = refl; of_vertices = refl }
+
+pub pocket_left : AreLeft bossed 8 8 16 8
+pocket_left = left bossed 12 12 24 16 8 8 16 8 bossed_taken (omega arith) (omega arith) (omega arith) (omega arith)
+
+-- the top has eight corners, and twice its area is 20
+pub top_there : table.has (held bossed).faces 1 ≡ true
+unfolding computed blank stacked merged bossed
+top_there = refl
+
+pub top_solid : solid_of (held bossed) 1 ≡ 1
+unfolding computed blank stacked merged bossed
+top_solid = refl
+
+abbrev pub up_two : Point
+up_two = record { x = pos 0; y = pos 0; z = pos 2 }
+
+pub top_near : list_all is_in_range (all_moved up_two (corner_points (held bossed) 1)) ≡ true
+unfolding computed blank stacked merged bossed
+top_near = refl
+
+pub top_corners : length (corner_points (held bossed) 1) ≡ 8
+unfolding computed blank stacked merged bossed
+top_corners = refl
+
+pub top_area : dot (normal (held bossed) 1) up_two ≡ pos 40
+unfolding computed blank stacked merged bossed
+top_area = refl
+
 -- ---- the triangle
 
 triangular_taken : HasTaken triangular 2 2 3 3
 unfolding computed triangular
 triangular_taken = record { of_faces = refl; of_loops = refl; of_edges = refl; of_vertices = refl }
+
+pub triangular_last : last_face triangular ≡ 2
+triangular_last = triangular_taken.of_faces
 
 pub wedge_left : AreLeft triangular 3 3 6 3
 wedge_left = left triangular 2 2 3 3 3 3 6 3 triangular_taken (omega arith) (omega arith) (omega arith) (omega arith)

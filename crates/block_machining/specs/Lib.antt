@@ -4,3 +4,4 @@ pub mod Undoing
 pub mod Listed
 pub mod Meeting
 pub mod Machines
+pub mod Wedge

@@ -2,8 +2,8 @@
 use Rattle.std.specs.Prelude.{pos, neg_ℤ, true, List, [], ◌∷◌}
 use Rattle.euler_operators.specs.Common.{At, Point, origin}
 use Rattle.euler_operators.specs.declared.Op.{Op}
-use Rattle.euler_operators.specs.declared.Op.TheVariants.{Mev}
-use Rattle.sweeps.specs.PlainMachine.{Machine, start}
+use Rattle.euler_operators.specs.declared.Op.TheVariants.{Kfmrh, Mef, Merge, Mev}
+use Rattle.sweeps.specs.PlainMachine.{Machine, act, start}
 use Rattle.sweeps.specs.Machine.{block, lamina}
 use Rattle.gluing.specs.Machine.{glue}
 use Rattle.plane_split.specs.Machine.{split, plane_with}
@@ -17,7 +17,21 @@ blank = block start 1 origin (pos 4) (pos 3) (pos 2)
 abbrev pub spur : Op
 spur = let corner = At (record { edge = 1; first = true }) in Mev corner corner (record { edge = 13; first = true }) 9 (record { x = pos 1; y = pos 1; z = pos 1 })
 
--- and at its end one of 1 by 3 by 2 as solid 2
+-- an edge across its top, from corner to corner: what it cuts off is face 7
+abbrev pub score : Op
+score = Mef (record { edge = 7; first = true }) (record { edge = 11; first = true }) (record { edge = 13; first = true }) 7 7
+
+-- on its top one of 2 by 1 by 1 as solid 2, then of solid 1 too; and then its bottom, face 8, a ring of the top below it
+unfoldable pub stacked : Machine
+stacked = block blank 2 (record { x = pos 1; y = pos 1; z = pos 2 }) (pos 2) (pos 1) (pos 1)
+
+unfoldable pub merged : Machine
+merged = act stacked (Merge 1 2)
+
+unfoldable pub bossed : Machine
+bossed = act merged (Kfmrh 1 8)
+
+-- the block, and at its end one of 1 by 3 by 2 as solid 2
 unfoldable pub paired : Machine
 paired = block blank 2 (at (pos 0) (pos 0)) (pos 1) (pos 3) (pos 2)
 

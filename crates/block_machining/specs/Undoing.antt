@@ -1,13 +1,11 @@
--- A command that can be taken back, and what an operator makes of counts and faces.
+-- A command that can be taken back, and what an operator makes of counts, faces and volumes.
 use Rattle.std.specs.Prelude.{◌≡◌, ◌≢◌, ℕ, suc, true, false, None}
 use Rattle.euler_operators.specs.declared.Op.{Op}
-use Rattle.euler_operators.specs.declared.Op.TheVariants.{Kfmrh}
 use Rattle.euler_operators.specs.Common.{Plane, lists, Model, Has}
 use Rattle.sweeps.specs.Measure.{six_volume}
 use Rattle.command_laws.specs.Counted.{counts}
-use Rattle.command_laws.specs.Operators.{counted_on, faces_met, is_inner, leaves_vertices, solid_in}
+use Rattle.command_laws.specs.Operators.{LieOnPlane, counted_on, faces_met, is_inner, leaves_vertices, solid_in}
 use Rattle.command_laws.specs.LeftAlone.{StandsAsBefore}
-use Rattle.split_caps.specs.Ringed.{LiesOnPlane}
 use Rattle.sweeps.specs.PlainMachine.{Machine, depth, ahead, held, undo, undo_refusal}
 
 -- one command leads from the machine before to the one after: undo isn't refused, gives the model before, and leaves it to be redone
@@ -24,6 +22,6 @@ pub record AreCounted (M N : Model) (op : Op) : Type 0 where
 abbrev pub LeavesFaces : Model → Model → Op → Type 0
 LeavesFaces M N op = (k : ℕ) → leaves_vertices op ≡ true → Has M.faces k → lists (faces_met M op) k ≡ false → StandsAsBefore M N k
 
--- a face that becomes a ring of another on one plane changes no six volumes
+-- and where these lie on one plane it changes no six volumes
 abbrev pub KeepsVolumes : Model → Model → Op → Type 0
-KeepsVolumes M N op = (f g u : ℕ) (p : Plane) → op ≡ Kfmrh f g → LiesOnPlane M p f → LiesOnPlane M p g → six_volume N u ≡ six_volume M u
+KeepsVolumes M N op = (p : Plane) (u : ℕ) → leaves_vertices op ≡ true → LieOnPlane M p (faces_met M op) → six_volume N u ≡ six_volume M u

@@ -4,23 +4,25 @@ ghost use Rattle.command_laws.specs.Counted.{counts};
 ghost use Rattle.command_laws.specs.Flat.{IsClosedFlat};
 ghost use Rattle.command_laws.specs.NewFaces.{last_face, IsFaceOf};
 ghost use Rattle.block_machining.specs.Cutting.{IsCapAt, LieOnEitherSide};
-ghost use Rattle.block_machining.specs.Machines.{blank, paired, lengthened};
+ghost use Rattle.block_machining.specs.Machines.{blank, paired, lengthened, triangle};
 ghost use Rattle.block_machining.specs.Meeting.{top, near_side, far_side};
 ghost use Rattle.sweeps.specs.PlainMachine.{depth, ahead, held};
 ghost use Rattle.sweeps.specs.Measure.{six_volume};
 ghost use Rattle.euler_operators.specs.Common.{empty_model, Has};
 
 use crate::machining::{acted, but_for_memory, cut, joined, raised, tried};
+use crate::wedges::corners;
 use command_laws::{
     blocks_fit, blocks_leave_alone, blocks_make_faces, faces_are_kept, faces_lie_flat, faces_stand,
-    glues_fit, shapes_are_counted, solids_are_there, sweeps_fit, undos_go_back,
+    glues_fit, laminas_fit, laminas_leave_alone, laminas_make_faces, others_keep_counts,
+    shapes_are_counted, solids_are_there, sweeps_fit, undos_go_back,
 };
 use euler_operators::{Corner, HalfEdge};
 use std::alloc::{AllocError, Global};
-use sweeps::{Op, Point, Session, block, block_measures};
+use sweeps::{Op, Point, Session, block, block_measures, lamina};
 
 /// A session that holds a block of 4 by 3 by 2 as solid 1. Its faces have the numbers 1 to 6; the side at the greatest x is face 4.
-fn blank(alloc: Global) -> Result<Session, AllocError>
+pub(crate) fn blank(alloc: Global) -> Result<Session, AllocError>
     ensures there { IfOk result (λ session. Has (held session.machine).solids 1) }
     ensures side { IfOk result (λ session. IsFaceOf (held session.machine) 4 1 near_side) }
     ensures last { IfOk result (λ session. last_face session.machine ≡ 6) }
@@ -81,14 +83,57 @@ pub fn spurred(alloc: Global) -> Result<Session, AllocError>
     Ok(session)
 }
 
+/// The block with an edge drawn across its top, from corner to corner. So it has an edge and a face more, and its volume as before.
+pub fn scored(alloc: Global) -> Result<Session, AllocError>
+    ensures volume { IfOk result (λ session. six_volume (held session.machine) 1 ≡ pos 144) }
+    ensures counts { IfOk result (λ session. counts (held session.machine) 1 ≡ record { v = 8; e = 13; f = 7; r = 0; sum = pos 2 }) }
+{
+    let session = blank(alloc)?;
+    let from = HalfEdge {
+        edge: 7,
+        first: true,
+    };
+    let to = HalfEdge {
+        edge: 11,
+        first: true,
+    };
+    let edge = HalfEdge {
+        edge: 13,
+        first: true,
+    };
+    let (session, done) = acted(session, Op::Mef(from, to, edge, 7, 7));
+    but_for_memory(done)?;
+    Ok(session)
+}
+
+/// The block, and a lamina under half of its base as solid 2. The side of the block still has the corners that it had, and the block
+/// counts as it did.
+pub fn underlaid(alloc: Global) -> Result<Session, AllocError>
+    ensures side { IfOk result (λ session. IsFaceOf (held session.machine) 4 1 near_side) }
+    ensures counts { IfOk result (λ session. counts (held session.machine) 1 ≡ record { v = 8; e = 12; f = 6; r = 0; sum = pos 2 }) }
+    ensures lamina { IfOk result (λ session. IsFaceOf (held session.machine) 7 2 triangle) }
+{
+    let session = blank(alloc)?;
+    laminas_fit();
+    laminas_make_faces();
+    laminas_leave_alone();
+    others_keep_counts();
+    faces_stand();
+    let (session, made) = lamina(alloc, session, 2, &corners());
+    but_for_memory(made)?;
+    Ok(session)
+}
+
 /// The block, and at its end one of 1 by 3 by 2 as solid 2. Its faces have the numbers 7 to 12; the side at the least x is face 12. The
-/// side of the first block still has the corners that it had: the two meet, one going round the other way.
+/// side of the first block still has the corners that it had: the two meet, one going round the other way. Each counts as it did alone.
 fn paired(alloc: Global) -> Result<Session, AllocError>
     ensures first { IfOk result (λ session. six_volume (held session.machine) 1 ≡ pos 144) }
     ensures second { IfOk result (λ session. six_volume (held session.machine) 2 ≡ pos 36) }
     ensures near { IfOk result (λ session. IsFaceOf (held session.machine) 4 1 near_side) }
     ensures far { IfOk result (λ session. IsFaceOf (held session.machine) 12 2 far_side) }
     ensures depth { IfOk result (λ session. depth session.machine ≡ 2) }
+    ensures first_counts { IfOk result (λ session. counts (held session.machine) 1 ≡ record { v = 8; e = 12; f = 6; r = 0; sum = pos 2 }) }
+    ensures second_counts { IfOk result (λ session. counts (held session.machine) 2 ≡ record { v = 8; e = 12; f = 6; r = 0; sum = pos 2 }) }
     ensures made { IfOk result (λ session. session.machine ≡ paired) }
     ensures flat { IfOk result (λ session. IsClosedFlat (held session.machine) 1 × IsClosedFlat (held session.machine) 2) }
 {
@@ -99,6 +144,8 @@ fn paired(alloc: Global) -> Result<Session, AllocError>
     blocks_leave_alone();
     faces_lie_flat();
     faces_stand();
+    others_keep_counts();
+    shapes_are_counted();
     let corner = Point { x: 4, y: 0, z: 0 };
     let (session, made) = block(alloc, session, 2, corner, 1, 3, 2);
     but_for_memory(made)?;
@@ -109,6 +156,7 @@ fn paired(alloc: Global) -> Result<Session, AllocError>
 fn lengthened(alloc: Global) -> Result<Session, AllocError>
     ensures volume { IfOk result (λ session. six_volume (held session.machine) 1 ≡ pos 180) }
     ensures depth { IfOk result (λ session. depth session.machine ≡ 3) }
+    ensures sum { IfOk result (λ session. (counts (held session.machine) 1).sum ≡ pos 2) }
     ensures made { IfOk result (λ session. session.machine ≡ lengthened) }
 {
     let session = paired(alloc)?;

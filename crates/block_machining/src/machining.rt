@@ -1,5 +1,6 @@
 //! Commands of the workbench, each with what this program wants of it.
 ghost use Rattle.std.specs.Prelude.{◌≡◌, ◌≢◌, pos, ◌+ℤ◌, ◌-ℤ◌, ◌*ℤ◌, Ok, Err, Some, OnOk, OnErr};
+ghost use Rattle.command_laws.specs.Commands.{IsSweep};
 ghost use Rattle.command_laws.specs.Counted.{counts};
 ghost use Rattle.command_laws.specs.LeftAlone.{KeepsEdges, KeepsLoops, Each, OfOthers, OfOthersBut};
 ghost use Rattle.command_laws.specs.RingedFaces.{IsFarFace};
@@ -16,15 +17,12 @@ ghost use Rattle.euler_operators.specs.Common.{solid_of, Sound, Has, dot};
 use call_lists::Refusal;
 use command_laws::{
     glues_join_counts, glues_keep_and_join, glues_leave_alone, glues_take_faces_over,
-    operators_count, operators_leave_faces, ringed_sweeps_make_faces, solids_are_there,
-    sweeps_add_counts, sweeps_leave_alone,
+    operators_count, operators_keep_volumes, operators_leave_faces, ringed_sweeps_make_faces,
+    solids_are_there, sweeps_add_counts, sweeps_leave_alone,
 };
 use gluing::{glue, glue_measures, six_volume};
 use plane_split::{split, splits_are_held};
-use split_caps::{
-    caps_are_numbered, caps_close_the_parts, caps_face_apart, rings_keep_volumes,
-    splits_share_counts,
-};
+use split_caps::{caps_are_numbered, caps_close_the_parts, caps_face_apart, splits_share_counts};
 use split_frames::{splits_leave_alone, splits_share_faces};
 use std::alloc::{AllocError, Global};
 use sweeps::{Draft, Failure, Op, Point, Session, sweep, sweep_measures};
@@ -40,6 +38,7 @@ pub fn raised(
 ) -> (Session, Result<(), Failure>)
     ensures sound { Sound (held session.machine) }
     ensures refused { (refusal : Refusal) → (result.1 ≡ Err (Failure.Refused refusal)) → (sweep_refusal session.machine face by ≡ Some refusal) }
+    ensures made { OnOk result.1 (IsSweep session.machine result.0.machine face by) }
     ensures volume { OnOk result.1 (six_volume (held result.0.machine) (solid_of (held session.machine) face) ≡ six_volume (held session.machine) (solid_of (held session.machine) face) +ℤ pos 3 *ℤ dot (normal (held session.machine) face) by) }
     ensures far { OnOk result.1 (IsFarFace (held session.machine) (held result.0.machine) face by) }
     ensures sum { OnOk result.1 ((counts (held result.0.machine) (solid_of (held session.machine) face)).sum ≡ (counts (held session.machine) (solid_of (held session.machine) face)).sum) }
@@ -126,7 +125,7 @@ pub(crate) fn but_for_memory(done: Result<(), Failure>) -> Result<(), AllocError
 }
 
 /// An operator as a command. Where it makes or kills an edge, a face or a ring, what the solids count then is told from what they did; where
-/// it leaves all vertices, the faces that it doesn't meet stand; and a face that it makes a ring on its plane changes no volume. Undo gives
+/// it leaves all vertices, the faces that it doesn't meet stand, and if those that it does lie on one plane, no volume changes. Undo gives
 /// the model before.
 pub fn acted(mut session: Session, op: Op) -> (Session, Result<(), Failure>)
     ensures made { OnOk result.1 (result.0.machine ≡ act session.machine op) }
@@ -140,7 +139,7 @@ pub fn acted(mut session: Session, op: Op) -> (Session, Result<(), Failure>)
     session.stays_consistent();
     operators_count();
     operators_leave_faces();
-    rings_keep_volumes();
+    operators_keep_volumes();
     let done = session.act(op);
     (session, done)
 }

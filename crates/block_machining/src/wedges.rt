@@ -2,18 +2,21 @@
 ghost use Rattle.std.specs.Prelude.{◌≡◌, pos, IfOk};
 ghost use Rattle.command_laws.specs.NewFaces.{IsFaceOf};
 ghost use Rattle.block_machining.specs.Machines.{triangle, triangular};
+ghost use Rattle.block_machining.specs.Wedge.{HasWalls, lid};
 ghost use Rattle.sweeps.specs.PlainMachine.{held};
 ghost use Rattle.sweeps.specs.Measure.{six_volume};
 ghost use Rattle.euler_operators.specs.Common.{Has};
 
 use crate::machining::{but_for_memory, raised};
 use arrayvec::ArrayVec;
-use command_laws::{faces_are_kept, faces_lie_flat, laminas_fit, laminas_make_faces, sweeps_fit};
+use command_laws::{
+    faces_are_kept, faces_lie_flat, laminas_fit, laminas_make_faces, sweeps_fit, sweeps_make_faces,
+};
 use std::alloc::{AllocError, Global};
 use sweeps::{Point, Session, lamina, lamina_measures};
 
 /// The corners of a triangle, 4 along x and 3 along y.
-fn corners() -> ArrayVec<Point, 64>
+pub(crate) fn corners() -> ArrayVec<Point, 64>
     ensures { result.items ≡ triangle }
 {
     let mut points = ArrayVec::new();
@@ -40,13 +43,16 @@ fn flat(alloc: Global) -> Result<Session, AllocError>
     Ok(session)
 }
 
-/// The triangle swept up by 2.
+/// The triangle swept up by 2. Face 1 is its top, and the faces 3 to 5 are its walls, over the edges of the triangle in their order.
 pub fn wedge(alloc: Global) -> Result<Session, AllocError>
     ensures volume { IfOk result (λ session. six_volume (held session.machine) 1 ≡ pos 72) }
     ensures there { IfOk result (λ session. Has (held session.machine).solids 1) }
+    ensures top { IfOk result (λ session. IsFaceOf (held session.machine) 1 1 lid) }
+    ensures walls { IfOk result (λ session. HasWalls (held session.machine)) }
 {
     let session = flat(alloc)?;
     sweeps_fit();
+    sweeps_make_faces();
     let up = Point { x: 0, y: 0, z: 2 };
     let (session, swept) = raised(alloc, session, 1, up);
     but_for_memory(swept)?;

@@ -1,9 +1,10 @@
-use Rattle.std.proofs.Common.{◌≡◌, ℕ, ℤ, pos, ◌+ℤ◌, refl, sym, ap, subst, ◌∙◌, arith}
+use Rattle.std.proofs.Common.{◌≡◌, ℕ, ℤ, pos, ◌+ℤ◌, ◌-ℤ◌, refl, sym, ap, subst, ◌∙◌, arith}
 use Rattle.sweeps.specs.Measure.{six_volume}
 use Rattle.euler_operators.specs.Common.{Model, solid_of}
 use Rattle.sweeps.specs.PlainMachine.{held}
 use Rattle.gluing.specs.Machine.{glue, glue_refusal}
 use Rattle.command_laws.specs.Accepted.{AreLeft}
+use Rattle.command_laws.specs.Counted.{counts}
 use Rattle.block_machining.specs.Machines.{lengthened}
 use Rattle.block_machining.specs.Meeting.{near_side, far_side}
 use Rattle.block_machining.proofs.Accepted.{for_no_reason}
@@ -35,3 +36,13 @@ but_for_memory-requires c refusal is =
 pub returns-clause-made : goal.returns-clause-made
 unfolding lengthened
 returns-clause-made c = rw c.in_ok-but_for_memory.ensures at c.joined-session.ensures.made ∙ ap (λ m. glue m 4 12) c.in_ok-session.ensures.made
+
+pub returns-clause-sum : goal.returns-clause-sum
+returns-clause-sum c =
+    let M : Model = held c.in_ok-session.session.machine in
+    let N : Model = held c.joined-session.result.0.machine in
+    let before : ℕ → ℤ = λ s. (counts M s).sum in
+    let sum = rw c.in_ok-but_for_memory.ensures at c.joined-session.ensures.sum in
+    ap (λ s. (counts N s).sum) (sym c.in_ok-session.ensures.near.solid) ∙ sum
+    ∙ (λ i. before (c.in_ok-session.ensures.near.solid i) +ℤ before (c.in_ok-session.ensures.far.solid i) -ℤ pos 2)
+    ∙ (λ i. (c.in_ok-session.ensures.first_counts i).sum +ℤ (c.in_ok-session.ensures.second_counts i).sum -ℤ pos 2)

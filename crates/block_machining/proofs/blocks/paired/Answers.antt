@@ -57,3 +57,12 @@ returns-clause-flat c =
       c.faces_lie_flat.ensures.kept before after 2 _ _ _ _ 1 c.block-session.ensures.sound made (λ e. omega (arith, e)) c.in_ok-session.ensures.flat,
       c.faces_lie_flat.ensures.block before after 2 _ _ _ _ c.block-session.ensures.sound made,
     )
+
+pub returns-clause-first_counts : goal.returns-clause-first_counts
+returns-clause-first_counts c =
+    let made = rw c.in_ok-but_for_memory.ensures at c.block-session.ensures.ok in
+    c.others_keep_counts.ensures.block c.in_ok-session.session.machine c.block-session.result.0.machine 2 _ _ _ _ 1 c.block-session.ensures.sound made (λ e. omega (arith, e)) ∙ c.in_ok-session.ensures.counts
+
+pub returns-clause-second_counts : goal.returns-clause-second_counts
+returns-clause-second_counts c =
+    c.shapes_are_counted.ensures.block c.in_ok-session.session.machine c.block-session.result.0.machine 2 _ _ _ _ c.block-session.ensures.sound (rw c.in_ok-but_for_memory.ensures at c.block-session.ensures.ok)

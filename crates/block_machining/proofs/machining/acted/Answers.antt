@@ -1,4 +1,4 @@
-use Rattle.std.proofs.Common.{ap, subst}
+use Rattle.std.proofs.Common.{ap}
 use Rattle.std.proofs.lemmas.Result.{on_ok_weaker}
 use Rattle.sweeps.specs.PlainMachine.{held}
 use Rattle.command_laws.specs.Operators.{IsStep}
@@ -20,8 +20,5 @@ returns-clause-faces c = on_ok_weaker c.act-done.result (λ made k.
     c.operators_leave_faces.ensures (held c.args.session.machine) (held c.act-done.new.self.machine) c.args.op k c.stays_consistent.ensures.held_sound (made.0, ap (λ j. held j.machine) made.1)) c.act-done.ensures.ok
 
 pub returns-clause-volumes : goal.returns-clause-volumes
-returns-clause-volumes c = on_ok_weaker c.act-done.result (λ made f g u p is.
-    let M = held c.args.session.machine in
-    let N = held c.act-done.new.self.machine in
-    let step : IsStep M c.args.op N = (made.0, ap (λ j. held j.machine) made.1) in
-    c.rings_keep_volumes.ensures.killed M N f g u p c.stays_consistent.ensures.held_sound (subst (λ o. IsStep M o N) is step)) c.act-done.ensures.ok
+returns-clause-volumes c = on_ok_weaker c.act-done.result (λ made p u.
+    c.operators_keep_volumes.ensures (held c.args.session.machine) (held c.act-done.new.self.machine) c.args.op p u c.stays_consistent.ensures.held_sound (made.0, ap (λ j. held j.machine) made.1)) c.act-done.ensures.ok

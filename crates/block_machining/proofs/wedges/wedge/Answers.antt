@@ -1,13 +1,15 @@
-use Rattle.std.proofs.Common.{◌≡◌, pos, ◌+ℤ◌, ◌*ℤ◌, sym, ap, subst, ◌∙◌, arith, refl}
+use Rattle.std.proofs.Common.{◌≡◌, ◌<◌, ◌+◌, ℕ, length, pos, ◌+ℤ◌, ◌*ℤ◌, sym, ap, subst, ◌∙◌, arith, refl}
 use Rattle.euler_operators.specs.Common.{Point, Model, solid_of, Has, dot, direction}
 use Rattle.sweeps.specs.Machine.{sweep_refusal}
 use Rattle.sweeps.specs.Measure.{six_volume, normal, plane_of}
-use Rattle.sweeps.specs.PlainMachine.{held}
+use Rattle.sweeps.specs.PlainMachine.{Machine, held}
+use Rattle.shapes.specs.Common.{next_place}
 use Rattle.command_laws.specs.Accepted.{AreLeft}
-use Rattle.command_laws.specs.NewFaces.{IsFaceOf, plane_round}
+use Rattle.command_laws.specs.NewFaces.{IsFaceOf, all_moved, corner_points, last_face, nth, plane_round, side_over}
 use Rattle.block_machining.specs.Machines.{triangle}
+use Rattle.block_machining.specs.Wedge.{lid}
 use Rattle.block_machining.proofs.Accepted.{for_no_reason}
-use Rattle.block_machining.proofs.Worked.{wedge_left}
+use Rattle.block_machining.proofs.Worked.{triangular_last, wedge_left}
 use Rattle.block_machining.proofs.wedges.wedge.Goals as goal
 
 abbrev up : Point
@@ -35,3 +37,31 @@ returns-clause-volume c =
 
 pub returns-clause-there : goal.returns-clause-there
 returns-clause-there c = subst (λ s. Has (held c.raised-session.result.0.machine).solids s) c.in_ok-session.ensures.face.solid (rw c.in_ok-but_for_memory.ensures at c.raised-session.ensures.there)
+
+-- the faces of the sweep, of the triangle and its solid
+module _ (m n : Machine) (face : IsFaceOf (held m) 1 1 triangle) where
+  top_is : IsFaceOf (held n) 1 (solid_of (held m) 1) (all_moved up (corner_points (held m) 1)) → IsFaceOf (held n) 1 1 lid
+  top_is t = subst (λ ps. IsFaceOf (held n) 1 1 (all_moved up ps)) face.points (subst (λ s. IsFaceOf (held n) 1 s (all_moved up (corner_points (held m) 1))) face.solid t)
+
+  wall_is : (i : ℕ) → last_face m ≡ 2 → let ps = corner_points (held m) 1 in
+      IsFaceOf (held n) (last_face m + 1 + i) (solid_of (held m) 1) (side_over up (nth ps i) (nth ps (next_place (length ps) i))) →
+      IsFaceOf (held n) (3 + i) 1 (side_over up (nth triangle i) (nth triangle (next_place 3 i)))
+  wall_is i last t =
+      subst (λ k. IsFaceOf (held n) (k + 1 + i) 1 (side_over up (nth triangle i) (nth triangle (next_place 3 i)))) last
+      (subst (λ ps. IsFaceOf (held n) (last_face m + 1 + i) 1 (side_over up (nth ps i) (nth ps (next_place (length ps) i)))) face.points
+      (subst (λ s. let ps = corner_points (held m) 1 in IsFaceOf (held n) (last_face m + 1 + i) s (side_over up (nth ps i) (nth ps (next_place (length ps) i)))) face.solid t))
+
+pub returns-clause-top : goal.returns-clause-top
+returns-clause-top c =
+    let m = c.in_ok-session.session.machine in
+    let n = c.raised-session.result.0.machine in
+    let face = c.in_ok-session.ensures.face in
+    top_is m n face (c.sweeps_make_faces.ensures.far m n 1 up c.raised-session.ensures.sound (rw c.in_ok-but_for_memory.ensures at c.raised-session.ensures.made) face.plain)
+
+pub returns-clause-walls : goal.returns-clause-walls
+returns-clause-walls c i l =
+    let m = c.in_ok-session.session.machine in
+    let n = c.raised-session.result.0.machine in
+    let face = c.in_ok-session.ensures.face in
+    wall_is m n face i (ap last_face c.in_ok-session.ensures.made ∙ triangular_last)
+    (c.sweeps_make_faces.ensures.sides m n 1 up i c.raised-session.ensures.sound (rw c.in_ok-but_for_memory.ensures at c.raised-session.ensures.made) face.plain (subst (λ ps. i < length ps) (sym face.points) l))
