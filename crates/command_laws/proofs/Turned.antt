@@ -86,11 +86,8 @@ turned_on M N P k v w = record {
   normal = w.normal ∙ v.normal;
 }
 
--- it keeps its plane, and is flat where it was
-module _ (M N : Model) (k s : ℕ) (sound : Sound N) (flat : is_flat M k ≡ true) (of : solid_of N k ≡ s) (w : IsTurned M N k) where
-  abbrev plane : Plane
-  plane = plane_of M k
-
+-- it lies on the planes on which it lay
+module _ (M N : Model) (k : ℕ) (plane : Plane) (w : IsTurned M N k) where
   loops_on : (ls : List ℕ) → ((l : ℕ) → IsIn l ls → IsIn l (loops_of M k)) → are_on M plane (vertices_in M ls) ≡ true → are_on N plane (vertices_in N ls) ≡ true
   loops_on [] inside e = refl
   loops_on (l ∷ ls) inside e =
@@ -99,13 +96,21 @@ module _ (M N : Model) (k s : ℕ) (sound : Sound N) (flat : is_flat M k ≡ tru
       list_all-append (λ v. is_on plane (point_of N v)) (vertices_on N (content N l)) (vertices_in N ls)
       ∙ (λ t. (sym (list_all-map (is_on plane) (point_of N) (vertices_on N (content N l))) ∙ one) t && loops_on ls (λ q j. inside q (IsIn_rest q l ls j)) parts.1 t)
 
+  pub turned_lies : are_on M plane (corners M k) ≡ true → are_on N plane (corners N k) ≡ true
+  unfolding corners
+  turned_lies on = ap (λ ls. are_on N plane (vertices_in N ls)) w.loops ∙ loops_on (loops_of M k) (λ l i. i) on
+
+-- so it keeps its plane, and is flat where it was
+module _ (M N : Model) (k s : ℕ) (sound : Sound N) (flat : is_flat M k ≡ true) (of : solid_of N k ≡ s) (w : IsTurned M N k) where
+  abbrev plane : Plane
+  plane = plane_of M k
+
   was_flat : (not (same_point (direction plane) origin) ≡ true) × (are_on M plane (corners M k) ≡ true)
   unfolding is_flat
   was_flat = and_parts (not (same_point (direction plane) origin)) (are_on M plane (corners M k)) flat
 
   all_on : are_on N plane (corners N k) ≡ true
-  unfolding corners
-  all_on = ap (λ ls. are_on N plane (vertices_in N ls)) w.loops ∙ loops_on (loops_of M k) (λ l i. i) was_flat.1
+  all_on = turned_lies M N k plane w was_flat.1
 
   offset_is : dot (normal N k) (anchor N k) ≡ dot (normal M k) (anchor M k)
   offset_is = ap (λ n. dot n (anchor N k)) w.normal ∙ dot_turned (normal M k) (anchor N k) ∙ plane_told M k (anchor N k) (anchor_on N plane k sound w.there all_on) ∙ dot_turned (anchor M k) (normal M k)

@@ -4,3 +4,5 @@ pub mod PartedWithin
 pub mod Whole
 mod Uncut
 mod PartFaces
+mod DrawnFaces
+mod Pieces

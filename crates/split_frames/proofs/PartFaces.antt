@@ -19,7 +19,7 @@ use Rattle.split_opening_laws.proofs.sections.Numbered.{renamed_not}
 use Rattle.split_opening_laws.proofs.sections.InTurn.{can_open, new_caps, opened_next, openings_carry}
 use Rattle.split_laws.specs.volumes.Laws.{CanBeSplit}
 use Rattle.split_laws.proofs.Holes.{holes_counted}
-use Rattle.split_laws.proofs.drawn.Drawn.{begins}
+use Rattle.split_laws.proofs.drawn.Drawn.{begins, drawn_sound}
 use Rattle.split_laws.proofs.measures.Splittable.{can_be_split}
 use Rattle.split_laws.proofs.opened.InTurn.{is_rewritten}
 use Rattle.split_laws.proofs.opened.Kept as kept
@@ -223,9 +223,9 @@ module _ (M D : Model) (p : Plane) (k : ℕ) (w : StandsAsBefore M D k) (same : 
   unfolding face_is_above
   same_side = λ i. any_same (is_above p) i || (not (any_same (is_below p) i) && not (int_lt (pos 0) (dot (same i) (direction p))))
 
--- ---- a split that isn't refused
+-- ---- a split that isn't refused: what becomes of a face of the drawn model
 
-module _ (M : Model) (s : ℕ) (p : Plane) (t : ℕ) (sound : Sound M) (accepted : split_refusal M s p t ≡ None) (k : ℕ) (there : Has M.faces k) (of : solid_of M k ≡ s) (whole : straddles M p k ≡ false) where
+module _ (M : Model) (s : ℕ) (p : Plane) (t : ℕ) (sound : Sound M) (accepted : split_refusal M s p t ≡ None) (k : ℕ) (there : Has (with_drawings M s p).model.faces k) (of : solid_of (with_drawings M s p).model k ≡ s) where
   abbrev d : Drawing
   d = with_drawings M s p
 
@@ -241,24 +241,18 @@ module _ (M : Model) (s : ℕ) (p : Plane) (t : ℕ) (sound : Sound M) (accepted
   abbrev us : List ℕ
   us = upper_faces above X.caps
 
+  abbrev parted : Model
+  parted = part K s t us
+
   can : CanBeSplit d above s p t
   can = can_be_split M s p t sound accepted
 
-  now : IsTurned M d.model k
-  now = uncut_turned M s p t sound accepted k there whole
-
-  stands : StandsAsBefore M d.model k
-  stands = uncut_stands M s p t sound accepted k there whole
-
-  now_of : solid_of d.model k ≡ s
-  now_of = stands.solid ∙ of
-
   opened : IsLeft d.model above s k X
   opened = openings_carry above s p (λ x ds. IsLeft d.model above s k x) (λ x bs ds w a. opened_left d.model above s k p x bs ds w a) (record { model = d.model; taken = d.taken; caps = [] })
-      (section_cycles d.model (below_halves d.model above s)) can.opens (record { turned = record { there = now.there; loops = refl; points = λ l i. not_turned _ _ refl; normal = refl }; exact = λ off l i. refl; of = now_of; no_cap = refl })
+      (section_cycles d.model (below_halves d.model above s)) can.opens (record { turned = record { there = there; loops = refl; points = λ l i. not_turned _ _ refl; normal = refl }; exact = λ off l i. refl; of = of; no_cap = refl })
 
   real : k ≢ 0
-  real = number_real k (sound.faces_fit k there)
+  real = number_real k ((drawn_sound M s p t sound accepted).faces_fit k there)
 
   abbrev Stays : List (ℕ × ℕ) → Model → Type 0
   Stays qs A = IsOther k qs × IsTurned d.model A k × (solid_of A k ≡ s) × (lists above k ≡ false → IsExact d.model A k)
@@ -276,43 +270,65 @@ module _ (M : Model) (s : ℕ) (p : Plane) (t : ℕ) (sound : Sound M) (accepted
       (split.closes d above s p t can)
       (closing_other k (outer_caps X.caps) (filter (λ c. c.hole) X.caps) other.0 other.1 (omega (arith, holes_counted k X.caps, opened.no_cap)), opened.turned, opened.of, opened.exact)
 
-  inside : face_is_above d.model p k ≡ face_is_above M p k
-  inside = same_side M d.model p k stands now.normal
-
   -- it is one of the upper faces where it is above
-  side : lists us k ≡ face_is_above M p k
-  side = go (face_is_above M p k) refl where
-    go : (b : Bool) → face_is_above M p k ≡ b → lists us k ≡ b
-    go true e = listed-from_in k us (omega (
-      arith,
-      count-append k above (map (λ c. c.upper) X.caps),
-      IsIn-filter (face_is_above d.model p) k (faces_of d.model s) (in_solid d.model k s now.there now_of) (inside ∙ e),
-    ))
+  side : lists us k ≡ face_is_above d.model p k
+  side = go (face_is_above d.model p k) refl where
+    go : (b : Bool) → face_is_above d.model p k ≡ b → lists us k ≡ b
+    go true e = listed-from_in k us (omega (arith, count-append k above (map (λ c. c.upper) X.caps), IsIn-filter (face_is_above d.model p) k (faces_of d.model s) (in_solid d.model k s there of) e))
     go false e = false_from_ne_true (lists us k) (λ l. true≢false (sym (filter_passes (face_is_above d.model p) k (faces_of d.model s)
-        (omega (arith, IsIn-from_listed k us l, count-append k above (map (λ c. c.upper) X.caps), uppers_counted k X.caps, opened.no_cap))) ∙ inside ∙ e))
+        (omega (arith, IsIn-from_listed k us l, count-append k above (map (λ c. c.upper) X.caps), uppers_counted k X.caps, opened.no_cap))) ∙ e))
 
-  pub shared_turned : IsTurned M (part K s t us) k
-  shared_turned = turned_on M d.model (part K s t us) k now (turned_on d.model K (part K s t us) k closed.1 (parted_turned K s t us k closed.1.there))
+  pub part_turned : IsTurned (with_drawings M s p).model (part K s t us) k
+  part_turned = turned_on d.model K parted k closed.1 (parted_turned K s t us k closed.1.there)
 
-  pub shared_of : solid_of (part K s t us) k ≡ cond (face_is_above M p k) t s
-  shared_of = parted_solid K s t us k closed.1.there ∙ (λ i. cond (side i) t (closed.2 i))
+  pub part_of : solid_of (part K s t us) k ≡ cond (face_is_above (with_drawings M s p).model p k) t s
+  part_of = parted_solid K s t us k closed.1.there ∙ (λ i. cond (side i) t (closed.2 i))
 
   -- below, its loops have their points in their order
-  all_points : (ls : List ℕ) → ((l : ℕ) → IsIn l ls → loop_points (part K s t us) l ≡ loop_points d.model l) → map (point_of (part K s t us)) (vertices_in (part K s t us) ls) ≡ map (point_of d.model) (vertices_in d.model ls)
+  all_points : (ls : List ℕ) → ((l : ℕ) → IsIn l ls → loop_points parted l ≡ loop_points d.model l) → map (point_of parted) (vertices_in parted ls) ≡ map (point_of d.model) (vertices_in d.model ls)
   all_points [] each = refl
-  all_points (l ∷ ls) each = let P = part K s t us in
-      map-append (point_of P) (vertices_on P (content P l)) (vertices_in P ls)
+  all_points (l ∷ ls) each =
+      map-append (point_of parted) (vertices_on parted (content parted l)) (vertices_in parted ls)
       ∙ (λ i. each l (IsIn_head l ls) i ++ all_points ls (λ q j. each q (IsIn_rest q l ls j)) i)
       ∙ sym (map-append (point_of d.model) (vertices_on d.model (content d.model l)) (vertices_in d.model ls))
 
-  pub below_points : face_is_above M p k ≡ false → corner_points (part K s t us) k ≡ corner_points M k
+  pub part_points : face_is_above (with_drawings M s p).model p k ≡ false → corner_points (part K s t us) k ≡ corner_points (with_drawings M s p).model k
   unfolding corners
-  below_points low =
-      let P = part K s t us in
+  part_points low =
       let keeps = part_keeps K s t us in
-      let off : lists above k ≡ false = false_from_ne_true (lists above k) (λ l. true≢false (sym (filter_passes (face_is_above d.model p) k (faces_of d.model s) (IsIn-from_listed k above l)) ∙ inside ∙ low)) in
-      ap (λ ls. map (point_of P) (vertices_in P ls)) (shared_turned.loops ∙ sym now.loops)
-      ∙ all_points (loops_of d.model k) (λ l i. same_points K P l keeps.0 keeps.1 (split.content_same K s t us l) ∙ closed.3 off l i) ∙ stands.points
+      let off : lists above k ≡ false = false_from_ne_true (lists above k) (λ l. true≢false (sym (filter_passes (face_is_above d.model p) k (faces_of d.model s) (IsIn-from_listed k above l)) ∙ low)) in
+      ap (λ ls. map (point_of parted) (vertices_in parted ls)) part_turned.loops
+      ∙ all_points (loops_of d.model k) (λ l i. same_points K parted l keeps.0 keeps.1 (split.content_same K s t us l) ∙ closed.3 off l i)
+
+-- ---- and of a face that the plane doesn't straddle
+
+module _ (M : Model) (s : ℕ) (p : Plane) (t : ℕ) (sound : Sound M) (accepted : split_refusal M s p t ≡ None) (k : ℕ) (there : Has M.faces k) (of : solid_of M k ≡ s) (whole : straddles M p k ≡ false) where
+  abbrev D : Model
+  D = (with_drawings M s p).model
+
+  abbrev N : Model
+  N = let above = faces_above D p s in let x = opened_at (with_drawings M s p) above s p in part (holes_closed x.model x.caps) s t (upper_faces above x.caps)
+
+  now : IsTurned M D k
+  now = uncut_turned M s p t sound accepted k there whole
+
+  stands : StandsAsBefore M D k
+  stands = uncut_stands M s p t sound accepted k there whole
+
+  now_of : solid_of D k ≡ s
+  now_of = stands.solid ∙ of
+
+  inside : face_is_above D p k ≡ face_is_above M p k
+  inside = same_side M D p k stands now.normal
+
+  pub shared_turned : IsTurned M N k
+  shared_turned = turned_on M D N k now (part_turned M s p t sound accepted k now.there now_of)
+
+  pub shared_of : solid_of N k ≡ cond (face_is_above M p k) t s
+  shared_of = part_of M s p t sound accepted k now.there now_of ∙ ap (λ b. cond b t s) inside
+
+  pub below_points : face_is_above M p k ≡ false → corner_points N k ≡ corner_points M k
+  below_points low = part_points M s p t sound accepted k now.there now_of (inside ∙ low) ∙ stands.points
 
   pub was_flat : is_flat M k ≡ true
   was_flat = all_flat M s p t sound (begins M s p t sound accepted) k there of

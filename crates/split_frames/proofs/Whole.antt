@@ -68,13 +68,15 @@ module _ (before after : Machine) (s : ℕ) (p : Plane) (t : ℕ) (sound : Sound
   fresh : table.has K.solids t ≡ false
   fresh = ap (λ u. table.has u t) (split.solids_stay d above s p t can) ∙ ap is_some can.fresh
 
-  to_closed : Within s M K
-  to_closed = within_on s M X.model K
-      (within_on s M d.model X.model (drawings_within M s p t sound (begins M s p t sound made.0)) (openings_within above s p begun cycles can.opens))
+  drawn_closed : Within s d.model K
+  drawn_closed = within_on s d.model X.model K (openings_within above s p begun cycles can.opens)
       (holes_within X.model s X.caps (split.ended d above s p t can).sound (split.caps d above s p t can).plain closed.leads.accepted)
 
+  pub drawn_agree : Agree d.model N (is_of s) (is_either s t)
+  drawn_agree = agree_on d.model K N (is_of s) (is_of s) (is_either s t) drawn_closed (part_agrees K s t us closed.part.sound after_sound closed.part.of_solid fresh)
+
   parts_agree : Agree M N (is_of s) (is_either s t)
-  parts_agree = agree_on M K N (is_of s) (is_of s) (is_either s t) to_closed (part_agrees K s t us closed.part.sound after_sound closed.part.of_solid fresh)
+  parts_agree = agree_on M d.model N (is_of s) (is_of s) (is_either s t) (drawings_within M s p t sound (begins M s p t sound made.0)) drawn_agree
 
   pub agree : Agree M (held after) (is_of s) (is_either s t)
   agree = subst (λ P. Agree M P (is_of s) (is_either s t)) (sym after_is) parts_agree

@@ -1,7 +1,8 @@
 -- What a split that was answered Ok leaves as it was: whatever isn't of the solid that was split, and its faces that the plane doesn't straddle.
-use Rattle.std.specs.Prelude.{◌≡◌, ℕ, false, cond}
-use Rattle.euler_operators.specs.Common.{Plane, solid_of, Sound, Has}
-use Rattle.shapes.specs.Common.{face_is_above, straddles}
+use Rattle.std.specs.Prelude.{◌≡◌, ◌⊎◌, ℕ, true, false, cond}
+use Rattle.euler_operators.specs.Common.{Plane, Model, solid_of, Sound, Has, lists}
+use Rattle.shapes.specs.Common.{corners, face_is_above, faces_above, is_plane_of, opened_at, plane_of, straddles, straddling_faces, with_drawings}
+use Rattle.split_opening_laws.specs.sections.Capped.{cap_faces}
 use Rattle.undo_journal.specs.Machine.{Machine, held}
 use Rattle.plane_split.specs.SplitModels.{IsSplit}
 use Rattle.command_laws.specs.LeftAlone.{KeepsRows, KeepsOwners, KeepsLoops, KeepsEdges, KeepsPoints, KeepsShapes, OfOthers, StandsAsBefore}
@@ -41,3 +42,33 @@ SplitSharesFaces = (before after : Machine) (s : ℕ) (p : Plane) (t k : ℕ) �
 abbrev pub SplitKeepsBelow : Type 0
 SplitKeepsBelow = (before after : Machine) (s : ℕ) (p : Plane) (t k : ℕ) → Sound (held before) → IsSplit before after s p t → Has (held before).faces k → solid_of (held before) k ≡ s →
     straddles (held before) p k ≡ false → face_is_above (held before) p k ≡ false → StandsAsBefore (held before) (held after) k
+
+-- ---- the faces of the two parts
+
+-- face k of N lies in the plane of face j of M, with all its corners
+abbrev pub LiesInPlaneOf : Model → Model → ℕ → ℕ → Type 0
+LiesInPlaneOf M N j k = is_plane_of N (plane_of M j) (corners N k) ≡ true
+
+-- it is of one of two solids
+abbrev pub IsOfEither : Model → ℕ → ℕ → ℕ → Type 0
+IsOfEither N s t k = (solid_of N k ≡ s) ⊎ (solid_of N k ≡ t)
+
+-- each face of the solid, also one that the plane straddles, keeps its number: it is of one of the parts, and lies in the plane in which it lay
+abbrev pub SplitKeepsPlanes : Type 0
+SplitKeepsPlanes = (before after : Machine) (s : ℕ) (p : Plane) (t k : ℕ) → Sound (held before) → IsSplit before after s p t → Has (held before).faces k → solid_of (held before) k ≡ s →
+    Has (held after).faces k × IsOfEither (held after) s t k × LiesInPlaneOf (held before) (held after) k k
+
+-- face k of N is a piece of a face of solid s of M that straddles plane p: it lies in the plane of that face
+pub record IsPiece (M N : Model) (s : ℕ) (p : Plane) (k : ℕ) : Type 0 where
+  pub face : ℕ
+  pub straddling : lists (straddling_faces M p s) face ≡ true
+  pub lies : LiesInPlaneOf M N face k
+
+-- face k is a cap of the section of solid s of M
+abbrev pub IsCap : Model → ℕ → Plane → ℕ → Type 0
+IsCap M s p k = let d = with_drawings M s p in lists (cap_faces (opened_at d (faces_above d.model p s) s p).caps) k ≡ true
+
+-- a face of a part was one of the solid, or it is a piece of one that straddles the plane, or a cap
+abbrev pub SplitPartsFaces : Type 0
+SplitPartsFaces = (before after : Machine) (s : ℕ) (p : Plane) (t k : ℕ) → Sound (held before) → IsSplit before after s p t → Has (held after).faces k → IsOfEither (held after) s t k →
+    (Has (held before).faces k × (solid_of (held before) k ≡ s)) ⊎ (IsPiece (held before) (held after) s p k ⊎ IsCap (held before) s p k)

@@ -7,9 +7,11 @@
 //! Of a session after a split answered Ok: each face of another solid than the one that was split is of the solid, and has the outer
 //! loop, the rings, the corner points and the plane, that it had; each of its loops has its face and its content, each edge its
 //! ends, and each vertex its point. Each face of that solid that the plane doesn't straddle is of the part on its side, with its loops,
-//! their corner points, round from another on, and its plane; in the lower part it stands as it did.
+//! their corner points, round from another on, and its plane; in the lower part it stands as it did. Each face of that solid is of
+//! one of the parts and lies in the plane in which it lay; each other face of the parts lies in that of a face that the plane
+//! straddles, or is a cap. Not proved: which of the two is on which side.
 
-ghost use Rattle.split_frames.specs.Laws.{SplitKeepsRows, SplitKeepsOwners, SplitKeepsLoops, SplitKeepsEdges, SplitKeepsPoints, SplitKeepsShapes, SplitKeepsBelow, SplitSharesFaces};
+ghost use Rattle.split_frames.specs.Laws.{SplitKeepsRows, SplitKeepsOwners, SplitKeepsLoops, SplitKeepsEdges, SplitKeepsPoints, SplitKeepsShapes, SplitKeepsBelow, SplitSharesFaces, SplitKeepsPlanes, SplitPartsFaces};
 
 /// After a split the faces of other solids, their loops, edges and vertices are as they were.
 pub fn splits_leave_alone()
@@ -27,4 +29,11 @@ pub fn splits_leave_alone()
 pub fn splits_share_faces()
     ensures whole { SplitSharesFaces }
     ensures below { SplitKeepsBelow }
+{}
+
+/// After a split each face of the solid, also one that the plane straddles, keeps its number, is of one of the parts, and lies in the plane
+/// in which it lay. Each other face of the parts is a piece of one that the plane straddles, in its plane, or a cap.
+pub fn splits_part_faces()
+    ensures planes { SplitKeepsPlanes }
+    ensures pieces { SplitPartsFaces }
 {}

@@ -1,0 +1,91 @@
+-- The faces that come while those that straddle the plane are drawn: each lies on the planes of one of these.
+use Rattle.std.proofs.Common.{◌≡◌, ℕ, ◌+◌, Bool, true, false, ◌&&◌, List, [], ◌∷◌, None, fold, map, refl, sym, ap, subst, ◌∙◌, arith}
+use Rattle.euler_operators.specs.Common.{IsIn, Plane, Model, Sound, Has}
+use Rattle.euler_operators.specs.Table as table
+use Rattle.euler_operators.proofs.Common.{no_row, tick_same}
+use Rattle.shapes.specs.Common.{Drawing, FacePairs, corners, drawn_between, faces_drawn, is_plane_of, next_drawn, plane_of, straddling_faces, straddling_pairs, undrawn, with_crossings, with_drawings}
+use Rattle.split_drawing_laws.specs.drawings.Pairs.{pairs_in}
+use Rattle.split_drawing_laws.specs.drawings.Passing.{Drawable, Ready}
+use Rattle.split_drawing_laws.specs.crossings.Laws.{CanBegin}
+use Rattle.split_drawing_laws.proofs.crossings.Premises.{face_facts}
+use Rattle.split_drawing_laws.proofs.crossings.Whole.{crossings_sound}
+use Rattle.split_drawing_laws.proofs.cut_volumes.CutWhole.{all_flat, crossings_measured}
+use Rattle.split_drawing_laws.proofs.cut_volumes.Told.{flat_on}
+use Rattle.split_drawing_laws.proofs.drawings.Counted.{faces_are}
+use Rattle.split_drawing_laws.proofs.drawings.Faces.{between_keeps}
+use Rattle.split_drawing_laws.proofs.drawings.Whole.{drawable, drawable_on, drawing_sound, next_is, ready}
+use Rattle.split_drawing_laws.proofs.drawn_volumes.Bounds.{OnFace, face_on, on_face}
+use Rattle.split_drawing_laws.proofs.drawn_volumes.DrawWhole.{LiesFlat, Within, draw_within, join_within, move_within}
+use Rattle.split_drawing_laws.proofs.drawn_volumes.Volumes.{IsPlane}
+use Rattle.split_drawing_laws.proofs.face_sides.Beside.{never_free}
+use Rattle.split_drawing_laws.proofs.pairs.Whole.{can_be_drawn}
+
+-- face g of X lies on the planes of one of the faces fs of B
+record Comes (B X : Model) (fs : List ℕ) (g : ℕ) : Type 0 where
+  face : ℕ
+  listed : IsIn face fs
+  on : (t : Plane) → OnFace B t face → OnFace X t g
+
+-- X is B with edges drawn in the faces fs
+record Spread (B X : Model) (fs : List ℕ) : Type 0 where
+  there : (g : ℕ) → Has B.faces g → Has X.faces g
+  olds : (g : ℕ) → Has B.faces g → (t : Plane) → OnFace B t g → OnFace X t g
+  news : (g : ℕ) → Has X.faces g → table.get B.faces g ≡ None → Comes B X fs g
+
+face_within : (p : Plane) (f : ℕ) (qs : List (ℕ × ℕ)) (d : Drawing) (n : ℕ) → Ready p f qs d n → Has d.model.faces f → (r : Plane) → IsPlane r → OnFace d.model r f → Within d.model (drawn_between p f qs d).model f
+face_within p f qs d n w there r some on = between_keeps p f qs d n w (λ X. Within d.model X f)
+    (join_within d.model f w.sound there r some on)
+    (λ N q e g l can drawn fits. draw_within d.model f w.sound there r some on N q.0 q.1 e g l can (drawn.within q.0 fits.u_there fits.u_face))
+    (move_within d.model f w.sound there r some on) (grind (arith, never_free))
+
+module _ (B : Model) (fs : List ℕ) (was : (f : ℕ) → IsIn f fs → Has B.faces f × LiesFlat B f) where
+  spread_on : (X Y : Model) (f : ℕ) → IsIn f fs → Within X Y f → Spread B X fs → Spread B Y fs
+  spread_on X Y f i w a = record {
+    there = λ g has. w.there g (a.there g has);
+    olds = λ g has t on. w.olds g (a.there g has) t (a.olds g has t on);
+    news = λ g has none. go g has none (table.has X.faces g) refl;
+  } where
+    go : (g : ℕ) → Has Y.faces g → table.get B.faces g ≡ None → (b : Bool) → table.has X.faces g ≡ b → Comes B Y fs g
+    go g has none true e = let c = a.news g e none in record { face = c.face; listed = c.listed; on = λ t on. w.olds g e t (c.on t on) }
+    go g has none false e = record { face = f; listed = i; on = λ t on. w.news g has (no_row (table.get X.faces g) e) t (a.olds f (was f i).0 t on) }
+
+  all_spread : (p : Plane) (d : Drawing) (qs : List FacePairs) (n : ℕ) → Drawable d qs n → ((f : ℕ) → IsIn f (map (λ q. q.face) qs) → IsIn f fs) → Spread B d.model fs → Spread B (fold (next_drawn p) d qs).model fs
+  all_spread p d [] n w inside a = a
+  all_spread p d (q ∷ qs) n w inside a =
+      let i = inside q.face (omega (arith, tick_same q.face)) in
+      let f = was q.face i in
+      let one = face_within p q.face q.pairs d (pairs_in qs + n) (ready p d q qs n w) (a.there q.face f.0) f.1.plane f.1.some (a.olds q.face f.0 f.1.plane f.1.on) in
+      all_spread p (next_drawn p d q) qs n (drawable_on p d q qs n w) (λ g j. inside g (omega (arith, j)))
+      (spread_on d.model (next_drawn p d q).model q.face i (subst (λ x. Within d.model x.model q.face) (sym (next_is p d q qs n w)) one) a)
+
+-- ---- both rewritings
+
+module _ (M : Model) (s : ℕ) (p : Plane) (t : ℕ) (sound : Sound M) (begins : CanBegin M s p t) where
+  abbrev C : Model
+  C = (with_crossings M s p).model
+
+  abbrev D : Model
+  D = (faces_drawn p (undrawn (with_crossings M s p)) (straddling_pairs M s p)).model
+
+  same_faces : C.faces ≡ M.faces
+  same_faces = (crossings_measured M s p t sound begins).faces
+
+  lies : (f : ℕ) → IsIn f (straddling_faces M p s) → Has C.faces f × IsPlane (plane_of M f) × OnFace C (plane_of M f) f
+  lies f i =
+      let w = face_facts M s p f i in
+      let flat = flat_on M f (all_flat M s p t sound begins f w.0 w.1) in
+      (subst (λ x. Has x f) (sym same_faces) w.0, flat.0, on_face C (crossings_sound M s p t sound begins) (plane_of M f) f ((crossings_measured M s p t sound begins).planes f (plane_of M f) flat.1))
+
+  spread : Spread C D (straddling_faces M p s)
+  spread = all_spread C (straddling_faces M p s) (λ f i. let w = lies f i in (w.0, record { plane = plane_of M f; some = w.1; on = w.2 })) p (undrawn (with_crossings M s p)) (straddling_pairs M s p) 0 (drawable (with_crossings M s p) (straddling_pairs M s p) (can_be_drawn M s p t sound begins))
+      (λ f i. subst (IsIn f) (faces_are M C p (straddling_faces M p s)) i) (record { there = λ g has. has; olds = λ g has r on. on; news = λ g has none. absurd (never_free C.faces g has none) })
+
+  -- a new face lies in the plane of one that straddles
+  pub drawn_in : (g : ℕ) → Has (with_drawings M s p).model.faces g → table.get M.faces g ≡ None →
+      (f : ℕ) × IsIn f (straddling_faces M p s) × (is_plane_of (with_drawings M s p).model (plane_of M f) (corners (with_drawings M s p).model g) ≡ true)
+  unfolding with_drawings
+  drawn_in g has none =
+      let c = spread.news g has (ap (λ x. table.get x g) same_faces ∙ none) in
+      let w = lies c.face c.listed in
+      let D_sound = drawing_sound p (with_crossings M s p) (straddling_pairs M s p) (can_be_drawn M s p t sound begins) in
+      (c.face, c.listed, λ i. w.1 i && face_on D D_sound (plane_of M c.face) g has (c.on (plane_of M c.face) w.2) i)
