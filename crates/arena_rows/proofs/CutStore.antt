@@ -2,13 +2,11 @@
 use Rattle.std.proofs.Common.{◌≡◌, ◌≢◌, ℕ, Bool, true, cond, nat_eq, List, [], ◌∷◌, length, Option, Some, None, is_some, refl, sym, ap, subst, ◌∙◌, eq-eqb, ne_eqb, inl, inr}
 use Rattle.std.proofs.lemmas.Bool.Decides.{eqb_tells}
 use Rattle.std.proofs.lemmas.Option.{same_Some}
-use Rattle.boundary_model.specs.declared.Point.{Point}
-use Rattle.arena_rows.specs.declared.rows.FaceCell.{FaceCell}
 use Rattle.arena_rows.specs.declared.rows.LoopCell.{LoopCell}
 use Rattle.arena_rows.specs.declared.rows.StoredContent.TheVariants.{Empty, At}
 use Rattle.boundary_model.specs.Table.{get, put, remove}
 use Rattle.raw_cells.specs.Rows.{row_at}
-use Rattle.arena_rows.specs.Common.{table_of, Store, loosened, Spots, live, next, label, ring, spliced_at, labelled, AreRings, store_of, RowsAreTied, stored_content, loop_row, AreLoops, StandsAt, cut_loose, cut_to, join_loops, join_loose, loose_ring, held_row, Fits}
+use Rattle.arena_rows.specs.Common.{ArenaRows, table_of, Store, loosened, Spots, live, next, label, ring, spliced_at, labelled, AreRings, store_of, RowsAreTied, stored_content, loop_row, AreLoops, StandsAt, cut_loose, cut_to, join_loops, join_loose, loose_ring, held_row, Fits}
 use Rattle.boundary_model.specs.Model.{Model, cycle}
 use Rattle.boundary_model.specs.Items.{IsIn}
 use Rattle.boundary_model.specs.Rings.{cut_left, cut_right, joined, successor, predecessor}
@@ -41,9 +39,12 @@ pub record JoinFacts (sp : Spots) (a b : ℕ) : Type 0 where
 pub row_there : {X : Type 0} (rows new : List (Option X)) (n : ℕ) (x : Option X) → ((q : ℕ) → row_at new q ≡ cond (nat_eq q n) x (row_at rows q)) → (q : ℕ) → q ≢ n → row_at new q ≡ row_at rows q
 row_there rows new n x is q ne = is q ∙ ap (λ b. cond b x (row_at rows q)) (ne_eqb q n ne)
 
-module _ (sp : Spots) (known : ℕ → Bool) (solids : List (Option Bool)) (faces : List (Option FaceCell)) (loops : List (Option LoopCell)) (vertices : List (Option Point)) (tied : RowsAreTied sp known solids faces loops vertices) where
+module _ (arena : ArenaRows) (tied : RowsAreTied arena) where
+  abbrev sp : Spots
+  sp = arena.spots
+
   abbrev S : Store
-  S = store_of sp known solids faces loops vertices
+  S = store_of arena
 
   abbrev M : Model
   M = S.model
@@ -51,37 +52,37 @@ module _ (sp : Spots) (known : ℕ → Bool) (solids : List (Option Bool)) (face
   abbrev R : AreRings sp
   R = tied.rings
 
-  abbrev are : AreLoops sp loops
+  abbrev are : AreLoops sp arena.loops
   are = tied.loops_tied
 
-  pub cut_facts : (a b l : ℕ) → has_half M a ≡ true → has_half M b ≡ true → loop_of M a ≢ 0 → loop_of M b ≡ loop_of M a → (l ≢ 0 → (is_some (get M.loops l) ≡ true) × (items_of (content M l) ≡ [])) → CutFacts sp loops a b l
+  pub cut_facts : (a b l : ℕ) → has_half M a ≡ true → has_half M b ≡ true → loop_of M a ≢ 0 → loop_of M b ≡ loop_of M a → (l ≢ 0 → (is_some (get M.loops l) ≡ true) × (items_of (content M l) ≡ [])) → CutFacts sp arena.loops a b l
   cut_facts a b l ha hb looped one free =
-      let at = half_there sp known solids faces loops vertices tied a ha in
-      let bt = half_there sp known solids faces loops vertices tied b hb in
-      let ea = loop_of_is sp known solids faces loops vertices tied a at in
-      let eb = loop_of_is sp known solids faces loops vertices tied b bt in
+      let at = half_there arena tied a ha in
+      let bt = half_there arena tied b hb in
+      let ea = loop_of_is arena tied a at in
+      let eb = loop_of_is arena tied b bt in
       record {
         a_there = at;
         b_there = bt;
         looped = λ z. looped (ea ∙ z);
         one = sym eb ∙ one ∙ ea;
-        free = λ n. let f = free n in let r = row_some (row_at loops l) (has-row (loop_row sp) loops l f.0) in
-            record { cell = r.0; here = r.1; bare = ap items_of (sym (content_row sp known solids faces loops vertices tied l r.0 r.1)) ∙ f.1 };
+        free = λ n. let f = free n in let r = row_some (row_at arena.loops l) (has-row (loop_row sp) arena.loops l f.0) in
+            record { cell = r.0; here = r.1; bare = ap items_of (sym (content_row arena tied l r.0 r.1)) ∙ f.1 };
       }
 
   pub join_facts : (a b : ℕ) → has_half M a ≡ true → has_half M b ≡ true → loop_of M a ≢ 0 → loop_of M b ≢ loop_of M a → JoinFacts sp a b
   join_facts a b ha hb looped other =
-      let at = half_there sp known solids faces loops vertices tied a ha in
-      let bt = half_there sp known solids faces loops vertices tied b hb in
-      let ea = loop_of_is sp known solids faces loops vertices tied a at in
-      let eb = loop_of_is sp known solids faces loops vertices tied b bt in
+      let at = half_there arena tied a ha in
+      let bt = half_there arena tied b hb in
+      let ea = loop_of_is arena tied a at in
+      let eb = loop_of_is arena tied b bt in
       record { a_there = at; b_there = bt; looped = λ z. looped (ea ∙ z); other = λ z. other (eb ∙ z ∙ sym ea) }
 
   -- the row of the loop of a labelled code is there
-  pub row_of : (h : ℕ) → live sp h ≡ true → label sp h ≢ 0 → is_some (row_at loops (label sp h)) ≡ true
+  pub row_of : (h : ℕ) → live sp h ≡ true → label sp h ≢ 0 → is_some (row_at arena.loops (label sp h)) ≡ true
   row_of h a n = ap is_some (are.stands h a n).here
 
-  module _ (a b l : ℕ) (g : CutFacts sp loops a b l) (ne : a ≢ b) where
+  module _ (a b l : ℕ) (g : CutFacts sp arena.loops a b l) (ne : a ≢ b) where
     abbrev cutted : Spots
     cutted = labelled (spliced_at sp a b) l (ring (spliced_at sp a b) b)
 
@@ -89,59 +90,59 @@ module _ (sp : Spots) (known : ℕ → Bool) (solids : List (Option Bool)) (face
     here = label sp a
 
     cut_rings2 : AreRings cutted
-    cut_rings2 = rings2 sp loops R are tied.loops_fit.no_zero a b g.a_there g.b_there g.looped g.one ne l g.free
+    cut_rings2 = rings2 sp arena.loops R are tied.loops_fit.no_zero a b g.a_there g.b_there g.looped g.one ne l g.free
 
     cut_live : (x : ℕ) → live cutted x ≡ live sp x
-    cut_live = live2 sp loops R are tied.loops_fit.no_zero a b g.a_there g.b_there g.looped g.one ne l g.free
+    cut_live = live2 sp arena.loops R are tied.loops_fit.no_zero a b g.a_there g.b_there g.looped g.one ne l g.free
 
-    module _ (cell : LoopCell) (found : row_at loops here ≡ Some cell) (rows1 : List (Option LoopCell)) (len1 : length rows1 ≡ length loops) (is1 : (q : ℕ) → row_at rows1 q ≡ cond (nat_eq q here) (Some (record { face = cell.face; stored = At a })) (row_at loops q)) where
+    module _ (cell : LoopCell) (found : row_at arena.loops here ≡ Some cell) (rows1 : List (Option LoopCell)) (len1 : length rows1 ≡ length arena.loops) (is1 : (q : ℕ) → row_at rows1 q ≡ cond (nat_eq q here) (Some (record { face = cell.face; stored = At a })) (row_at arena.loops q)) where
       pub fits1 : Fits rows1
-      fits1 = fits-write loops rows1 here _ tied.loops_fit g.looped len1 is1
+      fits1 = fits-write arena.loops rows1 here _ tied.loops_fit g.looped len1 is1
 
       loops1 : table_of (loop_row cutted) rows1 ≡ put M.loops (loop_of M a) (held_row M (loop_of M a) (cycle (cut_left a b (cycle_of M a))))
       loops1 =
-          loops-cut sp loops R are tied.loops_fit.no_zero a b g.a_there g.b_there g.looped g.one ne l g.free rows1 cell.face is1
-          ∙ ap (λ f. put M.loops here (record { face = f; content = cycle (cut_left a b (ring sp a)) })) (sym (face_row_of sp known solids faces loops vertices tied here cell found))
-          ∙ ap (λ hs. put M.loops here (held_row M here (cycle (cut_left a b hs)))) (sym (cycle_of_is sp known solids faces loops vertices tied a g.a_there g.looped))
-          ∙ ap (λ n. put M.loops n (held_row M n (cycle (cut_left a b (cycle_of M a))))) (sym (loop_of_is sp known solids faces loops vertices tied a g.a_there))
+          loops-cut sp arena.loops R are tied.loops_fit.no_zero a b g.a_there g.b_there g.looped g.one ne l g.free rows1 cell.face is1
+          ∙ ap (λ f. put M.loops here (record { face = f; content = cycle (cut_left a b (ring sp a)) })) (sym (face_row_of arena tied here cell found))
+          ∙ ap (λ hs. put M.loops here (held_row M here (cycle (cut_left a b hs)))) (sym (cycle_of_is arena tied a g.a_there g.looped))
+          ∙ ap (λ n. put M.loops n (held_row M n (cycle (cut_left a b (cycle_of M a))))) (sym (loop_of_is arena tied a g.a_there))
 
-      pub tied_cut_loose : (known' : ℕ → Bool) → l ≡ 0 → (new : Spots) → new ≡ cutted → RowsAreTied new known' solids faces rows1 vertices
-      tied_cut_loose known' z new e = subst (λ s. RowsAreTied s known' solids faces rows1 vertices) (sym e) (tied_with sp known solids faces loops vertices tied cutted known' rows1 cut_rings2 (cut_live 0)
-          (AreLoops-cut sp loops R are tied.loops_fit.no_zero a b g.a_there g.b_there g.looped g.one ne l g.free rows1 cell.face (row_here loops rows1 here _ is1) (λ n. absurd (n z)) (λ q n m. row_there loops rows1 here _ is1 q n) fits1.no_zero) fits1)
+      pub tied_cut_loose : (known' : ℕ → Bool) → l ≡ 0 → (new : Spots) → new ≡ cutted → RowsAreTied (record arena { spots = new; known = known'; loops = rows1 })
+      tied_cut_loose known' z new e = subst (λ s. RowsAreTied (record arena { spots = s; known = known'; loops = rows1 })) (sym e) (tied_with arena tied cutted known' rows1 cut_rings2 (cut_live 0)
+          (AreLoops-cut sp arena.loops R are tied.loops_fit.no_zero a b g.a_there g.b_there g.looped g.one ne l g.free rows1 cell.face (row_here arena.loops rows1 here _ is1) (λ n. absurd (n z)) (λ q n m. row_there arena.loops rows1 here _ is1 q n) fits1.no_zero) fits1)
 
-      pub store_cut_loose : (known' : ℕ → Bool) → known' ≡ known → l ≡ 0 → (new : Spots) → new ≡ cutted → store_of new known' solids faces rows1 vertices ≡ cut_loose S a b
+      pub store_cut_loose : (known' : ℕ → Bool) → known' ≡ arena.known → l ≡ 0 → (new : Spots) → new ≡ cutted → store_of (record arena { spots = new; known = known'; loops = rows1 }) ≡ cut_loose S a b
       unfolding cut_loose
-      store_cut_loose known' k z new e = (λ i. store_of (e i) (k i) solids faces rows1 vertices)
-          ∙ store_is sp known solids faces loops vertices cutted rows1 _ _ len1 (edges-cut sp loops R are tied.loops_fit.no_zero a b g.a_there g.b_there g.looped g.one ne l g.free) loops1
-          (loose-cut_loose sp loops R are tied.loops_fit.no_zero a b g.a_there g.b_there g.looped g.one ne l g.free z
-          ∙ ap (λ hs. loosened (cut_right a b hs) S.loose) (sym (cycle_of_is sp known solids faces loops vertices tied a g.a_there g.looped)))
+      store_cut_loose known' k z new e = (λ i. store_of (record arena { spots = e i; known = k i; loops = rows1 }))
+          ∙ store_is arena cutted rows1 _ _ len1 (edges-cut sp arena.loops R are tied.loops_fit.no_zero a b g.a_there g.b_there g.looped g.one ne l g.free) loops1
+          (loose-cut_loose sp arena.loops R are tied.loops_fit.no_zero a b g.a_there g.b_there g.looped g.one ne l g.free z
+          ∙ ap (λ hs. loosened (cut_right a b hs) S.loose) (sym (cycle_of_is arena tied a g.a_there g.looped)))
 
       pub kept_bare : l ≢ 0 → is_some (row_at rows1 l) ≡ true
-      kept_bare n = ap is_some (row_there loops rows1 here _ is1 l (apart_rows sp loops R are tied.loops_fit.no_zero a b g.a_there g.b_there g.looped g.one ne l g.free n) ∙ (g.free n).here)
+      kept_bare n = ap is_some (row_there arena.loops rows1 here _ is1 l (apart_rows sp arena.loops R are tied.loops_fit.no_zero a b g.a_there g.b_there g.looped g.one ne l g.free n) ∙ (g.free n).here)
 
       module _ (n : l ≢ 0) (cell2 : LoopCell) (found2 : row_at rows1 l ≡ Some cell2) (rows2 : List (Option LoopCell)) (len2 : length rows2 ≡ length rows1) (is2 : (q : ℕ) → row_at rows2 q ≡ cond (nat_eq q l) (Some (record { face = cell2.face; stored = At b })) (row_at rows1 q)) where
         not_here : l ≢ here
-        not_here = apart_rows sp loops R are tied.loops_fit.no_zero a b g.a_there g.b_there g.looped g.one ne l g.free n
+        not_here = apart_rows sp arena.loops R are tied.loops_fit.no_zero a b g.a_there g.b_there g.looped g.one ne l g.free n
 
         fits2 : Fits rows2
         fits2 = fits-write rows1 rows2 l _ fits1 n len2 is2
 
-        pub tied_cut_to : (known' : ℕ → Bool) → (new : Spots) → new ≡ cutted → RowsAreTied new known' solids faces rows2 vertices
-        tied_cut_to known' new e = subst (λ s. RowsAreTied s known' solids faces rows2 vertices) (sym e) (tied_with sp known solids faces loops vertices tied cutted known' rows2 cut_rings2 (cut_live 0)
-            (AreLoops-cut sp loops R are tied.loops_fit.no_zero a b g.a_there g.b_there g.looped g.one ne l g.free rows2 cell.face
-            (row_there rows1 rows2 l _ is2 here (λ q. not_here (sym q)) ∙ row_here loops rows1 here _ is1) (λ _. (cell2.face, row_here rows1 rows2 l _ is2))
-            (λ q u v. row_there rows1 rows2 l _ is2 q v ∙ row_there loops rows1 here _ is1 q u) fits2.no_zero) fits2)
+        pub tied_cut_to : (known' : ℕ → Bool) → (new : Spots) → new ≡ cutted → RowsAreTied (record arena { spots = new; known = known'; loops = rows2 })
+        tied_cut_to known' new e = subst (λ s. RowsAreTied (record arena { spots = s; known = known'; loops = rows2 })) (sym e) (tied_with arena tied cutted known' rows2 cut_rings2 (cut_live 0)
+            (AreLoops-cut sp arena.loops R are tied.loops_fit.no_zero a b g.a_there g.b_there g.looped g.one ne l g.free rows2 cell.face
+            (row_there rows1 rows2 l _ is2 here (λ q. not_here (sym q)) ∙ row_here arena.loops rows1 here _ is1) (λ _. (cell2.face, row_here rows1 rows2 l _ is2))
+            (λ q u v. row_there rows1 rows2 l _ is2 q v ∙ row_there arena.loops rows1 here _ is1 q u) fits2.no_zero) fits2)
 
-        pub store_cut_to : (known' : ℕ → Bool) → known' ≡ known → (new : Spots) → new ≡ cutted → store_of new known' solids faces rows2 vertices ≡ cut_to S a b l
+        pub store_cut_to : (known' : ℕ → Bool) → known' ≡ arena.known → (new : Spots) → new ≡ cutted → store_of (record arena { spots = new; known = known'; loops = rows2 }) ≡ cut_to S a b l
         unfolding cut_to
-        store_cut_to known' k new e = (λ i. store_of (e i) (k i) solids faces rows2 vertices)
-            ∙ store_is sp known solids faces loops vertices cutted rows2 _ _ (len2 ∙ len1) (edges-cut sp loops R are tied.loops_fit.no_zero a b g.a_there g.b_there g.looped g.one ne l g.free)
+        store_cut_to known' k new e = (λ i. store_of (record arena { spots = e i; known = k i; loops = rows2 }))
+            ∙ store_is arena cutted rows2 _ _ (len2 ∙ len1) (edges-cut sp arena.loops R are tied.loops_fit.no_zero a b g.a_there g.b_there g.looped g.one ne l g.free)
             (table_of-put (loop_row cutted) rows1 rows2 l _ is2
-            ∙ ap (λ hs. put (table_of (loop_row cutted) rows1) l (record { face = cell2.face; content = cycle hs })) (ring_of_right sp loops R are tied.loops_fit.no_zero a b g.a_there g.b_there g.looped g.one ne l g.free)
-            ∙ ap (λ f. put (table_of (loop_row cutted) rows1) l (record { face = f; content = cycle (cut_right a b (ring sp a)) })) (sym (face_row_of sp known solids faces loops vertices tied l cell2 (sym (row_there loops rows1 here _ is1 l not_here) ∙ found2)))
-            ∙ ap (λ hs. put (table_of (loop_row cutted) rows1) l (held_row M l (cycle (cut_right a b hs)))) (sym (cycle_of_is sp known solids faces loops vertices tied a g.a_there g.looped))
+            ∙ ap (λ hs. put (table_of (loop_row cutted) rows1) l (record { face = cell2.face; content = cycle hs })) (ring_of_right sp arena.loops R are tied.loops_fit.no_zero a b g.a_there g.b_there g.looped g.one ne l g.free)
+            ∙ ap (λ f. put (table_of (loop_row cutted) rows1) l (record { face = f; content = cycle (cut_right a b (ring sp a)) })) (sym (face_row_of arena tied l cell2 (sym (row_there arena.loops rows1 here _ is1 l not_here) ∙ found2)))
+            ∙ ap (λ hs. put (table_of (loop_row cutted) rows1) l (held_row M l (cycle (cut_right a b hs)))) (sym (cycle_of_is arena tied a g.a_there g.looped))
             ∙ ap (λ t. put t l (held_row M l (cycle (cut_right a b (cycle_of M a))))) loops1)
-            (loose-cut_to sp loops R are tied.loops_fit.no_zero a b g.a_there g.b_there g.looped g.one ne l g.free n)
+            (loose-cut_to sp arena.loops R are tied.loops_fit.no_zero a b g.a_there g.b_there g.looped g.one ne l g.free n)
 
   module _ (a b : ℕ) (g : JoinFacts sp a b) where
     abbrev jspots : Spots
@@ -154,55 +155,55 @@ module _ (sp : Spots) (known : ℕ → Bool) (solids : List (Option Bool)) (face
     jthere = label sp b
 
     -- rows0 are the rows once b's loop is empty, and d is the entry of a's loop then
-    module _ (d : ℕ) (d_in : IsIn d (ring sp a)) (cell : LoopCell) (found : row_at loops jhere ≡ Some cell) (rows0 : List (Option LoopCell)) (len0 : length rows0 ≡ length loops) (fits0 : Fits rows0) (rows : List (Option LoopCell)) (len : length rows ≡ length rows0)
+    module _ (d : ℕ) (d_in : IsIn d (ring sp a)) (cell : LoopCell) (found : row_at arena.loops jhere ≡ Some cell) (rows0 : List (Option LoopCell)) (len0 : length rows0 ≡ length arena.loops) (fits0 : Fits rows0) (rows : List (Option LoopCell)) (len : length rows ≡ length rows0)
         (is1 : (q : ℕ) → row_at rows q ≡ cond (nat_eq q jhere) (Some (record { face = cell.face; stored = At d })) (row_at rows0 q))
-        (empty_b : (c : LoopCell) → row_at rows0 jthere ≡ Some c → c.stored ≡ Empty) (same : (q : ℕ) → q ≢ jthere → row_at rows0 q ≡ row_at loops q) where
+        (empty_b : (c : LoopCell) → row_at rows0 jthere ≡ Some c → c.stored ≡ Empty) (same : (q : ℕ) → q ≢ jthere → row_at rows0 q ≡ row_at arena.loops q) where
       jfits : Fits rows
       jfits = fits-write rows0 rows jhere _ fits0 g.looped len is1
 
-      pub tied_join : (known' : ℕ → Bool) (new : Spots) → new ≡ jspots → RowsAreTied new known' solids faces rows vertices
-      tied_join known' new e = subst (λ s. RowsAreTied s known' solids faces rows vertices) (sym e) (tied_with sp known solids faces loops vertices tied jspots known' rows
-          (jrings2 sp loops R are tied.loops_fit.no_zero a b g.a_there g.b_there g.looped g.other) (jlive2 sp loops R are tied.loops_fit.no_zero a b g.a_there g.b_there g.looped g.other 0)
-          (AreLoops-join sp loops R are tied.loops_fit.no_zero a b g.a_there g.b_there g.looped g.other d d_in rows cell.face (row_here rows0 rows jhere _ is1)
+      pub tied_join : (known' : ℕ → Bool) (new : Spots) → new ≡ jspots → RowsAreTied (record arena { spots = new; known = known'; loops = rows })
+      tied_join known' new e = subst (λ s. RowsAreTied (record arena { spots = s; known = known'; loops = rows })) (sym e) (tied_with arena tied jspots known' rows
+          (jrings2 sp arena.loops R are tied.loops_fit.no_zero a b g.a_there g.b_there g.looped g.other) (jlive2 sp arena.loops R are tied.loops_fit.no_zero a b g.a_there g.b_there g.looped g.other 0)
+          (AreLoops-join sp arena.loops R are tied.loops_fit.no_zero a b g.a_there g.b_there g.looped g.other d d_in rows cell.face (row_here rows0 rows jhere _ is1)
           (λ c at. empty_b c (sym (row_there rows0 rows jhere _ is1 jthere g.other) ∙ at)) (λ q n m. row_there rows0 rows jhere _ is1 q n ∙ same q m)) jfits)
 
       alike : (q : ℕ) (c : LoopCell) → q ≢ jhere → row_at rows0 q ≡ Some c → stored_content jspots c.stored ≡ stored_content sp c.stored
       alike q c n at = elim (eqb_tells q jthere) [
         | inl p ↦ let e = empty_b c (ap (row_at rows0) (sym p.1) ∙ at) in ap (stored_content jspots) e ∙ sym (ap (stored_content sp) e)
-        | inr p ↦ content_alike sp jspots q c.stored (are.entries q c (sym (same q p.1) ∙ at)) (λ d h e. jkept sp loops R are tied.loops_fit.no_zero a b g.a_there g.b_there g.looped g.other q d n p.1 h e)
+        | inr p ↦ content_alike sp jspots q c.stored (are.entries q c (sym (same q p.1) ∙ at)) (λ d h e. jkept sp arena.loops R are tied.loops_fit.no_zero a b g.a_there g.b_there g.looped g.other q d n p.1 h e)
       ]
 
       loops_join : (ys : List ℕ) → ys ≡ ring sp b → table_of (loop_row jspots) rows ≡ put (table_of (loop_row sp) rows0) (loop_of M a) (held_row M (loop_of M a) (cycle (joined a b (cycle_of M a) ys)))
       loops_join ys ey =
           loops_table_rows sp jspots rows0 rows jhere (record { face = cell.face; stored = At d }) is1 alike
-          ∙ ap (λ hs. put (table_of (loop_row sp) rows0) jhere (record { face = cell.face; content = cycle hs })) (jring_of sp loops R are tied.loops_fit.no_zero a b g.a_there g.b_there g.looped g.other d d_in)
+          ∙ ap (λ hs. put (table_of (loop_row sp) rows0) jhere (record { face = cell.face; content = cycle hs })) (jring_of sp arena.loops R are tied.loops_fit.no_zero a b g.a_there g.b_there g.looped g.other d d_in)
           ∙ ap (λ hs. put (table_of (loop_row sp) rows0) jhere (record { face = cell.face; content = cycle (joined a b (ring sp a) hs) })) (sym ey)
-          ∙ ap (λ f. put (table_of (loop_row sp) rows0) jhere (record { face = f; content = cycle (joined a b (ring sp a) ys) })) (sym (face_row_of sp known solids faces loops vertices tied jhere cell found))
-          ∙ ap (λ hs. put (table_of (loop_row sp) rows0) jhere (held_row M jhere (cycle (joined a b hs ys)))) (sym (cycle_of_is sp known solids faces loops vertices tied a g.a_there g.looped))
-          ∙ ap (λ n. put (table_of (loop_row sp) rows0) n (held_row M n (cycle (joined a b (cycle_of M a) ys)))) (sym (loop_of_is sp known solids faces loops vertices tied a g.a_there))
+          ∙ ap (λ f. put (table_of (loop_row sp) rows0) jhere (record { face = f; content = cycle (joined a b (ring sp a) ys) })) (sym (face_row_of arena tied jhere cell found))
+          ∙ ap (λ hs. put (table_of (loop_row sp) rows0) jhere (held_row M jhere (cycle (joined a b hs ys)))) (sym (cycle_of_is arena tied a g.a_there g.looped))
+          ∙ ap (λ n. put (table_of (loop_row sp) rows0) n (held_row M n (cycle (joined a b (cycle_of M a) ys)))) (sym (loop_of_is arena tied a g.a_there))
 
-      pub store_join_loose : rows0 ≡ loops → jthere ≡ 0 → (known' : ℕ → Bool) → known' ≡ known → (new : Spots) → new ≡ jspots → store_of new known' solids faces rows vertices ≡ join_loose S a b
+      pub store_join_loose : rows0 ≡ arena.loops → jthere ≡ 0 → (known' : ℕ → Bool) → known' ≡ arena.known → (new : Spots) → new ≡ jspots → store_of (record arena { spots = new; known = known'; loops = rows }) ≡ join_loose S a b
       unfolding join_loose
-      store_join_loose r z known' k new e = (λ i. store_of (e i) (k i) solids faces rows vertices)
-          ∙ store_is sp known solids faces loops vertices jspots rows _ _ (len ∙ len0) (jedges sp loops R are tied.loops_fit.no_zero a b g.a_there g.b_there g.looped g.other)
-          (loops_join (loose_ring S b) (loose_ring_is sp known solids faces loops vertices tied b g.b_there z) ∙ ap (λ w. put (table_of (loop_row sp) w) (loop_of M a) (held_row M (loop_of M a) (cycle (joined a b (cycle_of M a) (loose_ring S b))))) r)
-          (loose-join_loose sp loops R are tied.loops_fit.no_zero a b g.a_there g.b_there g.looped g.other ∙ ap (remove S.loose) (sym (loose_key_is sp known solids faces loops vertices tied b g.b_there z)))
+      store_join_loose r z known' k new e = (λ i. store_of (record arena { spots = e i; known = k i; loops = rows }))
+          ∙ store_is arena jspots rows _ _ (len ∙ len0) (jedges sp arena.loops R are tied.loops_fit.no_zero a b g.a_there g.b_there g.looped g.other)
+          (loops_join (loose_ring S b) (loose_ring_is arena tied b g.b_there z) ∙ ap (λ w. put (table_of (loop_row sp) w) (loop_of M a) (held_row M (loop_of M a) (cycle (joined a b (cycle_of M a) (loose_ring S b))))) r)
+          (loose-join_loose sp arena.loops R are tied.loops_fit.no_zero a b g.a_there g.b_there g.looped g.other ∙ ap (remove S.loose) (sym (loose_key_is arena tied b g.b_there z)))
 
-      pub store_join_loops : jthere ≢ 0 → (cell2 : LoopCell) → row_at loops jthere ≡ Some cell2 → ((q : ℕ) → row_at rows0 q ≡ cond (nat_eq q jthere) (Some (record { face = cell2.face; stored = Empty })) (row_at loops q)) →
-          (known' : ℕ → Bool) → known' ≡ known → (new : Spots) → new ≡ jspots → store_of new known' solids faces rows vertices ≡ join_loops S a b
+      pub store_join_loops : jthere ≢ 0 → (cell2 : LoopCell) → row_at arena.loops jthere ≡ Some cell2 → ((q : ℕ) → row_at rows0 q ≡ cond (nat_eq q jthere) (Some (record { face = cell2.face; stored = Empty })) (row_at arena.loops q)) →
+          (known' : ℕ → Bool) → known' ≡ arena.known → (new : Spots) → new ≡ jspots → store_of (record arena { spots = new; known = known'; loops = rows }) ≡ join_loops S a b
       unfolding join_loops
-      store_join_loops n cell2 found2 is0 known' k new e = (λ i. store_of (e i) (k i) solids faces rows vertices)
-          ∙ store_is sp known solids faces loops vertices jspots rows _ _ (len ∙ len0) (jedges sp loops R are tied.loops_fit.no_zero a b g.a_there g.b_there g.looped g.other)
-          (loops_join (cycle_of M b) (cycle_of_is sp known solids faces loops vertices tied b g.b_there n)
+      store_join_loops n cell2 found2 is0 known' k new e = (λ i. store_of (record arena { spots = e i; known = k i; loops = rows }))
+          ∙ store_is arena jspots rows _ _ (len ∙ len0) (jedges sp arena.loops R are tied.loops_fit.no_zero a b g.a_there g.b_there g.looped g.other)
+          (loops_join (cycle_of M b) (cycle_of_is arena tied b g.b_there n)
           ∙ ap (λ t. put t (loop_of M a) (held_row M (loop_of M a) (cycle (joined a b (cycle_of M a) (cycle_of M b)))))
-          (table_of-put (loop_row sp) loops rows0 jthere _ is0
-          ∙ ap (λ f. put M.loops jthere (record { face = f; content = cycle [] })) (sym (face_row_of sp known solids faces loops vertices tied jthere cell2 found2))
-          ∙ ap (λ m. put M.loops m (held_row M m (cycle []))) (sym (loop_of_is sp known solids faces loops vertices tied b g.b_there))))
-          (loose-join_loops sp loops R are tied.loops_fit.no_zero a b g.a_there g.b_there g.looped g.other n)
+          (table_of-put (loop_row sp) arena.loops rows0 jthere _ is0
+          ∙ ap (λ f. put M.loops jthere (record { face = f; content = cycle [] })) (sym (face_row_of arena tied jthere cell2 found2))
+          ∙ ap (λ m. put M.loops m (held_row M m (cycle []))) (sym (loop_of_is arena tied b g.b_there))))
+          (loose-join_loops sp arena.loops R are tied.loops_fit.no_zero a b g.a_there g.b_there g.looped g.other n)
 
     -- a loose ring comes to a's loop, of which the row stays as it was
     module _ (loose : jthere ≡ 0) where
-      abbrev row_a : StandsAt sp loops a jhere
+      abbrev row_a : StandsAt sp arena.loops a jhere
       row_a = are.stands a g.a_there g.looped
 
       abbrev cell_a : LoopCell
@@ -214,35 +215,35 @@ module _ (sp : Spots) (known : ℕ → Bool) (solids : List (Option Bool)) (face
       entry_in : IsIn row_a.entry (ring sp a)
       entry_in = subst (IsIn row_a.entry) (sym (ring_same sp R row_a.entry a entry_there row_a.item)) (R.rings row_a.entry entry_there).item
 
-      as_it_was : (q : ℕ) → row_at loops q ≡ cond (nat_eq q jhere) (Some cell_a) (row_at loops q)
+      as_it_was : (q : ℕ) → row_at arena.loops q ≡ cond (nat_eq q jhere) (Some cell_a) (row_at arena.loops q)
       as_it_was q = elim (eqb_tells q jhere) [
-        | inl p ↦ ap (row_at loops) p.1 ∙ row_a.here ∙ sym (ap (λ t. cond t (Some cell_a) (row_at loops q)) p.0)
-        | inr p ↦ sym (ap (λ t. cond t (Some cell_a) (row_at loops q)) p.0)
+        | inl p ↦ ap (row_at arena.loops) p.1 ∙ row_a.here ∙ sym (ap (λ t. cond t (Some cell_a) (row_at arena.loops q)) p.0)
+        | inr p ↦ sym (ap (λ t. cond t (Some cell_a) (row_at arena.loops q)) p.0)
       ]
 
-      no_cell : (c : LoopCell) → row_at loops jthere ≡ Some c → c.stored ≡ Empty
-      no_cell c at = let e = sym (ap (row_at loops) loose ∙ tied.loops_fit.no_zero) ∙ at in cc
+      no_cell : (c : LoopCell) → row_at arena.loops jthere ≡ Some c → c.stored ≡ Empty
+      no_cell c at = let e = sym (ap (row_at arena.loops) loose ∙ tied.loops_fit.no_zero) ∙ at in cc
 
-      pub tied_join_kept : (known' : ℕ → Bool) (new : Spots) → new ≡ jspots → RowsAreTied new known' solids faces loops vertices
-      tied_join_kept = tied_join row_a.entry entry_in cell_a row_a.here loops refl tied.loops_fit loops refl as_it_was no_cell (λ q m. refl)
+      pub tied_join_kept : (known' : ℕ → Bool) (new : Spots) → new ≡ jspots → RowsAreTied (record arena { spots = new; known = known' })
+      tied_join_kept = tied_join row_a.entry entry_in cell_a row_a.here arena.loops refl tied.loops_fit arena.loops refl as_it_was no_cell (λ q m. refl)
 
-      pub store_join_kept : (known' : ℕ → Bool) → known' ≡ known → (new : Spots) → new ≡ jspots → store_of new known' solids faces loops vertices ≡ join_loose S a b
-      store_join_kept = store_join_loose row_a.entry entry_in cell_a row_a.here loops refl tied.loops_fit loops refl as_it_was no_cell (λ q m. refl) refl loose
+      pub store_join_kept : (known' : ℕ → Bool) → known' ≡ arena.known → (new : Spots) → new ≡ jspots → store_of (record arena { spots = new; known = known' }) ≡ join_loose S a b
+      store_join_kept = store_join_loose row_a.entry entry_in cell_a row_a.here arena.loops refl tied.loops_fit arena.loops refl as_it_was no_cell (λ q m. refl) refl loose
 
     -- the code that is alone leads to itself
     pub next_alone : jthere ≡ 0 → loose_ring S b ≡ b ∷ [] → next sp b ≡ b
-    next_alone z alone = IsIn_one b (next sp b) (subst (IsIn (next sp b)) (sym (loose_ring_is sp known solids faces loops vertices tied b g.b_there z) ∙ alone) (next_in_ring sp R b g.b_there))
+    next_alone z alone = IsIn_one b (next sp b) (subst (IsIn (next sp b)) (sym (loose_ring_is arena tied b g.b_there z) ∙ alone) (next_in_ring sp R b g.b_there))
 
   -- the code before b leads to it
-  pub next_before : (a b l : ℕ) → CutFacts sp loops a b l → a ≡ before M b → next sp a ≡ b
+  pub next_before : (a b l : ℕ) → CutFacts sp arena.loops a b l → a ≡ before M b → next sp a ≡ b
   unfolding before
   next_before a b l g is =
       let n : label sp b ≢ 0 = λ z. g.looped (sym g.one ∙ z) in
-      let i : IsIn a (ring sp b) = same_loop sp loops R are b a g.b_there g.a_there n (sym g.one) in
+      let i : IsIn a (ring sp b) = same_loop sp arena.loops R are b a g.b_there g.a_there n (sym g.one) in
       let o = R.rings b g.b_there in
-      next_successor sp known solids faces loops vertices tied a g.a_there
+      next_successor arena tied a g.a_there
       ∙ (λ j. successor (ring_same sp R b a g.b_there i j) a)
-      ∙ ap (successor (ring sp b)) (is ∙ ap (λ hs. predecessor hs b) (cycle_of_is sp known solids faces loops vertices tied b g.b_there n))
+      ∙ ap (successor (ring sp b)) (is ∙ ap (λ hs. predecessor hs b) (cycle_of_is arena tied b g.b_there n))
       ∙ successor-predecessor b (ring sp b) o.apart o.item
 
 -- the same rows at an equal number

@@ -2,7 +2,7 @@
 use Rattle.std.proofs.Common.{◌-◌, ◌≡◌, ◌≢◌, ℕ, ◌≤◌, Bool, true, false, cond, nat_eq, nat_lt, nat_le, ◌&&◌, List, [], Option, Some, None, is_some, sym, ap, ◌∙◌, arith, true≢false, length}
 use Rattle.arena_rows.proofs.ring_spots_laws.SpotTables.{edge_live, edge_has_room, codes_are, nothing, edge_has}
 use Rattle.raw_cells.specs.Rows.{row_at, has_row}
-use Rattle.arena_rows.specs.Common.{table_of, is_edge, within, empty_store, Store, has_number, IsNextNumber, Fits, store_of, RowsAreTied, solid_row, face_row, loop_row, Spots, codes, edges_end, live, label, ring, AreRings, edge_row, both_tails, edge_room, loose_row}
+use Rattle.arena_rows.specs.Common.{ArenaRows, table_of, is_edge, within, empty_store, Store, has_number, IsNextNumber, Fits, store_of, RowsAreTied, solid_row, face_row, loop_row, Spots, codes, edges_end, live, label, ring, AreRings, edge_row, both_tails, edge_room, loose_row}
 use Rattle.raw_cells.specs.Numbers.{IsLast}
 use Rattle.raw_cells.proofs.numbers_laws.Lasts.{last_same}
 use Rattle.arena_rows.proofs.Views.{row_within, row_not_zero, table_of-empty, fits-empty, has_is}
@@ -21,7 +21,10 @@ module _ (sp : Spots) (known : ℕ → Bool) (none : (q : ℕ) → sp q ≡ None
   dead : (c : ℕ) → live sp c ≢ true
   dead c h = true≢false (sym h ∙ ap is_some (none c))
 
-  pub tied-empty : RowsAreTied sp known [] [] [] []
+  abbrev no_rows : ArenaRows
+  no_rows = record { spots = sp; known = known; solids = []; faces = []; loops = []; vertices = [] }
+
+  pub tied-empty : RowsAreTied no_rows
   tied-empty = record {
     rings = record { bound = λ c h. absurd (dead c h); rings = λ c h. absurd (dead c h); mates = λ c h. absurd (dead c h) };
     no_edge = dead 0;
@@ -36,7 +39,7 @@ module _ (sp : Spots) (known : ℕ → Bool) (none : (q : ℕ) → sp q ≡ None
   no_room_row : (e : ℕ) → edge_room known e ≡ None
   no_room_row e = ap (λ b. cond (nat_lt 0 e && (b && known (minus e))) (Some tt) None) (unknown (plus e)) ∙ ap (λ b. cond b (Some tt) None) (and_false (nat_lt 0 e))
 
-  pub view-empty : store_of sp known [] [] [] [] ≡ empty_store
+  pub view-empty : store_of no_rows ≡ empty_store
   unfolding empty_model
   view-empty = λ i. record {
     model = record {

@@ -1,18 +1,16 @@
 -- A loop is cleared, takes a loose ring, and a half-edge starts elsewhere.
 use Rattle.std.proofs.lemmas.Bool.Decides.{eqb_tells}
 use Rattle.std.proofs.lemmas.Option.{same_Some}
-use Rattle.boundary_model.specs.declared.Point.{Point}
 use Rattle.boundary_model.specs.Items.{count, IsIn}
 use Rattle.boundary_model.proofs.Lists.{IsIn_or_not}
 use Rattle.boundary_model.proofs.Tables.{get-put_here}
-use Rattle.arena_rows.specs.declared.rows.FaceCell.{FaceCell}
 use Rattle.arena_rows.specs.declared.rows.LoopCell.{LoopCell}
 use Rattle.arena_rows.specs.declared.rows.StoredContent.{StoredContent}
 use Rattle.arena_rows.specs.declared.rows.StoredContent.TheVariants.{Empty, Lone, At}
 use Rattle.boundary_model.specs.Table.{get, put, remove}
 use Rattle.raw_cells.specs.Rows.{row_at}
 use Rattle.boundary_model.specs.Model.{Model, cycle}
-use Rattle.arena_rows.specs.Common.{Store, loosened, Spots, live, label, ring, labelled, AreRings, store_of, RowsAreTied, stored_content, loop_row, HasEntry, AreLoops, StandsAt, clear, fill, held_row, Fits}
+use Rattle.arena_rows.specs.Common.{ArenaRows, Store, loosened, Spots, live, label, ring, labelled, AreRings, store_of, RowsAreTied, stored_content, loop_row, HasEntry, AreLoops, StandsAt, clear, fill, held_row, Fits}
 use Rattle.std.proofs.Common.{unwrap_or, ◌≡◌, ◌≢◌, ℕ, Bool, true, cond, nat_eq, List, [], length, Option, Some, is_some, refl, sym, ap, subst, ◌∙◌, arith, ne_eqb, inl, inr}
 use Rattle.boundary_model.specs.Model.{no_loop}
 use Rattle.boundary_model.specs.Model.{items_of, content, face_of}
@@ -24,9 +22,12 @@ use Rattle.arena_rows.proofs.ring_spots_laws.SpotTables.{loose_none, loose_alike
 use Rattle.arena_rows.proofs.Tellings.{loose_added, loops_table, store_is}
 use Rattle.arena_rows.proofs.ring_spots_laws.SpotLaws.{live-labelled, label-labelled_in, label-labelled_out, ring-labelled, AreRings-labelled}
 
-module _ (sp : Spots) (known : ℕ → Bool) (solids : List (Option Bool)) (faces : List (Option FaceCell)) (loops : List (Option LoopCell)) (vertices : List (Option Point)) (tied : RowsAreTied sp known solids faces loops vertices) where
+module _ (arena : ArenaRows) (tied : RowsAreTied arena) where
+  abbrev sp : Spots
+  sp = arena.spots
+
   abbrev S : Store
-  S = store_of sp known solids faces loops vertices
+  S = store_of arena
 
   abbrev M : Model
   M = S.model
@@ -34,18 +35,18 @@ module _ (sp : Spots) (known : ℕ → Bool) (solids : List (Option Bool)) (face
   abbrev R : AreRings sp
   R = tied.rings
 
-  abbrev are : AreLoops sp loops
+  abbrev are : AreLoops sp arena.loops
   are = tied.loops_tied
 
-  pub tied_with : (new : Spots) (known' : ℕ → Bool) (rows : List (Option LoopCell)) → AreRings new → live new 0 ≡ live sp 0 → AreLoops new rows → Fits rows → RowsAreTied new known' solids faces rows vertices
+  pub tied_with : (new : Spots) (known' : ℕ → Bool) (rows : List (Option LoopCell)) → AreRings new → live new 0 ≡ live sp 0 → AreLoops new rows → Fits rows → RowsAreTied (record arena { spots = new; known = known'; loops = rows })
   tied_with new known' rows N z A F = record { rings = N; no_edge = λ e. tied.no_edge (sym z ∙ e); loops_tied = A; solids_fit = tied.solids_fit; faces_fit = tied.faces_fit; loops_fit = F; vertices_fit = tied.vertices_fit; points = tied.points }
 
-  module _ (l : ℕ) (cell : LoopCell) (found : row_at loops l ≡ Some cell) (rows : List (Option LoopCell)) (len : length rows ≡ length loops) where
+  module _ (l : ℕ) (cell : LoopCell) (found : row_at arena.loops l ≡ Some cell) (rows : List (Option LoopCell)) (len : length rows ≡ length arena.loops) where
     l_not : l ≢ 0
-    l_not = row_not_zero loops l tied.loops_fit (ap is_some found)
+    l_not = row_not_zero arena.loops l tied.loops_fit (ap is_some found)
 
     -- the ring of d goes out of loop l
-    module _ (d : ℕ) (stored : cell.stored ≡ At d) (is : (q : ℕ) → row_at rows q ≡ cond (nat_eq q l) (Some (record { face = cell.face; stored = Empty })) (row_at loops q)) where
+    module _ (d : ℕ) (stored : cell.stored ≡ At d) (is : (q : ℕ) → row_at rows q ≡ cond (nat_eq q l) (Some (record { face = cell.face; stored = Empty })) (row_at arena.loops q)) where
       entry : HasEntry sp l (At d)
       entry = subst (HasEntry sp l) stored (are.entries l cell found)
 
@@ -81,8 +82,8 @@ module _ (sp : Spots) (known : ℕ → Bool) (solids : List (Option Bool)) (face
       c_loops : AreLoops cleared rows
       c_loops = record {
         entries = λ q k at. elim (eqb_tells q l) [
-          | inl p ↦ subst (HasEntry cleared q) (ap (λ (w : LoopCell). w.stored) (same_Some _ _ (sym (ap (row_at rows) p.1 ∙ row_here loops rows l _ is) ∙ at))) tt
-          | inr p ↦ old_entry q p.1 k.stored (are.entries q k (sym (is q ∙ ap (λ b. cond b (Some (record { face = cell.face; stored = Empty })) (row_at loops q)) p.0) ∙ at))
+          | inl p ↦ subst (HasEntry cleared q) (ap (λ (w : LoopCell). w.stored) (same_Some _ _ (sym (ap (row_at rows) p.1 ∙ row_here arena.loops rows l _ is) ∙ at))) tt
+          | inr p ↦ old_entry q p.1 k.stored (are.entries q k (sym (is q ∙ ap (λ b. cond b (Some (record { face = cell.face; stored = Empty })) (row_at arena.loops q)) p.0) ∙ at))
         ];
         stands = λ h a n. elim (IsIn_or_not h (ring sp d)) [
           | inl i ↦ absurd (n (c_in h i))
@@ -90,48 +91,48 @@ module _ (sp : Spots) (known : ℕ → Bool) (solids : List (Option Bool)) (face
               let e = c_out h m in
               let s = are.stands h (sym (c_live h) ∙ a) (λ z. n (e ∙ z)) in
               let other : label sp h ≢ l = λ z.
-              let f : At s.entry ≡ At d = ap (λ (w : LoopCell). w.stored) (same_Some _ _ (sym s.here ∙ ap (row_at loops) z ∙ found)) ∙ stored in
+              let f : At s.entry ≡ At d = ap (λ (w : LoopCell). w.stored) (same_Some _ _ (sym s.here ∙ ap (row_at arena.loops) z ∙ found)) ∙ stored in
               let g : s.entry ≡ d = cc in
               let i : IsIn h (ring sp d) = subst (λ w. IsIn h (ring sp w)) g s.item in absurd (omega arith) in
               subst (StandsAt cleared rows h) (sym e) (record {
                 face = s.face;
                 entry = s.entry;
-                here = is (label sp h) ∙ ap (λ b. cond b (Some (record { face = cell.face; stored = Empty })) (row_at loops (label sp h))) (ne_eqb (label sp h) l other) ∙ s.here;
+                here = is (label sp h) ∙ ap (λ b. cond b (Some (record { face = cell.face; stored = Empty })) (row_at arena.loops (label sp h))) (ne_eqb (label sp h) l other) ∙ s.here;
                 item = subst (IsIn h) (sym (c_ring s.entry)) s.item;
               })
         ];
       }
 
-      pub tied_clear : (known' : ℕ → Bool) (new : Spots) → new ≡ cleared → RowsAreTied new known' solids faces rows vertices
-      tied_clear known' new e = subst (λ s. RowsAreTied s known' solids faces rows vertices) (sym e) (tied_with cleared known' rows c_rings (c_live 0) c_loops (fits-write loops rows l _ tied.loops_fit l_not len is))
+      pub tied_clear : (known' : ℕ → Bool) (new : Spots) → new ≡ cleared → RowsAreTied (record arena { spots = new; known = known'; loops = rows })
+      tied_clear known' new e = subst (λ s. RowsAreTied (record arena { spots = s; known = known'; loops = rows })) (sym e) (tied_with cleared known' rows c_rings (c_live 0) c_loops (fits-write arena.loops rows l _ tied.loops_fit l_not len is))
 
-      pub store_clear : (known' : ℕ → Bool) → known' ≡ known → (new : Spots) → new ≡ cleared → store_of new known' solids faces rows vertices ≡ clear S l
+      pub store_clear : (known' : ℕ → Bool) → known' ≡ arena.known → (new : Spots) → new ≡ cleared → store_of (record arena { spots = new; known = known'; loops = rows }) ≡ clear S l
       unfolding clear
-      store_clear known' k new e = (λ i. store_of (e i) (k i) solids faces rows vertices)
-          ∙ store_is sp known solids faces loops vertices cleared rows _ _ len (edges_same sp cleared (λ q. tails-labelled sp 0 (ring sp d) q))
-          (loops_table sp cleared loops rows are l (record { face = cell.face; stored = Empty }) is (λ q c _ _ _. c_ring c)
-          ∙ ap (λ f. put M.loops l (record { face = f; content = cycle [] })) (sym (face_row_of sp known solids faces loops vertices tied l cell found)))
+      store_clear known' k new e = (λ i. store_of (record arena { spots = e i; known = k i; loops = rows }))
+          ∙ store_is arena cleared rows _ _ len (edges_same sp cleared (λ q. tails-labelled sp 0 (ring sp d) q))
+          (loops_table sp cleared arena.loops rows are l (record { face = cell.face; stored = Empty }) is (λ q c _ _ _. c_ring c)
+          ∙ ap (λ f. put M.loops l (record { face = f; content = cycle [] })) (sym (face_row_of arena tied l cell found)))
           (loose_added sp cleared R c_rings d (ring sp d) (c_live d ∙ entry.0) (c_in d (R.rings d entry.0).item) (c_ring d) (λ x i. loose_none sp x (λ z. l_not (sym (c_of_l x i) ∙ z)))
           (λ x n. loose_alike sp cleared x (c_live x) (c_out x n) (c_ring x))
-          ∙ ap (λ c. loosened (items_of c) S.loose) (sym (content_row sp known solids faces loops vertices tied l cell found ∙ ap (stored_content sp) stored)))
+          ∙ ap (λ c. loosened (items_of c) S.loose) (sym (content_row arena tied l cell found ∙ ap (stored_content sp) stored)))
 
     -- loop l, which holds no half-edge, gets other content without one
-    module _ (bare : items_of (stored_content sp cell.stored) ≡ []) (x : StoredContent) (free : HasEntry sp l x) (is : (q : ℕ) → row_at rows q ≡ cond (nat_eq q l) (Some (record { face = cell.face; stored = x })) (row_at loops q)) where
-      pub tied_bare : RowsAreTied sp known solids faces rows vertices
-      tied_bare = tied_loops sp known solids faces loops vertices tied rows (fits-write loops rows l _ tied.loops_fit l_not len is)
-          (loops_write sp loops rows l _ are (λ k e. subst (HasEntry sp l) (ap (λ (w : LoopCell). w.stored) (same_Some _ _ e)) free) (λ h a s. no_stand_bare sp loops rows cell h l found bare s) is)
+    module _ (bare : items_of (stored_content sp cell.stored) ≡ []) (x : StoredContent) (free : HasEntry sp l x) (is : (q : ℕ) → row_at rows q ≡ cond (nat_eq q l) (Some (record { face = cell.face; stored = x })) (row_at arena.loops q)) where
+      pub tied_bare : RowsAreTied (record arena { loops = rows })
+      tied_bare = tied_loops arena tied rows (fits-write arena.loops rows l _ tied.loops_fit l_not len is)
+          (loops_write sp arena.loops rows l _ are (λ k e. subst (HasEntry sp l) (ap (λ (w : LoopCell). w.stored) (same_Some _ _ e)) free) (λ h a s. no_stand_bare sp arena.loops rows cell h l found bare s) is)
 
-      pub store_bare : store_of sp known solids faces rows vertices ≡ record S { model = with_loop M l (stored_content sp x) }
-      store_bare = store_loops sp known solids faces loops vertices tied rows _ len
-          (table_of-put (loop_row sp) loops rows l _ is ∙ ap (λ f. put M.loops l (record { face = f; content = stored_content sp x })) (sym (face_row_of sp known solids faces loops vertices tied l cell found)))
+      pub store_bare : store_of (record arena { loops = rows }) ≡ record S { model = with_loop M l (stored_content sp x) }
+      store_bare = store_loops arena tied rows _ len
+          (table_of-put (loop_row sp) arena.loops rows l _ is ∙ ap (λ f. put M.loops l (record { face = f; content = stored_content sp x })) (sym (face_row_of arena tied l cell found)))
 
-      pub store_clear_bare : x ≡ Empty → store_of sp known solids faces rows vertices ≡ clear S l
+      pub store_clear_bare : x ≡ Empty → store_of (record arena { loops = rows }) ≡ clear S l
       unfolding clear
       store_clear_bare e = store_bare ∙ ap (λ h. record S { model = with_loop M l (stored_content sp h) }) e
-          ∙ ap (λ hs. record S { model = with_loop M l (cycle []); loose = loosened hs S.loose }) (sym (ap items_of (content_row sp known solids faces loops vertices tied l cell found) ∙ bare))
+          ∙ ap (λ hs. record S { model = with_loop M l (cycle []); loose = loosened hs S.loose }) (sym (ap items_of (content_row arena tied l cell found) ∙ bare))
 
     -- loop l takes the loose ring of h
-    module _ (bare : items_of (stored_content sp cell.stored) ≡ []) (h : ℕ) (a : live sp h ≡ true) (z : label sp h ≡ 0) (is : (q : ℕ) → row_at rows q ≡ cond (nat_eq q l) (Some (record { face = cell.face; stored = At h })) (row_at loops q)) where
+    module _ (bare : items_of (stored_content sp cell.stored) ≡ []) (h : ℕ) (a : live sp h ≡ true) (z : label sp h ≡ 0) (is : (q : ℕ) → row_at rows q ≡ cond (nat_eq q l) (Some (record { face = cell.face; stored = At h })) (row_at arena.loops q)) where
       abbrev filled : Spots
       filled = labelled sp l (ring sp h)
 
@@ -161,42 +162,42 @@ module _ (sp : Spots) (known : ℕ → Bool) (solids : List (Option Bool)) (face
       f_loops : AreLoops filled rows
       f_loops = record {
         entries = λ q k at. elim (eqb_tells q l) [
-          | inl p ↦ subst (HasEntry filled q) (ap (λ (w : LoopCell). w.stored) (same_Some _ _ (sym (ap (row_at rows) p.1 ∙ row_here loops rows l _ is) ∙ at))) (f_live h ∙ a, f_in h (R.rings h a).item ∙ sym p.1)
+          | inl p ↦ subst (HasEntry filled q) (ap (λ (w : LoopCell). w.stored) (same_Some _ _ (sym (ap (row_at rows) p.1 ∙ row_here arena.loops rows l _ is) ∙ at))) (f_live h ∙ a, f_in h (R.rings h a).item ∙ sym p.1)
           | inr p ↦
-              let old = sym (is q ∙ ap (λ b. cond b (Some (record { face = cell.face; stored = At h })) (row_at loops q)) p.0) ∙ at in
-              f_entry q (row_not_zero loops q tied.loops_fit (ap is_some old)) k.stored (are.entries q k old)
+              let old = sym (is q ∙ ap (λ b. cond b (Some (record { face = cell.face; stored = At h })) (row_at arena.loops q)) p.0) ∙ at in
+              f_entry q (row_not_zero arena.loops q tied.loops_fit (ap is_some old)) k.stored (are.entries q k old)
         ];
         stands = λ x b n. elim (IsIn_or_not x (ring sp h)) [
-          | inl i ↦ subst (StandsAt filled rows x) (sym (f_in x i)) (record { face = cell.face; entry = h; here = row_here loops rows l _ is; item = subst (IsIn x) (sym (f_ring h)) i })
+          | inl i ↦ subst (StandsAt filled rows x) (sym (f_in x i)) (record { face = cell.face; entry = h; here = row_here arena.loops rows l _ is; item = subst (IsIn x) (sym (f_ring h)) i })
           | inr m ↦
               let e = f_out x m in
               let s = are.stands x (sym (f_live x) ∙ b) (λ y. n (e ∙ y)) in
               let moved : StandsAt sp rows x (label sp x) = elim (eqb_tells (label sp x) l) [
-                | inl p ↦ subst (StandsAt sp rows x) (sym p.1) (no_stand_bare sp loops rows cell x l found bare (subst (StandsAt sp loops x) p.1 s))
-                | inr p ↦ record { face = s.face; entry = s.entry; here = is (label sp x) ∙ ap (λ b. cond b (Some (record { face = cell.face; stored = At h })) (row_at loops (label sp x))) p.0 ∙ s.here; item = s.item }
+                | inl p ↦ subst (StandsAt sp rows x) (sym p.1) (no_stand_bare sp arena.loops rows cell x l found bare (subst (StandsAt sp arena.loops x) p.1 s))
+                | inr p ↦ record { face = s.face; entry = s.entry; here = is (label sp x) ∙ ap (λ b. cond b (Some (record { face = cell.face; stored = At h })) (row_at arena.loops (label sp x))) p.0 ∙ s.here; item = s.item }
               ] in
               subst (StandsAt filled rows x) (sym e) (record { face = moved.face; entry = moved.entry; here = moved.here; item = subst (IsIn x) (sym (f_ring moved.entry)) moved.item })
         ];
       }
 
-      pub tied_fill : (known' : ℕ → Bool) (new : Spots) → new ≡ filled → RowsAreTied new known' solids faces rows vertices
-      tied_fill known' new e = subst (λ s. RowsAreTied s known' solids faces rows vertices) (sym e) (tied_with filled known' rows f_rings (f_live 0) f_loops (fits-write loops rows l _ tied.loops_fit l_not len is))
+      pub tied_fill : (known' : ℕ → Bool) (new : Spots) → new ≡ filled → RowsAreTied (record arena { spots = new; known = known'; loops = rows })
+      tied_fill known' new e = subst (λ s. RowsAreTied (record arena { spots = s; known = known'; loops = rows })) (sym e) (tied_with filled known' rows f_rings (f_live 0) f_loops (fits-write arena.loops rows l _ tied.loops_fit l_not len is))
 
-      pub store_fill : (known' : ℕ → Bool) → known' ≡ known → (new : Spots) → new ≡ filled → store_of new known' solids faces rows vertices ≡ fill S l h
+      pub store_fill : (known' : ℕ → Bool) → known' ≡ arena.known → (new : Spots) → new ≡ filled → store_of (record arena { spots = new; known = known'; loops = rows }) ≡ fill S l h
       unfolding fill
-      store_fill known' k new e = (λ i. store_of (e i) (k i) solids faces rows vertices)
-          ∙ store_is sp known solids faces loops vertices filled rows _ _ len (edges_same sp filled (λ q. tails-labelled sp l (ring sp h) q))
-          (loops_table sp filled loops rows are l (record { face = cell.face; stored = At h }) is (λ q c _ _ _. f_ring c)
+      store_fill known' k new e = (λ i. store_of (record arena { spots = e i; known = k i; loops = rows }))
+          ∙ store_is arena filled rows _ _ len (edges_same sp filled (λ q. tails-labelled sp l (ring sp h) q))
+          (loops_table sp filled arena.loops rows are l (record { face = cell.face; stored = At h }) is (λ q c _ _ _. f_ring c)
           ∙ ap (λ hs. put M.loops l (record { face = cell.face; content = cycle hs })) (f_ring h)
-          ∙ ap (λ f. put M.loops l (record { face = f; content = cycle (ring sp h) })) (sym (face_row_of sp known solids faces loops vertices tied l cell found))
-          ∙ ap (λ hs. put M.loops l (held_row M l (cycle hs))) (sym (loose_ring_is sp known solids faces loops vertices tied h a z)))
+          ∙ ap (λ f. put M.loops l (record { face = f; content = cycle (ring sp h) })) (sym (face_row_of arena tied l cell found))
+          ∙ ap (λ hs. put M.loops l (held_row M l (cycle hs))) (sym (loose_ring_is arena tied h a z)))
           (loose_removed sp filled R f_rings h a (λ x i. loose_none filled x (λ y. l_not (sym (f_in x i) ∙ y))) (λ x n. loose_alike sp filled x (f_live x) (f_out x n) (f_ring x))
-          ∙ ap (remove S.loose) (sym (loose_key_is sp known solids faces loops vertices tied h a z)))
+          ∙ ap (remove S.loose) (sym (loose_key_is arena tied h a z)))
 
-pub bare_of : (sp : Spots) (stored : StoredContent) → ((c : ℕ) → stored ≡ At c → ⊥) → items_of (stored_content sp stored) ≡ []
-bare_of sp Empty n = refl
-bare_of sp (Lone v) n = refl
-bare_of sp (At c) n = absurd (n c refl)
+pub bare_of : (spots : Spots) (stored : StoredContent) → ((c : ℕ) → stored ≡ At c → ⊥) → items_of (stored_content spots stored) ≡ []
+bare_of spots Empty n = refl
+bare_of spots (Lone v) n = refl
+bare_of spots (At c) n = absurd (n c refl)
 
 pub has-clear : (s : Store) (l : ℕ) → is_some (get (clear s l).model.loops l) ≡ true
 unfolding clear

@@ -3,13 +3,12 @@ use Rattle.std.proofs.Common.{◌≡◌, ◌≢◌, ℕ, ◌+◌, ◌≤◌, Boo
 use Rattle.std.proofs.lemmas.Bool.Decides.{eqb_tells}
 use Rattle.boundary_model.proofs.Members.{same_length}
 use Rattle.boundary_model.proofs.Tables.{passes, count-all_where}
-use Rattle.boundary_model.specs.declared.Point.{Point}
 use Rattle.boundary_model.specs.Items.{count, tick}
 use Rattle.boundary_model.proofs.Lists.{tick_same, tick_other}
 use Rattle.boundary_model.specs.Table as table
 use Rattle.boundary_model.specs.Table.{Table, get, all_where, same_table, get-put, get-remove}
 use Rattle.boundary_model.specs.Model.{rings_of, outer, no_face}
-use Rattle.arena_rows.specs.Common.{Owners, no_owners, put, take, owned, OwnersHaveGrown, Spots, map_row, table_of, names, store_of, face_row, loop_row, solid_numbers, face_numbers, AreIndexed}
+use Rattle.arena_rows.specs.Common.{ArenaRows, IsWhole, Owners, no_owners, put, take, owned, OwnersHaveGrown, Spots, map_row, table_of, names, store_of, face_row, loop_row, solid_numbers, face_numbers, AreIndexed}
 use Rattle.arena_rows.proofs.owner_chains_laws.Counting.{more}
 use Rattle.arena_rows.specs.declared.rows.FaceCell.{FaceCell}
 use Rattle.arena_rows.specs.declared.rows.LoopCell.{LoopCell}
@@ -78,13 +77,13 @@ module _ (sp : Spots) (loops : List (Option LoopCell)) (f out : ℕ) where
     go false = omega arith
 
 -- what the loops of a face say of its rings
-pub rings_counted : (sp : Spots) (known : ℕ → Bool) (solids : List (Option Bool)) (faces : List (Option FaceCell)) (loops : List (Option LoopCell)) (vertices : List (Option Point)) (ss fs : Owners) → AreIndexed solids faces loops ss fs →
-    (f : ℕ) (cell : FaceCell) → row_at faces f ≡ Some cell → (b : Bool) → names f (row_at loops cell.outer) ≡ b → length (owned f fs.owner_of) ≡ cond b 1 0 + length (rings_of (store_of sp known solids faces loops vertices).model f)
+pub rings_counted : (arena : ArenaRows) (ss fs : Owners) → IsWhole arena ss fs →
+    (f : ℕ) (cell : FaceCell) → row_at arena.faces f ≡ Some cell → (b : Bool) → names f (row_at arena.loops cell.outer) ≡ b → length (owned f fs.owner_of) ≡ cond b 1 0 + length (rings_of (store_of arena).model f)
 unfolding outer
-rings_counted sp known solids faces loops vertices ss fs indexed f cell found b e =
-    let M = (store_of sp known solids faces loops vertices).model in
-    let o : outer M f ≡ cell.outer = ap (λ r. (unwrap_or r no_face).outer) (read_row face_row faces f cell found) in
-    ap (λ t. length (owned f t)) indexed.of_faces ∙ ring_count_is sp loops f (outer M f) b (ap (λ n. names f (row_at loops n)) o ∙ e)
+rings_counted arena ss fs whole f cell found b e =
+    let M = (store_of arena).model in
+    let o : outer M f ≡ cell.outer = ap (λ r. (unwrap_or r no_face).outer) (read_row face_row arena.faces f cell found) in
+    ap (λ t. length (owned f t)) whole.indexed.of_faces ∙ ring_count_is arena.spots arena.loops f (outer M f) b (ap (λ n. names f (row_at arena.loops n)) o ∙ e)
 
 -- ---- what keeps it
 

@@ -1,28 +1,27 @@
 -- The next face of a solid and the next ring of a face, by what stands beside the rows.
-use Rattle.std.proofs.Common.{◌≡◌, ◌≢◌, ℕ, ◌<◌, Bool, true, false, cond, not, nat_eq, ◌&&◌, List, [], ◌∷◌, length, Option, Some, None, is_some, unwrap_or, refl, sym, ap, subst, ◌∙◌, arith, true≢false, eq-eqb, ne_eqb, inl, inr}
+use Rattle.std.proofs.Common.{◌≡◌, ◌≢◌, ℕ, ◌<◌, true, false, cond, not, nat_eq, ◌&&◌, List, [], ◌∷◌, length, Option, Some, None, is_some, unwrap_or, refl, sym, ap, subst, ◌∙◌, arith, true≢false, eq-eqb, ne_eqb, inl, inr}
 use Rattle.std.proofs.lemmas.Bool.Decides.{eqb_tells, leb_tells}
 use Rattle.boundary_model.proofs.Tables.{passes, count-all_where}
-use Rattle.boundary_model.specs.declared.Point.{Point}
 use Rattle.boundary_model.specs.Items.{count, IsIn}
 use Rattle.boundary_model.proofs.Lists.{tick_same, tick_other}
 use Rattle.boundary_model.proofs.Tests.{and_false}
 use Rattle.std.specs.Option.{option_eq}
 use Rattle.boundary_model.specs.Table.{get}
 use Rattle.boundary_model.specs.Model.{Model, FaceRow, solid_of, face_of, outer, is_ring_of, faces_of, no_face, no_loop}
-use Rattle.arena_rows.specs.Common.{Owners, owned, is_owner, IsNextItem, Spots, map_row, is_face_of, IsNextFace, IsNextRing, only_item, store_of, face_row, loop_row, AreIndexed}
+use Rattle.arena_rows.specs.Common.{ArenaRows, IsWhole, Owners, owned, is_owner, IsNextItem, map_row, is_face_of, IsNextFace, IsNextRing, only_item, store_of, face_row, loop_row}
 use Rattle.arena_rows.specs.declared.rows.FaceCell.{FaceCell}
 use Rattle.arena_rows.specs.declared.rows.LoopCell.{LoopCell}
 use Rattle.raw_cells.specs.Rows.{row_at}
 use Rattle.arena_rows.proofs.Views.{get-table_of}
 use Rattle.arena_rows.proofs.Indexed.{face_count_is}
 
-module _ (sp : Spots) (known : ℕ → Bool) (solids : List (Option Bool)) (faces : List (Option FaceCell)) (loops : List (Option LoopCell)) (vertices : List (Option Point)) (ss fs : Owners) (indexed : AreIndexed solids faces loops ss fs) where
+module _ (arena : ArenaRows) (ss fs : Owners) (whole : IsWhole arena ss fs) where
   abbrev M : Model
-  M = (store_of sp known solids faces loops vertices).model
+  M = (store_of arena).model
 
   pub face_test : (s k : ℕ) → is_owner s (get ss.owner_of k) ≡ is_face_of M s k
   unfolding solid_of
-  face_test s k = ap (λ t. is_owner s (get t k)) indexed.of_solids ∙ ap (is_owner s) (get-table_of (λ (cell : FaceCell). cell.solid) faces k) ∙ go (row_at faces k) ∙ sym (ap (λ o. is_some o && nat_eq (unwrap_or o no_face).solid s) (get-table_of face_row faces k)) where
+  face_test s k = ap (λ t. is_owner s (get t k)) whole.indexed.of_solids ∙ ap (is_owner s) (get-table_of (λ (cell : FaceCell). cell.solid) arena.faces k) ∙ go (row_at arena.faces k) ∙ sym (ap (λ o. is_some o && nat_eq (unwrap_or o no_face).solid s) (get-table_of face_row arena.faces k)) where
     go : (o : Option FaceCell) → is_owner s (map_row (λ (cell : FaceCell). cell.solid) o) ≡ is_some (map_row face_row o) && nat_eq (unwrap_or (map_row face_row o) no_face).solid s
     go None = refl
     go (Some cell) = refl
@@ -34,11 +33,11 @@ module _ (sp : Spots) (known : ℕ → Bool) (solids : List (Option Bool)) (face
   pub ring_test : (f k : ℕ) → is_owner f (get fs.owner_of k) && not (nat_eq (outer M f) k) ≡ is_ring_of M f k
   unfolding face_of
   ring_test f k =
-      ap (λ t. is_owner f (get t k) && not (nat_eq (outer M f) k)) indexed.of_faces
-      ∙ ap (λ o. is_owner f o && not (nat_eq (outer M f) k)) (get-table_of (λ (cell : LoopCell). cell.face) loops k)
-      ∙ go (row_at loops k) ∙ sym (ap (λ o. is_some o && nat_eq (unwrap_or o no_loop).face f && not (nat_eq (outer M f) k)) (get-table_of (loop_row sp) loops k))
+      ap (λ t. is_owner f (get t k) && not (nat_eq (outer M f) k)) whole.indexed.of_faces
+      ∙ ap (λ o. is_owner f o && not (nat_eq (outer M f) k)) (get-table_of (λ (cell : LoopCell). cell.face) arena.loops k)
+      ∙ go (row_at arena.loops k) ∙ sym (ap (λ o. is_some o && nat_eq (unwrap_or o no_loop).face f && not (nat_eq (outer M f) k)) (get-table_of (loop_row arena.spots) arena.loops k))
     where
-      go : (o : Option LoopCell) → is_owner f (map_row (λ (cell : LoopCell). cell.face) o) && not (nat_eq (outer M f) k) ≡ is_some (map_row (loop_row sp) o) && nat_eq (unwrap_or (map_row (loop_row sp) o) no_loop).face f && not (nat_eq (outer M f) k)
+      go : (o : Option LoopCell) → is_owner f (map_row (λ (cell : LoopCell). cell.face) o) && not (nat_eq (outer M f) k) ≡ is_some (map_row (loop_row arena.spots) o) && nat_eq (unwrap_or (map_row (loop_row arena.spots) o) no_loop).face f && not (nat_eq (outer M f) k)
       go None = refl
       go (Some cell) = refl
 
@@ -109,7 +108,7 @@ module _ (sp : Spots) (known : ℕ → Bool) (solids : List (Option Bool)) (face
     go (n ∷ k ∷ ns) h = refl
 
   -- a solid that has a face has one above 0
-  some_face : (s : ℕ) → row_at faces 0 ≡ None → length (faces_of M s) ≡ 1 → IsNextFace M s 0 None → ⊥
+  some_face : (s : ℕ) → row_at arena.faces 0 ≡ None → length (faces_of M s) ≡ 1 → IsNextFace M s 0 None → ⊥
   unfolding solid_of
   some_face s zero e none = no_one (faces_of M s) e (λ q. omega (arith, count-all_where (λ _ (row : FaceRow). nat_eq row.solid s) M.faces q, passing q)) where
     no_one : (ns : List ℕ) → length ns ≡ 1 → ((q : ℕ) → count q ns ≡ 0) → ⊥
@@ -122,15 +121,15 @@ module _ (sp : Spots) (known : ℕ → Bool) (solids : List (Option Bool)) (face
 
     passing : (q : ℕ) → passes (λ _ (row : FaceRow). nat_eq row.solid s) q (get M.faces q) ≡ 0
     passing q = elim (eqb_tells q 0) [
-      | inl p ↦ ap (λ k. passes (λ _ (row : FaceRow). nat_eq row.solid s) q (get M.faces k)) p.1 ∙ ap (passes (λ _ (row : FaceRow). nat_eq row.solid s) q) (get-table_of face_row faces 0 ∙ ap (map_row face_row) zero)
+      | inl p ↦ ap (λ k. passes (λ _ (row : FaceRow). nat_eq row.solid s) q (get M.faces k)) p.1 ∙ ap (passes (λ _ (row : FaceRow). nat_eq row.solid s) q) (get-table_of face_row arena.faces 0 ∙ ap (map_row face_row) zero)
       | inr p ↦ fails q (get M.faces q) (none q (omega (arith, p.1)))
     ]
 
   -- the only face of a solid, by its count and the next one above 0
   faces_counted : (s : ℕ) → length (owned s ss.owner_of) ≡ length (faces_of M s)
-  faces_counted s = ap (λ t. length (owned s t)) indexed.of_solids ∙ face_count_is faces s
+  faces_counted s = ap (λ t. length (owned s t)) whole.indexed.of_solids ∙ face_count_is arena.faces s
 
-  pub only_told : (s : ℕ) → row_at faces 0 ≡ None → length (owned s ss.owner_of) ≡ 1 → (r : Option ℕ) → IsNextItem ss.owner_of s 0 r → r ≡ only_item (faces_of M s)
+  pub only_told : (s : ℕ) → row_at arena.faces 0 ≡ None → length (owned s ss.owner_of) ≡ 1 → (r : Option ℕ) → IsNextItem ss.owner_of s 0 r → r ≡ only_item (faces_of M s)
   only_told s zero one r next = go r (next_face s 0 r next) where
     go : (r : Option ℕ) → IsNextFace M s 0 r → r ≡ only_item (faces_of M s)
     go None h = absurd (some_face s zero (sym (faces_counted s) ∙ one) h)

@@ -6,7 +6,7 @@ use Rattle.arena_rows.specs.declared.rows.FaceCell.{FaceCell}
 use Rattle.arena_rows.specs.declared.rows.LoopCell.{LoopCell}
 use Rattle.boundary_model.specs.Table.{get}
 use Rattle.raw_cells.specs.Rows.{row_at}
-use Rattle.arena_rows.specs.Common.{Store, Spots, label, store_of, RowsAreTied, Fits, AreLoops, loop_row, face_row, solid_row, map_row, within, has_room, HasGrown, edges_end, edge_room}
+use Rattle.arena_rows.specs.Common.{ArenaRows, Store, Spots, label, store_of, RowsAreTied, Fits, AreLoops, loop_row, face_row, solid_row, map_row, within, has_room, HasGrown, edges_end, edge_room}
 use Rattle.std.proofs.Common.{ℕ, ◌<◌, nat_le, nat_lt, Result, Ok, Err, OnOk, ◌≡◌, ◌-◌, ◌≤◌, Bool, true, List, length, Option, is_some, refl, sym, ap, subst, ◌∙◌, arith}
 use Rattle.boundary_model.specs.declared.Kind.{Kind}
 use Rattle.boundary_model.specs.HalfEdge.{plus, minus}
@@ -38,74 +38,74 @@ kinds_kept s t solids faces loops edges vertices Kind.Loop = loops
 kinds_kept s t solids faces loops edges vertices Kind.Edge = edges
 kinds_kept s t solids faces loops edges vertices Kind.Vertex = vertices
 
-module _ (sp : Spots) (known : ℕ → Bool) (solids : List (Option Bool)) (faces : List (Option FaceCell)) (loops : List (Option LoopCell)) (vertices : List (Option Point)) (tied : RowsAreTied sp known solids faces loops vertices) where
+module _ (arena : ArenaRows) (tied : RowsAreTied arena) where
   abbrev S : Store
-  S = store_of sp known solids faces loops vertices
+  S = store_of arena
 
-  module _ (new : List (Option Bool)) (same : (q : ℕ) → row_at new q ≡ row_at solids q) (grows : length solids ≤ length new) (limit : length new ≤ 1000001) where
-    pub grown_solids : HasGrown S (store_of sp known new faces loops vertices)
+  module _ (new : List (Option Bool)) (same : (q : ℕ) → row_at new q ≡ row_at arena.solids q) (grows : length arena.solids ≤ length new) (limit : length new ≤ 1000001) where
+    pub grown_solids : HasGrown S (store_of (record arena { solids = new }))
     grown_solids = record {
-      model = λ i. record S.model { solids = table_of-same solid_row solid_row solids new (λ q. ap (map_row solid_row) (same q)) i };
+      model = λ i. record S.model { solids = table_of-same solid_row solid_row arena.solids new (λ q. ap (map_row solid_row) (same q)) i };
       loose = refl;
-      kept = kinds_kept S (store_of sp known new faces loops vertices) (λ n. within_more n (length solids) (length new) grows) (λ n h. h) (λ n h. h) (λ n h. h) (λ n h. h);
+      kept = kinds_kept S (store_of (record arena { solids = new })) (λ n. within_more n (length arena.solids) (length new) grows) (λ n h. h) (λ n h. h) (λ n h. h) (λ n h. h);
     }
 
-  module _ (new : List (Option FaceCell)) (same : (q : ℕ) → row_at new q ≡ row_at faces q) (grows : length faces ≤ length new) (limit : length new ≤ 1000001) where
-    pub more_faces : RowsAreTied sp known solids new loops vertices
-    more_faces = tied_faces sp known solids faces loops vertices tied new (fits-same faces new tied.faces_fit same limit)
+  module _ (new : List (Option FaceCell)) (same : (q : ℕ) → row_at new q ≡ row_at arena.faces q) (grows : length arena.faces ≤ length new) (limit : length new ≤ 1000001) where
+    pub more_faces : RowsAreTied (record arena { faces = new })
+    more_faces = tied_faces arena tied new (fits-same arena.faces new tied.faces_fit same limit)
 
-    pub grown_faces : HasGrown S (store_of sp known solids new loops vertices)
+    pub grown_faces : HasGrown S (store_of (record arena { faces = new }))
     grown_faces = record {
-      model = λ i. record S.model { faces = table_of-same face_row face_row faces new (λ q. ap (map_row face_row) (same q)) i };
+      model = λ i. record S.model { faces = table_of-same face_row face_row arena.faces new (λ q. ap (map_row face_row) (same q)) i };
       loose = refl;
-      kept = kinds_kept S (store_of sp known solids new loops vertices) (λ n h. h) (λ n. within_more n (length faces) (length new) grows) (λ n h. h) (λ n h. h) (λ n h. h);
+      kept = kinds_kept S (store_of (record arena { faces = new })) (λ n h. h) (λ n. within_more n (length arena.faces) (length new) grows) (λ n h. h) (λ n h. h) (λ n h. h);
     }
 
-  module _ (new : List (Option LoopCell)) (same : (q : ℕ) → row_at new q ≡ row_at loops q) (grows : length loops ≤ length new) (limit : length new ≤ 1000001) where
-    loops_same_rows : AreLoops sp new
+  module _ (new : List (Option LoopCell)) (same : (q : ℕ) → row_at new q ≡ row_at arena.loops q) (grows : length arena.loops ≤ length new) (limit : length new ≤ 1000001) where
+    loops_same_rows : AreLoops arena.spots new
     loops_same_rows = record {
       entries = λ q cell at. tied.loops_tied.entries q cell (sym (same q) ∙ at);
-      stands = λ h a n. let s = tied.loops_tied.stands h a n in record { face = s.face; entry = s.entry; here = same (label sp h) ∙ s.here; item = s.item };
+      stands = λ h a n. let s = tied.loops_tied.stands h a n in record { face = s.face; entry = s.entry; here = same (label arena.spots h) ∙ s.here; item = s.item };
     }
 
-    pub more_loops : RowsAreTied sp known solids faces new vertices
-    more_loops = tied_loops sp known solids faces loops vertices tied new (fits-same loops new tied.loops_fit same limit) loops_same_rows
+    pub more_loops : RowsAreTied (record arena { loops = new })
+    more_loops = tied_loops arena tied new (fits-same arena.loops new tied.loops_fit same limit) loops_same_rows
 
-    pub grown_loops : HasGrown S (store_of sp known solids faces new vertices)
+    pub grown_loops : HasGrown S (store_of (record arena { loops = new }))
     grown_loops = record {
-      model = λ i. record S.model { loops = table_of-same (loop_row sp) (loop_row sp) loops new (λ q. ap (map_row (loop_row sp)) (same q)) i };
+      model = λ i. record S.model { loops = table_of-same (loop_row arena.spots) (loop_row arena.spots) arena.loops new (λ q. ap (map_row (loop_row arena.spots)) (same q)) i };
       loose = refl;
-      kept = kinds_kept S (store_of sp known solids faces new vertices) (λ n h. h) (λ n h. h) (λ n. within_more n (length loops) (length new) grows) (λ n h. h) (λ n h. h);
+      kept = kinds_kept S (store_of (record arena { loops = new })) (λ n h. h) (λ n h. h) (λ n. within_more n (length arena.loops) (length new) grows) (λ n h. h) (λ n h. h);
     }
 
-  module _ (new : List (Option Point)) (same : (q : ℕ) → row_at new q ≡ row_at vertices q) (grows : length vertices ≤ length new) (limit : length new ≤ 1000001) where
-    pub more_vertices : RowsAreTied sp known solids faces loops new
-    more_vertices = tied_vertices sp known solids faces loops vertices tied new (fits-same vertices new tied.vertices_fit same limit) (λ v p at. tied.points v p (sym (same v) ∙ at))
+  module _ (new : List (Option Point)) (same : (q : ℕ) → row_at new q ≡ row_at arena.vertices q) (grows : length arena.vertices ≤ length new) (limit : length new ≤ 1000001) where
+    pub more_vertices : RowsAreTied (record arena { vertices = new })
+    more_vertices = tied_vertices arena tied new (fits-same arena.vertices new tied.vertices_fit same limit) (λ v p at. tied.points v p (sym (same v) ∙ at))
 
-    pub grown_vertices : HasGrown S (store_of sp known solids faces loops new)
+    pub grown_vertices : HasGrown S (store_of (record arena { vertices = new }))
     grown_vertices = record {
-      model = λ i. record S.model { vertices = table_of-same (λ p. p) (λ p. p) vertices new (λ q. ap (map_row (λ p. p)) (same q)) i };
+      model = λ i. record S.model { vertices = table_of-same (λ p. p) (λ p. p) arena.vertices new (λ q. ap (map_row (λ p. p)) (same q)) i };
       loose = refl;
-      kept = kinds_kept S (store_of sp known solids faces loops new) (λ n h. h) (λ n h. h) (λ n h. h) (λ n h. h) (λ n. within_more n (length vertices) (length new) grows);
+      kept = kinds_kept S (store_of (record arena { vertices = new })) (λ n h. h) (λ n h. h) (λ n h. h) (λ n h. h) (λ n. within_more n (length arena.vertices) (length new) grows);
     }
 
-  module _ (sp' : Spots) (known' : ℕ → Bool) (spots : sp' ≡ sp) (keeps : (c : ℕ) → known c ≡ true → known' c ≡ true) where
-    pub more_edges : RowsAreTied sp' known' solids faces loops vertices
-    more_edges = subst (λ s. RowsAreTied s known' solids faces loops vertices) (sym spots) (record { rings = tied.rings; no_edge = tied.no_edge; loops_tied = tied.loops_tied; solids_fit = tied.solids_fit; faces_fit = tied.faces_fit; loops_fit = tied.loops_fit; vertices_fit = tied.vertices_fit; points = tied.points })
+  module _ (sp' : Spots) (known' : ℕ → Bool) (spots : sp' ≡ arena.spots) (keeps : (c : ℕ) → arena.known c ≡ true → known' c ≡ true) where
+    pub more_edges : RowsAreTied (record arena { spots = sp'; known = known' })
+    more_edges = subst (λ s. RowsAreTied (record arena { spots = s; known = known' })) (sym spots) (record { rings = tied.rings; no_edge = tied.no_edge; loops_tied = tied.loops_tied; solids_fit = tied.solids_fit; faces_fit = tied.faces_fit; loops_fit = tied.loops_fit; vertices_fit = tied.vertices_fit; points = tied.points })
 
-    room_kept : (e : ℕ) → is_some (get (tabulate (edge_room known) edges_end) e) ≡ true → is_some (get (tabulate (edge_room known') edges_end) e) ≡ true
+    room_kept : (e : ℕ) → is_some (get (tabulate (edge_room arena.known) edges_end) e) ≡ true → is_some (get (tabulate (edge_room known') edges_end) e) ≡ true
     room_kept e h =
-        let r = sym (edge_has_room known e) ∙ h in
+        let r = sym (edge_has_room arena.known e) ∙ h in
         let rest = and_second (nat_le e 1000000) _ r in
         let keys = and_second (nat_lt 0 e) _ rest in
         edge_has_room known' e ∙ and_from (nat_le e 1000000) _ (and_first (nat_le e 1000000) _ r)
-        (and_from (nat_lt 0 e) _ (and_first (nat_lt 0 e) _ rest) (and_from (known' (plus e)) _ (keeps (plus e) (and_first (known (plus e)) _ keys)) (keeps (minus e) (and_second (known (plus e)) _ keys))))
+        (and_from (nat_lt 0 e) _ (and_first (nat_lt 0 e) _ rest) (and_from (known' (plus e)) _ (keeps (plus e) (and_first (arena.known (plus e)) _ keys)) (keeps (minus e) (and_second (arena.known (plus e)) _ keys))))
 
-    pub grown_edges : HasGrown S (store_of sp' known' solids faces loops vertices)
+    pub grown_edges : HasGrown S (store_of (record arena { spots = sp'; known = known' }))
     grown_edges = record {
-      model = λ i. (store_of (spots i) known' solids faces loops vertices).model;
-      loose = λ i. (store_of (spots i) known' solids faces loops vertices).loose;
-      kept = kinds_kept S (store_of sp' known' solids faces loops vertices) (λ n h. h) (λ n h. h) (λ n h. h) room_kept (λ n h. h);
+      model = λ i. (store_of (record arena { spots = spots i; known = known' })).model;
+      loose = λ i. (store_of (record arena { spots = spots i; known = known' })).loose;
+      kept = kinds_kept S (store_of (record arena { spots = sp'; known = known' })) (λ n h. h) (λ n h. h) (λ n h. h) room_kept (λ n h. h);
     }
 
 pub edges_ok : {E : Type 0} (known : ℕ → Bool) (r : Result (Unit {0}) E) (e : ℕ) → 1 ≤ e → e ≤ 1000000 → OnOk r ((known (plus e) ≡ true) × (known (minus e) ≡ true)) → OnOk r (is_some (get (tabulate (edge_room known) edges_end) e) ≡ true)

@@ -1,32 +1,33 @@
 -- What the model says, by the nodes.
 use Rattle.arena_rows.proofs.ring_spots_laws.SpotTables.{half_is, half_live, row_live, edges_at, key_is, got_loose}
-use Rattle.std.proofs.Common.{◌≡◌, ◌≢◌, ℕ, Bool, true, false, cond, List, [], Option, Some, None, unwrap_or, refl, sym, ap, subst, ◌∙◌, arith, inl, inr}
+use Rattle.std.proofs.Common.{◌≡◌, ◌≢◌, ℕ, true, false, cond, [], Option, Some, None, unwrap_or, refl, sym, ap, subst, ◌∙◌, arith, inl, inr}
 use Rattle.std.proofs.lemmas.Bool.Decides.{eqb_tells}
 use Rattle.std.proofs.lemmas.Option.{same_Some}
-use Rattle.boundary_model.specs.declared.Point.{Point}
 use Rattle.boundary_model.specs.Items.{IsIn, head_or}
 use Rattle.boundary_model.specs.Rings.{successor, predecessor}
 use Rattle.boundary_model.proofs.Rings.{next_is_successor, predecessor-successor}
-use Rattle.arena_rows.specs.declared.rows.FaceCell.{FaceCell}
 use Rattle.arena_rows.specs.declared.rows.LoopCell.{LoopCell}
 use Rattle.arena_rows.specs.declared.rows.StoredContent.{StoredContent}
 use Rattle.arena_rows.specs.declared.rows.StoredContent.TheVariants.{Empty, Lone, At}
 use Rattle.boundary_model.specs.HalfEdge.{plus, minus, edge_of, is_first}
 use Rattle.boundary_model.specs.Table.{get}
 use Rattle.raw_cells.specs.Rows.{row_at}
-use Rattle.arena_rows.specs.Common.{map_row, Store, loose_key, loose_ring, Spots, live, next, label, tail_at, ring, AreRings, store_of, RowsAreTied, stored_content, loop_row, HasEntry}
+use Rattle.arena_rows.specs.Common.{ArenaRows, map_row, Store, loose_key, loose_ring, Spots, live, next, label, tail_at, ring, AreRings, store_of, RowsAreTied, stored_content, loop_row, HasEntry}
 use Rattle.boundary_model.specs.Model.{Model, lone, cycle, LoopRow, holds, items_of, has_half, tail, tail_in, loop_of, content, face_of, cycle_of, after, before, no_loop, no_edge}
 use Rattle.boundary_model.proofs.Tables.{first_where_is, first_where_zero}
 use Rattle.boundary_model.proofs.Models.{holds_in, in-holds}
 use Rattle.arena_rows.proofs.Views.{get-table_of}
 use Rattle.arena_rows.proofs.ring_spots_laws.SpotLaws.{ring_same, next_in_ring}
 
-module _ (sp : Spots) (known : ℕ → Bool) (solids : List (Option Bool)) (faces : List (Option FaceCell)) (loops : List (Option LoopCell)) (vertices : List (Option Point)) (tied : RowsAreTied sp known solids faces loops vertices) where
+module _ (arena : ArenaRows) (tied : RowsAreTied arena) where
+  abbrev sp : Spots
+  sp = arena.spots
+
   abbrev R : AreRings sp
   R = tied.rings
 
   abbrev S : Store
-  S = store_of sp known solids faces loops vertices
+  S = store_of arena
 
   abbrev M : Model
   M = S.model
@@ -51,8 +52,8 @@ module _ (sp : Spots) (known : ℕ → Bool) (solids : List (Option Bool)) (face
       (o.one_label h i ∙ e.1, o.awake h i, ap cycle (sym (ring_same sp R c h e.0 i)))
 
   pub row_holds : (h q : ℕ) (row : LoopRow) → get M.loops q ≡ Some row → holds h row.content ≡ true → (label sp h ≡ q) × (live sp h ≡ true) × (row.content ≡ cycle (ring sp h))
-  row_holds h q row at k = go (row_at loops q) refl (sym (get-table_of (loop_row sp) loops q) ∙ at) where
-    go : (o : Option LoopCell) → row_at loops q ≡ o → map_row (loop_row sp) o ≡ Some row → (label sp h ≡ q) × (live sp h ≡ true) × (row.content ≡ cycle (ring sp h))
+  row_holds h q row at k = go (row_at arena.loops q) refl (sym (get-table_of (loop_row sp) arena.loops q) ∙ at) where
+    go : (o : Option LoopCell) → row_at arena.loops q ≡ o → map_row (loop_row sp) o ≡ Some row → (label sp h ≡ q) × (live sp h ≡ true) × (row.content ≡ cycle (ring sp h))
     go None e s = cc
     go (Some cell) e s =
         let r : row ≡ loop_row sp cell = sym (same_Some _ _ s) in
@@ -64,14 +65,14 @@ module _ (sp : Spots) (known : ℕ → Bool) (solids : List (Option Bool)) (face
   row_of_label h a n =
       let s = tied.loops_tied.stands h a n in
       let e = tied.loops_tied.entries (label sp h) (record { face = s.face; stored = At s.entry }) s.here in
-      get-table_of (loop_row sp) loops (label sp h) ∙ ap (map_row (loop_row sp)) s.here ∙ ap (λ hs. Some (record { face = s.face; content = cycle hs })) (sym (ring_same sp R s.entry h e.0 s.item))
+      get-table_of (loop_row sp) arena.loops (label sp h) ∙ ap (map_row (loop_row sp)) s.here ∙ ap (λ hs. Some (record { face = s.face; content = cycle hs })) (sym (ring_same sp R s.entry h e.0 s.item))
 
   in_loop : (h : ℕ) → live sp h ≡ true → label sp h ≢ 0 → loop_of M h ≡ label sp h
   unfolding loop_of
   in_loop h a n = first_where_is (λ _ row. holds h row.content) M.loops (label sp h) _ (row_of_label h a n) (in-holds h (cycle (ring sp h)) (R.rings h a).item) (λ q row at k. sym (row_holds h q row at k).0)
 
   no_row_zero : (row : LoopRow) → get M.loops 0 ≢ Some row
-  no_row_zero row at = let e = sym (get-table_of (loop_row sp) loops 0 ∙ ap (map_row (loop_row sp)) tied.loops_fit.no_zero) ∙ at in cc
+  no_row_zero row at = let e = sym (get-table_of (loop_row sp) arena.loops 0 ∙ ap (map_row (loop_row sp)) tied.loops_fit.no_zero) ∙ at in cc
 
   in_none : (h : ℕ) → label sp h ≡ 0 → loop_of M h ≡ 0
   unfolding loop_of
@@ -90,13 +91,13 @@ module _ (sp : Spots) (known : ℕ → Bool) (solids : List (Option Bool)) (face
   pub cycle_of_is : (h : ℕ) → live sp h ≡ true → label sp h ≢ 0 → cycle_of M h ≡ ring sp h
   cycle_of_is h a n = ap (λ l. items_of (content M l)) (loop_of_is h a) ∙ ap items_of (content_of_label h a n)
 
-  pub content_row : (l : ℕ) (cell : LoopCell) → row_at loops l ≡ Some cell → content M l ≡ stored_content sp cell.stored
+  pub content_row : (l : ℕ) (cell : LoopCell) → row_at arena.loops l ≡ Some cell → content M l ≡ stored_content sp cell.stored
   unfolding content
-  content_row l cell at = ap (λ o. (unwrap_or o no_loop).content) (get-table_of (loop_row sp) loops l ∙ ap (map_row (loop_row sp)) at)
+  content_row l cell at = ap (λ o. (unwrap_or o no_loop).content) (get-table_of (loop_row sp) arena.loops l ∙ ap (map_row (loop_row sp)) at)
 
-  pub face_row_of : (l : ℕ) (cell : LoopCell) → row_at loops l ≡ Some cell → face_of M l ≡ cell.face
+  pub face_row_of : (l : ℕ) (cell : LoopCell) → row_at arena.loops l ≡ Some cell → face_of M l ≡ cell.face
   unfolding face_of
-  face_row_of l cell at = ap (λ o. (unwrap_or o no_loop).face) (get-table_of (loop_row sp) loops l ∙ ap (map_row (loop_row sp)) at)
+  face_row_of l cell at = ap (λ o. (unwrap_or o no_loop).face) (get-table_of (loop_row sp) arena.loops l ∙ ap (map_row (loop_row sp)) at)
 
   pub loose_key_is : (h : ℕ) → live sp h ≡ true → label sp h ≡ 0 → loose_key S h ≡ head_or 0 (ring sp h)
   unfolding loose_key
@@ -129,5 +130,5 @@ module _ (sp : Spots) (known : ℕ → Bool) (solids : List (Option Bool)) (face
   pub loose_before : (h r : ℕ) → live sp h ≡ true → live sp r ≡ true → next sp r ≡ h → loop_of M h ≡ 0 → r ≡ predecessor (loose_ring S h) h
   loose_before h r a b e z = prev_predecessor h r b e ∙ ap (λ hs. predecessor hs h) (sym (loose_ring_is h a (sym (loop_of_is h a) ∙ z)))
 
-  pub entry_in : (l c : ℕ) (cell : LoopCell) → row_at loops l ≡ Some cell → cell.stored ≡ At c → IsIn c (ring sp c)
+  pub entry_in : (l c : ℕ) (cell : LoopCell) → row_at arena.loops l ≡ Some cell → cell.stored ≡ At c → IsIn c (ring sp c)
   entry_in l c cell at e = (R.rings c (subst (HasEntry sp l) e (tied.loops_tied.entries l cell at)).0).item

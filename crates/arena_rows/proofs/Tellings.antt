@@ -1,17 +1,15 @@
 -- The tables of loops, edges and loose rings, where the nodes change.
 use Rattle.arena_rows.proofs.ring_spots_laws.SpotTables.{loose_put}
-use Rattle.std.proofs.Common.{◌≡◌, ◌≢◌, ℕ, ◌-◌, Bool, true, cond, nat_eq, List, [], ◌∷◌, length, Option, Some, None, is_some, refl, sym, ap, subst, ◌∙◌, arith, true≢false, inl, inr}
+use Rattle.std.proofs.Common.{◌≡◌, ◌≢◌, ℕ, ◌-◌, true, cond, nat_eq, List, [], ◌∷◌, length, Option, Some, None, is_some, refl, sym, ap, subst, ◌∙◌, arith, true≢false, inl, inr}
 use Rattle.std.proofs.lemmas.Bool.Decides.{eqb_tells}
 use Rattle.std.proofs.lemmas.Option.{same_Some}
-use Rattle.boundary_model.specs.declared.Point.{Point}
 use Rattle.boundary_model.specs.Items.{count, IsIn, head_or}
-use Rattle.arena_rows.specs.declared.rows.FaceCell.{FaceCell}
 use Rattle.arena_rows.specs.declared.rows.LoopCell.{LoopCell}
 use Rattle.arena_rows.specs.declared.rows.StoredContent.{StoredContent}
 use Rattle.arena_rows.specs.declared.rows.StoredContent.TheVariants.{Empty, Lone, At}
 use Rattle.boundary_model.specs.Table.{Table, get, put, tabulate, get-put, same_table}
 use Rattle.raw_cells.specs.Rows.{row_at}
-use Rattle.arena_rows.specs.Common.{map_row, table_of, Store, loosened, Spots, codes, live, label, ring, AreRings, store_of, stored_content, loop_row, HasEntry, AreLoops, StandsAt, edge_row, loose_row}
+use Rattle.arena_rows.specs.Common.{ArenaRows, map_row, table_of, Store, loosened, Spots, codes, live, label, ring, AreRings, store_of, stored_content, loop_row, HasEntry, AreLoops, StandsAt, edge_row, loose_row}
 use Rattle.boundary_model.specs.Model.{cycle, LoopRow}
 use Rattle.arena_rows.proofs.Views.{get-table_of}
 use Rattle.arena_rows.proofs.ring_spots_laws.SpotLaws.{ring_same}
@@ -85,10 +83,10 @@ same_loop sp loops R are a c k j n e =
     let i : IsIn c (ring sp s.entry) = subst (λ w. IsIn c (ring sp w)) d t.item in
     subst (IsIn c) (sym (ring_same sp R s.entry a h.0 s.item)) i
 
-module _ (sp : Spots) (known : ℕ → Bool) (solids : List (Option Bool)) (faces : List (Option FaceCell)) (loops : List (Option LoopCell)) (vertices : List (Option Point)) where
+module _ (arena : ArenaRows) where
   abbrev S : Store
-  S = store_of sp known solids faces loops vertices
+  S = store_of arena
 
-  pub store_is : (new : Spots) (rows : List (Option LoopCell)) (t : Table LoopRow) (u : Table (List ℕ)) → length rows ≡ length loops → tabulate (edge_row new) codes ≡ S.model.edges → table_of (loop_row new) rows ≡ t → tabulate (loose_row new) codes ≡ u →
-      store_of new known solids faces rows vertices ≡ record S { model = record S.model { loops = t }; loose = u }
+  pub store_is : (new : Spots) (rows : List (Option LoopCell)) (t : Table LoopRow) (u : Table (List ℕ)) → length rows ≡ length arena.loops → tabulate (edge_row new) codes ≡ S.model.edges → table_of (loop_row new) rows ≡ t → tabulate (loose_row new) codes ≡ u →
+      store_of (record arena { spots = new; loops = rows }) ≡ record S { model = record S.model { loops = t }; loose = u }
   store_is new rows t u len e f g = λ i. record S { model = record S.model { edges = e i; loops = f i }; loose = g i; room = record S.room { loops = len i - 1 } }

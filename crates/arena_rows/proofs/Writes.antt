@@ -11,38 +11,38 @@ use Rattle.arena_rows.specs.declared.rows.StoredContent.{StoredContent}
 use Rattle.arena_rows.specs.declared.rows.StoredContent.TheVariants.{Empty}
 use Rattle.boundary_model.specs.Table.{Table}
 use Rattle.raw_cells.specs.Rows.{row_at}
-use Rattle.arena_rows.specs.Common.{table_of, Store, Spots, live, label, ring, store_of, RowsAreTied, Fits, AreLoops, HasEntry, StandsAt, stored_content, loop_row, face_row, solid_row}
+use Rattle.arena_rows.specs.Common.{ArenaRows, table_of, Store, Spots, live, label, ring, store_of, RowsAreTied, Fits, AreLoops, HasEntry, StandsAt, stored_content, loop_row, face_row, solid_row}
 use Rattle.boundary_model.specs.Model.{cycle, FaceRow, LoopRow, items_of}
 
 pub row_here : {X : Type 0} (rows new : List (Option X)) (n : ℕ) (x : Option X) → ((q : ℕ) → row_at new q ≡ cond (nat_eq q n) x (row_at rows q)) → row_at new n ≡ x
 row_here rows new n x is = is n ∙ ap (λ b. cond b x (row_at rows n)) (eq-eqb n n refl)
 
-module _ (sp : Spots) (known : ℕ → Bool) (solids : List (Option Bool)) (faces : List (Option FaceCell)) (loops : List (Option LoopCell)) (vertices : List (Option Point)) (tied : RowsAreTied sp known solids faces loops vertices) where
+module _ (arena : ArenaRows) (tied : RowsAreTied arena) where
   abbrev S : Store
-  S = store_of sp known solids faces loops vertices
+  S = store_of arena
 
-  pub tied_solids : (new : List (Option Bool)) → Fits new → RowsAreTied sp known new faces loops vertices
+  pub tied_solids : (new : List (Option Bool)) → Fits new → RowsAreTied (record arena { solids = new })
   tied_solids new fits = record { rings = tied.rings; no_edge = tied.no_edge; loops_tied = tied.loops_tied; solids_fit = fits; faces_fit = tied.faces_fit; loops_fit = tied.loops_fit; vertices_fit = tied.vertices_fit; points = tied.points }
 
-  pub store_solids : (new : List (Option Bool)) (t : Table (Unit {0})) → length new ≡ length solids → table_of solid_row new ≡ t → store_of sp known new faces loops vertices ≡ record S { model = record S.model { solids = t } }
+  pub store_solids : (new : List (Option Bool)) (t : Table (Unit {0})) → length new ≡ length arena.solids → table_of solid_row new ≡ t → store_of (record arena { solids = new }) ≡ record S { model = record S.model { solids = t } }
   store_solids new t len e = λ i. record S { model = record S.model { solids = e i }; room = record S.room { solids = len i - 1 } }
 
-  pub tied_faces : (new : List (Option FaceCell)) → Fits new → RowsAreTied sp known solids new loops vertices
+  pub tied_faces : (new : List (Option FaceCell)) → Fits new → RowsAreTied (record arena { faces = new })
   tied_faces new fits = record { rings = tied.rings; no_edge = tied.no_edge; loops_tied = tied.loops_tied; solids_fit = tied.solids_fit; faces_fit = fits; loops_fit = tied.loops_fit; vertices_fit = tied.vertices_fit; points = tied.points }
 
-  pub store_faces : (new : List (Option FaceCell)) (t : Table FaceRow) → length new ≡ length faces → table_of face_row new ≡ t → store_of sp known solids new loops vertices ≡ record S { model = record S.model { faces = t } }
+  pub store_faces : (new : List (Option FaceCell)) (t : Table FaceRow) → length new ≡ length arena.faces → table_of face_row new ≡ t → store_of (record arena { faces = new }) ≡ record S { model = record S.model { faces = t } }
   store_faces new t len e = λ i. record S { model = record S.model { faces = e i }; room = record S.room { faces = len i - 1 } }
 
-  pub tied_vertices : (new : List (Option Point)) → Fits new → ((v : ℕ) (p : Point) → row_at new v ≡ Some p → IsInRange p) → RowsAreTied sp known solids faces loops new
+  pub tied_vertices : (new : List (Option Point)) → Fits new → ((v : ℕ) (p : Point) → row_at new v ≡ Some p → IsInRange p) → RowsAreTied (record arena { vertices = new })
   tied_vertices new fits points = record { rings = tied.rings; no_edge = tied.no_edge; loops_tied = tied.loops_tied; solids_fit = tied.solids_fit; faces_fit = tied.faces_fit; loops_fit = tied.loops_fit; vertices_fit = fits; points = points }
 
-  pub store_vertices : (new : List (Option Point)) (t : Table Point) → length new ≡ length vertices → table_of (λ p. p) new ≡ t → store_of sp known solids faces loops new ≡ record S { model = record S.model { vertices = t } }
+  pub store_vertices : (new : List (Option Point)) (t : Table Point) → length new ≡ length arena.vertices → table_of (λ p. p) new ≡ t → store_of (record arena { vertices = new }) ≡ record S { model = record S.model { vertices = t } }
   store_vertices new t len e = λ i. record S { model = record S.model { vertices = e i }; room = record S.room { vertices = len i - 1 } }
 
-  pub tied_loops : (new : List (Option LoopCell)) → Fits new → AreLoops sp new → RowsAreTied sp known solids faces new vertices
+  pub tied_loops : (new : List (Option LoopCell)) → Fits new → AreLoops arena.spots new → RowsAreTied (record arena { loops = new })
   tied_loops new fits are = record { rings = tied.rings; no_edge = tied.no_edge; loops_tied = are; solids_fit = tied.solids_fit; faces_fit = tied.faces_fit; loops_fit = fits; vertices_fit = tied.vertices_fit; points = tied.points }
 
-  pub store_loops : (new : List (Option LoopCell)) (t : Table LoopRow) → length new ≡ length loops → table_of (loop_row sp) new ≡ t → store_of sp known solids faces new vertices ≡ record S { model = record S.model { loops = t } }
+  pub store_loops : (new : List (Option LoopCell)) (t : Table LoopRow) → length new ≡ length arena.loops → table_of (loop_row arena.spots) new ≡ t → store_of (record arena { loops = new }) ≡ record S { model = record S.model { loops = t } }
   store_loops new t len e = λ i. record S { model = record S.model { loops = e i }; room = record S.room { loops = len i - 1 } }
 
 -- points stay in range

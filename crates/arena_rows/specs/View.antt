@@ -13,6 +13,8 @@ use Rattle.boundary_model.specs.Model.{LoopContent, lone, cycle, FaceRow, LoopRo
 use Rattle.arena_rows.specs.Store.{Store}
 use Rattle.arena_rows.specs.ring_spots.Spots.{Spots, codes, edges_end, live, label, ring, AreRings}
 use Rattle.raw_cells.specs.Rows.{row_at}
+use Rattle.raw_ring.specs.Rings.{RingMap, spot}
+use Rattle.std.specs.FinMap.{contains_key}
 use Rattle.arena_rows.specs.Rows.{table_of}
 use Rattle.arena_rows.specs.owner_chains.Owners.{Owners}
 
@@ -30,22 +32,34 @@ stored_content sp (At c) = cycle (ring sp c)
 abbrev pub loop_row : Spots → LoopCell → LoopRow
 loop_row sp cell = record { face = cell.face; content = stored_content sp cell.stored }
 
-abbrev pub store_of : Spots → (ℕ → Bool) → List (Option Bool) → List (Option FaceCell) → List (Option LoopCell) → List (Option Point) → Store
-store_of sp known solids faces loops vertices = record {
+-- where each code stands, which codes have a node, and the rows by number
+pub record ArenaRows : Type 0 where
+  pub spots : Spots
+  pub known : ℕ → Bool
+  pub solids : List (Option Bool)
+  pub faces : List (Option FaceCell)
+  pub loops : List (Option LoopCell)
+  pub vertices : List (Option Point)
+
+abbrev pub arena_of : RingMap → List (Option Bool) → List (Option FaceCell) → List (Option LoopCell) → List (Option Point) → ArenaRows
+arena_of rings solids faces loops vertices = record { spots = spot rings; known = contains_key rings; solids = solids; faces = faces; loops = loops; vertices = vertices }
+
+abbrev pub store_of : ArenaRows → Store
+store_of arena = record {
   model = record {
-    solids = table_of solid_row solids;
-    faces = table_of face_row faces;
-    loops = table_of (loop_row sp) loops;
-    edges = tabulate (edge_row sp) codes;
-    vertices = table_of (λ p. p) vertices;
+    solids = table_of solid_row arena.solids;
+    faces = table_of face_row arena.faces;
+    loops = table_of (loop_row arena.spots) arena.loops;
+    edges = tabulate (edge_row arena.spots) codes;
+    vertices = table_of (λ p. p) arena.vertices;
   };
-  loose = tabulate (loose_row sp) codes;
+  loose = tabulate (loose_row arena.spots) codes;
   room = record {
-    solids = length solids - 1;
-    faces = length faces - 1;
-    loops = length loops - 1;
-    edges = tabulate (edge_room known) edges_end;
-    vertices = length vertices - 1;
+    solids = length arena.solids - 1;
+    faces = length arena.faces - 1;
+    loops = length arena.loops - 1;
+    edges = tabulate (edge_room arena.known) edges_end;
+    vertices = length arena.vertices - 1;
   };
 }
 
@@ -71,15 +85,15 @@ pub record AreLoops (sp : Spots) (loops : List (Option LoopCell)) : Type 0 where
   pub entries : (l : ℕ) (cell : LoopCell) → row_at loops l ≡ Some cell → HasEntry sp l cell.stored
   pub stands : (h : ℕ) → live sp h ≡ true → label sp h ≢ 0 → StandsAt sp loops h (label sp h)
 
-pub record RowsAreTied (sp : Spots) (known : ℕ → Bool) (solids : List (Option Bool)) (faces : List (Option FaceCell)) (loops : List (Option LoopCell)) (vertices : List (Option Point)) : Type 0 where
-  pub rings : AreRings sp
-  pub no_edge : live sp 0 ≢ true
-  pub loops_tied : AreLoops sp loops
-  pub solids_fit : Fits solids
-  pub faces_fit : Fits faces
-  pub loops_fit : Fits loops
-  pub vertices_fit : Fits vertices
-  pub points : (v : ℕ) (p : Point) → row_at vertices v ≡ Some p → IsInRange p
+pub record RowsAreTied (arena : ArenaRows) : Type 0 where
+  pub rings : AreRings arena.spots
+  pub no_edge : live arena.spots 0 ≢ true
+  pub loops_tied : AreLoops arena.spots arena.loops
+  pub solids_fit : Fits arena.solids
+  pub faces_fit : Fits arena.faces
+  pub loops_fit : Fits arena.loops
+  pub vertices_fit : Fits arena.vertices
+  pub points : (v : ℕ) (p : Point) → row_at arena.vertices v ≡ Some p → IsInRange p
 
 -- the solid of each face, and the face of each loop
 abbrev pub solid_numbers : List (Option FaceCell) → Table ℕ
@@ -97,6 +111,6 @@ pub record AreIndexed (solids : List (Option Bool)) (faces : List (Option FaceCe
   pub face_items : length faces ≤ solid_faces.items_end
   pub loop_items : length loops ≤ face_loops.items_end
 
-pub record IsWhole (sp : Spots) (known : ℕ → Bool) (solids : List (Option Bool)) (faces : List (Option FaceCell)) (loops : List (Option LoopCell)) (vertices : List (Option Point)) (solid_faces face_loops : Owners) : Type 0 where
-  pub tied : RowsAreTied sp known solids faces loops vertices
-  pub indexed : AreIndexed solids faces loops solid_faces face_loops
+pub record IsWhole (arena : ArenaRows) (solid_faces face_loops : Owners) : Type 0 where
+  pub tied : RowsAreTied arena
+  pub indexed : AreIndexed arena.solids arena.faces arena.loops solid_faces face_loops

@@ -5,7 +5,7 @@ use Rattle.boundary_model.specs.Table.{remove}
 use Rattle.arena_rows.specs.declared.owner_chains.rows.Head.{Head}
 use Rattle.arena_rows.specs.declared.owner_chains.rows.Link.{Link}
 use Rattle.arena_rows.specs.owner_chains.Owners as owners
-use Rattle.arena_rows.specs.Common.{owned, is_owner, AreChained, IsAbove, IsBelow, items, is_of, link_at, owner_in, head_at, linked_out, lost, owners_of, view_of}
+use Rattle.arena_rows.specs.Common.{owned, AreChained, IsAbove, IsBelow, items, is_of, link_at, owner_in, head_at, linked_out, lost, owners_of, view_of}
 use Rattle.arena_rows.proofs.owner_chains_laws.Order.{above_joined, above_left, below_joined, below_left}
 use Rattle.arena_rows.proofs.owner_chains_laws.Following.{item_row}
 use Rattle.arena_rows.proofs.owner_chains_laws.Leading.{Lead, IsLed, row_now, owners_now, same, still_chained}

@@ -1,6 +1,4 @@
 use Rattle.std.proofs.Common.{sym, ◌∙◌, arith, true, false}
-use Rattle.std.specs.FinMap.{contains_key}
-use Rattle.arena_rows.specs.RawRings.{spot}
 use Rattle.arena_rows.specs.Common.{face_row}
 use Rattle.arena_rows.proofs.Views.{has-row}
 use Rattle.arena_rows.proofs.Indexed.{rings_counted}
@@ -11,15 +9,15 @@ known-outer-requires c = (has-row face_row _ _ (rw (← c.self.view_is) at c.req
 
 pub overflow_sub-result : goal.overflow_sub-result
 overflow_sub-result c =
-    let counted = rings_counted (spot c.self.inside.rings) (contains_key c.self.inside.rings) _ _ _ c.self.inside.vertices _ _ c.self.invariant.indexed c.args.f _ c.known-outer.ensures true (sym c.names.ensures ∙ c.if-names.true) in
+    let counted = rings_counted _ _ _ c.self.invariant c.args.f _ c.known-outer.ensures true (sym c.names.ensures ∙ c.if-names.true) in
     omega (arith, c.count-named.ensures, counted)
 
 pub returns-then-names : goal.returns-then-names
 returns-then-names c =
-    let counted = rings_counted (spot c.self.inside.rings) (contains_key c.self.inside.rings) _ _ _ c.self.inside.vertices _ _ c.self.invariant.indexed c.args.f _ c.known-outer.ensures true (sym c.names.ensures ∙ c.if-names.true) in
+    let counted = rings_counted _ _ _ c.self.invariant c.args.f _ c.known-outer.ensures true (sym c.names.ensures ∙ c.if-names.true) in
     rw (← c.self.view_is) (omega (arith, c.count-named.ensures, counted))
 
 pub returns-else-names : goal.returns-else-names
 returns-else-names c =
-    let counted = rings_counted (spot c.self.inside.rings) (contains_key c.self.inside.rings) _ _ _ c.self.inside.vertices _ _ c.self.invariant.indexed c.args.f _ c.known-outer.ensures false (sym c.names.ensures ∙ c.if-names.false) in
+    let counted = rings_counted _ _ _ c.self.invariant c.args.f _ c.known-outer.ensures false (sym c.names.ensures ∙ c.if-names.false) in
     rw (← c.self.view_is) (omega (arith, c.count-named.ensures, counted))

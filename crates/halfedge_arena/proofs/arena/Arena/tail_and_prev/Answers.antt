@@ -9,24 +9,24 @@ use Rattle.arena_rows.proofs.Stands.{half_there, tail_is, before_is, loose_befor
 use Rattle.halfedge_arena.proofs.arena.Arena.tail_and_prev.Goals as goal
 
 pub code-requires : goal.code-requires
-code-requires c = edge_below c.args.h (c.self.invariant.tied.rings.bound _ (half_there _ _ _ _ _ _ c.self.invariant.tied _ (rw (← c.self.view_is) at c.requires)))
+code-requires c = edge_below c.args.h (c.self.invariant.tied.rings.bound _ (half_there _ c.self.invariant.tied _ (rw (← c.self.view_is) at c.requires)))
 
 pub tail_and_prev-tail-requires : goal.tail_and_prev-tail-requires
-tail_and_prev-tail-requires c = rw c.code.ensures (half_there _ _ _ _ _ _ c.self.invariant.tied _ (rw (← c.self.view_is) at c.requires))
+tail_and_prev-tail-requires c = rw c.code.ensures (half_there _ c.self.invariant.tied _ (rw (← c.self.view_is) at c.requires))
 
 pub returns-clause-tail : goal.returns-clause-tail
 returns-clause-tail c =
-    let there : live (spot c.self.inside.rings) (code c.args.h) ≡ true = half_there _ _ _ _ _ _ c.self.invariant.tied _ (rw (← c.self.view_is) at c.requires) in
-    rw (← c.self.view_is) (sym (tail_is _ _ _ _ _ _ c.self.invariant.tied _ there ∙ ap or_zero (rw c.code.ensures at c.tail_and_prev-tail.ensures.tail)))
+    let there : live (spot c.self.inside.rings) (code c.args.h) ≡ true = half_there _ c.self.invariant.tied _ (rw (← c.self.view_is) at c.requires) in
+    rw (← c.self.view_is) (sym (tail_is _ c.self.invariant.tied _ there ∙ ap or_zero (rw c.code.ensures at c.tail_and_prev-tail.ensures.tail)))
 
 pub returns-clause-in_loop : goal.returns-clause-in_loop
 returns-clause-in_loop c =
-    let there : live (spot c.self.inside.rings) (code c.args.h) ≡ true = half_there _ _ _ _ _ _ c.self.invariant.tied _ (rw (← c.self.view_is) at c.requires) in
+    let there : live (spot c.self.inside.rings) (code c.args.h) ≡ true = half_there _ c.self.invariant.tied _ (rw (← c.self.view_is) at c.requires) in
     let from = rw c.code.ensures at c.tail_and_prev-tail.ensures.prev in
-    rw (← c.self.view_is) (λ n. ap code c.of_code.ensures ∙ code-half _ ∙ before_is _ _ _ _ _ _ c.self.invariant.tied _ _ there (IsLive-next c.self.inside.rings _ _ from) (ap or_zero from) n)
+    rw (← c.self.view_is) (λ n. ap code c.of_code.ensures ∙ code-half _ ∙ before_is _ c.self.invariant.tied _ _ there (IsLive-next c.self.inside.rings _ _ from) (ap or_zero from) n)
 
 pub returns-clause-loose : goal.returns-clause-loose
 returns-clause-loose c =
-    let there : live (spot c.self.inside.rings) (code c.args.h) ≡ true = half_there _ _ _ _ _ _ c.self.invariant.tied _ (rw (← c.self.view_is) at c.requires) in
+    let there : live (spot c.self.inside.rings) (code c.args.h) ≡ true = half_there _ c.self.invariant.tied _ (rw (← c.self.view_is) at c.requires) in
     let from = rw c.code.ensures at c.tail_and_prev-tail.ensures.prev in
-    rw (← c.self.view_is) (λ z. ap code c.of_code.ensures ∙ code-half _ ∙ loose_before _ _ _ _ _ _ c.self.invariant.tied _ _ there (IsLive-next c.self.inside.rings _ _ from) (ap or_zero from) z)
+    rw (← c.self.view_is) (λ z. ap code c.of_code.ensures ∙ code-half _ ∙ loose_before _ c.self.invariant.tied _ _ there (IsLive-next c.self.inside.rings _ _ from) (ap or_zero from) z)
