@@ -15,8 +15,8 @@ seamed M f g sound e = let w = facing M f g sound e in record {
   f_there = w.f_there;
   g_there = w.g_there;
   solids_apart = w.solids_apart;
-  alone_f = facts.no_rings M sound f w.f_there (facts.ringless_f M f g sound e) (facts.cycle_f M f g sound e);
-  alone_g = facts.no_rings M sound g w.g_there (facts.ringless_g M f g sound e) (facts.cycle_g M f g sound e);
+  alone_f = facts.no_rings M sound f w.f_there (facts.glue_goes M f g e).ringless_f (facts.cycle_f M f g sound e);
+  alone_g = facts.no_rings M sound g w.g_there (facts.glue_goes M f g e).ringless_g (facts.cycle_g M f g sound e);
   first = facts.cycle_f M f g sound e;
   second = facts.cycle_g M f g sound e;
   partners = λ k. ap (count k) (facts.opposite M f g sound e) ∙ count-canonical k (reverse (map (partner M (rim M g)) (rim M f))) ∙ count-reverse k (map (partner M (rim M g)) (rim M f));

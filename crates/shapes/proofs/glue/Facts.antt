@@ -130,6 +130,38 @@ shape_of (h ∷ k ∷ ks) some more = let p = front_of k ks in (h, p.0, last_or 
 
 -- ---- a glue that isn't refused
 
+-- what the conditions of a glue say, by name
+pub record GlueGoes (M : Model) (f g : ℕ) : Type 0 where
+  pub f_there : Has M.faces f
+  pub g_there : Has M.faces g
+  pub solids_apart : solid_of M f ≢ solid_of M g
+  pub ringless_f : has_rings M f ≡ false
+  pub ringless_g : has_rings M g ≡ false
+  pub none_lone : table.first_where (λ _ row. is_lone row.content && lists (faces_of_both M (solid_of M f) (solid_of M g)) row.face) M.loops ≡ 0
+  pub none_bent : first_such (λ k. not (is_flat M k)) (faces_of_both M (solid_of M f) (solid_of M g)) ≡ None
+  pub points_f : has_repeats (outline M f) ≡ false
+  pub points_g : has_repeats (outline M g) ≡ false
+  pub matches : is_rotation (outline M f) (reverse (outline M g)) ≡ true
+  pub left : Left (taken_in M) 0 0 1 0
+
+pub glue_goes : (M : Model) (f g : ℕ) → glue_refusal M f g ≡ None → GlueGoes M f g
+unfolding glue_conditions
+glue_goes M f g accepted = named (all_hold (glue_conditions M f g) accepted) where
+  named : AllHold (glue_conditions M f g) → GlueGoes M f g
+  named (_, (_, (f_known, (g_known, (one_solid, (rings_f, (rings_g, (lone, (bent, (twice_f, (twice_g, (matching, room)))))))))))) = record {
+    f_there = f_known;
+    g_there = g_known;
+    solids_apart = eqb-false (solid_of M f) (solid_of M g) (not-true _ one_solid);
+    ringless_f = not-true _ rings_f;
+    ringless_g = not-true _ rings_g;
+    none_lone = none_is_lone M _ (none_found (least_lone M _) lone);
+    none_bent = none_found (first_such (λ k. not (is_flat M k)) _) bent;
+    points_f = not-true _ twice_f;
+    points_g = not-true _ twice_g;
+    matches = matching;
+    left = numbers_are_left (taken_in M) 0 0 1 0 room;
+  }
+
 module _ (M : Model) (f g : ℕ) (sound : Sound M) (accepted : glue_refusal M f g ≡ None) where
   abbrev s : ℕ
   s = solid_of M f
@@ -149,52 +181,8 @@ module _ (M : Model) (f g : ℕ) (sound : Sound M) (accepted : glue_refusal M f 
   abbrev pub partner_of : ℕ → ℕ
   partner_of = partner M (rim M g)
 
-  hold : AllHold (glue_conditions M f g)
-  hold = all_hold (glue_conditions M f g) accepted
-
-  f_there : Has M.faces f
-  unfolding glue_conditions
-  f_there = hold.1.1.0
-
-  g_there : Has M.faces g
-  unfolding glue_conditions
-  g_there = hold.1.1.1.0
-
-  solids_apart : s ≢ t
-  unfolding glue_conditions
-  solids_apart = eqb-false s t (not-true _ hold.1.1.1.1.0)
-
-  pub ringless_f : has_rings M f ≡ false
-  unfolding glue_conditions
-  ringless_f = not-true _ hold.1.1.1.1.1.0
-
-  pub ringless_g : has_rings M g ≡ false
-  unfolding glue_conditions
-  ringless_g = not-true _ hold.1.1.1.1.1.1.0
-
-  none_lone : table.first_where (λ _ row. is_lone row.content && lists fs row.face) M.loops ≡ 0
-  unfolding glue_conditions
-  none_lone = none_is_lone M fs (none_found (least_lone M fs) hold.1.1.1.1.1.1.1.0)
-
-  none_bent : first_such (λ k. not (is_flat M k)) fs ≡ None
-  unfolding glue_conditions
-  none_bent = none_found (first_such (λ k. not (is_flat M k)) fs) hold.1.1.1.1.1.1.1.1.0
-
-  points_f : has_repeats (outline M f) ≡ false
-  unfolding glue_conditions
-  points_f = not-true _ hold.1.1.1.1.1.1.1.1.1.0
-
-  points_g : has_repeats (outline M g) ≡ false
-  unfolding glue_conditions
-  points_g = not-true _ hold.1.1.1.1.1.1.1.1.1.1.0
-
-  matches : is_rotation (outline M f) (reverse (outline M g)) ≡ true
-  unfolding glue_conditions
-  matches = hold.1.1.1.1.1.1.1.1.1.1.1.0
-
-  left : Left (taken_in M) 0 0 1 0
-  unfolding glue_conditions
-  left = numbers_are_left (taken_in M) 0 0 1 0 hold.1.1.1.1.1.1.1.1.1.1.1.1
+  pub goes : GlueGoes M f g
+  goes = glue_goes M f g accepted
 
   -- the faces of both solids are those looked at, and they are flat
   listed : (k : ℕ) → Has M.faces k → (solid_of M k ≡ s) ⊎ (solid_of M k ≡ t) → lists fs k ≡ true
@@ -204,26 +192,26 @@ module _ (M : Model) (f g : ℕ) (sound : Sound M) (accepted : glue_refusal M f 
     either a (inr e) = ap (λ b. nat_eq a s || b) (eq-eqb a t e) ∙ or_true (nat_eq a s)
 
   pub flat : (k : ℕ) → Has M.faces k → (solid_of M k ≡ s) ⊎ (solid_of M k ≡ t) → is_flat M k ≡ true
-  flat k there of = not-false (is_flat M k) (none_such (λ q. not (is_flat M q)) fs none_bent k (IsIn-from_listed k fs (listed k there of)))
+  flat k there of = not-false (is_flat M k) (none_such (λ q. not (is_flat M q)) fs goes.none_bent k (IsIn-from_listed k fs (listed k there of)))
 
   is_cycle : (k : ℕ) → Has M.faces k → (solid_of M k ≡ s) ⊎ (solid_of M k ≡ t) → content M (outer M k) ≡ cycle (rim M k)
   is_cycle k there of =
       let p = sound.outers_there k there in
       not_lone_cycle (content M (outer M k)) (first_fails (is_lone (content M (outer M k))) (lists fs (face_of M (outer M k)))
-      (zero_first_where (λ _ row. is_lone row.content && lists fs row.face) M.loops (loop_number M sound) none_lone (outer M k) _ (loop_row M (outer M k) p.0))
+      (zero_first_where (λ _ row. is_lone row.content && lists fs row.face) M.loops (loop_number M sound) goes.none_lone (outer M k) _ (loop_row M (outer M k) p.0))
       (ap (lists fs) p.1 ∙ listed k there of))
 
   pub cycle_f : content M (outer M f) ≡ cycle (rim M f)
-  cycle_f = is_cycle f f_there (inl refl)
+  cycle_f = is_cycle f goes.f_there (inl refl)
 
   pub cycle_g : content M (outer M g) ≡ cycle (rim M g)
-  cycle_g = is_cycle g g_there (inr refl)
+  cycle_g = is_cycle g goes.g_there (inr refl)
 
   has_f : Has M.loops (outer M f)
-  has_f = (sound.outers_there f f_there).0
+  has_f = (sound.outers_there f goes.f_there).0
 
   has_g : Has M.loops (outer M g)
-  has_g = (sound.outers_there g g_there).0
+  has_g = (sound.outers_there g goes.g_there).0
 
   half_f : (h : ℕ) → IsIn h items_f → HasHalf M h
   half_f = half_l M sound (outer M f) items_f has_f cycle_f
@@ -233,14 +221,14 @@ module _ (M : Model) (f g : ℕ) (sound : Sound M) (accepted : glue_refusal M f 
 
   -- the items of g backwards, turned as those of f
   turned : (ts : List ℕ) × (map (start M) items_f ≡ map (start M) ts) × IsRotation items_g (reverse ts)
-  turned = turned_list (start M) items_f items_g matches
+  turned = turned_list (start M) items_f items_g goes.matches
 
   in_g : (y : ℕ) → IsIn y turned.0 → IsIn y items_g
   in_g y i = omega (arith, i, IsRotation-same items_g (reverse turned.0) turned.2 y, count-reverse y turned.0)
 
   partner_is : (h y : ℕ) → IsIn y items_g → start M y ≡ finish M h → partner_of h ≡ y
   partner_is h y i e = ap (λ o. unwrap_or o 0) (such_is (λ k. same_point (start M k) (finish M h)) items_g y i (same_as (start M y) (finish M h) e)
-      (λ j p q. once (start M) items_g points_g j y p i (same_is (start M j) (finish M h) q ∙ sym e)))
+      (λ j p q. once (start M) items_g goes.points_g j y p i (same_is (start M j) (finish M h) q ∙ sym e)))
 
   found : (h : ℕ) → IsIn h items_f → (y : ℕ) × IsIn y items_g × (start M y ≡ finish M h)
   found h i =
@@ -256,7 +244,7 @@ module _ (M : Model) (f g : ℕ) (sound : Sound M) (accepted : glue_refusal M f 
   -- an item is told by the point at which it ends
   finish_once : (h k : ℕ) → IsIn h items_f → IsIn k items_f → finish M h ≡ finish M k → h ≡ k
   finish_once h k i j e = next_once M sound (outer M f) items_f has_f cycle_f h k i j
-      (once (start M) items_f points_f (after M h) (after M k) (next_in M sound (outer M f) items_f has_f cycle_f h i) (next_in M sound (outer M f) items_f has_f cycle_f k j)
+      (once (start M) items_f goes.points_f (after M h) (after M k) (next_in M sound (outer M f) items_f has_f cycle_f h i) (next_in M sound (outer M f) items_f has_f cycle_f k j)
       (next_start M sound h (half_f h i) ∙ e ∙ sym (next_start M sound k (half_f k j))))
 
   chain : (xs ys : List ℕ) (d e : ℕ) → ((x : ℕ) → IsIn x xs → IsIn x items_f) → ((y : ℕ) → IsIn y ys → IsIn y items_g) → IsIn e items_g →
@@ -334,13 +322,13 @@ module _ (M : Model) (f g : ℕ) (sound : Sound M) (accepted : glue_refusal M f 
       let b : ℕ = partner_of k in
       let ai : IsIn a items_g = partner_in h i in
       let bi : IsIn b items_g = partner_in k j in
-      let on_a : after M a ≡ b = once (start M) items_g points_g (after M a) b (next_in M sound (outer M g) items_g has_g cycle_g a ai) bi (next_start M sound a (half_g a ai) ∙ ap (start M) e) in
-      let on_b : after M b ≡ a = once (start M) items_g points_g (after M b) a (next_in M sound (outer M g) items_g has_g cycle_g b bi) ai
+      let on_a : after M a ≡ b = once (start M) items_g goes.points_g (after M a) b (next_in M sound (outer M g) items_g has_g cycle_g a ai) bi (next_start M sound a (half_g a ai) ∙ ap (start M) e) in
+      let on_b : after M b ≡ a = once (start M) items_g goes.points_g (after M b) a (next_in M sound (outer M g) items_g has_g cycle_g b bi) ai
       (next_start M sound b (half_g b bi) ∙ ap (start M) (ap mate (sym e) ∙ mate-mate a)) in
       let turns : IsRotation items_g (a ∷ rest a items_g) = rotation_at a items_g ai in
       let one : length (rest a items_g) ≡ 1 = thin a b (rest a items_g) (IsRing-same (after M) items_g (a ∷ rest a items_g) turns (ring_l M sound (outer M g) items_g has_g cycle_g)) (apart_at a items_g apart_g ai) on_a on_b
       (λ q. mate_other a (q ∙ sym e)) in
-      never_two M sound g g_there ringless_g cycle_g (flat g g_there (inr refl)) (IsRotation-length items_g (a ∷ rest a items_g) turns ∙ ap suc one)
+      never_two M sound g goes.g_there goes.ringless_g cycle_g (flat g goes.g_there (inr refl)) (IsRotation-length items_g (a ∷ rest a items_g) turns ∙ ap suc one)
 
   -- ---- all of it
 
@@ -348,18 +336,18 @@ module _ (M : Model) (f g : ℕ) (sound : Sound M) (accepted : glue_refusal M f 
   unfolding taken_in
   facing = record {
     sound = sound;
-    f_there = f_there;
-    g_there = g_there;
-    solids_apart = solids_apart;
-    alone_f = no_rings_means M f ringless_f;
-    alone_g = no_rings_means M g ringless_g;
-    first = loop_row M (outer M f) has_f ∙ (λ i. Some (record { face = (sound.outers_there f f_there).1 i; content = cycle_f i }));
-    second = loop_row M (outer M g) has_g ∙ (λ i. Some (record { face = (sound.outers_there g g_there).1 i; content = (cycle_g ∙ ap cycle opposite) i }));
+    f_there = goes.f_there;
+    g_there = goes.g_there;
+    solids_apart = goes.solids_apart;
+    alone_f = no_rings_means M f goes.ringless_f;
+    alone_g = no_rings_means M g goes.ringless_g;
+    first = loop_row M (outer M f) has_f ∙ (λ i. Some (record { face = (sound.outers_there f goes.f_there).1 i; content = cycle_f i }));
+    second = loop_row M (outer M g) has_g ∙ (λ i. Some (record { face = (sound.outers_there g goes.g_there).1 i; content = (cycle_g ∙ ap cycle opposite) i }));
     starts_once = λ h k i j e. finish_once h k i j (sym (partner_start h i) ∙ ap (point_of M) e ∙ partner_start k j);
     ends_once = λ h k i j e. finish_once h k i j (ap (point_of M) e);
     no_fold = no_fold;
     edge_free = none_above M.edges (fresh_edge M) (omega arith);
-    edge_fits = number_fits (fresh_edge M) (omega arith) left.edges;
+    edge_fits = number_fits (fresh_edge M) (omega arith) goes.left.edges;
   }
 
   pub shape : (h : ℕ) × (mid : List ℕ) × (last : ℕ) × (items_f ≡ h ∷ (mid ++ last ∷ []))

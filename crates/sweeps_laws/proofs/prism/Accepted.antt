@@ -14,25 +14,30 @@ use Rattle.sweeps_laws.proofs.prism.Whole.{Going, loops_swept}
 
 -- ---- a sweep that isn't refused
 
+-- what the conditions of a prism say, by name
+record PrismGoes (M : Model) (f : ℕ) (d : Point) : Type 0 where
+  face_there : Has M.faces f
+  none_lone : table.first_where (λ _ row. is_lone row.content && lists (f ∷ []) row.face) M.loops ≡ 0
+  none_far : first_such (λ v. not (is_in_range (moved (point_of M v) d))) (corners M f) ≡ None
+  left : let n = length (corners M f) in Left (taken_in M) n n (2 * n) n
+
+prism_goes : (M : Model) (f : ℕ) (d : Point) → prism_refusal M f d ≡ None → PrismGoes M f d
+unfolding prism_conditions
+prism_goes M f d accepted = named (all_hold (prism_conditions M f d) accepted) where
+  named : AllHold (prism_conditions M f d) → PrismGoes M f d
+  named (_, (known, (_, (lone, (far, room))))) = record {
+    face_there = known;
+    none_lone = none_is_lone M (f ∷ []) (none_found (least_lone M (f ∷ [])) lone);
+    none_far = none_found (first_such (λ v. not (is_in_range (moved (point_of M v) d))) (corners M f)) far;
+    left = let n = length (corners M f) in numbers_are_left (taken_in M) n n (2 * n) n room;
+  }
+
 module _ (M : Model) (f : ℕ) (d : Point) (sound : Sound M) (accepted : prism_refusal M f d ≡ None) where
-  hold : AllHold (prism_conditions M f d)
-  hold = all_hold (prism_conditions M f d) accepted
+  goes : PrismGoes M f d
+  goes = prism_goes M f d accepted
 
   pub face_there : Has M.faces f
-  unfolding prism_conditions
-  face_there = hold.1.0
-
-  none_lone : table.first_where (λ _ row. is_lone row.content && lists (f ∷ []) row.face) M.loops ≡ 0
-  unfolding prism_conditions
-  none_lone = none_is_lone M (f ∷ []) (none_found (least_lone M (f ∷ [])) hold.1.1.1.0)
-
-  none_far : first_such (λ v. not (is_in_range (moved (point_of M v) d))) (corners M f) ≡ None
-  unfolding prism_conditions
-  none_far = none_found (first_such (λ v. not (is_in_range (moved (point_of M v) d))) (corners M f)) hold.1.1.1.1.0
-
-  left : Left (taken_in M) (length (corners M f)) (length (corners M f)) (2 * length (corners M f)) (length (corners M f))
-  unfolding prism_conditions
-  left = numbers_are_left (taken_in M) (length (corners M f)) (length (corners M f)) (2 * length (corners M f)) (length (corners M f)) hold.1.1.1.1.1
+  face_there = goes.face_there
 
   pub of_face : (l : ℕ) → IsIn l (loops_of M f) → Has M.loops l × (face_of M l ≡ f)
   of_face l i = face_of_loop M sound f l face_there (listed-from_in l (loops_of M f) i)
@@ -42,7 +47,7 @@ module _ (M : Model) (f : ℕ) (d : Point) (sound : Sound M) (accepted : prism_r
   is_cycle l i =
       let p = of_face l i in
       let at : table.get M.loops l ≡ Some (record { face = face_of M l; content = content M l }) = loop_row M l p.0 in
-      let not_both : (is_lone (content M l) && lists (f ∷ []) (face_of M l)) ≡ false = zero_first_where (λ _ row. is_lone row.content && lists (f ∷ []) row.face) M.loops (loop_number M sound) none_lone l (record { face = face_of M l; content = content M l }) at in
+      let not_both : (is_lone (content M l) && lists (f ∷ []) (face_of M l)) ≡ false = zero_first_where (λ _ row. is_lone row.content && lists (f ∷ []) row.face) M.loops (loop_number M sound) goes.none_lone l (record { face = face_of M l; content = content M l }) at in
       not_lone_cycle (content M l) (first_fails (is_lone (content M l)) (lists (f ∷ []) (face_of M l)) not_both (listed (face_of M l) p.1)) where
         listed : (k : ℕ) → k ≡ f → lists (f ∷ []) k ≡ true
         listed k e = let s : nat_eq f k ≡ true = grind (arith, nat_tests) in ap (λ b. b || false) s
@@ -50,7 +55,7 @@ module _ (M : Model) (f : ℕ) (d : Point) (sound : Sound M) (accepted : prism_r
   -- each corner's moved point is in range
   near : (l : ℕ) → IsIn l (loops_of M f) → (h : ℕ) → IsIn h (items_of (content M l)) → IsInRange (moved (start M h) d)
   unfolding corners
-  near l i h j = not-false (is_in_range (moved (start M h) d)) (none_such (λ v. not (is_in_range (moved (point_of M v) d))) (vertices_in M (loops_of M f)) none_far (tail M h) (tail_in M h l (loops_of M f) i j))
+  near l i h j = not-false (is_in_range (moved (start M h) d)) (none_such (λ v. not (is_in_range (moved (point_of M v) d))) (vertices_in M (loops_of M f)) goes.none_far (tail M h) (tail_in M h l (loops_of M f) i j))
 
   pub begins : Going M M (taken_in M) f d (loops_of M f)
   unfolding taken_in corners
@@ -60,10 +65,10 @@ module _ (M : Model) (f : ℕ) (d : Point) (sound : Sound M) (accepted : prism_r
     loops_free = λ q a. none_above M.loops q a;
     edges_free = λ q a. none_above M.edges q a;
     vertices_free = λ q a. none_above M.vertices q a;
-    faces_left = left.faces;
-    loops_left = left.loops;
-    edges_left = left.edges;
-    vertices_left = left.vertices;
+    faces_left = goes.left.faces;
+    loops_left = goes.left.loops;
+    edges_left = goes.left.edges;
+    vertices_left = goes.left.vertices;
     halves = λ h there. there;
     starts = λ h there. refl;
     apart = loops_of_apart M sound f;
