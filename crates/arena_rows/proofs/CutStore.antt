@@ -19,21 +19,8 @@ use Rattle.arena_rows.proofs.Views.{has-row, fits-write, table_of-put}
 use Rattle.arena_rows.proofs.Writes.{row_here}
 use Rattle.arena_rows.proofs.Stands.{half_there, loop_of_is, cycle_of_is, content_row, face_row_of, loose_key_is, loose_ring_is, next_successor}
 use Rattle.arena_rows.proofs.Tellings.{store_is, content_alike, same_loop, loops_table_rows}
-use Rattle.arena_rows.proofs.Cutting.{IsBare, rings2, live2, AreLoops-cut, loose-cut_to, loose-cut_loose, edges-cut, loops-cut, ring_of_right, apart_rows, jrings2, jlive2, jedges, jkept, jring_of, loose-join_loops, loose-join_loose, AreLoops-join}
+use Rattle.arena_rows.proofs.Cutting.{CutFacts, JoinFacts, rings2, live2, AreLoops-cut, loose-cut_to, loose-cut_loose, edges-cut, loops-cut, ring_of_right, apart_rows, jrings2, jlive2, jedges, jkept, jring_of, loose-join_loops, loose-join_loose, AreLoops-join}
 use Rattle.arena_rows.proofs.Filling.{tied_with}
-
-pub record CutFacts (sp : Spots) (loops : List (Option LoopCell)) (a b l : ℕ) : Type 0 where
-  pub a_there : live sp a ≡ true
-  pub b_there : live sp b ≡ true
-  pub looped : label sp a ≢ 0
-  pub one : label sp b ≡ label sp a
-  pub free : l ≢ 0 → IsBare sp loops l
-
-pub record JoinFacts (sp : Spots) (a b : ℕ) : Type 0 where
-  pub a_there : live sp a ≡ true
-  pub b_there : live sp b ≡ true
-  pub looped : label sp a ≢ 0
-  pub other : label sp b ≢ label sp a
 
 -- a row at another number
 pub row_there : {X : Type 0} (rows new : List (Option X)) (n : ℕ) (x : Option X) → ((q : ℕ) → row_at new q ≡ cond (nat_eq q n) x (row_at rows q)) → (q : ℕ) → q ≢ n → row_at new q ≡ row_at rows q
@@ -90,10 +77,10 @@ module _ (arena : ArenaRows) (tied : RowsAreTied arena) where
     here = label sp a
 
     cut_rings2 : AreRings cutted
-    cut_rings2 = rings2 sp arena.loops R are tied.loops_fit.no_zero a b g.a_there g.b_there g.looped g.one ne l g.free
+    cut_rings2 = rings2 arena tied a b l g ne
 
     cut_live : (x : ℕ) → live cutted x ≡ live sp x
-    cut_live = live2 sp arena.loops R are tied.loops_fit.no_zero a b g.a_there g.b_there g.looped g.one ne l g.free
+    cut_live = live2 arena tied a b l g ne
 
     module _ (cell : LoopCell) (found : row_at arena.loops here ≡ Some cell) (rows1 : List (Option LoopCell)) (len1 : length rows1 ≡ length arena.loops) (is1 : (q : ℕ) → row_at rows1 q ≡ cond (nat_eq q here) (Some (record { face = cell.face; stored = At a })) (row_at arena.loops q)) where
       pub fits1 : Fits rows1
@@ -101,48 +88,48 @@ module _ (arena : ArenaRows) (tied : RowsAreTied arena) where
 
       loops1 : table_of (loop_row cutted) rows1 ≡ put M.loops (loop_of M a) (held_row M (loop_of M a) (cycle (cut_left a b (cycle_of M a))))
       loops1 =
-          loops-cut sp arena.loops R are tied.loops_fit.no_zero a b g.a_there g.b_there g.looped g.one ne l g.free rows1 cell.face is1
+          loops-cut arena tied a b l g ne rows1 cell.face is1
           ∙ ap (λ f. put M.loops here (record { face = f; content = cycle (cut_left a b (ring sp a)) })) (sym (face_row_of arena tied here cell found))
           ∙ ap (λ hs. put M.loops here (held_row M here (cycle (cut_left a b hs)))) (sym (cycle_of_is arena tied a g.a_there g.looped))
           ∙ ap (λ n. put M.loops n (held_row M n (cycle (cut_left a b (cycle_of M a))))) (sym (loop_of_is arena tied a g.a_there))
 
       pub tied_cut_loose : (known' : ℕ → Bool) → l ≡ 0 → (new : Spots) → new ≡ cutted → RowsAreTied (record arena { spots = new; known = known'; loops = rows1 })
       tied_cut_loose known' z new e = subst (λ s. RowsAreTied (record arena { spots = s; known = known'; loops = rows1 })) (sym e) (tied_with arena tied cutted known' rows1 cut_rings2 (cut_live 0)
-          (AreLoops-cut sp arena.loops R are tied.loops_fit.no_zero a b g.a_there g.b_there g.looped g.one ne l g.free rows1 cell.face (row_here arena.loops rows1 here _ is1) (λ n. absurd (n z)) (λ q n m. row_there arena.loops rows1 here _ is1 q n) fits1.no_zero) fits1)
+          (AreLoops-cut arena tied a b l g ne rows1 cell.face (row_here arena.loops rows1 here _ is1) (λ n. absurd (n z)) (λ q n m. row_there arena.loops rows1 here _ is1 q n) fits1.no_zero) fits1)
 
       pub store_cut_loose : (known' : ℕ → Bool) → known' ≡ arena.known → l ≡ 0 → (new : Spots) → new ≡ cutted → store_of (record arena { spots = new; known = known'; loops = rows1 }) ≡ cut_loose S a b
       unfolding cut_loose
       store_cut_loose known' k z new e = (λ i. store_of (record arena { spots = e i; known = k i; loops = rows1 }))
-          ∙ store_is arena cutted rows1 _ _ len1 (edges-cut sp arena.loops R are tied.loops_fit.no_zero a b g.a_there g.b_there g.looped g.one ne l g.free) loops1
-          (loose-cut_loose sp arena.loops R are tied.loops_fit.no_zero a b g.a_there g.b_there g.looped g.one ne l g.free z
+          ∙ store_is arena cutted rows1 _ _ len1 (edges-cut arena tied a b l g ne) loops1
+          (loose-cut_loose arena tied a b l g ne z
           ∙ ap (λ hs. loosened (cut_right a b hs) S.loose) (sym (cycle_of_is arena tied a g.a_there g.looped)))
 
       pub kept_bare : l ≢ 0 → is_some (row_at rows1 l) ≡ true
-      kept_bare n = ap is_some (row_there arena.loops rows1 here _ is1 l (apart_rows sp arena.loops R are tied.loops_fit.no_zero a b g.a_there g.b_there g.looped g.one ne l g.free n) ∙ (g.free n).here)
+      kept_bare n = ap is_some (row_there arena.loops rows1 here _ is1 l (apart_rows arena tied a b l g ne n) ∙ (g.free n).here)
 
       module _ (n : l ≢ 0) (cell2 : LoopCell) (found2 : row_at rows1 l ≡ Some cell2) (rows2 : List (Option LoopCell)) (len2 : length rows2 ≡ length rows1) (is2 : (q : ℕ) → row_at rows2 q ≡ cond (nat_eq q l) (Some (record { face = cell2.face; stored = At b })) (row_at rows1 q)) where
         not_here : l ≢ here
-        not_here = apart_rows sp arena.loops R are tied.loops_fit.no_zero a b g.a_there g.b_there g.looped g.one ne l g.free n
+        not_here = apart_rows arena tied a b l g ne n
 
         fits2 : Fits rows2
         fits2 = fits-write rows1 rows2 l _ fits1 n len2 is2
 
         pub tied_cut_to : (known' : ℕ → Bool) → (new : Spots) → new ≡ cutted → RowsAreTied (record arena { spots = new; known = known'; loops = rows2 })
         tied_cut_to known' new e = subst (λ s. RowsAreTied (record arena { spots = s; known = known'; loops = rows2 })) (sym e) (tied_with arena tied cutted known' rows2 cut_rings2 (cut_live 0)
-            (AreLoops-cut sp arena.loops R are tied.loops_fit.no_zero a b g.a_there g.b_there g.looped g.one ne l g.free rows2 cell.face
+            (AreLoops-cut arena tied a b l g ne rows2 cell.face
             (row_there rows1 rows2 l _ is2 here (λ q. not_here (sym q)) ∙ row_here arena.loops rows1 here _ is1) (λ _. (cell2.face, row_here rows1 rows2 l _ is2))
             (λ q u v. row_there rows1 rows2 l _ is2 q v ∙ row_there arena.loops rows1 here _ is1 q u) fits2.no_zero) fits2)
 
         pub store_cut_to : (known' : ℕ → Bool) → known' ≡ arena.known → (new : Spots) → new ≡ cutted → store_of (record arena { spots = new; known = known'; loops = rows2 }) ≡ cut_to S a b l
         unfolding cut_to
         store_cut_to known' k new e = (λ i. store_of (record arena { spots = e i; known = k i; loops = rows2 }))
-            ∙ store_is arena cutted rows2 _ _ (len2 ∙ len1) (edges-cut sp arena.loops R are tied.loops_fit.no_zero a b g.a_there g.b_there g.looped g.one ne l g.free)
+            ∙ store_is arena cutted rows2 _ _ (len2 ∙ len1) (edges-cut arena tied a b l g ne)
             (table_of-put (loop_row cutted) rows1 rows2 l _ is2
-            ∙ ap (λ hs. put (table_of (loop_row cutted) rows1) l (record { face = cell2.face; content = cycle hs })) (ring_of_right sp arena.loops R are tied.loops_fit.no_zero a b g.a_there g.b_there g.looped g.one ne l g.free)
+            ∙ ap (λ hs. put (table_of (loop_row cutted) rows1) l (record { face = cell2.face; content = cycle hs })) (ring_of_right arena tied a b l g ne)
             ∙ ap (λ f. put (table_of (loop_row cutted) rows1) l (record { face = f; content = cycle (cut_right a b (ring sp a)) })) (sym (face_row_of arena tied l cell2 (sym (row_there arena.loops rows1 here _ is1 l not_here) ∙ found2)))
             ∙ ap (λ hs. put (table_of (loop_row cutted) rows1) l (held_row M l (cycle (cut_right a b hs)))) (sym (cycle_of_is arena tied a g.a_there g.looped))
             ∙ ap (λ t. put t l (held_row M l (cycle (cut_right a b (cycle_of M a))))) loops1)
-            (loose-cut_to sp arena.loops R are tied.loops_fit.no_zero a b g.a_there g.b_there g.looped g.one ne l g.free n)
+            (loose-cut_to arena tied a b l g ne n)
 
   module _ (a b : ℕ) (g : JoinFacts sp a b) where
     abbrev jspots : Spots
@@ -163,20 +150,20 @@ module _ (arena : ArenaRows) (tied : RowsAreTied arena) where
 
       pub tied_join : (known' : ℕ → Bool) (new : Spots) → new ≡ jspots → RowsAreTied (record arena { spots = new; known = known'; loops = rows })
       tied_join known' new e = subst (λ s. RowsAreTied (record arena { spots = s; known = known'; loops = rows })) (sym e) (tied_with arena tied jspots known' rows
-          (jrings2 sp arena.loops R are tied.loops_fit.no_zero a b g.a_there g.b_there g.looped g.other) (jlive2 sp arena.loops R are tied.loops_fit.no_zero a b g.a_there g.b_there g.looped g.other 0)
-          (AreLoops-join sp arena.loops R are tied.loops_fit.no_zero a b g.a_there g.b_there g.looped g.other d d_in rows cell.face (row_here rows0 rows jhere _ is1)
+          (jrings2 arena tied a b g) (jlive2 arena tied a b g 0)
+          (AreLoops-join arena tied a b g d d_in rows cell.face (row_here rows0 rows jhere _ is1)
           (λ c at. empty_b c (sym (row_there rows0 rows jhere _ is1 jthere g.other) ∙ at)) (λ q n m. row_there rows0 rows jhere _ is1 q n ∙ same q m)) jfits)
 
       alike : (q : ℕ) (c : LoopCell) → q ≢ jhere → row_at rows0 q ≡ Some c → stored_content jspots c.stored ≡ stored_content sp c.stored
       alike q c n at = elim (eqb_tells q jthere) [
         | inl p ↦ let e = empty_b c (ap (row_at rows0) (sym p.1) ∙ at) in ap (stored_content jspots) e ∙ sym (ap (stored_content sp) e)
-        | inr p ↦ content_alike sp jspots q c.stored (are.entries q c (sym (same q p.1) ∙ at)) (λ d h e. jkept sp arena.loops R are tied.loops_fit.no_zero a b g.a_there g.b_there g.looped g.other q d n p.1 h e)
+        | inr p ↦ content_alike sp jspots q c.stored (are.entries q c (sym (same q p.1) ∙ at)) (λ d h e. jkept arena tied a b g q d n p.1 h e)
       ]
 
       loops_join : (ys : List ℕ) → ys ≡ ring sp b → table_of (loop_row jspots) rows ≡ put (table_of (loop_row sp) rows0) (loop_of M a) (held_row M (loop_of M a) (cycle (joined a b (cycle_of M a) ys)))
       loops_join ys ey =
           loops_table_rows sp jspots rows0 rows jhere (record { face = cell.face; stored = At d }) is1 alike
-          ∙ ap (λ hs. put (table_of (loop_row sp) rows0) jhere (record { face = cell.face; content = cycle hs })) (jring_of sp arena.loops R are tied.loops_fit.no_zero a b g.a_there g.b_there g.looped g.other d d_in)
+          ∙ ap (λ hs. put (table_of (loop_row sp) rows0) jhere (record { face = cell.face; content = cycle hs })) (jring_of arena tied a b g d d_in)
           ∙ ap (λ hs. put (table_of (loop_row sp) rows0) jhere (record { face = cell.face; content = cycle (joined a b (ring sp a) hs) })) (sym ey)
           ∙ ap (λ f. put (table_of (loop_row sp) rows0) jhere (record { face = f; content = cycle (joined a b (ring sp a) ys) })) (sym (face_row_of arena tied jhere cell found))
           ∙ ap (λ hs. put (table_of (loop_row sp) rows0) jhere (held_row M jhere (cycle (joined a b hs ys)))) (sym (cycle_of_is arena tied a g.a_there g.looped))
@@ -185,21 +172,21 @@ module _ (arena : ArenaRows) (tied : RowsAreTied arena) where
       pub store_join_loose : rows0 ≡ arena.loops → jthere ≡ 0 → (known' : ℕ → Bool) → known' ≡ arena.known → (new : Spots) → new ≡ jspots → store_of (record arena { spots = new; known = known'; loops = rows }) ≡ join_loose S a b
       unfolding join_loose
       store_join_loose r z known' k new e = (λ i. store_of (record arena { spots = e i; known = k i; loops = rows }))
-          ∙ store_is arena jspots rows _ _ (len ∙ len0) (jedges sp arena.loops R are tied.loops_fit.no_zero a b g.a_there g.b_there g.looped g.other)
+          ∙ store_is arena jspots rows _ _ (len ∙ len0) (jedges arena tied a b g)
           (loops_join (loose_ring S b) (loose_ring_is arena tied b g.b_there z) ∙ ap (λ w. put (table_of (loop_row sp) w) (loop_of M a) (held_row M (loop_of M a) (cycle (joined a b (cycle_of M a) (loose_ring S b))))) r)
-          (loose-join_loose sp arena.loops R are tied.loops_fit.no_zero a b g.a_there g.b_there g.looped g.other ∙ ap (remove S.loose) (sym (loose_key_is arena tied b g.b_there z)))
+          (loose-join_loose arena tied a b g ∙ ap (remove S.loose) (sym (loose_key_is arena tied b g.b_there z)))
 
       pub store_join_loops : jthere ≢ 0 → (cell2 : LoopCell) → row_at arena.loops jthere ≡ Some cell2 → ((q : ℕ) → row_at rows0 q ≡ cond (nat_eq q jthere) (Some (record { face = cell2.face; stored = Empty })) (row_at arena.loops q)) →
           (known' : ℕ → Bool) → known' ≡ arena.known → (new : Spots) → new ≡ jspots → store_of (record arena { spots = new; known = known'; loops = rows }) ≡ join_loops S a b
       unfolding join_loops
       store_join_loops n cell2 found2 is0 known' k new e = (λ i. store_of (record arena { spots = e i; known = k i; loops = rows }))
-          ∙ store_is arena jspots rows _ _ (len ∙ len0) (jedges sp arena.loops R are tied.loops_fit.no_zero a b g.a_there g.b_there g.looped g.other)
+          ∙ store_is arena jspots rows _ _ (len ∙ len0) (jedges arena tied a b g)
           (loops_join (cycle_of M b) (cycle_of_is arena tied b g.b_there n)
           ∙ ap (λ t. put t (loop_of M a) (held_row M (loop_of M a) (cycle (joined a b (cycle_of M a) (cycle_of M b)))))
           (table_of-put (loop_row sp) arena.loops rows0 jthere _ is0
           ∙ ap (λ f. put M.loops jthere (record { face = f; content = cycle [] })) (sym (face_row_of arena tied jthere cell2 found2))
           ∙ ap (λ m. put M.loops m (held_row M m (cycle []))) (sym (loop_of_is arena tied b g.b_there))))
-          (loose-join_loops sp arena.loops R are tied.loops_fit.no_zero a b g.a_there g.b_there g.looped g.other n)
+          (loose-join_loops arena tied a b g n)
 
     -- a loose ring comes to a's loop, of which the row stays as it was
     module _ (loose : jthere ≡ 0) where

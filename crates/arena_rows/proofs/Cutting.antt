@@ -9,7 +9,7 @@ use Rattle.arena_rows.specs.declared.rows.StoredContent.{StoredContent}
 use Rattle.arena_rows.specs.declared.rows.StoredContent.TheVariants.{Empty, Lone, At}
 use Rattle.boundary_model.specs.Table.{put, remove, tabulate}
 use Rattle.raw_cells.specs.Rows.{row_at}
-use Rattle.arena_rows.specs.Common.{table_of, loosened, Spots, codes, live, label, ring, spliced_at, labelled, AreRings, stored_content, loop_row, HasEntry, AreLoops, StandsAt, edge_row, loose_row}
+use Rattle.arena_rows.specs.Common.{ArenaRows, RowsAreTied, table_of, loosened, Spots, codes, live, label, ring, spliced_at, labelled, AreRings, stored_content, loop_row, HasEntry, AreLoops, StandsAt, edge_row, loose_row}
 use Rattle.boundary_model.specs.Model.{cycle}
 use Rattle.boundary_model.specs.Rings.{cut_left, cut_right, joined}
 use Rattle.boundary_model.proofs.Cuts.{IsIn-cut}
@@ -24,8 +24,35 @@ pub record IsBare (sp : Spots) (loops : List (Option LoopCell)) (l : ℕ) : Type
   pub here : row_at loops l ≡ Some cell
   pub bare : items_of (stored_content sp cell.stored) ≡ []
 
-module _ (sp : Spots) (loops : List (Option LoopCell)) (R : AreRings sp) (are : AreLoops sp loops) (zero : row_at loops 0 ≡ None) (a b : ℕ) (a_there : live sp a ≡ true) (b_there : live sp b ≡ true) (looped : label sp a ≢ 0) where
-  module _ (one : label sp b ≡ label sp a) (ne : a ≢ b) (l : ℕ) (free : l ≢ 0 → IsBare sp loops l) where
+-- a and b live in one loop, and loop l takes what is cut off; where l is 0 it becomes loose
+pub record CutFacts (sp : Spots) (loops : List (Option LoopCell)) (a b l : ℕ) : Type 0 where
+  pub a_there : live sp a ≡ true
+  pub b_there : live sp b ≡ true
+  pub looped : label sp a ≢ 0
+  pub one : label sp b ≡ label sp a
+  pub free : l ≢ 0 → IsBare sp loops l
+
+-- a lives in a loop, and b in another or in none
+pub record JoinFacts (sp : Spots) (a b : ℕ) : Type 0 where
+  pub a_there : live sp a ≡ true
+  pub b_there : live sp b ≡ true
+  pub looped : label sp a ≢ 0
+  pub other : label sp b ≢ label sp a
+
+module _ (arena : ArenaRows) (tied : RowsAreTied arena) where
+  abbrev sp : Spots
+  sp = arena.spots
+
+  abbrev loops : List (Option LoopCell)
+  loops = arena.loops
+
+  abbrev R : AreRings sp
+  R = tied.rings
+
+  abbrev are : AreLoops sp loops
+  are = tied.loops_tied
+
+  module _ (a b l : ℕ) (g : CutFacts sp loops a b l) (ne : a ≢ b) where
     abbrev la : ℕ
     la = label sp a
 
@@ -45,34 +72,34 @@ module _ (sp : Spots) (loops : List (Option LoopCell)) (R : AreRings sp) (are : 
     sp2 = labelled sp1 l (ring sp1 b)
 
     together : IsIn b whole
-    together = same_loop sp loops R are a b a_there b_there looped one
+    together = same_loop sp loops R are a b g.a_there g.b_there g.looped g.one
 
     pub rings1 : AreRings sp1
-    rings1 = AreRings-cut sp R a b a_there b_there together ne
+    rings1 = AreRings-cut sp R a b g.a_there g.b_there together ne
 
     pub there1 : live sp1 b ≡ true
-    there1 = live-spliced sp a b b ∙ b_there
+    there1 = live-spliced sp a b b ∙ g.b_there
 
     pub rings2 : AreRings sp2
     rings2 = AreRings-labelled sp1 rings1 b l there1
 
     a_left : IsIn a left
-    a_left = (IsIn-cut a b whole (R.rings a a_there).apart (R.rings a a_there).item together ne).0
+    a_left = (IsIn-cut a b whole (R.rings a g.a_there).apart (R.rings a g.a_there).item together ne).0
 
     b_right : IsIn b right
-    b_right = (IsIn-cut a b whole (R.rings a a_there).apart (R.rings a a_there).item together ne).1
+    b_right = (IsIn-cut a b whole (R.rings a g.a_there).apart (R.rings a g.a_there).item together ne).1
 
     right_is : ring sp1 b ≡ right
-    right_is = (ring_right sp R a b a_there b_there together ne b b_right).0
+    right_is = (ring_right sp R a b g.a_there g.b_there together ne b b_right).0
 
     items : (x : ℕ) → count x left + count x right ≡ count x whole
-    items = cut_items sp R a b a_there b_there together ne
+    items = cut_items sp R a b g.a_there g.b_there together ne
 
     pub live2 : (x : ℕ) → live sp2 x ≡ live sp x
     live2 x = live-labelled sp1 l (ring sp1 b) x ∙ live-spliced sp a b x
 
     awake_whole : (x : ℕ) → IsIn x whole → live sp x ≡ true
-    awake_whole x i = (R.rings a a_there).awake x i
+    awake_whole x i = (R.rings a g.a_there).awake x i
 
     label_right : (x : ℕ) → IsIn x right → label sp2 x ≡ l
     label_right x i = label-labelled_in sp1 l (ring sp1 b) x (subst (IsIn x) (sym right_is) i) (live-spliced sp a b x ∙ awake_whole x (omega (arith, items x)))
@@ -81,36 +108,36 @@ module _ (sp : Spots) (loops : List (Option LoopCell)) (R : AreRings sp) (are : 
     label_not_right x n = label-labelled_out sp1 l (ring sp1 b) x (ap (count x) right_is ∙ n) ∙ label-spliced sp a b x
 
     label_left : (x : ℕ) → IsIn x left → label sp2 x ≡ la
-    label_left x i = label_not_right x (omega (arith, items x, (R.rings a a_there).apart x)) ∙ (R.rings a a_there).one_label x (omega (arith, items x))
+    label_left x i = label_not_right x (omega (arith, items x, (R.rings a g.a_there).apart x)) ∙ (R.rings a g.a_there).one_label x (omega (arith, items x))
 
     ring2 : (x : ℕ) → ring sp2 x ≡ ring sp1 x
     ring2 x = ring-labelled sp1 rings1 b l there1 x
 
     pub ring_of_left : ring sp2 a ≡ left
-    ring_of_left = ring2 a ∙ (ring_left sp R a b a_there b_there together ne a a_left).0
+    ring_of_left = ring2 a ∙ (ring_left sp R a b g.a_there g.b_there together ne a a_left).0
 
     pub ring_of_right : ring sp2 b ≡ right
     ring_of_right = ring2 b ∙ right_is
 
     ring_out : (x : ℕ) → live sp x ≡ true → count x whole ≡ 0 → ring sp2 x ≡ ring sp x
-    ring_out x h n = ring2 x ∙ (ring_beside sp R a b a_there b_there together ne x h n).0
+    ring_out x h n = ring2 x ∙ (ring_beside sp R a b g.a_there g.b_there together ne x h n).0
 
     label_out : (x : ℕ) → count x whole ≡ 0 → label sp2 x ≡ label sp x
     label_out x n = label_not_right x (omega (arith, items x))
 
     -- what is labelled otherwise isn't in the ring
     out : (x : ℕ) → label sp x ≢ la → count x whole ≡ 0
-    out x n = elim (IsIn_or_not x whole) [ inl i ↦ absurd (n ((R.rings a a_there).one_label x i)) | inr m ↦ m ]
+    out x n = elim (IsIn_or_not x whole) [ inl i ↦ absurd (n ((R.rings a g.a_there).one_label x i)) | inr m ↦ m ]
 
     pub kept2 : (q c : ℕ) → q ≢ la → live sp c ≡ true → label sp c ≡ q → ring sp2 c ≡ ring sp c
     kept2 q c n h e = ring_out c h (out c (λ z. n (sym e ∙ z)))
 
     apart_l : l ≢ 0 → l ≢ la
     apart_l n e =
-        let f = free n in
-        let i : IsIn a (ring sp (are.stands a a_there looped).entry) = (are.stands a a_there looped).item in
-        let z : stored_content sp f.cell.stored ≡ cycle (ring sp (are.stands a a_there looped).entry) = ap (λ (c : LoopCell). stored_content sp c.stored) (same_Some _ _ (sym f.here ∙ ap (row_at loops) e ∙ (are.stands a a_there looped).here)) in
-        let k : count a (ring sp (are.stands a a_there looped).entry) ≡ 0 = ap (count a) (sym (ap items_of z) ∙ f.bare) in
+        let f = g.free n in
+        let i : IsIn a (ring sp (are.stands a g.a_there g.looped).entry) = (are.stands a g.a_there g.looped).item in
+        let z : stored_content sp f.cell.stored ≡ cycle (ring sp (are.stands a g.a_there g.looped).entry) = ap (λ (c : LoopCell). stored_content sp c.stored) (same_Some _ _ (sym f.here ∙ ap (row_at loops) e ∙ (are.stands a g.a_there g.looped).here)) in
+        let k : count a (ring sp (are.stands a g.a_there g.looped).entry) ≡ 0 = ap (count a) (sym (ap items_of z) ∙ f.bare) in
         absurd (omega arith)
 
     -- the rows after the cut
@@ -123,11 +150,11 @@ module _ (sp : Spots) (loops : List (Option LoopCell)) (R : AreRings sp) (are : 
 
       cut_entries : (q : ℕ) (cell : LoopCell) → row_at new q ≡ Some cell → HasEntry sp2 q cell.stored
       cut_entries q cell at = elim (eqb_tells q la) [
-        | inl p ↦ subst (HasEntry sp2 q) (ap (λ (c : LoopCell). c.stored) (same_Some _ _ (sym (ap (row_at new) p.1 ∙ at_la) ∙ at))) (live2 a ∙ a_there, label_left a a_left ∙ sym p.1)
+        | inl p ↦ subst (HasEntry sp2 q) (ap (λ (c : LoopCell). c.stored) (same_Some _ _ (sym (ap (row_at new) p.1 ∙ at_la) ∙ at))) (live2 a ∙ g.a_there, label_left a a_left ∙ sym p.1)
         | inr p ↦ elim (eqb_tells q l) [
           | inl r ↦
               let n : l ≢ 0 = λ z. true≢false (ap is_some (sym at) ∙ ap is_some (ap (row_at new) (r.1 ∙ z) ∙ new_zero)) in
-              subst (HasEntry sp2 q) (ap (λ (c : LoopCell). c.stored) (same_Some _ _ (sym (ap (row_at new) r.1 ∙ (at_l n).1) ∙ at))) (live2 b ∙ b_there, label_right b b_right ∙ sym r.1)
+              subst (HasEntry sp2 q) (ap (λ (c : LoopCell). c.stored) (same_Some _ _ (sym (ap (row_at new) r.1 ∙ (at_l n).1) ∙ at))) (live2 b ∙ g.b_there, label_right b b_right ∙ sym r.1)
           | inr r ↦ old q p.1 cell.stored (are.entries q cell (sym (elsewhere q p.1 r.1) ∙ at))
         ]
       ]
@@ -145,9 +172,9 @@ module _ (sp : Spots) (loops : List (Option LoopCell)) (R : AreRings sp) (are : 
               let there : live sp x ≡ true = sym (live2 x) ∙ h in
               let s = are.stands x there (λ z. n (e ∙ z)) in
               let ent = are.entries (label sp x) (record { face = s.face; stored = At s.entry }) s.here in
-              let not_la : label sp x ≢ la = λ z. let w : IsIn x whole = same_loop sp loops R are a x a_there there looped z in absurd (omega arith) in
+              let not_la : label sp x ≢ la = λ z. let w : IsIn x whole = same_loop sp loops R are a x g.a_there there g.looped z in absurd (omega arith) in
               let not_l : label sp x ≢ l = λ z.
-              let nz : l ≢ 0 = λ y. n (e ∙ z ∙ y) in let f = free nz in
+              let nz : l ≢ 0 = λ y. n (e ∙ z ∙ y) in let f = g.free nz in
               let c : stored_content sp f.cell.stored ≡ cycle (ring sp s.entry) = ap (λ (c : LoopCell). stored_content sp c.stored) (same_Some _ _ (sym f.here ∙ ap (row_at loops) (sym z) ∙ s.here)) in
               let u : count x (ring sp s.entry) ≡ 0 = ap (count x) (sym (ap items_of c) ∙ f.bare) in
               let i = s.item in absurd (omega arith) in
@@ -171,11 +198,11 @@ module _ (sp : Spots) (loops : List (Option LoopCell)) (R : AreRings sp) (are : 
     out_alike k n = loose_kept sp sp2 k (live2 k) (λ h. (label_out k n, ring_out k h n))
 
     in_none : (k : ℕ) → IsIn k whole → loose_row sp k ≡ None
-    in_none k i = loose_none sp k (λ z. looped (sym ((R.rings a a_there).one_label k i) ∙ z))
+    in_none k i = loose_none sp k (λ z. g.looped (sym ((R.rings a g.a_there).one_label k i) ∙ z))
 
     pub loose-cut_to : l ≢ 0 → tabulate (loose_row sp2) codes ≡ tabulate (loose_row sp) codes
     loose-cut_to n = loose_same sp sp2 (λ k. elim (IsIn_or_not k left) [
-      | inl i ↦ loose_none sp2 k (λ z. looped (sym (label_left k i) ∙ z)) ∙ sym (in_none k (omega (arith, items k)))
+      | inl i ↦ loose_none sp2 k (λ z. g.looped (sym (label_left k i) ∙ z)) ∙ sym (in_none k (omega (arith, items k)))
       | inr m ↦ elim (IsIn_or_not k right) [
         | inl i ↦ loose_none sp2 k (λ z. n (sym (label_right k i) ∙ z)) ∙ sym (in_none k (omega (arith, items k)))
         | inr j ↦ out_alike k (omega (arith, items k))
@@ -183,9 +210,9 @@ module _ (sp : Spots) (loops : List (Option LoopCell)) (R : AreRings sp) (are : 
     ])
 
     pub loose-cut_loose : l ≡ 0 → tabulate (loose_row sp2) codes ≡ loosened right (tabulate (loose_row sp) codes)
-    loose-cut_loose z = loose_added sp sp2 R rings2 b right (live2 b ∙ b_there) (label_right b b_right ∙ z) ring_of_right (λ k i. in_none k (omega (arith, items k)))
+    loose-cut_loose z = loose_added sp sp2 R rings2 b right (live2 b ∙ g.b_there) (label_right b b_right ∙ z) ring_of_right (λ k i. in_none k (omega (arith, items k)))
         (λ k m. elim (IsIn_or_not k left) [
-          | inl i ↦ loose_none sp2 k (λ y. looped (sym (label_left k i) ∙ y)) ∙ sym (in_none k (omega (arith, items k)))
+          | inl i ↦ loose_none sp2 k (λ y. g.looped (sym (label_left k i) ∙ y)) ∙ sym (in_none k (omega (arith, items k)))
           | inr j ↦ out_alike k (omega (arith, items k))
         ])
 
@@ -196,7 +223,7 @@ module _ (sp : Spots) (loops : List (Option LoopCell)) (R : AreRings sp) (are : 
     loops-cut rows fa is = loops_table sp sp2 loops rows are la (record { face = fa; stored = At a }) is kept2 ∙ ap (λ hs. put (table_of (loop_row sp) loops) la (record { face = fa; content = cycle hs })) ring_of_left
 
   -- a's loop takes the ring of b, which stands in another loop or in none
-  module _ (other : label sp b ≢ label sp a) where
+  module _ (a b : ℕ) (g : JoinFacts sp a b) where
     abbrev jla : ℕ
     jla = label sp a
 
@@ -219,35 +246,35 @@ module _ (sp : Spots) (loops : List (Option LoopCell)) (R : AreRings sp) (are : 
     joint = joined a b xs ys
 
     pub jrings1 : AreRings js1
-    jrings1 = AreRings-labelled sp R b jla b_there
+    jrings1 = AreRings-labelled sp R b jla g.b_there
 
     pub a_live1 : live js1 a ≡ true
-    a_live1 = live-labelled sp jla ys a ∙ a_there
+    a_live1 = live-labelled sp jla ys a ∙ g.a_there
 
     pub b_live1 : live js1 b ≡ true
-    b_live1 = live-labelled sp jla ys b ∙ b_there
+    b_live1 = live-labelled sp jla ys b ∙ g.b_there
 
     jring1 : (x : ℕ) → ring js1 x ≡ ring sp x
-    jring1 x = ring-labelled sp R b jla b_there x
+    jring1 x = ring-labelled sp R b jla g.b_there x
 
     -- the two rings have no item in common
     parted : (x : ℕ) → IsIn x xs → count x ys ≡ 0
-    parted x i = elim (IsIn_or_not x ys) [ inl j ↦ absurd (other (sym ((R.rings b b_there).one_label x j) ∙ (R.rings a a_there).one_label x i)) | inr n ↦ n ]
+    parted x i = elim (IsIn_or_not x ys) [ inl j ↦ absurd (g.other (sym ((R.rings b g.b_there).one_label x j) ∙ (R.rings a g.a_there).one_label x i)) | inr n ↦ n ]
 
     b_apart : count b (ring js1 a) ≡ 0
-    b_apart = ap (count b) (jring1 a) ∙ elim (IsIn_or_not b xs) [ inl i ↦ absurd (other ((R.rings a a_there).one_label b i)) | inr n ↦ n ]
+    b_apart = ap (count b) (jring1 a) ∙ elim (IsIn_or_not b xs) [ inl i ↦ absurd (g.other ((R.rings a g.a_there).one_label b i)) | inr n ↦ n ]
 
     label_ys : (x : ℕ) → IsIn x ys → label js1 x ≡ jla
-    label_ys x i = label-labelled_in sp jla ys x i ((R.rings b b_there).awake x i)
+    label_ys x i = label-labelled_in sp jla ys x i ((R.rings b g.b_there).awake x i)
 
     label_not_ys : (x : ℕ) → count x ys ≡ 0 → label js1 x ≡ label sp x
     label_not_ys x n = label-labelled_out sp jla ys x n
 
     label_a1 : label js1 a ≡ jla
-    label_a1 = label_not_ys a (parted a (R.rings a a_there).item)
+    label_a1 = label_not_ys a (parted a (R.rings a g.a_there).item)
 
     one1 : label js1 b ≡ label js1 a
-    one1 = label_ys b (R.rings b b_there).item ∙ sym label_a1
+    one1 = label_ys b (R.rings b g.b_there).item ∙ sym label_a1
 
     pub jrings2 : AreRings js2
     jrings2 = AreRings-join js1 jrings1 a b a_live1 b_live1 b_apart one1
@@ -264,7 +291,7 @@ module _ (sp : Spots) (loops : List (Option LoopCell)) (R : AreRings sp) (are : 
     jlabel_in : (x : ℕ) → IsIn x joint → label js2 x ≡ jla
     jlabel_in x i = label-spliced js1 a b x ∙ elim (IsIn_or_not x ys) [
       | inl j ↦ label_ys x j
-      | inr n ↦ label_not_ys x n ∙ (R.rings a a_there).one_label x (omega (arith, jitems x))
+      | inr n ↦ label_not_ys x n ∙ (R.rings a g.a_there).one_label x (omega (arith, jitems x))
     ]
 
     jlabel_out : (x : ℕ) → count x ys ≡ 0 → label js2 x ≡ label sp x
@@ -280,8 +307,8 @@ module _ (sp : Spots) (loops : List (Option LoopCell)) (R : AreRings sp) (are : 
     jaway : (x : ℕ) → label sp x ≢ jla → label sp x ≢ jlb → count x joint ≡ 0
     jaway x n m = elim (IsIn_or_not x joint) [
       | inl i ↦ elim (IsIn_or_not x xs) [
-        | inl j ↦ absurd (n ((R.rings a a_there).one_label x j))
-        | inr k ↦ let j : IsIn x ys = omega (arith, jitems x) in absurd (m ((R.rings b b_there).one_label x j))
+        | inl j ↦ absurd (n ((R.rings a g.a_there).one_label x j))
+        | inr k ↦ let j : IsIn x ys = omega (arith, jitems x) in absurd (m ((R.rings b g.b_there).one_label x j))
       ]
       | inr k ↦ k
     ]
@@ -299,21 +326,21 @@ module _ (sp : Spots) (loops : List (Option LoopCell)) (R : AreRings sp) (are : 
     jout_alike k n = loose_kept sp js2 k (jlive2 k) (λ h. (jlabel_out k (omega (arith, jitems k)), jring_out k h n))
 
     jin_none : (k : ℕ) → IsIn k joint → loose_row js2 k ≡ None
-    jin_none k i = loose_none js2 k (λ z. looped (sym (jlabel_in k i) ∙ z))
+    jin_none k i = loose_none js2 k (λ z. g.looped (sym (jlabel_in k i) ∙ z))
 
     pub loose-join_loops : jlb ≢ 0 → tabulate (loose_row js2) codes ≡ tabulate (loose_row sp) codes
     loose-join_loops n = loose_same sp js2 (λ k. elim (IsIn_or_not k xs) [
-      | inl i ↦ jin_none k (omega (arith, jitems k)) ∙ sym (loose_none sp k (λ z. looped (sym ((R.rings a a_there).one_label k i) ∙ z)))
+      | inl i ↦ jin_none k (omega (arith, jitems k)) ∙ sym (loose_none sp k (λ z. g.looped (sym ((R.rings a g.a_there).one_label k i) ∙ z)))
       | inr m ↦ elim (IsIn_or_not k ys) [
-        | inl i ↦ jin_none k (omega (arith, jitems k)) ∙ sym (loose_none sp k (λ z. n (sym ((R.rings b b_there).one_label k i) ∙ z)))
+        | inl i ↦ jin_none k (omega (arith, jitems k)) ∙ sym (loose_none sp k (λ z. n (sym ((R.rings b g.b_there).one_label k i) ∙ z)))
         | inr j ↦ jout_alike k (omega (arith, jitems k))
       ]
     ])
 
     pub loose-join_loose : tabulate (loose_row js2) codes ≡ remove (tabulate (loose_row sp) codes) (head_or 0 ys)
-    loose-join_loose = loose_removed sp js2 R jrings2 b b_there (λ k i. jin_none k (jitem_ys k i))
+    loose-join_loose = loose_removed sp js2 R jrings2 b g.b_there (λ k i. jin_none k (jitem_ys k i))
         (λ k m. elim (IsIn_or_not k xs) [
-          | inl i ↦ jin_none k (omega (arith, jitems k)) ∙ sym (loose_none sp k (λ z. looped (sym ((R.rings a a_there).one_label k i) ∙ z)))
+          | inl i ↦ jin_none k (omega (arith, jitems k)) ∙ sym (loose_none sp k (λ z. g.looped (sym ((R.rings a g.a_there).one_label k i) ∙ z)))
           | inr j ↦ jout_alike k (omega (arith, jitems k))
         ])
 
@@ -335,7 +362,7 @@ module _ (sp : Spots) (loops : List (Option LoopCell)) (R : AreRings sp) (are : 
 
       join_entries : (q : ℕ) (cell : LoopCell) → row_at new q ≡ Some cell → HasEntry js2 q cell.stored
       join_entries q cell at = elim (eqb_tells q jla) [
-        | inl p ↦ subst (HasEntry js2 q) (ap (λ (c : LoopCell). c.stored) (same_Some _ _ (sym (ap (row_at new) p.1 ∙ at_la) ∙ at))) (jlive2 d ∙ (R.rings a a_there).awake d d_in, jlabel_in d (joint_in d d_in) ∙ sym p.1)
+        | inl p ↦ subst (HasEntry js2 q) (ap (λ (c : LoopCell). c.stored) (same_Some _ _ (sym (ap (row_at new) p.1 ∙ at_la) ∙ at))) (jlive2 d ∙ (R.rings a g.a_there).awake d d_in, jlabel_in d (joint_in d d_in) ∙ sym p.1)
         | inr p ↦ elim (eqb_tells q jlb) [
           | inl r ↦ subst (HasEntry js2 q) (sym (at_lb cell (ap (row_at new) (sym r.1) ∙ at))) tt
           | inr r ↦ jold q p.1 r.1 cell.stored (are.entries q cell (sym (elsewhere q p.1 r.1) ∙ at))
@@ -350,8 +377,8 @@ module _ (sp : Spots) (loops : List (Option LoopCell)) (R : AreRings sp) (are : 
             let there : live sp x ≡ true = sym (jlive2 x) ∙ h in
             let s = are.stands x there (λ z. n (e ∙ z)) in
             let ent = are.entries (label sp x) (record { face = s.face; stored = At s.entry }) s.here in
-            let not_la : label sp x ≢ jla = λ z. let w : IsIn x xs = same_loop sp loops R are a x a_there there looped z in absurd (omega (arith, jitems x)) in
-            let not_lb : label sp x ≢ jlb = λ z. let w : IsIn x ys = same_loop sp loops R are b x b_there there (λ y. n (e ∙ z ∙ y)) z in absurd (omega (arith, jitems x)) in
+            let not_la : label sp x ≢ jla = λ z. let w : IsIn x xs = same_loop sp loops R are a x g.a_there there g.looped z in absurd (omega (arith, jitems x)) in
+            let not_lb : label sp x ≢ jlb = λ z. let w : IsIn x ys = same_loop sp loops R are b x g.b_there there (λ y. n (e ∙ z ∙ y)) z in absurd (omega (arith, jitems x)) in
             subst (StandsAt js2 new x) (sym e) (record {
               face = s.face;
               entry = s.entry;

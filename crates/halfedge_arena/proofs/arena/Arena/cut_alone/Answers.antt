@@ -7,7 +7,8 @@ use Rattle.arena_rows.specs.Common.{label}
 use Rattle.arena_rows.proofs.ring_spots_laws.RingMaps.{next_some}
 use Rattle.arena_rows.proofs.ring_spots_laws.SpotTables.{edge_below}
 use Rattle.arena_rows.proofs.Stands.{half_there}
-use Rattle.arena_rows.proofs.CutStore.{CutFacts, cut_facts, row_of, is_at, cut_zero, next_before, tied_cut_loose, store_cut_loose}
+use Rattle.arena_rows.proofs.Cutting.{CutFacts}
+use Rattle.arena_rows.proofs.CutStore.{cut_facts, row_of, is_at, cut_zero, next_before, tied_cut_loose, store_cut_loose}
 use Rattle.arena_rows.proofs.Indexed.{indexed_same_loops, owner_kept}
 use Rattle.halfedge_arena.proofs.arena.Arena.cut_alone.Goals as goal
 

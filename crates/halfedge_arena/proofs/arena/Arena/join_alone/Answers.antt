@@ -5,7 +5,8 @@ use Rattle.arena_rows.specs.Common.{label}
 use Rattle.arena_rows.proofs.ring_spots_laws.RingMaps.{next_some}
 use Rattle.arena_rows.proofs.ring_spots_laws.SpotTables.{edge_below}
 use Rattle.arena_rows.proofs.Stands.{half_there, loop_of_is}
-use Rattle.arena_rows.proofs.CutStore.{JoinFacts, join_facts, next_alone, tied_join_kept, store_join_kept, join_zero}
+use Rattle.arena_rows.proofs.Cutting.{JoinFacts}
+use Rattle.arena_rows.proofs.CutStore.{join_facts, next_alone, tied_join_kept, store_join_kept, join_zero}
 use Rattle.halfedge_arena.proofs.arena.Arena.join_alone.Goals as goal
 
 pub code-first-requires : goal.code-first-requires
