@@ -5,17 +5,16 @@ use Rattle.euler_operators.specs.Common.{Point, dot, Model, no_point, solid_of, 
 use Rattle.euler_operators.specs.Table as table
 use Rattle.euler_operators.proofs.Common.{all_where_none, none_add, second_corner, third_corner, fourth_corner, rectangle_flat, rectangle_raised, solid_row}
 use Rattle.euler_laws.proofs.Common.{all_hold}
-use Rattle.shapes.specs.Common.{taken_in, lamina_conditions, lamina_refusal, lamina_at, lamina_model, lamina_face, prism_refusal, prism_model, vector, base_of, block_conditions, block_refusal, block_model, normal, is_flat, six_volume}
+use Rattle.shapes.specs.Common.{taken_in, lamina_conditions, lamina_refusal, lamina_at, lamina_model, lamina_face, prism_refusal, prism_model, vector, base_of, block_refusal, block_model, normal, is_flat, six_volume}
 use Rattle.sweeps_laws.proofs.lamina.Walk.{lamina_is_sound}
-use Rattle.sweeps_laws.proofs.lamina.Blocks.{blocks_have_bases, bases_rise}
+use Rattle.sweeps_laws.proofs.lamina.Blocks.{block_goes, blocks_have_bases, bases_rise}
 use Rattle.sweeps_laws.proofs.FromSound.{sound_bounded, sweep_adds, sweep_keeps_others}
 use Rattle.sweeps_laws.proofs.LaminaVolumes.{lamina_volume, flat_volume, base, base_normal, base_volume}
 use Rattle.sweeps_laws.specs.Laws.{BlockMeasures, BlockKeepsOthers, LaminaMeasures, FlatLaminasMeasureNothing, LaminaKeepsOthers}
 use Rattle.sweeps_laws.proofs.LaminaRows.{solid_one, lamina_keeps}
 
 solid_free : (M : Model) (s : ℕ) (p : Point) (dx dy dz : ℤ) → block_refusal M s p dx dy dz ≡ None → table.has M.solids s ≡ false
-unfolding block_conditions
-solid_free M s p dx dy dz e = not-true _ (all_hold (block_conditions M s p dx dy dz) e).1.0
+solid_free M s p dx dy dz e = (block_goes M s p dx dy dz e).solid_free
 
 -- a solid that isn't there has no face
 no_faces : (M : Model) (s : ℕ) → Sound M → table.has M.solids s ≡ false → faces_of M s ≡ []

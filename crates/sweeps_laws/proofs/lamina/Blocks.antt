@@ -1,12 +1,12 @@
 -- Where a block can be made: the lamina of its base can be made, and then its first face can be swept up.
 use Rattle.std.proofs.Common.{◌≡◌, ◌≢◌, ℕ, zero, suc, ◌+◌, ◌*◌, ◌<◌, ℤ, pos, negsuc, ◌+ℤ◌, Bool, true, false, cond, not, ◌&&◌, List, [], ◌∷◌, ◌++◌, Some, None, is_some, refl, sym, ap, ◌∙◌, subst, arith, true≢false, Option, length, int_le, int_eq}
-use Rattle.std.proofs.lemmas.Bool.Decides.{nat_tests}
+use Rattle.std.proofs.lemmas.Bool.{not-true}
 use Rattle.std.proofs.lemmas.Int.{ints}
-use Rattle.euler_operators.specs.Common.{Point, is_coordinate, is_in_range, origin, moved, same_point, plus, Model, cycle, outer, tail, point_of, Sound, Condition, need, never, first_refusal, numbers_in_range}
+use Rattle.euler_operators.specs.Common.{Point, is_coordinate, is_in_range, origin, moved, same_point, plus, Model, cycle, outer, tail, point_of, Sound, AllHold, Condition, need, never, first_refusal, is_number, numbers_in_range}
 use Rattle.euler_operators.specs.Table as table
 use Rattle.euler_operators.proofs.Common.{content_row, outer_row, plus_tail_row, and_first, and_second, add_none}
 use Rattle.euler_operators.specs.declared.Why.TheVariants.{NoFace, ZeroSweep, LoneLoop, PointRange}
-use Rattle.euler_laws.proofs.Common.{all_hold, none_refuses}
+use Rattle.euler_laws.proofs.Common.{◌also◌, all_hold, none_refuses}
 use Rattle.shapes.proofs.Common.{greatest-put_last, Left, numbers_are_left, left_numbers_hold, number_fits}
 use Rattle.shapes.specs.Common.{corners, loops_of, vertices_in, vertices_on, least_lone, Taken, taken_in, numbers_left, no_such, first_such, first_far, first_repeated, lamina_conditions, lamina_model, prism_conditions, prism_refusal, vector, base_of, block_conditions, block_refusal}
 use Rattle.sweeps_laws.specs.lamina.Laws.{BlocksHaveBases, BasesRise}
@@ -52,6 +52,32 @@ rise_other u l e = absurd (true≢false (sym l ∙ ap (int_le (pos 1)) e))
 in_range : (q : Point) (x y z : ℤ) → q.x ≡ x → q.y ≡ y → q.z ≡ z → is_coordinate x ≡ true → is_coordinate y ≡ true → is_coordinate z ≡ true → is_in_range q ≡ true
 in_range q x y z ex ey ez a b c = λ i. (ap is_coordinate ex ∙ a) i && ((ap is_coordinate ey ∙ b) i && (ap is_coordinate ez ∙ c) i)
 
+-- what the conditions of a block say, by name
+pub record BlockGoes (M : Model) (s : ℕ) (p : Point) (dx dy dz : ℤ) : Type 0 where
+  pub solid_fits : is_number s ≡ true
+  pub solid_free : table.has M.solids s ≡ false
+  pub long : int_le (pos 1) dx ≡ true
+  pub wide : int_le (pos 1) dy ≡ true
+  pub high : int_le (pos 1) dz ≡ true
+  pub near : is_in_range p ≡ true
+  pub far : is_in_range (moved p (vector dx dy dz)) ≡ true
+  pub left : Left (taken_in M) 6 6 12 8
+
+pub block_goes : (M : Model) (s : ℕ) (p : Point) (dx dy dz : ℤ) → block_refusal M s p dx dy dz ≡ None → BlockGoes M s p dx dy dz
+unfolding block_conditions
+block_goes M s p dx dy dz e = named (all_hold (block_conditions M s p dx dy dz) e) where
+  named : AllHold (block_conditions M s p dx dy dz) → BlockGoes M s p dx dy dz
+  named (number, (taken, (x_grows, (y_grows, (z_grows, (first, (last, room))))))) = record {
+    solid_fits = number;
+    solid_free = not-true _ taken;
+    long = x_grows;
+    wide = y_grows;
+    high = z_grows;
+    near = first;
+    far = last;
+    left = numbers_are_left (taken_in M) 6 6 12 8 room;
+  }
+
 -- the coordinates of the two corners that a block names are in range
 record Ranges (p : Point) (dx dy dz : ℤ) : Type 0 where
   px : is_coordinate p.x ≡ true
@@ -61,20 +87,15 @@ record Ranges (p : Point) (dx dy dz : ℤ) : Type 0 where
   qy : is_coordinate (p.y +ℤ dy) ≡ true
   qz : is_coordinate (p.z +ℤ dz) ≡ true
 
-ranges : (M : Model) (s : ℕ) (p : Point) (dx dy dz : ℤ) → block_refusal M s p dx dy dz ≡ None → Ranges p dx dy dz
-unfolding block_conditions
-ranges M s p dx dy dz e =
-    let w = all_hold (block_conditions M s p dx dy dz) e in
-    let near = w.1.1.1.1.1.0 in
-    let far = w.1.1.1.1.1.1.0 in
-    record {
-      px = and_first (is_coordinate p.x) _ near;
-      py = and_first (is_coordinate p.y) _ (and_second (is_coordinate p.x) _ near);
-      pz = and_second (is_coordinate p.y) _ (and_second (is_coordinate p.x) _ near);
-      qx = and_first (is_coordinate (p.x +ℤ dx)) _ far;
-      qy = and_first (is_coordinate (p.y +ℤ dy)) _ (and_second (is_coordinate (p.x +ℤ dx)) _ far);
-      qz = and_second (is_coordinate (p.y +ℤ dy)) _ (and_second (is_coordinate (p.x +ℤ dx)) _ far);
-    }
+ranges : (p : Point) (dx dy dz : ℤ) → is_in_range p ≡ true → is_in_range (moved p (vector dx dy dz)) ≡ true → Ranges p dx dy dz
+ranges p dx dy dz near far = record {
+  px = and_first (is_coordinate p.x) _ near;
+  py = and_first (is_coordinate p.y) _ (and_second (is_coordinate p.x) _ near);
+  pz = and_second (is_coordinate p.y) _ (and_second (is_coordinate p.x) _ near);
+  qx = and_first (is_coordinate (p.x +ℤ dx)) _ far;
+  qy = and_first (is_coordinate (p.y +ℤ dy)) _ (and_second (is_coordinate (p.x +ℤ dx)) _ far);
+  qz = and_second (is_coordinate (p.y +ℤ dy)) _ (and_second (is_coordinate (p.x +ℤ dx)) _ far);
+}
 
 -- ---- the lamina of the base
 
@@ -86,43 +107,29 @@ pub none_repeated : (a b g h : Point) → same_point b a ≡ false → same_poin
 none_repeated a b g h ba ga gb ha hb hg = cc
 
 pub blocks_have_bases : BlocksHaveBases
-unfolding block_conditions lamina_conditions
+unfolding lamina_conditions
 blocks_have_bases M s p dx dy dz e =
-    let w = all_hold (block_conditions M s p dx dy dz) e in
-    let r = ranges M s p dx dy dz e in
-    let left = w.1.1.1.1.1.1.1 in
+    let goes = block_goes M s p dx dy dz e in
+    let r = ranges p dx dy dz goes.near goes.far in
     let b : Point = moved p (vector dx (pos 0) (pos 0)) in
     let g : Point = moved p (vector dx dy (pos 0)) in
     let h : Point = moved p (vector (pos 0) dy (pos 0)) in
-    let x_grows = grown_other p.x dx w.1.1.0 in
-    let y_grows = grown_other p.y dy w.1.1.1.0 in
-    let near = all_near p b g h w.1.1.1.1.1.0
+    let x_grows = grown_other p.x dx goes.long in
+    let y_grows = grown_other p.y dy goes.wide in
+    let near = all_near p b g h goes.near
     (in_range b (p.x +ℤ dx) p.y p.z refl (add_none p.y) (add_none p.z) r.qx r.py r.pz)
     (in_range g (p.x +ℤ dx) (p.y +ℤ dy) p.z refl refl (add_none p.z) r.qx r.qy r.pz)
     (in_range h p.x (p.y +ℤ dy) p.z (add_none p.x) refl (add_none p.z) r.px r.qy r.pz) in
     let apart = none_repeated p b g h (other_x b p x_grows) (other_x g p x_grows) (other_y g b (λ t. y_grows (t ∙ add_none p.y)))
     (other_y h p y_grows) (other_x h b (λ t. x_grows (sym t ∙ add_none p.x))) (other_x h g (λ t. x_grows (sym t ∙ add_none p.x))) in
+    let left : Left (taken_in M) 2 2 4 4 = record { faces = omega (arith, goes.left.faces); loops = omega (arith, goes.left.loops); edges = omega (arith, goes.left.edges); vertices = omega (arith, goes.left.vertices) } in
     none_refuses (lamina_conditions M s (base_of p dx dy)) (
-      w.0,
-      (
-        w.1.0,
-        (
-          refl,
-          (
-            ap (λ (o : Option ℕ). not (is_some o)) near,
-            (
-              ap (λ (o : Option ℕ). not (is_some o)) apart,
-              (
-                grind (arith, nat_tests, left.0),
-                (
-                  grind (arith, nat_tests, left.1.0),
-                  (grind (arith, nat_tests, left.1.1.0), (grind (arith, nat_tests, left.1.1.1.0), tt)),
-                ),
-              ),
-            ),
-          ),
-        ),
-      ),
+    goes.solid_fits
+    also ap not goes.solid_free
+    also refl
+    also ap (λ (o : Option ℕ). not (is_some o)) near
+    also ap (λ (o : Option ℕ). not (is_some o)) apart
+    also left_numbers_hold (taken_in M) 2 2 4 4 left
     )
 
 -- ---- the lamina of four points
@@ -136,10 +143,6 @@ module _ (M : Model) (sound : Sound M) (c : Taken) (is : c ≡ taken_in M) (s : 
 
   bounded : Bounded M c
   bounded = subst (Bounded M) (sym is) (sound_bounded M sound)
-
-  greatest_edge : table.greatest M.edges ≡ c.edge
-  unfolding taken_in
-  greatest_edge = ap (λ k. k.edge) (sym is)
 
   -- its vertices and their points
   on_path : (i : ℕ) → i < 3 → tail base (plus (c.edge + suc i)) ≡ c.vertex + suc i
@@ -193,17 +196,17 @@ module _ (M : Model) (sound : Sound M) (c : Taken) (is : c ≡ taken_in M) (s : 
       )
 
 pub bases_rise : BasesRise
-unfolding block_conditions lamina_model
+unfolding lamina_model
 bases_rise M s p dx dy dz sound e =
-    let w = all_hold (block_conditions M s p dx dy dz) e in
-    let r = ranges M s p dx dy dz e in
+    let goes = block_goes M s p dx dy dz e in
+    let r = ranges p dx dy dz goes.near goes.far in
     let b : Point = moved p (vector dx (pos 0) (pos 0)) in
     let g : Point = moved p (vector dx dy (pos 0)) in
     let h : Point = moved p (vector (pos 0) dy (pos 0)) in
     let d : Point = vector (pos 0) (pos 0) dz in
-    rises M sound (taken_in M) refl s p b g h d (other_z d origin (rise_other dz w.1.1.1.1.0))
+    rises M sound (taken_in M) refl s p b g h d (other_z d origin (rise_other dz goes.high))
     (in_range (moved p d) p.x p.y (p.z +ℤ dz) (add_none p.x) (add_none p.y) refl r.px r.py r.qz)
     (in_range (moved b d) (p.x +ℤ dx) p.y (p.z +ℤ dz) (add_none (p.x +ℤ dx)) (omega (arith, ints)) (omega (arith, ints)) r.qx r.py r.qz)
     (in_range (moved g d) (p.x +ℤ dx) (p.y +ℤ dy) (p.z +ℤ dz) (add_none (p.x +ℤ dx)) (add_none (p.y +ℤ dy)) (omega (arith, ints)) r.qx r.qy r.qz)
     (in_range (moved h d) p.x (p.y +ℤ dy) (p.z +ℤ dz) (omega (arith, ints)) (add_none (p.y +ℤ dy)) (omega (arith, ints)) r.px r.qy r.qz)
-    (numbers_are_left (taken_in M) 6 6 12 8 w.1.1.1.1.1.1.1)
+    goes.left
