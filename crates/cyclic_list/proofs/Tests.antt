@@ -1,5 +1,5 @@
 -- What tests of numbers and sums of tests tell.
-use Rattle.std.proofs.Common.{◌≡◌, ◌≢◌, ℕ, suc, ◌<◌, ◌≤◌, ◌||◌, ◌&&◌, Bool, true, false, not, nat_eq, nat_lt, refl, sym, ◌∙◌, arith, ◌⊎◌, true≢false, nat_cmp, is_eq}
+use Rattle.std.proofs.Common.{◌≡◌, ◌≢◌, ℕ, suc, ◌<◌, ◌≤◌, ◌||◌, ◌&&◌, Bool, true, false, not, nat_eq, refl, sym, ◌∙◌, arith, ◌⊎◌, true≢false, nat_cmp, is_eq}
 use mathlib.Core.Bool.{beq}
 use Rattle.std.proofs.lemmas.Bool.Decides.{nat_tests}
 
@@ -58,10 +58,6 @@ nat_eq_itself n = grind (arith, nat_tests)
 
 pub nat_eq_turned : (a b : ℕ) → nat_eq a b ≡ nat_eq b a
 nat_eq_turned a b = grind (arith, nat_tests)
-
-pub less_and : (m k : ℕ) (b : Bool) → (nat_lt m k && b) ≡ true → (m < k) × (b ≡ true)
-less_and m k true e = (grind (arith, nat_tests), refl)
-less_and m k false e = grind (arith, nat_tests)
 
 -- a number that is f is o no more than l
 pub none_but : (a f o l : ℕ) → (a ≡ f → o ≡ l) → (nat_eq a f && not (nat_eq o l)) ≡ false

@@ -1,7 +1,7 @@
 -- Where a segment meets a plane: how great the numbers are.
-use Rattle.std.proofs.Common.{◌≡◌, ◌≢◌, ℕ, ◌*◌, ◌≤◌, true, false, cond, ℤ, pos, Some, None, refl, sym, ap, subst, ◌∙◌, arith, ◌+ℤ◌, ◌-ℤ◌, ◌*ℤ◌, FitsSigned, Option, unsigned_abs, int_div, int_rem, int_eq}
+use Rattle.std.proofs.Common.{◌≡◌, ℕ, ◌*◌, ◌≤◌, true, cond, ℤ, pos, Some, None, refl, sym, ap, subst, ◌∙◌, arith, ◌+ℤ◌, ◌-ℤ◌, ◌*ℤ◌, FitsSigned, unsigned_abs, int_div, int_rem, int_eq}
 use Rattle.std.specs.Int.{cast_signed, cast_unsigned}
-use Rattle.std.proofs.lemmas.Int.{ints, to_z-of_z, fits_signed_from_abs, quot_is}
+use Rattle.std.proofs.lemmas.Int.{to_z-of_z, fits_signed_from_abs, quot_is}
 use lib.Signed.{mag_rem}
 use mir.Syntax.{w64, w128}
 use Rattle.lattice.specs.declared.Point.{Point}
@@ -24,9 +24,6 @@ height_within s p w r =
 
 zero_bits : (z : ℤ) → FitsSigned w128 z → cast_unsigned w128 z ≡ 0 → int_eq z (pos 0) ≡ true
 zero_bits z f e = let h : z ≡ pos 0 = sym (held_is z f) ∙ ap (cast_signed w128) e in ap (λ y. int_eq y (pos 0)) h
-
-no_zero_bits : (z : ℤ) → FitsSigned w128 z → cast_unsigned w128 z ≢ 0 → int_eq z (pos 0) ≡ false
-no_zero_bits z f ne = grind (arith, ints)
 
 module _ (m w : ℤ) (fm : FitsSigned w128 m) (fw : FitsSigned w128 w) (range : unsigned_abs m ≤ 1000000000 * unsigned_abs w) where
   quotient_fits : FitsSigned w128 (int_div m w)
@@ -52,9 +49,6 @@ module _ (m w : ℤ) (fm : FitsSigned w128 m) (fw : FitsSigned w128 w) (range : 
 
   pub whole_told : cast_unsigned w128 (int_rem (held m) (held w)) ≡ 0 → Some (held_short (held (int_div (held m) (held w)))) ≡ whole_quotient m w
   whole_told e = ap Some quotient_is ∙ sym (ap (λ b. cond b (Some (int_div m w)) None) (zero_bits (int_rem m w) remainder_fits (remainder_bits 0 e)))
-
-  pub none_told : cast_unsigned w128 (int_rem (held m) (held w)) ≢ 0 → ◌≡◌ {A = Option ℤ} None (whole_quotient m w)
-  none_told ne = sym (ap (λ b. cond b (Some (int_div m w)) None) (no_zero_bits (int_rem m w) remainder_fits (λ z. ne ((λ i. cast_unsigned w128 (int_rem (held_is m fm i) (held_is w fw i))) ∙ z))))
 
 -- the difference of two heights
 pub gap_told : (m n : ℤ) → IsWithin 6000000000000000000 m → IsWithin 6000000000000000000 n → IsExactWithin 12000000000000000000 (held m -ℤ held n) (m -ℤ n)

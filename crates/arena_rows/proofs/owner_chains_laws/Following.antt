@@ -1,5 +1,5 @@
 -- What follows an item, and what comes before it.
-use Rattle.std.proofs.Common.{◌≡◌, ◌≢◌, ℕ, ◌≤◌, ◌<◌, Bool, true, cond, List, Option, Some, None, is_some, sym, ap, subst, ◌∙◌, arith, true≢false, eq-eqb, ne_eqb, inl, inr}
+use Rattle.std.proofs.Common.{◌≡◌, ◌≢◌, ℕ, ◌≤◌, ◌<◌, Bool, true, cond, List, Option, Some, None, is_some, sym, ap, subst, ◌∙◌, arith, true≢false, ne_eqb, inl, inr}
 use Rattle.std.proofs.lemmas.Bool.Decides.{eqb_tells}
 use Rattle.arena_rows.specs.declared.owner_chains.rows.Head.{Head}
 use Rattle.arena_rows.specs.declared.owner_chains.rows.Link.{Link}
@@ -26,9 +26,6 @@ item_row links o n h = go (link_at links n) (λ i. link_at links n) h where
 
 pub item_there : (links : List (Option Link)) (o n : ℕ) → items links o n ≡ true → is_some (link_at links n) ≡ true
 item_there links o n h = let row = item_row links o n h in ap is_some row.here
-
-pub is_item : (links : List (Option Link)) (n : ℕ) (link : Link) → link_at links n ≡ Some link → items links link.owner n ≡ true
-is_item links n link here = ap (is_of link.owner) here ∙ eq-eqb link.owner link.owner (λ i. link.owner)
 
 module _ (heads : List (Option Head)) (links : List (Option Link)) (are : AreChained heads links) (o : ℕ) where
   pub next_above : (n : ℕ) (link : Link) → link_at links n ≡ Some link → link.owner ≡ o → IsAbove (items links o) n link.next

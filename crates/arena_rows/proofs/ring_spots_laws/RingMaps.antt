@@ -1,7 +1,7 @@
 -- What the map of the rings says of each code once it is changed.
 use Rattle.std.proofs.Common.{◌≡◌, ◌≢◌, ℕ, Bool, true, false, cond, nat_eq, Option, Some, None, is_some, Result, Ok, Err, OnOk, OnErr, refl, sym, ap, ◌∙◌, true≢false, eq-eqb, ne_eqb, inl, inr, eqb-true, nat_cmp}
 use Rattle.std.proofs.lemmas.Bool.Decides.{eqb_tells}
-use Rattle.std.specs.FinMap.{get, insert, contains_key, empty}
+use Rattle.std.specs.FinMap.{get, insert, contains_key}
 use Rattle.std.specs.FinMap as map
 use Rattle.raw_ring.specs.Rings.{Spot, RingMap, spot, awake, or_zero, of_spot, next_of, put_spot, with_spot, with_next, with_tail, with_room, spliced}
 use Rattle.raw_ring.proofs.Mapping.{get-put}
@@ -52,9 +52,6 @@ module _ (m : RingMap) (c : ℕ) (f : Spot → Spot) where
     go : (o : Option Spot) → spot m c ≡ o → contains_key (put_spot m c f o) q ≡ contains_key m q
     go None e = refl
     go (Some s) e = known_kept m c (Some (f s)) (live_known m c (ap is_some e)) q
-
-pub next_is : (m : RingMap) (c : ℕ) → next (spot m) c ≡ or_zero (next_of m c)
-next_is m c = refl
 
 same_next : (o : Option Spot) → map_spot (λ s. record s { next = or_zero (of_spot (λ s. s.next) o) }) o ≡ o
 same_next None = refl

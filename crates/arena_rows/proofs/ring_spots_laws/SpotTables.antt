@@ -71,10 +71,6 @@ module _ (sp : Spots) (R : AreRings sp) where
     go true q = refl
     go false q = let p : codes ≤ k = grind (arith, nat_tests) in sym (loose_far k p)
 
-  -- the least item of a ring
-  pub head : ℕ → ℕ
-  head h = head_or 0 (ring sp h)
-
   pub head_in : (h : ℕ) → live sp h ≡ true → IsIn (head_or 0 (ring sp h)) (ring sp h)
   head_in h a =
       let e : head_or 0 (ring sp h) ≡ least (ring sp h) = ap (head_or 0) (sym (canonical_ring sp R h a)) ∙ head_canonical (ring sp h) in

@@ -145,10 +145,6 @@ module _ (N : Model) (next : ℕ → ℕ) (w : Walks N next) where
   pub cycles-walks : (l : ℕ) (hs : List ℕ) → Has N.loops l → content N l ≡ cycle hs → IsCycle hs
   cycles-walks l hs t e = (subst (IsLoop next) e (w.loops l t)).0
 
-  ring_items : (c : LoopContent) → IsLoop next c → IsRing next (items_of c)
-  ring_items (lone v) l = tt
-  ring_items (cycle hs) l = l.1
-
   pub after-walks : (x : ℕ) → HasHalf N x → after N x ≡ next x
   unfolding after
   after-walks x t =

@@ -1,7 +1,7 @@
 -- What mekr's writers make of a store, one after another.
 use Rattle.std.proofs.Common.{◌≡◌, ◌≢◌, ℕ, ◌+◌, true, false, List, [], ◌∷◌, ◌++◌, Some, None, is_some, refl, sym, ap, ◌∙◌, subst, arith, true≢false}
 use Rattle.euler_operators.specs.Common.{count, tick, IsIn, IsApart, canonical, rotate_to, joined, HalfEdge, Corner, At, Lone, code, mate, edge_of, Table, Model, LoopContent, lone, cycle, items_of, content, face_of, loop_of, cycle_of, has_half, Sound, first_false, conditions, corner_known, corner_lone, corner_loop, corner_tail, corner_list, is_lone, effect, mekr, edge_row}
-use Rattle.euler_operators.proofs.Common.{count-append, tick_same, tick_other, count-canonical, canonical_one, apart_front, rest_canonical, mate_other, edge_of-code, put_same, cycle_there, number_real}
+use Rattle.euler_operators.proofs.Common.{count-append, tick_same, count-canonical, canonical_one, apart_front, rest_canonical, mate_other, edge_of-code, put_same, cycle_there, number_real}
 use Rattle.euler_operators.specs.Table as table
 use Rattle.euler_operators.specs.declared.Op.TheVariants.{Mekr}
 use Rattle.euler_conditions.specs.Ready.{Accepts, after}
@@ -145,9 +145,6 @@ module _ (s : Store) (first second : Corner) (half : HalfEdge) (ok : Accepts s (
   hm : h ≢ m
   hm = mate_other h
 
-  m_h : tick m h ≡ 0
-  m_h = tick_other m h (λ e. hm (sym e))
-
   abbrev loose : Table (List ℕ)
   loose = pair h m hm
 
@@ -160,12 +157,6 @@ module _ (s : Store) (first second : Corner) (half : HalfEdge) (ok : Accepts s (
 
   fits_one : Fits C D
   fits_one x = omega (arith, count_all x)
-
-  h_all : IsIn h all
-  h_all = omega (arith, tick_same h)
-
-  m_all : IsIn m all
-  m_all = omega (arith, tick_same m)
 
   pub unused : IsUnused s h
   unused = record { bare = bare; first = no_h; second = no_m }

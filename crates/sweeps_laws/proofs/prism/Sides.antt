@@ -35,10 +35,6 @@ module _ (M : Model) (c : Taken) (f l : ℕ) (d : Point) (hs : List ℕ) (w : Re
   abbrev pub n : ℕ
   n = length hs
 
-  -- the model with the sides over the first i items
-  abbrev pub S : ℕ → Model
-  S i = with_sides c (solid_of M f) d hs i M
-
   pub content_is : content M l ≡ cycle hs
   content_is = content_row M l (record { face = f; content = cycle hs }) w.at
 
