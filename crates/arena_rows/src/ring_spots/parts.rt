@@ -136,15 +136,13 @@ fn is_shorter(rings: &Rings, a: u32, b: u32) -> bool
     ensures shorter { result ≡ true → length (ring (spot rings.now) a) ≤ length (ring (spot rings.now) b) }
     ensures longer { result ≡ false → length (ring (spot rings.now) b) ≤ length (ring (spot rings.now) a) }
 {
-    let mut p = a;
-    let mut q = b;
+    let mut p = rings.walk(a);
+    let mut q = rings.walk(b);
     'round: for _ in 0..HALF_EDGE_CODES {
-        p = rings.next(p);
-        if p == a {
+        if p.step() == a {
             return true;
         }
-        q = rings.next(q);
-        if q == b {
+        if q.step() == b {
             return false;
         }
     }

@@ -6,8 +6,10 @@ use Rattle.arena_rows.proofs.ring_spots.parts.is_shorter.Given as goal
 
 abbrev pub invariant-round : goal.invariant-round
 invariant-round l = record {
-  p : live (spot l.rings) l.p ≡ true;
-  q : live (spot l.rings) l.q ≡ true;
-  from_a : Counted (spot l.rings) l.a l.p l.counter (codes - l.counter);
-  from_b : Counted (spot l.rings) l.b l.q l.counter (codes - l.counter);
+  round_a : l.p.rings ≡ l.rings;
+  round_b : l.q.rings ≡ l.rings;
+  p : live (spot l.rings) l.p.code ≡ true;
+  q : live (spot l.rings) l.q.code ≡ true;
+  from_a : Counted (spot l.rings) l.a l.p.code l.counter (codes - l.counter);
+  from_b : Counted (spot l.rings) l.b l.q.code l.counter (codes - l.counter);
 }
