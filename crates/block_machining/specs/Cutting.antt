@@ -1,5 +1,5 @@
 -- The two parts of a solid that was cut across the x axis.
-use Rattle.std.specs.Prelude.{◌≡◌, ◌<◌, ℕ, ◌*◌, ℤ, pos, ◌+ℤ◌, ◌-ℤ◌, int_lt, false, cond, [], filter, length}
+use Rattle.std.specs.Prelude.{◌≡◌, ◌⊎◌, ◌<◌, ℕ, ◌*◌, ℤ, pos, ◌+ℤ◌, ◌-ℤ◌, int_lt, false, cond, [], filter, length}
 use Rattle.plane_split.specs.Faces.{vertices_of}
 use Rattle.plane_split.specs.Machine.{plane_with}
 use Rattle.plane_split.specs.Sides.{some_above, some_below}
@@ -9,6 +9,7 @@ use Rattle.sweeps.specs.Measure.{normal}
 use Rattle.command_laws.specs.Counted.{counts}
 use Rattle.command_laws.specs.LeftAlone.{StandsAsBefore}
 use Rattle.command_laws.specs.TakenOver.{IsTakenOver}
+use Rattle.split_frames.specs.Laws.{IsCap, IsOfEither, IsPiece, LiesInPlaneOf}
 use Rattle.split_caps.specs.Capped.{IsCapOf, cap, caps_of, cycles_of}
 
 -- no vertex of solid s lies above the plane x + d = 0, and none of solid t below it
@@ -31,7 +32,16 @@ abbrev pub ShareFaces : Model → Model → ℤ → ℕ → ℕ → Type 0
 ShareFaces M N d s t = let plane = plane_with (pos 1) (pos 0) (pos 0) d in (k : ℕ) → Has M.faces k → solid_of M k ≡ s → straddles M plane k ≡ false →
     IsTakenOver M N k (cond (face_is_above M plane k) t s)
 
--- and where it doesn't lie above it stands as it did
+-- each face, also one that it straddles, is of one of the parts and lies in the plane in which it lay
+abbrev pub KeepPlanes : Model → Model → ℕ → ℕ → Type 0
+KeepPlanes M N s t = (k : ℕ) → Has M.faces k → solid_of M k ≡ s → Has N.faces k × IsOfEither N s t k × LiesInPlaneOf M N k k
+
+-- each other face of the parts is a piece of one that it straddles, or a cap
+abbrev pub ComeOfFaces : Model → Model → ℤ → ℕ → ℕ → Type 0
+ComeOfFaces M N d s t = let plane = plane_with (pos 1) (pos 0) (pos 0) d in (k : ℕ) → Has N.faces k → IsOfEither N s t k →
+    (Has M.faces k × (solid_of M k ≡ s)) ⊎ (IsPiece M N s plane k ⊎ IsCap M s plane k)
+
+-- a face that it leaves whole and that doesn't lie above it stands as it did
 abbrev pub KeepsBelow : Model → Model → ℤ → ℕ → Type 0
 KeepsBelow M N d s = let plane = plane_with (pos 1) (pos 0) (pos 0) d in (k : ℕ) → Has M.faces k → solid_of M k ≡ s → straddles M plane k ≡ false → face_is_above M plane k ≡ false → StandsAsBefore M N k
 

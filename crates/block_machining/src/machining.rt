@@ -4,7 +4,7 @@ ghost use Rattle.command_laws.specs.Commands.{IsSweep};
 ghost use Rattle.command_laws.specs.Counted.{counts};
 ghost use Rattle.command_laws.specs.LeftAlone.{KeepsEdges, KeepsLoops, Each, OfOthers, OfOthersBut};
 ghost use Rattle.command_laws.specs.RingedFaces.{IsFarFace};
-ghost use Rattle.block_machining.specs.Cutting.{AreCapped, FaceApart, HasOuterCap, KeepsBelow, LieOnEitherSide, ShareFaces, ShareSums};
+ghost use Rattle.block_machining.specs.Cutting.{AreCapped, ComeOfFaces, FaceApart, HasOuterCap, KeepPlanes, KeepsBelow, LieOnEitherSide, ShareFaces, ShareSums};
 ghost use Rattle.block_machining.specs.Joining.{TakesOver};
 ghost use Rattle.block_machining.specs.Undoing.{AreCounted, IsOneCommand, KeepsVolumes, LeavesFaces};
 ghost use Rattle.gluing.specs.Machine.{glue, glue_refusal};
@@ -23,7 +23,7 @@ use command_laws::{
 use gluing::{glue, glue_measures, six_volume};
 use plane_split::{split, splits_are_held};
 use split_caps::{caps_are_numbered, caps_close_the_parts, caps_face_apart, splits_share_counts};
-use split_frames::{splits_leave_alone, splits_share_faces};
+use split_frames::{splits_leave_alone, splits_part_faces, splits_share_faces};
 use std::alloc::{AllocError, Global};
 use sweeps::{Draft, Failure, Op, Point, Session, sweep, sweep_measures};
 
@@ -79,7 +79,8 @@ pub fn joined(alloc: Global, session: Session, f: u32, other: u32) -> (Session, 
 
 /// A solid cut by the plane x + d = 0: what lies above it, where that sum is positive, becomes the solid `upper`. Both parts are there
 /// then. They share the six volumes of the one, lie on either side, and have caps on the plane, an outer one where an edge crosses it. Each
-/// face that the plane leaves whole is of the part on its side. The loops of other solids are as they were. Undo gives the model before.
+/// face that the plane leaves whole is of the part on its side, and each other face of the parts lies in the plane of one that was cut, or is
+/// a cap. The loops of other solids are as they were. Undo gives the model before.
 pub fn cut(
     alloc: Global,
     session: Session,
@@ -96,6 +97,8 @@ pub fn cut(
     ensures sum { OnOk result.1 (ShareSums (held session.machine) (held result.0.machine) d s upper) }
     ensures whole { OnOk result.1 (ShareFaces (held session.machine) (held result.0.machine) d s upper) }
     ensures below { OnOk result.1 (KeepsBelow (held session.machine) (held result.0.machine) d s) }
+    ensures planes { OnOk result.1 (KeepPlanes (held session.machine) (held result.0.machine) s upper) }
+    ensures pieces { OnOk result.1 (ComeOfFaces (held session.machine) (held result.0.machine) d s upper) }
     ensures apart { OnOk result.1 (FaceApart (held session.machine) (held result.0.machine) d s) }
     ensures crossed { OnOk result.1 (HasOuterCap (held session.machine) d s) }
     ensures kept { OnOk result.1 (KeepsLoops (OfOthers (held session.machine) s) (held session.machine) (held result.0.machine)) }
@@ -108,6 +111,7 @@ pub fn cut(
     caps_face_apart();
     splits_share_counts();
     splits_share_faces();
+    splits_part_faces();
     splits_leave_alone();
     split(alloc, session, s, 1, 0, 0, d, upper)
 }

@@ -3,7 +3,7 @@ use Rattle.std.proofs.lemmas.Int.{to_z-of_z}
 use Rattle.std.proofs.lemmas.Result.{on_ok_weaker}
 use Rattle.plane_split.specs.Machine.{plane_with, split, split_refusal}
 use Rattle.sweeps.specs.PlainMachine.{held}
-use Rattle.block_machining.specs.Cutting.{AreCapped, FaceApart, HasOuterCap, KeepsBelow, LieOnEitherSide, ShareFaces, ShareSums}
+use Rattle.block_machining.specs.Cutting.{AreCapped, ComeOfFaces, FaceApart, HasOuterCap, KeepsBelow, LieOnEitherSide, ShareFaces, ShareSums}
 use Rattle.block_machining.proofs.Accepted.{accepted_undone}
 use Rattle.block_machining.proofs.machining.cut.Goals as goal
 
@@ -61,3 +61,12 @@ pub returns-clause-below : goal.returns-clause-below
 returns-clause-below c = on_ok_weaker c.split.result.1 (λ made.
     subst (λ d. KeepsBelow (held c.args.session.machine) (held c.split.result.0.machine) d c.args.s) (to_z-of_z w64 c.args.d c.ranges.d)
     (λ k. c.splits_share_faces.ensures.below c.args.session.machine c.split.result.0.machine c.args.s _ c.args.upper k c.split.ensures.sound made)) c.split.ensures.ok
+
+pub returns-clause-planes : goal.returns-clause-planes
+returns-clause-planes c = on_ok_weaker c.split.result.1 (λ made k.
+    c.splits_part_faces.ensures.planes c.args.session.machine c.split.result.0.machine c.args.s _ c.args.upper k c.split.ensures.sound made) c.split.ensures.ok
+
+pub returns-clause-pieces : goal.returns-clause-pieces
+returns-clause-pieces c = on_ok_weaker c.split.result.1 (λ made.
+    subst (λ d. ComeOfFaces (held c.args.session.machine) (held c.split.result.0.machine) d c.args.s c.args.upper) (to_z-of_z w64 c.args.d c.ranges.d)
+    (λ k. c.splits_part_faces.ensures.pieces c.args.session.machine c.split.result.0.machine c.args.s _ c.args.upper k c.split.ensures.sound made)) c.split.ensures.ok
