@@ -6,4 +6,3 @@ mod OpenedCaps
 mod Sizes
 mod Sectioned
 mod Crossed
-mod Ringed

@@ -12,14 +12,11 @@
 //! what it answered of the solid and from how many vertices, edges, faces and rings the session holds more. How many vertices and
 //! edges that is, and how many faces more than rings, by the edges that are cut, the edges drawn between cut places and the half-
 //! edges round the section; `v - e + f - r`, by the cycles of the section and its holes alone. Of every other solid `counts`
-//! answers what it did. Where kfmrh makes a face a ring of another on the same plane, as the holes are closed, and where mfkrh makes
-//! such a face, each solid keeps its six volumes. A split of a block that is alone in the session, across an axis and strictly
-//! between its ends, is accepted. Not proved: that the holes of a section have less area than its outer cycle, so
-//! that the cap below points along the direction then too; what each part counts alone; the faces and the rings apart from each
-//! other by the section.
+//! answers what it did. A split of a block that is alone in the session, across an axis and strictly between its ends, is accepted.
+//! Not proved: that the holes of a section have less area than its outer cycle, so that the cap below points along the direction
+//! then too; what each part counts alone; the faces and the rings apart from each other by the section.
 
 ghost use Rattle.split_caps.specs.Counted.{SplitSharesCounts, SplitSharesSums, SplitMakesCounts, SplitKeepsCounts};
-ghost use Rattle.split_caps.specs.Ringed.{KfmrhKeepsVolumes, MfkrhKeepsVolumes};
 ghost use Rattle.split_caps.specs.LoneBlocks.{LoneBlockSplitsFit};
 ghost use Rattle.split_caps.specs.Laws.{CrossedAreCapped, SectionsAreCapped, CapsAreNumbered, CapsStand, HolesAreClosed, CapsHaveNormals, CapsFaceApart};
 
@@ -55,13 +52,6 @@ pub fn splits_share_counts()
     ensures sums { SplitSharesSums }
     ensures made { SplitMakesCounts }
     ensures others { SplitKeepsCounts }
-{}
-
-/// A face that kfmrh makes a ring of another changes no six volumes where both lie on one plane, as those of a hole through a solid do; nor
-/// does a ring that mfkrh makes a face.
-pub fn rings_keep_volumes()
-    ensures killed { KfmrhKeepsVolumes }
-    ensures made { MfkrhKeepsVolumes }
 {}
 
 /// A block that is alone in the session can be split across each of its axes, strictly between its ends, whichever side of the plane is the
