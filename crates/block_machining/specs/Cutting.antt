@@ -1,11 +1,11 @@
 -- The two parts of a solid that was cut across the x axis.
-use Rattle.std.specs.Prelude.{◌≡◌, ◌⊎◌, ◌<◌, ℕ, ◌*◌, ℤ, pos, ◌+ℤ◌, ◌-ℤ◌, int_lt, false, cond, [], filter, length}
+use Rattle.std.specs.Prelude.{◌≡◌, ◌≢◌, ◌⊎◌, ◌<◌, ℕ, ◌*◌, ℤ, pos, ◌+ℤ◌, ◌-ℤ◌, int_lt, true, false, cond, [], filter, length}
 use Rattle.plane_split.specs.Faces.{vertices_of}
 use Rattle.plane_split.specs.Machine.{plane_with}
 use Rattle.plane_split.specs.Sides.{some_above, some_below}
 use Rattle.shapes.specs.Common.{crossing_edges, face_is_above, straddles, negated}
-use Rattle.euler_operators.specs.Common.{IsIn, direction, dot, Model, solid_of, Has}
-use Rattle.sweeps.specs.Measure.{normal}
+use Rattle.euler_operators.specs.Common.{IsIn, direction, dot, origin, Model, solid_of, Has}
+use Rattle.sweeps.specs.Measure.{is_flat, normal}
 use Rattle.command_laws.specs.Counted.{counts}
 use Rattle.command_laws.specs.LeftAlone.{StandsAsBefore}
 use Rattle.command_laws.specs.TakenOver.{IsTakenOver}
@@ -35,6 +35,10 @@ ShareFaces M N d s t = let plane = plane_with (pos 1) (pos 0) (pos 0) d in (k : 
 -- each face, also one that it straddles, is of one of the parts and lies in the plane in which it lay
 abbrev pub KeepPlanes : Model → Model → ℕ → ℕ → Type 0
 KeepPlanes M N s t = (k : ℕ) → Has M.faces k → solid_of M k ≡ s → Has N.faces k × IsOfEither N s t k × LiesInPlaneOf M N k k
+
+-- and is flat, unless it has no area left
+abbrev pub StayFlat : Model → Model → ℕ → Type 0
+StayFlat M N s = (k : ℕ) → Has M.faces k → solid_of M k ≡ s → normal N k ≢ origin → is_flat N k ≡ true
 
 -- each other face of the parts is a piece of one that it straddles, or a cap
 abbrev pub ComeOfFaces : Model → Model → ℤ → ℕ → ℕ → Type 0

@@ -4,7 +4,7 @@ ghost use Rattle.command_laws.specs.Commands.{IsSweep};
 ghost use Rattle.command_laws.specs.Counted.{counts};
 ghost use Rattle.command_laws.specs.LeftAlone.{KeepsEdges, KeepsLoops, Each, OfOthers, OfOthersBut};
 ghost use Rattle.command_laws.specs.RingedFaces.{IsFarFace};
-ghost use Rattle.block_machining.specs.Cutting.{AreCapped, ComeOfFaces, FaceApart, HasOuterCap, KeepPlanes, KeepsBelow, LieOnEitherSide, ShareFaces, ShareSums};
+ghost use Rattle.block_machining.specs.Cutting.{AreCapped, ComeOfFaces, FaceApart, HasOuterCap, KeepPlanes, KeepsBelow, LieOnEitherSide, ShareFaces, ShareSums, StayFlat};
 ghost use Rattle.block_machining.specs.Joining.{TakesOver};
 ghost use Rattle.block_machining.specs.Undoing.{AreCounted, IsOneCommand, KeepsVolumes, LeavesFaces};
 ghost use Rattle.gluing.specs.Machine.{glue, glue_refusal};
@@ -16,9 +16,9 @@ ghost use Rattle.euler_operators.specs.Common.{solid_of, Sound, Has, dot};
 
 use call_lists::Refusal;
 use command_laws::{
-    glues_join_counts, glues_keep_and_join, glues_leave_alone, glues_take_faces_over,
-    operators_count, operators_keep_volumes, operators_leave_faces, ringed_sweeps_make_faces,
-    solids_are_there, sweeps_add_counts, sweeps_leave_alone,
+    faces_lie_flat, glues_join_counts, glues_keep_and_join, glues_leave_alone,
+    glues_take_faces_over, operators_count, operators_keep_volumes, operators_leave_faces,
+    ringed_sweeps_make_faces, solids_are_there, sweeps_add_counts, sweeps_leave_alone,
 };
 use gluing::{glue, glue_measures, six_volume};
 use plane_split::{split, splits_are_held};
@@ -98,6 +98,7 @@ pub fn cut(
     ensures whole { OnOk result.1 (ShareFaces (held session.machine) (held result.0.machine) d s upper) }
     ensures below { OnOk result.1 (KeepsBelow (held session.machine) (held result.0.machine) d s) }
     ensures planes { OnOk result.1 (KeepPlanes (held session.machine) (held result.0.machine) s upper) }
+    ensures flat { OnOk result.1 (StayFlat (held session.machine) (held result.0.machine) s) }
     ensures pieces { OnOk result.1 (ComeOfFaces (held session.machine) (held result.0.machine) d s upper) }
     ensures apart { OnOk result.1 (FaceApart (held session.machine) (held result.0.machine) d s) }
     ensures crossed { OnOk result.1 (HasOuterCap (held session.machine) d s) }
@@ -112,6 +113,7 @@ pub fn cut(
     splits_share_counts();
     splits_share_faces();
     splits_part_faces();
+    faces_lie_flat();
     splits_leave_alone();
     split(alloc, session, s, 1, 0, 0, d, upper)
 }

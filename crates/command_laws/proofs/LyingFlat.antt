@@ -1,17 +1,18 @@
 -- Faces whose corners lie on one plane: parallelograms, and what was moved.
 use Rattle.std.specs.List.{list_all}
 use Rattle.std.proofs.Common.{◌≡◌, ◌≢◌, ℕ, ℤ, pos, ◌+ℤ◌, ◌-ℤ◌, ◌*ℤ◌, neg_ℤ, Bool, true, false, not, ◌&&◌, List, [], ◌∷◌, refl, sym, ap, subst, ◌∙◌, arith, int_eq}
+use Rattle.std.proofs.lemmas.Bool.{and_parts}
 use Rattle.std.proofs.lemmas.Int.{ints}
 use Rattle.std.proofs.lemmas.List.Folds.{list_all-map}
-use Rattle.euler_operators.specs.Common.{Point, origin, moved, dot, cross, same_point, is_on, direction, Model, point_of}
+use Rattle.euler_operators.specs.Common.{Plane, Point, origin, moved, dot, cross, same_point, is_on, direction, Model, point_of}
 use Rattle.euler_operators.proofs.Common.{dif-parts, difs, same_dif, number, same_vector, dot_moved, dot_turned, moved_twice}
 use Rattle.shapes.specs.Common.{scaled, towards, corners, normal, anchor, plane_through, plane_of, is_plane_of, is_flat}
-use Rattle.shapes.proofs.Common.{same_is}
+use Rattle.shapes.proofs.Common.{are_on, same_is, told_anywhere}
 use Rattle.undo_journal.specs.Machine.{held}
 use Rattle.command_laws.specs.NewFaces.{all_moved, area_to, corner_points, plane_round}
 use Rattle.command_laws.specs.LeftAlone.{StandsAsBefore}
 use Rattle.command_laws.specs.RingedFaces.{IsFarFace}
-use Rattle.command_laws.specs.Flat.{lie_flat, FacesLieFlat, SidesLieFlat, FarFacesLieFlat}
+use Rattle.command_laws.specs.Flat.{PlanarLieFlat, lie_flat, FacesLieFlat, SidesLieFlat, FarFacesLieFlat}
 use Rattle.command_laws.proofs.SweptRings.{ringed_face_is_far}
 
 pub faces_lie_flat : FacesLieFlat
@@ -55,6 +56,13 @@ no_sum x y e f = omega (arith, ints)
 half_none : (x : ℤ) → pos 2 *ℤ x ≡ pos 0 → x ≡ pos 0
 half_none x e = omega (arith, ints)
 
+-- a vector that isn't 0 is a direction
+some_way : (n : Point) → n ≢ origin → not (same_point n origin) ≡ true
+some_way n ne = go (same_point n origin) refl where
+  go : (b : Bool) → same_point n origin ≡ b → not b ≡ true
+  go false e = refl
+  go true e = absurd (ne (same_is n origin e))
+
 module _ (a u v : Point) where
   abbrev corners_round : List Point
   corners_round = a ∷ moved a u ∷ moved (moved a u) v ∷ moved a v ∷ []
@@ -78,12 +86,7 @@ module _ (a u v : Point) where
   both_ways = moved_twice a u v
 
   some_direction : cross u v ≢ origin → not (same_point across origin) ≡ true
-  some_direction ne = go (same_point across origin) refl where
-    go : (b : Bool) → same_point across origin ≡ b → not b ≡ true
-    go false e = refl
-    go true e =
-        let none = same_is across origin e in
-        absurd (ne (same_vector _ _ (half_none (cross u v).x (ap (λ p. p.x) none)) (half_none (cross u v).y (ap (λ p. p.y) none)) (half_none (cross u v).z (ap (λ p. p.z) none))))
+  some_direction ne = some_way across (λ none. ne (same_vector _ _ (half_none (cross u v).x (ap (λ p. p.x) none)) (half_none (cross u v).y (ap (λ p. p.y) none)) (half_none (cross u v).z (ap (λ p. p.z) none))))
 
   all_on : list_all (is_on (plane_through across a)) corners_round ≡ true
   all_on = λ i. on_at across a i && (on_by across a u along i
@@ -91,6 +94,20 @@ module _ (a u v : Point) where
 
   pub parallelogram : cross u v ≢ origin → lie_flat corners_round ≡ true
   parallelogram ne = ap (λ p. not (same_point (direction p) origin) && list_all (is_on p) corners_round) plane_is ∙ (λ i. some_direction ne i && all_on i)
+
+-- ---- corners on some plane
+
+on_other : (M : Model) (p q : Plane) → ((r : Point) → is_on p r ≡ true → is_on q r ≡ true) → (vs : List ℕ) → are_on M p vs ≡ true → are_on M q vs ≡ true
+on_other M p q over [] on = refl
+on_other M p q over (v ∷ vs) on = let a = and_parts (is_on p (point_of M v)) (are_on M p vs) on in λ i. over (point_of M v) a.0 i && on_other M p q over vs a.1 i
+
+pub planar_lie_flat : PlanarLieFlat
+unfolding is_flat plane_of
+planar_lie_flat M p f sound there on ne =
+    let n = normal M f in
+    let own : (r : Point) → is_on p r ≡ true → is_on (plane_of M f) r ≡ true = λ r at.
+    ap (λ h. int_eq h (pos 0)) (ap (λ h. h +ℤ neg_ℤ (dot n (anchor M f))) (dot_turned n r ∙ told_anywhere M p f r sound there on at ∙ dot_turned (anchor M f) n) ∙ level_self (dot n (anchor M f))) in
+    λ i. some_way n ne i && on_other M p (plane_of M f) own (corners M f) (and_parts (not (same_point (direction p) origin)) (are_on M p (corners M f)) on).1 i
 
 reached : (x y : ℤ) → x +ℤ (y -ℤ x) ≡ y
 reached x y = omega (arith, ints)

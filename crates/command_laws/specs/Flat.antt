@@ -1,8 +1,8 @@
 -- Faces that lie flat, told by the points of their corners.
 use Rattle.std.specs.Prelude.{◌≡◌, ◌≢◌, ℕ, ℤ, Bool, true, false, not, ◌&&◌, List}
 use Rattle.std.specs.List.{list_all}
-use Rattle.euler_operators.specs.Common.{Point, origin, cross, same_point, is_on, direction, Model, content, face_of, solid_of, Sound, Has, is_lone}
-use Rattle.shapes.specs.Common.{towards, is_flat}
+use Rattle.euler_operators.specs.Common.{Plane, Point, origin, cross, same_point, is_on, direction, Model, content, face_of, solid_of, Sound, Has, is_lone}
+use Rattle.shapes.specs.Common.{corners, is_flat, is_plane_of, normal, towards}
 use Rattle.undo_journal.specs.Machine.{Machine, held}
 use Rattle.command_laws.specs.Commands.{IsBlock, IsSweep, IsGlue}
 use Rattle.command_laws.specs.NewFaces.{IsFaceOf, plane_round, side_over}
@@ -14,6 +14,10 @@ lie_flat ps = let plane = plane_round ps in not (same_point (direction plane) or
 -- a face without rings is flat where its corners lie flat
 abbrev pub FacesLieFlat : Type 0
 FacesLieFlat = (M : Model) (f s : ℕ) (ps : List Point) → IsFaceOf M f s ps → is_flat M f ≡ lie_flat ps
+
+-- so is one, also with rings, of which all corners lie on some plane, unless it has no area
+abbrev pub PlanarLieFlat : Type 0
+PlanarLieFlat = (M : Model) (p : Plane) (f : ℕ) → Sound M → Has M.faces f → is_plane_of M p (corners M f) ≡ true → normal M f ≢ origin → is_flat M f ≡ true
 
 -- a side of a sweep does, unless its edge leads along the vector
 abbrev pub SidesLieFlat : Type 0

@@ -10,8 +10,8 @@
 //! face there before a lamina, block or sweep keeps its solid and outer loop; after a glue that the first face's solid is there
 //! and the other gone, that each other face not of the solid that goes keeps its row, and that each other face of that one is the
 //! first's, with its loops, its corner points, round from another on, and its plane; the model after n undos; and when a block, a
-//! lamina, a sweep and a glue are accepted. Which faces are flat: those whose corners are, the sides of a sweep, a swept face as
-//! it was, and all of a new block and of a glued solid. After a lamina, a block and a sweep, with rings too, each loop there
+//! lamina, a sweep and a glue are accepted. Which faces are flat: those whose corners lie on one plane, the sides of a sweep, a
+//! swept face as it was, and all of a new block and of a glued solid. After a lamina, a block and a sweep, with rings too, each loop there
 //! before has its face and its content, each edge its ends, each vertex its point, and so each face its solid, rings, corner
 //! points and plane, but for the face that was swept and its loops; after a glue so it is with the faces that weren't of the
 //! solid that goes, but for the first face and its loop. What `counts` answers of the solid after a lamina, a block, a sweep of

@@ -2,6 +2,7 @@ use Rattle.std.proofs.Common.{◌≡◌, pos, Some, w64, subst}
 use Rattle.std.proofs.lemmas.Int.{to_z-of_z}
 use Rattle.std.proofs.lemmas.Result.{on_ok_weaker}
 use Rattle.plane_split.specs.Machine.{plane_with, split, split_refusal}
+use Rattle.sweeps.specs.Measure.{plane_of}
 use Rattle.sweeps.specs.PlainMachine.{held}
 use Rattle.block_machining.specs.Cutting.{AreCapped, ComeOfFaces, FaceApart, HasOuterCap, KeepsBelow, LieOnEitherSide, ShareFaces, ShareSums}
 use Rattle.block_machining.proofs.Accepted.{accepted_undone}
@@ -70,3 +71,9 @@ pub returns-clause-pieces : goal.returns-clause-pieces
 returns-clause-pieces c = on_ok_weaker c.split.result.1 (λ made.
     subst (λ d. ComeOfFaces (held c.args.session.machine) (held c.split.result.0.machine) d c.args.s c.args.upper) (to_z-of_z w64 c.args.d c.ranges.d)
     (λ k. c.splits_part_faces.ensures.pieces c.args.session.machine c.split.result.0.machine c.args.s _ c.args.upper k c.split.ensures.sound made)) c.split.ensures.ok
+
+pub returns-clause-flat : goal.returns-clause-flat
+returns-clause-flat c = on_ok_weaker c.split.result.1 (λ made k there of area.
+    let kept = c.splits_part_faces.ensures.planes c.args.session.machine c.split.result.0.machine c.args.s _ c.args.upper k c.split.ensures.sound made there of in
+    let sound = c.splits_are_held.ensures.sound c.args.session.machine c.split.result.0.machine c.args.s _ c.args.upper c.split.ensures.sound made in
+    c.faces_lie_flat.ensures.planar (held c.split.result.0.machine) (plane_of (held c.args.session.machine) k) k sound kept.0 kept.2 area) c.split.ensures.ok
