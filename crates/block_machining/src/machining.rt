@@ -79,8 +79,9 @@ pub fn joined(alloc: Global, session: Session, f: u32, other: u32) -> (Session, 
 
 /// A solid cut by the plane x + d = 0: what lies above it, where that sum is positive, becomes the solid `upper`. Both parts are there
 /// then. They share the six volumes of the one, lie on either side, and have caps on the plane, an outer one where an edge crosses it. Each
-/// face that the plane leaves whole is of the part on its side, and each other face of the parts lies in the plane of one that was cut, or is
-/// a cap. The loops of other solids are as they were. Undo gives the model before.
+/// face that the plane leaves whole is of the part on its side. One that it cuts keeps its plane, and is flat unless no area is left of it;
+/// each other face of the parts lies in the plane of one that was cut, or is a cap. The loops of other solids are as they were. Undo gives
+/// the model before.
 pub fn cut(
     alloc: Global,
     session: Session,
