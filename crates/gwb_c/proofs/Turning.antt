@@ -1,10 +1,8 @@
 -- What a call does to a handle, from what it does to the slot behind it.
 use Rattle.std.proofs.Common.{◌≡◌, ◌∙◌, ℕ, Bool, true, false, Option, Some, sym, ap, subst, cond}
-use Rattle.gwb_c.specs.Handle.{Unless, Calls, lacking}
-use Rattle.session_slots.specs.Answered.{status_of}
-use Rattle.session_slots.specs.Lines.{Unless_lacking}
-use Rattle.commands.specs.declared.stage.Stage.{Stage}
+use Rattle.session_slots.specs.Common.{status_of, Unless_lacking, Stage}
 use Rattle.session_slots.specs.declared.slot.Slot.{Slot}
+use Rattle.gwb_c.specs.Handle.{Unless, Calls, lacking}
 
 module _ (without : Option Stage → Bool) (R : Slot → Slot → Type 0) (o : Option Slot) (x : Slot) (is : o ≡ Some x) (new : Option Slot) (kind : ℕ) where
   pub turned_away : without x.stage ≡ true → new ≡ Some x → kind ≡ lacking x.stage → Calls without R o new kind

@@ -1,16 +1,6 @@
 -- What a typed call does to the session or draft behind a handle.
 use Rattle.std.specs.Prelude.{◌≡◌, ℕ, List, Option, Some, None}
-use Rattle.euler_operators.specs.declared.Op.{Op}
-use Rattle.commands.specs.declared.command.Change.{Change}
-use Rattle.commands.specs.declared.command.Change.TheVariants as change
-use Rattle.commands.specs.declared.command.Question.{Question}
-use Rattle.commands.specs.declared.command.Command.TheVariants as command
-use Rattle.commands.specs.declared.command.Call.{Call}
-use Rattle.commands.specs.declared.command.Call.TheVariants as call
-use Rattle.script_running.specs.declared.script_judging.judging.Answer.{Answer}
-use Rattle.session_slots.specs.Stages.{lacks}
-use Rattle.session_slots.specs.Slots.{Slot_does, Slot_asks}
-use Rattle.session_slots.specs.Parting.{Slot_makes_part}
+use Rattle.session_slots.specs.Common.{Op, Change, Question, Command, Call, Answer, lacks, Slot_does, Slot_asks, Slot_makes_part}
 use Rattle.session_slots.specs.declared.slot.Slot.{Slot}
 use Rattle.gwb_c.specs.Handle.{Calls, none, Recalls}
 
@@ -20,11 +10,11 @@ Does old c new kind = Calls (lacks c) (λ x y. Slot_does x c y) old new kind
 
 -- a call that is a change of the model: in a session a command, in a draft steps
 abbrev pub Changes : Option Slot → Change → Option Slot → ℕ → Type 0
-Changes old c new kind = Does old (call.Give (command.Change c)) new kind
+Changes old c new kind = Does old (Call.Give (Command.Change c)) new kind
 
 -- an operator is one
 abbrev pub Acts : Option Slot → Op → Option Slot → ℕ → Type 0
-Acts old op new kind = Changes old (change.Act op) new kind
+Acts old op new kind = Changes old (Change.Act op) new kind
 
 -- a call that is a query
 abbrev pub Asks : Option Slot → Question → Option Slot → ℕ → Type 0

@@ -1,6 +1,6 @@
 -- The numbers that the last line brought into use above all that were in use before it.
 use Rattle.std.specs.Prelude.{ℕ, ◌+◌, cond, nat_eq, nat_lt, Option, Some, None}
-use Rattle.shapes.specs.Common.{Taken}
+use Rattle.session_slots.specs.Common.{Taken}
 use Rattle.gwb_c.specs.declared.fresh.Range.{Range}
 
 -- the numbers above the first bound, up to the second

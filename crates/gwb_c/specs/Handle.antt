@@ -1,25 +1,9 @@
 -- What C's calls do to the session behind a handle.
 use Rattle.std.specs.Prelude.{◌≡◌, ◌⊎◌, ◌-◌, ◌^◌, ℕ, Bool, true, false, cond, List, length, Option, Some, None}
-use Rattle.euler_operators.specs.Common.{Model}
-use Rattle.script_running.specs.declared.script_judging.judging.Answer.{Answer}
-use Rattle.shapes.specs.Common.{taken_in}
-use Rattle.solid_walks.specs.Counters.{taken_of}
+use Rattle.session_slots.specs.Common.{Model, Answer, taken_in, taken_of, Question, asked, status_of, refusal_in, counts_in, volume_in, plane_in, joined, joined_plane, answer_after, shown, is_draft, text_in, spoken, lacks_said, Slot_notes, laid_over, WritesOne, Stage}
+use Rattle.session_slots.specs.declared.{answers.Refused.Refused, answers.Counts.Counts, answers.Wide.Wide, answers.PlaneRow.PlaneRow, slot.Slot.Slot}
 use Rattle.gwb_c.specs.FreshNumbers.{fresh_in}
-use Rattle.script_running.specs.declared.script_judging.judging.Answer.TheVariants.{Silent, Listing}
-use Rattle.commands.specs.declared.command.Question.{Question}
-use Rattle.commands.specs.Telling.{asked}
-use Rattle.session_slots.specs.Answered.{status_of, refusal_in, counts_in, volume_in, plane_in, joined, joined_plane}
-use Rattle.session_slots.specs.Slots.{answer_after}
-use Rattle.session_slots.specs.declared.answers.Refused.{Refused}
-use Rattle.session_slots.specs.declared.answers.Counts.{Counts}
-use Rattle.session_slots.specs.declared.answers.Wide.{Wide}
-use Rattle.session_slots.specs.declared.answers.PlaneRow.{PlaneRow}
-use Rattle.session_slots.specs.Stages.{shown, is_draft, text_in}
-use Rattle.session_slots.specs.Lines.{spoken, lacks_said, Slot_notes}
-use Rattle.session_slots.specs.Written.{laid_over, WritesOne}
 use Rattle.gwb_c.specs.declared.fresh.Range.{Range}
-use Rattle.commands.specs.declared.stage.Stage.{Stage}
-use Rattle.session_slots.specs.declared.slot.Slot.{Slot}
 
 -- C is told a number alone, and nothing has changed; or R leads to a slot, and C is told the kind of its answer
 abbrev pub Unless : Bool → ℕ → (Slot → Slot → Type 0) → Slot → Option Slot → ℕ → Type 0
@@ -62,7 +46,7 @@ abbrev pub Replies : Option Slot → List ℕ → List ℕ → ℕ → Type 0
 Replies o old new n = Says (λ x. x.answer) o old new n
 
 abbrev pub Lists_model : Option Slot → List ℕ → List ℕ → ℕ → Type 0
-Lists_model o old new n = Says (λ x. Listing) o old new n
+Lists_model o old new n = Says (λ x. Answer.Listing) o old new n
 
 -- a value that is there is written; else nothing is
 abbrev pub Gives : {X : Type 0} → Option X → X → X → ℕ → Type 0
@@ -119,4 +103,4 @@ Reports G a old new was is kind = (kind ≡ status_of a) × (told : ℕ) × G a 
 -- what a question is answered of the model shown; a closed handle has no answer
 abbrev pub Measures : {X : Type 0} → (Answer → X → X → ℕ → Type 0) → Question → Option Slot → X → X → Refused → Refused → ℕ → Type 0
 Measures G q None old new was is kind = (kind ≡ 9) × (new ≡ old) × (is ≡ was)
-Measures G q (Some x) old new was is kind = (g : Stage) → x.stage ≡ Some g → Reports G (answer_after Silent (asked (shown g) q)) old new was is kind
+Measures G q (Some x) old new was is kind = (g : Stage) → x.stage ≡ Some g → Reports G (answer_after Answer.Silent (asked (shown g) q)) old new was is kind

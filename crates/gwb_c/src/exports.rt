@@ -1,13 +1,11 @@
 //! Calls of C: sessions, and lines as text.
-ghost use Rattle.std.specs.Prelude.{◌≡◌, Some, None};
-ghost use Rattle.session_slots.specs.Stages.{undos, redos};
-ghost use Rattle.session_slots.specs.Opening.{Opened};
-ghost use Rattle.session_slots.specs.Owned.{slot_in};
+ghost use Rattle.std.specs.Prelude.{◌≡◌, true, Some, None};
+ghost use Rattle.session_slots.specs.Common.{undos, redos, is_staged, Opened, slot_in};
 ghost use Rattle.gwb_c.specs.Handle.{Hears, Numbers, Says, Replies, Lists_model};
 
 use crate::told::{CLOSED, told_of, told_of_line};
 use script_running::Answer;
-use session_slots::{Gwb, GwbLent, Slot, begin, copy_front, hear, put, take, text_of};
+use session_slots::{Gwb, GwbLent, Slot, begin, copy_front, hear, put, staged, take, text_of};
 use std::alloc::Global;
 
 /// Opens a session that holds the empty model. False where memory is refused, or there is a session; then nothing has changed.
@@ -45,12 +43,10 @@ pub extern "C" fn gwb_line(alloc: Global, gwb: &mut Gwb, line: &[u8]) -> u32
 }
 
 fn write_text(alloc: Global, slot: &Slot, answer: &Answer, buf: &mut [u8]) -> usize
+    requires { is_staged slot.now.stage ≡ true }
     ensures { Says (λ _. answer.now) (Some slot.now) buf.old buf.new result }
 {
-    let Some(stage) = &slot.stage else {
-        return usize::MAX;
-    };
-    match text_of(alloc, stage.arena(), answer) {
+    match text_of(alloc, staged(slot).arena(), answer) {
         Some(text) => copy_front(&text, buf),
         None => usize::MAX,
     }
@@ -76,31 +72,13 @@ pub extern "C" fn gwb_lent_listing(alloc: Global, gwb: &mut GwbLent, buf: &mut [
     told_of!(gwb, usize::MAX, slot => write_text(alloc, slot, &Answer::Listing, buf))
 }
 
-fn depth_of(slot: &Slot) -> usize
-    ensures { Numbers undos (Some slot.now) result }
-{
-    match &slot.stage {
-        Some(counted) => counted.stage().depth(),
-        None => 0,
-    }
-}
-
-fn ahead_of(slot: &Slot) -> usize
-    ensures { Numbers redos (Some slot.now) result }
-{
-    match &slot.stage {
-        Some(counted) => counted.stage().ahead(),
-        None => 0,
-    }
-}
-
 /// How many commands can be undone, in a draft none: `SIZE_MAX` where there is no session.
 #[unsafe(no_mangle)]
 pub extern "C" fn gwb_lent_depth(gwb: &mut GwbLent) -> usize
     ensures state { gwb.new.lent.loan ≡ gwb.old.lent.loan }
     ensures value { Numbers undos (slot_in gwb.old.lent.loan) result }
 {
-    told_of!(gwb, usize::MAX, slot => depth_of(slot))
+    told_of!(gwb, usize::MAX, slot => staged(slot).stage().depth())
 }
 
 /// How many commands can be redone, in a draft none: `SIZE_MAX` where there is no session.
@@ -109,5 +87,5 @@ pub extern "C" fn gwb_lent_ahead(gwb: &mut GwbLent) -> usize
     ensures state { gwb.new.lent.loan ≡ gwb.old.lent.loan }
     ensures value { Numbers redos (slot_in gwb.old.lent.loan) result }
 {
-    told_of!(gwb, usize::MAX, slot => ahead_of(slot))
+    told_of!(gwb, usize::MAX, slot => staged(slot).stage().ahead())
 }

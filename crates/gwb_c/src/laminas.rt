@@ -1,7 +1,6 @@
 //! Calls of C: a lamina of points.
 ghost use Rattle.std.specs.Prelude.{◌≡◌, ◌<◌, ◌≤◌, length};
-ghost use Rattle.commands.specs.declared.command.Change.TheVariants as change;
-ghost use Rattle.session_slots.specs.Arguments.{polygon_of};
+ghost use Rattle.session_slots.specs.Common.{polygon_of};
 ghost use Rattle.gwb_c.specs.Calls.{Changes, Leaves};
 
 use crate::calling::{call, no_call};
@@ -14,7 +13,7 @@ const MOST_POINTS: usize = 64;
 /// A lamina of so many points.
 fn lamina(alloc: Global, gwb: &mut Gwb, solid: u32, places: &[Place]) -> u32
     requires { length places.now ≤ 64 }
-    ensures { Changes gwb.old.kept.value (change.Lamina solid (polygon_of places.now)) gwb.new.kept.value result }
+    ensures { Changes gwb.old.kept.value (Change.Lamina solid (polygon_of places.now)) gwb.new.kept.value result }
 {
     let corners = polygon(places);
     let wanted = Change::Lamina(solid, Points::of(&corners));
@@ -24,7 +23,7 @@ fn lamina(alloc: Global, gwb: &mut Gwb, solid: u32, places: &[Place]) -> u32
 /// Makes a lamina: a solid of two faces, whose corners are the points in order. More than 64 points make no call.
 #[unsafe(no_mangle)]
 pub extern "C" fn gwb_lamina(alloc: Global, gwb: &mut Gwb, solid: u32, points: &[Place]) -> u32
-    ensures made { length points.now ≤ 64 → Changes gwb.old.kept.value (change.Lamina solid (polygon_of points.now)) gwb.new.kept.value result }
+    ensures made { length points.now ≤ 64 → Changes gwb.old.kept.value (Change.Lamina solid (polygon_of points.now)) gwb.new.kept.value result }
     ensures too_many { 64 < length points.now → Leaves gwb.old.kept.value 10 gwb.new.kept.value result }
 {
     if points.len() > MOST_POINTS {

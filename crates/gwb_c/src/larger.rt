@@ -1,8 +1,5 @@
 //! Calls of C: commands of several operators, each a command of its own or steps of a draft, and undo and redo, which a draft hasn't.
 ghost use Rattle.std.specs.Prelude.{◌≡◌};
-ghost use Rattle.commands.specs.declared.command.Change.TheVariants as change;
-ghost use Rattle.commands.specs.declared.command.Command.TheVariants as command;
-ghost use Rattle.commands.specs.declared.command.Call.TheVariants as call;
 ghost use Rattle.gwb_c.specs.Calls.{Changes, Does};
 
 use crate::calling::call;
@@ -30,13 +27,10 @@ pub extern "C" fn gwb_block(
     dy: i64,
     dz: i64,
 ) -> u32
-    ensures { Changes gwb.old.kept.value (change.Block solid (record { x = x; y = y; z = z }) dx dy dz) gwb.new.kept.value result }
+    ensures { Changes gwb.old.kept.value (Change.Block solid (record { x = x; y = y; z = z }) dx dy dz) gwb.new.kept.value result }
 {
-    carry(
-        alloc,
-        gwb,
-        Change::Block(solid, Point { x, y, z }, dx, dy, dz),
-    )
+    let corner = Point { x, y, z };
+    carry(alloc, gwb, Change::Block(solid, corner, dx, dy, dz))
 }
 
 /// Moves a face by a vector, with a wall at each of its edges.
@@ -49,26 +43,20 @@ pub extern "C" fn gwb_sweep(
     dy: i64,
     dz: i64,
 ) -> u32
-    ensures { Changes gwb.old.kept.value (change.Sweep face (record { x = dx; y = dy; z = dz })) gwb.new.kept.value result }
+    ensures { Changes gwb.old.kept.value (Change.Sweep face (record { x = dx; y = dy; z = dz })) gwb.new.kept.value result }
 {
-    carry(
-        alloc,
-        gwb,
-        Change::Sweep(
-            face,
-            Point {
-                x: dx,
-                y: dy,
-                z: dz,
-            },
-        ),
-    )
+    let vector = Point {
+        x: dx,
+        y: dy,
+        z: dz,
+    };
+    carry(alloc, gwb, Change::Sweep(face, vector))
 }
 
 /// Glues two solids along a face of each.
 #[unsafe(no_mangle)]
 pub extern "C" fn gwb_glue(alloc: Global, gwb: &mut Gwb, face: u32, other: u32) -> u32
-    ensures { Changes gwb.old.kept.value (change.Glue face other) gwb.new.kept.value result }
+    ensures { Changes gwb.old.kept.value (Change.Glue face other) gwb.new.kept.value result }
 {
     carry(alloc, gwb, Change::Glue(face, other))
 }
@@ -85,7 +73,7 @@ pub extern "C" fn gwb_split(
     d: i64,
     above: u32,
 ) -> u32
-    ensures { Changes gwb.old.kept.value (change.Split solid a b c d above) gwb.new.kept.value result }
+    ensures { Changes gwb.old.kept.value (Change.Split solid a b c d above) gwb.new.kept.value result }
 {
     carry(alloc, gwb, Change::Split(solid, a, b, c, d, above))
 }
@@ -93,7 +81,7 @@ pub extern "C" fn gwb_split(
 /// Takes the last command back. A draft hasn't this call.
 #[unsafe(no_mangle)]
 pub extern "C" fn gwb_undo(alloc: Global, gwb: &mut Gwb) -> u32
-    ensures { Does gwb.old.kept.value (call.Give command.Undo) gwb.new.kept.value result }
+    ensures { Does gwb.old.kept.value (Call.Give Command.Undo) gwb.new.kept.value result }
 {
     call(alloc, gwb, Call::Give(Command::Undo))
 }
@@ -101,7 +89,7 @@ pub extern "C" fn gwb_undo(alloc: Global, gwb: &mut Gwb) -> u32
 /// Does the next command again. A draft hasn't this call.
 #[unsafe(no_mangle)]
 pub extern "C" fn gwb_redo(alloc: Global, gwb: &mut Gwb) -> u32
-    ensures { Does gwb.old.kept.value (call.Give command.Redo) gwb.new.kept.value result }
+    ensures { Does gwb.old.kept.value (Call.Give Command.Redo) gwb.new.kept.value result }
 {
     call(alloc, gwb, Call::Give(Command::Redo))
 }

@@ -1,27 +1,12 @@
 //! Calls of C: measures of the model shown. Each says what kind of answer the query has, and writes its value or what it refuses, where there is
 //! one; 9 where there is no session: then nothing is written. No answer is kept.
-ghost use Rattle.std.specs.Prelude.{◌≡◌, Some};
-ghost use Rattle.commands.specs.declared.command.Question.TheVariants as question;
-ghost use Rattle.session_slots.specs.Owned.{slot_in};
+ghost use Rattle.std.specs.Prelude.{◌≡◌};
+ghost use Rattle.session_slots.specs.Common.{slot_in};
 ghost use Rattle.gwb_c.specs.Handle.{Measures, gives_counts, gives_volume, gives_plane};
 
 use crate::told::{CLOSED, told_of};
 use crate::values::Value;
-use session_slots::{Counts, GwbLent, PlaneRow, Question, Refused, Slot, Wide, status};
-
-fn measure_slot<T: Value>(
-    slot: &Slot,
-    question: Question,
-    out: &mut T,
-    refusal: &mut Refused,
-) -> u32
-    ensures { Measures T.gives question (Some slot.now) out.old out.new refusal.old refusal.new result }
-{
-    let answer = session_slots::measure(slot, question);
-    T::give(&answer, out);
-    Refused::give(&answer, refusal);
-    status(&answer)
-}
+use session_slots::{Counts, GwbLent, PlaneRow, Question, Refused, Wide, status};
 
 fn measure<T: Value>(
     gwb: &mut GwbLent,
@@ -32,7 +17,12 @@ fn measure<T: Value>(
     ensures state { gwb.new.lent.loan ≡ gwb.old.lent.loan }
     ensures value { Measures T.gives question (slot_in gwb.old.lent.loan) out.old out.new refusal.old refusal.new result }
 {
-    told_of!(gwb, CLOSED, slot => measure_slot(slot, question, out, refusal))
+    told_of!(gwb, CLOSED, slot => {
+        let answer = session_slots::measure(slot, question);
+        T::give(&answer, out);
+        Refused::give(&answer, refusal);
+        status(&answer)
+    })
 }
 
 /// The plane of a face, and whether the face is flat.
@@ -44,7 +34,7 @@ pub extern "C" fn gwb_lent_plane(
     refusal: &mut Refused,
 ) -> u32
     ensures state { gwb.new.lent.loan ≡ gwb.old.lent.loan }
-    ensures value { Measures gives_plane (question.Plane face) (slot_in gwb.old.lent.loan) plane.old plane.new refusal.old refusal.new result }
+    ensures value { Measures gives_plane (Question.Plane face) (slot_in gwb.old.lent.loan) plane.old plane.new refusal.old refusal.new result }
 {
     measure(gwb, Question::Plane(face), plane, refusal)
 }
@@ -58,7 +48,7 @@ pub extern "C" fn gwb_lent_volume(
     refusal: &mut Refused,
 ) -> u32
     ensures state { gwb.new.lent.loan ≡ gwb.old.lent.loan }
-    ensures value { Measures gives_volume (question.Volume solid) (slot_in gwb.old.lent.loan) six_volumes.old six_volumes.new refusal.old refusal.new result }
+    ensures value { Measures gives_volume (Question.Volume solid) (slot_in gwb.old.lent.loan) six_volumes.old six_volumes.new refusal.old refusal.new result }
 {
     measure(gwb, Question::Volume(solid), six_volumes, refusal)
 }
@@ -72,7 +62,7 @@ pub extern "C" fn gwb_lent_counts(
     refusal: &mut Refused,
 ) -> u32
     ensures state { gwb.new.lent.loan ≡ gwb.old.lent.loan }
-    ensures value { Measures gives_counts (question.Count solid) (slot_in gwb.old.lent.loan) counts.old counts.new refusal.old refusal.new result }
+    ensures value { Measures gives_counts (Question.Count solid) (slot_in gwb.old.lent.loan) counts.old counts.new refusal.old refusal.new result }
 {
     measure(gwb, Question::Count(solid), counts, refusal)
 }

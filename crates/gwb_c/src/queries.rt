@@ -1,6 +1,5 @@
 //! Calls of C: queries. Each answers as the line does that spells the same query, and writes the value where the answer tells it.
 ghost use Rattle.std.specs.Prelude.{◌≡◌};
-ghost use Rattle.commands.specs.declared.command.Question.TheVariants as question;
 ghost use Rattle.gwb_c.specs.Handle.{gives_counts, gives_volume, gives_plane};
 ghost use Rattle.gwb_c.specs.Calls.{Asks, Tells};
 
@@ -32,7 +31,7 @@ pub extern "C" fn gwb_face_plane(
     face: u32,
     plane: &mut PlaneRow,
 ) -> u32
-    ensures state { Asks gwb.old.kept.value (question.Plane face) gwb.new.kept.value result }
+    ensures state { Asks gwb.old.kept.value (Question.Plane face) gwb.new.kept.value result }
     ensures value { Tells gives_plane gwb.new.kept.value plane.old plane.new }
 {
     ask(alloc, gwb, Question::Plane(face), plane)
@@ -46,7 +45,7 @@ pub extern "C" fn gwb_volume(
     solid: u32,
     six_volumes: &mut Wide,
 ) -> u32
-    ensures state { Asks gwb.old.kept.value (question.Volume solid) gwb.new.kept.value result }
+    ensures state { Asks gwb.old.kept.value (Question.Volume solid) gwb.new.kept.value result }
     ensures value { Tells gives_volume gwb.new.kept.value six_volumes.old six_volumes.new }
 {
     ask(alloc, gwb, Question::Volume(solid), six_volumes)
@@ -55,7 +54,7 @@ pub extern "C" fn gwb_volume(
 /// How many vertices, edges, faces and rings a solid has, and their sum with signs.
 #[unsafe(no_mangle)]
 pub extern "C" fn gwb_count(alloc: Global, gwb: &mut Gwb, solid: u32, counts: &mut Counts) -> u32
-    ensures state { Asks gwb.old.kept.value (question.Count solid) gwb.new.kept.value result }
+    ensures state { Asks gwb.old.kept.value (Question.Count solid) gwb.new.kept.value result }
     ensures value { Tells gives_counts gwb.new.kept.value counts.old counts.new }
 {
     ask(alloc, gwb, Question::Count(solid), counts)

@@ -1,14 +1,12 @@
 //! Calls of C: the model held, read without text. Each says 1 where the value is there, and writes it; 0 where it is not there, and 9
 //! where there is no session: then nothing is written.
-ghost use Rattle.std.specs.Prelude.{◌≡◌, Some};
-ghost use Rattle.session_slots.specs.Reading.{face_in, face_of_loop_in, edge_in, point_in, lone_in, after_in, before_in, loop_in, IsRingAfter, IsFaceAfter, AreHalfEdges, AreRows, IsFirst, kind_of, IsNumberAfter};
-ghost use Rattle.session_slots.specs.Owned.{slot_in};
-ghost use Rattle.session_slots.specs.Spokes.{IsStart};
+ghost use Rattle.std.specs.Prelude.{◌≡◌};
+ghost use Rattle.session_slots.specs.Common.{face_in, face_of_loop_in, edge_in, point_in, lone_in, after_in, before_in, loop_in, IsRingAfter, IsFaceAfter, AreHalfEdges, AreRows, IsFirst, IsStart, kind_of, IsNumberAfter, slot_in};
 ghost use Rattle.gwb_c.specs.Handle.{Reads, Finds, Lists, GivesFresh};
 
 use crate::fresh::{Range, fresh_of};
-use crate::told::{ABSENT, CLOSED, give, told_of};
-use session_slots::{EdgeRow, FaceRow, GwbLent, HalfEdgeRow, Place, Slot};
+use crate::told::{CLOSED, give, told_of};
+use session_slots::{EdgeRow, FaceRow, GwbLent, HalfEdgeRow, Place, staged};
 
 /// The solid and the outer loop of a face.
 #[unsafe(no_mangle)]
@@ -16,10 +14,7 @@ pub extern "C" fn gwb_lent_face(gwb: &mut GwbLent, face: u32, row: &mut FaceRow)
     ensures state { gwb.new.lent.loan ≡ gwb.old.lent.loan }
     ensures value { Reads (face_in face) (slot_in gwb.old.lent.loan) row.old row.new result }
 {
-    told_of!(gwb, CLOSED, slot => match &slot.stage {
-        Some(stage) => give(session_slots::face(stage.arena(), face), row),
-        None => ABSENT,
-    })
+    told_of!(gwb, CLOSED, slot => give(session_slots::face(staged(slot).arena(), face), row))
 }
 
 /// The face of a loop.
@@ -28,10 +23,7 @@ pub extern "C" fn gwb_lent_loop(gwb: &mut GwbLent, l: u32, face: &mut u32) -> u3
     ensures state { gwb.new.lent.loan ≡ gwb.old.lent.loan }
     ensures value { Reads (face_of_loop_in l) (slot_in gwb.old.lent.loan) face.old face.new result }
 {
-    told_of!(gwb, CLOSED, slot => match &slot.stage {
-        Some(stage) => give(session_slots::face_of_loop(stage.arena(), l), face),
-        None => ABSENT,
-    })
+    told_of!(gwb, CLOSED, slot => give(session_slots::face_of_loop(staged(slot).arena(), l), face))
 }
 
 /// The vertices at which the half-edges of an edge start.
@@ -40,10 +32,7 @@ pub extern "C" fn gwb_lent_edge(gwb: &mut GwbLent, edge: u32, row: &mut EdgeRow)
     ensures state { gwb.new.lent.loan ≡ gwb.old.lent.loan }
     ensures value { Reads (edge_in edge) (slot_in gwb.old.lent.loan) row.old row.new result }
 {
-    told_of!(gwb, CLOSED, slot => match &slot.stage {
-        Some(stage) => give(session_slots::edge(stage.arena(), edge), row),
-        None => ABSENT,
-    })
+    told_of!(gwb, CLOSED, slot => give(session_slots::edge(staged(slot).arena(), edge), row))
 }
 
 /// The coordinates of a vertex.
@@ -52,10 +41,7 @@ pub extern "C" fn gwb_lent_vertex(gwb: &mut GwbLent, vertex: u32, place: &mut Pl
     ensures state { gwb.new.lent.loan ≡ gwb.old.lent.loan }
     ensures value { Reads (point_in vertex) (slot_in gwb.old.lent.loan) place.old place.new result }
 {
-    told_of!(gwb, CLOSED, slot => match &slot.stage {
-        Some(stage) => give(session_slots::vertex(stage.arena(), vertex), place),
-        None => ABSENT,
-    })
+    told_of!(gwb, CLOSED, slot => give(session_slots::vertex(staged(slot).arena(), vertex), place))
 }
 
 /// The vertex of a loop that has one and no edge.
@@ -64,10 +50,7 @@ pub extern "C" fn gwb_lent_lone_vertex(gwb: &mut GwbLent, l: u32, vertex: &mut u
     ensures state { gwb.new.lent.loan ≡ gwb.old.lent.loan }
     ensures value { Reads (lone_in l) (slot_in gwb.old.lent.loan) vertex.old vertex.new result }
 {
-    told_of!(gwb, CLOSED, slot => match &slot.stage {
-        Some(stage) => give(session_slots::lone_vertex(stage.arena(), l), vertex),
-        None => ABSENT,
-    })
+    told_of!(gwb, CLOSED, slot => give(session_slots::lone_vertex(staged(slot).arena(), l), vertex))
 }
 
 /// The half-edge after another in its loop.
@@ -76,10 +59,7 @@ pub extern "C" fn gwb_lent_next_half_edge(gwb: &mut GwbLent, item: u32, next: &m
     ensures state { gwb.new.lent.loan ≡ gwb.old.lent.loan }
     ensures value { Reads (after_in item) (slot_in gwb.old.lent.loan) next.old next.new result }
 {
-    told_of!(gwb, CLOSED, slot => match &slot.stage {
-        Some(stage) => give(session_slots::next_half_edge(stage.arena(), item), next),
-        None => ABSENT,
-    })
+    told_of!(gwb, CLOSED, slot => give(session_slots::next_half_edge(staged(slot).arena(), item), next))
 }
 
 /// The half-edge before another in its loop.
@@ -92,13 +72,7 @@ pub extern "C" fn gwb_lent_previous_half_edge(
     ensures state { gwb.new.lent.loan ≡ gwb.old.lent.loan }
     ensures value { Reads (before_in item) (slot_in gwb.old.lent.loan) previous.old previous.new result }
 {
-    told_of!(gwb, CLOSED, slot => match &slot.stage {
-        Some(stage) => give(
-            session_slots::previous_half_edge(stage.arena(), item),
-            previous,
-        ),
-        None => ABSENT,
-    })
+    told_of!(gwb, CLOSED, slot => give(session_slots::previous_half_edge(staged(slot).arena(), item), previous))
 }
 
 /// The loop in which a half-edge stands.
@@ -107,19 +81,7 @@ pub extern "C" fn gwb_lent_half_edge_loop(gwb: &mut GwbLent, item: u32, l: &mut 
     ensures state { gwb.new.lent.loan ≡ gwb.old.lent.loan }
     ensures value { Reads (loop_in item) (slot_in gwb.old.lent.loan) l.old l.new result }
 {
-    told_of!(gwb, CLOSED, slot => match &slot.stage {
-        Some(stage) => give(session_slots::half_edge_loop(stage.arena(), item), l),
-        None => ABSENT,
-    })
-}
-
-fn find_first_half_edge(slot: &Slot, l: u32, item: &mut u32) -> u32
-    ensures { Finds (IsFirst l) (Some slot.now) item.old item.new result }
-{
-    match &slot.stage {
-        Some(stage) => give(session_slots::first_half_edge(stage.arena(), l), item),
-        None => ABSENT,
-    }
+    told_of!(gwb, CLOSED, slot => give(session_slots::half_edge_loop(staged(slot).arena(), item), l))
 }
 
 /// A half-edge of a loop.
@@ -128,19 +90,7 @@ pub extern "C" fn gwb_lent_first_half_edge(gwb: &mut GwbLent, l: u32, item: &mut
     ensures state { gwb.new.lent.loan ≡ gwb.old.lent.loan }
     ensures value { Finds (IsFirst l) (slot_in gwb.old.lent.loan) item.old item.new result }
 {
-    told_of!(gwb, CLOSED, slot => find_first_half_edge(slot, l, item))
-}
-
-fn find_vertex_half_edge(slot: &Slot, vertex: u32, item: &mut u32) -> u32
-    ensures { Finds (IsStart vertex) (Some slot.now) item.old item.new result }
-{
-    match &slot.stage {
-        Some(stage) => give(
-            session_slots::vertex_half_edge(stage.arena(), stage.greatest(), vertex),
-            item,
-        ),
-        None => ABSENT,
-    }
+    told_of!(gwb, CLOSED, slot => give(session_slots::first_half_edge(staged(slot).arena(), l), item))
 }
 
 /// A half-edge that starts at a vertex. It looks first where one is likely, and at all edges where there is none.
@@ -149,16 +99,10 @@ pub extern "C" fn gwb_lent_vertex_half_edge(gwb: &mut GwbLent, vertex: u32, item
     ensures state { gwb.new.lent.loan ≡ gwb.old.lent.loan }
     ensures value { Finds (IsStart vertex) (slot_in gwb.old.lent.loan) item.old item.new result }
 {
-    told_of!(gwb, CLOSED, slot => find_vertex_half_edge(slot, vertex, item))
-}
-
-fn list_half_edges(slot: &Slot, l: u32, buf: &mut [u32]) -> usize
-    ensures { Lists (AreHalfEdges l) (Some slot.now) buf.old buf.new result }
-{
-    match &slot.stage {
-        Some(stage) => session_slots::half_edges(stage.arena(), l, buf),
-        None => 0,
-    }
+    told_of!(gwb, CLOSED, slot => {
+        let stage = staged(slot);
+        give(session_slots::vertex_half_edge(stage.arena(), stage.greatest(), vertex), item)
+    })
 }
 
 /// Writes the half-edges of a loop in their order round it, from any of them on, as far as there is room, and says how many there are:
@@ -168,16 +112,7 @@ pub extern "C" fn gwb_lent_half_edges(gwb: &mut GwbLent, l: u32, buf: &mut [u32]
     ensures state { gwb.new.lent.loan ≡ gwb.old.lent.loan }
     ensures items { Lists (AreHalfEdges l) (slot_in gwb.old.lent.loan) buf.old buf.new result }
 {
-    told_of!(gwb, usize::MAX, slot => list_half_edges(slot, l, buf))
-}
-
-fn list_half_edge_rows(slot: &Slot, face: u32, rows: &mut [HalfEdgeRow]) -> usize
-    ensures { Lists (AreRows face) (Some slot.now) rows.old rows.new result }
-{
-    match &slot.stage {
-        Some(stage) => session_slots::half_edge_rows(stage.arena(), face, rows),
-        None => 0,
-    }
+    told_of!(gwb, usize::MAX, slot => session_slots::half_edges(staged(slot).arena(), l, buf))
 }
 
 /// Writes a row of each half-edge of a face, as far as there is room, and says how many there are: those of its outer loop, then those of
@@ -191,16 +126,7 @@ pub extern "C" fn gwb_lent_half_edge_rows(
     ensures state { gwb.new.lent.loan ≡ gwb.old.lent.loan }
     ensures items { Lists (AreRows face) (slot_in gwb.old.lent.loan) rows.old rows.new result }
 {
-    told_of!(gwb, usize::MAX, slot => list_half_edge_rows(slot, face, rows))
-}
-
-fn find_ring_after(slot: &Slot, face: u32, last: u32, ring: &mut u32) -> u32
-    ensures { Finds (IsRingAfter face last) (Some slot.now) ring.old ring.new result }
-{
-    match &slot.stage {
-        Some(stage) => give(session_slots::ring_after(stage.arena(), face, last), ring),
-        None => ABSENT,
-    }
+    told_of!(gwb, usize::MAX, slot => session_slots::half_edge_rows(staged(slot).arena(), face, rows))
 }
 
 /// The least ring of a face above the one given.
@@ -214,16 +140,7 @@ pub extern "C" fn gwb_lent_ring_after(
     ensures state { gwb.new.lent.loan ≡ gwb.old.lent.loan }
     ensures value { Finds (IsRingAfter face last) (slot_in gwb.old.lent.loan) ring.old ring.new result }
 {
-    told_of!(gwb, CLOSED, slot => find_ring_after(slot, face, last, ring))
-}
-
-fn find_face_after(slot: &Slot, solid: u32, last: u32, face: &mut u32) -> u32
-    ensures { Finds (IsFaceAfter solid last) (Some slot.now) face.old face.new result }
-{
-    match &slot.stage {
-        Some(stage) => give(session_slots::face_after(stage.arena(), solid, last), face),
-        None => ABSENT,
-    }
+    told_of!(gwb, CLOSED, slot => give(session_slots::ring_after(staged(slot).arena(), face, last), ring))
 }
 
 /// The least face of a solid above the one given.
@@ -237,19 +154,7 @@ pub extern "C" fn gwb_lent_face_after(
     ensures state { gwb.new.lent.loan ≡ gwb.old.lent.loan }
     ensures value { Finds (IsFaceAfter solid last) (slot_in gwb.old.lent.loan) face.old face.new result }
 {
-    told_of!(gwb, CLOSED, slot => find_face_after(slot, solid, last, face))
-}
-
-fn find_number_after(slot: &Slot, entity: u32, last: u32, number: &mut u32) -> u32
-    ensures { Finds (IsNumberAfter (kind_of entity) last) (Some slot.now) number.old number.new result }
-{
-    match &slot.stage {
-        Some(stage) => give(
-            session_slots::number_after(stage.arena(), entity, last),
-            number,
-        ),
-        None => ABSENT,
-    }
+    told_of!(gwb, CLOSED, slot => give(session_slots::face_after(staged(slot).arena(), solid, last), face))
 }
 
 /// The least number of a kind in use above the one given: 0 for solids, 1 for faces, 2 for loops, 3 for edges, 4 for vertices.
@@ -263,16 +168,7 @@ pub extern "C" fn gwb_lent_number_after(
     ensures state { gwb.new.lent.loan ≡ gwb.old.lent.loan }
     ensures value { Finds (IsNumberAfter (kind_of entity) last) (slot_in gwb.old.lent.loan) number.old number.new result }
 {
-    told_of!(gwb, CLOSED, slot => find_number_after(slot, entity, last, number))
-}
-
-fn give_fresh(slot: &Slot, entity: u32, range: &mut Range) -> u32
-    ensures { GivesFresh entity (Some slot.now) range.old range.new result }
-{
-    match &slot.stage {
-        Some(stage) => give(fresh_of(slot.before, stage.greatest(), entity), range),
-        None => ABSENT,
-    }
+    told_of!(gwb, CLOSED, slot => give(session_slots::number_after(staged(slot).arena(), entity, last), number))
 }
 
 /// The numbers that the last line brought into use above all that were in use before it: 1 for faces, 2 for loops, 3 for edges, 4 for
@@ -282,5 +178,5 @@ pub extern "C" fn gwb_lent_fresh(gwb: &mut GwbLent, entity: u32, range: &mut Ran
     ensures state { gwb.new.lent.loan ≡ gwb.old.lent.loan }
     ensures value { GivesFresh entity (slot_in gwb.old.lent.loan) range.old range.new result }
 {
-    told_of!(gwb, CLOSED, slot => give_fresh(slot, entity, range))
+    told_of!(gwb, CLOSED, slot => give(fresh_of(slot.before, staged(slot).greatest(), entity), range))
 }

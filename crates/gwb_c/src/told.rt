@@ -1,6 +1,6 @@
 //! What C is told: why there was no call, and of a value whether it is there.
 ghost use Rattle.std.specs.Prelude.{◌≡◌, cond};
-ghost use Rattle.session_slots.specs.Answered.{status_of};
+ghost use Rattle.session_slots.specs.Common.{status_of};
 ghost use Rattle.gwb_c.specs.Handle.{lacking, Gives};
 
 use session_slots::{Slot, is_drafting, status};

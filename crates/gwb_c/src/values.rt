@@ -1,6 +1,6 @@
 //! What an answer gives, as C has it.
 ghost use Rattle.std.specs.Prelude.{ℕ};
-ghost use Rattle.script_running.specs.declared.script_judging.judging.Answer.{Answer};
+ghost use Rattle.session_slots.specs.Common.{Answer};
 ghost use Rattle.gwb_c.specs.Handle.{gives_refusal, gives_counts, gives_volume, gives_plane};
 
 use crate::told::{ABSENT, FOUND, give};

@@ -1,20 +1,14 @@
 -- What a line that was heard comes to.
 use Rattle.std.proofs.Common.{◌≡◌, ◌∙◌, inl, inr, ℕ, Bool, true, false, true≢false, List, length, Result, Ok, Err, refl, sym, ap, subst, nat_lt}
 use Rattle.std.proofs.lemmas.Bool.{cases_Bool}
+use Rattle.session_slots.specs.Common.{Request, Fault, Counters, Counts_in, Spoken, gives, tells, read, spoken, said_of, lacks_said, Slot_says, Slot_hears, Slot_notes, Unless_lacking, Slot}
 use Rattle.script_reader.specs.Words.{words}
 use Rattle.script_reader.specs.Grammar.{is_ascii, command_of_words}
-use Rattle.script_reader.specs.declared.command.Request.{Request}
-use Rattle.script_reader.specs.declared.command.Request.TheVariants.{Nothing}
-use Rattle.script_reader.specs.declared.command.Fault.{Fault}
 use Rattle.script_reader.proofs.AsciiWords.{words_tell}
-use Rattle.solid_walks.specs.declared.numbers.Counters.{Counters}
-use Rattle.session_slots.specs.Slots.{Counts_in}
-use Rattle.session_slots.specs.Lines.{Spoken, gives, tells, read, spoken, said_of, lacks_said, Slot_says, Slot_hears, Slot_notes, Unless_lacking}
-use Rattle.session_slots.specs.declared.slot.Slot.{Slot}
 
 -- a line that is read once, and looked at again only where its words ask for nothing, or are wrong
 spoken_is : (line : List ℕ) (r : Result Request Fault) → nat_lt 65536 (length line) ≡ false → command_of_words (words line) ≡ r → spoken line ≡ said_of line r
-spoken_is line (Ok Nothing) short e = elim (cases_Bool (is_ascii line)) [
+spoken_is line (Ok Request.Nothing) short e = elim (cases_Bool (is_ascii line)) [
   | inl ascii ↦ rw (short, ascii, e) refl
   | inr other ↦ rw (short, other) refl
 ]

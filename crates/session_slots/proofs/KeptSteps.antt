@@ -1,22 +1,8 @@
 -- What lies with C, in a handle's words. Assumes `Logic`.
 use Rattle.std.proofs.Common.{◌≡◌, [], ◌∷◌, refl, IsSome, Option, Some, None}
-use seplogic.Ra.Ura.{Ura}
-use base.Logic.{ent}
-use base.Fml.{Fml}
-use mir.Raw.{raw as raw_ty}
-use mir.Syntax.{impl, tnil, dnil}
-use types.Logic.{Logic, sem}
-use types.Kit.{‵, ◌$◌, ◌∵◌, !, qed, move, fsplit, fjoin, fpick, fpack, done}
-use denote.RattleType.{RattleType}
-use denote.Memory.{lone}
-use denote.RawPtr.{Ptr}
-use Rattle.std.proofs.alloc.Calls.{Al}
-use Rattle.std.specs.declared.alloc.Global.{Global}
-use Rattle.std.specs.contracts.alloc.Global.{the_row as Z}
-use Rattle.std.proofs.alloc.Global.TheLaws.{the_row_laws as LZ}
-use Rattle.std.specs.contracts.impls.GlobalAllocator.TheImpl.{ghosts, dict}
-use Rattle.std.specs.Box.Ownership.{box_owns}
-use Rattle.session_slots.specs.Owned.{token}
+use Rattle.session_slots.proofs.Walking.{Logic, sem, ‵, ◌$◌, ◌∵◌, !, qed, move, fsplit, fjoin, fpick, fpack, done}
+use Rattle.session_slots.proofs.Pointers.{Ura, ent, Fml, bare, impl, tnil, dnil, RattleType, lone, Ptr, Al, Global, Z, LZ, ghosts, dict, box_owns}
+use Rattle.session_slots.specs.Common.{token}
 use Rattle.session_slots.proofs.Values as values
 
 abbrev pub heap : Al
@@ -35,7 +21,7 @@ module _ (R : RattleType) where
 
     -- what a box owns is owned with the right to free it, whatever the handle to the heap
     pub own_in : ent 𝓤 (sem 𝓛 Boxed) (sem 𝓛 (Own p x))
-    own_in = qed 𝓛 (‵ Boxed ∷ []) ∵ fsplit ! $ move ! (1 ∷ []) $ fpack ! Global (λ h. ghosts.dealloc_token h (raw_ty (lone R.mir)) p) alloc $ move ! (1 ∷ 0 ∷ []) $ fjoin ! $ done !
+    own_in = qed 𝓛 (‵ Boxed ∷ []) ∵ fsplit ! $ move ! (1 ∷ []) $ fpack ! Global (λ h. ghosts.dealloc_token h (bare (lone R.mir)) p) alloc $ move ! (1 ∷ 0 ∷ []) $ fjoin ! $ done !
 
     pub own_out : ent 𝓤 (sem 𝓛 (Own p x)) (sem 𝓛 Boxed)
     own_out = qed 𝓛 (‵ (Own p x) ∷ []) ∵ fsplit ! $ move ! (1 ∷ []) $ fpick ! (λ h. move ! (1 ∷ 0 ∷ []) $ fjoin ! $ done !)

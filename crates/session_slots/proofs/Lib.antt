@@ -11,3 +11,5 @@ mod Queried
 mod Unchanged
 mod Hearing
 mod Judged
+mod Walking
+mod Pointers

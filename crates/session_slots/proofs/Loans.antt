@@ -1,29 +1,9 @@
 -- A `&` to what is lent is made of its share of the token, and what a handle owns can be lent. Assumes `Logic`.
-use Prim.Native.Nat.{ℕ}
-use mathlib.Core.List.{[], ◌∷◌}
-use seplogic.Ra.Ura.{Ura}
-use base.Logic.{ent, sep, upd_i, id⊢, apply∗, wand}
-use base.Fml.{Lft, Share, Fml, ftrue, fsep, fseps, fwand, fupd, fdead, fbor, flft}
-use contract.BorrowLft.{meet_⊑_left, ⊑_static}
-use ghost.Rules.{span, thinned}
-use types.Logic.{Logic, sem, lfts}
-use types.Kit.{‵, raw, ◌⊛◌, some, later, ◌$◌, ◌∵◌, !, qed, move, keep, use1, use2, split, fsplit, fsplit3, fjoin, pick, assume, suffices, await, updating, now, done}
-use types.Tokens.{bor_open, obor_alter, bor_fracture, one_token}
-use denote.Sharing.{ShrLaws}
-use denote.SharingLaws.{contraction}
-use denote.Moves.{moves_from}
-use denote.Steps.{nothing}
-use denote.Struct.Lending.{Lends, lent_at, Lends-lies, Lends-first}
-use denote.Memory.{lone}
-use denote.RawPtr.{Ptr, lies_at}
-use denote.Shares.{Shares-less}
-use mir.Raw.{raw as bare}
-use base.Fraction.{full_share}
-use Rattle.std.proofs.Common.{Some}
-use Rattle.session_slots.specs.declared.slot.Slot.{Slot}
-use Rattle.session_slots.specs.contracts.slot.Slot.{the_row as R}
+use Rattle.std.proofs.Common.{Some, ℕ, [], ◌∷◌}
+use Rattle.session_slots.proofs.Walking.{Logic, sem, lfts, ‵, raw, ◌⊛◌, some, later, ◌$◌, ◌∵◌, !, qed, move, keep, use1, use2, split, fsplit, fsplit3, fjoin, pick, assume, suffices, await, updating, now, done, bor_open, obor_alter, bor_fracture, one_token}
+use Rattle.session_slots.proofs.Pointers.{Ura, ent, sep, upd_i, id⊢, apply∗, wand, Lft, Share, Fml, ftrue, fsep, fseps, fwand, fupd, fdead, fbor, flft, meet_⊑_left, ⊑_static, span, thinned, ShrLaws, contraction, moves_from, nothing, Lends, lent_at, Lends-lies, Lends-first, lone, Ptr, lies_at, Shares-less, bare, full_share, R}
+use Rattle.session_slots.specs.Common.{Slot, token, kept_owns}
 use Rattle.session_slots.proofs.slot.Slot.TheLaws.{the_row_laws as L}
-use Rattle.session_slots.specs.Owned.{token, kept_owns}
 
 -- a share of a lifetime's token, with what is shared for that lifetime, is shared for as long as the share is borrowed
 module _ {M : Type 1} {𝓤 : Ura M} (𝓛 : Logic 𝓤) (t : Lft → Fml) (L : ShrLaws t) (a : ℕ) (e : Share) where

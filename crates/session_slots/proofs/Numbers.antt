@@ -1,10 +1,8 @@
 -- What an arena tells of the model that it holds.
 use Rattle.std.proofs.Common.{◌≡◌, ℕ, false, [], Option, Some, None, is_some, unwrap_or, true≢false, refl, ap, subst}
-use Rattle.euler_operators.specs.Common.{IsIn, code, has, Model, LoopContent, LoopRow, no_loop, lone, cycle, items_of, content, loop_of, cycle_of, HalfEdge, Kind, Solid, Face, Loop, Edge, Vertex, Sound}
-use Rattle.euler_operators.specs.declared.Content.TheVariants as told
+use Rattle.session_slots.specs.Common.{IsIn, code, has, Model, LoopContent, LoopRow, no_loop, lone, cycle, items_of, content, loop_of, cycle_of, HalfEdge, Kind, Solid, Face, Loop, Edge, Vertex, Sound, Content, Store, IsNextNumber, store_of, IsItemOf}
 use Rattle.euler_operators.proofs.Common.{in-holds}
-use Rattle.euler_conditions.specs.Store.{Store, IsNextNumber, Tells}
-use Rattle.session_slots.specs.Reading.{store_of, IsItemOf}
+use Rattle.euler_conditions.specs.Store.{Tells}
 
 here : (s : Store) (k : Kind) (n : ℕ) (o : Option ℕ) → IsNextNumber s k n o → IsNextNumber (store_of s.model) k n o
 here s Solid n None h = h
@@ -21,23 +19,23 @@ here s Vertex n (Some m) h = h
 pub next_held : (s : Store) (M : Model) → s.model ≡ M → (k : Kind) (n : ℕ) (o : Option ℕ) → IsNextNumber s k n o → IsNextNumber (store_of M) k n o
 next_held s M is k n o h = subst (λ (N : Model). IsNextNumber (store_of N) k n o) is (here s k n o h)
 
-pub ring_item : (c : LoopContent) (h : HalfEdge) → Tells c (told.Ring h) → IsItemOf c (Some (code h))
+pub ring_item : (c : LoopContent) (h : HalfEdge) → Tells c (Content.Ring h) → IsItemOf c (Some (code h))
 ring_item (lone v) h e = absurd e
 ring_item (cycle hs) h e = e
 
-in_ring : (c : LoopContent) (h : HalfEdge) → Tells c (told.Ring h) → IsIn (code h) (items_of c)
+in_ring : (c : LoopContent) (h : HalfEdge) → Tells c (Content.Ring h) → IsIn (code h) (items_of c)
 in_ring (lone v) h e = absurd e
 in_ring (cycle hs) h e = e
 
 -- the half-edge that is told stands in the loop, and its cycle is the loop's
-pub told_loop : (M : Model) → Sound M → (l : ℕ) (h : HalfEdge) → Tells (content M l) (told.Ring h) → loop_of M (code h) ≡ l
+pub told_loop : (M : Model) → Sound M → (l : ℕ) (h : HalfEdge) → Tells (content M l) (Content.Ring h) → loop_of M (code h) ≡ l
 told_loop M sound l h t = sound.one_loop (code h) l (in-holds (code h) (content M l) (in_ring (content M l) h t))
 
-pub told_cycle : (M : Model) → Sound M → (l : ℕ) (h : HalfEdge) → Tells (content M l) (told.Ring h) → cycle_of M (code h) ≡ items_of (content M l)
+pub told_cycle : (M : Model) → Sound M → (l : ℕ) (h : HalfEdge) → Tells (content M l) (Content.Ring h) → cycle_of M (code h) ≡ items_of (content M l)
 told_cycle M sound l h t = ap (λ k. items_of (content M k)) (told_loop M sound l h t)
 
 -- a lone loop has no half-edge
-pub lone_items : (c : LoopContent) (v : ℕ) → Tells c (told.Lone v) → items_of c ≡ []
+pub lone_items : (c : LoopContent) (v : ℕ) → Tells c (Content.Lone v) → items_of c ≡ []
 lone_items (lone w) v e = refl
 lone_items (cycle hs) v e = absurd e
 

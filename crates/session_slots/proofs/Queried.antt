@@ -1,7 +1,6 @@
 -- What an answer tells of the refusal behind it.
 use Rattle.std.proofs.Common.{◌≡◌, Option, Some, None, Ok, Err, refl}
-use Rattle.euler_operators.specs.declared.Refusal.{Refusal}
-use Rattle.solid_measure.specs.Measure.{answer}
+use Rattle.session_slots.specs.Common.{Refusal, answer}
 
 pub is_refused : {A : Type 0} (o : Option Refusal) (a : A) (r : Refusal) → Err r ≡ answer o a → o ≡ Some r
 is_refused None a r e = cc

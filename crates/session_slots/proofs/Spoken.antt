@@ -1,10 +1,8 @@
 -- The two half-edges of an edge, and what starts at a vertex.
 use Rattle.std.proofs.Common.{◌≡◌, ◌≢◌, ◌⊎◌, inl, inr, ℕ, ◌+◌, ◌*◌, ◌<◌, ◌≤◌, true, false, ap, sym, ◌∙◌, arith, true≢false, Option, Some, None}
 use Rattle.std.proofs.lemmas.Bool.{cases_eq}
-use Rattle.euler_operators.specs.Table as table
-use Rattle.euler_operators.specs.Common.{edge_of, Model, has_half, tail, Sound}
+use Rattle.session_slots.specs.Common.{has, edge_of, Model, has_half, tail, Sound, IsStart, IsStartOf, IsStartWithin}
 use Rattle.euler_operators.proofs.Common.{number_fits, number_real}
-use Rattle.session_slots.specs.Spokes.{IsStart, IsStartOf, IsStartWithin}
 
 pub first : (e : ℕ) → edge_of (2 * e) ≡ e
 unfolding edge_of
@@ -33,17 +31,17 @@ pub none_yet : (M : Model) (v n : ℕ) → IsStartWithin v n n M None
 none_yet M v n = λ h there above within. absurd (omega (arith, above, within))
 
 -- none up to n, and no edge between n and k
-none_above : (M : Model) (v m n k : ℕ) → IsStartWithin v m n M None → ((e : ℕ) → n < e → e < k → table.has M.edges e ≡ false) → (h : ℕ) → has_half M h ≡ true → m < edge_of h → edge_of h < k → tail M h ≢ v
+none_above : (M : Model) (v m n k : ℕ) → IsStartWithin v m n M None → ((e : ℕ) → n < e → e < k → has M.edges e ≡ false) → (h : ℕ) → has_half M h ≡ true → m < edge_of h → edge_of h < k → tail M h ≢ v
 none_above M v m n k up between = λ h there above below at.
     elim (lt_or_le n (edge_of h)) [ inl past ↦ true≢false (sym there ∙ between (edge_of h) past below) | inr within ↦ up h there above within at ]
 
-pub none_left : (M : Model) (v m n k : ℕ) → IsStartWithin v m n M None → ((e : ℕ) → n < e → table.has M.edges e ≡ false) → IsStartWithin v m k M None
+pub none_left : (M : Model) (v m n k : ℕ) → IsStartWithin v m n M None → ((e : ℕ) → n < e → has M.edges e ≡ false) → IsStartWithin v m k M None
 none_left M v m n k up beyond = λ h there above within. none_above M v m n (k + 1) up (λ e past below. beyond e past) h there above (omega (arith, within))
 
-pub none_up_to : (M : Model) (v m n k e : ℕ) → IsStartWithin v m n M None → ((x : ℕ) → n < x → x < e → table.has M.edges x ≡ false) → k < e → IsStartWithin v m k M None
+pub none_up_to : (M : Model) (v m n k e : ℕ) → IsStartWithin v m n M None → ((x : ℕ) → n < x → x < e → has M.edges x ≡ false) → k < e → IsStartWithin v m k M None
 none_up_to M v m n k e up between past = λ h there above within. none_above M v m n e up between h there above (omega (arith, within, past))
 
-pub one_more : (M : Model) (v m n e : ℕ) → IsStartWithin v m n M None → IsStartOf M e v None → ((k : ℕ) → n < k → k < e → table.has M.edges k ≡ false) → IsStartWithin v m e M None
+pub one_more : (M : Model) (v m n e : ℕ) → IsStartWithin v m n M None → IsStartOf M e v None → ((k : ℕ) → n < k → k < e → has M.edges k ≡ false) → IsStartWithin v m e M None
 one_more M v m n e up here between = λ h there above within at.
     elim (cases_eq (edge_of h) e) [ inl is ↦ here h is at | inr ne ↦ none_above M v m n e up between h there above (omega (arith, within, ne)) at ]
 

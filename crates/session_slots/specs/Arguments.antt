@@ -1,8 +1,6 @@
 -- What C gives, as the kernel takes it.
 use Rattle.std.specs.Prelude.{◌-◌, ℕ, cond, nat_lt, List, map}
-use Rattle.euler_operators.specs.Common.{half, Corner, Point}
-use Rattle.euler_operators.specs.declared.Corner.TheVariants as corner
-use Rattle.session_slots.specs.declared.readers.Place.{Place}
+use Rattle.session_slots.specs.Common.Below.{half, Corner, Point, Place}
 
 -- the points of a polygon, in the order in which C gives them
 abbrev pub point_of : Place → Point
@@ -13,4 +11,4 @@ polygon_of ps = map point_of ps
 
 -- the corner that C means: below 2^31 the one at the tail of a half-edge, from there on that of a lone loop
 abbrev pub corner_of : ℕ → Corner
-corner_of n = cond (nat_lt n 2147483648) (corner.At (half n)) (corner.Lone (n - 2147483648))
+corner_of n = cond (nat_lt n 2147483648) (Corner.At (half n)) (Corner.Lone (n - 2147483648))

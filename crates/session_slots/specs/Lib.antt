@@ -1,3 +1,4 @@
+pub mod Common
 pub mod Spokes
 pub mod Stages
 pub mod Slots

@@ -1,22 +1,8 @@
 -- What a line does to a slot: it is a call, or is answered by itself.
 use Rattle.std.specs.Prelude.{◌≡◌, ℕ, Bool, true, false, List, Option, Result, Ok, Err}
-use Rattle.script_reader.specs.declared.command.Request.{Request}
-use Rattle.script_reader.specs.declared.command.Request.TheVariants as request
-use Rattle.script_reader.specs.declared.command.Fault.{Fault}
-use Rattle.script_reader.specs.Grammar.{command_of}
-use Rattle.script_running.specs.script_judging.Judging.{faulty}
-use Rattle.script_running.specs.script_judging.Settling.{unless_not_ascii}
-use Rattle.script_running.specs.declared.script_judging.judging.Answer.{Answer}
-use Rattle.script_running.specs.declared.script_judging.judging.Answer.TheVariants.{Silent, Listing}
-use Rattle.commands.specs.declared.command.Change.{Change}
-use Rattle.commands.specs.declared.command.Change.TheVariants as change
-use Rattle.commands.specs.declared.command.Command.{Command}
-use Rattle.commands.specs.declared.command.Command.TheVariants as command
-use Rattle.commands.specs.declared.command.Call.TheVariants as call
-use Rattle.commands.specs.declared.stage.Stage.{Stage}
+use Rattle.session_slots.specs.Common.Below.{Request, Fault, command_of, faulty, unless_not_ascii, Answer, Change, Command, Call, Stage, Slot}
 use Rattle.session_slots.specs.Stages.{lacks}
 use Rattle.session_slots.specs.Slots.{Slot_makes, Counts_in}
-use Rattle.session_slots.specs.declared.slot.Slot.{Slot}
 
 -- what a line comes to: a call, or an answer of its own
 pub data Spoken : Type 0 where
@@ -24,14 +10,14 @@ pub data Spoken : Type 0 where
   tells : Answer → Spoken
 
 abbrev pub changes : Change → Spoken
-changes c = gives (command.Change c)
+changes c = gives (Command.Change c)
 
 -- the call that a line asks for, or its own answer
 abbrev pub said : Request → Spoken
-said request.Nothing = tells Silent
-said request.List = tells Listing
-said (request.Lamina n ps) = changes (change.Lamina n ps)
-said (request.Give c) = gives c
+said Request.Nothing = tells Answer.Silent
+said Request.List = tells Answer.Listing
+said (Request.Lamina n ps) = changes (Change.Lamina n ps)
+said (Request.Give c) = gives c
 
 -- a line with a fault is told it
 abbrev pub read : Result Request Fault → Spoken
@@ -40,7 +26,7 @@ read (Err f) = tells (faulty f)
 
 -- the same of the words of a line within the limit: where they ask for nothing, or are wrong, it may not be ASCII
 abbrev pub said_of : List ℕ → Result Request Fault → Spoken
-said_of bytes (Ok request.Nothing) = tells (unless_not_ascii bytes Silent)
+said_of bytes (Ok Request.Nothing) = tells (unless_not_ascii bytes Answer.Silent)
 said_of bytes (Ok r) = said r
 said_of bytes (Err f) = tells (unless_not_ascii bytes (faulty f))
 
@@ -49,12 +35,12 @@ spoken line = read (command_of line)
 
 -- whether a session or a draft hasn't the call
 abbrev pub lacks_said : Spoken → Option Stage → Bool
-lacks_said (gives c) o = lacks (call.Give c) o
+lacks_said (gives c) o = lacks (Call.Give c) o
 lacks_said (tells a) o = false
 
 -- the call is made, or the answer is kept, and the session or draft stays
 unfoldable pub Slot_says : Slot → Spoken → Slot → Type 0
-Slot_says old (gives c) new = Slot_makes old (call.Give c) new
+Slot_says old (gives c) new = Slot_makes old (Call.Give c) new
 Slot_says old (tells a) new = (new.stage ≡ old.stage) × (new.answer ≡ a)
 
 -- the line is heard so

@@ -1,11 +1,6 @@
 -- What a handle holds once a session was begun in it.
 use Rattle.std.specs.Prelude.{◌≡◌, Bool, true, false, Option, Some, None}
-use Rattle.undo_journal.specs.Journal.{new_journal}
-use Rattle.script_running.specs.declared.script_judging.judging.Answer.{Answer}
-use Rattle.script_running.specs.declared.script_judging.judging.Answer.TheVariants.{Silent}
-use Rattle.commands.specs.declared.stage.Stage.{Stage}
-use Rattle.commands.specs.declared.stage.Stage.TheVariants.{Session}
-use Rattle.session_slots.specs.declared.slot.Slot.{Slot}
+use Rattle.session_slots.specs.Common.Below.{new_journal, Answer, Stage, Slot}
 
 -- what a handle holds: a session or a draft
 abbrev pub stage_in : Option Slot → Option Stage
@@ -29,6 +24,6 @@ is_whole (Some x) = is_staged x.stage
 
 -- a closed handle gets a new session that has answered nothing; else nothing has changed
 abbrev pub Opened : Option Slot → Option Slot → Bool → Type 0
-Opened None new true = (stage_in new ≡ Some (Session new_journal)) × (answer_in new ≡ Some Silent)
+Opened None new true = (stage_in new ≡ Some (Stage.Session new_journal)) × (answer_in new ≡ Some Answer.Silent)
 Opened None new false = new ≡ None
 Opened (Some x) new opened = (opened ≡ false) × (new ≡ Some x)

@@ -1,29 +1,17 @@
 -- Faces of a solid that become a solid of their own.
 use Rattle.std.specs.Prelude.{◌≡◌, ◌⊎◌, ℕ, List, get_or, Option, Some, None}
-use Rattle.euler_operators.specs.declared.Op.{Op}
-use Rattle.euler_operators.specs.declared.Op.TheVariants as operator
-use Rattle.euler_operators.specs.declared.Refusal.{Refusal}
-use Rattle.euler_operators.specs.Common.{Model, solid_of}
-use Rattle.solid_measure.specs.Measure.{face_refusal}
-use Rattle.commands.specs.declared.command.Change.TheVariants as change
-use Rattle.commands.specs.declared.command.Command.TheVariants as command
-use Rattle.commands.specs.declared.command.Call.TheVariants as call
-use Rattle.commands.specs.declared.command.Told.{Told}
-use Rattle.commands.specs.declared.command.Told.TheVariants.{Refused, Memory}
-use Rattle.commands.specs.Telling.{Tells}
+use Rattle.session_slots.specs.Common.Below.{Op, Refusal, Model, solid_of, face_refusal, Told, Tells, shown, Stage, Slot}
+use Rattle.session_slots.specs.Stages.{act_of}
 use Rattle.session_slots.specs.Slots.{Counts_in, answer_after}
-use Rattle.session_slots.specs.Stages.{shown}
-use Rattle.commands.specs.declared.stage.Stage.{Stage}
-use Rattle.session_slots.specs.declared.slot.Slot.{Slot}
 
 -- the operator that makes solid t of the faces: they leave the solid of the first one
 abbrev pub part_of : Model → List ℕ → ℕ → Op
-part_of M fs t = operator.Part (solid_of M (get_or fs 0 0)) t fs
+part_of M fs t = Op.Part (solid_of M (get_or fs 0 0)) t fs
 
 -- refused where the first one is no face; else the operator is carried out, but that memory may be refused before its conditions are tested
 abbrev pub Moves_faces : Option Refusal → Stage → Op → Told → Stage → Type 0
-Moves_faces (Some r) g op a h = (a ≡ Refused r) × (h ≡ g)
-Moves_faces None g op a h = Tells g (call.Give (command.Change (change.Act op))) a h ⊎ ((a ≡ Memory) × (h ≡ g))
+Moves_faces (Some r) g op a h = (a ≡ Told.Refused r) × (h ≡ g)
+Moves_faces None g op a h = Tells g (act_of op) a h ⊎ ((a ≡ Told.Memory) × (h ≡ g))
 
 -- a session or a draft goes on so
 abbrev pub Slot_parts : Slot → List ℕ → ℕ → Slot → Type 0

@@ -1,29 +1,21 @@
 -- What readers tell of a model.
 use Rattle.std.specs.Prelude.{◌≡◌, ℕ, true, false, cond, nat_eq, List, [], ◌∷◌, ◌++◌, map, Option, Some, None}
-use Rattle.euler_operators.specs.Common.{IsIn, IsRotation, plus, minus, edge_of, Model, LoopContent, lone, cycle, items_of, solid_of, outer, face_of, content, tail, after, before, loop_of, point_of, Kind}
-use Rattle.euler_operators.specs.Table as table
-use Rattle.euler_operators.specs.declared.Kind.TheVariants as kind
-use Rattle.shapes.specs.Common.{loops_of}
-use Rattle.euler_conditions.specs.Store.{Store, empty_store, IsNextNumber, IsNextRing, IsNextFace}
-use Rattle.session_slots.specs.declared.readers.FaceRow.{FaceRow}
-use Rattle.session_slots.specs.declared.readers.EdgeRow.{EdgeRow}
-use Rattle.session_slots.specs.declared.readers.Place.{Place}
-use Rattle.session_slots.specs.declared.cycles.HalfEdgeRow.{HalfEdgeRow}
+use Rattle.session_slots.specs.Common.Below.{IsIn, IsRotation, plus, minus, edge_of, Model, LoopContent, lone, cycle, items_of, solid_of, outer, face_of, content, tail, after, before, loop_of, point_of, Kind, has, loops_of, Store, empty_store, IsNextNumber, IsNextRing, IsNextFace, FaceRow, EdgeRow, Place, HalfEdgeRow}
 
 -- the solid and the outer loop of face f, if it is there
 abbrev pub face_in : ℕ → Model → Option FaceRow
-face_in f M = cond (table.has M.faces f) (Some (record { solid = solid_of M f; outer_loop = outer M f })) None
+face_in f M = cond (has M.faces f) (Some (record { solid = solid_of M f; outer_loop = outer M f })) None
 
 -- the face of loop l
 abbrev pub face_of_loop_in : ℕ → Model → Option ℕ
-face_of_loop_in l M = cond (table.has M.loops l) (Some (face_of M l)) None
+face_of_loop_in l M = cond (has M.loops l) (Some (face_of M l)) None
 
 -- the vertices at which the half-edges of edge e start
 abbrev pub ends_of : Model → ℕ → EdgeRow
 ends_of M e = record { from = tail M (plus e); to = tail M (minus e) }
 
 abbrev pub edge_in : ℕ → Model → Option EdgeRow
-edge_in e M = cond (table.has M.edges e) (Some (ends_of M e)) None
+edge_in e M = cond (has M.edges e) (Some (ends_of M e)) None
 
 -- the vertex of loop l, if it is lone
 abbrev pub lone_of : LoopContent → Option ℕ
@@ -31,7 +23,7 @@ lone_of (lone v) = Some v
 lone_of (cycle hs) = None
 
 abbrev pub lone_in : ℕ → Model → Option ℕ
-lone_in l M = cond (table.has M.loops l) (lone_of (content M l)) None
+lone_in l M = cond (has M.loops l) (lone_of (content M l)) None
 
 -- a half-edge of the loop; none where the loop is lone
 abbrev pub IsItemOf : LoopContent → Option ℕ → Type 0
@@ -42,7 +34,7 @@ IsItemOf (cycle hs) (Some h) = IsIn h hs
 
 -- a half-edge of loop l; none where l is not there
 abbrev pub IsFirst : ℕ → Model → Option ℕ → Type 0
-IsFirst l M o = (table.has M.loops l ≡ true → IsItemOf (content M l) o) × (table.has M.loops l ≡ false → o ≡ None)
+IsFirst l M o = (has M.loops l ≡ true → IsItemOf (content M l) o) × (has M.loops l ≡ false → o ≡ None)
 
 -- the half-edges of loop l in their order round it, from any of them on; none where the loop is lone or not there
 abbrev pub AreHalfEdges : ℕ → Model → List ℕ → Type 0
@@ -63,23 +55,23 @@ row_of M h = record { half_edge = h; start = tail M h; next = after M h; of_loop
 
 -- the rows of the half-edges of face f: those of its outer loop, then those of its rings, rising; none where f is not there
 abbrev pub AreRows : ℕ → Model → List HalfEdgeRow → Type 0
-AreRows f M rows = (hs : List ℕ) × AreRound M (cond (table.has M.faces f) (loops_of M f) []) hs × (rows ≡ map (row_of M) hs)
+AreRows f M rows = (hs : List ℕ) × AreRound M (cond (has M.faces f) (loops_of M f) []) hs × (rows ≡ map (row_of M) hs)
 
 -- the item after half-edge h in its loop, if h's edge is there
 abbrev pub after_in : ℕ → Model → Option ℕ
-after_in h M = cond (table.has M.edges (edge_of h)) (Some (after M h)) None
+after_in h M = cond (has M.edges (edge_of h)) (Some (after M h)) None
 
 -- the item before it
 abbrev pub before_in : ℕ → Model → Option ℕ
-before_in h M = cond (table.has M.edges (edge_of h)) (Some (before M h)) None
+before_in h M = cond (has M.edges (edge_of h)) (Some (before M h)) None
 
 -- the loop in which half-edge h stands
 abbrev pub loop_in : ℕ → Model → Option ℕ
-loop_in h M = cond (table.has M.edges (edge_of h)) (Some (loop_of M h)) None
+loop_in h M = cond (has M.edges (edge_of h)) (Some (loop_of M h)) None
 
 -- the least ring of face f above n; none where f is not there
 abbrev pub IsRingAfter : ℕ → ℕ → Model → Option ℕ → Type 0
-IsRingAfter f n M o = (table.has M.faces f ≡ true → IsNextRing M f n o) × (table.has M.faces f ≡ false → o ≡ None)
+IsRingAfter f n M o = (has M.faces f ≡ true → IsNextRing M f n o) × (has M.faces f ≡ false → o ≡ None)
 
 -- the least face of solid n above m
 abbrev pub IsFaceAfter : ℕ → ℕ → Model → Option ℕ → Type 0
@@ -87,7 +79,7 @@ IsFaceAfter n m M o = IsNextFace M n m o
 
 -- the kinds as C numbers them
 abbrev pub kind_of : ℕ → Option Kind
-kind_of n = cond (nat_eq n 0) (Some kind.Solid) (cond (nat_eq n 1) (Some kind.Face) (cond (nat_eq n 2) (Some kind.Loop) (cond (nat_eq n 3) (Some kind.Edge) (cond (nat_eq n 4) (Some kind.Vertex) None))))
+kind_of n = cond (nat_eq n 0) (Some Kind.Solid) (cond (nat_eq n 1) (Some Kind.Face) (cond (nat_eq n 2) (Some Kind.Loop) (cond (nat_eq n 3) (Some Kind.Edge) (cond (nat_eq n 4) (Some Kind.Vertex) None))))
 
 -- an arena that holds the model alone
 abbrev pub store_of : Model → Store
@@ -100,4 +92,4 @@ IsNumberAfter (Some k) n M o = IsNextNumber (store_of M) k n o
 
 -- the point of vertex v
 abbrev pub point_in : ℕ → Model → Option Place
-point_in v M = cond (table.has M.vertices v) (Some (record { x = (point_of M v).x; y = (point_of M v).y; z = (point_of M v).z })) None
+point_in v M = cond (has M.vertices v) (Some (record { x = (point_of M v).x; y = (point_of M v).y; z = (point_of M v).z })) None

@@ -1,21 +1,6 @@
 -- What a call does to a slot: a session, or a draft of its next command, with the answer to the last command.
 use Rattle.std.specs.Prelude.{◌≡◌, Some}
-use Rattle.script_running.specs.script_judging.Judging.{answer_when}
-use Rattle.script_running.specs.declared.script_judging.judging.Answer.{Answer}
-use Rattle.script_running.specs.declared.script_judging.judging.Answer.TheVariants.{Silent}
-use Rattle.shapes.specs.Common.{taken_in}
-use Rattle.solid_walks.specs.Counters.{taken_of}
-use Rattle.solid_walks.specs.declared.numbers.Counters.{Counters}
-use Rattle.commands.specs.declared.command.Question.{Question}
-use Rattle.commands.specs.declared.command.Command.TheVariants as command
-use Rattle.commands.specs.declared.command.Call.{Call}
-use Rattle.commands.specs.declared.command.Call.TheVariants as call
-use Rattle.commands.specs.declared.command.Told.{Told}
-use Rattle.commands.specs.declared.command.Told.TheVariants as told
-use Rattle.commands.specs.declared.stage.Stage.{Stage}
-use Rattle.commands.specs.Telling.{Tells, asked}
-use Rattle.session_slots.specs.Stages.{shown}
-use Rattle.session_slots.specs.declared.slot.Slot.{Slot}
+use Rattle.session_slots.specs.Common.Below.{answer_when, Answer, taken_in, taken_of, Counters, Question, Command, Call, Told, Stage, Tells, asked, shown, Slot}
 
 -- the greatest numbers in use in the model shown
 abbrev pub Counts_in : Slot → Counters → Type 0
@@ -23,9 +8,9 @@ Counts_in x n = (g : Stage) → x.stage ≡ Some g → taken_of n ≡ taken_in (
 
 -- the last answer after a call that was told so; a call that the session or draft hasn't, and one that concerns a mark, leave it
 abbrev pub answer_after : Answer → Told → Answer
-answer_after b told.InDraft = b
-answer_after b told.NoDraft = b
-answer_after b (told.Steps n) = b
+answer_after b Told.InDraft = b
+answer_after b Told.NoDraft = b
+answer_after b (Told.Steps n) = b
 answer_after b a = answer_when a
 
 -- a session or a draft goes on as the call is told, and the answer is kept
@@ -38,8 +23,8 @@ Slot_does old c new = Slot_makes old c new × Counts_in old new.before
 
 -- a question is no command: it leaves the numbers before the last one
 abbrev pub Slot_asks : Slot → Question → Slot → Type 0
-Slot_asks old q new = Slot_makes old (call.Give (command.Ask q)) new × (new.before ≡ old.before)
+Slot_asks old q new = Slot_makes old (Call.Give (Command.Ask q)) new × (new.before ≡ old.before)
 
 -- a question is answered of the model shown, and nothing is kept
 abbrev pub Slot_measures : Slot → Question → Answer → Type 0
-Slot_measures x q a = (g : Stage) → x.stage ≡ Some g → a ≡ answer_after Silent (asked (shown g) q)
+Slot_measures x q a = (g : Stage) → x.stage ≡ Some g → a ≡ answer_after Answer.Silent (asked (shown g) q)

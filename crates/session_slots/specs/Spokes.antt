@@ -1,6 +1,6 @@
 -- Half-edges that start at a vertex.
 use Rattle.std.specs.Prelude.{◌≡◌, ◌≢◌, ◌<◌, ◌≤◌, ℕ, true, Option, Some, None}
-use Rattle.euler_operators.specs.Common.{edge_of, Model, has_half, tail}
+use Rattle.session_slots.specs.Common.Below.{edge_of, Model, has_half, tail}
 
 -- a half-edge of edge e that starts at v; none where neither does
 abbrev pub IsStartOf : Model → ℕ → ℕ → Option ℕ → Type 0

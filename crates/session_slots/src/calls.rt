@@ -1,12 +1,8 @@
 //! Calls given as values: what each does to a slot.
 ghost use Rattle.std.specs.Prelude.{◌≡◌};
-ghost use Rattle.commands.specs.declared.command.Change.TheVariants as change;
-ghost use Rattle.commands.specs.declared.command.Command.TheVariants as command;
-ghost use Rattle.commands.specs.declared.command.Call.TheVariants as call;
-ghost use Rattle.commands.specs.Telling.{told_of};
-ghost use Rattle.session_slots.specs.Slots.{answer_after, Slot_makes, Slot_does, Slot_asks, Slot_measures};
+ghost use Rattle.session_slots.specs.Common.{act_of, led, told_of, answer_after, Slot_makes, Slot_does, Slot_asks, Slot_measures};
 
-use crate::counted_stage::CountedStage;
+use crate::counted_stage::{CountedStage, Way};
 use crate::slot::{Slot, counted_in};
 use commands::{Call, Command, Question, Told};
 use euler_operators::{Op, Refusal};
@@ -64,21 +60,11 @@ pub(crate) fn keep_outcome(ended: Result<(), Failure>, answer: &mut Answer)
 }
 
 #[inline(always)]
-pub(crate) fn undo_in(slot: &mut Slot)
-    ensures { Slot_makes slot.old (call.Give command.Undo) slot.new }
+pub(crate) fn lead_in(slot: &mut Slot, way: Way)
+    ensures { Slot_makes slot.old (Call.Give (led way)) slot.new }
 {
     if let Some(stage) = &mut slot.stage {
-        let told = stage.undo();
-        keep(&told, &mut slot.answer);
-    }
-}
-
-#[inline(always)]
-pub(crate) fn redo_in(slot: &mut Slot)
-    ensures { Slot_makes slot.old (call.Give command.Redo) slot.new }
-{
-    if let Some(stage) = &mut slot.stage {
-        let told = stage.redo();
+        let told = stage.lead(way);
         keep(&told, &mut slot.answer);
     }
 }
@@ -97,11 +83,11 @@ pub(crate) fn move_in(alloc: Global, slot: &mut Slot, wanted: Call<'_>)
 
 #[inline(always)]
 fn give_in(alloc: Global, slot: &mut Slot, command: Command<'_>)
-    ensures { Slot_makes slot.old (call.Give command.entry) slot.new }
+    ensures { Slot_makes slot.old (Call.Give command.entry) slot.new }
 {
     match command {
-        Command::Undo => undo_in(slot),
-        Command::Redo => redo_in(slot),
+        Command::Undo => lead_in(slot, Way::Undo),
+        Command::Redo => lead_in(slot, Way::Redo),
         command => move_in(alloc, slot, Call::Give(command)),
     }
 }
@@ -128,7 +114,7 @@ pub fn make(alloc: Global, slot: &mut Slot, wanted: Call<'_>)
 
 #[inline(always)]
 pub(crate) fn act_in(slot: &mut Slot, op: Op)
-    ensures { Slot_makes slot.old (call.Give (command.Change (change.Act op))) slot.new }
+    ensures { Slot_makes slot.old (act_of op) slot.new }
 {
     if let Some(stage) = &mut slot.stage {
         let ended = stage.act(op);
@@ -139,7 +125,7 @@ pub(crate) fn act_in(slot: &mut Slot, op: Op)
 /// One operator: in a session a command, in a draft a step.
 #[inline(always)]
 pub fn act(slot: &mut Slot, op: Op)
-    ensures { Slot_does slot.old (call.Give (command.Change (change.Act op))) slot.new }
+    ensures { Slot_does slot.old (act_of op) slot.new }
 {
     let before = counted_in(slot);
     act_in(slot, op);

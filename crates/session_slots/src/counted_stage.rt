@@ -1,12 +1,7 @@
 //! A session or a draft with the greatest numbers in use, which are read anew only where the model shown may have changed.
 ghost use Rattle.std.specs.Prelude.{◌≡◌, false};
 ghost use Rattle.euler_conditions.specs.Ready.{IsReady};
-ghost use Rattle.shapes.specs.Common.{taken_in};
-ghost use Rattle.solid_walks.specs.Counters.{taken_of};
-ghost use Rattle.commands.specs.declared.command.Change.TheVariants as change;
-ghost use Rattle.commands.specs.declared.command.Command.TheVariants as command;
-ghost use Rattle.commands.specs.declared.command.Call.TheVariants as call;
-ghost use Rattle.commands.specs.Telling.{shown, Tells, TellsSession, told_of};
+ghost use Rattle.session_slots.specs.Common.{act_of, led, taken_in, taken_of, shown, Call, Tells, TellsSession, told_of};
 
 use commands::{Stage, Told, moved};
 use euler_conditions::Arena;
@@ -53,36 +48,29 @@ fn greatest_after(done: bool, stage: &Stage, greatest: Counters) -> Counters
     }
 }
 
-#[inline(always)]
-fn undo_session(session: &mut Session) -> Told
-    ensures { TellsSession session.old command.Undo result session.new }
-{
-    moved(session.undo())
+/// The two ways through the records of a session.
+#[derive(Clone, Copy)]
+pub(crate) enum Way {
+    Undo,
+    Redo,
 }
 
 #[inline(always)]
-fn undo_on(stage: &mut Stage) -> Told
-    ensures { Tells stage.old (call.Give command.Undo) result stage.new }
+fn lead_session(session: &mut Session, way: Way) -> Told
+    ensures { TellsSession session.old (led way) result session.new }
 {
-    match stage {
-        Stage::Session(session) => undo_session(session),
-        Stage::Drafting(_) => Told::InDraft,
+    match way {
+        Way::Undo => moved(session.undo()),
+        Way::Redo => moved(session.redo()),
     }
 }
 
 #[inline(always)]
-fn redo_session(session: &mut Session) -> Told
-    ensures { TellsSession session.old command.Redo result session.new }
-{
-    moved(session.redo())
-}
-
-#[inline(always)]
-fn redo_on(stage: &mut Stage) -> Told
-    ensures { Tells stage.old (call.Give command.Redo) result stage.new }
+fn lead_stage(stage: &mut Stage, way: Way) -> Told
+    ensures { Tells stage.old (Call.Give (led way)) result stage.new }
 {
     match stage {
-        Stage::Session(session) => redo_session(session),
+        Stage::Session(session) => lead_session(session, way),
         Stage::Drafting(_) => Told::InDraft,
     }
 }
@@ -127,29 +115,19 @@ impl CountedStage {
     /// One operator: in a session a command, in a draft a step.
     #[inline(always)]
     pub(crate) fn act(&mut self, op: Op) -> Result<(), Failure>
-        ensures { Tells self.old (call.Give (command.Change (change.Act op))) (told_of result) self.new }
+        ensures { Tells self.old (act_of op) (told_of result) self.new }
     {
         let ended = commands::act(&mut self.stage, op);
         self.greatest = greatest_after(ended.is_ok(), &self.stage, self.greatest);
         ended
     }
 
-    /// Undoes where the session lies: moved through a call it would cost as much again.
+    /// Undoes or redoes where the session lies: moved through a call it would cost as much again.
     #[inline(always)]
-    pub(crate) fn undo(&mut self) -> Told
-        ensures { Tells self.old (call.Give command.Undo) result self.new }
+    pub(crate) fn lead(&mut self, way: Way) -> Told
+        ensures { Tells self.old (Call.Give (led way)) result self.new }
     {
-        let told = undo_on(&mut self.stage);
-        self.greatest = counters_of(self.stage.arena());
-        told
-    }
-
-    /// Redoes where the session lies.
-    #[inline(always)]
-    pub(crate) fn redo(&mut self) -> Told
-        ensures { Tells self.old (call.Give command.Redo) result self.new }
-    {
-        let told = redo_on(&mut self.stage);
+        let told = lead_stage(&mut self.stage, way);
         self.greatest = counters_of(self.stage.arena());
         told
     }

@@ -2,9 +2,7 @@
 ghost use Rattle.std.specs.Prelude.{◌≡◌, ◌↔◌, ℕ, true, IsTrue, IsSome, IfSome, Option, None, Some, MatchOption};
 ghost use base.Fml.{Share};
 ghost use Rattle.std.specs.Coded.{coded_option};
-ghost use Rattle.session_slots.specs.declared.slot.Slot.{Slot};
-ghost use Rattle.session_slots.specs.Owned.{loan_coded, slot_in};
-ghost use Rattle.session_slots.specs.Opening.{is_staged, is_whole};
+ghost use Rattle.session_slots.specs.Common.{Slot, loan_coded, slot_in, is_staged, is_whole};
 
 use crate::slot::Slot;
 use std::marker::Model;

@@ -54,5 +54,5 @@ pub use readers::{
     EdgeRow, FaceRow, Place, edge, face, face_after, face_of_loop, first_half_edge, half_edge_loop,
     lone_vertex, next_half_edge, number_after, previous_half_edge, ring_after, vertex,
 };
-pub use slot::{Slot, copy_front, is_drafting, lacks, text_of};
+pub use slot::{Slot, copy_front, is_drafting, lacks, staged, text_of};
 pub use spokes::vertex_half_edge;

@@ -1,14 +1,10 @@
 //! Lines: each is a call that it spells, or is answered by itself.
 ghost use Rattle.std.specs.Prelude.{◌≡◌, Ok, true};
 ghost use Rattle.script_reader.specs.Grammar.{is_operator, arguments};
-ghost use Rattle.script_running.specs.script_judging.Judging.{faulty};
-ghost use Rattle.script_running.specs.script_judging.Settling.{unless_not_ascii};
-ghost use Rattle.commands.specs.declared.command.Change.TheVariants as change;
-ghost use Rattle.commands.specs.declared.command.Command.TheVariants as command;
-ghost use Rattle.session_slots.specs.Stages.{is_draft};
-ghost use Rattle.session_slots.specs.Lines.{gives, tells, changes, said_of, spoken, lacks_said, Unless_lacking, Slot_says, Slot_hears, Slot_notes};
+ghost use Rattle.session_slots.specs.Common.{faulty, unless_not_ascii, led, is_draft, gives, tells, changes, said_of, spoken, lacks_said, Unless_lacking, Slot_says, Slot_hears, Slot_notes};
 
-use crate::calls::{act_in, ask, move_in, redo_in, undo_in};
+use crate::calls::{act_in, ask, lead_in, move_in};
+use crate::counted_stage::Way;
 use crate::slot::{Slot, counted_in, is_drafting};
 use commands::{Call, Change, Command, Points, Question};
 use euler_operators::Op;
@@ -65,7 +61,7 @@ fn tell_nothing(slot: &mut Slot, line: &[u8])
 #[inline(never)]
 #[tactic(auto, unfolding(crate::specs::Lines::Slot_says))]
 fn ask_of_line(slot: &mut Slot, question: Question)
-    ensures { Slot_says slot.old (gives (command.Ask question)) slot.new }
+    ensures { Slot_says slot.old (gives (Command.Ask question)) slot.new }
 {
     ask(slot, question)
 }
@@ -74,7 +70,7 @@ fn ask_of_line(slot: &mut Slot, question: Question)
 #[inline(always)]
 #[tactic(auto, unfolding(crate::specs::Lines::Slot_says))]
 fn act(slot: &mut Slot, op: Op)
-    ensures { Slot_says slot.old (changes (change.Act op)) slot.new }
+    ensures { Slot_says slot.old (changes (Change.Act op)) slot.new }
 {
     act_in(slot, op)
 }
@@ -91,7 +87,7 @@ fn carry(alloc: Global, slot: &mut Slot, wanted: Change<'_>)
 /// Makes a lamina of the points that its line has.
 #[inline(never)]
 fn carry_lamina(alloc: Global, slot: &mut Slot, solid: u32, polygon: &Polygon<'_>)
-    ensures { Slot_says slot.old (changes (change.Lamina solid polygon.now)) slot.new }
+    ensures { Slot_says slot.old (changes (Change.Lamina solid polygon.now)) slot.new }
 {
     let corners = polygon.corners();
     carry(
@@ -101,27 +97,16 @@ fn carry_lamina(alloc: Global, slot: &mut Slot, solid: u32, polygon: &Polygon<'_
     )
 }
 
-/// Undoes, but not in a draft: whether it is none.
+/// Undoes or redoes, but not in a draft: whether it is none.
+#[inline(always)]
 #[tactic(auto, unfolding(crate::specs::Lines::Slot_says))]
-fn undo_session(slot: &mut Slot) -> bool
-    ensures { Unless_lacking (is_draft slot.old.stage) (λ x y. Slot_says x (gives command.Undo) y) slot.old slot.new result }
+fn lead(slot: &mut Slot, way: Way) -> bool
+    ensures { Unless_lacking (is_draft slot.old.stage) (λ x y. Slot_says x (gives (led way)) y) slot.old slot.new result }
 {
     if is_drafting(slot) {
         return false;
     }
-    undo_in(slot);
-    true
-}
-
-/// Redoes, but not in a draft: whether it is none.
-#[tactic(auto, unfolding(crate::specs::Lines::Slot_says))]
-fn redo_session(slot: &mut Slot) -> bool
-    ensures { Unless_lacking (is_draft slot.old.stage) (λ x y. Slot_says x (gives command.Redo) y) slot.old slot.new result }
-{
-    if is_drafting(slot) {
-        return false;
-    }
-    redo_in(slot);
+    lead_in(slot, way);
     true
 }
 
@@ -132,8 +117,8 @@ fn give(alloc: Global, slot: &mut Slot, command: Command<'_>) -> bool
     match command {
         Command::Change(wanted) => carry(alloc, slot, wanted),
         Command::Ask(question) => ask_of_line(slot, question),
-        Command::Undo => return undo_session(slot),
-        Command::Redo => return redo_session(slot),
+        Command::Undo => return lead(slot, Way::Undo),
+        Command::Redo => return lead(slot, Way::Redo),
     }
     true
 }

@@ -1,9 +1,6 @@
 //! Faces of a solid that become a solid of their own.
 ghost use Rattle.std.specs.Prelude.{◌≡◌, ◌<◌, length, get_or, IfOk};
-ghost use Rattle.euler_operators.specs.Common.{solid_of};
-ghost use Rattle.solid_measure.specs.Measure.{answer, face_refusal};
-ghost use Rattle.commands.specs.Telling.{shown, told_of};
-ghost use Rattle.session_slots.specs.Parting.{part_of, Moves_faces, Slot_parts, Slot_makes_part};
+ghost use Rattle.session_slots.specs.Common.{solid_of, answer, face_refusal, shown, told_of, part_of, Moves_faces, Slot_parts, Slot_makes_part};
 
 use crate::calls::keep_outcome;
 use crate::counted_stage::CountedStage;

@@ -1,11 +1,7 @@
 //! A session or a draft in a slot with its last answer.
-ghost use Rattle.std.specs.Prelude.{◌≡◌, IfSome, Some, length};
+ghost use Rattle.std.specs.Prelude.{◌≡◌, IfSome, Some, length, true};
 ghost use Rattle.euler_conditions.specs.Ready.{IsReady};
-ghost use Rattle.undo_journal.specs.Journal.{new_journal};
-ghost use Rattle.commands.specs.declared.stage.Stage.TheVariants as stages;
-ghost use Rattle.session_slots.specs.Stages.{is_draft, lacks, text_in};
-ghost use Rattle.session_slots.specs.Slots.{Counts_in};
-ghost use Rattle.session_slots.specs.Written.{laid_over};
+ghost use Rattle.session_slots.specs.Common.{new_journal, is_draft, is_staged, lacks, text_in, Counts_in, laid_over};
 
 use crate::counted_stage::CountedStage;
 use commands::{Call, Command, Stage};
@@ -27,7 +23,7 @@ pub struct Slot {
 
 /// A new session in its box.
 pub(crate) fn made(alloc: Global) -> Option<Box<Slot, Global>>
-    ensures { IfSome result (λ b. (b.value.stage ≡ Some (stages.Session new_journal)) × (b.value.answer ≡ Answer.Silent)) }
+    ensures { IfSome result (λ b. (b.value.stage ≡ Some (Stage.Session new_journal)) × (b.value.answer ≡ Answer.Silent)) }
 {
     let Ok(session) = Session::new(alloc) else {
         return None;
@@ -46,6 +42,18 @@ pub(crate) fn made(alloc: Global) -> Option<Box<Slot, Global>>
         },
     )
     .ok()
+}
+
+/// The session or the draft of a slot that has one.
+#[inline(always)]
+pub fn staged(slot: &Slot) -> &CountedStage
+    requires { is_staged slot.now.stage ≡ true }
+    ensures { slot.now.stage ≡ Some result.now }
+{
+    match &slot.stage {
+        Some(stage) => stage,
+        None => unreachable!(),
+    }
 }
 
 /// The greatest numbers in use.

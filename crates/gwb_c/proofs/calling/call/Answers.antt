@@ -1,8 +1,6 @@
 use Rattle.std.proofs.Common.{◌∙◌, sym, ap, subst}
+use Rattle.session_slots.specs.Common.{status_of, lacks, Slot_does}
 use Rattle.session_slots.specs.declared.slot.Slot.{Slot}
-use Rattle.session_slots.specs.Answered.{status_of}
-use Rattle.session_slots.specs.Stages.{lacks}
-use Rattle.session_slots.specs.Slots.{Slot_does}
 use Rattle.gwb_c.specs.Handle.{lacking}
 use Rattle.gwb_c.proofs.Staying.{stays_made}
 use Rattle.gwb_c.proofs.Turning.{turned_away, goes_on}

@@ -1,7 +1,6 @@
 use Rattle.std.proofs.Common.{◌∙◌, cond, ap, subst}
+use Rattle.session_slots.specs.Common.{status_of, spoken, lacks_said, Slot_notes, Unless_lacking}
 use Rattle.session_slots.specs.declared.slot.Slot.{Slot}
-use Rattle.session_slots.specs.Answered.{status_of}
-use Rattle.session_slots.specs.Lines.{spoken, lacks_said, Slot_notes, Unless_lacking}
 use Rattle.gwb_c.specs.Handle.{lacking}
 use Rattle.gwb_c.proofs.Staying.{stays_heard}
 use Rattle.gwb_c.proofs.Turning.{goes_so, hears}

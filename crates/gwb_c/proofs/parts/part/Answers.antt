@@ -1,7 +1,6 @@
 use Rattle.std.proofs.Common.{◌∙◌, refl, ap, subst}
+use Rattle.session_slots.specs.Common.{status_of, Slot_makes_part}
 use Rattle.session_slots.specs.declared.slot.Slot.{Slot}
-use Rattle.session_slots.specs.Answered.{status_of}
-use Rattle.session_slots.specs.Parting.{Slot_makes_part}
 use Rattle.gwb_c.specs.Handle.{none}
 use Rattle.gwb_c.proofs.Turning.{goes_on}
 use Rattle.gwb_c.proofs.parts.part.Goals as goal

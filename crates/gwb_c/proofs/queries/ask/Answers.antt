@@ -1,8 +1,6 @@
 use Rattle.std.proofs.Common.{◌∙◌, refl, sym, ap, subst}
+use Rattle.session_slots.specs.Common.{status_of, is_staged, Slot_asks}
 use Rattle.session_slots.specs.declared.slot.Slot.{Slot}
-use Rattle.session_slots.specs.Answered.{status_of}
-use Rattle.session_slots.specs.Opening.{is_staged}
-use Rattle.session_slots.specs.Slots.{Slot_asks}
 use Rattle.gwb_c.specs.Handle.{none, Recalls}
 use Rattle.gwb_c.proofs.Staying.{stays}
 use Rattle.gwb_c.proofs.Turning.{goes_on}

@@ -1,6 +1,5 @@
 use Rattle.std.proofs.Common.{sym, subst}
-use Rattle.commands.specs.declared.command.Call.{Call}
-use Rattle.session_slots.specs.Slots.{Slot_makes}
+use Rattle.session_slots.specs.Common.{Call, Slot_makes}
 use Rattle.session_slots.proofs.calls.make_in.Goals as goal
 
 pub returns-in-Give : goal.returns-in-Give

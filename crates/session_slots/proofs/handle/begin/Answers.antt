@@ -1,6 +1,5 @@
 use Rattle.std.proofs.Common.{Option, false, refl, sym, subst}
-use Rattle.session_slots.specs.declared.slot.Slot.{Slot}
-use Rattle.session_slots.specs.Opening.{Opened}
+use Rattle.session_slots.specs.Common.{Slot, Opened}
 use Rattle.session_slots.proofs.handle.begin.Goals as goal
 
 pub returns-in-Some : goal.returns-in-Some

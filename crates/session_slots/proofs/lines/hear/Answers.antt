@@ -1,4 +1,4 @@
-use Rattle.session_slots.specs.Lines.{spoken, lacks_said}
+use Rattle.session_slots.specs.Common.{spoken, lacks_said}
 use Rattle.session_slots.proofs.Hearing.{noted}
 use Rattle.session_slots.proofs.lines.hear.Goals as goal
 

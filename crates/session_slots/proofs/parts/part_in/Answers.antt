@@ -1,8 +1,5 @@
 use Rattle.std.proofs.Common.{get_or, refl, subst}
-use Rattle.solid_measure.specs.Measure.{face_refusal}
-use Rattle.commands.specs.declared.stage.Stage.{Stage}
-use Rattle.commands.specs.Telling.{shown, told_of}
-use Rattle.session_slots.specs.Parting.{part_of, Moves_faces}
+use Rattle.session_slots.specs.Common.{face_refusal, Stage, shown, told_of, part_of, Moves_faces}
 use Rattle.session_slots.proofs.Acting.{the_same}
 use Rattle.session_slots.proofs.parts.part_in.Goals as goal
 

@@ -1,5 +1,5 @@
 use Rattle.std.proofs.Common.{◌∙◌, ap, sym}
-use Rattle.euler_operators.specs.Common.{code, edge_of}
+use Rattle.session_slots.specs.Common.{code, edge_of}
 use Rattle.euler_operators.proofs.Common.{code-half, edge_of-code}
 use Rattle.session_slots.proofs.readers.half_of.Goals as goal
 

@@ -1,6 +1,5 @@
 use Rattle.std.proofs.Common.{◌+◌, ◌*◌, ap}
-use Rattle.euler_operators.specs.Common.{tail}
-use Rattle.session_slots.specs.declared.readers.EdgeRow.{EdgeRow}
+use Rattle.session_slots.specs.Common.{tail, EdgeRow}
 use Rattle.session_slots.proofs.Spoken.{first, second, starts, neither}
 use Rattle.session_slots.proofs.spokes.start_of.Goals as goal
 

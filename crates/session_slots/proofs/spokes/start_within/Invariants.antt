@@ -1,5 +1,5 @@
 use Rattle.std.proofs.Common.{◌-◌, None}
-use Rattle.session_slots.specs.Spokes.{IsStartWithin}
+use Rattle.session_slots.specs.Common.{IsStartWithin}
 use Rattle.session_slots.proofs.spokes.start_within.Given as goal
 
 abbrev pub invariant-edges : goal.invariant-edges

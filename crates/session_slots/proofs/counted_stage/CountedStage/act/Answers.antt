@@ -1,5 +1,5 @@
 use Rattle.std.proofs.Common.{◌∙◌, sym, ap}
-use Rattle.shapes.specs.Common.{taken_in}
+use Rattle.session_slots.specs.Common.{taken_in}
 use Rattle.session_slots.proofs.Unchanged.{not_done_on_failure, shows_told}
 use Rattle.session_slots.proofs.counted_stage.CountedStage.act.Goals as goal
 

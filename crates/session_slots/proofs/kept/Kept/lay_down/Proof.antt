@@ -1,35 +1,13 @@
 -- `lay_down` keeps the pointer of a box, and lets the handle to the heap go. Assumes `Logic`.
 use Rattle.std.proofs.Common.{List, [], ◌∷◌, ◌++◌, Some, refl, sym, subst}
-use Rattle.std.proofs.raw_atomic.Walks.{proved_at}
-use Rattle.std.proofs.RcSteps.{word, word-Good}
-use base.Logic.{SProp, ent, id⊢}
-use base.Fml.{ftrue}
-use mir.Val.{Val, vptr}
-use prog.Wp.{WpFn}
-use contract.Running.{tables}
-use types.Kit.{‵, raw, ◌⊛◌, ◌$◌, ◌∵◌, !, qed, move, keep, split, use1, fjoin, fpack, feq_i, suffices, done}
-use types.Part.{agg, sub, whole}
-use types.Run.{stop, fld, of_opd, and_then, no_more, returns, enter}
-use types.ByLocal.{alloc_all, pass_all, free_all, look_at, get, get_in, sets}
-use denote.Exit.{yes}
-use denote.RattleType.{Valss}
-use denote.RawPtr.{RawPtr, Ptr, block_ptr, ptr_val}
-use denote.Signature.{plain}
-use denote.Steps.{nothing}
-use denote.Struct.Struct.{within}
-use denote.Struct.Owning.{shape}
-use denote.Triple.Walked.{Stays, stay_dropped, walk_of, says, ends_at}
-use Rattle.std.proofs.alloc.Calls.{Goes-blank}
-use Rattle.std.specs.contracts.alloc.Global.{the_row as Z}
-use Rattle.std.proofs.alloc.Global.TheLaws.{the_row_laws as LZ}
-use Rattle.std.specs.contracts.impls.GlobalAllocator.TheImpl.{ghosts}
+use Rattle.session_slots.proofs.Walking.{‵, raw, ◌⊛◌, ◌$◌, ◌∵◌, !, qed, move, keep, split, use1, fjoin, fpack, feq_i, suffices, done, agg, sub, whole, stop, fld, of_opd, and_then, no_more, returns, enter, alloc_all, pass_all, free_all, look_at, get, get_in, sets}
+use Rattle.session_slots.proofs.Pointers.{proved_at, word, word-Good, SProp, ent, id⊢, ftrue, Val, vptr, WpFn, tables, yes, Valss, RawPtr, Ptr, block_ptr, ptr_val, plain, nothing, within, shape, Stays, stay_dropped, walk_of, says, ends_at, Goes-blank, Z, LZ, ghosts, R}
 use Rattle.session_slots.proofs.Values.{both, loose_good, loose_out}
 use Rattle.session_slots.proofs.KeptSteps.{Own, Lr, own_in}
-use Rattle.session_slots.specs.contracts.slot.Slot.{the_row as R}
-use Rattle.session_slots.specs.contracts.kept.Kept as kept
-use Rattle.session_slots.specs.contracts.kept.Kept.lay_down as f
 use Rattle.session_slots.specs.contracts.kept.Kept.lay_down.Key.{name as #self}
 use Rattle.session_slots.proofs.kept.Kept.lay_down.Statement.{statement}
+use Rattle.session_slots.specs.contracts.kept.Kept as kept
+use Rattle.session_slots.specs.contracts.kept.Kept.lay_down as f
 use Rattle.session_slots.proofs.kept.Kept.lay_down.Code as code
 
 abbrev stayed : Stays f.ended.signature.params f.ended.kept

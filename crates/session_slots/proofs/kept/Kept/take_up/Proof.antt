@@ -1,37 +1,14 @@
 -- `take_up` gives the pointer to a box again. Assumes `Logic`.
 use Rattle.std.proofs.Common.{◌≡◌, List, [], ◌∷◌, ◌++◌, Option, IsSome, refl, sym, subst}
-use Rattle.std.proofs.raw_atomic.Walks.{proved_at}
-use Rattle.std.proofs.RcSteps.{word, word-Good}
-use base.Logic.{SProp, ent, id⊢, never, fst∗}
-use base.Fml.{ftrue}
-use mir.Raw.{raw as bare}
-use mir.Val.{Val, vptr, vstruct, of_list}
-use prog.Wp.{WpFn}
-use types.Logic.{sem}
-use contract.Monad.{fact}
-use contract.Running.{tables}
-use types.Kit.{‵, raw, ◌⊛◌, ◌$◌, ◌∵◌, !, qed, move, keep, split, use1, rewrite, fsplit, fjoin, fpick, feq_l, suffices, done}
-use types.Part.{agg, sub, whole}
-use types.Run.{stop, fld, of_opd, and_then, no_more, returns, enter}
-use types.ByLocal.{alloc_all, pass_all, free_all, look_at, get, get_in, sets}
-use denote.Exit.{yes}
-use denote.Memory.{lone}
-use denote.RawPtr.{Ptr, block_ptr, null_ptr, in_a_block}
-use denote.Signature.{plain}
-use denote.Steps.{nothing, heard}
-use denote.Triple.Walked.{Stays, stay_dropped, walk_of, says, ends_at, Goes-dropped}
-use Rattle.std.proofs.alloc.Calls.{Goes-blank, handle_tells}
-use Rattle.std.specs.contracts.alloc.Global.{the_row as Z}
-use Rattle.std.proofs.alloc.Global.TheLaws.{the_row_laws as LZ}
-use Rattle.std.specs.contracts.impls.GlobalAllocator.TheImpl.{ghosts}
-use Rattle.session_slots.specs.Owned.{kept_owns}
+use Rattle.session_slots.proofs.Walking.{sem, ‵, raw, ◌⊛◌, ◌$◌, ◌∵◌, !, qed, move, keep, split, use1, rewrite, fsplit, fjoin, fpick, feq_l, suffices, done, agg, sub, whole, stop, fld, of_opd, and_then, no_more, returns, enter, alloc_all, pass_all, free_all, look_at, get, get_in, sets}
+use Rattle.session_slots.proofs.Pointers.{proved_at, word, word-Good, SProp, ent, id⊢, never, fst∗, ftrue, bare, Val, vptr, vstruct, of_list, WpFn, fact, tables, yes, lone, Ptr, block_ptr, null_ptr, in_a_block, plain, nothing, heard, Stays, stay_dropped, walk_of, says, ends_at, Goes-dropped, Goes-blank, handle_tells, Z, LZ, ghosts, R}
+use Rattle.session_slots.specs.Common.{kept_owns}
 use Rattle.session_slots.proofs.Values.{both, loose_good, loose_in}
 use Rattle.session_slots.proofs.KeptSteps.{Boxed, heap, own_out, some_of}
-use Rattle.session_slots.specs.contracts.slot.Slot.{the_row as R}
-use Rattle.session_slots.specs.contracts.kept.Kept as kept
-use Rattle.session_slots.specs.contracts.kept.Kept.take_up as f
 use Rattle.session_slots.specs.contracts.kept.Kept.take_up.Key.{name as #self}
 use Rattle.session_slots.proofs.kept.Kept.take_up.Statement.{statement}
+use Rattle.session_slots.specs.contracts.kept.Kept as kept
+use Rattle.session_slots.specs.contracts.kept.Kept.take_up as f
 use Rattle.session_slots.proofs.kept.Kept.take_up.Code as code
 
 abbrev stayed : Stays f.ended.signature.params f.ended.kept

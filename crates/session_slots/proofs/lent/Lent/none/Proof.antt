@@ -1,22 +1,11 @@
 -- `none` makes a copy to which nothing is lent. Assumes `Logic`.
 use Rattle.std.proofs.Common.{List, [], ◌∷◌, None, refl, lit<}
-use Rattle.std.proofs.raw_atomic.Walks.{proved}
-use mir.Val.{Val, vstruct, vcons, vnil, vnull}
-use types.Kit.{raw, ◌$◌, ◌∵◌, !, qed, drop, fjoin, fpack, feq_i, suffices, done}
-use types.Part.{agg}
-use types.Run.{of_opd, lit, and_then, no_more, returns, enter}
-use types.ByLocal.{alloc_all, pass_all, free_all, look_at, get, sets}
-use denote.RattleType.{Valss}
-use denote.RawPtr.{RawPtr, null_ptr, ptr_val}
-use denote.Steps.{nothing}
-use denote.Struct.Struct.{within}
-use denote.Struct.Owning.{shape}
-use denote.Triple.Entry.{on_entry}
-use denote.Triple.Walked.{Stays, walk_of, says, ends_at}
-use Rattle.session_slots.specs.contracts.lent.Lent as lent
-use Rattle.session_slots.specs.contracts.lent.Lent.none as f
+use Rattle.session_slots.proofs.Walking.{raw, ◌$◌, ◌∵◌, !, qed, drop, fjoin, fpack, feq_i, suffices, done, agg, of_opd, lit, and_then, no_more, returns, enter, alloc_all, pass_all, free_all, look_at, get, sets}
+use Rattle.session_slots.proofs.Pointers.{proved, Val, vstruct, vcons, vnil, vnull, Valss, RawPtr, null_ptr, ptr_val, nothing, within, shape, on_entry, Stays, walk_of, says, ends_at}
 use Rattle.session_slots.specs.contracts.lent.Lent.none.Key.{name as #self}
 use Rattle.session_slots.proofs.lent.Lent.none.Statement.{statement}
+use Rattle.session_slots.specs.contracts.lent.Lent as lent
+use Rattle.session_slots.specs.contracts.lent.Lent.none as f
 use Rattle.session_slots.proofs.lent.Lent.none.Code as code
 
 abbrev stayed : Stays f.ended.signature.params f.ended.kept

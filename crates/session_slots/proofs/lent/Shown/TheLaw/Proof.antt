@@ -1,13 +1,9 @@
 -- A `&` to what is lent is made of its share of the token. Assumes `Logic`.
-use denote.Param.Shared.{copy_shared}
-use denote.Struct.Field.{RawPtr-field}
-use denote.Struct.Laws.{RawPtr-copy}
-use denote.Struct.Lending.{of_Lends, lent_at, lent_at_shr_laws}
-use Rattle.session_slots.specs.contracts.slot.Slot.{the_row as R}
+use Rattle.session_slots.proofs.Pointers.{copy_shared, RawPtr-field, RawPtr-copy, of_Lends, lent_at, lent_at_shr_laws, R}
 use Rattle.session_slots.proofs.slot.Slot.TheLaws.{the_row_laws as L}
-use Rattle.session_slots.specs.contracts.lent.Shown as C
 use Rattle.session_slots.proofs.lent.Shown.TheLaw.Statement.{statement}
 use Rattle.session_slots.proofs.Loans.{Lends-loan}
+use Rattle.session_slots.specs.contracts.lent.Shown as C
 
 pub shares : statement
 shares =

@@ -1,34 +1,12 @@
 -- `hide` gives back what is lent. Assumes `Logic`.
 use Rattle.std.proofs.Common.{◌≡◌, List, [], ◌∷◌, ◌++◌, Some, refl, sym, subst}
-use Rattle.std.proofs.raw_atomic.Walks.{proved_at}
-use Rattle.std.proofs.RcSteps.{word, word-Good}
-use base.Logic.{SProp, ent, id⊢, never, fst∗}
-use base.Fml.{ftrue}
-use mir.Val.{Val, vstruct, of_list}
-use prog.Wp.{WpFn}
-use types.Logic.{sem}
-use contract.Running.{tables}
-use types.Kit.{‵, raw, ◌⊛◌, ◌$◌, ◌∵◌, !, qed, move, keep, split, fsplit, fjoin, fpick, fpack, feq_l, feq_i, suffices, done}
-use types.Part.{agg, sub, whole}
-use types.Run.{stop, fld, of_opd, and_then, no_more, returns, enter}
-use types.ByLocal.{alloc_all, pass_all, free_all, look_at, get, get_in, sets}
-use denote.Exit.{yes}
-use denote.RattleType.{Valss}
-use denote.Memory.{shared_of}
-use denote.RawPtr.{RawPtr, Ptr, block_ptr, ptr_val, in_a_block}
-use denote.Signature.{plain}
-use denote.Steps.{nothing}
-use denote.Struct.Lending.{lent_at}
-use denote.Struct.Struct.{within}
-use denote.Struct.Owning.{shape}
-use denote.Triple.Walked.{Stays, stay_dropped, walk_of, says, ends_at}
-use Rattle.std.proofs.alloc.Calls.{Goes-blank}
-use Rattle.session_slots.specs.contracts.slot.Slot.{the_row as R}
+use Rattle.session_slots.proofs.Walking.{sem, ‵, raw, ◌⊛◌, ◌$◌, ◌∵◌, !, qed, move, keep, split, fsplit, fjoin, fpick, fpack, feq_l, feq_i, suffices, done, agg, sub, whole, stop, fld, of_opd, and_then, no_more, returns, enter, alloc_all, pass_all, free_all, look_at, get, get_in, sets}
+use Rattle.session_slots.proofs.Pointers.{proved_at, word, word-Good, SProp, ent, id⊢, never, fst∗, ftrue, Val, vstruct, of_list, WpFn, tables, yes, Valss, shared_of, RawPtr, Ptr, block_ptr, ptr_val, in_a_block, plain, nothing, lent_at, within, shape, Stays, stay_dropped, walk_of, says, ends_at, Goes-blank, R}
+use Rattle.session_slots.specs.contracts.lent.Shown.hide.Key.{name as #self}
+use Rattle.session_slots.proofs.lent.Shown.hide.Statement.{statement}
 use Rattle.session_slots.specs.contracts.lent.Shown as from
 use Rattle.session_slots.specs.contracts.lent.Lent as to
 use Rattle.session_slots.specs.contracts.lent.Shown.hide as f
-use Rattle.session_slots.specs.contracts.lent.Shown.hide.Key.{name as #self}
-use Rattle.session_slots.proofs.lent.Shown.hide.Statement.{statement}
 use Rattle.session_slots.proofs.lent.Shown.hide.Code as code
 
 abbrev stayed : Stays f.ended.signature.params f.ended.kept

@@ -1,34 +1,11 @@
 -- `slot` follows the pointer to the slot, which is lent. Assumes `Logic`.
-use Rattle.std.proofs.Common.{List, [], ◌∷◌, refl, sym}
-use Rattle.std.proofs.raw_atomic.Walks.{proved}
-use Rattle.std.proofs.VecSteps.Shapes.{after}
-use Prim.Native.Nat.{◌+◌}
-use base.Logic.{SProp, never, fst∗}
-use base.Fml.{ftrue, fat, flft}
-use mir.Syntax.{named, ty_ptr}
-use mir.Val.{Val, vptr}
-use types.Logic.{sem}
-use contract.Running.{tables}
-use types.Kit.{‵, raw, ◌⊛◌, at_ret, ◌$◌, ◌∵◌, !, qed, move, keep, drop, split, join, rewrite, fsplit, fjoin, feq_i, feq_l, suffices, frame, done}
-use types.Run.{look, stop, fld, load, of_opd, addr, first, blocks, exec, returns, enter}
-use types.ByLocal.{alloc_all, pass_all, free_all, look_at, get, through, sets, sets_last, env}
-use denote.Builtin.{RefOf}
-use denote.Copied.{plain_Copied}
-use denote.Exit.{yes}
-use denote.Memory.{cell_at, shared_of}
-use denote.RawPtr.{Ptr, RawPtr, coded_ptr, ptr_own, rawptr_pure, ptr_val, in_a_block}
-use denote.Struct.Laws.{RawPtr-laws}
-use denote.Ref.{ShrRef, shr_vals, shr_Tells}
-use denote.Signature.{plain}
-use denote.Opens.{hide, unhide}
-use denote.Steps.{nothing, looks, shuts}
-use denote.Struct.Lending.{lent_at}
-use denote.Triple.Walked.{Stays, stay_dropped, walk_of, says, ends_at, Goes-dropped}
-use Rattle.session_slots.specs.contracts.slot.Slot.{the_row as R}
+use Rattle.std.proofs.Common.{List, [], ◌∷◌, refl, sym, ◌+◌}
+use Rattle.session_slots.proofs.Walking.{sem, ‵, raw, ◌⊛◌, at_ret, ◌$◌, ◌∵◌, !, qed, move, keep, drop, split, join, rewrite, fsplit, fjoin, feq_i, feq_l, suffices, frame, done, look, stop, fld, load, of_opd, addr, first, blocks, exec, returns, enter, alloc_all, pass_all, free_all, look_at, get, through, sets, sets_last, env}
+use Rattle.session_slots.proofs.Pointers.{proved, after, SProp, never, fst∗, ftrue, fat, flft, named, ty_ptr, Val, vptr, tables, RefOf, plain_Copied, yes, cell_at, shared_of, Ptr, RawPtr, coded_ptr, ptr_own, rawptr_pure, ptr_val, in_a_block, RawPtr-laws, ShrRef, shr_vals, shr_Tells, plain, hide, unhide, nothing, looks, shuts, lent_at, Stays, stay_dropped, walk_of, says, ends_at, Goes-dropped, R}
 use Rattle.session_slots.specs.contracts.lent.Shown.{the_row as Kr}
-use Rattle.session_slots.specs.contracts.lent.Shown.slot as f
 use Rattle.session_slots.specs.contracts.lent.Shown.slot.Key.{name as #self}
 use Rattle.session_slots.proofs.lent.Shown.slot.Statement.{statement}
+use Rattle.session_slots.specs.contracts.lent.Shown.slot as f
 use Rattle.session_slots.proofs.lent.Shown.slot.Code as code
 
 abbrev stayed : Stays f.ended.signature.params f.ended.kept
