@@ -1,15 +1,8 @@
 -- What isn't done changes nothing.
 use Rattle.std.proofs.Common.{◌≡◌, inl, inr, ap, ◌∙◌, ◌≢◌}
-use Rattle.undo_journal.specs.Journal.{Journal, DraftJournal}
-use Rattle.commands.specs.declared.command.Command.{Command}
-use Rattle.commands.specs.declared.command.Command.TheVariants as command
-use Rattle.commands.specs.declared.command.Call.{Call}
+use Rattle.commands.specs.Common.{Call, Command, Done, DraftJournal, Drafting, Journal, OpenDraft, Session, Stage, Told}
 use Rattle.commands.specs.declared.command.Call.TheVariants as call
-use Rattle.commands.specs.declared.command.Told.{Told}
-use Rattle.commands.specs.declared.command.Told.TheVariants.{Done}
-use Rattle.commands.specs.declared.stage.OpenDraft.{OpenDraft}
-use Rattle.commands.specs.declared.stage.Stage.{Stage}
-use Rattle.commands.specs.declared.stage.Stage.TheVariants.{Session, Drafting}
+use Rattle.commands.specs.declared.command.Command.TheVariants as command
 use Rattle.commands.specs.Telling.{Tells, TellsSession, TellsDraft}
 use Rattle.commands.proofs.Settling.{stays}
 

@@ -1,12 +1,11 @@
 -- What a change, an operator or a larger command, makes of a model.
 use Rattle.std.specs.Prelude.{◌≡◌, Option, None}
-use Rattle.euler_operators.specs.declared.Refusal.{Refusal}
-use Rattle.euler_operators.specs.Common.{first_false, effect, Model}
+use Rattle.euler_operators.specs.Common.{first_false, effect}
 use Rattle.shapes.specs.Common.{lamina_refusal, lamina_model, block_refusal, block_model, prism_refusal, prism_model, glue_refusal, glue_model, split_refusal, split_model}
 use Rattle.gluing.specs.glue_checks.Conditions as gluing
 use Rattle.split_checks.specs.begin_checks.Conditions as splitting
 use Rattle.plane_split.specs.Machine.{plane_with}
-use Rattle.commands.specs.declared.command.Change.{Change}
+use Rattle.commands.specs.Common.{Change, Model, Refusal}
 use Rattle.commands.specs.declared.command.Change.TheVariants as change
 
 -- the first of its conditions that is false

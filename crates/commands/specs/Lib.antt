@@ -1,2 +1,4 @@
+pub mod Common
 pub mod Changes
 pub mod Telling
+pub mod Calls

@@ -1,25 +1,12 @@
 -- What a call of a session, or of a draft of its next command, is told, and to what it leads.
 use Rattle.std.specs.Prelude.{◌≡◌, ◌⊎◌, ℕ, length, Option, Some, None, Result, Ok, Err}
-use Rattle.euler_operators.specs.declared.Refusal.{Refusal}
-use Rattle.euler_operators.specs.Common.{Model, Sound}
 use Rattle.solid_measure.specs.Measure.{answer, face_refusal, solid_refusal, plane_of, is_flat, six_volume, counts}
-use Rattle.undo_journal.specs.Machine.{held, depth, ahead, accepted, undo_refusal, redo_refusal}
-use Rattle.undo_journal.specs.Journal.{Journal, DraftJournal, IsRecorded, IsFurther, IsMark, new_draft, after_undo, after_redo, after_commit, back_at}
-use Rattle.undo_journal.specs.Histories.{IsConsistent, Follows}
-use Rattle.undo_journal.specs.declared.session.Failure.{Failure}
-use Rattle.undo_journal.specs.declared.session.Failure.TheVariants as failure
-use Rattle.commands.specs.declared.command.Question.{Question}
-use Rattle.commands.specs.declared.command.Question.TheVariants as question
-use Rattle.commands.specs.declared.command.Command.{Command}
-use Rattle.commands.specs.declared.command.Command.TheVariants as command
-use Rattle.commands.specs.declared.command.Call.{Call}
+use Rattle.commands.specs.Common.{Call, Command, Done, DraftJournal, Drafting, Failure, Follows, InDraft, IsConsistent, IsFurther, IsMark, IsRecorded, Journal, Memory, Model, NoDraft, OpenDraft, Question, Refusal, Refused, Session, Sound, Stage, Told, accepted, after_commit, after_redo, after_undo, ahead, back_at, depth, held, new_draft, redo_refusal, undo_refusal}
 use Rattle.commands.specs.declared.command.Call.TheVariants as call
-use Rattle.commands.specs.declared.command.Told.{Told}
+use Rattle.commands.specs.declared.command.Command.TheVariants as command
+use Rattle.undo_journal.specs.declared.session.Failure.TheVariants as failure
+use Rattle.commands.specs.declared.command.Question.TheVariants as question
 use Rattle.commands.specs.declared.command.Told.TheVariants as told
-use Rattle.commands.specs.declared.command.Told.TheVariants.{Done, Refused, Memory, InDraft, NoDraft}
-use Rattle.commands.specs.declared.stage.OpenDraft.{OpenDraft}
-use Rattle.commands.specs.declared.stage.Stage.{Stage}
-use Rattle.commands.specs.declared.stage.Stage.TheVariants.{Session, Drafting}
 use Rattle.commands.specs.Changes.{refusal_of, made, MayLack}
 
 -- what a change is told that ended so

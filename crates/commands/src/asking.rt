@@ -1,7 +1,6 @@
 //! A question about a model.
 ghost use Rattle.std.specs.Prelude.{◌≡◌};
 ghost use Rattle.euler_conditions.specs.Ready.{IsReady};
-ghost use Rattle.commands.specs.declared.command.Question.TheVariants as question;
 ghost use Rattle.commands.specs.Telling.{asked};
 
 use crate::command::{Question, Told};
@@ -13,7 +12,7 @@ use solid_measure::{counts, is_flat, plane, six_volume};
 /// The plane of a face, and whether the face is flat.
 fn plane_told(arena: &Arena, face: u32) -> Told
     requires { IsReady arena.now }
-    ensures { result ≡ asked arena.now.model (question.Plane face) }
+    ensures { result ≡ asked arena.now.model (Question.Plane face) }
 {
     let plane = match plane(arena, face) {
         Ok(plane) => plane,
@@ -28,7 +27,7 @@ fn plane_told(arena: &Arena, face: u32) -> Told
 /// Six times the volume of a solid.
 fn volume_told(arena: &Arena, solid: u32) -> Told
     requires { IsReady arena.now }
-    ensures { result ≡ asked arena.now.model (question.Volume solid) }
+    ensures { result ≡ asked arena.now.model (Question.Volume solid) }
 {
     match six_volume(arena, solid) {
         Ok(volume) => Told::Volume(volume),
@@ -39,7 +38,7 @@ fn volume_told(arena: &Arena, solid: u32) -> Told
 /// The counts of a solid.
 fn counts_told(arena: &Arena, solid: u32) -> Told
     requires { IsReady arena.now }
-    ensures { result ≡ asked arena.now.model (question.Count solid) }
+    ensures { result ≡ asked arena.now.model (Question.Count solid) }
 {
     match counts(arena, solid) {
         Ok(tally) => Told::Counts(tally),

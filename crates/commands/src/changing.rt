@@ -1,13 +1,7 @@
 //! A change as one command of a session.
-ghost use Rattle.std.specs.Prelude.{◌≡◌, None, Some, Err, OnOk, OnErr};
-ghost use Rattle.euler_operators.specs.declared.Refusal.{Refusal};
-ghost use Rattle.undo_journal.specs.Journal.{IsRecorded};
-ghost use Rattle.undo_journal.specs.Machine.{held, accepted};
-ghost use Rattle.commands.specs.declared.command.Change.TheVariants as change;
-ghost use Rattle.commands.specs.Changes.{refusal_of, made, MayLack};
-ghost use Rattle.commands.specs.Telling.{told_of};
+ghost use Rattle.commands.specs.Telling.{TellsSession, told_of};
 
-use crate::command::{Change, Told};
+use crate::command::{Change, Command};
 use euler_operators::{Op, Point};
 use gluing::glue;
 use plane_split::split;
@@ -15,16 +9,19 @@ use std::alloc::Global;
 use sweeps::{block, lamina, sweep};
 use undo_journal::{Failure, Session};
 
-/// An operator.
+/// Gives a session an operator, where it lies. It does what `change` does.
+#[inline(always)]
+pub fn act_on_session(session: &mut Session, op: Op) -> Result<(), Failure>
+    ensures { TellsSession session.old (Command.Change (Change.Act op)) (told_of result) session.new }
+{
+    session.act(op)
+}
+
 fn act(session: Session, op: Op) -> (Session, Result<(), Failure>)
-    ensures ok { OnOk result.1 ((refusal_of (held session.machine) (change.Act op) ≡ None) × (result.0.machine ≡ accepted session.machine (made (held session.machine) (change.Act op)))) }
-    ensures recorded { OnOk result.1 (IsRecorded session result.0) }
-    ensures refused { (refusal : Refusal) → (result.1 ≡ Err (Failure.Refused refusal)) → (refusal_of (held session.machine) (change.Act op) ≡ Some refusal) }
-    ensures memory { (told_of result.1 ≡ Told.Memory) → MayLack (held session.machine) (change.Act op) }
-    ensures err { OnErr result.1 (result.0 ≡ session) }
+    ensures { TellsSession session (Command.Change (Change.Act op)) (told_of result.1) result.0 }
 {
     let mut session = session;
-    let ended = session.act(op);
+    let ended = act_on_session(&mut session, op);
     (session, ended)
 }
 
@@ -38,11 +35,7 @@ fn make_block(
     dy: i64,
     dz: i64,
 ) -> (Session, Result<(), Failure>)
-    ensures ok { OnOk result.1 ((refusal_of (held session.machine) (change.Block solid corner dx dy dz) ≡ None) × (result.0.machine ≡ accepted session.machine (made (held session.machine) (change.Block solid corner dx dy dz)))) }
-    ensures recorded { OnOk result.1 (IsRecorded session result.0) }
-    ensures refused { (refusal : Refusal) → (result.1 ≡ Err (Failure.Refused refusal)) → (refusal_of (held session.machine) (change.Block solid corner dx dy dz) ≡ Some refusal) }
-    ensures memory { (told_of result.1 ≡ Told.Memory) → MayLack (held session.machine) (change.Block solid corner dx dy dz) }
-    ensures err { OnErr result.1 (result.0 ≡ session) }
+    ensures { TellsSession session (Command.Change (Change.Block solid corner dx dy dz)) (told_of result.1) result.0 }
 {
     block(alloc, session, solid, corner, dx, dy, dz)
 }
@@ -58,11 +51,7 @@ fn make_split(
     d: i64,
     above: u32,
 ) -> (Session, Result<(), Failure>)
-    ensures ok { OnOk result.1 ((refusal_of (held session.machine) (change.Split solid a b c d above) ≡ None) × (result.0.machine ≡ accepted session.machine (made (held session.machine) (change.Split solid a b c d above)))) }
-    ensures recorded { OnOk result.1 (IsRecorded session result.0) }
-    ensures refused { (refusal : Refusal) → (result.1 ≡ Err (Failure.Refused refusal)) → (refusal_of (held session.machine) (change.Split solid a b c d above) ≡ Some refusal) }
-    ensures memory { (told_of result.1 ≡ Told.Memory) → MayLack (held session.machine) (change.Split solid a b c d above) }
-    ensures err { OnErr result.1 (result.0 ≡ session) }
+    ensures { TellsSession session (Command.Change (Change.Split solid a b c d above)) (told_of result.1) result.0 }
 {
     split(alloc, session, solid, a, b, c, d, above)
 }
@@ -70,11 +59,7 @@ fn make_split(
 /// Makes a change one command of the session. Refused is what the command is refused for of whose name it is. On any failure the session
 /// is as it was, its records too. An accepted change leaves one record.
 pub fn change(alloc: Global, session: Session, change: Change<'_>) -> (Session, Result<(), Failure>)
-    ensures ok { OnOk result.1 ((refusal_of (held session.machine) change.entry ≡ None) × (result.0.machine ≡ accepted session.machine (made (held session.machine) change.entry))) }
-    ensures recorded { OnOk result.1 (IsRecorded session result.0) }
-    ensures refused { (refusal : Refusal) → (result.1 ≡ Err (Failure.Refused refusal)) → (refusal_of (held session.machine) change.entry ≡ Some refusal) }
-    ensures memory { (told_of result.1 ≡ Told.Memory) → MayLack (held session.machine) change.entry }
-    ensures err { OnErr result.1 (result.0 ≡ session) }
+    ensures { TellsSession session (Command.Change change.entry) (told_of result.1) result.0 }
 {
     match change {
         Change::Act(op) => act(session, op),

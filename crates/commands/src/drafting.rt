@@ -1,18 +1,20 @@
 //! A change as steps of a draft.
-ghost use Rattle.std.specs.Prelude.{◌≡◌, None, Some, Err, OnOk, OnErr};
-ghost use Rattle.euler_operators.specs.declared.Refusal.{Refusal};
-ghost use Rattle.undo_journal.specs.Journal.{IsFurther};
-ghost use Rattle.commands.specs.declared.command.Change.TheVariants as change;
-ghost use Rattle.commands.specs.Changes.{refusal_of, made, MayLack};
-ghost use Rattle.commands.specs.Telling.{told_of};
+ghost use Rattle.commands.specs.Telling.{TellsDraft, told_of};
 
-use crate::command::{Change, Told};
-use euler_operators::Point;
+use crate::command::{Change, Command};
+use euler_operators::{Op, Point};
 use gluing::glue_in;
 use plane_split::split_in;
 use std::alloc::Global;
 use sweeps::{block_in, lamina_in, sweep_in};
 use undo_journal::{Draft, Failure};
+
+/// Gives a draft an operator, where it lies.
+pub(crate) fn act_on_draft(draft: &mut Draft, op: Op) -> Result<(), Failure>
+    ensures { TellsDraft draft.old (Command.Change (Change.Act op)) (told_of result) draft.new }
+{
+    draft.step(op)
+}
 
 /// A block, by its sizes.
 fn make_block(
@@ -23,11 +25,7 @@ fn make_block(
     dy: i64,
     dz: i64,
 ) -> Result<(), Failure>
-    ensures ok { OnOk result ((refusal_of draft.old.model (change.Block solid corner dx dy dz) ≡ None) × (draft.new.model ≡ made draft.old.model (change.Block solid corner dx dy dz))) }
-    ensures refused { (refusal : Refusal) → (result ≡ Err (Failure.Refused refusal)) → (refusal_of draft.old.model (change.Block solid corner dx dy dz) ≡ Some refusal) }
-    ensures memory { (told_of result ≡ Told.Memory) → MayLack draft.old.model (change.Block solid corner dx dy dz) }
-    ensures further { IsFurther draft.old draft.new }
-    ensures err { OnErr result (draft.new ≡ draft.old) }
+    ensures { TellsDraft draft.old (Command.Change (Change.Block solid corner dx dy dz)) (told_of result) draft.new }
 {
     block_in(draft, solid, corner, dx, dy, dz)
 }
@@ -43,11 +41,7 @@ fn make_split(
     d: i64,
     above: u32,
 ) -> Result<(), Failure>
-    ensures ok { OnOk result ((refusal_of draft.old.model (change.Split solid a b c d above) ≡ None) × (draft.new.model ≡ made draft.old.model (change.Split solid a b c d above))) }
-    ensures refused { (refusal : Refusal) → (result ≡ Err (Failure.Refused refusal)) → (refusal_of draft.old.model (change.Split solid a b c d above) ≡ Some refusal) }
-    ensures memory { (told_of result ≡ Told.Memory) → MayLack draft.old.model (change.Split solid a b c d above) }
-    ensures further { IsFurther draft.old draft.new }
-    ensures err { OnErr result (draft.new ≡ draft.old) }
+    ensures { TellsDraft draft.old (Command.Change (Change.Split solid a b c d above)) (told_of result) draft.new }
 {
     split_in(alloc, draft, solid, a, b, c, d, above)
 }
@@ -55,14 +49,10 @@ fn make_split(
 /// Makes a change as steps of a draft: an operator as one, a larger command as all of its operators. Refused is what the command is refused
 /// for of whose name it is, of the draft's model. On any failure the draft is as it was, and goes on.
 pub fn change_in(alloc: Global, draft: &mut Draft, change: Change<'_>) -> Result<(), Failure>
-    ensures ok { OnOk result ((refusal_of draft.old.model change.entry ≡ None) × (draft.new.model ≡ made draft.old.model change.entry)) }
-    ensures refused { (refusal : Refusal) → (result ≡ Err (Failure.Refused refusal)) → (refusal_of draft.old.model change.entry ≡ Some refusal) }
-    ensures memory { (told_of result ≡ Told.Memory) → MayLack draft.old.model change.entry }
-    ensures further { IsFurther draft.old draft.new }
-    ensures err { OnErr result (draft.new ≡ draft.old) }
+    ensures { TellsDraft draft.old (Command.Change change.entry) (told_of result) draft.new }
 {
     match change {
-        Change::Act(op) => draft.step(op),
+        Change::Act(op) => act_on_draft(draft, op),
         Change::Lamina(solid, points) => lamina_in(draft, solid, points.points()),
         Change::Block(solid, corner, dx, dy, dz) => make_block(draft, solid, corner, dx, dy, dz),
         Change::Sweep(face, way) => sweep_in(alloc, draft, face, way),

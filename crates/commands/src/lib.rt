@@ -21,9 +21,9 @@ mod points;
 mod stage;
 
 pub use asking::ask;
-pub use changing::change;
+pub use changing::{act_on_session, change};
 pub use command::{Call, Change, Command, Question, Told, outcome};
 pub use drafting::change_in;
-pub use making::{act, act_on_session, give, give_in, make, moved};
+pub use making::{act, give, give_in, make, moved};
 pub use points::Points;
 pub use stage::{OpenDraft, Stage};

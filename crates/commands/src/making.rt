@@ -1,17 +1,11 @@
 //! Calls of a session, or of a draft of its next command.
 ghost use Rattle.std.specs.Prelude.{◌≡◌};
-ghost use Rattle.euler_operators.specs.declared.Refusal.{Refusal};
-ghost use Rattle.undo_journal.specs.Journal.{back_at};
-ghost use Rattle.commands.specs.declared.command.Change.TheVariants as change;
-ghost use Rattle.commands.specs.declared.command.Call.TheVariants as call;
-ghost use Rattle.commands.specs.declared.command.Command.TheVariants as command;
-ghost use Rattle.commands.specs.declared.stage.Stage.TheVariants as stages;
 ghost use Rattle.commands.specs.Telling.{Tells, TellsSession, TellsDraft, IsWhole, told_of, told_of_move};
 
 use crate::asking::ask;
-use crate::changing::change;
+use crate::changing::{act_on_session, change};
 use crate::command::{Call, Change, Command, Told, outcome};
-use crate::drafting::change_in;
+use crate::drafting::{act_on_draft, change_in};
 use crate::stage::{OpenDraft, Stage};
 use euler_operators::{Op, Refusal};
 use std::alloc::Global;
@@ -27,15 +21,8 @@ pub fn moved(ended: Result<(), Refusal>) -> Told
     }
 }
 
-fn change_told(alloc: Global, session: Session, wanted: Change<'_>) -> (Session, Told)
-    ensures { TellsSession session (command.Change wanted.entry) result.1 result.0 }
-{
-    let (session, ended) = change(alloc, session, wanted);
-    (session, outcome(ended))
-}
-
 fn undo(session: Session) -> (Session, Told)
-    ensures { TellsSession session command.Undo result.1 result.0 }
+    ensures { TellsSession session Command.Undo result.1 result.0 }
 {
     let mut session = session;
     let ended = session.undo();
@@ -43,7 +30,7 @@ fn undo(session: Session) -> (Session, Told)
 }
 
 fn redo(session: Session) -> (Session, Told)
-    ensures { TellsSession session command.Redo result.1 result.0 }
+    ensures { TellsSession session Command.Redo result.1 result.0 }
 {
     let mut session = session;
     let ended = session.redo();
@@ -55,7 +42,10 @@ pub fn give(alloc: Global, session: Session, command: Command<'_>) -> (Session, 
     ensures { TellsSession session command.entry result.1 result.0 }
 {
     match command {
-        Command::Change(wanted) => change_told(alloc, session, wanted),
+        Command::Change(wanted) => {
+            let (session, ended) = change(alloc, session, wanted);
+            (session, outcome(ended))
+        }
         Command::Ask(question) => {
             let told = ask(session.arena(), question);
             (session, told)
@@ -65,43 +55,22 @@ pub fn give(alloc: Global, session: Session, command: Command<'_>) -> (Session, 
     }
 }
 
-fn change_in_told(alloc: Global, draft: &mut Draft, wanted: Change<'_>) -> Told
-    ensures { TellsDraft draft.old (command.Change wanted.entry) result draft.new }
-{
-    let ended = change_in(alloc, draft, wanted);
-    outcome(ended)
-}
-
 /// Gives a draft a command: a change as steps, or a question. What isn't done leaves the draft as it was, and it goes on.
 pub fn give_in(alloc: Global, draft: &mut Draft, command: Command<'_>) -> Told
     ensures { TellsDraft draft.old command.entry result draft.new }
 {
     match command {
-        Command::Change(wanted) => change_in_told(alloc, draft, wanted),
+        Command::Change(wanted) => outcome(change_in(alloc, draft, wanted)),
         Command::Ask(question) => ask(draft.arena(), question),
         Command::Undo => Told::InDraft,
         Command::Redo => Told::InDraft,
     }
 }
 
-/// Gives a session an operator, where it lies. It does what `give` does.
-#[inline(always)]
-pub fn act_on_session(session: &mut Session, op: Op) -> Result<(), Failure>
-    ensures { TellsSession session.old (command.Change (change.Act op)) (told_of result) session.new }
-{
-    session.act(op)
-}
-
-fn act_on_draft(draft: &mut Draft, op: Op) -> Result<(), Failure>
-    ensures { TellsDraft draft.old (command.Change (change.Act op)) (told_of result) draft.new }
-{
-    draft.step(op)
-}
-
 /// Gives a session or a draft an operator, where it lies: in a session it is a command, in a draft a step. It does what `make` does.
 #[inline(always)]
 pub fn act(stage: &mut Stage, op: Op) -> Result<(), Failure>
-    ensures { Tells stage.old (call.Give (command.Change (change.Act op))) (told_of result) stage.new }
+    ensures { Tells stage.old (Call.Give (Command.Change (Change.Act op))) (told_of result) stage.new }
 {
     match stage {
         Stage::Session(session) => act_on_session(session, op),
@@ -110,7 +79,7 @@ pub fn act(stage: &mut Stage, op: Op) -> Result<(), Failure>
 }
 
 fn open(session: Session) -> (Stage, Told)
-    ensures { Tells (stages.Session session) call.Open result.1 result.0 }
+    ensures { Tells (Stage.Session session) Call.Open result.1 result.0 }
 {
     match Draft::open(session) {
         Ok(draft) => (Stage::Drafting(OpenDraft { draft }), Told::Done),
@@ -119,7 +88,7 @@ fn open(session: Session) -> (Stage, Told)
 }
 
 fn make_on_session(alloc: Global, session: Session, wanted: Call<'_>) -> (Stage, Told)
-    ensures { Tells (stages.Session session) wanted.entry result.1 result.0 }
+    ensures { Tells (Stage.Session session) wanted.entry result.1 result.0 }
 {
     match wanted {
         Call::Give(command) => {
@@ -135,7 +104,7 @@ fn make_on_session(alloc: Global, session: Session, wanted: Call<'_>) -> (Stage,
 }
 
 fn give_draft(alloc: Global, drafting: OpenDraft, command: Command<'_>) -> (Stage, Told)
-    ensures { Tells (stages.Drafting drafting) (call.Give command.entry) result.1 result.0 }
+    ensures { Tells (Stage.Drafting drafting) (Call.Give command.entry) result.1 result.0 }
 {
     let mut drafting = drafting;
     let told = give_in(alloc, &mut drafting.draft, command);
@@ -143,14 +112,14 @@ fn give_draft(alloc: Global, drafting: OpenDraft, command: Command<'_>) -> (Stag
 }
 
 fn mark(drafting: OpenDraft) -> (Stage, Told)
-    ensures { Tells (stages.Drafting drafting) call.Mark result.1 result.0 }
+    ensures { Tells (Stage.Drafting drafting) Call.Mark result.1 result.0 }
 {
     let steps = drafting.draft.mark();
     (Stage::Drafting(drafting), Told::Steps(steps))
 }
 
 fn back(drafting: OpenDraft, steps: usize) -> (Stage, Told)
-    ensures { Tells (stages.Drafting drafting) (call.Back steps) result.1 result.0 }
+    ensures { Tells (Stage.Drafting drafting) (Call.Back steps) result.1 result.0 }
 {
     let mut drafting = drafting;
     drafting.draft.back_to(steps);
@@ -158,7 +127,7 @@ fn back(drafting: OpenDraft, steps: usize) -> (Stage, Told)
 }
 
 fn make_on_draft(alloc: Global, drafting: OpenDraft, wanted: Call<'_>) -> (Stage, Told)
-    ensures { Tells (stages.Drafting drafting) wanted.entry result.1 result.0 }
+    ensures { Tells (Stage.Drafting drafting) wanted.entry result.1 result.0 }
 {
     match wanted {
         Call::Give(command) => give_draft(alloc, drafting, command),

@@ -1,22 +1,18 @@
-use Rattle.std.proofs.Common.{sym, ap, ◌∙◌}
-use Rattle.shapes.specs.Common.{lamina_refusal}
-use Rattle.undo_journal.specs.Machine.{held}
-use Rattle.commands.proofs.Settling.{named, lacks_where_accepted, lacks_where_ended}
+use Rattle.std.proofs.Common.{List, subst}
+use Rattle.euler_operators.specs.Common.{Point}
+use Rattle.commands.specs.declared.command.Change.TheVariants as change
+use Rattle.commands.specs.declared.command.Command.TheVariants as command
+use Rattle.commands.specs.Telling.{TellsSession, told_of}
+use Rattle.commands.proofs.Settling.{settled, settled_exactly}
 use Rattle.commands.proofs.changing.change.Goals as goal
 
-pub returns-in-Lamina-clause-refused : goal.returns-in-Lamina-clause-refused
-returns-in-Lamina-clause-refused c = rw c.in-Lamina.is
-    (λ refusal is. ap (lamina_refusal (held c.args.session.machine) c.in-Lamina.solid) (sym c.points.ensures) ∙ named _ _ c.lamina.ensures.refused refusal is)
+pub returns-in-Lamina : goal.returns-in-Lamina
+returns-in-Lamina c = rw c.in-Lamina.is
+    (subst (λ (ps : List Point). TellsSession c.args.session (command.Change (change.Lamina c.in-Lamina.solid ps)) (told_of c.lamina.result.1) c.lamina.result.0) c.points.ensures
+    (settled_exactly _ _ _ _ c.lamina.result.1 c.lamina.ensures.ok c.lamina.ensures.recorded c.lamina.ensures.refused c.lamina.ensures.err))
 
-pub returns-in-Lamina-clause-memory : goal.returns-in-Lamina-clause-memory
-returns-in-Lamina-clause-memory c = rw c.in-Lamina.is
-    (λ is. ap (lamina_refusal (held c.args.session.machine) c.in-Lamina.solid) (sym c.points.ensures) ∙ lacks_where_accepted _ _ c.lamina.ensures.refused is)
+pub returns-in-Sweep : goal.returns-in-Sweep
+returns-in-Sweep c = rw c.in-Sweep.is (settled_exactly _ _ _ _ c.sweep.result.1 c.sweep.ensures.ok c.sweep.ensures.recorded c.sweep.ensures.refused c.sweep.ensures.err)
 
-pub returns-in-Sweep-clause-refused : goal.returns-in-Sweep-clause-refused
-returns-in-Sweep-clause-refused c = rw c.in-Sweep.is (named _ _ c.sweep.ensures.refused)
-
-pub returns-in-Sweep-clause-memory : goal.returns-in-Sweep-clause-memory
-returns-in-Sweep-clause-memory c = rw c.in-Sweep.is (lacks_where_accepted _ _ c.sweep.ensures.refused)
-
-pub returns-in-Glue-clause-memory : goal.returns-in-Glue-clause-memory
-returns-in-Glue-clause-memory c = rw c.in-Glue.is (lacks_where_ended _ _ c.glue.ensures.memory)
+pub returns-in-Glue : goal.returns-in-Glue
+returns-in-Glue c = rw c.in-Glue.is (settled _ _ _ _ _ c.glue.result.1 c.glue.ensures.ok c.glue.ensures.recorded c.glue.ensures.refused c.glue.ensures.memory c.glue.ensures.err)

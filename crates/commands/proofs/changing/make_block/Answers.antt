@@ -1,16 +1,14 @@
-use Rattle.std.proofs.Common.{◌≡◌, Some, Err, w64, ◌↔◌}
+use Rattle.std.proofs.Common.{w64}
 use Rattle.std.proofs.lemmas.Int.{to_z-of_z}
-use Rattle.shapes.specs.Common.{block_refusal}
-use Rattle.undo_journal.specs.declared.session.Failure.TheVariants as failure
-use Rattle.undo_journal.specs.Machine.{held}
 use Rattle.sweeps.proofs.BlockSteps.{at_sizes}
-use Rattle.commands.proofs.Settling.{lacks_where_accepted}
+use Rattle.commands.specs.declared.command.Change.TheVariants as change
+use Rattle.commands.specs.declared.command.Command.TheVariants as command
+use Rattle.commands.specs.Telling.{TellsSession, told_of}
+use Rattle.commands.proofs.Settling.{settled_exactly}
 use Rattle.commands.proofs.changing.make_block.Goals as goal
 
-pub returns-clause-refused : goal.returns-clause-refused
-returns-clause-refused c = λ refusal is. at_sizes (λ x y z. block_refusal (held c.args.session.machine) c.args.solid c.args.corner x y z ≡ Some refusal)
-    _ _ _ _ _ _ (to_z-of_z w64 c.args.dx c.ranges.dx) (to_z-of_z w64 c.args.dy c.ranges.dy) (to_z-of_z w64 c.args.dz c.ranges.dz) ((c.block.ensures.refused refusal).0 is)
-
-pub returns-clause-memory : goal.returns-clause-memory
-returns-clause-memory c = lacks_where_accepted _ c.block.result.1 (λ q. at_sizes (λ x y z. (c.block.result.1 ≡ Err (failure.Refused q)) ↔ (block_refusal (held c.args.session.machine) c.args.solid c.args.corner x y z ≡ Some q))
-    _ _ _ _ _ _ (to_z-of_z w64 c.args.dx c.ranges.dx) (to_z-of_z w64 c.args.dy c.ranges.dy) (to_z-of_z w64 c.args.dz c.ranges.dz) (c.block.ensures.refused q))
+pub returns : goal.returns
+returns c =
+    at_sizes (λ x y z. TellsSession c.args.session (command.Change (change.Block c.args.solid c.args.corner x y z)) (told_of c.block.result.1) c.block.result.0)
+    _ _ _ _ _ _ (to_z-of_z w64 c.args.dx c.ranges.dx) (to_z-of_z w64 c.args.dy c.ranges.dy) (to_z-of_z w64 c.args.dz c.ranges.dz)
+    (settled_exactly _ _ _ _ c.block.result.1 c.block.ensures.ok c.block.ensures.recorded c.block.ensures.refused c.block.ensures.err)

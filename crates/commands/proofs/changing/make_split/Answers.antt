@@ -1,11 +1,14 @@
-use Rattle.std.proofs.Common.{sym, ◌∙◌}
-use Rattle.undo_journal.specs.Machine.{held}
-use Rattle.split_checks.specs.begin_checks.Conditions.{early_refusal}
-use Rattle.plane_split.proofs.Planes.{plane_is}
-use Rattle.commands.proofs.Settling.{lacks_where_ended}
+use Rattle.std.proofs.Common.{w64}
+use Rattle.std.proofs.lemmas.Int.{to_z-of_z}
+use Rattle.sweeps.proofs.BlockSteps.{at_coefficients}
+use Rattle.commands.specs.declared.command.Change.TheVariants as change
+use Rattle.commands.specs.declared.command.Command.TheVariants as command
+use Rattle.commands.specs.Telling.{TellsSession, told_of}
+use Rattle.commands.proofs.Settling.{settled}
 use Rattle.commands.proofs.changing.make_split.Goals as goal
 
-pub returns-clause-memory : goal.returns-clause-memory
-returns-clause-memory c = λ is.
-    let plane = plane_is c.args.a c.args.b c.args.c c.args.d c.ranges.a c.ranges.b c.ranges.c c.ranges.d in
-    sym (λ i. early_refusal (held c.args.session.machine) c.args.solid (plane i) c.args.above) ∙ lacks_where_ended _ c.split.result.1 c.split.ensures.memory is
+pub returns : goal.returns
+returns c =
+    at_coefficients (λ x y z w. TellsSession c.args.session (command.Change (change.Split c.args.solid x y z w c.args.above)) (told_of c.split.result.1) c.split.result.0)
+    _ _ _ _ _ _ _ _ (to_z-of_z w64 c.args.a c.ranges.a) (to_z-of_z w64 c.args.b c.ranges.b) (to_z-of_z w64 c.args.c c.ranges.c) (to_z-of_z w64 c.args.d c.ranges.d)
+    (settled _ _ _ _ _ c.split.result.1 c.split.ensures.ok c.split.ensures.recorded c.split.ensures.refused c.split.ensures.memory c.split.ensures.err)

@@ -1,27 +1,24 @@
-use Rattle.std.proofs.Common.{sym, ap, ◌∙◌}
-use Rattle.shapes.specs.Common.{lamina_refusal}
-use Rattle.commands.proofs.Settling.{named, lacks_where_accepted, lacks_where_ended}
+use Rattle.std.proofs.Common.{List, subst}
+use Rattle.std.proofs.lemmas.Result.{on_ok_weaker}
+use Rattle.euler_operators.specs.Common.{Point}
+use Rattle.commands.specs.declared.command.Change.TheVariants as change
+use Rattle.commands.specs.declared.command.Command.TheVariants as command
+use Rattle.commands.specs.Telling.{TellsDraft, told_of}
+use Rattle.commands.proofs.Settling.{settled, settled_exactly}
 use Rattle.commands.proofs.drafting.change_in.Goals as goal
 
-pub returns-in-Act-clause-refused : goal.returns-in-Act-clause-refused
-returns-in-Act-clause-refused c = rw c.in-Act.is (named _ _ c.step.ensures.refused)
+pub returns-in-Lamina : goal.returns-in-Lamina
+returns-in-Lamina c =
+    let r = c.lamina_in.result in let e = c.lamina_in.ensures in
+    rw c.in-Lamina.is (subst (λ (ps : List Point). TellsDraft c.args.draft.now (command.Change (change.Lamina c.in-Lamina.solid ps)) (told_of r) c.lamina_in.new.draft) c.points.ensures
+    (settled_exactly _ _ _ _ r e.ok (on_ok_weaker r (λ _. e.further) e.ok) e.refused e.err))
 
-pub returns-in-Act-clause-memory : goal.returns-in-Act-clause-memory
-returns-in-Act-clause-memory c = rw c.in-Act.is (lacks_where_accepted _ _ c.step.ensures.refused)
+pub returns-in-Sweep : goal.returns-in-Sweep
+returns-in-Sweep c =
+    let r = c.sweep_in.result in let e = c.sweep_in.ensures in
+    rw c.in-Sweep.is (settled_exactly _ _ _ _ r e.ok (on_ok_weaker r (λ _. e.further) e.ok) e.refused e.err)
 
-pub returns-in-Lamina-clause-refused : goal.returns-in-Lamina-clause-refused
-returns-in-Lamina-clause-refused c = rw c.in-Lamina.is
-    (λ refusal is. ap (lamina_refusal c.args.draft.now.model c.in-Lamina.solid) (sym c.points.ensures) ∙ named _ _ c.lamina_in.ensures.refused refusal is)
-
-pub returns-in-Lamina-clause-memory : goal.returns-in-Lamina-clause-memory
-returns-in-Lamina-clause-memory c = rw c.in-Lamina.is
-    (λ is. ap (lamina_refusal c.args.draft.now.model c.in-Lamina.solid) (sym c.points.ensures) ∙ lacks_where_accepted _ _ c.lamina_in.ensures.refused is)
-
-pub returns-in-Sweep-clause-refused : goal.returns-in-Sweep-clause-refused
-returns-in-Sweep-clause-refused c = rw c.in-Sweep.is (named _ _ c.sweep_in.ensures.refused)
-
-pub returns-in-Sweep-clause-memory : goal.returns-in-Sweep-clause-memory
-returns-in-Sweep-clause-memory c = rw c.in-Sweep.is (lacks_where_accepted _ _ c.sweep_in.ensures.refused)
-
-pub returns-in-Glue-clause-memory : goal.returns-in-Glue-clause-memory
-returns-in-Glue-clause-memory c = rw c.in-Glue.is (lacks_where_ended _ _ c.glue_in.ensures.memory)
+pub returns-in-Glue : goal.returns-in-Glue
+returns-in-Glue c =
+    let r = c.glue_in.result in let e = c.glue_in.ensures in
+    rw c.in-Glue.is (settled _ _ _ _ _ r e.ok (on_ok_weaker r (λ _. e.further) e.ok) e.refused e.memory e.err)

@@ -1,10 +1,16 @@
-use Rattle.std.proofs.Common.{sym, ◌∙◌}
-use Rattle.split_checks.specs.begin_checks.Conditions.{early_refusal}
-use Rattle.plane_split.proofs.Planes.{plane_is}
-use Rattle.commands.proofs.Settling.{lacks_where_ended}
+use Rattle.std.proofs.Common.{w64}
+use Rattle.std.proofs.lemmas.Int.{to_z-of_z}
+use Rattle.std.proofs.lemmas.Result.{on_ok_weaker}
+use Rattle.sweeps.proofs.BlockSteps.{at_coefficients}
+use Rattle.commands.specs.declared.command.Change.TheVariants as change
+use Rattle.commands.specs.declared.command.Command.TheVariants as command
+use Rattle.commands.specs.Telling.{TellsDraft, told_of}
+use Rattle.commands.proofs.Settling.{settled}
 use Rattle.commands.proofs.drafting.make_split.Goals as goal
 
-pub returns-clause-memory : goal.returns-clause-memory
-returns-clause-memory c = λ is.
-    let plane = plane_is c.args.a c.args.b c.args.c c.args.d c.ranges.a c.ranges.b c.ranges.c c.ranges.d in
-    sym (λ i. early_refusal c.args.draft.now.model c.args.solid (plane i) c.args.above) ∙ lacks_where_ended _ c.split_in.result c.split_in.ensures.memory is
+pub returns : goal.returns
+returns c =
+    let r = c.split_in.result in let e = c.split_in.ensures in
+    at_coefficients (λ x y z w. TellsDraft c.args.draft.now (command.Change (change.Split c.args.solid x y z w c.args.above)) (told_of r) c.split_in.new.draft)
+    _ _ _ _ _ _ _ _ (to_z-of_z w64 c.args.a c.ranges.a) (to_z-of_z w64 c.args.b c.ranges.b) (to_z-of_z w64 c.args.c c.ranges.c) (to_z-of_z w64 c.args.d c.ranges.d)
+    (settled _ _ _ _ _ r e.ok (on_ok_weaker r (λ _. e.further) e.ok) e.refused e.memory e.err)

@@ -1,10 +1,8 @@
 use Rattle.std.proofs.Common.{refl, sym, subst}
+use Rattle.commands.specs.Common.{Drafting, OpenDraft, Session, Stage}
+use Rattle.commands.specs.declared.command.Call.TheVariants as call
 use Rattle.commands.specs.declared.command.Change.TheVariants as change
 use Rattle.commands.specs.declared.command.Command.TheVariants as command
-use Rattle.commands.specs.declared.command.Call.TheVariants as call
-use Rattle.commands.specs.declared.stage.OpenDraft.{OpenDraft}
-use Rattle.commands.specs.declared.stage.Stage.{Stage}
-use Rattle.commands.specs.declared.stage.Stage.TheVariants.{Session, Drafting}
 use Rattle.commands.specs.Telling.{Tells, told_of}
 use Rattle.commands.proofs.making.act.Goals as goal
 

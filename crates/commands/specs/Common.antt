@@ -1,0 +1,16 @@
+-- The types of this crate and the words of the journal that its files cite, passed on from one place. Declares nothing.
+pub use Rattle.euler_operators.specs.Common.{Model, Sound}
+pub use Rattle.euler_operators.specs.declared.Refusal.{Refusal}
+pub use Rattle.undo_journal.specs.Histories.{Follows, IsConsistent}
+pub use Rattle.undo_journal.specs.Journal.{DraftJournal, IsFurther, IsMark, IsRecorded, Journal, after_act, after_commit, after_redo, after_step, after_undo, back_at, new_draft}
+pub use Rattle.undo_journal.specs.Machine.{Machine, accepted, ahead, depth, held, redo_refusal, undo_refusal}
+pub use Rattle.undo_journal.specs.declared.session.Failure.{Failure}
+pub use Rattle.commands.specs.declared.command.Change.{Change}
+pub use Rattle.commands.specs.declared.command.Question.{Question}
+pub use Rattle.commands.specs.declared.command.Command.{Command}
+pub use Rattle.commands.specs.declared.command.Call.{Call}
+pub use Rattle.commands.specs.declared.command.Told.{Told}
+pub use Rattle.commands.specs.declared.command.Told.TheVariants.{Done, InDraft, Memory, NoDraft, Refused}
+pub use Rattle.commands.specs.declared.stage.OpenDraft.{OpenDraft}
+pub use Rattle.commands.specs.declared.stage.Stage.{Stage}
+pub use Rattle.commands.specs.declared.stage.Stage.TheVariants.{Drafting, Session}
