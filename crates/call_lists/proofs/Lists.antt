@@ -1,33 +1,22 @@
 -- Lists of calls, one more at a time, and cut in two.
-use Rattle.std.proofs.Common.{◌≡◌, inl, inr, Bool, true, false, List, [], ◌∷◌, ◌++◌, length, refl, sym, ap, subst, ◌∙◌, append_assoc, arith, true≢false, ◌⊎◌}
-use Rattle.commands.specs.declared.command.Call.{Call}
-use Rattle.commands.specs.declared.command.Told.{Told}
+use Rattle.std.proofs.Common.{◌≡◌, inl, inr, false, List, [], ◌∷◌, ◌++◌, refl, sym, ap, subst, ◌∙◌, append_assoc, ◌⊎◌}
+use Rattle.call_lists.specs.Common.{Call, Done, InDraft, IsWhole, Memory, NoDraft, Refused, Stage, Tells, Told}
 use Rattle.commands.specs.declared.command.Told.TheVariants as told
-use Rattle.commands.specs.declared.command.Told.TheVariants.{Done, Refused, Memory, InDraft, NoDraft}
-use Rattle.commands.specs.declared.stage.Stage.{Stage}
-use Rattle.commands.specs.Telling.{Tells, IsWhole}
 use Rattle.commands.proofs.Kept.{only_done_changes}
 use Rattle.call_lists.specs.Making.{MakesAll, AreTold}
 use Rattle.call_lists.specs.Laws.{is_done, ListsKeepWhole, EachIsWhole}
 
-done_is : (a : Told) → is_done a ≡ true → a ≡ Done
-done_is Done is = refl
-done_is (Refused r) is = absurd (true≢false (sym is))
-done_is Memory is = absurd (true≢false (sym is))
-done_is InDraft is = absurd (true≢false (sym is))
-done_is NoDraft is = absurd (true≢false (sym is))
-done_is (told.Plane p flat) is = absurd (true≢false (sym is))
-done_is (told.Volume n) is = absurd (true≢false (sym is))
-done_is (told.Counts n) is = absurd (true≢false (sym is))
-done_is (told.Steps n) is = absurd (true≢false (sym is))
-
 -- a call is told `Done`, or changes nothing
 pub done_or_idle : (g h : Stage) (c : Call) (a : Told) → Tells g c a h → ((a ≡ Done) × Tells g c Done h) ⊎ ((is_done a ≡ false) × (h ≡ g))
-done_or_idle g h c a x = decide (is_done a) refl
-  where
-    decide : (b : Bool) → is_done a ≡ b → ((a ≡ Done) × Tells g c Done h) ⊎ ((is_done a ≡ false) × (h ≡ g))
-    decide true is = inl (done_is a is, subst (λ (b : Told). Tells g c b h) (done_is a is) x)
-    decide false is = inr (is, only_done_changes g h c a (λ e. true≢false (sym (ap is_done e) ∙ is)) x)
+done_or_idle g h c Done x = inl (refl, x)
+done_or_idle g h c (Refused r) x = inr (refl, only_done_changes g h c _ (λ e. cc e) x)
+done_or_idle g h c Memory x = inr (refl, only_done_changes g h c _ (λ e. cc e) x)
+done_or_idle g h c InDraft x = inr (refl, only_done_changes g h c _ (λ e. cc e) x)
+done_or_idle g h c NoDraft x = inr (refl, only_done_changes g h c _ (λ e. cc e) x)
+done_or_idle g h c (told.Plane p flat) x = inr (refl, only_done_changes g h c _ (λ e. cc e) x)
+done_or_idle g h c (told.Volume n) x = inr (refl, only_done_changes g h c _ (λ e. cc e) x)
+done_or_idle g h c (told.Counts n) x = inr (refl, only_done_changes g h c _ (λ e. cc e) x)
+done_or_idle g h c (told.Steps n) x = inr (refl, only_done_changes g h c _ (λ e. cc e) x)
 
 -- one call more
 pub one_more : (g k h : Stage) (calls : List Call) (answers : List Told) (c : Call) (a : Told) → MakesAll g calls answers k → Tells k c a h → IsWhole h → MakesAll g (calls ++ c ∷ []) (answers ++ a ∷ []) h
@@ -35,10 +24,6 @@ one_more g k h [] [] c a is m whole = (h, subst (λ (x : Stage). Tells x c a h) 
 one_more g k h [] (b ∷ answers) c a x m whole = absurd x
 one_more g k h (d ∷ calls) [] c a x m whole = absurd x
 one_more g k h (d ∷ calls) (b ∷ answers) c a x m whole = (x.0, x.1, x.2, one_more x.0 k h calls answers c a x.3 m whole)
-
-pub nothing_left : {X : Type 0} (xs : List X) → length xs ≡ 0 → xs ≡ []
-nothing_left [] e = refl
-nothing_left (x ∷ xs) e = absurd (omega arith)
 
 -- one answer more
 pub told_more : (g k h : Stage) (calls : List Call) (old mid new : List Told) (c : Call) (a : Told) → AreTold g calls old mid k → new ≡ mid ++ a ∷ [] → Tells k c a h → IsWhole h → AreTold g (calls ++ c ∷ []) old new h

@@ -1,23 +1,11 @@
 -- What isn't done changes nothing; and where memory isn't refused, calls have one list of answers.
-use Rattle.std.proofs.Common.{◌≡◌, inl, inr, Bool, true, false, Option, Some, None, List, [], ◌∷◌, refl, sym, ap, subst, ◌∙◌, true≢false, ◌≢◌, ◌⊎◌, cond}
-use Rattle.euler_operators.specs.Common.{Model}
-use Rattle.euler_operators.specs.declared.Refusal.{Refusal}
-use Rattle.undo_journal.specs.Machine.{Machine, held, accepted, undo, undo_refusal, redo, redo_refusal}
-use Rattle.undo_journal.specs.Journal.{Journal, DraftJournal}
-use Rattle.commands.specs.declared.command.Command.{Command}
-use Rattle.commands.specs.declared.command.Command.TheVariants as command
-use Rattle.commands.specs.declared.command.Call.{Call}
-use Rattle.commands.specs.declared.command.Call.TheVariants as call
-use Rattle.commands.specs.declared.command.Told.{Told}
-use Rattle.commands.specs.declared.command.Told.TheVariants.{Done, Refused, Memory}
-use Rattle.commands.specs.declared.stage.Stage.{Stage}
-use Rattle.commands.specs.declared.stage.Stage.TheVariants.{Session, Drafting}
-use Rattle.commands.specs.Changes.{refusal_of, made}
-use Rattle.commands.specs.Telling.{Settled, Tells, TellsSession, TellsDraft, asked, IsWhole}
+use Rattle.std.proofs.Common.{◌≡◌, inl, inr, Bool, true, false, Option, List, [], ◌∷◌, refl, sym, ap, subst, ◌∙◌, true≢false, ◌≢◌, ◌⊎◌, cond}
+use Rattle.call_lists.specs.Common.{Abandon, Ask, Back, Call, Change, Command, Commit, Done, DraftJournal, Drafting, Give, IsWhole, Journal, Machine, Mark, Memory, Model, Open, Redo, Refusal, Refused, Session, Settled, Stage, Tells, TellsDraft, TellsSession, Told, Undo, accepted, asked, held, made, redo, redo_refusal, refusal_of, undo, undo_refusal}
+use Rattle.undo_journal.proofs.Journals.{same_machine}
 use Rattle.commands.proofs.Settling.{ended}
 use Rattle.commands.proofs.Kept as kept
 use Rattle.call_lists.specs.Making.{MakesAll}
-use Rattle.call_lists.specs.Laws.{OnlyDoneChanges, IdleListsStay, is_memory, heard, told_else, MemoryCanBeLeftOut, View, view_of, IsUnmarked, ListsHaveOneAnswer}
+use Rattle.call_lists.specs.Laws.{OnlyDoneChanges, IdleListsStay, is_memory, heard, told_else, MemoryCanBeLeftOut, view_of, IsUnmarked, ListsHaveOneAnswer}
 use Rattle.call_lists.proofs.Histories.{session_stays}
 
 -- ---- what isn't done changes nothing
@@ -50,101 +38,75 @@ memory_can_be_left_out g h (c ∷ calls) (a ∷ answers) x = first_or_not g x.0 
 
 -- ---- one list of answers
 
--- two answers to a command that the same refuses: done both, or alike and idle both
-abbrev Both : (G H S R : Type 0) → Told → Told → Type 0
-Both G H S R a b = ((a ≡ Done) × (b ≡ Done) × G × H) ⊎ ((b ≡ a) × S × R)
-
-refusal_is : (q r : Refusal) (o p : Option Refusal) → o ≡ Some q → p ≡ Some r → p ≡ o → r ≡ q
-refusal_is q r o p e f is = cc
-
-both_ended : (o p : Option Refusal) (L S G K R H : Type 0) (a b : Told) → p ≡ o → a ≢ Memory → b ≢ Memory → Settled o L S G a → Settled p K R H b → Both G H S R a b
-both_ended o p L S G K R H a b is na nb x y = elim (ended o L S G a x) [
-  | inl d ↦ elim (ended p K R H b y) [
-    | inl e ↦ inl (d.0, e.0, d.2, e.2)
-    | inr (inl e) ↦ absurd (none_some (sym d.1 ∙ sym is ∙ e.2))
+-- two answers to a command that the same refuses are alike, and lead to the same view: done both, or idle both
+both_alike : {V : Type 0} (o p : Option Refusal) (L S G K R H : Type 0) (a b : Told) (now next x y : V) → p ≡ o → a ≢ Memory → b ≢ Memory → (S → x ≡ now) → (G → x ≡ next) → (R → y ≡ now) → (H → y ≡ next)
+    → Settled o L S G a → Settled p K R H b → (b ≡ a) × (y ≡ x)
+both_alike o p L S G K R H a b now next x y same na nb idle goes idles go first second = elim (ended o L S G a first) [
+  | inl d ↦ elim (ended p K R H b second) [
+    | inl e ↦ (e.0 ∙ sym d.0, go e.2 ∙ sym (goes d.2))
+    | inr (inl e) ↦ absurd (cc (sym d.1 ∙ sym same ∙ e.2))
     | inr (inr m) ↦ absurd (nb m.0)
   ]
-  | inr (inl d) ↦ elim (ended p K R H b y) [
-    | inl e ↦ absurd (none_some (sym e.1 ∙ is ∙ d.2))
-    | inr (inl e) ↦ inr (e.1 ∙ ap Refused (refusal_is d.0 e.0 o p d.2 e.2 is) ∙ sym d.1, d.3, e.3)
+  | inr (inl d) ↦ elim (ended p K R H b second) [
+    | inl e ↦ absurd (cc (sym e.1 ∙ same ∙ d.2))
+    | inr (inl e) ↦ (e.1 ∙ ap Refused (cc (sym e.2 ∙ same ∙ d.2)) ∙ sym d.1, idles e.3 ∙ sym (idle d.3))
     | inr (inr m) ↦ absurd (nb m.0)
   ]
   | inr (inr m) ↦ absurd (na m.0)
 ]
-  where
-    none_some : {r : Refusal} → None ≡ Some r → ⊥
-    none_some e = cc
-
-abbrev machine_in : Journal → Machine
-machine_in j = j.machine
 
 session_one : (s u t v : Journal) (c : Command) (a b : Told) → a ≢ Memory → b ≢ Memory → u.machine ≡ s.machine → TellsSession s c a t → TellsSession u c b v → (b ≡ a) × (v.machine ≡ t.machine)
-session_one s u t v (command.Change c) a b na nb is x y = elim (both_ended _ _ _ _ _ _ _ _ a b (ap (λ (m : Machine). refusal_of (held m) c) is) na nb x y) [
-  | inl d ↦ (d.1 ∙ sym d.0, d.3.0 ∙ ap (λ (m : Machine). accepted m (made (held m) c)) is ∙ sym d.2.0)
-  | inr k ↦ (k.0, ap machine_in k.2 ∙ is ∙ sym (ap machine_in k.1))
-]
-session_one s u t v (command.Ask q) a b na nb is x y = (y.0 ∙ ap (λ (m : Machine). asked (held m) q) is ∙ sym x.0, ap machine_in y.1 ∙ is ∙ sym (ap machine_in x.1))
-session_one s u t v command.Undo a b na nb is x y = elim (both_ended _ _ _ _ _ _ _ _ a b (ap undo_refusal is) na nb x y) [
-  | inl d ↦ (d.1 ∙ sym d.0, ap machine_in d.3 ∙ ap undo is ∙ sym (ap machine_in d.2))
-  | inr k ↦ (k.0, ap machine_in k.2 ∙ is ∙ sym (ap machine_in k.1))
-]
-session_one s u t v command.Redo a b na nb is x y = elim (both_ended _ _ _ _ _ _ _ _ a b (ap redo_refusal is) na nb x y) [
-  | inl d ↦ (d.1 ∙ sym d.0, ap machine_in d.3 ∙ ap redo is ∙ sym (ap machine_in d.2))
-  | inr k ↦ (k.0, ap machine_in k.2 ∙ is ∙ sym (ap machine_in k.1))
-]
+session_one s u t v (Change c) a b na nb is x y =
+    both_alike _ _ _ _ _ _ _ _ a b s.machine _ t.machine v.machine (ap (λ (m : Machine). refusal_of (held m) c) is) na nb same_machine (λ g. g.0)
+    (λ k. same_machine k ∙ is) (λ h. h.0 ∙ ap (λ (m : Machine). accepted m (made (held m) c)) is) x y
+session_one s u t v (Ask q) a b na nb is x y = (y.0 ∙ ap (λ (m : Machine). asked (held m) q) is ∙ sym x.0, same_machine y.1 ∙ is ∙ sym (same_machine x.1))
+session_one s u t v Undo a b na nb is x y =
+    both_alike _ _ _ _ _ _ _ _ a b s.machine _ t.machine v.machine (ap undo_refusal is) na nb same_machine same_machine (λ k. same_machine k ∙ is) (λ h. same_machine h ∙ ap undo is) x y
+session_one s u t v Redo a b na nb is x y =
+    both_alike _ _ _ _ _ _ _ _ a b s.machine _ t.machine v.machine (ap redo_refusal is) na nb same_machine same_machine (λ k. same_machine k ∙ is) (λ h. same_machine h ∙ ap redo is) x y
 
 abbrev model_of : DraftJournal → Model
 model_of d = d.model
 
 draft_one : (d f e k : DraftJournal) (c : Command) (a b : Told) → a ≢ Memory → b ≢ Memory → f.model ≡ d.model → TellsDraft d c a e → TellsDraft f c b k → (b ≡ a) × (k.model ≡ e.model)
-draft_one d f e k (command.Change c) a b na nb is x y = elim (both_ended _ _ _ _ _ _ _ _ a b (ap (λ (M : Model). refusal_of M c) is) na nb x y) [
-  | inl z ↦ (z.1 ∙ sym z.0, z.3.0 ∙ ap (λ (M : Model). made M c) is ∙ sym z.2.0)
-  | inr z ↦ (z.0, ap model_of z.2 ∙ is ∙ sym (ap model_of z.1))
-]
-draft_one d f e k (command.Ask q) a b na nb is x y = (y.0 ∙ ap (λ (M : Model). asked M q) is ∙ sym x.0, ap model_of y.1 ∙ is ∙ sym (ap model_of x.1))
-draft_one d f e k command.Undo a b na nb is x y = (y.0 ∙ sym x.0, ap model_of y.1 ∙ is ∙ sym (ap model_of x.1))
-draft_one d f e k command.Redo a b na nb is x y = (y.0 ∙ sym x.0, ap model_of y.1 ∙ is ∙ sym (ap model_of x.1))
-
-abbrev machine_seen : View → Machine
-machine_seen v = v.machine
-
-abbrev model_seen : View → Model
-model_seen v = v.model
-
-abbrev drafting_seen : View → Bool
-drafting_seen v = v.drafting
+draft_one d f e k (Change c) a b na nb is x y =
+    both_alike _ _ _ _ _ _ _ _ a b d.model _ e.model k.model (ap (λ (M : Model). refusal_of M c) is) na nb (ap model_of) (λ z. z.0) (λ z. ap model_of z ∙ is) (λ z. z.0 ∙ ap (λ (M : Model). made M c) is) x y
+draft_one d f e k (Ask q) a b na nb is x y = (y.0 ∙ ap (λ (M : Model). asked M q) is ∙ sym x.0, ap model_of y.1 ∙ is ∙ sym (ap model_of x.1))
+draft_one d f e k Undo a b na nb is x y = (y.0 ∙ sym x.0, ap model_of y.1 ∙ is ∙ sym (ap model_of x.1))
+draft_one d f e k Redo a b na nb is x y = (y.0 ∙ sym x.0, ap model_of y.1 ∙ is ∙ sym (ap model_of x.1))
 
 -- two stages that are reached are seen alike where those are that are known
 alike : (g h k j : Stage) → h ≡ g → j ≡ k → view_of k ≡ view_of g → view_of j ≡ view_of h
 alike g h k j x y is = ap view_of y ∙ is ∙ sym (ap view_of x)
 
 one_call : (g k h j : Stage) (c : Call) (a b : Told) → IsUnmarked c → a ≢ Memory → b ≢ Memory → view_of k ≡ view_of g → Tells g c a h → Tells k c b j → (b ≡ a) × (view_of j ≡ view_of h)
-one_call (Session s) (Session u) h j (call.Give c) a b un na nb is x y =
-    let one = session_one s u x.0 y.0 c a b na nb (ap machine_seen is) x.2 y.2 in
+one_call (Session s) (Session u) h j (Give c) a b un na nb is x y =
+    let one = session_one s u x.0 y.0 c a b na nb (λ i. (is i).machine) x.2 y.2 in
     (one.0, alike (Session x.0) h (Session y.0) j x.1 y.1 (λ i. record { machine = one.1 i; model = held (one.1 i); drafting = false }))
-one_call (Session s) (Session u) h j call.Open a b un na nb is (inl x) (inl y) =
-    (y.0 ∙ sym x.0, alike _ h _ j x.1 y.1 (λ i. record { machine = machine_seen (is i); model = held (machine_seen (is i)); drafting = true }))
-one_call (Session s) (Session u) h j call.Open a b un na nb is (inl x) (inr y) = absurd (nb y.0)
-one_call (Session s) (Session u) h j call.Open a b un na nb is (inr x) y = absurd (na x.0)
-one_call (Session s) (Session u) h j call.Mark a b un na nb is x y = absurd un
-one_call (Session s) (Session u) h j (call.Back n) a b un na nb is x y = absurd un
-one_call (Session s) (Session u) h j call.Commit a b un na nb is x y = (y.0 ∙ sym x.0, alike (Session s) h (Session u) j x.1 y.1 is)
-one_call (Session s) (Session u) h j call.Abandon a b un na nb is x y = (y.0 ∙ sym x.0, alike (Session s) h (Session u) j x.1 y.1 is)
-one_call (Session s) (Drafting f) h j c a b un na nb is x y = absurd (true≢false (ap drafting_seen is))
-one_call (Drafting d) (Session u) h j c a b un na nb is x y = absurd (true≢false (sym (ap drafting_seen is)))
-one_call (Drafting d) (Drafting f) h j (call.Give c) a b un na nb is x y =
-    let one = draft_one d.draft f.draft x.0.draft y.0.draft c a b na nb (ap model_seen is) x.2 y.2 in
+one_call (Session s) (Session u) h j Open a b un na nb is (inl x) (inl y) =
+    (y.0 ∙ sym x.0, alike _ h _ j x.1 y.1 (λ i. record { machine = (is i).machine; model = held (is i).machine; drafting = true }))
+one_call (Session s) (Session u) h j Open a b un na nb is (inl x) (inr y) = absurd (nb y.0)
+one_call (Session s) (Session u) h j Open a b un na nb is (inr x) y = absurd (na x.0)
+one_call (Session s) (Session u) h j Mark a b un na nb is x y = absurd un
+one_call (Session s) (Session u) h j (Back n) a b un na nb is x y = absurd un
+one_call (Session s) (Session u) h j Commit a b un na nb is x y = (y.0 ∙ sym x.0, alike (Session s) h (Session u) j x.1 y.1 is)
+one_call (Session s) (Session u) h j Abandon a b un na nb is x y = (y.0 ∙ sym x.0, alike (Session s) h (Session u) j x.1 y.1 is)
+one_call (Session s) (Drafting f) h j c a b un na nb is x y = absurd (true≢false (λ i. (is i).drafting))
+one_call (Drafting d) (Session u) h j c a b un na nb is x y = absurd (true≢false (sym (λ i. (is i).drafting)))
+one_call (Drafting d) (Drafting f) h j (Give c) a b un na nb is x y =
+    let one = draft_one d.draft f.draft x.0.draft y.0.draft c a b na nb (λ i. (is i).model) x.2 y.2 in
     let first = session_stays d.draft x.0.draft c a x.2 in
     let second = session_stays f.draft y.0.draft c b y.2 in
-    let machine = ap machine_in second ∙ ap machine_seen is ∙ sym (ap machine_in first) in
+    let known : f.draft.session.machine ≡ d.draft.session.machine = λ i. (is i).machine in
+    let machine = same_machine second ∙ known ∙ sym (same_machine first) in
     (one.0, alike (Drafting x.0) h (Drafting y.0) j x.1 y.1 (λ i. record { machine = machine i; model = one.1 i; drafting = true }))
-one_call (Drafting d) (Drafting f) h j call.Open a b un na nb is x y = (y.0 ∙ sym x.0, alike (Drafting d) h (Drafting f) j x.1 y.1 is)
-one_call (Drafting d) (Drafting f) h j call.Mark a b un na nb is x y = absurd un
-one_call (Drafting d) (Drafting f) h j (call.Back n) a b un na nb is x y = absurd un
-one_call (Drafting d) (Drafting f) h j call.Commit a b un na nb is x y =
-    (y.0 ∙ sym x.0, alike _ h _ j x.1 y.1 (λ i. record { machine = accepted (machine_seen (is i)) (model_seen (is i)); model = model_seen (is i); drafting = false }))
-one_call (Drafting d) (Drafting f) h j call.Abandon a b un na nb is x y =
-    (y.0 ∙ sym x.0, alike _ h _ j x.1 y.1 (λ i. record { machine = machine_seen (is i); model = held (machine_seen (is i)); drafting = false }))
+one_call (Drafting d) (Drafting f) h j Open a b un na nb is x y = (y.0 ∙ sym x.0, alike (Drafting d) h (Drafting f) j x.1 y.1 is)
+one_call (Drafting d) (Drafting f) h j Mark a b un na nb is x y = absurd un
+one_call (Drafting d) (Drafting f) h j (Back n) a b un na nb is x y = absurd un
+one_call (Drafting d) (Drafting f) h j Commit a b un na nb is x y =
+    (y.0 ∙ sym x.0, alike _ h _ j x.1 y.1 (λ i. record { machine = accepted (is i).machine (is i).model; model = (is i).model; drafting = false }))
+one_call (Drafting d) (Drafting f) h j Abandon a b un na nb is x y =
+    (y.0 ∙ sym x.0, alike _ h _ j x.1 y.1 (λ i. record { machine = (is i).machine; model = held (is i).machine; drafting = false }))
 
 pub lists_have_one_answer : ListsHaveOneAnswer
 lists_have_one_answer g k h j [] [] [] un na nb is x y = (refl, alike g h k j x y is)

@@ -1,20 +1,8 @@
 -- How many commands can be undone, and redone, after a list of calls.
-use Rattle.std.proofs.Common.{◌≡◌, ℕ, suc, ◌+◌, ◌-◌, Bool, true, false, inl, inr, None, List, [], ◌∷◌, length, is_some, refl, sym, ap, ◌∙◌, arith, true≢false, ◌≢◌, cond}
-use Rattle.euler_operators.specs.Common.{Model}
-use Rattle.undo_journal.specs.Machine.{depth, ahead, held, undo, undo_refusal, redo, redo_refusal}
-use Rattle.undo_journal.specs.Journal.{Journal}
-use Rattle.undo_journal.specs.Histories.{undos, redos, IsConsistent}
+use Rattle.std.proofs.Common.{◌≡◌, ℕ, suc, ◌+◌, ◌-◌, Bool, true, false, inl, inr, None, List, [], ◌∷◌, length, is_some, refl, sym, ap, ◌∙◌, arith, true≢false, cond}
+use Rattle.call_lists.specs.Common.{Abandon, Ask, Back, Call, Change, Command, Commit, Done, Drafting, Give, IsConsistent, IsWhole, Journal, Mark, Model, Open, Redo, Session, Stage, Tells, TellsSession, Told, Undo, ahead, depth, held, redo, redo_refusal, redos, undo, undo_refusal, undos}
+use Rattle.undo_journal.proofs.Journals.{same_machine}
 use Rattle.undo_journal.proofs.Copies.{redone_to_last}
-use Rattle.commands.specs.declared.command.Command.{Command}
-use Rattle.commands.specs.declared.command.Command.TheVariants as command
-use Rattle.commands.specs.declared.command.Call.{Call}
-use Rattle.commands.specs.declared.command.Call.TheVariants as call
-use Rattle.commands.specs.declared.command.Told.{Told}
-use Rattle.commands.specs.declared.command.Told.TheVariants.{Done, NoDraft}
-use Rattle.commands.specs.declared.stage.Stage.{Stage}
-use Rattle.commands.specs.declared.stage.Stage.TheVariants.{Session, Drafting}
-use Rattle.commands.specs.Telling.{Tells, TellsSession, IsWhole}
-use Rattle.commands.proofs.Settling.{memory_not_done}
 use Rattle.call_lists.specs.Laws.{Place, machine_of, place_of, after_command, after_done, place_after, place_after_all, PlacesAreCounted, UndosLeadToTheFirst, RedosLeadToTheLast}
 use Rattle.call_lists.proofs.Histories.{session_stays}
 use Rattle.call_lists.proofs.Lists.{done_or_idle, lists_keep_whole}
@@ -39,34 +27,29 @@ pub redone_place : (past : List Model) (M : Model) (future : List Model) → red
 redone_place past M [] goes = absurd (true≢false (ap is_some goes))
 redone_place past M (N ∷ future) goes = (one_more (length past), omega arith)
 
-no_draft_is_not_done : NoDraft ≢ Done
-no_draft_is_not_done e = cc
-
 -- a command that is done, and a call
 session_place : (s t : Journal) (c : Command) → TellsSession s c Done t → place_of (Session t) ≡ after_command (place_of (Session s)) c
-session_place s t (command.Change c) x = place_is _ _ _ _ false (ap depth x.1.0 ∙ one_more (depth s.machine)) (ap ahead x.1.0)
-session_place s t (command.Ask q) x = ap (λ (j : Journal). place_of (Session j)) x.1
-session_place s t command.Undo x =
-    let moved = undone_place s.machine.past s.machine.present s.machine.future x.0 in
-    place_is _ _ _ _ false (ap (λ (j : Journal). depth j.machine) x.1 ∙ moved.0) (ap (λ (j : Journal). ahead j.machine) x.1 ∙ moved.1)
-session_place s t command.Redo x =
-    let moved = redone_place s.machine.past s.machine.present s.machine.future x.0 in
-    place_is _ _ _ _ false (ap (λ (j : Journal). depth j.machine) x.1 ∙ moved.0) (ap (λ (j : Journal). ahead j.machine) x.1 ∙ moved.1)
+session_place s t (Change c) x = place_is _ _ _ _ false (ap depth x.1.0 ∙ one_more (depth s.machine)) (ap ahead x.1.0)
+session_place s t (Ask q) x = ap (λ (j : Journal). place_of (Session j)) x.1
+session_place s t Undo x =
+    let moved = undone_place s.machine.past s.machine.present s.machine.future x.0 in place_is _ _ _ _ false (ap depth (same_machine x.1) ∙ moved.0) (ap ahead (same_machine x.1) ∙ moved.1)
+session_place s t Redo x =
+    let moved = redone_place s.machine.past s.machine.present s.machine.future x.0 in place_is _ _ _ _ false (ap depth (same_machine x.1) ∙ moved.0) (ap ahead (same_machine x.1) ∙ moved.1)
 
 done_place : (g h : Stage) (c : Call) → Tells g c Done h → place_of h ≡ after_done (place_of g) c
-done_place (Session s) h (call.Give c) x = ap place_of x.1 ∙ session_place s x.0 c x.2
-done_place (Session s) h call.Open (inl x) = ap place_of x.1
-done_place (Session s) h call.Open (inr x) = absurd (memory_not_done (sym x.0))
-done_place (Session s) h call.Mark x = ap place_of x.1
-done_place (Session s) h (call.Back n) x = ap place_of x.1
-done_place (Session s) h call.Commit x = absurd (no_draft_is_not_done (sym x.0))
-done_place (Session s) h call.Abandon x = ap place_of x.1
-done_place (Drafting d) h (call.Give c) x = ap place_of x.1 ∙ ap (λ (j : Journal). placed (depth j.machine) (ahead j.machine) true) (session_stays d.draft x.0.draft c Done x.2)
-done_place (Drafting d) h call.Open x = ap place_of x.1
-done_place (Drafting d) h call.Mark x = ap place_of x.3
-done_place (Drafting d) h (call.Back n) x = ap place_of x.1
-done_place (Drafting d) h call.Commit x = ap place_of x.1 ∙ place_is _ _ _ _ false (one_more (depth d.draft.session.machine)) refl
-done_place (Drafting d) h call.Abandon x = ap place_of x.1
+done_place (Session s) h (Give c) x = ap place_of x.1 ∙ session_place s x.0 c x.2
+done_place (Session s) h Open (inl x) = ap place_of x.1
+done_place (Session s) h Open (inr x) = absurd (cc x.0)
+done_place (Session s) h Mark x = ap place_of x.1
+done_place (Session s) h (Back n) x = ap place_of x.1
+done_place (Session s) h Commit x = absurd (cc x.0)
+done_place (Session s) h Abandon x = ap place_of x.1
+done_place (Drafting d) h (Give c) x = ap place_of x.1 ∙ ap (λ (j : Journal). placed (depth j.machine) (ahead j.machine) true) (session_stays d.draft x.0.draft c Done x.2)
+done_place (Drafting d) h Open x = ap place_of x.1
+done_place (Drafting d) h Mark x = ap place_of x.3
+done_place (Drafting d) h (Back n) x = ap place_of x.1
+done_place (Drafting d) h Commit x = ap place_of x.1 ∙ place_is _ _ _ _ false (one_more (depth d.draft.session.machine)) refl
+done_place (Drafting d) h Abandon x = ap place_of x.1
 
 one_place : (g h : Stage) (c : Call) (a : Told) → Tells g c a h → place_of h ≡ place_after (place_of g) c a
 one_place g h c a x = elim (done_or_idle g h c a x) [

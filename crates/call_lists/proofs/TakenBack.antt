@@ -1,22 +1,9 @@
 -- Commands that are taken back, and made again.
-use Rattle.std.proofs.Common.{◌≡◌, ℕ, zero, suc, ◌+◌, ◌≤◌, inl, inr, Bool, false, None, List, [], ◌∷◌, ◌++◌, length, reverse, take, drop, replicate, nat_eq, refl, sym, ap, subst, ◌∙◌, append_assoc, take-append-drop, length-take, arith, ◌⊎◌}
+use Rattle.std.proofs.Common.{◌≡◌, ℕ, zero, suc, ◌+◌, ◌-◌, ◌≤◌, inl, inr, Bool, false, None, List, [], ◌∷◌, ◌++◌, length, reverse, take, drop, replicate, nat_eq, refl, sym, ap, subst, ◌∙◌, append_assoc, take-append-drop, length-take, arith, ◌⊎◌}
 use Rattle.std.proofs.lemmas.Bool.Decides.{nat_tests}
-use Rattle.euler_operators.specs.Common.{Model, first_refusal, never}
-use Rattle.euler_operators.specs.declared.Why.{Why}
-use Rattle.euler_operators.specs.declared.Why.TheVariants.{NothingToUndo, NothingToRedo}
-use Rattle.undo_journal.specs.Machine.{Machine, held, depth, ahead, accepted, back_to, undo, undo_refusal, redo, redo_refusal}
-use Rattle.undo_journal.specs.Journal.{Journal, after_undo, after_redo, IsRecorded}
-use Rattle.undo_journal.specs.declared.record.Record.{Record}
-use Rattle.commands.specs.declared.command.Command.{Command}
-use Rattle.commands.specs.declared.command.Command.TheVariants as command
-use Rattle.commands.specs.declared.command.Call.{Call}
-use Rattle.commands.specs.declared.command.Call.TheVariants as call
-use Rattle.commands.specs.declared.command.Told.{Told}
-use Rattle.commands.specs.declared.command.Told.TheVariants.{Done}
-use Rattle.commands.specs.declared.stage.Stage.{Stage}
-use Rattle.commands.specs.declared.stage.Stage.TheVariants.{Session, Drafting}
-use Rattle.commands.specs.Changes.{made}
-use Rattle.commands.specs.Telling.{Tells, TellsSession}
+use Rattle.std.proofs.Math.Seq.{take-append-add}
+use Rattle.call_lists.specs.Common.{Abandon, Ask, Back, Call, Change, Command, Commit, Done, Drafting, Give, IsRecorded, Journal, Machine, Mark, Model, NothingToRedo, NothingToUndo, Open, Record, Redo, Session, Stage, Tells, TellsSession, Told, Undo, Why, accepted, after_redo, after_undo, ahead, back_to, depth, first_refusal, held, made, never, redo, redo_refusal, undo, undo_refusal}
+use Rattle.undo_journal.proofs.Journals.{same_machine}
 use Rattle.commands.proofs.Settling.{goes}
 use Rattle.call_lists.specs.Making.{MakesAll}
 use Rattle.call_lists.specs.Laws.{Each, IsOnward, IsTakenBack, CommandsAreTakenBack}
@@ -38,23 +25,23 @@ same : (s : Journal) (h g : Stage) → h ≡ g → journal_of g ≡ s → AddsOn
 same s h g is x = inl (ap journal_of is ∙ x)
 
 done_adds : (g h : Stage) (c : Call) → IsOnward c → Tells g c Done h → AddsOne (journal_of g) (journal_of h)
-done_adds (Session s) h (call.Give (command.Change c)) on x = subst (λ (k : Stage). AddsOne s (journal_of k)) (sym x.1) (inr (made (held s.machine) c, x.2.1.0, x.2.1.1))
-done_adds (Session s) h (call.Give (command.Ask q)) on x = same s h (Session x.0) x.1 x.2.1
-done_adds (Session s) h (call.Give command.Undo) on x = absurd on
-done_adds (Session s) h (call.Give command.Redo) on x = absurd on
-done_adds (Session s) h call.Open on (inl x) = same s h _ x.1 refl
-done_adds (Session s) h call.Open on (inr x) = same s h _ x.1 refl
-done_adds (Session s) h call.Mark on x = same s h _ x.1 refl
-done_adds (Session s) h (call.Back n) on x = same s h _ x.1 refl
-done_adds (Session s) h call.Commit on x = same s h _ x.1 refl
-done_adds (Session s) h call.Abandon on x = same s h _ x.1 refl
-done_adds (Drafting d) h (call.Give c) on x = same d.draft.session h (Drafting x.0) x.1 (session_stays d.draft x.0.draft c Done x.2)
-done_adds (Drafting d) h call.Open on x = same d.draft.session h _ x.1 refl
-done_adds (Drafting d) h call.Mark on x = same d.draft.session h _ x.3 refl
-done_adds (Drafting d) h (call.Back n) on x = same d.draft.session h _ x.1 refl
-done_adds (Drafting d) h call.Commit on x = subst (λ (k : Stage). AddsOne d.draft.session (journal_of k)) (sym x.1)
+done_adds (Session s) h (Give (Change c)) on x = subst (λ (k : Stage). AddsOne s (journal_of k)) (sym x.1) (inr (made (held s.machine) c, x.2.1.0, x.2.1.1))
+done_adds (Session s) h (Give (Ask q)) on x = same s h (Session x.0) x.1 x.2.1
+done_adds (Session s) h (Give Undo) on x = absurd on
+done_adds (Session s) h (Give Redo) on x = absurd on
+done_adds (Session s) h Open on (inl x) = same s h _ x.1 refl
+done_adds (Session s) h Open on (inr x) = same s h _ x.1 refl
+done_adds (Session s) h Mark on x = same s h _ x.1 refl
+done_adds (Session s) h (Back n) on x = same s h _ x.1 refl
+done_adds (Session s) h Commit on x = same s h _ x.1 refl
+done_adds (Session s) h Abandon on x = same s h _ x.1 refl
+done_adds (Drafting d) h (Give c) on x = same d.draft.session h (Drafting x.0) x.1 (session_stays d.draft x.0.draft c Done x.2)
+done_adds (Drafting d) h Open on x = same d.draft.session h _ x.1 refl
+done_adds (Drafting d) h Mark on x = same d.draft.session h _ x.3 refl
+done_adds (Drafting d) h (Back n) on x = same d.draft.session h _ x.1 refl
+done_adds (Drafting d) h Commit on x = subst (λ (k : Stage). AddsOne d.draft.session (journal_of k)) (sym x.1)
     (inr (d.draft.model, refl, record { command = record { forward = d.draft.forward; back = reverse d.draft.back }; appended = refl }))
-done_adds (Drafting d) h call.Abandon on x = same d.draft.session h _ x.1 refl
+done_adds (Drafting d) h Abandon on x = same d.draft.session h _ x.1 refl
 
 adds : (g h : Stage) (c : Call) (a : Told) → IsOnward c → Tells g c a h → AddsOne (journal_of g) (journal_of h)
 adds g h c a on x = elim (done_or_idle g h c a x) [
@@ -87,11 +74,6 @@ grown_depth s (suc n) t x =
 
 -- ---- their records stand behind those of the commands before
 
-taken : {X : Type 0} (xs ys : List X) (n : ℕ) → length xs ≤ n → (zs : List X) × (take n (xs ++ ys) ≡ xs ++ zs)
-taken [] ys n le = (take n ys, refl)
-taken (x ∷ xs) ys zero le = absurd (omega (arith, le))
-taken (x ∷ xs) ys (suc n) le = let rest = taken xs ys n (omega (arith, le)) in (rest.0, ap (λ zs. x ∷ zs) rest.1)
-
 abbrev Begins : Journal → Journal → Type 0
 Begins s t = (later : List Record) × (t.records ≡ take (depth s.machine) s.records ++ later)
 
@@ -102,8 +84,10 @@ begins s (suc n) t x =
     let before = begins s n x.0 x.2 in
     let deep = grown_depth s n x.0 x.2 in
     let short = length-take (depth s.machine) s.records in
-    let kept = taken front before.0 (depth x.0.machine) (omega (arith, deep, short)) in
-    (kept.0 ++ x.4.command ∷ [], x.4.appended ∙ ap (λ (rs : List Record). take (depth x.0.machine) rs ++ x.4.command ∷ []) before.1 ∙ ap (λ (rs : List Record). rs ++ x.4.command ∷ []) kept.1 ∙ append_assoc front kept.0 (x.4.command ∷ []))
+    let more = depth x.0.machine - length front in
+    let far : depth x.0.machine ≡ length front + more = omega (arith, deep, short) in
+    let kept = ap (λ (k : ℕ). take k (front ++ before.0)) far ∙ take-append-add front before.0 more in
+    (take more before.0 ++ x.4.command ∷ [], x.4.appended ∙ ap (λ (rs : List Record). take (depth x.0.machine) rs ++ x.4.command ∷ []) before.1 ∙ ap (λ (rs : List Record). rs ++ x.4.command ∷ []) kept ∙ append_assoc front (take more before.0) (x.4.command ∷ []))
 
 -- ---- several undos, and several redos
 
@@ -119,7 +103,7 @@ last_first (suc n) move s = last_first n move (move s)
 -- so many undos lead back to the models that were behind
 back_behind : (s : Journal) (n : ℕ) (t : Journal) (m : Machine) → Grows s n t → m.past ≡ t.machine.past → m.present ≡ t.machine.present
     → ((times n undo m).past ≡ s.machine.past) × ((times n undo m).present ≡ s.machine.present)
-back_behind s zero t m is past present = (past ∙ ap (λ (j : Journal). j.machine.past) is, present ∙ ap (λ (j : Journal). j.machine.present) is)
+back_behind s zero t m is past present = (past ∙ ap (λ (m : Machine). m.past) (same_machine is), present ∙ ap held (same_machine is))
 back_behind s (suc n) t m x past present =
     let behind : m.past ≡ x.0.machine.present ∷ x.0.machine.past = past ∙ ap (λ (k : Machine). k.past) x.3 in
     back_behind s n x.0 (undo m) x.2 (ap (λ (Ms : List Model). (back_to Ms m).past) behind) (ap (λ (Ms : List Model). (back_to Ms m).present) behind)
@@ -170,41 +154,41 @@ moved t m = record { machine = m; records = t.records }
 -- a command that is done as long as there is room for it, and moves the machine
 module _ (c : Command) (move : Machine → Machine) (room : Machine → ℕ) (less : (m : Machine) (n : ℕ) → suc n ≤ room m → n ≤ room (move m))
     (one : (t u : Journal) (a : Told) (n : ℕ) → suc n ≤ room t.machine → TellsSession t c a u → (a ≡ Done) × (u ≡ moved t (move t.machine))) where
-  all_done : (n : ℕ) (t : Journal) (answers : List Told) (g : Stage) → n ≤ room t.machine → MakesAll (Session t) (replicate n (call.Give c)) answers g
+  all_done : (n : ℕ) (t : Journal) (answers : List Told) (g : Stage) → n ≤ room t.machine → MakesAll (Session t) (replicate n (Give c)) answers g
       → (answers ≡ replicate n Done) × (g ≡ Session (moved t (times n move t.machine)))
   all_done zero t [] g le x = (refl, x)
   all_done zero t (a ∷ answers) g le x = absurd x
   all_done (suc n) t [] g le x = absurd x
   all_done (suc n) t (a ∷ answers) g le x =
       let first = one t x.1.0 a n le x.1.2 in
-      let rest = subst (λ (k : Stage). MakesAll k (replicate n (call.Give c)) answers g) (x.1.1 ∙ ap Session first.1) x.3 in
+      let rest = subst (λ (k : Stage). MakesAll k (replicate n (Give c)) answers g) (x.1.1 ∙ ap Session first.1) x.3 in
       let later = all_done n (moved t (move t.machine)) answers g (less t.machine n le) rest in (
         λ i. first.0 i ∷ later.0 i,
         later.1,
       )
 
-undos_done : (n : ℕ) (t : Journal) (answers : List Told) (g : Stage) → n ≤ depth t.machine → MakesAll (Session t) (replicate n (call.Give command.Undo)) answers g
+undos_done : (n : ℕ) (t : Journal) (answers : List Told) (g : Stage) → n ≤ depth t.machine → MakesAll (Session t) (replicate n (Give Undo)) answers g
     → (answers ≡ replicate n Done) × (g ≡ Session (moved t (times n undo t.machine)))
-undos_done = all_done command.Undo undo depth less_behind
+undos_done = all_done Undo undo depth less_behind
     (λ t u a n le x. goes (undo_refusal t.machine) (u ≡ t) (u ≡ after_undo t) a (undo_free t.machine.past t.machine.present t.machine.future n le) x)
 
-redos_done : (n : ℕ) (t : Journal) (answers : List Told) (g : Stage) → n ≤ ahead t.machine → MakesAll (Session t) (replicate n (call.Give command.Redo)) answers g
+redos_done : (n : ℕ) (t : Journal) (answers : List Told) (g : Stage) → n ≤ ahead t.machine → MakesAll (Session t) (replicate n (Give Redo)) answers g
     → (answers ≡ replicate n Done) × (g ≡ Session (moved t (times n redo t.machine)))
-redos_done = all_done command.Redo redo ahead less_ahead
+redos_done = all_done Redo redo ahead less_ahead
     (λ t u a n le x. goes (redo_refusal t.machine) (u ≡ t) (u ≡ after_redo t) a (redo_free t.machine.past t.machine.present t.machine.future n le) x)
 
 -- ---- the whole
 
-module _ (s t : Journal) (n : ℕ) (grown : Grows s n t) (answers : List Told) (g : Stage) (x : MakesAll (Session t) (replicate n (call.Give command.Undo)) answers g) where
+module _ (s t : Journal) (n : ℕ) (grown : Grows s n t) (answers : List Told) (g : Stage) (x : MakesAll (Session t) (replicate n (Give Undo)) answers g) where
   deep : n ≤ depth t.machine
   deep = let d = grown_depth s n t grown in omega (arith, d)
 
   abbrev back : Journal
   back = moved t (times n undo t.machine)
 
-  again : (others : List Told) (h : Stage) → MakesAll g (replicate n (call.Give command.Redo)) others h → (others ≡ replicate n Done) × (h ≡ Session t)
+  again : (others : List Told) (h : Stage) → MakesAll g (replicate n (Give Redo)) others h → (others ≡ replicate n Done) × (h ≡ Session t)
   again others h y =
-      let redos = redos_done n back others h (all_ahead n t.machine deep) (subst (λ (k : Stage). MakesAll k (replicate n (call.Give command.Redo)) others h) (undos_done n t answers g deep x).1 y) in (
+      let redos = redos_done n back others h (all_ahead n t.machine deep) (subst (λ (k : Stage). MakesAll k (replicate n (Give Redo)) others h) (undos_done n t answers g deep x).1 y) in (
         redos.0,
         redos.1 ∙ ap (λ (m : Machine). Session (moved t m)) (all_redone n t.machine deep),
       )

@@ -1,21 +1,7 @@
 -- The laws of lists of calls.
 use Rattle.std.specs.Prelude.{◌≡◌, ◌≢◌, ℕ, ◌+◌, ◌-◌, Bool, true, false, cond, List, [], ◌∷◌, ◌++◌, length, take, replicate}
-use Rattle.euler_operators.specs.Common.{Model, empty_model}
-use Rattle.undo_journal.specs.Machine.{Machine, held, depth, ahead}
-use Rattle.undo_journal.specs.Recorded.{model_at}
-use Rattle.undo_journal.specs.Journal.{Journal}
-use Rattle.undo_journal.specs.declared.record.Record.{Record}
+use Rattle.call_lists.specs.Common.{Abandon, Ask, Back, Call, Change, Command, Commit, Done, Drafting, Give, IsWhole, Journal, Machine, Mark, Memory, Model, Open, Record, Redo, Session, Stage, Tells, Told, Undo, after_calls, ahead, depth, empty_model, held, model_at, redos, shown, undos}
 use Rattle.undo_journal.specs.Histories as histories
-use Rattle.undo_journal.specs.Histories.{after_calls, undos, redos}
-use Rattle.commands.specs.declared.command.Command.{Command}
-use Rattle.commands.specs.declared.command.Command.TheVariants as command
-use Rattle.commands.specs.declared.command.Call.{Call}
-use Rattle.commands.specs.declared.command.Call.TheVariants as call
-use Rattle.commands.specs.declared.command.Told.{Told}
-use Rattle.commands.specs.declared.command.Told.TheVariants.{Done, Memory}
-use Rattle.commands.specs.declared.stage.Stage.{Stage}
-use Rattle.commands.specs.declared.stage.Stage.TheVariants.{Session, Drafting}
-use Rattle.commands.specs.Telling.{Tells, IsWhole, shown}
 use Rattle.call_lists.specs.Making.{MakesAll}
 
 -- the machine of a session; of a draft that of the session in which it was opened
@@ -67,19 +53,19 @@ place_of g = record { behind = depth (machine_of g); ahead = ahead (machine_of g
 
 -- in a session a command that is done is one more, and those ahead are gone; undo takes one back, which redo makes again
 abbrev pub after_command : Place → Command → Place
-after_command p (command.Change c) = record { behind = p.behind + 1; ahead = 0; drafting = false }
-after_command p (command.Ask q) = p
-after_command p command.Undo = record { behind = p.behind - 1; ahead = p.ahead + 1; drafting = false }
-after_command p command.Redo = record { behind = p.behind + 1; ahead = p.ahead - 1; drafting = false }
+after_command p (Change c) = record { behind = p.behind + 1; ahead = 0; drafting = false }
+after_command p (Ask q) = p
+after_command p Undo = record { behind = p.behind - 1; ahead = p.ahead + 1; drafting = false }
+after_command p Redo = record { behind = p.behind + 1; ahead = p.ahead - 1; drafting = false }
 
 -- a session opens a draft, which ends as one command, or leaves no trace
 abbrev pub after_done : Place → Call → Place
-after_done p (call.Give c) = cond p.drafting p (after_command p c)
-after_done p call.Open = record { behind = p.behind; ahead = p.ahead; drafting = true }
-after_done p call.Mark = p
-after_done p (call.Back n) = p
-after_done p call.Commit = record { behind = p.behind + 1; ahead = 0; drafting = false }
-after_done p call.Abandon = record { behind = p.behind; ahead = p.ahead; drafting = false }
+after_done p (Give c) = cond p.drafting p (after_command p c)
+after_done p Open = record { behind = p.behind; ahead = p.ahead; drafting = true }
+after_done p Mark = p
+after_done p (Back n) = p
+after_done p Commit = record { behind = p.behind + 1; ahead = 0; drafting = false }
+after_done p Abandon = record { behind = p.behind; ahead = p.ahead; drafting = false }
 
 abbrev pub is_done : Told → Bool
 is_done Done = true
@@ -115,8 +101,8 @@ Each P (x ∷ xs) = P x × Each P xs
 
 -- a call that is neither undo nor redo
 abbrev pub IsOnward : Call → Type 0
-IsOnward (call.Give command.Undo) = ⊥
-IsOnward (call.Give command.Redo) = ⊥
+IsOnward (Give Undo) = ⊥
+IsOnward (Give Redo) = ⊥
 IsOnward c = Unit {0}
 
 -- n undos from t, told so, are all done: they lead back to the model of s, with the models behind it and the records of its commands as they
@@ -129,12 +115,12 @@ pub record IsTakenBack (s t : Journal) (n : ℕ) (answers : List Told) (g : Stag
   pub behind : back.machine.past ≡ s.machine.past
   pub later : List Record
   pub records : back.records ≡ take (depth s.machine) s.records ++ later
-  pub redone : (others : List Told) (h : Stage) → MakesAll g (replicate n (call.Give command.Redo)) others h → (others ≡ replicate n Done) × (h ≡ Session t)
+  pub redone : (others : List Told) (h : Stage) → MakesAll g (replicate n (Give Redo)) others h → (others ≡ replicate n Done) × (h ≡ Session t)
 
 -- a list without undo and redo from s to t, after which n commands more can be undone, is taken back by n undos
 abbrev pub CommandsAreTakenBack : Type 0
 CommandsAreTakenBack = (s t : Journal) (calls : List Call) (answers : List Told) (n : ℕ) → Each IsOnward calls → MakesAll (Session s) calls answers (Session t) → depth t.machine ≡ depth s.machine + n
-    → (others : List Told) (g : Stage) → MakesAll (Session t) (replicate n (call.Give command.Undo)) others g → IsTakenBack s t n others g
+    → (others : List Told) (g : Stage) → MakesAll (Session t) (replicate n (Give Undo)) others g → IsTakenBack s t n others g
 
 -- a call that isn't told `Done` leaves the session or draft as it was, its records and steps too
 abbrev pub OnlyDoneChanges : Type 0
@@ -165,8 +151,8 @@ MemoryCanBeLeftOut = (g h : Stage) (calls : List Call) (answers : List Told) →
 
 -- no call has to do with a mark: how many steps a larger command takes is left open
 abbrev pub IsUnmarked : Call → Type 0
-IsUnmarked call.Mark = ⊥
-IsUnmarked (call.Back n) = ⊥
+IsUnmarked Mark = ⊥
+IsUnmarked (Back n) = ⊥
 IsUnmarked c = Unit {0}
 
 -- what a stage is but for its records and steps

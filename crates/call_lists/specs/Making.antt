@@ -1,9 +1,6 @@
 -- What calls may be told, one after the other, and the session or draft to which they lead.
 use Rattle.std.specs.Prelude.{◌≡◌, List, [], ◌∷◌, ◌++◌}
-use Rattle.commands.specs.declared.command.Call.{Call}
-use Rattle.commands.specs.declared.command.Told.{Told}
-use Rattle.commands.specs.declared.stage.Stage.{Stage}
-use Rattle.commands.specs.Telling.{Tells, IsWhole}
+use Rattle.call_lists.specs.Common.{Call, IsWhole, Stage, Tells, Told}
 
 -- a list of calls, each from the stage to which those before it lead, with one answer each; every stage on the way is whole
 abbrev pub MakesAll : Stage → List Call → List Told → Stage → Type 0

@@ -1,6 +1,6 @@
 //! A whole list of calls.
 ghost use Rattle.std.specs.Prelude.{◌≡◌, OnOk, OnErr};
-ghost use Rattle.commands.specs.Telling.{IsWhole};
+ghost use Rattle.call_lists.specs.Common.{IsWhole};
 ghost use Rattle.call_lists.specs.Making.{AreTold};
 
 use commands::{Call, Stage, Told, make};

@@ -1,7 +1,6 @@
 -- A splice exchanges what follows two items: what that makes of the rings in which they stand.
 use Rattle.std.specs.Prelude.{◌≡◌, ◌≢◌, ℕ, List, ◌++◌}
-use Rattle.script_running.specs.laws_below.Items.{count, IsIn, IsApart}
-use Rattle.script_running.specs.laws_below.Rings.{IsRing, splice, cut_left, cut_right, joined}
+use Rattle.script_running.specs.laws_below.{IsApart, IsIn, IsRing, count, cut_left, cut_right, joined, splice}
 
 -- one ring in which both stand is cut in two
 abbrev pub SplicesCut : Type 0

@@ -15,38 +15,17 @@
 //!
 //! # What is proved
 //!
-//! Nothing of its own: each function calls the laws of the crates below, or makes a call, and has what they say as its contract.
-//! A list of calls is answered as the plain machine may answer it, and taken back (`every_list_of_calls_is_answered`,
-//! `lists_of_calls_are_taken_back`), and in one way where no memory is refused (`lists_of_calls_have_one_answer`); so are a call,
-//! an operator, undo, redo and a step of a draft, of which what isn't accepted changes nothing (`every_call_is_answered`,
-//! `every_operator_is_answered`, `every_undo_is_answered`, `every_redo_is_answered`, `every_step_is_answered`); a session begins
-//! with the empty model, and is consistent whoever gave it (`sessions_begin_empty`, `every_session_is_consistent`); a draft holds
-//! the session's model, and becomes one command or leaves no trace (`every_draft_is_opened`, `drafts_become_one_command`,
-//! `drafts_leave_no_trace`); records lead forth and back, and volumes are exact (`records_lead_forth_and_back`,
-//! `volumes_are_answered`). An operator keeps a sound model sound, and its inverse takes it back (`operators_keep_models_sound`,
-//! `inverses_take_operators_back`, `inverses_take_runs_back`); a splice cuts a ring or joins two (`splices_cut_and_join`,
-//! `codes_of_pools_have_one_ring`); a session is copies and a place, undo goes back and redo forth, and every history is consistent
-//! (`sessions_are_copies_and_a_place`, `undo_goes_back_and_redo_forth`, `every_history_is_consistent`,
-//! `larger_commands_are_one_call`); laminas, blocks and sweeps are made as written down, and measure what is said of them
-//! (`laminas_are_made`, `blocks_are_made`, `sweeps_are_made`, `new_solids_measure`, `sweeps_add_their_prism`); so are glues,
-//! whose volumes add (`glues_are_made`, `glued_solids_add_their_volumes`), and splits, whose parts share the volume and lie on
-//! their sides of the plane (`splits_are_made`, `parts_share_the_volume`, `parts_lie_on_their_sides`); glues and splits are calls
-//! of a history too, and what a session holds after one is said in words of the machine (`glued_solids_are_held`,
-//! `split_solids_are_held`); listings tell models (`listings_tell_models`), and a script has one output
-//! (`scripts_have_one_output`), each of whose lines is told as its call (`every_line_is_told_as_its_call`). `every_line_is_answered` runs a script with the contract of `run`; `every_script_is_answered` does
-//! so in words of bytes alone, as do the laws of answers behind it (`broken_scripts_are_answered`, `answers_are_told_of_bytes`,
-//! `volumes_are_told_of_bytes`, `replies_are_told_apart`). What else single calls answer is said by their own crates, which the head of the file names.
+//! Nothing of its own: each function calls the laws of the crates below, or makes a call, and has what they say as its contract. They stand
+//! in this order: lists of calls, one call of each kind, records and volumes (`every_list_of_calls_is_answered` and those after it);
+//! conditions, operators and their inverses (from `refusals_name_the_first_false`); splices of rings (from `splices_cut_and_join`); the plain
+//! machine and its histories (from `sessions_are_copies_and_a_place`); what larger commands make and measure, and what a session holds after
+//! them (from `laminas_are_made`); listings, lines and scripts (from `listings_tell_models`); and scripts in words of bytes alone (from
+//! `every_script_is_answered`).
 
 ghost use Rattle.std.specs.Prelude.{◌≡◌, ◌↔◌, ◌+◌, ◌<◌, OnOk, OnErr, IfOk, IfErr, None, Some, Err, slice_index_or};
-ghost use Rattle.call_lists.specs.Conditions.{first_false, verdict};
-ghost use Rattle.call_lists.specs.Histories.{IsConsistent};
-ghost use Rattle.call_lists.specs.Journal.{new_journal, after_act, after_undo, after_redo, new_draft, after_step, after_commit};
+ghost use Rattle.call_lists.specs.Common.{IsConsistent, IsWhole, Tells, act_refusal, after_act, after_commit, after_redo, after_step, after_undo, ahead, answer, depth, first_false, held, model_at, new_draft, new_journal, redo_refusal, six_volume, solid_refusal, undo_refusal, verdict};
 ghost use Rattle.call_lists.specs.Laws.{ListsAreHistories, ListsKeepWhole, EachIsWhole, PlacesAreCounted, UndosLeadToTheFirst, RedosLeadToTheLast, CommandsAreTakenBack, ListsHaveOneAnswer, OnlyDoneChanges, IdleListsStay, MemoryCanBeLeftOut};
 ghost use Rattle.call_lists.specs.Making.{AreTold};
-ghost use Rattle.call_lists.specs.Measure.{answer, six_volume, solid_refusal};
-ghost use Rattle.call_lists.specs.PlainMachine.{held, depth, ahead, act_refusal, undo_refusal, redo_refusal};
-ghost use Rattle.call_lists.specs.Recorded.{model_at};
-ghost use Rattle.call_lists.specs.Telling.{Tells, IsWhole};
 ghost use Rattle.pool_rings.specs.Laws.{EachCodeHasItsRing, RingsAreRotations, CodesShareOrHaveTwo, SplicedPoolsCut, SplicedPoolsJoin, SplicedPoolsKeepOthers, SplicedPoolsStay, PoolsLeadBack};
 ghost use Rattle.promises.specs.Splices.{SplicesCut, SplicesJoin, SplicesKeepOthers};
 ghost use Rattle.script_laws.specs.Laws.{RunsTell, BrokenRunsTell, FailedRunsTell, AnsweredSo, AnswersStay, OthersCanBeLeftOut, UndoAndRedoCanBeLeftOut, UndoneLinesCanBeLeftOut, UndosLeadBack, SomeUndosLeadBack, EqualListingsGoOnAlike, BlocksMeasure, PartsShareVolumes, RepliesTell, RefusalsTell, FaultsTell};
@@ -54,22 +33,7 @@ ghost use Rattle.script_laws.specs.Scripts.{Answered};
 ghost use Rattle.script_running.specs.Histories.{LinesAreCalls, LinesLeadOn, HistoriesMakeConsistent, RunsTellHistories};
 ghost use Rattle.script_running.specs.Laws.{LinesAreTold, OneOutput, HasNoMemory};
 ghost use Rattle.script_running.specs.Runs.{Runs};
-ghost use Rattle.script_running.specs.laws_below.BlockLaws.{BlocksAreAccepted, OperatorsMakeBlocks, BlocksAreSound};
-ghost use Rattle.script_running.specs.laws_below.GlueCalls.{GluesAreCalls};
-ghost use Rattle.script_running.specs.laws_below.GlueLaws.{GluesAreAccepted, GluesMakeGlued, GluedAreSound};
-ghost use Rattle.script_running.specs.laws_below.GlueMeasures.{GluedSolid, OthersThanGlued};
-ghost use Rattle.script_running.specs.laws_below.GlueVolumes.{GlueAdds, OthersStay};
-ghost use Rattle.script_running.specs.laws_below.JournalLaws.{HeldIsAtThePlace, AcceptedIsAppended, UndoMovesThePlace, RedoMovesThePlace, UndoGivesTheModelBefore, LargerCommandsAreCalls, HistoriesAreConsistent};
-ghost use Rattle.script_running.specs.laws_below.LaminaLaws.{OperatorsAreAccepted, OperatorsMakeLamina, LaminaIsSound};
-ghost use Rattle.script_running.specs.laws_below.OperatorLaws.{effects, AreAccepted, NothingIsRefusedWhereAllHold, RefusalsNameTheFirstFalse, EmptyIsSound, EffectsAreSound, EulerNumberGrows, InversesAreAccepted, InversesUndo, RunsAreSound, InversesOfRunsAreAccepted, InversesOfRunsUndo};
-ghost use Rattle.script_running.specs.laws_below.PartLaws.{PartsAreSolids, SplitsShareVolumes, SplitsKeepOthers, VerticesLieOnEitherSide};
-ghost use Rattle.script_running.specs.laws_below.SplitCalls.{SplitsAreCalls};
-ghost use Rattle.script_running.specs.laws_below.SplitModels.{SplitsAreHeld, HeldAreSound, PartsAreHeld, HeldShareVolumes, HeldKeepOthers, HeldLieOnEitherSide};
-ghost use Rattle.script_running.specs.laws_below.SplitLaws.{SplitsAreAccepted, SplitsMakeSplit, SplitAreSound};
-ghost use Rattle.script_running.specs.laws_below.SweepCalls.{LaminasAreCalls, BlocksAreCalls, SweepsAreCalls};
-ghost use Rattle.script_running.specs.laws_below.SweepLaws.{SweepsAreAccepted, SweepsMakePrisms, PrismsAreSound};
-ghost use Rattle.script_running.specs.laws_below.SweepMeasures.{SweptSolid, OthersThanSwept, NewBlock, OthersThanBlock, NewLamina, NewFlatLamina, OthersThanLamina};
-ghost use Rattle.script_running.specs.laws_below.Telling.{ListingTells};
+ghost use Rattle.script_running.specs.laws_below.{AcceptedIsAppended, AreAccepted, BlocksAreAccepted, BlocksAreCalls, BlocksAreSound, EffectsAreSound, EmptyIsSound, EulerNumberGrows, GlueAdds, GluedAreSound, GluedSolid, GluesAreAccepted, GluesAreCalls, GluesMakeGlued, HeldAreSound, HeldIsAtThePlace, HeldKeepOthers, HeldLieOnEitherSide, HeldShareVolumes, HistoriesAreConsistent, InversesAreAccepted, InversesOfRunsAreAccepted, InversesOfRunsUndo, InversesUndo, LaminaIsSound, LaminasAreCalls, LargerCommandsAreCalls, ListingTells, NewBlock, NewFlatLamina, NewLamina, NothingIsRefusedWhereAllHold, OperatorsAreAccepted, OperatorsMakeBlocks, OperatorsMakeLamina, OthersStay, OthersThanBlock, OthersThanGlued, OthersThanLamina, OthersThanSwept, PartsAreHeld, PartsAreSolids, PrismsAreSound, RedoMovesThePlace, RefusalsNameTheFirstFalse, RunsAreSound, SplitAreSound, SplitsAreAccepted, SplitsAreCalls, SplitsAreHeld, SplitsKeepOthers, SplitsMakeSplit, SplitsShareVolumes, SweepsAreAccepted, SweepsAreCalls, SweepsMakePrisms, SweptSolid, UndoGivesTheModelBefore, UndoMovesThePlace, VerticesLieOnEitherSide, effects};
 
 use call_lists::{
     Call, Draft, Failure, Op, Record, Refusal, Session, Stage, Told, commands_are_taken_back,

@@ -1,13 +1,11 @@
 -- The counts of a run.
-use Rattle.std.proofs.Common.{◌≡◌, ◌⊎◌, inl, inr, ◌+◌, ◌≤◌, ℕ, Bool, true, false, refl, sym, ap, ◌∙◌, arith, ◌==◌, ◌&&◌, not}
-use Rattle.std.proofs.lemmas.Bool.{and_left, and_right, false≢true}
+use Rattle.std.proofs.Common.{◌≡◌, ◌+◌, ◌≤◌, ℕ, Bool, true, false, refl, ap, arith, ◌==◌, ◌&&◌}
+use Rattle.std.proofs.lemmas.Bool.{and_from, and_parts, both_ways, false_from_ne_true, false≢true, not-false, not-true, not_from_false, not_from_true}
 use Rattle.std.proofs.lemmas.Bool.Decides.{nat_tests}
 use Rattle.solid_listing.specs.declared.reply.Reply.TheVariants as reply
-use Rattle.script_running.specs.script_judging.Judging.{complains, no_lines, one_line, counted}
+use Rattle.script_running.specs.script_judging.Judging.{no_lines, one_line, counted}
 use Rattle.script_running.specs.Outs.{is_clean, stops, was_stopped}
-use Rattle.script_running.specs.declared.script_judging.judging.Answer.{Answer}
-use Rattle.script_running.specs.declared.script_judging.judging.Answer.TheVariants.{Silent, Reply as Told, Listing}
-use Rattle.script_running.specs.declared.script_judging.judging.Summary.{Summary}
+use Rattle.script_running.specs.Common.{Answer, Listing, Says, Silent, Summary}
 
 -- no reply is counted twice, nor without its line
 pub record IsWithin (n : Summary) : Type 0 where
@@ -27,90 +25,52 @@ counted_none a = same_counts (counted a no_lines) a (omega arith) (omega arith) 
 pub none_counted : (a : Summary) → counted no_lines a ≡ a
 none_counted a = same_counts (counted no_lines a) a (omega arith) (omega arith) (omega arith) (omega arith)
 
-pub one_within : (a : Answer) → IsWithin (one_line a)
-one_within Silent = record { refused = omega arith; faults = omega arith; memory = omega arith }
-one_within (Told reply.Done) = record { refused = omega arith; faults = omega arith; memory = omega arith }
-one_within (Told (reply.Refused n x)) = record { refused = omega arith; faults = omega arith; memory = omega arith }
-one_within (Told (reply.Fault n)) = record { refused = omega arith; faults = omega arith; memory = omega arith }
-one_within (Told reply.Memory) = record { refused = omega arith; faults = omega arith; memory = omega arith }
-one_within (Told (reply.Plane p flat)) = record { refused = omega arith; faults = omega arith; memory = omega arith }
-one_within (Told (reply.Volume n)) = record { refused = omega arith; faults = omega arith; memory = omega arith }
-one_within (Told (reply.Count ns)) = record { refused = omega arith; faults = omega arith; memory = omega arith }
-one_within Listing = record { refused = omega arith; faults = omega arith; memory = omega arith }
+-- a line is counted once, and its answer in one kind at most
+one_counted : (a : Answer) → ((one_line a).lines ≡ 1) × ((one_line a).refused ≤ 1) × ((one_line a).faults ≤ 1) × ((one_line a).memory ≤ 1)
+one_counted Silent = (refl, omega arith, omega arith, omega arith)
+one_counted (Says reply.Done) = (refl, omega arith, omega arith, omega arith)
+one_counted (Says (reply.Refused n x)) = (refl, omega arith, omega arith, omega arith)
+one_counted (Says (reply.Fault n)) = (refl, omega arith, omega arith, omega arith)
+one_counted (Says reply.Memory) = (refl, omega arith, omega arith, omega arith)
+one_counted (Says (reply.Plane p flat)) = (refl, omega arith, omega arith, omega arith)
+one_counted (Says (reply.Volume n)) = (refl, omega arith, omega arith, omega arith)
+one_counted (Says (reply.Count ns)) = (refl, omega arith, omega arith, omega arith)
+one_counted Listing = (refl, omega arith, omega arith, omega arith)
 
 pub one_more : (a : Answer) → (one_line a).lines ≡ 1
-one_more Silent = refl
-one_more (Told reply.Done) = refl
-one_more (Told (reply.Refused n x)) = refl
-one_more (Told (reply.Fault n)) = refl
-one_more (Told reply.Memory) = refl
-one_more (Told (reply.Plane p flat)) = refl
-one_more (Told (reply.Volume n)) = refl
-one_more (Told (reply.Count ns)) = refl
-one_more Listing = refl
+one_more a = (one_counted a).0
 
 pub counted_within : (n : Summary) (a : Answer) → IsWithin n → IsWithin (counted n (one_line a))
-counted_within n a h = let o = one_within a in record {
-  refused = omega (arith, h.refused, o.refused);
-  faults = omega (arith, h.faults, o.faults);
-  memory = omega (arith, h.memory, o.memory);
+counted_within n a h = let o = one_counted a in record {
+  refused = omega (arith, h.refused, o.0, o.1);
+  faults = omega (arith, h.faults, o.0, o.2);
+  memory = omega (arith, h.memory, o.0, o.3);
 }
 
--- a number that was raised by one
-one_up : (n : ℕ) → (n + 1 == 0) ≡ false
-one_up n = grind (arith, nat_tests)
+is_zero : (n : ℕ) → (n == 0) ≡ true → n ≡ 0
+is_zero n e = grind (arith, nat_tests)
 
-not_clean : (r f m : Bool) → (r ≡ false) ⊎ (f ≡ false) ⊎ (m ≡ false) → (r && f && m) ≡ false
-not_clean r f m (inl e) = and_left (r && f) m (and_left r f e)
-not_clean r f m (inr (inl e)) = and_left (r && f) m (and_right r f e)
-not_clean r f m (inr (inr e)) = and_right (r && f) m e
+-- the counts are clean where none is raised
+none_raised : (n : Summary) → is_clean n ≡ true → n.refused + n.faults + n.memory ≡ 0
+none_raised n c =
+    let (two, m) = and_parts (n.refused == 0 && n.faults == 0) (n.memory == 0) c in
+    let (r, f) = and_parts (n.refused == 0) (n.faults == 0) two in
+    omega (arith, is_zero n.refused r, is_zero n.faults f, is_zero n.memory m)
 
--- an answer that complains leaves the counts no longer clean
-pub complaint_counted : (n : Summary) (a : Answer) → complains a ≡ true → is_clean (counted n (one_line a)) ≡ false
-complaint_counted n Silent e = absurd (false≢true e)
-complaint_counted n (Told reply.Done) e = absurd (false≢true e)
-complaint_counted n (Told (reply.Refused w x)) e = not_clean (n.refused + 1 == 0) (n.faults + 0 == 0) (n.memory + 0 == 0) (inl (one_up n.refused))
-complaint_counted n (Told (reply.Fault w)) e = not_clean (n.refused + 0 == 0) (n.faults + 1 == 0) (n.memory + 0 == 0) (inr (inl (one_up n.faults)))
-complaint_counted n (Told reply.Memory) e = not_clean (n.refused + 0 == 0) (n.faults + 0 == 0) (n.memory + 1 == 0) (inr (inr (one_up n.memory)))
-complaint_counted n (Told (reply.Plane p flat)) e = absurd (false≢true e)
-complaint_counted n (Told (reply.Volume w)) e = absurd (false≢true e)
-complaint_counted n (Told (reply.Count ns)) e = absurd (false≢true e)
-complaint_counted n Listing e = absurd (false≢true e)
+clean_at : (n : Summary) → n.refused + n.faults + n.memory ≡ 0 → is_clean n ≡ true
+clean_at n e =
+    let zero : (k : ℕ) → k ≤ n.refused + n.faults + n.memory → (k == 0) ≡ true = λ k le. let none : k ≡ 0 = omega (arith, e, le) in ap (λ (i : ℕ). i == 0) none in
+    and_from _ _ (and_from _ _ (zero n.refused (omega arith)) (zero n.faults (omega arith))) (zero n.memory (omega arith))
 
 -- the answer that stops a run is counted
 pub stop_counted : (stop : Bool) (n : Summary) (a : Answer) → stops stop a ≡ true → was_stopped stop (counted n (one_line a)) ≡ true
-stop_counted true n a e = ap not (complaint_counted n a e)
+stop_counted true n a e = not_from_false _ (false_from_ne_true _ (λ c. let none = none_raised (counted n (one_line a)) c in both_ways _ (not-true _ e) (clean_at (one_line a) (omega (arith, none)))))
 stop_counted false n a e = absurd (false≢true e)
 
-unraised : (n m : ℕ) (b : Bool) → m ≡ 0 → (n == 0) ≡ b → (n + m == 0) ≡ b
-unraised n m b e h = ap (λ (k : ℕ). k == 0) (omega (arith, e)) ∙ h
-
-unraised_all : (r f m x y z : Bool) → x ≡ r → y ≡ f → z ≡ m → (r && f && m) ≡ true → (x && y && z) ≡ true
-unraised_all r f m x y z e g h c = rw (e, g, h) c
-
-still_clean : (n k : Summary) → is_clean n ≡ true → k.refused ≡ 0 → k.faults ≡ 0 → k.memory ≡ 0 → is_clean (counted n k) ≡ true
-still_clean n k c r f m =
-    unraised_all (n.refused == 0) (n.faults == 0) (n.memory == 0) (n.refused + k.refused == 0) (n.faults + k.faults == 0) (n.memory + k.memory == 0)
-    (unraised n.refused k.refused _ r refl) (unraised n.faults k.faults _ f refl) (unraised n.memory k.memory _ m refl) c
-
-is_true_from : (b : Bool) → not b ≡ false → b ≡ true
-is_true_from true e = refl
-is_true_from false e = absurd (false≢true (sym e))
-
 -- an answer that doesn't stop a run leaves it unstopped
-clean_counted : (n : Summary) (a : Answer) → complains a ≡ false → is_clean n ≡ true → is_clean (counted n (one_line a)) ≡ true
-clean_counted n Silent e c = still_clean n (one_line Silent) c refl refl refl
-clean_counted n (Told reply.Done) e c = still_clean n (one_line (Told reply.Done)) c refl refl refl
-clean_counted n (Told (reply.Refused w x)) e c = absurd (false≢true (sym e))
-clean_counted n (Told (reply.Fault w)) e c = absurd (false≢true (sym e))
-clean_counted n (Told reply.Memory) e c = absurd (false≢true (sym e))
-clean_counted n (Told (reply.Plane p flat)) e c = still_clean n (one_line (Told (reply.Plane p flat))) c refl refl refl
-clean_counted n (Told (reply.Volume w)) e c = still_clean n (one_line (Told (reply.Volume w))) c refl refl refl
-clean_counted n (Told (reply.Count ns)) e c = still_clean n (one_line (Told (reply.Count ns))) c refl refl refl
-clean_counted n Listing e c = still_clean n (one_line Listing) c refl refl refl
-
 pub calm_counted : (stop : Bool) (n : Summary) (a : Answer) → was_stopped stop n ≡ false → stops stop a ≡ false → was_stopped stop (counted n (one_line a)) ≡ false
-calm_counted true n a u calm = ap not (clean_counted n a calm (is_true_from (is_clean n) u))
+calm_counted true n a u calm =
+    let before = none_raised n (not-false _ u) in let one = none_raised (one_line a) (not-false _ calm) in not_from_true _ (clean_at (counted n (one_line a)) (omega (arith, before, one)))
 calm_counted false n a u calm = refl
 
 pub none_calm : (stop : Bool) → was_stopped stop no_lines ≡ false

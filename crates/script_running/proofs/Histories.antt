@@ -1,94 +1,39 @@
 -- A line is a call of a history, and a run tells one.
-use Rattle.std.proofs.Common.{◌≡◌, inl, inr, ℕ, suc, Bool, List, [], ◌∷◌, ◌++◌, length, Option, None, Ok, Err, refl, sym, ap, subst, ◌∙◌, arith, Result, IfOk, append-nil}
-use Rattle.euler_operators.specs.Common.{Sound}
-use Rattle.euler_operators.specs.declared.Refusal.{Refusal}
-use Rattle.undo_journal.specs.Machine.{Machine, start, held, accepted, act}
-use Rattle.undo_journal.specs.Journal.{Journal, new_journal}
-use Rattle.undo_journal.specs.Histories as histories
-use Rattle.undo_journal.specs.Histories.{Call, unless, after_call, after_calls, IsConsistent}
+use Rattle.std.proofs.Common.{◌≡◌, inl, inr, ℕ, suc, Bool, List, [], ◌∷◌, ◌++◌, length, Option, Ok, Err, refl, sym, ap, subst, ◌∙◌, arith, Result, IfOk, append-nil}
+use Rattle.script_running.specs.Common.{Answer, Call, Change, Fault, IsCall, IsConsistent, Journal, Lamina, Machine, Request, RunFault, Sound, Summary, after_call, after_calls, command_of, held, lines_of, new_journal, start, within_limit}
 use Rattle.undo_journal.specs.Laws.{HistoriesAreConsistent}
 use Rattle.undo_journal.proofs.Journals.{same_machine}
-use Rattle.sweeps.specs.Calls.{LaminasAreCalls, BlocksAreCalls, SweepsAreCalls}
-use Rattle.gluing.specs.Calls.{GluesAreCalls}
-use Rattle.plane_split.specs.Machine.{plane_with}
-use Rattle.plane_split.specs.Calls.{SplitsAreCalls}
-use Rattle.commands.specs.declared.command.Change.{Change}
-use Rattle.commands.specs.declared.command.Change.TheVariants as change
-use Rattle.commands.specs.declared.command.Command.{Command}
-use Rattle.commands.specs.declared.command.Command.TheVariants as command
-use Rattle.commands.specs.declared.command.Told.{Told}
-use Rattle.commands.specs.Changes.{refusal_of, made}
-use Rattle.commands.specs.Telling.{Settled, TellsSession}
-use Rattle.commands.proofs.Settling.{ended}
-use Rattle.script_reader.specs.declared.command.Request.{Request}
+use Rattle.commands.proofs.Calls.{LargerAreCalls, stopped, command_is_call}
 use Rattle.script_reader.specs.declared.command.Request.TheVariants as request
-use Rattle.script_reader.specs.declared.command.Fault.{Fault}
-use Rattle.script_reader.specs.Grammar.{command_of}
-use Rattle.script_reader.specs.Lines.{lines_of, within_limit}
 use Rattle.script_running.specs.script_judging.Judging.{Obeys, Answers, Judges, answer_text}
 use Rattle.script_running.specs.Outs.{Outs}
 use Rattle.script_running.specs.Runs.{BreaksOff, Served, WriteFails}
 use Rattle.script_running.specs.Runs as runs
-use Rattle.script_running.specs.Histories.{IsCall, HasHistory, LinesAreCalls, LinesLeadOn, HistoriesMakeConsistent, Turn, IsTurn, TakeTurns, texts, TellsHistory, RunsTellHistories}
-use Rattle.script_running.specs.declared.script_judging.judging.Answer.{Answer}
-use Rattle.script_running.specs.declared.script_judging.judging.Summary.{Summary}
-use Rattle.script_running.specs.declared.running.RunFault.{RunFault}
+use Rattle.script_running.specs.Histories.{HasHistory, LinesAreCalls, LinesLeadOn, HistoriesMakeConsistent, Turn, IsTurn, TakeTurns, texts, TellsHistory, RunsTellHistories}
 use Rattle.script_running.specs.declared.running.RunFault.TheVariants as fault
 use Rattle.script_running.proofs.Counting.{one_more}
 
--- the larger commands are calls, and every history is consistent
-pub record LawsBelow : Type 0 where
-  pub lamina : LaminasAreCalls
-  pub block : BlocksAreCalls
-  pub sweep : SweepsAreCalls
-  pub glue : GluesAreCalls
-  pub split : SplitsAreCalls
-  pub consistent : HistoriesAreConsistent
+-- what a line asks for is one call
+obeys : LargerAreCalls → (s t : Journal) (r : Request) (a : Answer) → Sound (held s.machine) → Obeys s r a t → IsCall s.machine t.machine
+obeys l s t request.Nothing a k h = stopped s.machine t.machine (same_machine h.1)
+obeys l s t request.List a k h = stopped s.machine t.machine (same_machine h.1)
+obeys l s t (request.Lamina n ps) a k h = command_is_call l s t (Change (Lamina n ps)) h.0 k h.2
+obeys l s t (request.Give c) a k h = command_is_call l s t c h.0 k h.2
 
-stays : (s t : Journal) → t ≡ s → IsCall s.machine t.machine
-stays s t e = record { call = histories.stopped; leads = sym (same_machine e) }
-
-settles : (o : Option Refusal) (L G : Type 0) (s t : Journal) (b : Told) → (o ≡ None → G → IsCall s.machine t.machine) → Settled o L (t ≡ s) G b → IsCall s.machine t.machine
-settles o L G s t b goes h = elim (ended o L (t ≡ s) G b h) [
-  | inl done ↦ goes done.1 done.2
-  | inr (inl refused) ↦ stays s t refused.3
-  | inr (inr memory) ↦ stays s t memory.1
-]
-
-changes : LawsBelow → (s : Machine) (c : Change) → Sound (held s) → refusal_of (held s) c ≡ None → IsCall s (accepted s (made (held s) c))
-changes l s (change.Act op) k goes = record { call = histories.acted op; leads = ap (λ (o : Option Refusal). unless o (act s op) s) goes }
-changes l s (change.Lamina n ps) k goes = record { call = histories.made _; leads = l.lamina s n ps k goes }
-changes l s (change.Block n p dx dy dz) k goes = record { call = histories.made _; leads = l.block s n p dx dy dz k goes }
-changes l s (change.Sweep f d) k goes = record { call = histories.made _; leads = l.sweep s f d k goes }
-changes l s (change.Glue f g) k goes = record { call = histories.made _; leads = l.glue s f g k goes }
-changes l s (change.Split n x y z w m) k goes = record { call = histories.made _; leads = l.split s n (plane_with x y z w) m k goes }
-
-tells : LawsBelow → (s t : Journal) (c : Command) (b : Told) → Sound (held s.machine) → TellsSession s c b t → IsCall s.machine t.machine
-tells l s t (command.Change c) b k h = settles _ _ _ s t b (λ none goes. subst (IsCall s.machine) (sym goes.0) (changes l s.machine c k none)) h
-tells l s t (command.Ask q) b k h = stays s t h.1
-tells l s t command.Undo b k h = settles _ _ _ s t b (λ none goes. subst (IsCall s.machine) (sym (same_machine goes)) (record { call = histories.undone; leads = refl })) h
-tells l s t command.Redo b k h = settles _ _ _ s t b (λ none goes. subst (IsCall s.machine) (sym (same_machine goes)) (record { call = histories.redone; leads = refl })) h
-
-obeys : LawsBelow → (s t : Journal) (r : Request) (a : Answer) → Sound (held s.machine) → Obeys s r a t → IsCall s.machine t.machine
-obeys l s t request.Nothing a k h = stays s t h.1
-obeys l s t request.List a k h = stays s t h.1
-obeys l s t (request.Lamina n ps) a k h = tells l s t (command.Change (change.Lamina n ps)) h.0 k h.2
-obeys l s t (request.Give c) a k h = tells l s t c h.0 k h.2
-
-answers : LawsBelow → (s t : Journal) (r : Result Request Fault) (a : Answer) → Sound (held s.machine) → Answers s r a t → IsCall s.machine t.machine
+answers : LargerAreCalls → (s t : Journal) (r : Result Request Fault) (a : Answer) → Sound (held s.machine) → Answers s r a t → IsCall s.machine t.machine
 answers l s t (Ok r) a k h = obeys l s t r a k h
-answers l s t (Err f) a k h = stays s t h.1
+answers l s t (Err f) a k h = stopped s.machine t.machine (same_machine h.1)
 
-pub lines_are_calls : LawsBelow → LinesAreCalls
+pub lines_are_calls : LargerAreCalls → LinesAreCalls
 lines_are_calls l s t line a k h = answers l s t (command_of line) a k h
+
+pub histories_make_consistent : HistoriesAreConsistent → HistoriesMakeConsistent
+histories_make_consistent consistent s h = subst IsConsistent h.lead (consistent h.calls)
 
 -- one call more
 more_calls : (s : Machine) (calls : List Call) (call : Call) → after_calls s (calls ++ call ∷ []) ≡ after_call (after_calls s calls) call
 more_calls s [] call = refl
 more_calls s (c ∷ calls) call = more_calls (after_call s c) calls call
-
-pub histories_make_consistent : LawsBelow → HistoriesMakeConsistent
-histories_make_consistent l s h = subst IsConsistent h.lead (l.consistent h.calls)
 
 goes_on : (s t : Machine) → HasHistory s → IsCall s t → HasHistory t
 goes_on s t h c = record {
@@ -96,8 +41,13 @@ goes_on s t h c = record {
   lead = more_calls start h.calls c.call ∙ ap (λ (m : Machine). after_call m c.call) h.lead ∙ c.leads;
 }
 
-pub lines_lead_on : LawsBelow → LinesLeadOn
-lines_lead_on l s t line a h judged = goes_on s.machine t.machine h (lines_are_calls l s t line a (histories_make_consistent l s.machine h).held_sound judged)
+pub lines_lead_on : LinesAreCalls → HistoriesMakeConsistent → LinesLeadOn
+lines_lead_on calls consistent s t line a h judged = goes_on s.machine t.machine h (calls s t line a (consistent s.machine h).held_sound judged)
+
+-- what the laws of one line say
+pub record LinesLaws : Type 0 where
+  pub calls : LinesAreCalls
+  pub consistent : HistoriesMakeConsistent
 
 -- so many turns that some lines take, whose texts are what was written
 record Takes (s : Journal) (lines : List (List ℕ)) (out : List ℕ) (n : ℕ) : Type 0 where
@@ -107,9 +57,9 @@ record Takes (s : Journal) (lines : List (List ℕ)) (out : List ℕ) (n : ℕ) 
   count : length turns ≡ n
 
 -- a turn is taken in a session to which a list of calls leads
-module _ (l : LawsBelow) (s t : Journal) (line : List ℕ) (a : Answer) (h : HasHistory s.machine) (judged : Judges s line a t) where
+module _ (l : LinesLaws) (s t : Journal) (line : List ℕ) (a : Answer) (h : HasHistory s.machine) (judged : Judges s line a t) where
   call : IsCall s.machine t.machine
-  call = lines_are_calls l s t line a (histories_make_consistent l s.machine h).held_sound judged
+  call = l.calls s t line a (l.consistent s.machine h).held_sound judged
 
   one_turn : Turn
   one_turn = record { call = call.call; answer = a; next = t }
@@ -117,8 +67,8 @@ module _ (l : LawsBelow) (s t : Journal) (line : List ℕ) (a : Answer) (h : Has
   is_turn : IsTurn s line one_turn
   unfolding one_turn
   is_turn =
-      let later = histories_make_consistent l t.machine (goes_on s.machine t.machine h call) in
-      record { judged = judged; called = call.leads; before = histories_make_consistent l s.machine h; after = later; listed = λ e. (held t.machine, later.held_sound, ap (answer_text t.machine) e) }
+      let later = l.consistent t.machine (goes_on s.machine t.machine h call) in
+      record { judged = judged; called = call.leads; before = l.consistent s.machine h; after = later; listed = λ e. (held t.machine, later.held_sound, ap (answer_text t.machine) e) }
 
   -- one turn, and those of the lines after it
   takes : (lines : List (List ℕ)) (rest : List ℕ) (n : ℕ) → Takes t lines rest n → Takes s (line ∷ lines) (answer_text t.machine a ++ rest) (suc n)
@@ -136,18 +86,18 @@ no_turns s lines = record { turns = []; taken = tt; text = refl; count = refl }
 takes_so : (s : Journal) (lines : List (List ℕ)) (out text : List ℕ) (n m : ℕ) → out ≡ text → n ≡ m → Takes s lines text m → Takes s lines out n
 takes_so s lines out text n m e f h = rw (e, f) h
 
-outs_take : LawsBelow → (stop : Bool) (s : Journal) (lines : List (List ℕ)) (out : List ℕ) (n : Summary) → HasHistory s.machine → Outs stop s lines out n → Takes s lines out n.lines
+outs_take : LinesLaws → (stop : Bool) (s : Journal) (lines : List (List ℕ)) (out : List ℕ) (n : Summary) → HasHistory s.machine → Outs stop s lines out n → Takes s lines out n.lines
 outs_take l stop s [] out n h o = takes_so s [] out [] n.lines 0 o.0 (ap (λ (m : Summary). m.lines) o.1) (no_turns s [])
 outs_take l stop s (line ∷ lines) out n h (a, t, judged, inl last) =
     takes_so s (line ∷ lines) out (answer_text t.machine a ++ []) n.lines 1 (last.1 ∙ sym (append-nil (answer_text t.machine a))) (ap (λ (m : Summary). m.lines) last.2 ∙ one_more a)
     (takes l s t line a h judged lines [] 0 (no_turns t lines))
 outs_take l stop s (line ∷ lines) out n h (a, t, judged, inr (calm, (rest, k, text, counts, later))) =
-    let next = lines_lead_on l s t line a h judged in
+    let next = lines_lead_on l.calls l.consistent s t line a h judged in
     takes_so s (line ∷ lines) out (answer_text t.machine a ++ rest) n.lines (suc k.lines) text (omega (arith, ap (λ (m : Summary). m.lines) counts, one_more a))
     (takes l s t line a h judged lines rest k.lines (outs_take l stop t lines rest k next later))
 
 -- a new session has a history: no call
-outs_tell : LawsBelow → (stop : Bool) (lines : List (List ℕ)) (out : List ℕ) (n : Summary) → Outs stop new_journal lines out n → Takes new_journal lines out n.lines
+outs_tell : LinesLaws → (stop : Bool) (lines : List (List ℕ)) (out : List ℕ) (n : Summary) → Outs stop new_journal lines out n → Takes new_journal lines out n.lines
 outs_tell l stop lines out n o = outs_take l stop new_journal lines out n (record { calls = []; lead = refl }) o
 
 -- turns of the first lines, whatever lines come after
@@ -171,17 +121,17 @@ all_written reader old new moved (Err f) n same h = record { turns = h.turns; ta
 no_more : (given : List ℕ) → lines_of (within_limit 0 given) ≡ lines_of (within_limit 0 given ++ [])
 no_more given = ap lines_of (sym (append-nil (within_limit 0 given)))
 
-broken_off : LawsBelow → (reader old new : Option (List ℕ)) (stop : Bool) (f : RunFault) (b : BreaksOff reader old new stop) → TellsHistory reader old new b.moves (Err f)
+broken_off : LinesLaws → (reader old new : Option (List ℕ)) (stop : Bool) (f : RunFault) (b : BreaksOff reader old new stop) → TellsHistory reader old new b.moves (Err f)
 broken_off l reader old new stop f b = all_written reader old new b.moves (Err f) b.counts.lines tt
     (takes_more new_journal b.judged (lines_of b.unfinished) (lines_of (within_limit 0 b.moves.given)) b.moves.out b.counts.lines b.lines (outs_tell l stop b.judged b.moves.out b.counts b.outs))
 
-served : LawsBelow → (reader old new : Option (List ℕ)) (stop : Bool) (summary : Summary) (s : Served reader old new stop summary) → TellsHistory reader old new s.moves (Ok summary)
+served : LinesLaws → (reader old new : Option (List ℕ)) (stop : Bool) (summary : Summary) (s : Served reader old new stop summary) → TellsHistory reader old new s.moves (Ok summary)
 served l reader old new stop summary s =
     let given = s.moves.given in
     all_written reader old new s.moves (Ok summary) summary.lines refl (subst (λ (ls : List (List ℕ)). Takes new_journal ls s.moves.out summary.lines) (sym (no_more given))
     (outs_tell l stop (lines_of (within_limit 0 given ++ [])) s.moves.out summary (s.outs [] (λ e. refl))))
 
-write_failed : LawsBelow → (reader old new : Option (List ℕ)) (stop : Bool) (w : WriteFails reader old new stop) → TellsHistory reader old new w.moves (Err fault.Write)
+write_failed : LinesLaws → (reader old new : Option (List ℕ)) (stop : Bool) (w : WriteFails reader old new stop) → TellsHistory reader old new w.moves (Err fault.Write)
 write_failed l reader old new stop w =
     let given = w.moves.given in
     let begun = w.begun [] (λ e. refl) in
@@ -192,7 +142,7 @@ write_failed l reader old new stop w =
 nothing_begun : (reader old new : Option (List ℕ)) (moved : runs.Moves reader new old) → moved.out ≡ [] → TellsHistory reader old new moved (Err fault.Memory)
 nothing_begun reader old new moved none = record { turns = []; taken = tt; unwritten = []; text = sym none ∙ sym (append-nil moved.out); whole = λ other. refl; each = tt }
 
-pub runs_tell_histories : LawsBelow → RunsTellHistories
+pub runs_tell_histories : LinesLaws → RunsTellHistories
 runs_tell_histories l reader old new stop (Ok summary) run = served l reader old new stop summary run
 runs_tell_histories l reader old new stop (Err fault.Read) run = broken_off l reader old new stop fault.Read run
 runs_tell_histories l reader old new stop (Err fault.TooLong) run = broken_off l reader old new stop fault.TooLong run.0

@@ -1,33 +1,17 @@
 -- Lines that are answered without `memory` are answered by their output.
 use Rattle.std.proofs.Common.{◌≡◌, inl, inr, ℕ, Bool, true, false, List, [], ◌∷◌, ◌++◌, refl, sym, ap, subst, ◌∙◌, arith, Option, Some, None, Ok, Err, ◌⊎◌, Result, if◌then◌else◌, append-nil}
 use Rattle.std.proofs.lemmas.Bool.{false≢true}
-use Rattle.euler_operators.specs.declared.Refusal.{Refusal}
-use Rattle.euler_operators.specs.Common.{Model}
-use Rattle.undo_journal.specs.Machine.{Machine, held, accepted}
-use Rattle.undo_journal.specs.Journal.{Journal, IsRecorded, recorded, after_undo, after_redo}
+use Rattle.script_running.specs.Common.{Answer, Ask, Change, Command, Fault, IsRecorded, Journal, Lamina, Machine, Model, Question, Redo, Refusal, Says, Request, Settled, Summary, TellsSession, Told, Undo, accepted, after_redo, after_undo, asked, command_of, held, made, recorded, value_or_refusal}
 use Rattle.undo_journal.specs.declared.record.Record.{Record}
 use Rattle.undo_journal.proofs.Journals.{same_machine}
-use Rattle.commands.specs.declared.command.Question.{Question}
 use Rattle.commands.specs.declared.command.Question.TheVariants as question
-use Rattle.commands.specs.declared.command.Change.TheVariants as change
-use Rattle.commands.specs.declared.command.Command.{Command}
-use Rattle.commands.specs.declared.command.Command.TheVariants as command
-use Rattle.commands.specs.declared.command.Told.{Told}
 use Rattle.commands.specs.declared.command.Told.TheVariants as told
-use Rattle.commands.specs.Changes.{made}
-use Rattle.commands.specs.Telling.{Settled, TellsSession, asked, value_or_refusal}
-use Rattle.script_reader.specs.declared.command.Request.{Request}
 use Rattle.script_reader.specs.declared.command.Request.TheVariants as request
-use Rattle.script_reader.specs.declared.command.Fault.{Fault}
-use Rattle.script_reader.specs.Grammar.{command_of}
 use Rattle.solid_listing.specs.declared.reply.Reply.TheVariants as reply
 use Rattle.solid_measure.specs.Measure.{answer, face_refusal, solid_refusal, plane_of, is_flat, six_volume, counts}
 use Rattle.script_running.specs.script_judging.Judging.{done, answer_when, Gives, Obeys, Answers, Judges, answer_text, one_line, counted}
 use Rattle.script_running.specs.Outs.{stops, Outs}
 use Rattle.script_running.specs.Output.{moved, given, obeyed, answered, answer_of, machine_after, output_from, summary_from}
-use Rattle.script_running.specs.declared.script_judging.judging.Answer.{Answer}
-use Rattle.script_running.specs.declared.script_judging.judging.Answer.TheVariants.{Reply as Says}
-use Rattle.script_running.specs.declared.script_judging.judging.Summary.{Summary}
 
 -- memory isn't told
 abbrev IsQuiet : Answer → Type 0
@@ -54,10 +38,10 @@ settled_so o L G s t next (told.Counts n) goes h x = absurd h
 settled_so o L G s t next (told.Steps n) goes h x = absurd h
 
 tells_so : (s t : Journal) (c : Command) (b : Told) → TellsSession s c b t → IsQuiet (answer_when b) → IsTurn (answer_when b) t (given s.machine c)
-tells_so s t (command.Change c) b h x = settled_so _ _ _ s t _ b (λ g. g.0) h x
-tells_so s t (command.Ask q) b h x = (ap answer_when h.0, same_machine h.1)
-tells_so s t command.Undo b h x = settled_so _ _ _ s t _ b same_machine h x
-tells_so s t command.Redo b h x = settled_so _ _ _ s t _ b same_machine h x
+tells_so s t (Change c) b h x = settled_so _ _ _ s t _ b (λ g. g.0) h x
+tells_so s t (Ask q) b h x = (ap answer_when h.0, same_machine h.1)
+tells_so s t Undo b h x = settled_so _ _ _ s t _ b same_machine h x
+tells_so s t Redo b h x = settled_so _ _ _ s t _ b same_machine h x
 
 gives_so : (s t : Journal) (c : Command) (a : Answer) → Gives s c a t → IsQuiet a → IsTurn a t (given s.machine c)
 gives_so s t c a (b, is, h) x = subst (λ (z : Answer). IsTurn z t (given s.machine c)) (sym is) (tells_so s t c b h (subst (λ (z : Answer). IsQuiet z) is x))
@@ -65,7 +49,7 @@ gives_so s t c a (b, is, h) x = subst (λ (z : Answer). IsTurn z t (given s.mach
 obeys_so : (s t : Journal) (r : Request) (a : Answer) → Obeys s r a t → IsQuiet a → IsTurn a t (obeyed s.machine r)
 obeys_so s t request.Nothing a h x = (h.0, same_machine h.1)
 obeys_so s t request.List a h x = (h.0, same_machine h.1)
-obeys_so s t (request.Lamina n ps) a h x = gives_so s t (command.Change (change.Lamina n ps)) a h x
+obeys_so s t (request.Lamina n ps) a h x = gives_so s t (Change (Lamina n ps)) a h x
 obeys_so s t (request.Give c) a h x = gives_so s t c a h x
 
 answers_so : (s t : Journal) (r : Result Request Fault) (a : Answer) → Answers s r a t → IsQuiet a → IsTurn a t (answered s.machine r)
@@ -78,45 +62,6 @@ judges_so s t line a h x = answers_so s t (command_of line) a h x
 
 -- ---- what the function gives may be answered, and isn't `memory`
 
--- a session that may be gone on to with this answer, on this machine
-abbrev Leads : (Answer → Journal → Type 0) → Answer × Machine → Type 0
-Leads R turn = (t : Journal) × R turn.0 t × (t.machine ≡ turn.1)
-
-settled_to : (o : Option Refusal) (L : Type 0) (s u : Journal) (G : Journal → Type 0) → G u
-    → Leads (λ a t. (b : Told) × (a ≡ answer_when b) × Settled o L (t ≡ s) (G t) b) (moved o s.machine u.machine)
-settled_to None L s u G g = (u, (told.Done, refl, (refl, g)), refl)
-settled_to (Some r) L s u G g = (s, (told.Refused r, refl, (refl, refl)), refl)
-
--- a record of no steps
-no_steps : Record
-no_steps = record { forward = []; back = [] }
-
-gives_to : (s : Journal) (c : Command) → Leads (Gives s c) (given s.machine c)
-gives_to s (command.Change c) =
-    let next = accepted s.machine (made (held s.machine) c) in
-    settled_to _ _ s (record { machine = next; records = recorded s no_steps }) (λ (t : Journal). (t.machine ≡ next) × IsRecorded s t) (refl, record { command = no_steps; appended = refl })
-gives_to s (command.Ask q) = (s, (asked (held s.machine) q, refl, (refl, refl)), refl)
-gives_to s command.Undo = settled_to _ _ s (after_undo s) (λ (t : Journal). t ≡ after_undo s) refl
-gives_to s command.Redo = settled_to _ _ s (after_redo s) (λ (t : Journal). t ≡ after_redo s) refl
-
-obeys_to : (s : Journal) (r : Request) → Leads (Obeys s r) (obeyed s.machine r)
-obeys_to s request.Nothing = (s, (refl, refl), refl)
-obeys_to s request.List = (s, (refl, refl), refl)
-obeys_to s (request.Lamina n ps) = gives_to s (command.Change (change.Lamina n ps))
-obeys_to s (request.Give c) = gives_to s c
-
-answers_to : (s : Journal) (r : Result Request Fault) → Leads (Answers s r) (answered s.machine r)
-answers_to s (Ok r) = obeys_to s r
-answers_to s (Err f) = (s, (refl, refl), refl)
-
-pub judges_to : (s : Journal) (line : List ℕ) → (t : Journal) × Judges s line (answer_of s.machine line) t × (t.machine ≡ machine_after s.machine line)
-unfolding answer_of machine_after
-judges_to s line = answers_to s (command_of line)
-
-moved_quiet : (o : Option Refusal) (s next : Machine) → IsQuiet (moved o s next).0
-moved_quiet None s next = refl
-moved_quiet (Some r) s next = refl
-
 value_quiet : (o : Option Refusal) (b : Told) → IsQuiet (answer_when b) → IsQuiet (answer_when (value_or_refusal (answer o b)))
 value_quiet None b x = x
 value_quiet (Some r) b x = refl
@@ -126,25 +71,44 @@ asked_quiet M (question.Plane f) = value_quiet (face_refusal M f) (told.Plane (p
 asked_quiet M (question.Volume n) = value_quiet (solid_refusal M n) (told.Volume (six_volume M n)) refl
 asked_quiet M (question.Count n) = value_quiet (solid_refusal M n) (told.Counts (counts M n)) refl
 
-given_quiet : (s : Machine) (c : Command) → IsQuiet (given s c).0
-given_quiet s (command.Change c) = moved_quiet _ s _
-given_quiet s (command.Ask q) = asked_quiet (held s) q
-given_quiet s command.Undo = moved_quiet _ s _
-given_quiet s command.Redo = moved_quiet _ s _
+-- a session that may be gone on to with this answer, which isn't `memory`, on this machine
+abbrev Leads : (Answer → Journal → Type 0) → Answer × Machine → Type 0
+Leads R turn = (t : Journal) × R turn.0 t × (t.machine ≡ turn.1) × IsQuiet turn.0
 
-obeyed_quiet : (s : Machine) (r : Request) → IsQuiet (obeyed s r).0
-obeyed_quiet s request.Nothing = refl
-obeyed_quiet s request.List = refl
-obeyed_quiet s (request.Lamina n ps) = moved_quiet _ s _
-obeyed_quiet s (request.Give c) = given_quiet s c
+settled_to : (o : Option Refusal) (L : Type 0) (s u : Journal) (G : Journal → Type 0) → G u
+    → Leads (λ a t. (b : Told) × (a ≡ answer_when b) × Settled o L (t ≡ s) (G t) b) (moved o s.machine u.machine)
+settled_to None L s u G g = (u, (told.Done, refl, (refl, g)), refl, refl)
+settled_to (Some r) L s u G g = (s, (told.Refused r, refl, (refl, refl)), refl, refl)
 
-answered_quiet : (s : Machine) (r : Result Request Fault) → IsQuiet (answered s r).0
-answered_quiet s (Ok r) = obeyed_quiet s r
-answered_quiet s (Err f) = refl
+-- a record of no steps
+no_steps : Record
+no_steps = record { forward = []; back = [] }
+
+gives_to : (s : Journal) (c : Command) → Leads (Gives s c) (given s.machine c)
+gives_to s (Change c) =
+    let next = accepted s.machine (made (held s.machine) c) in
+    settled_to _ _ s (record { machine = next; records = recorded s no_steps }) (λ (t : Journal). (t.machine ≡ next) × IsRecorded s t) (refl, record { command = no_steps; appended = refl })
+gives_to s (Ask q) = (s, (asked (held s.machine) q, refl, (refl, refl)), refl, asked_quiet (held s.machine) q)
+gives_to s Undo = settled_to _ _ s (after_undo s) (λ (t : Journal). t ≡ after_undo s) refl
+gives_to s Redo = settled_to _ _ s (after_redo s) (λ (t : Journal). t ≡ after_redo s) refl
+
+obeys_to : (s : Journal) (r : Request) → Leads (Obeys s r) (obeyed s.machine r)
+obeys_to s request.Nothing = (s, (refl, refl), refl, refl)
+obeys_to s request.List = (s, (refl, refl), refl, refl)
+obeys_to s (request.Lamina n ps) = gives_to s (Change (Lamina n ps))
+obeys_to s (request.Give c) = gives_to s c
+
+answers_to : (s : Journal) (r : Result Request Fault) → Leads (Answers s r) (answered s.machine r)
+answers_to s (Ok r) = obeys_to s r
+answers_to s (Err f) = (s, (refl, refl), refl, refl)
+
+pub judges_to : (s : Journal) (line : List ℕ) → (t : Journal) × Judges s line (answer_of s.machine line) t × (t.machine ≡ machine_after s.machine line)
+unfolding answer_of machine_after
+judges_to s line = let x = answers_to s (command_of line) in (x.0, x.1, x.2)
 
 answer_quiet : (s : Machine) (line : List ℕ) → IsQuiet (answer_of s line)
 unfolding answer_of
-answer_quiet s line = answered_quiet s (command_of line)
+answer_quiet s line = (answers_to (record { machine = s; records = [] }) (command_of line)).3
 
 -- ---- over all lines
 

@@ -4,32 +4,18 @@ use Rattle.std.proofs.lemmas.Bool.{false≢true}
 use Rattle.std.proofs.lemmas.Bool.Decides.{nat_tests}
 use Rattle.std.proofs.KnownBytes.{Appends-nil, Appends-kept}
 use Rattle.std.specs.Io.KnownBytes.{Appends, Keeps, Consumes, IsAtEnd}
-use Rattle.script_reader.specs.Lines.{lines_of, within_limit}
-use Rattle.script_reader.specs.State.{reader_of, taken_of, unread_of, line_of, IsFresh}
+use Rattle.script_running.specs.Common.{Answer, EndsEarly, Fault, Found, Gathers, HasRead, IsFresh, Journal, Lines, LongLine, NotAscii, Outgoing, Puts, Says, Request, RunFault, Stops, Summary, command_of, command_of_words, is_ascii, line_of, lines_of, new_journal, outgoing, reader_of, taken_of, to_come, unread_of, within_limit}
 use Rattle.script_reader.specs.Next.{Went}
-use Rattle.script_reader.specs.Script.{HasRead, BreaksOff as EndsEarly, to_come}
-use Rattle.script_reader.specs.Grammar.{is_ascii, command_of_words, command_of}
 use Rattle.script_reader.specs.Words.{words}
-use Rattle.script_reader.specs.declared.command.Request.{Request}
-use Rattle.script_reader.specs.declared.command.Fault.{Fault}
-use Rattle.script_reader.specs.declared.command.Fault.TheVariants.{LongLine, NotAscii}
-use Rattle.script_reader.specs.declared.lines.Lines.{Lines}
-use Rattle.script_reader.specs.declared.lines.Found.{Found}
 use Rattle.script_reader.specs.declared.lines.Found.TheVariants as found
 use Rattle.script_reader.proofs.ScriptLaws.{has_begun, has_line_more, has_long_more, is_read_out, breaks_at_fault, breaks_at_limit, falls_by_line, falls_by_long}
-use Rattle.solid_listing.specs.Writing.{Stops, Puts, Outgoing, outgoing, Gathers}
 use Rattle.solid_listing.proofs.TellingLaws.{Breaks, Gathers-nil, Gathers-trans, Breaks-after, all_out, went_out}
 use Rattle.solid_listing.specs.declared.reply.Reply.TheVariants as reply
-use Rattle.undo_journal.specs.Journal.{Journal, new_journal}
 use Rattle.script_running.specs.script_judging.Settling.{Decides}
 use Rattle.script_running.specs.script_judging.Judging.{Judges, Answers, answer_text, no_lines, one_line, counted}
 use Rattle.script_running.specs.Outs.{stops, was_stopped, Outs}
 use Rattle.script_running.specs.Output.{output_of, output_from, summary_of, summary_from}
 use Rattle.script_running.specs.Runs.{Moves, Served, BreaksOff, WriteFails, IsTooLong, Runs}
-use Rattle.script_running.specs.declared.script_judging.judging.Answer.{Answer}
-use Rattle.script_running.specs.declared.script_judging.judging.Answer.TheVariants.{Reply as Says}
-use Rattle.script_running.specs.declared.script_judging.judging.Summary.{Summary}
-use Rattle.script_running.specs.declared.running.RunFault.{RunFault}
 use Rattle.script_running.specs.declared.running.RunFault.TheVariants as faults
 use Rattle.script_running.proofs.Counting.{counted_assoc, counted_none, none_counted, stop_counted, calm_counted, none_calm}
 use Rattle.script_running.proofs.Outputs.{text_at, counts_at, after_to, outs_so, outs_to}
@@ -49,13 +35,10 @@ pub record Progress {R : Type 0} (remaining : R → Option (List ℕ)) (first : 
 
 -- the next line was read, and judged
 pub record Turn {R : Type 0} (remaining : R → Option (List ℕ)) (first : Option (List ℕ)) (lines : Lines R) (old : Option (List ℕ)) (new : Outgoing) (stop : Bool) (s : Journal) (n : Summary) (a : Answer) (t : Journal) : Type 0 where
-  pub heard : List (List ℕ)
+  pub earlier : Lines R
+  pub so_far : Progress remaining first earlier old new stop s n
   pub line : List ℕ
-  pub read : HasRead remaining first lines (heard ++ line ∷ [])
-  pub out : List ℕ
-  pub gathered : Gathers (outgoing old []) new out
-  pub runs : Continues stop heard out s n
-  pub unstopped : was_stopped stop n ≡ false
+  pub read : HasRead remaining first lines (so_far.heard ++ line ∷ [])
   pub judges : Judges s line a t
 
 pub begins : {R : Type 0} (remaining : R → Option (List ℕ)) (given : R) (lines : Lines R) (old : Option (List ℕ)) (pending : List ℕ) (stop : Bool) (s : Journal) → IsFresh given lines → s ≡ new_journal → pending ≡ []
@@ -115,27 +98,27 @@ module _ {R : Type 0} (remaining : R → Option (List ℕ)) (lines next : Lines 
 pub turn_of : {R : Type 0} (remaining : R → Option (List ℕ)) (first : Option (List ℕ)) (lines next : Lines R) (old : Option (List ℕ)) (new : Outgoing) (stop : Bool) (s : Journal) (n : Summary) (a : Answer) (t : Journal)
     → Progress remaining first lines old new stop s n → Hears remaining lines next s a t → Turn remaining first next old new stop s n a t
 turn_of remaining first lines next old new stop s n a t p h = elim h [
-  | inl short ↦ record { heard = p.heard; line = line_of next; read = (has_line_more remaining first lines next p.heard p.read short.0).0; out = p.out; gathered = p.gathered; runs = p.runs; unstopped = p.unstopped; judges = short.1 }
+  | inl short ↦ record { earlier = lines; so_far = p; line = line_of next; read = (has_line_more remaining first lines next p.heard p.read short.0).0; judges = short.1 }
   | inr long ↦
       let m = has_long_more remaining first lines next p.heard p.read long.0 in
-      record { heard = p.heard; line = m.0; read = m.1; out = p.out; gathered = p.gathered; runs = p.runs; unstopped = p.unstopped; judges = subst (λ (r : Result Request Fault). Answers s r a t) (sym (long_told m.0 m.2)) (long.1, long.2) }
+      record { earlier = lines; so_far = p; line = m.0; read = m.1; judges = subst (λ (r : Result Request Fault). Answers s r a t) (sym (long_told m.0 m.2)) (long.1, long.2) }
 ]
 
 -- the run goes on
 pub goes_on : {R : Type 0} (remaining : R → Option (List ℕ)) (first : Option (List ℕ)) (lines : Lines R) (old : Option (List ℕ)) (mid new : Outgoing) (stop : Bool) (s : Journal) (n : Summary) (a : Answer) (t : Journal)
     → Turn remaining first lines old mid stop s n a t → stops stop a ≡ false → Gathers mid new (answer_text t.machine a) → Progress remaining first lines old new stop t (counted n (one_line a))
 goes_on remaining first lines old mid new stop s n a t w calm h = record {
-  heard = w.heard ++ w.line ∷ [];
+  heard = w.so_far.heard ++ w.line ∷ [];
   read = w.read;
-  out = w.out ++ answer_text t.machine a;
-  gathered = Gathers-trans (outgoing old []) mid new w.out (answer_text t.machine a) w.gathered h;
+  out = w.so_far.out ++ answer_text t.machine a;
+  gathered = Gathers-trans (outgoing old []) mid new w.so_far.out (answer_text t.machine a) w.so_far.gathered h;
   runs = λ ls rest k o.
-      let one = w.runs (w.line ∷ ls) (answer_text t.machine a ++ rest) (counted (one_line a) k) (a, t, w.judges, inr (calm, (rest, k, refl, refl, o))) in
-      let e1 : w.heard ++ w.line ∷ ls ≡ (w.heard ++ w.line ∷ []) ++ ls = sym (append_assoc w.heard (w.line ∷ []) ls) in
-      let e2 : w.out ++ (answer_text t.machine a ++ rest) ≡ (w.out ++ answer_text t.machine a) ++ rest = sym (append_assoc w.out (answer_text t.machine a) rest) in
+      let one = w.so_far.runs (w.line ∷ ls) (answer_text t.machine a ++ rest) (counted (one_line a) k) (a, t, w.judges, inr (calm, (rest, k, refl, refl, o))) in
+      let e1 : w.so_far.heard ++ w.line ∷ ls ≡ (w.so_far.heard ++ w.line ∷ []) ++ ls = sym (append_assoc w.so_far.heard (w.line ∷ []) ls) in
+      let e2 : w.so_far.out ++ (answer_text t.machine a ++ rest) ≡ (w.so_far.out ++ answer_text t.machine a) ++ rest = sym (append_assoc w.so_far.out (answer_text t.machine a) rest) in
       let e3 : counted n (counted (one_line a) k) ≡ counted (counted n (one_line a)) k = counted_assoc n (one_line a) k in
       rw (← e1, ← e2, ← e3) one;
-  unstopped = calm_counted stop n a w.unstopped calm;
+  unstopped = calm_counted stop n a w.so_far.unstopped calm;
 }
 
 outs_same : (stop : Bool) (s : Journal) (ls ms : List (List ℕ)) (x y : List ℕ) (n m : Summary) → ls ≡ ms → x ≡ y → n ≡ m → Outs stop s ls x n → Outs stop s ms y m
@@ -149,18 +132,18 @@ is_output stop given out n o none = outs_so stop new_journal (lines_of (within_l
 
 -- the answer stops the run
 stopped : {R : Type 0} (remaining : R → Option (List ℕ)) (first : Option (List ℕ)) (lines : Lines R) (old : Option (List ℕ)) (mid : Outgoing) (new : Option (List ℕ)) (stop : Bool) (s : Journal) (n m : Summary) (a : Answer) (t : Journal)
-    → (w : Turn remaining first lines old mid stop s n a t) → stops stop a ≡ true → Appends old new (w.out ++ answer_text t.machine a) → m ≡ counted n (one_line a) → Served first old new stop m
+    → (w : Turn remaining first lines old mid stop s n a t) → stops stop a ≡ true → Appends old new (w.so_far.out ++ answer_text t.machine a) → m ≡ counted n (one_line a) → Served first old new stop m
 stopped remaining first lines old mid new stop s n m a t w bad h count =
-    let outs : (more : List ℕ) → (IsAtEnd (remaining (reader_of lines)) → more ≡ []) → Outs stop new_journal (lines_of (within_limit 0 w.read.given ++ more)) (w.out ++ answer_text t.machine a) m = λ more guard.
+    let outs : (more : List ℕ) → (IsAtEnd (remaining (reader_of lines)) → more ≡ []) → Outs stop new_journal (lines_of (within_limit 0 w.read.given ++ more)) (w.so_far.out ++ answer_text t.machine a) m = λ more guard.
     let behind = lines_of (unread_of lines ++ more) in
-    let one = w.runs (w.line ∷ behind) (answer_text t.machine a) (one_line a) (a, t, w.judges, inl (bad, refl, refl)) in
-    let all : lines_of (within_limit 0 w.read.given ++ more) ≡ w.heard ++ w.line ∷ behind = w.read.text more (λ e. guard (w.read.at_end e)) ∙ append_assoc w.heard (w.line ∷ []) behind in
-    outs_same stop new_journal (w.heard ++ w.line ∷ behind) (lines_of (within_limit 0 w.read.given ++ more)) (w.out ++ answer_text t.machine a) (w.out ++ answer_text t.machine a) (counted n (one_line a)) m (sym all) refl (sym count) one in
+    let one = w.so_far.runs (w.line ∷ behind) (answer_text t.machine a) (one_line a) (a, t, w.judges, inl (bad, refl, refl)) in
+    let all : lines_of (within_limit 0 w.read.given ++ more) ≡ w.so_far.heard ++ w.line ∷ behind = w.read.text more (λ e. guard (w.read.at_end e)) ∙ append_assoc w.so_far.heard (w.line ∷ []) behind in
+    outs_same stop new_journal (w.so_far.heard ++ w.line ∷ behind) (lines_of (within_limit 0 w.read.given ++ more)) (w.so_far.out ++ answer_text t.machine a) (w.so_far.out ++ answer_text t.machine a) (counted n (one_line a)) m (sym all) refl (sym count) one in
     record {
-      moves = record { given = w.read.given; left = remaining (reader_of lines); out = w.out ++ answer_text t.machine a; consumed = w.read.consumed; appended = h };
+      moves = record { given = w.read.given; left = remaining (reader_of lines); out = w.so_far.out ++ answer_text t.machine a; consumed = w.read.consumed; appended = h };
       outs = outs;
       finished = λ e. absurd (false≢true (sym e ∙ ap (was_stopped stop) count ∙ stop_counted stop n a bad));
-      output = is_output stop w.read.given (w.out ++ answer_text t.machine a) m (outs [] (λ _. refl));
+      output = is_output stop w.read.given (w.so_far.out ++ answer_text t.machine a) m (outs [] (λ _. refl));
     }
 
 -- what was heard was answered
@@ -228,22 +211,22 @@ too_long remaining first lines next old new stop s n p went none =
 
 -- a write failed, where the answer was told or before
 pub write_fails : {R : Type 0} (remaining : R → Option (List ℕ)) (first : Option (List ℕ)) (lines : Lines R) (old : Option (List ℕ)) (mid : Outgoing) (new : Option (List ℕ)) (stop : Bool) (s : Journal) (n : Summary) (a : Answer) (t : Journal) (f : RunFault)
-    → (w : Turn remaining first lines old mid stop s n a t) → Stops old new (w.out ++ answer_text t.machine a) → f ≡ faults.Write → Runs first old new stop (Err f)
+    → (w : Turn remaining first lines old mid stop s n a t) → Stops old new (w.so_far.out ++ answer_text t.machine a) → f ≡ faults.Write → Runs first old new stop (Err f)
 write_fails remaining first lines old mid new stop s n a t f w h is_write = is_write_fault first old new stop f is_write (record {
   moves = record { given = w.read.given; left = remaining (reader_of lines); out = h.front; consumed = w.read.consumed; appended = h.appended };
   begun = λ more guard.
       let behind = lines_of (unread_of lines ++ more) in
-      let all : lines_of (within_limit 0 w.read.given ++ more) ≡ w.heard ++ w.line ∷ behind = w.read.text more (λ e. guard (w.read.at_end e)) ∙ append_assoc w.heard (w.line ∷ []) behind in
+      let all : lines_of (within_limit 0 w.read.given ++ more) ≡ w.so_far.heard ++ w.line ∷ behind = w.read.text more (λ e. guard (w.read.at_end e)) ∙ append_assoc w.so_far.heard (w.line ∷ []) behind in
       let next = after_to stop behind a t (output_from stop t.machine behind) (summary_from stop t.machine behind) (outs_to stop t behind) (stops stop a) refl in
       let text = text_at (stops stop a) a t.machine (output_from stop t.machine behind) in
       let counts = counts_at (stops stop a) a (summary_from stop t.machine behind) in
       let rest = if stops stop a then [] else output_from stop t.machine behind in
-      let parts : w.out ++ text ≡ h.front ++ (h.rest ++ rest) =
-      sym (append_assoc w.out (answer_text t.machine a) rest) ∙ ap (λ (xs : List ℕ). xs ++ rest) h.parts ∙ append_assoc h.front h.rest rest in (
+      let parts : w.so_far.out ++ text ≡ h.front ++ (h.rest ++ rest) =
+      sym (append_assoc w.so_far.out (answer_text t.machine a) rest) ∙ ap (λ (xs : List ℕ). xs ++ rest) h.parts ∙ append_assoc h.front h.rest rest in (
         h.rest ++ rest,
         counted n counts,
-        outs_same stop new_journal (w.heard ++ w.line ∷ behind) (lines_of (within_limit 0 w.read.given ++ more)) (w.out ++ text) (h.front ++ (h.rest ++ rest)) (counted n counts) (counted n counts) (sym all) parts refl
-            (w.runs (w.line ∷ behind) text counts (a, t, w.judges, next)),
+        outs_same stop new_journal (w.so_far.heard ++ w.line ∷ behind) (lines_of (within_limit 0 w.read.given ++ more)) (w.so_far.out ++ text) (h.front ++ (h.rest ++ rest)) (counted n counts) (counted n counts) (sym all) parts refl
+            (w.so_far.runs (w.line ∷ behind) text counts (a, t, w.judges, next)),
       );
 })
 
@@ -251,19 +234,19 @@ write_fails remaining first lines old mid new stop s n a t f w h is_write = is_w
 pub telling_fails : {R : Type 0} (remaining : R → Option (List ℕ)) (first : Option (List ℕ)) (lines : Lines R) (old : Option (List ℕ)) (mid new : Outgoing) (stop : Bool) (s : Journal) (n : Summary) (a : Answer) (t : Journal) (f : RunFault)
     → Turn remaining first lines old mid stop s n a t → Breaks mid new (answer_text t.machine a) → f ≡ faults.Write → Runs first old new.contents stop (Err f)
 telling_fails remaining first lines old mid new stop s n a t f w h is_write =
-    write_fails remaining first lines old mid new.contents stop s n a t f w (Breaks-after (outgoing old []) mid new w.out (answer_text t.machine a) w.gathered h) is_write
+    write_fails remaining first lines old mid new.contents stop s n a t f w (Breaks-after (outgoing old []) mid new w.so_far.out (answer_text t.machine a) w.so_far.gathered h) is_write
 
 -- the answer stops the run, and what is pending goes out
 pub stops_there : {R : Type 0} (remaining : R → Option (List ℕ)) (first : Option (List ℕ)) (lines : Lines R) (old : Option (List ℕ)) (mid new : Outgoing) (last : Option (List ℕ)) (stop : Bool) (s : Journal) (n m : Summary) (a : Answer) (t : Journal) (r : Result Summary RunFault)
     → Turn remaining first lines old mid stop s n a t → stops stop a ≡ true → Gathers mid new (answer_text t.machine a) → m ≡ counted n (one_line a)
     → Puts new.contents last new.pending r → IfOk r (λ k. k ≡ m) → IfErr r (λ e. e ≡ faults.Write) → Runs first old last stop r
 stops_there remaining first lines old mid new last stop s n m a t (Ok k) w bad h count puts same no_fault =
-    let all = Gathers-trans (outgoing old []) mid new w.out (answer_text t.machine a) w.gathered h in
-    let out = all_out {A = Summary} {E = RunFault} old new last [] (w.out ++ answer_text t.machine a) (Ok k) refl all puts in
+    let all = Gathers-trans (outgoing old []) mid new w.so_far.out (answer_text t.machine a) w.so_far.gathered h in
+    let out = all_out {A = Summary} {E = RunFault} old new last [] (w.so_far.out ++ answer_text t.machine a) (Ok k) refl all puts in
     subst (λ (j : Summary). Served first old last stop j) (sym same) (stopped remaining first lines old mid last stop s n m a t w bad out count)
 stops_there remaining first lines old mid new last stop s n m a t (Err f) w bad h count puts same is_write =
-    let all = Gathers-trans (outgoing old []) mid new w.out (answer_text t.machine a) w.gathered h in
-    let out = all_out {A = Summary} {E = RunFault} old new last [] (w.out ++ answer_text t.machine a) (Err f) refl all puts in
+    let all = Gathers-trans (outgoing old []) mid new w.so_far.out (answer_text t.machine a) w.so_far.gathered h in
+    let out = all_out {A = Summary} {E = RunFault} old new last [] (w.so_far.out ++ answer_text t.machine a) (Err f) refl all puts in
     write_fails remaining first lines old mid last stop s n a t f w out is_write
 
 -- what was pending could not go out

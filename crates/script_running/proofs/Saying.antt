@@ -1,25 +1,15 @@
 -- A line that spells a command is answered what the call to give it is told.
 use Rattle.std.proofs.Common.{◌≡◌, Some, refl, sym, ap, subst, ◌∙◌, Result}
-use Rattle.undo_journal.specs.Journal.{Journal}
-use Rattle.commands.specs.declared.command.Change.TheVariants as change
-use Rattle.commands.specs.declared.command.Command.{Command}
-use Rattle.commands.specs.declared.command.Command.TheVariants as command
-use Rattle.commands.specs.declared.command.Call.TheVariants as call
-use Rattle.commands.specs.declared.stage.Stage.{Stage}
-use Rattle.commands.specs.declared.stage.Stage.TheVariants.{Session, Drafting}
-use Rattle.commands.specs.Telling.{TellsSession}
-use Rattle.script_reader.specs.declared.command.Request.{Request}
+use Rattle.script_running.specs.Common.{Answer, Change, Command, Drafting, Fault, Give, Journal, Lamina, Request, Session, Stage, TellsSession}
 use Rattle.script_reader.specs.declared.command.Request.TheVariants as request
-use Rattle.script_reader.specs.declared.command.Fault.{Fault}
 use Rattle.script_running.specs.script_judging.Judging.{Gives, Obeys, Answers, Judges}
 use Rattle.script_running.specs.Laws.{asked_for, LinesAreTold}
-use Rattle.script_running.specs.declared.script_judging.judging.Answer.{Answer}
 
 -- what asks for a command is obeyed as that command
 gives_is : (s t : Journal) (r : Request) (c : Command) (a : Answer) → asked_for r ≡ Some c → Obeys s r a t ≡ Gives s c a t
 gives_is s t request.Nothing c a e = absurd (cc e)
 gives_is s t request.List c a e = absurd (cc e)
-gives_is s t (request.Lamina n ps) c a e = let same : command.Change (change.Lamina n ps) ≡ c = cc e in ap (λ (x : Command). Gives s x a t) same
+gives_is s t (request.Lamina n ps) c a e = let same : Change (Lamina n ps) ≡ c = cc e in ap (λ (x : Command). Gives s x a t) same
 gives_is s t (request.Give d) c a e = let same : d ≡ c = cc e in ap (λ (x : Command). Gives s x a t) same
 
 -- the session in a stage

@@ -1,23 +1,9 @@
 -- The history that a run tells: each line is one call of it.
 use Rattle.std.specs.Prelude.{◌≡◌, ◌≢◌, ℕ, Bool, List, [], ◌∷◌, ◌++◌, length, Option, Result, Ok, Err, IfOk}
-use Rattle.euler_operators.specs.Common.{Model, Sound}
-use Rattle.undo_journal.specs.Machine.{Machine, held}
-use Rattle.undo_journal.specs.Journal.{Journal, new_journal}
-use Rattle.undo_journal.specs.Histories.{Call, after_call, reached, IsConsistent}
-use Rattle.script_reader.specs.Lines.{lines_of, within_limit}
-use Rattle.solid_listing.specs.Listing.{listing}
+use Rattle.script_running.specs.Common.{Answer, Call, IsCall, IsConsistent, Journal, Listing, Machine, Model, RunFault, Sound, Summary, after_call, held, lines_of, listing, new_journal, reached, within_limit}
 use Rattle.script_running.specs.script_judging.Judging.{Judges, answer_text}
 use Rattle.script_running.specs.Runs.{Moves, Runs}
-use Rattle.script_running.specs.declared.script_judging.judging.Answer.{Answer}
-use Rattle.script_running.specs.declared.script_judging.judging.Answer.TheVariants.{Listing}
-use Rattle.script_running.specs.declared.script_judging.judging.Summary.{Summary}
-use Rattle.script_running.specs.declared.running.RunFault.{RunFault}
 use Rattle.script_running.specs.declared.running.RunFault.TheVariants as fault
-
--- one call leads from s to t
-pub record IsCall (s t : Machine) : Type 0 where
-  pub call : Call
-  pub leads : after_call s call ≡ t
 
 -- a list of calls leads to s from the empty model
 pub record HasHistory (s : Machine) : Type 0 where

@@ -1,28 +1,17 @@
 -- What lines are answered: as the calls that they are, and by one text where no memory is refused.
 use Rattle.std.specs.Prelude.{◌≡◌, ◌↔◌, ℕ, Bool, List, Option, Some, None, Ok}
-use Rattle.undo_journal.specs.Machine.{Machine}
-use Rattle.undo_journal.specs.Journal.{Journal}
-use Rattle.commands.specs.declared.command.Change.TheVariants as change
-use Rattle.commands.specs.declared.command.Command.{Command}
-use Rattle.commands.specs.declared.command.Command.TheVariants as command
-use Rattle.commands.specs.declared.command.Call.TheVariants as call
-use Rattle.commands.specs.declared.command.Told.{Told}
-use Rattle.commands.specs.declared.stage.Stage.TheVariants.{Session}
+use Rattle.script_running.specs.Common.{Answer, Change, Command, Give, Journal, Lamina, Machine, Request, Session, Summary, Told, command_of}
 use Rattle.commands.specs.Telling.{Tells}
-use Rattle.script_reader.specs.declared.command.Request.{Request}
 use Rattle.script_reader.specs.declared.command.Request.TheVariants as request
-use Rattle.script_reader.specs.Grammar.{command_of}
-use Rattle.script_running.specs.declared.script_judging.judging.Answer.{Answer}
 use Rattle.script_running.specs.script_judging.Judging.{answer_when, Judges}
 use Rattle.script_running.specs.Outs.{Outs}
 use Rattle.script_running.specs.Output.{output_from, summary_from}
-use Rattle.script_running.specs.declared.script_judging.judging.Summary.{Summary}
 
 -- the command that a line asks for, if it asks for one
 abbrev pub asked_for : Request → Option Command
 asked_for request.Nothing = None
 asked_for request.List = None
-asked_for (request.Lamina n ps) = Some (command.Change (change.Lamina n ps))
+asked_for (request.Lamina n ps) = Some (Change (Lamina n ps))
 asked_for (request.Give c) = Some c
 
 abbrev pub AsksFor : List ℕ → Command → Type 0
@@ -31,7 +20,7 @@ AsksFor line c = (r : Request) × (command_of line ≡ Ok r) × (asked_for r ≡
 -- a line that spells a command is answered so exactly where the call to give it is told what is answered so, and leads on alike
 abbrev pub LinesAreTold : Type 0
 LinesAreTold = (s t : Journal) (line : List ℕ) (c : Command) (a : Answer) → AsksFor line c
-    → (Judges s line a t ↔ ((b : Told) × (a ≡ answer_when b) × Tells (Session s) (call.Give c) b (Session t)))
+    → (Judges s line a t ↔ ((b : Told) × (a ≡ answer_when b) × Tells (Session s) (Give c) b (Session t)))
 
 -- where no memory is refused, there is one text with which they may be answered, and one summary: their output
 abbrev pub OneOutput : Type 0

@@ -1,3 +1,4 @@
+pub mod Common
 pub mod script_judging
 pub mod Outs
 pub mod Output

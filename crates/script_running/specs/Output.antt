@@ -1,21 +1,9 @@
 -- The output of a script, as a function of its lines: what they are answered where no memory is refused.
 use Rattle.std.specs.Prelude.{ℕ, Bool, List, [], ◌∷◌, ◌++◌, Option, Some, None, Result, Ok, Err, if◌then◌else◌}
-use Rattle.euler_operators.specs.declared.Refusal.{Refusal}
-use Rattle.undo_journal.specs.Machine.{Machine, start, held, accepted, undo, undo_refusal, redo, redo_refusal}
-use Rattle.commands.specs.declared.command.Change.TheVariants as change
-use Rattle.commands.specs.declared.command.Command.{Command}
-use Rattle.commands.specs.declared.command.Command.TheVariants as command
-use Rattle.commands.specs.Changes.{refusal_of, made}
-use Rattle.commands.specs.Telling.{asked}
-use Rattle.script_reader.specs.declared.command.Request.{Request}
+use Rattle.script_running.specs.Common.{Answer, Ask, Change, Command, Fault, Lamina, Listing, Machine, Redo, Refusal, Request, Silent, Summary, Undo, accepted, asked, command_of, held, made, redo, redo_refusal, refusal_of, start, undo, undo_refusal}
 use Rattle.script_reader.specs.declared.command.Request.TheVariants as request
-use Rattle.script_reader.specs.declared.command.Fault.{Fault}
-use Rattle.script_reader.specs.Grammar.{command_of}
 use Rattle.script_running.specs.script_judging.Judging.{done, refused, faulty, answer_when, answer_text, no_lines, one_line, counted}
 use Rattle.script_running.specs.Outs.{stops}
-use Rattle.script_running.specs.declared.script_judging.judging.Answer.{Answer}
-use Rattle.script_running.specs.declared.script_judging.judging.Answer.TheVariants.{Silent, Listing}
-use Rattle.script_running.specs.declared.script_judging.judging.Summary.{Summary}
 
 -- a command goes on to a state, or is refused
 abbrev pub moved : Option Refusal → Machine → Machine → Answer × Machine
@@ -24,16 +12,16 @@ moved (Some r) s next = (refused r, s)
 
 -- what a command is answered from s, and the machine after it
 abbrev pub given : Machine → Command → Answer × Machine
-given s (command.Change c) = moved (refusal_of (held s) c) s (accepted s (made (held s) c))
-given s (command.Ask q) = (answer_when (asked (held s) q), s)
-given s command.Undo = moved (undo_refusal s) s (undo s)
-given s command.Redo = moved (redo_refusal s) s (redo s)
+given s (Change c) = moved (refusal_of (held s) c) s (accepted s (made (held s) c))
+given s (Ask q) = (answer_when (asked (held s) q), s)
+given s Undo = moved (undo_refusal s) s (undo s)
+given s Redo = moved (redo_refusal s) s (redo s)
 
 -- and what a line asks for
 abbrev pub obeyed : Machine → Request → Answer × Machine
 obeyed s request.Nothing = (Silent, s)
 obeyed s request.List = (Listing, s)
-obeyed s (request.Lamina n ps) = given s (command.Change (change.Lamina n ps))
+obeyed s (request.Lamina n ps) = given s (Change (Lamina n ps))
 obeyed s (request.Give c) = given s c
 
 -- what a line asks for is obeyed, and a line with a fault is told it

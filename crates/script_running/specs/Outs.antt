@@ -1,13 +1,15 @@
 -- What lines may be answered, one after the other.
 use Rattle.std.specs.Prelude.{◌≡◌, ◌⊎◌, ℕ, ◌==◌, Bool, true, false, not, ◌&&◌, List, [], ◌∷◌, ◌++◌}
-use Rattle.undo_journal.specs.Journal.{Journal}
-use Rattle.script_running.specs.script_judging.Judging.{Judges, answer_text, complains, no_lines, one_line, counted}
-use Rattle.script_running.specs.declared.script_judging.judging.Answer.{Answer}
-use Rattle.script_running.specs.declared.script_judging.judging.Summary.{Summary}
+use Rattle.script_running.specs.Common.{Answer, Journal, Summary}
+use Rattle.script_running.specs.script_judging.Judging.{Judges, answer_text, no_lines, one_line, counted}
 
 -- no reply begins with `refused`, `fault` or `memory`
 abbrev pub is_clean : Summary → Bool
 is_clean n = n.refused == 0 && n.faults == 0 && n.memory == 0
+
+-- the reply begins with one of these
+abbrev pub complains : Answer → Bool
+complains a = not (is_clean (one_line a))
 
 -- the answer ends a run that is to stop
 abbrev pub stops : Bool → Answer → Bool

@@ -1,13 +1,9 @@
 -- What a run may write for the bytes that it read.
 use Rattle.std.specs.Prelude.{◌≡◌, ℕ, ◌≤◌, Bool, false, List, [], ◌++◌, length, Option, Result, Ok, Err}
 use Rattle.std.specs.Io.KnownBytes.{Consumes, Appends, IsAtEnd}
-use Rattle.script_reader.specs.Newline.{Lacks}
-use Rattle.script_reader.specs.Lines.{lines_of, with_newlines, within_limit}
-use Rattle.undo_journal.specs.Journal.{new_journal}
+use Rattle.script_running.specs.Common.{Lacks, RunFault, Summary, lines_of, new_journal, with_newlines, within_limit}
 use Rattle.script_running.specs.Outs.{Outs, was_stopped}
 use Rattle.script_running.specs.Output.{output_of, summary_of}
-use Rattle.script_running.specs.declared.script_judging.judging.Summary.{Summary}
-use Rattle.script_running.specs.declared.running.RunFault.{RunFault}
 use Rattle.script_running.specs.declared.running.RunFault.TheVariants as fault
 
 -- the bytes that the reader gave, the text that the writer took, and what the reader has left

@@ -36,8 +36,5 @@ pub fn lines_are_calls()
 pub fn runs_tell_histories()
     ensures { RunsTellHistories }
 {
-    larger_commands_are_calls();
-    glues_are_calls();
-    splits_are_calls();
-    histories_are_consistent();
+    lines_are_calls();
 }

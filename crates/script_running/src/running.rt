@@ -1,10 +1,7 @@
 //! A whole run.
 ghost use Rattle.std.specs.Prelude.{◌≡◌, [], false, IfOk, IfErr};
 ghost use Rattle.std.specs.Io.KnownBytes.{Keeps};
-ghost use Rattle.solid_listing.specs.Writing.{Puts, Tells, outgoing};
-ghost use Rattle.script_reader.specs.Newline.{has_newline};
-ghost use Rattle.script_reader.specs.State.{reader_of, unread_of, IsFresh};
-ghost use Rattle.undo_journal.specs.Journal.{new_journal};
+ghost use Rattle.script_running.specs.Common.{IsFresh, Puts, Tells, has_newline, new_journal, outgoing, reader_of, unread_of};
 ghost use Rattle.script_running.specs.script_judging.Judging.{answer_text};
 ghost use Rattle.script_running.specs.Outs.{stops};
 ghost use Rattle.script_running.specs.Runs.{Runs};

@@ -1,17 +1,11 @@
 -- What a line is answered whose words ask for something.
 use Rattle.std.proofs.Common.{◌≡◌, inl, inr, ℕ, false, List, codes, length, Result, Ok, Err, sym, subst, nat_lt}
 use Rattle.std.proofs.lemmas.Bool.{cases_Bool}
-use Rattle.undo_journal.specs.Journal.{Journal}
-use Rattle.commands.specs.declared.command.Command.TheVariants as command
+use Rattle.script_running.specs.Common.{Answer, Fault, Journal, Nothing, Redo, Request, Undo, arguments, command_of_words, is_ascii}
 use Rattle.script_reader.specs.Words.{words}
-use Rattle.script_reader.specs.Grammar.{is_ascii, arguments, command_of_words}
-use Rattle.script_reader.specs.declared.command.Request.{Request}
-use Rattle.script_reader.specs.declared.command.Request.TheVariants.{Nothing}
-use Rattle.script_reader.specs.declared.command.Fault.{Fault}
 use Rattle.script_reader.proofs.AsciiWords.{words_tell}
 use Rattle.script_running.specs.script_judging.Judging.{Gives, Judges}
 use Rattle.script_running.specs.script_judging.Settling.{AnswersWords}
-use Rattle.script_running.specs.declared.script_judging.judging.Answer.{Answer}
 
 -- what the words of a line within the limit are answered is what the line is answered
 pub words_judged : (s : Journal) (line : List ℕ) (r : Result Request Fault) (a : Answer) (t : Journal) → nat_lt 65536 (length line) ≡ false → command_of_words (words line) ≡ r → AnswersWords s line r a t → Judges s line a t
@@ -26,10 +20,10 @@ words_judged s line (Err f) a t short e h = elim (cases_Bool (is_ascii line)) [
 words_judged s line (Ok r) a t short e h = rw (words_tell line r short e (λ same. absurd (cc same))) h
 
 -- the lines that are known by their letters
-pub undo_judged : (s : Journal) (line : List ℕ) (a : Answer) (t : Journal) → line ≡ codes "undo" → Gives s command.Undo a t → Judges s line a t
+pub undo_judged : (s : Journal) (line : List ℕ) (a : Answer) (t : Journal) → line ≡ codes "undo" → Gives s Undo a t → Judges s line a t
 unfolding arguments
 undo_judged s line a t is h = subst (λ (l : List ℕ). Judges s l a t) (sym is) h
 
-pub redo_judged : (s : Journal) (line : List ℕ) (a : Answer) (t : Journal) → line ≡ codes "redo" → Gives s command.Redo a t → Judges s line a t
+pub redo_judged : (s : Journal) (line : List ℕ) (a : Answer) (t : Journal) → line ≡ codes "redo" → Gives s Redo a t → Judges s line a t
 unfolding arguments
 redo_judged s line a t is h = subst (λ (l : List ℕ). Judges s l a t) (sym is) h

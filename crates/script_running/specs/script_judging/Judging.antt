@@ -1,27 +1,12 @@
 -- What a line is answered.
-use Rattle.std.specs.Prelude.{◌≡◌, ℕ, ◌+◌, ℤ, pos, Bool, true, false, List, [], ◌∷◌, Result, Ok, Err}
-use Rattle.euler_operators.specs.declared.Refusal.{Refusal}
+use Rattle.std.specs.Prelude.{◌≡◌, ℕ, ◌+◌, ℤ, pos, List, [], ◌∷◌, Result, Ok, Err}
+use Rattle.script_running.specs.Common.{Answer, Change, Command, Fault, Journal, Lamina, Listing, Machine, Refusal, Says, Request, Silent, Summary, TellsSession, Told, command_of, held, listing, reply_text}
 use Rattle.euler_operators.specs.Refusal as refusal
-use Rattle.undo_journal.specs.Machine.{Machine, held}
-use Rattle.undo_journal.specs.Journal.{Journal}
 use Rattle.solid_measure.specs.declared.solid_counts.Tally.{Tally}
-use Rattle.commands.specs.declared.command.Change.TheVariants as change
-use Rattle.commands.specs.declared.command.Command.{Command}
-use Rattle.commands.specs.declared.command.Command.TheVariants as command
-use Rattle.commands.specs.declared.command.Told.{Told}
 use Rattle.commands.specs.declared.command.Told.TheVariants as told
-use Rattle.commands.specs.Telling.{TellsSession}
-use Rattle.script_reader.specs.declared.command.Request.{Request}
 use Rattle.script_reader.specs.declared.command.Request.TheVariants as request
-use Rattle.script_reader.specs.declared.command.Fault.{Fault}
 use Rattle.script_reader.specs.Fault as fault
-use Rattle.script_reader.specs.Grammar.{command_of}
 use Rattle.solid_listing.specs.declared.reply.Reply.TheVariants as reply
-use Rattle.solid_listing.specs.Replies.{reply_text}
-use Rattle.solid_listing.specs.Listing.{listing}
-use Rattle.script_running.specs.declared.script_judging.judging.Answer.{Answer}
-use Rattle.script_running.specs.declared.script_judging.judging.Answer.TheVariants.{Silent, Reply as Says, Listing}
-use Rattle.script_running.specs.declared.script_judging.judging.Summary.{Summary}
 
 abbrev pub done : Answer
 done = Says reply.Done
@@ -44,9 +29,7 @@ answer_when told.Memory = Says reply.Memory
 answer_when (told.Plane p flat) = Says (reply.Plane p flat)
 answer_when (told.Volume n) = Says (reply.Volume n)
 answer_when (told.Counts n) = Says (reply.Count (tally_words n))
-answer_when told.InDraft = Silent
-answer_when told.NoDraft = Silent
-answer_when (told.Steps n) = Silent
+answer_when b = Silent
 
 -- from s a session may answer a command so, and go on to t
 abbrev pub Gives : Journal → Command → Answer → Journal → Type 0
@@ -56,7 +39,7 @@ Gives s c a t = (b : Told) × (a ≡ answer_when b) × TellsSession s c b t
 abbrev pub Obeys : Journal → Request → Answer → Journal → Type 0
 Obeys s request.Nothing a t = (a ≡ Silent) × (t ≡ s)
 Obeys s request.List a t = (a ≡ Listing) × (t ≡ s)
-Obeys s (request.Lamina n ps) a t = Gives s (command.Change (change.Lamina n ps)) a t
+Obeys s (request.Lamina n ps) a t = Gives s (Change (Lamina n ps)) a t
 Obeys s (request.Give c) a t = Gives s c a t
 
 -- what a line asks for is obeyed, and a line with a fault is told it
@@ -74,33 +57,16 @@ answer_text s Silent = []
 answer_text s (Says r) = reply_text r
 answer_text s Listing = listing (held s)
 
--- the reply begins with `refused`, `fault` or `memory`
-abbrev pub complains : Answer → Bool
-complains Silent = false
-complains (Says reply.Done) = false
-complains (Says (reply.Refused n x)) = true
-complains (Says (reply.Fault n)) = true
-complains (Says reply.Memory) = true
-complains (Says (reply.Plane p flat)) = false
-complains (Says (reply.Volume n)) = false
-complains (Says (reply.Count ns)) = false
-complains Listing = false
-
 -- no line yet
 abbrev pub no_lines : Summary
 no_lines = record { lines = 0; refused = 0; faults = 0; memory = 0 }
 
 -- one line with its answer
 abbrev pub one_line : Answer → Summary
-one_line Silent = record { lines = 1; refused = 0; faults = 0; memory = 0 }
-one_line (Says reply.Done) = record { lines = 1; refused = 0; faults = 0; memory = 0 }
 one_line (Says (reply.Refused n x)) = record { lines = 1; refused = 1; faults = 0; memory = 0 }
 one_line (Says (reply.Fault n)) = record { lines = 1; refused = 0; faults = 1; memory = 0 }
 one_line (Says reply.Memory) = record { lines = 1; refused = 0; faults = 0; memory = 1 }
-one_line (Says (reply.Plane p flat)) = record { lines = 1; refused = 0; faults = 0; memory = 0 }
-one_line (Says (reply.Volume n)) = record { lines = 1; refused = 0; faults = 0; memory = 0 }
-one_line (Says (reply.Count ns)) = record { lines = 1; refused = 0; faults = 0; memory = 0 }
-one_line Listing = record { lines = 1; refused = 0; faults = 0; memory = 0 }
+one_line a = record { lines = 1; refused = 0; faults = 0; memory = 0 }
 
 -- the counts of some lines and of those after them
 abbrev pub counted : Summary → Summary → Summary

@@ -1,14 +1,8 @@
 -- What a line comes to where the session lies: an answer; or nothing yet, since the session has to be moved for it.
 use Rattle.std.specs.Prelude.{◌≡◌, ℕ, Bool, true, false, cond, List, Result, Ok, Err}
-use Rattle.undo_journal.specs.Journal.{Journal}
-use Rattle.script_reader.specs.declared.command.Request.{Request}
+use Rattle.script_running.specs.Common.{Answer, Fault, Journal, NotAscii, Request, Silent, is_ascii}
 use Rattle.script_reader.specs.declared.command.Request.TheVariants as request
-use Rattle.script_reader.specs.Grammar.{is_ascii}
-use Rattle.script_reader.specs.declared.command.Fault.{Fault}
-use Rattle.script_reader.specs.declared.command.Fault.TheVariants.{NotAscii}
 use Rattle.script_running.specs.script_judging.Judging.{faulty, Obeys}
-use Rattle.script_running.specs.declared.script_judging.judging.Answer.{Answer}
-use Rattle.script_running.specs.declared.script_judging.judging.Answer.TheVariants.{Silent}
 
 -- what a line within the limit is answered of which this is known, unless it isn't ASCII
 abbrev pub unless_not_ascii : List ℕ → Answer → Answer

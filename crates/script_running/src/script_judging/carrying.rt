@@ -1,6 +1,4 @@
 //! Lines for which the session is moved: it is taken, and given back with the answer.
-ghost use Rattle.commands.specs.declared.command.Change.TheVariants as change;
-ghost use Rattle.commands.specs.declared.command.Command.TheVariants as command;
 ghost use Rattle.script_running.specs.script_judging.Judging.{Gives, Obeys, Judges};
 
 use crate::script_judging::judging::{Answer, answer_when};
@@ -23,7 +21,7 @@ fn carry_lamina(
     solid: u32,
     polygon: &Polygon<'_>,
 ) -> (Session, Answer)
-    ensures { Gives session (command.Change (change.Lamina solid polygon.now)) result.1 result.0 }
+    ensures { Gives session (Command.Change (Change.Lamina solid polygon.now)) result.1 result.0 }
 {
     let corners = polygon.corners();
     let points = Points::of(corners.points());

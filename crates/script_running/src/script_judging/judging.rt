@@ -1,14 +1,11 @@
 //! What a line is answered.
 ghost use Rattle.std.specs.Prelude.{◌≡◌, ◌<◌, ◌≤◌, true};
-ghost use Rattle.commands.specs.declared.command.Change.TheVariants as change;
-ghost use Rattle.commands.specs.declared.command.Command.TheVariants as command;
-ghost use Rattle.commands.specs.Telling.{TellsSession, told_of, told_of_move};
-ghost use Rattle.script_running.specs.script_judging.Judging.{faulty, answer_when, Gives, Judges, complains, one_line, counted};
+ghost use Rattle.script_running.specs.Common.{arguments, is_operator, told_of, told_of_move};
+ghost use Rattle.script_running.specs.script_judging.Judging.{faulty, answer_when, Gives, Judges, one_line, counted};
 ghost use Rattle.script_running.specs.script_judging.Settling.{unless_not_ascii, AnswersWords, Decides};
-ghost use Rattle.script_reader.specs.Grammar.{is_operator, arguments};
-ghost use Rattle.script_running.specs.Outs.{is_clean};
+ghost use Rattle.script_running.specs.Outs.{complains, is_clean};
 
-use commands::{Command, Question, Told, act_on_session, ask};
+use commands::{Change, Command, Question, Told, act_on_session, ask};
 use euler_operators::{Op, Refusal};
 use script_reader::{
     Fault, Name, Opening, Request, Words, arguments, is_ascii, is_long, is_operator, opening_of,
@@ -135,44 +132,32 @@ fn tell_move(ended: Result<(), Refusal>, answer: &mut Answer)
 }
 
 fn act(session: &mut Session, op: Op, answer: &mut Answer)
-    ensures { Gives session.old (command.Change (change.Act op)) answer.new session.new }
+    ensures { Gives session.old (Command.Change (Change.Act op)) answer.new session.new }
 {
     let ended = act_on_session(session, op);
     tell_outcome(ended, answer);
 }
 
-fn moved_back(session: &mut Session) -> Result<(), Refusal>
-    ensures { TellsSession session.old command.Undo (told_of_move result) session.new }
-{
-    session.undo()
-}
-
-fn moved_on(session: &mut Session) -> Result<(), Refusal>
-    ensures { TellsSession session.old command.Redo (told_of_move result) session.new }
-{
-    session.redo()
-}
-
 #[inline(never)]
 fn undo(session: &mut Session, answer: &mut Answer)
-    ensures { Gives session.old command.Undo answer.new session.new }
+    ensures { Gives session.old Command.Undo answer.new session.new }
 {
-    let ended = moved_back(session);
+    let ended = session.undo();
     tell_move(ended, answer);
 }
 
 #[inline(never)]
 fn redo(session: &mut Session, answer: &mut Answer)
-    ensures { Gives session.old command.Redo answer.new session.new }
+    ensures { Gives session.old Command.Redo answer.new session.new }
 {
-    let ended = moved_on(session);
+    let ended = session.redo();
     tell_move(ended, answer);
 }
 
 /// Answers a question. The room for what it is told is here, so that no other line pays for it.
 #[inline(never)]
 fn tell_question(session: &Session, question: Question, answer: &mut Answer)
-    ensures { Gives session.now (command.Ask question) answer.new session.now }
+    ensures { Gives session.now (Command.Ask question) answer.new session.now }
 {
     let told = ask(session.arena(), question);
     *answer = answer_when(told);

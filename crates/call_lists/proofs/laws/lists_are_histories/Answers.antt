@@ -1,5 +1,5 @@
 use Rattle.call_lists.proofs.Histories as histories
-use Rattle.call_lists.proofs.Histories.{LargerAreCalls}
+use Rattle.commands.proofs.Calls.{LargerAreCalls}
 use Rattle.call_lists.proofs.Lists.{lists_keep_whole, each_is_whole}
 use Rattle.call_lists.proofs.laws.lists_are_histories.Goals as goal
 

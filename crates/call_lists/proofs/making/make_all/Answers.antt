@@ -1,8 +1,9 @@
 use Rattle.std.proofs.Common.{◌≡◌, ◌∷◌, [], List, length, vec_len, refl, sym, ap, subst, ◌∙◌, append_assoc, append-nil, arith}
+use Rattle.std.proofs.lemmas.List.{nil_from_length}
 use Rattle.std.specs.Vec.Iter.{into_iter_items}
-use Rattle.commands.specs.declared.command.Call.{Call}
+use Rattle.call_lists.specs.Common.{Call}
 use Rattle.call_lists.specs.Making.{AreTold}
-use Rattle.call_lists.proofs.Lists.{told_more, nothing_left}
+use Rattle.call_lists.proofs.Lists.{told_more}
 use Rattle.call_lists.proofs.making.make_all.Goals as goal
 
 pub loop-call-init : goal.loop-call-init
@@ -32,7 +33,7 @@ loop-call-preserved c =
 pub returns : goal.returns
 returns c =
     let at = c.loop-call in
-    let empty : into_iter_items at.call-iterator ≡ [] = nothing_left _ (sym at.invariant.many ∙ c.in-None.ensures.steps.0) in
+    let empty : into_iter_items at.call-iterator ≡ [] = nil_from_length _ (sym at.invariant.many ∙ c.in-None.ensures.steps.0) in
     let all : at.yielded ≡ c.args.calls.items = sym (append-nil at.yielded) ∙ rw empty at at.invariant.all ∙ c.into_iter-call-iterator.ensures.into_iter_gives.0 in
     record {
       made = subst (λ (calls : List Call). AreTold c.args.stage calls c.args.told.now.items at.told.items at.stage) all at.invariant.told;

@@ -1,7 +1,7 @@
 use Rattle.std.proofs.Common.{ℕ, List, sym, subst}
 use Rattle.script_running.specs.Outs.{Outs}
 use Rattle.script_running.specs.Output.{summary_from}
-use Rattle.script_running.specs.declared.script_judging.judging.Summary.{Summary}
+use Rattle.script_running.specs.Common.{Summary}
 use Rattle.script_running.proofs.Outputs.{outs_so, outs_to, summary_quiet}
 use Rattle.script_running.proofs.laws.one_output.Goals as goal
 

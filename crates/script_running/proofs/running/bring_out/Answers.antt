@@ -1,6 +1,6 @@
 use Rattle.std.proofs.Common.{Ok}
 use Rattle.std.proofs.KnownBytes.{Appends-kept}
-use Rattle.script_running.specs.declared.running.RunFault.{RunFault}
+use Rattle.script_running.specs.Common.{RunFault}
 use Rattle.solid_listing.proofs.TellingLaws.{released}
 use Rattle.script_running.proofs.running.bring_out.Goals as goal
 

@@ -1,13 +1,11 @@
 use Rattle.std.proofs.Common.{◌≡◌, ◌+◌, ℕ, sym, ap, subst, ◌∙◌, arith}
-use Rattle.script_reader.specs.State.{reader_of}
-use Rattle.script_running.specs.declared.script_judging.judging.Summary.{Summary}
+use Rattle.script_running.specs.Common.{Summary, outgoing, reader_of}
 use Rattle.script_running.specs.script_judging.Judging.{no_lines}
 use Rattle.script_running.proofs.Counting.{IsWithin, same_counts, counted_within, one_more}
 use Rattle.script_running.proofs.RunLaws.{Progress, Hears, begins, flushed, turn_of, goes_on, heard_line, heard_moved, heard_long, ends, read_fails, too_long, same_run, telling_fails, stops_there, flush_fails, falls}
 use Rattle.script_running.proofs.running.run_lines.Goals.{in-Line+then-not-judge, in-Line+else-not-judge, in-Long, in-Err, in_default+in-End, in_default+in-Read, in_default+in-TooLong, in_default+in-Err-say, in_default+in_default-say+then-stops}
 use Rattle.script_reader.specs.declared.lines.Found.TheVariants as found
 use Rattle.script_reader.proofs.EndLaws.{no_whole_line}
-use Rattle.solid_listing.specs.Writing.{outgoing}
 use Rattle.script_running.proofs.running.run_lines.Goals as goal
 
 pub script-init : goal.script-init

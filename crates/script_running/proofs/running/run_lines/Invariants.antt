@@ -1,7 +1,5 @@
 use Rattle.std.proofs.Common.{◌+◌, ◌≤◌}
-use Rattle.script_reader.specs.State.{reader_of, taken_of, unread_of}
-use Rattle.script_reader.specs.Script.{to_come}
-use Rattle.solid_listing.specs.Writing.{outgoing}
+use Rattle.script_running.specs.Common.{outgoing, reader_of, taken_of, to_come, unread_of}
 use Rattle.script_running.proofs.Counting.{IsWithin}
 use Rattle.script_running.proofs.RunLaws.{Progress}
 use Rattle.script_running.proofs.running.run_lines.Given as goal

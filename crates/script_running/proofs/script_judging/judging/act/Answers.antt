@@ -1,4 +1,4 @@
-use Rattle.commands.specs.Telling.{told_of}
+use Rattle.script_running.specs.Common.{told_of}
 use Rattle.script_running.proofs.script_judging.judging.act.Goals as goal
 
 pub returns : goal.returns

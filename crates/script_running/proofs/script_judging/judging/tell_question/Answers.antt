@@ -1,5 +1,5 @@
 use Rattle.std.proofs.Common.{ap, refl, ◌∙◌}
-use Rattle.commands.specs.Telling.{asked}
+use Rattle.script_running.specs.Common.{asked}
 use Rattle.script_running.proofs.script_judging.judging.tell_question.Goals as goal
 
 pub returns : goal.returns

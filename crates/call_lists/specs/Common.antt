@@ -1,0 +1,24 @@
+-- The words of the crates below that the files here and promises cite, passed on from one place. Declares nothing.
+pub use Rattle.commands.specs.Calls.{IsCall}
+pub use Rattle.commands.specs.Changes.{MayLack, made, refusal_of}
+pub use Rattle.commands.specs.Telling.{IsWhole, Settled, Tells, TellsDraft, TellsSession, asked, shown}
+pub use Rattle.commands.specs.declared.command.Call.TheVariants.{Abandon, Back, Commit, Give, Mark, Open}
+pub use Rattle.commands.specs.declared.command.Call.{Call}
+pub use Rattle.commands.specs.declared.command.Command.TheVariants.{Ask, Change, Redo, Undo}
+pub use Rattle.commands.specs.declared.command.Command.{Command}
+pub use Rattle.commands.specs.declared.command.Told.TheVariants.{Done, InDraft, Memory, NoDraft, Refused}
+pub use Rattle.commands.specs.declared.command.Told.{Told}
+pub use Rattle.commands.specs.declared.stage.Stage.TheVariants.{Drafting, Session}
+pub use Rattle.commands.specs.declared.stage.Stage.{Stage}
+pub use Rattle.euler_operators.specs.Common.{Model, empty_model, first_refusal, never, verdict}
+unfoldable pub use Rattle.euler_operators.specs.Common.{first_false}
+pub use Rattle.euler_operators.specs.declared.Op.{Op}
+pub use Rattle.euler_operators.specs.declared.Refusal.{Refusal}
+pub use Rattle.euler_operators.specs.declared.Why.TheVariants.{NothingToRedo, NothingToUndo}
+pub use Rattle.euler_operators.specs.declared.Why.{Why}
+pub use Rattle.gluing.specs.Measure.{answer, six_volume, solid_refusal}
+pub use Rattle.undo_journal.specs.Histories.{IsConsistent, after_calls, redos, tried, undos, unless}
+pub use Rattle.undo_journal.specs.Journal.{DraftJournal, IsFurther, IsRecorded, Journal, after_act, after_commit, after_redo, after_step, after_undo, new_draft, new_journal, plain}
+pub use Rattle.undo_journal.specs.Machine.{DraftState, Machine, accepted, act_refusal, ahead, back_to, commit, depth, draft_step, held, open_draft, redo, redo_refusal, undo, undo_refusal}
+pub use Rattle.undo_journal.specs.Recorded.{model_at}
+pub use Rattle.undo_journal.specs.declared.record.Record.{Record}
