@@ -1,1 +1,2 @@
 pub mod BelowHalves
+pub mod Marks

@@ -2,6 +2,7 @@
 
 mod above;
 mod halves;
+mod marked;
 
 pub(crate) use above::{direction, faces_above};
 pub(crate) use halves::below_halves;

@@ -6,31 +6,24 @@ ghost use Rattle.euler_conditions.specs.Store.{has_number};
 ghost use Rattle.shapes.specs.Common.{boundary, below_halves};
 ghost use Rattle.split_sections.specs.section_edges.BelowHalves.{below_in, below_met, leads_above, leading_above};
 
+use crate::section_edges::marked::{Marked, with_marks};
 use euler_conditions::Arena;
 use euler_operators::{Content, HalfEdge, Kind};
 use solid_walks::items_round;
 use std::alloc::{AllocError, Global};
 
-/// Whether the number is one of those listed, which rise.
-fn is_listed(numbers: &[u32], number: u32) -> bool
-    requires { strictly_rises numbers.now ≡ true }
-    ensures { result ≡ lists numbers.now number }
-{
-    numbers.binary_search(&number).is_ok()
-}
-
 /// Whether the half-edge lies in one of the faces above, which rise.
-fn is_above(arena: &Arena, above: &[u32], h: HalfEdge) -> bool
+fn is_above(arena: &Arena, above: &Marked<'_>, h: HalfEdge) -> bool
     requires ready { IsReady arena.now }
     requires rises { strictly_rises above.now ≡ true }
     requires there { has_half arena.now.model (code h) ≡ true }
     ensures { result ≡ lists above.now (face_at arena.now.model (code h)) }
 {
-    is_listed(above, arena.face_of(arena.loop_of(h)))
+    above.has(arena.face_of(arena.loop_of(h)))
 }
 
 /// Whether the mate of the half-edge lies in one of the faces above, which rise.
-fn leads_above(arena: &Arena, above: &[u32], h: HalfEdge) -> bool
+fn leads_above(arena: &Arena, above: &Marked<'_>, h: HalfEdge) -> bool
     requires ready { IsReady arena.now }
     requires rises { strictly_rises above.now ≡ true }
     requires there { has_half arena.now.model (code h) ≡ true }
@@ -42,7 +35,7 @@ fn leads_above(arena: &Arena, above: &[u32], h: HalfEdge) -> bool
 /// Adds the half-edges of the loop in which h stands whose mates lie in faces above, as they come from h on.
 fn push_leading_in_ring(
     arena: &Arena,
-    above: &[u32],
+    above: &Marked<'_>,
     h: HalfEdge,
     found: &mut Vec<HalfEdge>,
 ) -> Result<(), AllocError>
@@ -62,7 +55,7 @@ fn push_leading_in_ring(
 /// Adds the half-edges of loop l whose mates lie in faces above.
 fn push_leading_in_loop(
     arena: &Arena,
-    above: &[u32],
+    above: &Marked<'_>,
     l: u32,
     found: &mut Vec<HalfEdge>,
 ) -> Result<(), AllocError>
@@ -80,7 +73,7 @@ fn push_leading_in_loop(
 /// Adds the half-edges of face f whose mates lie in faces above; none where f is above itself.
 fn push_below_halves(
     arena: &Arena,
-    above: &[u32],
+    above: &Marked<'_>,
     f: u32,
     found: &mut Vec<HalfEdge>,
 ) -> Result<(), AllocError>
@@ -89,7 +82,7 @@ fn push_below_halves(
     requires there { has_number arena.now Kind.Face f ≡ true }
     ensures { OnOk result (SameItems (map code found.new.items) (map code found.old.items ++ below_in arena.now.model above.now (boundary arena.now.model f))) }
 {
-    if is_listed(above, f) {
+    if above.has(f) {
         return Ok(());
     }
     push_leading_in_loop(arena, above, arena.outer(f), found)?;
@@ -105,7 +98,7 @@ fn push_below_halves(
 fn below_met(
     alloc: Global,
     arena: &Arena,
-    above: &[u32],
+    above: &Marked<'_>,
     s: u32,
 ) -> Result<Vec<HalfEdge>, AllocError>
     requires ready { IsReady arena.now }
@@ -134,7 +127,8 @@ pub(crate) fn below_halves(
     requires there { has_number arena.now Kind.Solid s ≡ true }
     ensures { IfOk result (λ found. map code found.items ≡ below_halves arena.now.model above.now s) }
 {
-    let mut found = below_met(alloc, arena, above, s)?;
+    let faces = with_marks(above);
+    let mut found = below_met(alloc, arena, &faces, s)?;
     found.sort_by_key(|h| h.edge)?;
     Ok(found)
 }

@@ -1,8 +1,13 @@
-use Rattle.std.proofs.Common.{rules}
+use Rattle.std.proofs.Common.{rules, ℕ, List, map, subst}
 use Rattle.std.proofs.lemmas.List.Sorted.{IsNonDecreasingBy-from_sort_by_key}
+use Rattle.euler_operators.specs.Common.{SameItems, code, faces_of}
+use Rattle.split_sections.specs.section_edges.BelowHalves.{below_met}
 use Rattle.split_sections.proofs.section_edges_laws.Sorted.{sorted_met}
 use Rattle.split_sections.proofs.section_edges.halves.below_halves.Goals as goal
 
 pub returns : goal.returns
-returns c = sorted_met c.args.arena.now.model c.args.above.now c.args.s c.requires.ready.sound c.in_ok-found.found.items c.sort_by_key.new.self.items c.in_ok-found.ensures c.sort_by_key.ensures.permutation
+returns c =
+    let M = c.args.arena.now.model in
+    let met = subst (λ (fs : List ℕ). SameItems (map code c.in_ok-found.found.items) (below_met M fs (faces_of M c.args.s))) c.with_marks-faces.ensures c.in_ok-found.ensures in
+    sorted_met M c.args.above.now c.args.s c.requires.ready.sound c.in_ok-found.found.items c.sort_by_key.new.self.items met c.sort_by_key.ensures.permutation
     (IsNonDecreasingBy-from_sort_by_key (λ h. h.edge) _ c.in_ok-sort_by_key.ensures.sorted (λ a r q k. search rules))

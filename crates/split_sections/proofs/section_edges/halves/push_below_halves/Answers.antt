@@ -9,10 +9,10 @@ use Rattle.split_sections.specs.section_edges.BelowHalves.{leads_above, leading_
 use Rattle.split_sections.proofs.section_edges_laws.Leading.{none_below, leading_below, more_met}
 use Rattle.split_sections.proofs.section_edges.halves.push_below_halves.Goals as goal
 
-pub returns-then-is_listed : goal.returns-then-is_listed
-returns-then-is_listed c =
+pub returns-then-has : goal.returns-then-has
+returns-then-has c =
     let had = map code c.args.found.now.items in
-    λ x. ap (count x) (sym (append-nil had) ∙ ap (λ (hs : List ℕ). had ++ hs) (none_below c.args.arena.now.model c.args.above.now c.args.f c.requires.ready.sound c.requires.there (sym c.is_listed.ensures ∙ c.if-is_listed.true)))
+    λ x. ap (count x) (sym (append-nil had) ∙ ap (λ (hs : List ℕ). had ++ hs) (none_below c.args.arena.now.model c.args.above.now c.args.f c.requires.ready.sound c.requires.there (sym c.has.ensures ∙ c.if-has.true)))
 
 pub rings-init : goal.rings-init
 rings-init c =
@@ -36,5 +36,5 @@ pub returns : goal.returns
 returns c =
     let M = c.args.arena.now.model in let fs = c.args.above.now in let had = map code c.rings.found.items in
     let none = sym (append-nil had) ∙ ap (λ (hs : List ℕ). had ++ leading_above M fs hs) (sym (no_items M c.args.f c.rings.last c.in_default.ensures)) in
-    let here = leading_below M fs c.args.f c.requires.ready.sound c.requires.there (sym c.is_listed.ensures ∙ c.if-is_listed.false) in
+    let here = leading_below M fs c.args.f c.requires.ready.sound c.requires.there (sym c.has.ensures ∙ c.if-has.false) in
     λ x. ap (count x) none ∙ c.rings.invariant x ∙ ap (λ (hs : List ℕ). count x (map code c.args.found.now.items ++ hs)) here
