@@ -20,6 +20,7 @@ pub(crate) fn number(corner: Corner) -> u32
 }
 
 /// The edge or the loop of a corner is there.
+#[inline(always)]
 pub(crate) fn known(arena: &Arena, corner: Corner) -> Result<(), Refusal>
     ensures { result ≡ verdict (first_refusal (corner_known arena.now.model corner ∷ [])) }
 {

@@ -14,6 +14,7 @@ use halfedge_arena::Arena;
 ///
 /// It takes no memory. kev walks once round the kept vertex, part over the half-edges of the listed faces; the others look at
 /// a few rows.
+#[inline(always)]
 pub fn check(arena: &Arena, op: &Op) -> Result<(), Refusal>
     requires { IsReady arena.now }
     ensures { result ≡ verdict (first_false arena.now.model op.now) }

@@ -27,6 +27,7 @@ fn is_bare(arena: &Arena, solid: u32) -> bool
 /// Refused, in this order: NumberRange; NoSolid; NotBare, where the solid has more than one face, a ring or an edge. It walks
 /// over nothing.
 #[tactic(auto, unfolding(euler_operators::specs::Conditions::conditions, euler_operators::specs::Conditions::first_false))]
+#[inline(always)]
 pub(crate) fn check_kvfs(arena: &Arena, solid: u32) -> Result<(), Refusal>
     requires { IsReady arena.now }
     ensures { result ≡ verdict (first_false arena.now.model (Op.Kvfs solid)) }
@@ -46,6 +47,7 @@ pub(crate) fn check_kvfs(arena: &Arena, solid: u32) -> Result<(), Refusal>
 /// Refused, in this order: NumberRange; NoEdge; ParallelEdge with the least other edge of the same two ends; KeptEndBare with
 /// the kept vertex, where only this edge leaves it and others leave the killed one. It walks once round the kept vertex.
 #[tactic(auto, unfolding(euler_operators::specs::Conditions::conditions, euler_operators::specs::Conditions::first_false))]
+#[inline(always)]
 pub(crate) fn check_kev(arena: &Arena, gone: HalfEdge) -> Result<(), Refusal>
     requires { IsReady arena.now }
     ensures { result ≡ verdict (first_false arena.now.model (Op.Kev gone)) }
@@ -68,6 +70,7 @@ pub(crate) fn check_kev(arena: &Arena, gone: HalfEdge) -> Result<(), Refusal>
 ///
 /// Refused, in this order: NumberRange; NoEdge; SameFace; HasRings with the face that would go. It walks over nothing.
 #[tactic(auto, unfolding(euler_operators::specs::Conditions::conditions, euler_operators::specs::Conditions::first_false))]
+#[inline(always)]
 pub(crate) fn check_kef(arena: &Arena, gone: HalfEdge) -> Result<(), Refusal>
     requires { IsReady arena.now }
     ensures { result ≡ verdict (first_false arena.now.model (Op.Kef gone)) }
@@ -92,6 +95,7 @@ pub(crate) fn check_kef(arena: &Arena, gone: HalfEdge) -> Result<(), Refusal>
 /// Refused, in this order: NumberRange; NoEdge; LoopTaken; DifferentLoops with the loop of the other half. It walks over
 /// nothing.
 #[tactic(auto, unfolding(euler_operators::specs::Conditions::conditions, euler_operators::specs::Conditions::first_false))]
+#[inline(always)]
 pub(crate) fn check_kemr(arena: &Arena, gone: HalfEdge, ring: u32) -> Result<(), Refusal>
     requires { IsReady arena.now }
     ensures { result ≡ verdict (first_false arena.now.model (Op.Kemr gone ring)) }
@@ -115,6 +119,7 @@ pub(crate) fn check_kemr(arena: &Arena, gone: HalfEdge, ring: u32) -> Result<(),
 /// Refused, in this order: NumberRange; NoFace of the kept face, then of the killed one; SameFace; DifferentSolids with the
 /// killed face's solid; HasRings with the killed face. It walks over nothing.
 #[tactic(auto, unfolding(euler_operators::specs::Conditions::conditions, euler_operators::specs::Conditions::first_false))]
+#[inline(always)]
 pub(crate) fn check_kfmrh(arena: &Arena, kept: u32, killed: u32) -> Result<(), Refusal>
     requires { IsReady arena.now }
     ensures { result ≡ verdict (first_false arena.now.model (Op.Kfmrh kept killed)) }

@@ -13,6 +13,7 @@ use halfedge_arena::Arena;
 /// Refused, in this order: NumberRange; SolidTaken, FaceTaken, LoopTaken, VertexTaken with the number in use; PointRange with
 /// the vertex.
 #[tactic(auto, unfolding(euler_operators::specs::Conditions::conditions, euler_operators::specs::Conditions::first_false))]
+#[inline(always)]
 pub(crate) fn check_mvfs(
     arena: &Arena,
     solid: u32,
@@ -48,6 +49,7 @@ pub(crate) fn check_mvfs(
 /// Refused, in this order: NumberRange; NoEdge or NoLoop of each corner; NotLone of each corner; EdgeTaken; VertexTaken;
 /// PointRange with the vertex; DifferentTails with the second corner's vertex. It walks over nothing.
 #[tactic(auto, unfolding(euler_operators::specs::Conditions::conditions, euler_operators::specs::Conditions::first_false))]
+#[inline(always)]
 pub(crate) fn check_mev(
     arena: &Arena,
     from: Corner,
@@ -86,6 +88,7 @@ pub(crate) fn check_mev(
 /// Refused, in this order: NumberRange; NoEdge of each corner; EdgeTaken; FaceTaken; LoopTaken; DifferentLoops with the second
 /// corner's loop; SameTail with the vertex. It walks over nothing.
 #[tactic(auto, unfolding(euler_operators::specs::Conditions::conditions, euler_operators::specs::Conditions::first_false))]
+#[inline(always)]
 pub(crate) fn check_mef(
     arena: &Arena,
     from: HalfEdge,
@@ -129,6 +132,7 @@ pub(crate) fn check_mef(
 /// Refused, in this order: NumberRange; NoEdge or NoLoop of each corner; NotLone of each corner; EdgeTaken; SameLoop;
 /// DifferentFaces with the second corner's face; NotRing with its loop; SameTail with the vertex. It walks over nothing.
 #[tactic(auto, unfolding(euler_operators::specs::Conditions::conditions, euler_operators::specs::Conditions::first_false))]
+#[inline(always)]
 pub(crate) fn check_mekr(
     arena: &Arena,
     from: Corner,
@@ -165,6 +169,7 @@ pub(crate) fn check_mekr(
 ///
 /// Refused, in this order: NumberRange; NoLoop; FaceTaken; NotRing. It walks over nothing.
 #[tactic(auto, unfolding(euler_operators::specs::Conditions::conditions, euler_operators::specs::Conditions::first_false))]
+#[inline(always)]
 pub(crate) fn check_mfkrh(arena: &Arena, ring: u32, face: u32) -> Result<(), Refusal>
     requires { IsReady arena.now }
     ensures { result ≡ verdict (first_false arena.now.model (Op.Mfkrh ring face)) }

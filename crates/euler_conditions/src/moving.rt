@@ -35,6 +35,7 @@ fn ring_and_face(arena: &Arena, ring: u32, face: u32) -> Result<(), Refusal>
 /// Refused, in this order: NumberRange; NoLoop; NoFace; DifferentSolids with the face's solid; NotRing; SameFace. It walks over
 /// nothing.
 #[tactic(auto, unfolding(euler_operators::specs::Conditions::conditions, euler_operators::specs::Conditions::first_false))]
+#[inline(always)]
 pub(crate) fn check_ring_in(arena: &Arena, ring: u32, face: u32) -> Result<(), Refusal>
     requires { IsReady arena.now }
     ensures { result ≡ verdict (first_false arena.now.model (Op.RingIn ring face)) }
@@ -50,6 +51,7 @@ pub(crate) fn check_ring_in(arena: &Arena, ring: u32, face: u32) -> Result<(), R
 ///
 /// Refused, in this order: NumberRange; NoLoop; NoFace; DifferentSolids with the face's solid; NotRing. It walks over nothing.
 #[tactic(auto, unfolding(euler_operators::specs::Conditions::conditions, euler_operators::specs::Conditions::first_false))]
+#[inline(always)]
 pub(crate) fn check_ring_out(arena: &Arena, ring: u32, face: u32) -> Result<(), Refusal>
     requires { IsReady arena.now }
     ensures { result ≡ verdict (first_false arena.now.model (Op.RingOut ring face)) }
@@ -61,6 +63,7 @@ pub(crate) fn check_ring_out(arena: &Arena, ring: u32, face: u32) -> Result<(), 
 ///
 /// Refused, in this order: NumberRange; NoLoop; NoFace; DifferentSolids with the face's solid; NotRing. It walks over nothing.
 #[tactic(auto, unfolding(euler_operators::specs::Conditions::conditions, euler_operators::specs::Conditions::first_false))]
+#[inline(always)]
 pub(crate) fn check_outer(arena: &Arena, ring: u32, face: u32) -> Result<(), Refusal>
     requires { IsReady arena.now }
     ensures { result ≡ verdict (first_false arena.now.model (Op.Outer ring face)) }
@@ -72,6 +75,7 @@ pub(crate) fn check_outer(arena: &Arena, ring: u32, face: u32) -> Result<(), Ref
 ///
 /// Refused, in this order: NumberRange; NoSolid of the kept solid, then of the other; SameSolid. It walks over nothing.
 #[tactic(auto, unfolding(euler_operators::specs::Conditions::conditions, euler_operators::specs::Conditions::first_false))]
+#[inline(always)]
 pub(crate) fn check_merge(arena: &Arena, kept: u32, gone: u32) -> Result<(), Refusal>
     requires { IsReady arena.now }
     ensures { result ≡ verdict (first_false arena.now.model (Op.Merge kept gone)) }

@@ -116,6 +116,7 @@ impl Session {
     }
 
     /// Applies an operator and records it in the place of those ahead. On `AllocError` nothing has changed.
+    #[inline(always)]
     fn accept(&mut self, op: Op) -> Result<(), AllocError>
         requires { act_refusal self.old.machine op ≡ None }
         ensures ok { OnOk result (self.new ≡ after_act self.old op) }
@@ -138,6 +139,7 @@ impl Session {
     /// One operator as a command. Where one of its conditions is false the first such is named, with its value; where
     /// memory is refused `Memory` is answered. Then nothing has changed. An accepted command drops the models ahead with their
     /// records, and leaves a record of its own.
+    #[inline(always)]
     pub fn act(&mut self, op: Op) -> Result<(), Failure>
         ensures ok { OnOk result ((act_refusal self.old.machine op ≡ None) × (self.new ≡ after_act self.old op)) }
         ensures refused { (refusal : Refusal) → ((result ≡ Err (Failure.Refused refusal)) ↔ (act_refusal self.old.machine op ≡ Some refusal)) }
