@@ -5,3 +5,4 @@ pub mod Listed
 pub mod Meeting
 pub mod Machines
 pub mod Wedge
+pub mod Halving

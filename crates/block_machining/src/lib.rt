@@ -4,14 +4,15 @@
 //! What the functions say of volumes, sides and undo is proved from the contracts of the calls and the laws beside them; what no law
 //! tells, as the volume of each part alone, is computed on the plain machine.
 //!
-//! `machining` has the commands of the workbench with what a program wants of them, `blocks`, `bosses` and `wedges` what is made with these,
-//! `lists` a list of calls that is made in one.
+//! `machining` has the commands of the workbench with what a program wants of them, `blocks`, `bosses`, `halves` and `wedges` what is
+//! made with these, `lists` a list of calls that is made in one.
 //!
 //! # What is proved
 //!
 //! Of functions that call the kernel as a stranger would, from contracts and laws: none of its commands is refused, so that the
 //! only error is that memory is. A block, a lamina, a sweep, with a ring too, and a glue are accepted by the laws of
-//! `command_laws`, the cut and single operators by the conditions of the plain machine, computed. The block that it makes has
+//! `command_laws`, the cut of a block of any sizes by that of `split_caps`, the other cut and single operators by the conditions
+//! of the plain machine, computed. The block that it makes has
 //! 144 as its six volumes, and eight vertices, twelve edges and six faces, with a spur one vertex and one edge more, with an
 //! edge across its top one edge and one face more and no other volume; a swept face, with rings or without, adds three times
 //! its normal along the vector, and keeps its loops with their corners moved; the solid that comes of two glued faces has the
@@ -30,12 +31,14 @@
 
 mod blocks;
 mod bosses;
+mod halves;
 mod lists;
 mod machining;
 mod wedges;
 
 pub use blocks::{machined, parted, scored, spurred, taken_back, underlaid};
 pub use bosses::pocketed;
+pub use halves::halved;
 pub use lists::made;
 pub use machining::known;
 pub use wedges::wedge;
