@@ -5,4 +5,5 @@ pub mod Whole
 mod Uncut
 mod PartFaces
 mod DrawnFaces
+mod Lower
 mod Pieces

@@ -1,13 +1,13 @@
 -- The faces of the two parts of a split: those of the solid, pieces of those that straddle the plane, and caps.
-use Rattle.std.proofs.Common.{◌≡◌, ◌⊎◌, ℕ, ◌+◌, Bool, true, false, cond, not, ◌&&◌, List, [], ◌∷◌, ◌++◌, length, Option, Some, None, is_some, option_map, refl, sym, ap, subst, ◌∙◌, arith, inl, inr, true≢false}
+use Rattle.std.proofs.Common.{◌≡◌, ◌⊎◌, ℕ, ◌+◌, Bool, true, false, cond, not, ◌&&◌, ◌||◌, List, [], ◌∷◌, ◌++◌, length, Option, Some, None, is_some, option_map, refl, sym, ap, subst, ◌∙◌, arith, inl, inr, true≢false}
 use Rattle.std.proofs.lemmas.Bool.{and_parts}
 use Rattle.std.proofs.lemmas.Bool.Decides.{eqb_tells}
 use Rattle.std.proofs.lemmas.Grind.{flat_map-append}
-use Rattle.euler_operators.specs.Common.{Plane, IsIn, count, direction, origin, same_point, FaceRow, Model, solid_of, Sound, Has, kfmrh, part}
+use Rattle.euler_operators.specs.Common.{Plane, IsIn, count, direction, origin, same_point, FaceRow, Model, solid_of, faces_of, Sound, Has, kfmrh, part}
 use Rattle.euler_operators.specs.Table as table
-use Rattle.euler_operators.proofs.Common.{count-append, get-remove_here, get-remove_other, no_row, row_some, same_solid, tick_same}
+use Rattle.euler_operators.proofs.Common.{IsIn-filter, count-append, get-remove_here, get-remove_other, no_row, row_some, same_solid, tick_same}
 use Rattle.euler_laws.proofs.Common.{listed-from_in}
-use Rattle.shapes.specs.Common.{corners, is_plane_of, plane_of, faces_above, straddling_faces, Drawing, with_drawings, below_halves, section_cycles, Caps, Opening, holes_closed, opened_along, opened_at, face_is_above}
+use Rattle.shapes.specs.Common.{corners, is_plane_of, plane_of, reaches_above, reaches_below, straddles, faces_above, straddling_faces, Drawing, with_drawings, below_halves, section_cycles, Caps, Opening, holes_closed, opened_along, opened_at, face_is_above}
 use Rattle.shapes.proofs.Common.{are_on, face_listed, get-put_cases}
 use Rattle.split_drawing_laws.proofs.drawn_volumes.DrawWhole.{drawn_lies}
 use Rattle.split_opening_laws.specs.sections.Capped.{cap_faces}
@@ -17,7 +17,9 @@ use Rattle.split_opening_laws.proofs.sections.OpenedRows as rows
 use Rattle.split_laws.specs.volumes.Laws.{CanBeSplit}
 use Rattle.split_drawing_laws.proofs.crossings.Whole.{crossings_keep}
 use Rattle.split_drawing_laws.specs.crossings.Laws.{CanBegin}
-use Rattle.split_laws.proofs.drawn.Drawn.{begins, drawn_sound, drawn_stays}
+use Rattle.split_laws.proofs.drawn.Drawn.{begins, drawn_sound, drawn_stays, never_stuck}
+use Rattle.split_drawing_laws.proofs.face_sides.Begun.{none_straddles}
+use Rattle.split_drawing_laws.proofs.crossings.Premises.{in_solid}
 use Rattle.split_laws.proofs.measures.Splittable.{can_be_split}
 use Rattle.split_laws.proofs.volumes.Closed.{closing_carries}
 use Rattle.split_laws.proofs.volumes.Split as split
@@ -25,9 +27,10 @@ use Rattle.undo_journal.specs.Machine.{Machine, held}
 use Rattle.plane_split.specs.SplitModels.{IsSplit}
 use Rattle.command_laws.proofs.Owners.{is_of, neither, turned}
 use Rattle.command_laws.proofs.Turned.{turned_lies}
-use Rattle.split_frames.specs.Laws.{IsCap, IsOfEither, IsPiece, LiesInPlaneOf, SplitKeepsPlanes, SplitPartsFaces}
+use Rattle.split_frames.specs.Laws.{IsCap, IsOfEither, IsPiece, LiesInPlaneOf, SplitKeepsPlanes, SplitPartsFaces, StraddlingStayBelow}
 use Rattle.split_frames.proofs.DrawnFaces.{drawn_in}
 use Rattle.split_frames.proofs.DrawnWithin.{drawings_within}
+use Rattle.split_frames.proofs.Lower.{stays_low}
 use Rattle.split_frames.proofs.PartFaces.{part_of, part_turned}
 use Rattle.split_frames.proofs.Steps.{Within, face_in}
 use Rattle.split_frames.proofs.Whole.{after_is, drawn_agree}
@@ -74,6 +77,12 @@ parted_had K s t us k there = go (table.get K.faces k) (sym (ap is_some (split.r
   go : (o : Option FaceRow) → is_some (option_map (split.go K s t us k) o) ≡ true → is_some o ≡ true
   go None e = e
   go (Some row) e = refl
+
+-- what reaches below and doesn't straddle isn't above
+not_above : (a b c : Bool) → b ≡ true → (a && b) ≡ false → (a || (not b && c)) ≡ false
+not_above true true c e f = absurd (true≢false f)
+not_above false true c e f = refl
+not_above a false c e f = absurd (true≢false (sym e))
 
 -- ---- a whole split
 
@@ -131,6 +140,15 @@ module _ (before after : Machine) (s : ℕ) (p : Plane) (t : ℕ) (sound : Sound
     pub kept_plane : Has N.faces k × IsOfEither N s t k × LiesInPlaneOf M N k k
     kept_plane = ((part_turned M s p t sound made.0 k drawn_there drawn_of).there, part_either k drawn_there drawn_of, part_lies k (plane_of M k) drawn_there drawn_of own_plane)
 
+    -- below, where the plane straddles it
+    pub kept_below : straddles M p k ≡ true → solid_of N k ≡ s
+    unfolding straddles face_is_above
+    kept_below across =
+        let i = IsIn-filter (straddles M p) k (faces_of M s) (in_solid M k s there of) across in
+        let low = stays_low M s p t sound made.0 k i in
+        let one = none_straddles M d.model s p t sound begun (never_stuck M s p t sound made.0, refl) k (face_listed d.model (drawn_sound M s p t sound made.0) s k drawn_there drawn_of) in
+        part_of M s p t sound made.0 k drawn_there drawn_of ∙ ap (λ b. cond b t s) (not_above (reaches_above d.model p k) (reaches_below d.model p k) _ low one)
+
   -- ---- each face of the parts
 
   module _ (k : ℕ) (there : Has N.faces k) (of : IsOfEither N s t k) where
@@ -170,6 +188,9 @@ module _ (before after : Machine) (s : ℕ) (p : Plane) (t : ℕ) (sound : Sound
 pub split_keeps_planes : SplitKeepsPlanes
 split_keeps_planes before after s p t k sound made there of =
     subst (λ N. Has N.faces k × IsOfEither N s t k × LiesInPlaneOf (held before) N k k) (sym (after_is before after s p t sound made)) (kept_plane before after s p t sound made k there of)
+
+pub straddling_stay_below : StraddlingStayBelow
+straddling_stay_below before after s p t k sound made there of across = ap (λ N. solid_of N k) (after_is before after s p t sound made) ∙ kept_below before after s p t sound made k there of across
 
 pub split_parts_faces : SplitPartsFaces
 split_parts_faces before after s p t k sound made there of =

@@ -58,6 +58,11 @@ abbrev pub SplitKeepsPlanes : Type 0
 SplitKeepsPlanes = (before after : Machine) (s : ℕ) (p : Plane) (t k : ℕ) → Sound (held before) → IsSplit before after s p t → Has (held before).faces k → solid_of (held before) k ≡ s →
     Has (held after).faces k × IsOfEither (held after) s t k × LiesInPlaneOf (held before) (held after) k k
 
+-- one that the plane straddles is of the part below
+abbrev pub StraddlingStayBelow : Type 0
+StraddlingStayBelow = (before after : Machine) (s : ℕ) (p : Plane) (t k : ℕ) → Sound (held before) → IsSplit before after s p t → Has (held before).faces k → solid_of (held before) k ≡ s →
+    straddles (held before) p k ≡ true → solid_of (held after) k ≡ s
+
 -- face k of N is a piece of a face of solid s of M that straddles plane p: it lies in the plane of that face
 pub record IsPiece (M N : Model) (s : ℕ) (p : Plane) (k : ℕ) : Type 0 where
   pub face : ℕ

@@ -11,7 +11,7 @@
 //! one of the parts and lies in the plane in which it lay; each other face of the parts lies in that of a face that the plane
 //! straddles, or is a cap. Not proved: which of the two is on which side.
 
-ghost use Rattle.split_frames.specs.Laws.{SplitKeepsRows, SplitKeepsOwners, SplitKeepsLoops, SplitKeepsEdges, SplitKeepsPoints, SplitKeepsShapes, SplitKeepsBelow, SplitSharesFaces, SplitKeepsPlanes, SplitPartsFaces};
+ghost use Rattle.split_frames.specs.Laws.{SplitKeepsRows, SplitKeepsOwners, SplitKeepsLoops, SplitKeepsEdges, SplitKeepsPoints, SplitKeepsShapes, SplitKeepsBelow, SplitSharesFaces, SplitKeepsPlanes, SplitPartsFaces, StraddlingStayBelow};
 
 /// After a split the faces of other solids, their loops, edges and vertices are as they were.
 pub fn splits_leave_alone()
@@ -35,5 +35,6 @@ pub fn splits_share_faces()
 /// in which it lay. Each other face of the parts is a piece of one that the plane straddles, in its plane, or a cap.
 pub fn splits_part_faces()
     ensures planes { SplitKeepsPlanes }
+    ensures straddling { StraddlingStayBelow }
     ensures pieces { SplitPartsFaces }
 {}
