@@ -4,19 +4,17 @@ use Rattle.session_slots.proofs.Walking.{‵, raw, ◌⊛◌, ◌$◌, ◌∵◌
 use Rattle.session_slots.proofs.Pointers.{proved_at, word, word-Good, SProp, ent, id⊢, ftrue, Val, vptr, WpFn, tables, yes, Valss, RawPtr, Ptr, block_ptr, ptr_val, plain, nothing, within, shape, Stays, stay_dropped, walk_of, says, ends_at, Goes-blank, Z, LZ, ghosts, R}
 use Rattle.session_slots.proofs.Values.{both, loose_good, loose_out}
 use Rattle.session_slots.proofs.KeptSteps.{Own, Lr, own_in}
-use Rattle.session_slots.specs.contracts.kept.Kept.lay_down.Key.{name as #self}
 use Rattle.session_slots.proofs.kept.Kept.lay_down.Statement.{statement}
 use Rattle.session_slots.specs.contracts.kept.Kept as kept
-use Rattle.session_slots.specs.contracts.kept.Kept.lay_down as f
 use Rattle.session_slots.proofs.kept.Kept.lay_down.Code as code
 
-abbrev stayed : Stays f.ended.signature.params f.ended.kept
+abbrev stayed : Stays kept.lay_down.ended.signature.params kept.lay_down.ended.kept
 stayed = (stay_dropped (plain (λ _. Lr R)) yes, tt)
 
 pub lay_down_spec : {M : Type 1} → statement M
 lay_down_spec 𝓤 𝓛 𝓜 𝓡 wired =
-    let H = 𝓛.H in let c = f.clauses 𝓛 𝓜.mem 𝓡.returns in let W = walk_of 𝓛 f.ended stayed c in let 𝓣 = tables 𝓤 H 𝓜 𝓡 𝓡.env in
-    proved_at 𝓛 f.ended stayed c 𝓜 𝓡 (Goes-blank 𝓛 0 (plain (λ _. Lr R)) yes (λ κs x w. tt), tt) #self code.function (code.unfolded 𝓤 H 𝓜 𝓡 wired) (λ z are.
+    let H = 𝓛.H in let c = kept.lay_down.clauses 𝓛 𝓜.mem 𝓡.returns in let W = walk_of 𝓛 kept.lay_down.ended stayed c in let 𝓣 = tables 𝓤 H 𝓜 𝓡 𝓡.env in
+    proved_at 𝓛 kept.lay_down.ended stayed c 𝓜 𝓡 (Goes-blank 𝓛 0 (plain (λ _. Lr R)) yes (λ κs x w. tt), tt) kept.lay_down.Key.name code.function (code.unfolded 𝓤 H 𝓜 𝓡 wired) (λ z are.
     let d = z.0.3.0 in let vs = z.0.4.0 in let Post : Val → SProp 𝓤 = W.post z in let Run : List Val → SProp 𝓤 = λ us. WpFn 𝓤 H 𝓣.C 𝓣.Λ code.function us Post in
     qed 𝓛 ((‵ ftrue ⊛ ‵ ((Lr R).own_val d vs) ⊛ ‵ ftrue) ∷ raw ((c z.0.0 z.0.3).requires z.1) ∷ []) ∵
     split ! $ move ! (1 ∷ []) $ split ! $ keep ! (0 ∷ []) $ loose_out R Z LZ ghosts ! d vs (λ b o h e ws fits. let p : Ptr = block_ptr b o in let v = both (vptr b o) h in
@@ -30,5 +28,5 @@ lay_down_spec 𝓤 𝓛 𝓜 𝓡 wired =
     nothing ! $ feq_i ! (List Val) (ptr_val p ∷ []) (ptr_val p ∷ []) refl $ fjoin ! $ feq_i ! (List Val) (word p ∷ []) (word p ∷ []) refl $ fjoin ! $
     fpack ! (Valss (RawPtr ∷ [])) (within (shape kept.the_type) (p, tt) (word p ∷ [])) (ptr_val p ∷ [], tt) $ fjoin ! $
     returns ! (look_at ! 0 refl) $ free_all ! refl $ keep ! (0 ∷ []) $
-    suffices ! _ (ends_at 𝓛 f.ended stayed c z (word p) out (tt, tt) (tt, tt)) $ says ! refl $
+    suffices ! _ (ends_at 𝓛 kept.lay_down.ended stayed c z (word p) out (tt, tt) (tt, tt)) $ says ! refl $
     nothing ! $ nothing ! $ fjoin ! $ nothing ! $ done !)))

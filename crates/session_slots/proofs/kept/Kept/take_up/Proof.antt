@@ -5,19 +5,17 @@ use Rattle.session_slots.proofs.Pointers.{proved_at, word, word-Good, SProp, ent
 use Rattle.session_slots.specs.Common.{kept_owns}
 use Rattle.session_slots.proofs.Values.{both, loose_good, loose_in}
 use Rattle.session_slots.proofs.KeptSteps.{Boxed, heap, own_out, some_of}
-use Rattle.session_slots.specs.contracts.kept.Kept.take_up.Key.{name as #self}
 use Rattle.session_slots.proofs.kept.Kept.take_up.Statement.{statement}
 use Rattle.session_slots.specs.contracts.kept.Kept as kept
-use Rattle.session_slots.specs.contracts.kept.Kept.take_up as f
 use Rattle.session_slots.proofs.kept.Kept.take_up.Code as code
 
-abbrev stayed : Stays f.ended.signature.params f.ended.kept
+abbrev stayed : Stays kept.take_up.ended.signature.params kept.take_up.ended.kept
 stayed = (stay_dropped (plain (λ _. kept.the_row)) yes, (stay_dropped (plain (λ _. Z)) yes, tt))
 
 pub take_up_spec : {M : Type 1} → statement M
 take_up_spec 𝓤 𝓛 𝓜 𝓡 wired =
-    let H = 𝓛.H in let c = f.clauses 𝓛 𝓜.mem 𝓡.returns in let W = walk_of 𝓛 f.ended stayed c in let 𝓣 = tables 𝓤 H 𝓜 𝓡 𝓡.env in
-    proved_at 𝓛 f.ended stayed c 𝓜 𝓡 (Goes-blank 𝓛 0 (plain (λ _. kept.the_row)) yes (λ κs x w. tt), (Goes-dropped 𝓛 0 (plain (λ _. Z)) yes (λ κs x w. refl), tt)) #self code.function (code.unfolded 𝓤 H 𝓜 𝓡 wired) (λ z are.
+    let H = 𝓛.H in let c = kept.take_up.clauses 𝓛 𝓜.mem 𝓡.returns in let W = walk_of 𝓛 kept.take_up.ended stayed c in let 𝓣 = tables 𝓤 H 𝓜 𝓡 𝓡.env in
+    proved_at 𝓛 kept.take_up.ended stayed c 𝓜 𝓡 (Goes-blank 𝓛 0 (plain (λ _. kept.the_row)) yes (λ κs x w. tt), (Goes-dropped 𝓛 0 (plain (λ _. Z)) yes (λ κs x w. refl), tt)) kept.take_up.Key.name code.function (code.unfolded 𝓤 H 𝓜 𝓡 wired) (λ z are.
     let d = z.0.3.0 in let alloc = z.0.3.1.0 in let vs = z.0.4.0 in let zs = z.0.4.1.0 in let Post : Val → SProp 𝓤 = W.post z in let Run : List Val → SProp 𝓤 = λ us. WpFn 𝓤 H 𝓣.C 𝓣.Λ code.function us Post in
     let Asked : Type 0 = IsSome d.value in
     qed 𝓛 ((‵ ftrue ⊛ ‵ (kept.the_row.own_val d vs) ⊛ ‵ (Z.own_val alloc zs) ⊛ ‵ ftrue) ∷ raw (fact 𝓤 Asked) ∷ []) ∵
@@ -37,5 +35,5 @@ take_up_spec 𝓤 𝓛 𝓜 𝓡 wired =
     sets ! (agg ! (and_then ! (get ! refl) (and_then ! (get ! refl) (no_more !)))) refl (loose_good R Z LZ ghosts b o h fits) $
     loose_in R Z LZ ghosts ! b o h alloc x $
     returns ! (look_at ! 0 refl) $ free_all ! refl $ keep ! (0 ∷ []) $
-    suffices ! _ (ends_at 𝓛 f.ended stayed c z (both (vptr b o) h) (record { at = p; alloc = alloc; value = x }) (tt, (tt, tt)) (tt, (tt, tt))) $ says ! (sym found.1) $
+    suffices ! _ (ends_at 𝓛 kept.take_up.ended stayed c z (both (vptr b o) h) (record { at = p; alloc = alloc; value = x }) (tt, (tt, tt)) (tt, (tt, tt))) $ says ! (sym found.1) $
     nothing ! $ nothing ! $ fjoin ! $ nothing ! $ fjoin ! $ nothing ! $ done !))))))))

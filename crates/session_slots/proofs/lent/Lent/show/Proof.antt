@@ -4,20 +4,18 @@ use Rattle.session_slots.proofs.Walking.{sem, ‵, raw, ◌⊛◌, ◌$◌, ◌�
 use Rattle.session_slots.proofs.Pointers.{proved_at, word, word-Good, SProp, ent, id⊢, never, fst∗, ftrue, Val, vstruct, of_list, WpFn, fact, tables, yes, Valss, shared_of, RawPtr, Ptr, block_ptr, ptr_val, in_a_block, plain, nothing, heard, lent_at, within, shape, Stays, stay_dropped, walk_of, says, ends_at, Goes-blank, R}
 use Rattle.session_slots.specs.Common.{Loan, lent_owns}
 use Rattle.session_slots.proofs.KeptSteps.{some_of}
-use Rattle.session_slots.specs.contracts.lent.Lent.show.Key.{name as #self}
 use Rattle.session_slots.proofs.lent.Lent.show.Statement.{statement}
 use Rattle.session_slots.specs.contracts.lent.Lent as from
 use Rattle.session_slots.specs.contracts.lent.Shown as to
-use Rattle.session_slots.specs.contracts.lent.Lent.show as f
 use Rattle.session_slots.proofs.lent.Lent.show.Code as code
 
-abbrev stayed : Stays f.ended.signature.params f.ended.kept
+abbrev stayed : Stays from.show.ended.signature.params from.show.ended.kept
 stayed = (stay_dropped (plain (λ _. from.the_row)) yes, tt)
 
 pub show_spec : {M : Type 1} → statement M
 show_spec 𝓤 𝓛 𝓜 𝓡 wired =
-    let H = 𝓛.H in let c = f.clauses 𝓛 𝓜.mem 𝓡.returns in let W = walk_of 𝓛 f.ended stayed c in let 𝓣 = tables 𝓤 H 𝓜 𝓡 𝓡.env in
-    proved_at 𝓛 f.ended stayed c 𝓜 𝓡 (Goes-blank 𝓛 0 (plain (λ _. from.the_row)) yes (λ κs x w. tt), tt) #self code.function (code.unfolded 𝓤 H 𝓜 𝓡 wired) (λ z are.
+    let H = 𝓛.H in let c = from.show.clauses 𝓛 𝓜.mem 𝓡.returns in let W = walk_of 𝓛 from.show.ended stayed c in let 𝓣 = tables 𝓤 H 𝓜 𝓡 𝓡.env in
+    proved_at 𝓛 from.show.ended stayed c 𝓜 𝓡 (Goes-blank 𝓛 0 (plain (λ _. from.the_row)) yes (λ κs x w. tt), tt) from.show.Key.name code.function (code.unfolded 𝓤 H 𝓜 𝓡 wired) (λ z are.
     let d = z.0.3.0 in let vs = z.0.4.0 in let Post : Val → SProp 𝓤 = W.post z in let Run : List Val → SProp 𝓤 = λ us. WpFn 𝓤 H 𝓣.C 𝓣.Λ code.function us Post in
     let Asked : Type 0 = IsSome d.loan in
     qed 𝓛 ((‵ ftrue ⊛ ‵ (from.the_row.own_val d vs) ⊛ ‵ ftrue) ∷ raw (fact 𝓤 Asked) ∷ []) ∵
@@ -36,5 +34,5 @@ show_spec 𝓤 𝓛 𝓜 𝓡 wired =
     nothing ! $ feq_i ! (List Val) (ptr_val p ∷ []) (ptr_val p ∷ []) refl $ fjoin ! $ feq_i ! (List Val) (word p ∷ []) (word p ∷ []) refl $ fjoin ! $
     fpack ! (Valss (RawPtr ∷ [])) (within (shape to.the_type) (p, tt) (word p ∷ [])) (ptr_val p ∷ [], tt) $ fjoin ! $
     returns ! (look_at ! 0 refl) $ free_all ! refl $ keep ! (0 ∷ []) $
-    suffices ! _ (ends_at 𝓛 f.ended stayed c z (word p) out (tt, tt) (tt, tt)) $ says ! (sym found.1) $
+    suffices ! _ (ends_at 𝓛 from.show.ended stayed c z (word p) out (tt, tt) (tt, tt)) $ says ! (sym found.1) $
     nothing ! $ nothing ! $ fjoin ! $ nothing ! $ done !)))))))

@@ -2,20 +2,18 @@
 use Rattle.std.proofs.Common.{◌≡◌, List, [], ◌∷◌, ◌++◌, Some, refl, sym, subst}
 use Rattle.session_slots.proofs.Walking.{sem, ‵, raw, ◌⊛◌, ◌$◌, ◌∵◌, !, qed, move, keep, split, fsplit, fjoin, fpick, fpack, feq_l, feq_i, suffices, done, agg, sub, whole, stop, fld, of_opd, and_then, no_more, returns, enter, alloc_all, pass_all, free_all, look_at, get, get_in, sets}
 use Rattle.session_slots.proofs.Pointers.{proved_at, word, word-Good, SProp, ent, id⊢, never, fst∗, ftrue, Val, vstruct, of_list, WpFn, tables, yes, Valss, shared_of, RawPtr, Ptr, block_ptr, ptr_val, in_a_block, plain, nothing, lent_at, within, shape, Stays, stay_dropped, walk_of, says, ends_at, Goes-blank, R}
-use Rattle.session_slots.specs.contracts.lent.Shown.hide.Key.{name as #self}
 use Rattle.session_slots.proofs.lent.Shown.hide.Statement.{statement}
 use Rattle.session_slots.specs.contracts.lent.Shown as from
 use Rattle.session_slots.specs.contracts.lent.Lent as to
-use Rattle.session_slots.specs.contracts.lent.Shown.hide as f
 use Rattle.session_slots.proofs.lent.Shown.hide.Code as code
 
-abbrev stayed : Stays f.ended.signature.params f.ended.kept
+abbrev stayed : Stays from.hide.ended.signature.params from.hide.ended.kept
 stayed = (stay_dropped (plain (λ _. from.the_row)) yes, tt)
 
 pub hide_spec : {M : Type 1} → statement M
 hide_spec 𝓤 𝓛 𝓜 𝓡 wired =
-    let H = 𝓛.H in let c = f.clauses 𝓛 𝓜.mem 𝓡.returns in let W = walk_of 𝓛 f.ended stayed c in let 𝓣 = tables 𝓤 H 𝓜 𝓡 𝓡.env in
-    proved_at 𝓛 f.ended stayed c 𝓜 𝓡 (Goes-blank 𝓛 0 (plain (λ _. from.the_row)) yes (λ κs x w. tt), tt) #self code.function (code.unfolded 𝓤 H 𝓜 𝓡 wired) (λ z are.
+    let H = 𝓛.H in let c = from.hide.clauses 𝓛 𝓜.mem 𝓡.returns in let W = walk_of 𝓛 from.hide.ended stayed c in let 𝓣 = tables 𝓤 H 𝓜 𝓡 𝓡.env in
+    proved_at 𝓛 from.hide.ended stayed c 𝓜 𝓡 (Goes-blank 𝓛 0 (plain (λ _. from.the_row)) yes (λ κs x w. tt), tt) from.hide.Key.name code.function (code.unfolded 𝓤 H 𝓜 𝓡 wired) (λ z are.
     let d = z.0.3.0 in let vs = z.0.4.0 in let Post : Val → SProp 𝓤 = W.post z in let Run : List Val → SProp 𝓤 = λ us. WpFn 𝓤 H 𝓣.C 𝓣.Λ code.function us Post in
     let g = d.loan in
     qed 𝓛 ((‵ ftrue ⊛ ‵ (from.the_row.own_val d vs) ⊛ ‵ ftrue) ∷ raw ((c z.0.0 z.0.3).requires z.1) ∷ []) ∵
@@ -33,5 +31,5 @@ hide_spec 𝓤 𝓛 𝓜 𝓡 wired =
     nothing ! $ feq_i ! (List Val) (ptr_val p ∷ []) (ptr_val p ∷ []) refl $ fjoin ! $ feq_i ! (List Val) (word p ∷ []) (word p ∷ []) refl $ fjoin ! $
     fpack ! (Valss (RawPtr ∷ [])) (within (shape to.the_type) (p, tt) (word p ∷ [])) (ptr_val p ∷ [], tt) $ fjoin ! $
     returns ! (look_at ! 0 refl) $ free_all ! refl $ keep ! (0 ∷ []) $
-    suffices ! _ (ends_at 𝓛 f.ended stayed c z (word p) out (tt, tt) (tt, tt)) $ says ! refl $
+    suffices ! _ (ends_at 𝓛 from.hide.ended stayed c z (word p) out (tt, tt) (tt, tt)) $ says ! refl $
     nothing ! $ nothing ! $ fjoin ! $ nothing ! $ done !))))))

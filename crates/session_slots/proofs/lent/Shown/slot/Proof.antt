@@ -3,7 +3,6 @@ use Rattle.std.proofs.Common.{List, [], ◌∷◌, refl, sym, ◌+◌}
 use Rattle.session_slots.proofs.Walking.{sem, ‵, raw, ◌⊛◌, at_ret, ◌$◌, ◌∵◌, !, qed, move, keep, drop, split, join, rewrite, fsplit, fjoin, feq_i, feq_l, suffices, frame, done, look, stop, fld, load, of_opd, addr, first, blocks, exec, returns, enter, alloc_all, pass_all, free_all, look_at, get, through, sets, sets_last, env}
 use Rattle.session_slots.proofs.Pointers.{proved, after, SProp, never, fst∗, ftrue, fat, flft, named, ty_ptr, Val, vptr, tables, RefOf, plain_Copied, yes, cell_at, shared_of, Ptr, RawPtr, coded_ptr, ptr_own, rawptr_pure, ptr_val, in_a_block, RawPtr-laws, ShrRef, shr_vals, shr_Tells, plain, hide, unhide, nothing, looks, shuts, lent_at, Stays, stay_dropped, walk_of, says, ends_at, Goes-dropped, R}
 use Rattle.session_slots.specs.contracts.lent.Shown.{the_row as Kr}
-use Rattle.session_slots.specs.contracts.lent.Shown.slot.Key.{name as #self}
 use Rattle.session_slots.proofs.lent.Shown.slot.Statement.{statement}
 use Rattle.session_slots.specs.contracts.lent.Shown.slot as f
 use Rattle.session_slots.proofs.lent.Shown.slot.Code as code
@@ -15,7 +14,7 @@ pub slot_spec : {M : Type 1} → statement M
 slot_spec 𝓤 𝓛 𝓜 𝓡 wired =
     let c = f.clauses 𝓛 𝓜.mem 𝓡.returns in let W = walk_of 𝓛 f.ended stayed c in let 𝓣 = tables 𝓤 𝓛.H 𝓜 𝓡 𝓡.env in
     proved 𝓛 f.ended stayed c 𝓜 𝓡 (Goes-dropped 𝓛 1 (RefOf (0 ∷ []) tt (plain (λ _. Kr)) (λ _. tt)) yes (λ κs x w. refl), tt)
-    #self code.function (code.unfolded 𝓤 𝓛.H 𝓜 𝓡 wired)
+    f.Key.name code.function (code.unfolded 𝓤 𝓛.H 𝓜 𝓡 wired)
     (λ κs. (shr_vals, tt)) (λ κs. (shr_Tells (named 0) κs.0 Kr, tt)) (λ κs qs bounds a _ are.
     let κ = κs.0 in let q = qs.0 in let d = a.0.now in let rb = a.0.ref_ptr.0 in let ro = a.0.ref_ptr.1 in
     let y : W.Ghost = ((κs, qs, bounds, a, (shr_vals a.0, tt)), tt) in

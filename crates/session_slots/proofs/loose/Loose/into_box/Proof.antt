@@ -4,8 +4,7 @@ use Rattle.std.proofs.boxed.Box.from_raw.Met.{met}
 use Rattle.session_slots.proofs.Walking.{‵, raw, ◌⊛◌, some, later, at_ret, ◌$◌, ◌∵◌, !, qed, by, move, keep, drop, split, split3, join, fsplit, fjoin, pick, suffices, use1, await, rewrite, feq_i, stop, fld, of_opd, no_more, and_then, first, blocks, exec, returns, enter, alloc_all, pass_all, free_all, look_at, get, get_in, sets, lands_last, env, sub, whole}
 use Rattle.session_slots.proofs.Pointers.{a_type, dcons, dnil, Val, vptr, inst_fn, SProp, ent, id⊢, ftrue, flft, WpFn, fact, ◌⊑◌, tables, no, RattleType, owns, types_at, plain, block_ptr, nothing, only, param, layout, bounded, param_laws, Lasts, lasts, triple_of, calls_at_last, Stays, stay_dropped, walk_of, Goes-blank, after, framed, Good, box_out, box_in, proved_at, leaves}
 use Rattle.session_slots.proofs.Values.{both, Loose, loose_good, loose_out}
-use Rattle.session_slots.specs.contracts.loose.Loose.into_box.{ended, clauses}
-use Rattle.session_slots.specs.contracts.loose.Loose.into_box.Key.{name as #self}
+use Rattle.session_slots.specs.contracts.loose.Loose.into_box.{ended, clauses, Key.name as #self}
 use Rattle.session_slots.proofs.loose.Loose.into_box.Statement.{statement}
 use Rattle.std.proofs.BoxSteps.Form as box
 use Rattle.std.specs.contracts.boxed.Box.from_raw as callee

@@ -4,8 +4,7 @@ use Rattle.std.proofs.boxed.Box.into_raw_with_allocator.Met.{met}
 use Rattle.session_slots.proofs.Walking.{sem, ‵, raw, ◌⊛◌, some, later, ◌$◌, ◌∵◌, !, qed, by, move, keep, drop, split, split3, join, fsplit, fjoin, fpick, pick, suffices, use0, use1, await, rewrite, feq_l, stop, fld, of_opd, no_more, and_then, returns, enter, alloc_all, pass_all, free_all, look_at, get, get_in, sets, lands_as, agg, sub, whole}
 use Rattle.session_slots.proofs.Pointers.{a_type, dcons, dnil, bare, Val, vptr, vstruct, of_list, inst_fn, SProp, ent, emp, never, id⊢, fst∗, ftrue, fsep, flft, WpFn, fact, fact_i, tables, no, RattleType, owns, types_at, plain, RawPtr, Ptr, block_ptr, null_ptr, ptr_val, in_a_block, nothing, only, heard, param, layout, bounded, param_laws, Tuple, triple_of, calls_at, Stays, stay_dropped, walk_of, Goes-blank, handle_tells, framed, box_owns, box_out, box_in, proved_at, leaves}
 use Rattle.session_slots.proofs.Values.{both, loose_good, loose_in}
-use Rattle.session_slots.specs.contracts.loose.Loose.of.{ended, clauses}
-use Rattle.session_slots.specs.contracts.loose.Loose.of.Key.{name as #self}
+use Rattle.session_slots.specs.contracts.loose.Loose.of.{ended, clauses, Key.name as #self}
 use Rattle.session_slots.proofs.loose.Loose.of.Statement.{statement}
 use Rattle.std.proofs.BoxSteps.Form as box
 use Rattle.std.specs.contracts.boxed.Box.into_raw_with_allocator as callee
