@@ -1,9 +1,12 @@
 -- The faces that come while those that straddle the plane are drawn: each lies on the planes of one of these.
-use Rattle.std.proofs.Common.{◌≡◌, ℕ, ◌+◌, Bool, true, false, ◌&&◌, List, [], ◌∷◌, None, fold, map, refl, sym, ap, subst, ◌∙◌, arith}
-use Rattle.euler_operators.specs.Common.{IsIn, Plane, Model, Sound, Has}
+use Rattle.std.proofs.Common.{◌≡◌, ℕ, ◌+◌, Bool, true, false, ◌&&◌, List, [], ◌∷◌, None, fold, map, refl, sym, ap, subst, ◌∙◌, ◌⊎◌, inl, inr, arith}
+use Rattle.std.proofs.lemmas.Bool.Decides.{eqb_tells}
+use Rattle.euler_operators.specs.Common.{IsIn, Plane, Model, Sound, Has, HasHalf, face_at}
 use Rattle.euler_operators.specs.Table as table
 use Rattle.euler_operators.proofs.Common.{no_row, tick_same}
+use Rattle.euler_laws.proofs.Common.{half_face}
 use Rattle.shapes.specs.Common.{Drawing, FacePairs, corners, drawn_between, faces_drawn, is_plane_of, next_drawn, plane_of, straddling_faces, straddling_pairs, undrawn, with_crossings, with_drawings}
+use Rattle.split_drawing_laws.specs.drawings.DrawnIn.{DrawnIn}
 use Rattle.split_drawing_laws.specs.drawings.Pairs.{pairs_in}
 use Rattle.split_drawing_laws.specs.drawings.Passing.{Drawable, Ready}
 use Rattle.split_drawing_laws.specs.crossings.Laws.{CanBegin}
@@ -12,7 +15,7 @@ use Rattle.split_drawing_laws.proofs.crossings.Whole.{crossings_sound}
 use Rattle.split_drawing_laws.proofs.cut_volumes.CutWhole.{all_flat, crossings_measured}
 use Rattle.split_drawing_laws.proofs.cut_volumes.Told.{flat_on}
 use Rattle.split_drawing_laws.proofs.drawings.Counted.{faces_are}
-use Rattle.split_drawing_laws.proofs.drawings.Faces.{between_keeps}
+use Rattle.split_drawing_laws.proofs.drawings.Faces.{between_keeps, face_goes}
 use Rattle.split_drawing_laws.proofs.drawings.Whole.{drawable, drawable_on, drawing_sound, next_is, ready}
 use Rattle.split_drawing_laws.proofs.drawn_volumes.Bounds.{OnFace, face_on, on_face}
 use Rattle.split_drawing_laws.proofs.drawn_volumes.DrawWhole.{LiesFlat, Within, draw_within, join_within, move_within}
@@ -26,11 +29,18 @@ record Comes (B X : Model) (fs : List ℕ) (g : ℕ) : Type 0 where
   listed : IsIn face fs
   on : (t : Plane) → OnFace B t face → OnFace X t g
 
+-- half-edge h is in X of the face that it had in B, or of a new one, which lies on the planes of that
+record IsMoved (B X : Model) (h : ℕ) : Type 0 where
+  face : (face_at X h ≡ face_at B h) ⊎ (table.get B.faces (face_at X h) ≡ None)
+  on : (t : Plane) → OnFace B t (face_at B h) → OnFace X t (face_at X h)
+
 -- X is B with edges drawn in the faces fs
 record Spread (B X : Model) (fs : List ℕ) : Type 0 where
   there : (g : ℕ) → Has B.faces g → Has X.faces g
   olds : (g : ℕ) → Has B.faces g → (t : Plane) → OnFace B t g → OnFace X t g
   news : (g : ℕ) → Has X.faces g → table.get B.faces g ≡ None → Comes B X fs g
+  old_halves : (h : ℕ) → HasHalf B h → HasHalf X h
+  halves : (h : ℕ) → HasHalf B h → IsMoved B X h
 
 face_within : (p : Plane) (f : ℕ) (qs : List (ℕ × ℕ)) (d : Drawing) (n : ℕ) → Ready p f qs d n → Has d.model.faces f → (r : Plane) → IsPlane r → OnFace d.model r f → Within d.model (drawn_between p f qs d).model f
 face_within p f qs d n w there r some on = between_keeps p f qs d n w (λ X. Within d.model X f)
@@ -38,12 +48,47 @@ face_within p f qs d n w there r some on = between_keeps p f qs d n w (λ X. Wit
     (λ N q e g l can drawn fits. draw_within d.model f w.sound there r some on N q.0 q.1 e g l can (drawn.within q.0 fits.u_there fits.u_face))
     (move_within d.model f w.sound there r some on) (grind (arith, never_free))
 
+pub drawn_one : (p : Plane) (d : Drawing) (q : FacePairs) (qs : List FacePairs) (n : ℕ) → Drawable d (q ∷ qs) n → DrawnIn d.model (next_drawn p d q).model q.face
+drawn_one p d q qs n w = subst (λ x. DrawnIn d.model x.model q.face) (sym (next_is p d q qs n w)) (face_goes p q.face q.pairs d (pairs_in qs + n) (ready p d q qs n w)).drawn
+
 module _ (B : Model) (fs : List ℕ) (was : (f : ℕ) → IsIn f fs → Has B.faces f × LiesFlat B f) where
-  spread_on : (X Y : Model) (f : ℕ) → IsIn f fs → Within X Y f → Spread B X fs → Spread B Y fs
-  spread_on X Y f i w a = record {
+  -- a half-edge, once face f of X is drawn
+  module _ (X Y : Model) (f : ℕ) (sound : Sound X) (drawn : DrawnIn X Y f) (w : Within X Y f) (a : Spread B X fs) (h : ℕ) (there : HasHalf B h) where
+    here : HasHalf X h
+    here = a.old_halves h there
+
+    stays_at : face_at Y h ≡ face_at X h → IsMoved B Y h
+    stays_at same = record {
+      face = elim (a.halves h there).face [
+        | inl e ↦ inl (same ∙ e)
+        | inr none ↦ inr (ap (table.get B.faces) same ∙ none)
+      ];
+      on = λ t on. subst (OnFace Y t) (sym same) (w.olds (face_at X h) (half_face X sound h here) t ((a.halves h there).on t on));
+    }
+
+    none_before : (g : ℕ) → table.get X.faces g ≡ None → (b : Bool) → table.has B.faces g ≡ b → table.get B.faces g ≡ None
+    none_before g none true e = absurd (never_free X.faces g (a.there g e) none)
+    none_before g none false e = no_row (table.get B.faces g) e
+
+    moved_on : IsMoved B Y h
+    moved_on = elim (eqb_tells (face_at X h) f) [
+      | inr ne ↦ stays_at (drawn.beside h here ne.1).1
+      | inl at ↦ elim (drawn.within h here at.1) [
+        | inl same ↦ stays_at (same ∙ sym at.1)
+        | inr none ↦ record {
+          face = inr (none_before (face_at Y h) none (table.has B.faces (face_at Y h)) refl);
+          on = λ t on. w.news (face_at Y h) (half_face Y drawn.sound h (drawn.stays.halves h here)) none t (subst (OnFace X t) at.1 ((a.halves h there).on t on));
+        }
+      ]
+    ]
+
+  spread_on : (X Y : Model) (f : ℕ) → IsIn f fs → Sound X → DrawnIn X Y f → Within X Y f → Spread B X fs → Spread B Y fs
+  spread_on X Y f i sound drawn w a = record {
     there = λ g has. w.there g (a.there g has);
     olds = λ g has t on. w.olds g (a.there g has) t (a.olds g has t on);
     news = λ g has none. go g has none (table.has X.faces g) refl;
+    old_halves = λ h has. drawn.stays.halves h (a.old_halves h has);
+    halves = λ h has. moved_on X Y f sound drawn w a h has;
   } where
     go : (g : ℕ) → Has Y.faces g → table.get B.faces g ≡ None → (b : Bool) → table.has X.faces g ≡ b → Comes B Y fs g
     go g has none true e = let c = a.news g e none in record { face = c.face; listed = c.listed; on = λ t on. w.olds g e t (c.on t on) }
@@ -56,7 +101,7 @@ module _ (B : Model) (fs : List ℕ) (was : (f : ℕ) → IsIn f fs → Has B.fa
       let f = was q.face i in
       let one = face_within p q.face q.pairs d (pairs_in qs + n) (ready p d q qs n w) (a.there q.face f.0) f.1.plane f.1.some (a.olds q.face f.0 f.1.plane f.1.on) in
       all_spread p (next_drawn p d q) qs n (drawable_on p d q qs n w) (λ g j. inside g (omega (arith, j)))
-      (spread_on d.model (next_drawn p d q).model q.face i (subst (λ x. Within d.model x.model q.face) (sym (next_is p d q qs n w)) one) a)
+      (spread_on d.model (next_drawn p d q).model q.face i w.sound (drawn_one p d q qs n w) (subst (λ x. Within d.model x.model q.face) (sym (next_is p d q qs n w)) one) a)
 
 -- ---- both rewritings
 
@@ -78,7 +123,7 @@ module _ (M : Model) (s : ℕ) (p : Plane) (t : ℕ) (sound : Sound M) (begins :
 
   spread : Spread C D (straddling_faces M p s)
   spread = all_spread C (straddling_faces M p s) (λ f i. let w = lies f i in (w.0, record { plane = plane_of M f; some = w.1; on = w.2 })) p (undrawn (with_crossings M s p)) (straddling_pairs M s p) 0 (drawable (with_crossings M s p) (straddling_pairs M s p) (can_be_drawn M s p t sound begins))
-      (λ f i. subst (IsIn f) (faces_are M C p (straddling_faces M p s)) i) (record { there = λ g has. has; olds = λ g has r on. on; news = λ g has none. absurd (never_free C.faces g has none) })
+      (λ f i. subst (IsIn f) (faces_are M C p (straddling_faces M p s)) i) (record { there = λ g has. has; olds = λ g has r on. on; news = λ g has none. absurd (never_free C.faces g has none); old_halves = λ h has. has; halves = λ h has. record { face = inl refl; on = λ r on. on } })
 
   -- a new face lies in the plane of one that straddles
   pub drawn_in : (g : ℕ) → Has (with_drawings M s p).model.faces g → table.get M.faces g ≡ None →
@@ -89,3 +134,19 @@ module _ (M : Model) (s : ℕ) (p : Plane) (t : ℕ) (sound : Sound M) (begins :
       let w = lies c.face c.listed in
       let D_sound = drawing_sound p (with_crossings M s p) (straddling_pairs M s p) (can_be_drawn M s p t sound begins) in
       (c.face, c.listed, λ i. w.1 i && face_on D D_sound (plane_of M c.face) g has (c.on (plane_of M c.face) w.2) i)
+
+  -- a half-edge of one that straddles is of it still, or of a new face that lies in its plane
+  pub drawn_half : (f h : ℕ) → IsIn f (straddling_faces M p s) → HasHalf (with_crossings M s p).model h → face_at (with_crossings M s p).model h ≡ f → let D = (with_drawings M s p).model in
+      ((face_at D h ≡ f) ⊎ (table.get M.faces (face_at D h) ≡ None)) × (is_plane_of D (plane_of M f) (corners D (face_at D h)) ≡ true)
+  unfolding with_drawings
+  drawn_half f h i has at =
+      let w = lies f i in
+      let m = spread.halves h has in
+      let D_sound = drawing_sound p (with_crossings M s p) (straddling_pairs M s p) (can_be_drawn M s p t sound begins) in
+      let on = m.on (plane_of M f) (subst (OnFace C (plane_of M f)) (sym at) w.2) in (
+        elim m.face [
+          | inl e ↦ inl (e ∙ at)
+          | inr none ↦ inr (ap (λ x. table.get x (face_at D h)) (sym same_faces) ∙ none)
+        ],
+        λ j. w.1 j && face_on D D_sound (plane_of M f) (face_at D h) (half_face D D_sound h (spread.old_halves h has)) on j,
+      )

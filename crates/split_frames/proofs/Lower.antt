@@ -6,9 +6,9 @@ use Rattle.euler_operators.specs.Common.{IsIn, Plane, count, are_opposite, is_ab
 use Rattle.euler_operators.proofs.Common.{cycle_there, loop_there, mate_there, same_outer, tick_other, tick_same}
 use Rattle.euler_laws.proofs.Common.{back_of, half_after, loop_after}
 use Rattle.euler_laws.proofs.faces.RingIn as moving
-use Rattle.shapes.specs.Common.{Drawing, FacePairs, all_drawn, all_joined, all_pairs, corners, drawn_between, drawn_pairs, face_drawn, finish, next_drawn, reaches_below, ring_free, rings_above, some_above, split_refusal, start, straddling_faces, straddling_pairs, stuck_at, undrawn, vertices_on, with_crossings, with_drawings, with_rings}
+use Rattle.shapes.specs.Common.{Drawing, FacePairs, all_drawn, all_joined, all_pairs, corners, drawn_between, drawn_pairs, face_drawn, finish, next_drawn, reaches_above, reaches_below, ring_free, rings_above, some_above, split_refusal, start, straddling_faces, straddling_pairs, stuck_at, undrawn, vertices_on, with_crossings, with_drawings, with_rings}
 use Rattle.split_drawing_laws.specs.crossings.Laws.{CanBegin}
-use Rattle.split_drawing_laws.specs.drawings.DrawnIn.{DrawnIn, PairsHaveRoom}
+use Rattle.split_drawing_laws.specs.drawings.DrawnIn.{PairsHaveRoom}
 use Rattle.split_drawing_laws.specs.drawings.Pairs.{AllFit, FacesFit, Fits, pairs_in}
 use Rattle.split_drawing_laws.specs.drawings.Passing.{Drawable, Ready}
 use Rattle.split_drawing_laws.specs.half_sides.HalfSides.{side_of}
@@ -17,7 +17,7 @@ use Rattle.split_drawing_laws.proofs.crossings.Premises.{any_passes, face_facts,
 use Rattle.split_drawing_laws.proofs.crossings.Whole.{crossings_keep, crossings_sound}
 use Rattle.split_drawing_laws.proofs.drawings.Counted.{faces_are}
 use Rattle.split_drawing_laws.proofs.drawings.Drawn.{CanDraw}
-use Rattle.split_drawing_laws.proofs.drawings.Faces.{begun_joining, drawn_is, face_goes, fitting_on, going, going_on, joins, last, newer_face}
+use Rattle.split_drawing_laws.proofs.drawings.Faces.{begun_joining, drawn_is, fitting_on, going, going_on, joins, last, newer_face}
 use Rattle.split_drawing_laws.proofs.drawings.Pairs.{joined_drawn, none_joined, pair_can}
 use Rattle.split_drawing_laws.proofs.drawings.Passes.{can_now, draws_keep, edge_fits, face_fits, joins_keep, loop_fits, room_as}
 use Rattle.split_drawing_laws.proofs.drawings.Rings.{face_else, place_is, ring_goes, ring_stays, rings_apart, rings_are, rings_keep}
@@ -29,9 +29,11 @@ use Rattle.split_drawing_laws.proofs.face_sides.Beside.{k_stays, old_loop_face, 
 use Rattle.split_drawing_laws.proofs.face_sides.OneFace.{AllPairsOf, Stage, Untouched, loop_back, stage_on}
 use Rattle.split_drawing_laws.proofs.half_sides.PlaceEnds.{AllUp, pairs_up, place_of_end, place_on, side_within}
 use Rattle.split_drawing_laws.proofs.half_sides.Starts.{turn_at}
+use Rattle.split_drawing_laws.proofs.loop_sides.Parting.{on_both}
 use Rattle.split_drawing_laws.proofs.loop_sides.SidesWhole.{not_stuck}
 use Rattle.split_drawing_laws.proofs.pairs.Whole.{can_be_drawn}
 use Rattle.split_laws.proofs.drawn.Drawn.{begins, drawn_sound, drawn_stays, never_stuck}
+use Rattle.split_frames.proofs.DrawnFaces.{drawn_one}
 
 -- the second half-edge of each pair is low
 abbrev AllLow : (ℕ → Type 0) → List (ℕ × ℕ) → Type 0
@@ -167,9 +169,6 @@ face_low Low p f (q ∷ r ∷ qs) d n w low some there single = many_low Low p f
 
 -- ---- faces drawn one after the other
 
-drawn_one : (p : Plane) (d : Drawing) (q : FacePairs) (qs : List FacePairs) (n : ℕ) → Drawable d (q ∷ qs) n → DrawnIn d.model (next_drawn p d q).model q.face
-drawn_one p d q qs n w = subst (λ x. DrawnIn d.model x.model q.face) (sym (next_is p d q qs n w)) (face_goes p q.face q.pairs d (pairs_in qs + n) (ready p d q qs n w)).drawn
-
 low_stays : (Low : ℕ → Type 0) (p : Plane) (d : Drawing) (qs : List FacePairs) (n : ℕ) → Drawable d qs n → (f : ℕ) → count f (map (λ q. q.face) qs) ≡ 0 → LowIn Low d.model f → LowIn Low (fold (next_drawn p) d qs).model f
 low_stays Low p d [] n w f none a = a
 low_stays Low p d (q ∷ qs) n w f none a =
@@ -290,15 +289,58 @@ module _ (M : Model) (s : ℕ) (p : Plane) (t : ℕ) (sound : Sound M) (accepted
       all_low Low C side s fs p C_sound (undrawn (with_crossings M s p)) (straddling_pairs M s p) 0 (drawable (with_crossings M s p) (straddling_pairs M s p) can) (λ g j. faces_not_zero M sound s p g (face_in g j)) face_in
       (pairs_here fs (λ g j. j)) (never_stuck M s p t sound accepted) stage (each_low fs (λ g j. j) can.fit) f (subst (IsIn f) (sym (faces_are M C p fs)) i)
 
-  -- so it has a corner below then
+  -- where a half-edge leads, a corner of its face lies then
+  module _ (h : ℕ) (has : HasHalf C h) where
+    abbrev D : Model
+    D = (with_drawings M s p).model
+
+    D_sound : Sound D
+    D_sound = drawn_sound M s p t sound accepted
+
+    now : HasHalf D h
+    now = (drawn_stays M s p t sound accepted).halves h has
+
+    item : IsIn (after D h) (items_of (content D (loop_of D h)))
+    item = subst (λ l. IsIn (after D h) (items_of (content D l))) (loop_after D D_sound h now) (cycle_there D D_sound (after D h) (half_after D D_sound h now))
+
+    end_is : finish D h ≡ finish C h
+    end_is = start_still C D C_sound (drawn_stays M s p t sound accepted) (mate h) (mate_there C h has)
+
+    end_in : IsIn (tail D (mate h)) (corners D (face_at D h))
+    end_in = subst (λ v. IsIn v (corners D (face_at D h))) (D_sound.ends_meet h now) (tail_in_face D (after D h) (loop_of D h) (loop_there D D_sound h now) item)
+
+  -- so a face that straddles has a corner below then
   pub stays_low : (f : ℕ) → IsIn f (straddling_faces M p s) → reaches_below (with_drawings M s p).model p f ≡ true
   stays_low f i =
       let D = (with_drawings M s p).model in
-      let D_sound = drawn_sound M s p t sound accepted in
       let x = low_in f i in
-      let next = after D x.half in
-      let item = subst (λ l. IsIn next (items_of (content D l))) (loop_after D D_sound x.half x.there) (cycle_there D D_sound next (half_after D D_sound x.half x.there)) in
-      let corner : IsIn (tail D (mate x.half)) (corners D f) = subst (λ v. IsIn v (corners D f)) (D_sound.ends_meet x.half x.there)
-      (subst (λ g. IsIn (tail D next) (corners D g)) x.face (tail_in_face D next (loop_of D x.half) (loop_there D D_sound x.half x.there) item)) in
-      let end : finish D x.half ≡ finish C x.half = start_still C D C_sound (drawn_stays M s p t sound accepted) (mate x.half) (mate_there C x.half x.low.0) in
-      any_passes (λ v. is_below p (point_of D v)) (tail D (mate x.half)) (corners D f) corner (ap (is_below p) end ∙ x.low.1)
+      subst (λ g. reaches_below D p g ≡ true) x.face (any_passes (λ v. is_below p (point_of D v)) (tail D (mate x.half)) (corners D (face_at D x.half)) (end_in x.half x.low.0) (ap (is_below p) (end_is x.half x.low.0) ∙ x.low.1))
+
+  -- ---- the first place of a pair goes up
+
+  module _ (f : ℕ) (i : IsIn f (straddling_faces M p s)) where
+    leads_above : (y : ℕ) → IsIn y (ends (drawn_pairs M C p f)) → face_at C y ≡ f → side y ≡ true → is_above p (finish C y) ≡ true
+    leads_above y j at up =
+        let place = place_of_end M s p t sound begun f i y j in
+        let on : is_on p (start C y) ≡ true = ap (λ z. is_on p (start C z)) place.2 ∙ place_on M s p t sound begun f i place.0 place.1 in
+        let level : is_above p (start C y) ≡ false = on_both p (start C y) on false in
+        sym (ap (λ b. b || is_above p (finish C y)) level) ∙ sym (side_within M s p t sound begun y (subst (λ z. IsIn z fs) (sym at) i)) ∙ up
+
+    first_high : (qs : List (ℕ × ℕ)) → qs ≢ [] → AllUp side qs → AllFit C f qs → ((y : ℕ) → IsIn y (ends qs) → IsIn y (ends (drawn_pairs M C p f))) → (h : ℕ) × HasHalf C h × (face_at C h ≡ f) × (is_above p (finish C h) ≡ true)
+    first_high [] some up fit within = absurd (some refl)
+    first_high (q ∷ qs) some up fit within = (q.0, fit.0.u_there, fit.0.u_face, leads_above q.0 (within q.0 (omega (arith, tick_same q.0))) fit.0.u_face up.0.0)
+
+    fit_of : (gs : List ℕ) → FacesFit C (all_pairs M C p gs) → IsIn f gs → AllFit C f (drawn_pairs M C p f)
+    fit_of [] fit j = absurd (omega (arith, j))
+    fit_of (g ∷ gs) fit j = elim (eqb_tells f g) [
+      | inl e ↦ subst (λ x. AllFit C x (drawn_pairs M C p x)) (sym e.1) fit.0.0
+      | inr ne ↦ fit_of gs fit.1 (omega (arith, j, tick_other f g ne.1))
+    ]
+
+  -- and a half-edge of it is of a face that has a corner above
+  pub goes_high : (f : ℕ) → IsIn f (straddling_faces M p s) → let D = (with_drawings M s p).model in
+      (h : ℕ) × HasHalf (with_crossings M s p).model h × (face_at (with_crossings M s p).model h ≡ f) × HasHalf D h × (reaches_above D p (face_at D h) ≡ true)
+  goes_high f i =
+      let D = (with_drawings M s p).model in
+      let x = first_high f i (drawn_pairs M C p f) (pairs_of M s p t sound begun f i).some_pair (pairs_up M s p t sound begun f i) (fit_of f i fs (can_be_drawn M s p t sound begun).fit i) (λ y j. j) in
+      (x.0, x.1, x.2, now x.0 x.1, any_passes (λ v. is_above p (point_of D v)) (tail D (mate x.0)) (corners D (face_at D x.0)) (end_in x.0 x.1) (ap (is_above p) (end_is x.0 x.1) ∙ x.3))

@@ -1,13 +1,13 @@
 -- The faces of the two parts of a split: those of the solid, pieces of those that straddle the plane, and caps.
-use Rattle.std.proofs.Common.{◌≡◌, ◌⊎◌, ℕ, ◌+◌, Bool, true, false, cond, not, ◌&&◌, ◌||◌, List, [], ◌∷◌, ◌++◌, length, Option, Some, None, is_some, option_map, refl, sym, ap, subst, ◌∙◌, arith, inl, inr, true≢false}
+use Rattle.std.proofs.Common.{◌≡◌, ◌⊎◌, ℕ, ◌+◌, Bool, true, false, cond, not, pos, int_lt, ◌≢◌, ◌&&◌, ◌||◌, List, [], ◌∷◌, ◌++◌, length, Option, Some, None, is_some, option_map, refl, sym, ap, subst, ◌∙◌, arith, inl, inr, true≢false}
 use Rattle.std.proofs.lemmas.Bool.{and_parts}
 use Rattle.std.proofs.lemmas.Bool.Decides.{eqb_tells}
 use Rattle.std.proofs.lemmas.Grind.{flat_map-append}
-use Rattle.euler_operators.specs.Common.{Plane, IsIn, count, direction, origin, same_point, FaceRow, Model, solid_of, faces_of, Sound, Has, kfmrh, part}
+use Rattle.euler_operators.specs.Common.{Plane, IsIn, count, direction, dot, face_at, origin, same_point, FaceRow, Model, solid_of, faces_of, Sound, Has, kfmrh, part}
 use Rattle.euler_operators.specs.Table as table
 use Rattle.euler_operators.proofs.Common.{IsIn-filter, count-append, get-remove_here, get-remove_other, no_row, row_some, same_solid, tick_same}
-use Rattle.euler_laws.proofs.Common.{listed-from_in}
-use Rattle.shapes.specs.Common.{corners, is_plane_of, plane_of, reaches_above, reaches_below, straddles, faces_above, straddling_faces, Drawing, with_drawings, below_halves, section_cycles, Caps, Opening, holes_closed, opened_along, opened_at, face_is_above}
+use Rattle.euler_laws.proofs.Common.{half_face, listed-from_in}
+use Rattle.shapes.specs.Common.{corners, normal, is_plane_of, plane_of, reaches_above, reaches_below, straddles, faces_above, straddling_faces, Drawing, with_drawings, below_halves, section_cycles, Caps, Opening, holes_closed, opened_along, opened_at, face_is_above}
 use Rattle.shapes.proofs.Common.{are_on, face_listed, get-put_cases}
 use Rattle.split_drawing_laws.proofs.drawn_volumes.DrawWhole.{drawn_lies}
 use Rattle.split_opening_laws.specs.sections.Capped.{cap_faces}
@@ -27,10 +27,10 @@ use Rattle.undo_journal.specs.Machine.{Machine, held}
 use Rattle.plane_split.specs.SplitModels.{IsSplit}
 use Rattle.command_laws.proofs.Owners.{is_of, neither, turned}
 use Rattle.command_laws.proofs.Turned.{turned_lies}
-use Rattle.split_frames.specs.Laws.{IsCap, IsOfEither, IsPiece, LiesInPlaneOf, SplitKeepsPlanes, SplitPartsFaces, StraddlingStayBelow}
-use Rattle.split_frames.proofs.DrawnFaces.{drawn_in}
+use Rattle.split_frames.specs.Laws.{HasNewFace, IsCap, IsOfEither, IsPiece, LiesInPlaneOf, SplitKeepsPlanes, SplitPartsFaces, StraddlingGoAbove, StraddlingStayBelow}
+use Rattle.split_frames.proofs.DrawnFaces.{drawn_half, drawn_in}
 use Rattle.split_frames.proofs.DrawnWithin.{drawings_within}
-use Rattle.split_frames.proofs.Lower.{stays_low}
+use Rattle.split_frames.proofs.Lower.{goes_high, stays_low}
 use Rattle.split_frames.proofs.PartFaces.{part_of, part_turned}
 use Rattle.split_frames.proofs.Steps.{Within, face_in}
 use Rattle.split_frames.proofs.Whole.{after_is, drawn_agree}
@@ -123,6 +123,13 @@ module _ (before after : Machine) (s : ℕ) (p : Plane) (t : ℕ) (sound : Sound
       let a = and_parts (not (same_point (direction r) origin)) (are_on d.model r (corners d.model k)) on in
       λ i. a.0 i && turned_lies d.model N k r (part_turned M s p t sound made.0 k there of) a.1 i
 
+  -- a face that is new is of the solid
+  new_of : (k : ℕ) → Has d.model.faces k → table.get M.faces k ≡ None → solid_of d.model k ≡ s
+  new_of k has none = elim (eqb_tells (solid_of d.model k) s) [
+    | inl e ↦ e.1
+    | inr e ↦ absurd (true≢false (sym has ∙ ap is_some ((drawn.faces_back k has e.0).0 ∙ none)))
+  ]
+
   -- ---- each face of the solid
 
   module _ (k : ℕ) (there : Has M.faces k) (of : solid_of M k ≡ s) where
@@ -148,6 +155,31 @@ module _ (before after : Machine) (s : ℕ) (p : Plane) (t : ℕ) (sound : Sound
         let low = stays_low M s p t sound made.0 k i in
         let one = none_straddles M d.model s p t sound begun (never_stuck M s p t sound made.0, refl) k (face_listed d.model (drawn_sound M s p t sound made.0) s k drawn_there drawn_of) in
         part_of M s p t sound made.0 k drawn_there drawn_of ∙ ap (λ b. cond b t s) (not_above (reaches_above d.model p k) (reaches_below d.model p k) _ low one)
+
+    -- and a half-edge of it then is of a new face above
+    pub new_above : straddles M p k ≡ true → HasNewFace M N t k
+    unfolding straddles face_is_above
+    new_above across =
+        let i = IsIn-filter (straddles M p) k (faces_of M s) (in_solid M k s there of) across in
+        let x = goes_high M s p t sound made.0 k i in
+        let g = face_at d.model x.0 in
+        let D_sound = drawn_sound M s p t sound made.0 in
+        let g_there : Has d.model.faces g = half_face d.model D_sound x.0 x.3 in
+        let w = drawn_half M s p t sound begun k x.0 i x.1 x.2 in
+        let one = none_straddles M d.model s p t sound begun (never_stuck M s p t sound made.0, refl) k (face_listed d.model D_sound s k drawn_there drawn_of) in
+        let apart : g ≢ k = λ e. true≢false (sym (λ j. subst (λ q. reaches_above d.model p q ≡ true) e x.4 j && stays_low M s p t sound made.0 k i j) ∙ one) in
+        let none : table.get M.faces g ≡ None = elim w.0 [
+          | inl e ↦ absurd (apart e)
+          | inr none ↦ none
+        ] in
+        let g_of : solid_of d.model g ≡ s = new_of g g_there none in
+        record {
+          face = g;
+          new = ap is_some none;
+          there = (part_turned M s p t sound made.0 g g_there g_of).there;
+          solid = part_of M s p t sound made.0 g g_there g_of ∙ ap (λ b. cond b t s) (ap (λ a. a || (not (reaches_below d.model p g) && not (int_lt (pos 0) (dot (normal d.model g) (direction p))))) x.4);
+          lies = part_lies g (plane_of M k) g_there g_of w.1;
+        }
 
   -- ---- each face of the parts
 
@@ -191,6 +223,9 @@ split_keeps_planes before after s p t k sound made there of =
 
 pub straddling_stay_below : StraddlingStayBelow
 straddling_stay_below before after s p t k sound made there of across = ap (λ N. solid_of N k) (after_is before after s p t sound made) ∙ kept_below before after s p t sound made k there of across
+
+pub straddling_go_above : StraddlingGoAbove
+straddling_go_above before after s p t k sound made there of across = subst (λ N. HasNewFace (held before) N t k) (sym (after_is before after s p t sound made)) (new_above before after s p t sound made k there of across)
 
 pub split_parts_faces : SplitPartsFaces
 split_parts_faces before after s p t k sound made there of =

@@ -1,6 +1,7 @@
 -- What a split that was answered Ok leaves as it was: whatever isn't of the solid that was split, and its faces that the plane doesn't straddle.
 use Rattle.std.specs.Prelude.{◌≡◌, ◌⊎◌, ℕ, true, false, cond}
 use Rattle.euler_operators.specs.Common.{Plane, Model, solid_of, Sound, Has, lists}
+use Rattle.euler_operators.specs.Table as table
 use Rattle.shapes.specs.Common.{corners, face_is_above, faces_above, is_plane_of, opened_at, plane_of, straddles, straddling_faces, with_drawings}
 use Rattle.split_opening_laws.specs.sections.Capped.{cap_faces}
 use Rattle.undo_journal.specs.Machine.{Machine, held}
@@ -62,6 +63,18 @@ SplitKeepsPlanes = (before after : Machine) (s : ℕ) (p : Plane) (t k : ℕ) �
 abbrev pub StraddlingStayBelow : Type 0
 StraddlingStayBelow = (before after : Machine) (s : ℕ) (p : Plane) (t k : ℕ) → Sound (held before) → IsSplit before after s p t → Has (held before).faces k → solid_of (held before) k ≡ s →
     straddles (held before) p k ≡ true → solid_of (held after) k ≡ s
+
+-- and some new face of the part above lies in its plane
+pub record HasNewFace (M N : Model) (t k : ℕ) : Type 0 where
+  pub face : ℕ
+  pub new : table.has M.faces face ≡ false
+  pub there : Has N.faces face
+  pub solid : solid_of N face ≡ t
+  pub lies : LiesInPlaneOf M N k face
+
+abbrev pub StraddlingGoAbove : Type 0
+StraddlingGoAbove = (before after : Machine) (s : ℕ) (p : Plane) (t k : ℕ) → Sound (held before) → IsSplit before after s p t → Has (held before).faces k → solid_of (held before) k ≡ s →
+    straddles (held before) p k ≡ true → HasNewFace (held before) (held after) t k
 
 -- face k of N is a piece of a face of solid s of M that straddles plane p: it lies in the plane of that face
 pub record IsPiece (M N : Model) (s : ℕ) (p : Plane) (k : ℕ) : Type 0 where

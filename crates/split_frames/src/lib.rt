@@ -7,11 +7,11 @@
 //! Of a session after a split answered Ok: each face of another solid than the one that was split is of the solid, and has the outer
 //! loop, the rings, the corner points and the plane, that it had; each of its loops has its face and its content, each edge its
 //! ends, and each vertex its point. Each face of that solid that the plane doesn't straddle is of the part on its side, with its loops,
-//! their corner points, round from another on, and its plane; in the lower part it stands as it did. Each face of that solid is of
-//! one of the parts and lies in the plane in which it lay; each other face of the parts lies in that of a face that the plane
-//! straddles, or is a cap. Not proved: which of the two is on which side.
+//! their corner points, round from another on, and its plane; in the lower part it stands as it did. Each face of that solid keeps
+//! its number, is of one of the parts and lies in the plane in which it lay. One that the plane straddles is of the lower part, and
+//! a new face of the upper one lies in its plane; each new face of the parts lies in the plane of such a face, or is a cap.
 
-ghost use Rattle.split_frames.specs.Laws.{SplitKeepsRows, SplitKeepsOwners, SplitKeepsLoops, SplitKeepsEdges, SplitKeepsPoints, SplitKeepsShapes, SplitKeepsBelow, SplitSharesFaces, SplitKeepsPlanes, SplitPartsFaces, StraddlingStayBelow};
+ghost use Rattle.split_frames.specs.Laws.{SplitKeepsRows, SplitKeepsOwners, SplitKeepsLoops, SplitKeepsEdges, SplitKeepsPoints, SplitKeepsShapes, SplitKeepsBelow, SplitSharesFaces, SplitKeepsPlanes, SplitPartsFaces, StraddlingGoAbove, StraddlingStayBelow};
 
 /// After a split the faces of other solids, their loops, edges and vertices are as they were.
 pub fn splits_leave_alone()
@@ -31,10 +31,12 @@ pub fn splits_share_faces()
     ensures below { SplitKeepsBelow }
 {}
 
-/// After a split each face of the solid, also one that the plane straddles, keeps its number, is of one of the parts, and lies in the plane
-/// in which it lay. Each other face of the parts is a piece of one that the plane straddles, in its plane, or a cap.
+/// After a split each face of the solid keeps its number, is of one of the parts, and lies in the plane in which it lay. One that the plane
+/// straddles is of the lower part, and a new face of the upper part lies in its plane too. Each new face of the parts is a piece of one
+/// that the plane straddles, in its plane, or a cap.
 pub fn splits_part_faces()
     ensures planes { SplitKeepsPlanes }
-    ensures straddling { StraddlingStayBelow }
+    ensures below { StraddlingStayBelow }
+    ensures above { StraddlingGoAbove }
     ensures pieces { SplitPartsFaces }
 {}
