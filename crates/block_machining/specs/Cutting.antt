@@ -9,7 +9,7 @@ use Rattle.sweeps.specs.Measure.{is_flat, normal}
 use Rattle.command_laws.specs.Counted.{counts}
 use Rattle.command_laws.specs.LeftAlone.{StandsAsBefore}
 use Rattle.command_laws.specs.TakenOver.{IsTakenOver}
-use Rattle.split_frames.specs.Laws.{IsCap, IsOfEither, IsPiece, LiesInPlaneOf}
+use Rattle.split_frames.specs.Laws.{HasNewFace, IsCap, IsOfEither, IsPiece, LiesInPlaneOf}
 use Rattle.split_caps.specs.Capped.{IsCapOf, cap, caps_of, cycles_of}
 
 -- no vertex of solid s lies above the plane x + d = 0, and none of solid t below it
@@ -36,7 +36,11 @@ ShareFaces M N d s t = let plane = plane_with (pos 1) (pos 0) (pos 0) d in (k : 
 abbrev pub KeepPlanes : Model → Model → ℕ → ℕ → Type 0
 KeepPlanes M N s t = (k : ℕ) → Has M.faces k → solid_of M k ≡ s → Has N.faces k × IsOfEither N s t k × LiesInPlaneOf M N k k
 
--- and is flat, unless it has no area left
+-- one that it straddles is of the part below, and a new face of the part above lies in its plane too
+abbrev pub CutInTwo : Model → Model → ℤ → ℕ → ℕ → Type 0
+CutInTwo M N d s t = let plane = plane_with (pos 1) (pos 0) (pos 0) d in (k : ℕ) → Has M.faces k → solid_of M k ≡ s → straddles M plane k ≡ true → (solid_of N k ≡ s) × HasNewFace M N t k
+
+-- each face is flat then, unless it has no area left
 abbrev pub StayFlat : Model → Model → ℕ → Type 0
 StayFlat M N s = (k : ℕ) → Has M.faces k → solid_of M k ≡ s → normal N k ≢ origin → is_flat N k ≡ true
 

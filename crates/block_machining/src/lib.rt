@@ -17,17 +17,17 @@
 //! edge across its top one edge and one face more and no other volume; a swept face, with rings or without, adds three times
 //! its normal along the vector, and keeps its loops with their corners moved; the solid that comes of two glued faces has the
 //! six volumes of both; the parts of a solid cut by a plane x + d = 0 are there, share its six volumes, lie on either side of
-//! it and are closed by caps on it, and each face that the plane leaves whole is of the part on its side, and each other one
-//! lies in the plane of a face that was cut, or is a cap. What becomes of `v - e + f - r` is told of each of these, and which
-//! edges or loops stay as they were. After each undo isn't refused and gives the model before. Whatever operator is tried in a
-//! draft that is given up, the session is as it was; so at the end the block has its volume as before, with one command to undo
-//! and one to redo. Once a second block is made, the side of the first at which they meet still has its corners, which are
-//! those of the second one's, the other way round, and each counts as it did alone; so it is beside a lamina. The block made
-//! longer by the second one glued to it has 180; and once it is cut its two parts have 72 and 108, with what each counts and
-//! one cap each, and four commands to undo. With a smaller block joined to its top it has 156, and 276 once the top, a face
-//! with a ring then, is raised round that. A wedge, a triangle swept up, has 72, and its faces are known by their numbers and
-//! their corners. A list of four calls in one is told what the plain machine may tell, and leads to a machine that may come of
-//! them, which is consistent.
+//! it and are closed by caps on it, and each face that the plane leaves whole is of the part on its side; one that it cuts
+//! stays below in its plane, in which a new face lies above, and each new face lies in the plane of such a one, or is a cap.
+//! What becomes of `v - e + f - r` is told of each of these, and which edges or loops stay as they were. After each undo isn't
+//! refused and gives the model before. Whatever operator is tried in a draft that is given up, the session is as it was; so at
+//! the end the block has its volume as before, with one command to undo and one to redo. Once a second block is made, the side
+//! of the first at which they meet still has its corners, which are those of the second one's, the other way round, and each
+//! counts as it did alone; so it is beside a lamina. The block made longer by the second one glued to it has 180; and once it
+//! is cut its two parts have 72 and 108, with what each counts and one cap each, and four commands to undo. With a smaller
+//! block joined to its top it has 156, and 276 once the top, a face with a ring then, is raised round that. A wedge, a triangle
+//! swept up, has 72, and its faces are known by their numbers and their corners. A list of four calls in one is told what the
+//! plain machine may tell, and leads to a machine that may come of them, which is consistent.
 
 mod blocks;
 mod bosses;

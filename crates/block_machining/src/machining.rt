@@ -4,7 +4,7 @@ ghost use Rattle.command_laws.specs.Commands.{IsSweep};
 ghost use Rattle.command_laws.specs.Counted.{counts};
 ghost use Rattle.command_laws.specs.LeftAlone.{KeepsEdges, KeepsLoops, Each, OfOthers, OfOthersBut};
 ghost use Rattle.command_laws.specs.RingedFaces.{IsFarFace};
-ghost use Rattle.block_machining.specs.Cutting.{AreCapped, ComeOfFaces, FaceApart, HasOuterCap, KeepPlanes, KeepsBelow, LieOnEitherSide, ShareFaces, ShareSums, StayFlat};
+ghost use Rattle.block_machining.specs.Cutting.{AreCapped, ComeOfFaces, CutInTwo, FaceApart, HasOuterCap, KeepPlanes, KeepsBelow, LieOnEitherSide, ShareFaces, ShareSums, StayFlat};
 ghost use Rattle.block_machining.specs.Joining.{TakesOver};
 ghost use Rattle.block_machining.specs.Undoing.{AreCounted, IsOneCommand, KeepsVolumes, LeavesFaces};
 ghost use Rattle.gluing.specs.Machine.{glue, glue_refusal};
@@ -79,9 +79,9 @@ pub fn joined(alloc: Global, session: Session, f: u32, other: u32) -> (Session, 
 
 /// A solid cut by the plane x + d = 0: what lies above it, where that sum is positive, becomes the solid `upper`. Both parts are there
 /// then. They share the six volumes of the one, lie on either side, and have caps on the plane, an outer one where an edge crosses it. Each
-/// face that the plane leaves whole is of the part on its side. One that it cuts keeps its plane, and is flat unless no area is left of it;
-/// each other face of the parts lies in the plane of one that was cut, or is a cap. The loops of other solids are as they were. Undo gives
-/// the model before.
+/// face that the plane leaves whole is of the part on its side. One that it cuts stays below, in its plane, in which a new face lies above;
+/// each new face of the parts lies in the plane of one that was cut, or is a cap. Each face is flat unless no area is left of it. The loops
+/// of other solids are as they were. Undo gives the model before.
 pub fn cut(
     alloc: Global,
     session: Session,
@@ -99,6 +99,7 @@ pub fn cut(
     ensures whole { OnOk result.1 (ShareFaces (held session.machine) (held result.0.machine) d s upper) }
     ensures below { OnOk result.1 (KeepsBelow (held session.machine) (held result.0.machine) d s) }
     ensures planes { OnOk result.1 (KeepPlanes (held session.machine) (held result.0.machine) s upper) }
+    ensures halved { OnOk result.1 (CutInTwo (held session.machine) (held result.0.machine) d s upper) }
     ensures flat { OnOk result.1 (StayFlat (held session.machine) (held result.0.machine) s) }
     ensures pieces { OnOk result.1 (ComeOfFaces (held session.machine) (held result.0.machine) d s upper) }
     ensures apart { OnOk result.1 (FaceApart (held session.machine) (held result.0.machine) d s) }

@@ -4,7 +4,7 @@ use Rattle.std.proofs.lemmas.Result.{on_ok_weaker}
 use Rattle.plane_split.specs.Machine.{plane_with, split, split_refusal}
 use Rattle.sweeps.specs.Measure.{plane_of}
 use Rattle.sweeps.specs.PlainMachine.{held}
-use Rattle.block_machining.specs.Cutting.{AreCapped, ComeOfFaces, FaceApart, HasOuterCap, KeepsBelow, LieOnEitherSide, ShareFaces, ShareSums}
+use Rattle.block_machining.specs.Cutting.{AreCapped, ComeOfFaces, CutInTwo, FaceApart, HasOuterCap, KeepsBelow, LieOnEitherSide, ShareFaces, ShareSums}
 use Rattle.block_machining.proofs.Accepted.{accepted_undone}
 use Rattle.block_machining.proofs.machining.cut.Goals as goal
 
@@ -77,3 +77,11 @@ returns-clause-flat c = on_ok_weaker c.split.result.1 (λ made k there of area.
     let kept = c.splits_part_faces.ensures.planes c.args.session.machine c.split.result.0.machine c.args.s _ c.args.upper k c.split.ensures.sound made there of in
     let sound = c.splits_are_held.ensures.sound c.args.session.machine c.split.result.0.machine c.args.s _ c.args.upper c.split.ensures.sound made in
     c.faces_lie_flat.ensures.planar (held c.split.result.0.machine) (plane_of (held c.args.session.machine) k) k sound kept.0 kept.2 area) c.split.ensures.ok
+
+pub returns-clause-halved : goal.returns-clause-halved
+returns-clause-halved c = on_ok_weaker c.split.result.1 (λ made.
+    let laws = c.splits_part_faces.ensures in
+    subst (λ d. CutInTwo (held c.args.session.machine) (held c.split.result.0.machine) d c.args.s c.args.upper) (to_z-of_z w64 c.args.d c.ranges.d) (λ k there of across. (
+      laws.below c.args.session.machine c.split.result.0.machine c.args.s _ c.args.upper k c.split.ensures.sound made there of across,
+      laws.above c.args.session.machine c.split.result.0.machine c.args.s _ c.args.upper k c.split.ensures.sound made there of across,
+    ))) c.split.ensures.ok
