@@ -2,12 +2,12 @@
 use Rattle.std.proofs.Common.{◌≡◌, ℕ, Bool, true, false, not, ◌&&◌, List, [], ◌∷◌, Option, None, is_some, unwrap_or, refl, sym, ap, subst, ◌∙◌, true≢false, ◌⊎◌, inl, inr, arith}
 use Rattle.std.proofs.lemmas.Bool.{and_parts}
 use Rattle.std.proofs.lemmas.Bool.Decides.{eqb_tells}
-use Rattle.euler_operators.specs.Common.{Plane, IsIn, code, direction, edge_of, is_on, mate, origin, same_point, Model, LoopRow, lone, cycle, content, items_of, face_of, loop_of, no_point, outer, point_of, tail, Sound, Has, HasHalf, corner_loop, face_at, first_false, lists, effect, head_or, kef, kemr, kfmrh, mef, mfkrh}
+use Rattle.euler_operators.specs.Common.{Plane, IsIn, code, direction, edge_of, is_on, mate, origin, same_point, Model, LoopRow, lone, cycle, content, items_of, face_of, loop_of, no_point, outer, point_of, tail, Sound, Has, HasHalf, corner_loop, face_at, first_false, lists, effect, inverse, head_or, kef, kemr, kfmrh, mef, mfkrh}
 use Rattle.euler_operators.specs.Table as table
 use Rattle.euler_operators.specs.declared.Op.{Op}
 use Rattle.euler_operators.specs.declared.Op.TheVariants.{Kef, Kemr, Kfmrh, Mef, Mekr, Mfkrh}
 use Rattle.euler_operators.proofs.Common.{IsIn_head, IsIn_rest, get-put_other, get-remove_other, holds_in, item_loop, item_there, lone_there, loop_there, never_lone, same_content, same_face, tick_other}
-use Rattle.euler_laws.proofs.Common.{KillGoes, MakeGoes, SameWalks, effect_keeps_sound, first_listed, half_face, kef_goes, KefGoes, kemr_goes, KemrGoes, kfmrh_goes, listed-from_in, mef_goes, MefGoes, mfkrh_goes, JoinGoes, join_goes, row_else, row_second, same_tail, walks_same}
+use Rattle.euler_laws.proofs.Common.{KillGoes, MakeGoes, SameWalks, effect_keeps_sound, first_listed, half_face, inverse_goes, inverse_undoes, kef_goes, KefGoes, kemr_goes, KemrGoes, kfmrh_goes, listed-from_in, mef_goes, MefGoes, mfkrh_goes, JoinGoes, join_goes, row_else, row_second, same_tail, walks_same}
 use Rattle.euler_laws.proofs.kemr.KemrSound as parted
 use Rattle.euler_laws.proofs.mef.KefSound as erased
 use Rattle.euler_laws.proofs.mef.MefSound as drawn
@@ -25,7 +25,7 @@ use Rattle.euler_laws.proofs.mekr.MekrSpots.{Spot, first_cases}
 use Rattle.shapes.specs.Common.{anchor, corners, loops_of, six_volume, vertices_on}
 use Rattle.shapes.proofs.Common.{anchor_on, are_on, face_of_loop, on_one, on_some}
 use Rattle.command_laws.proofs.Redrawn.{AreRedrawn, redrawn_keep_volumes}
-use Rattle.command_laws.specs.Operators.{LieOnPlane, OperatorsKeepVolumes, faces_met, leaves_vertices}
+use Rattle.command_laws.specs.Operators.{LieOnPlane, OperatorsKeepVolumes, OperatorsKeepVolumesBack, faces_met, leaves_vertices}
 use Rattle.command_laws.proofs.InnerFaces.{HasLeft, each_left, left_stands, off_first, off_rest}
 use Rattle.command_laws.proofs.OnFaces.{loop_in_face, vertex_cases}
 use Rattle.command_laws.proofs.Owners.{half_is_on}
@@ -316,3 +316,19 @@ operators_keep_volumes M N op p u sound step i on =
       corners = w.corners;
       vertices = w.vertices;
     }) u
+
+inverse_leaves : (M : Model) (op : Op) → leaves_vertices op ≡ true → leaves_vertices (inverse M op) ≡ true
+unfolding inverse
+inverse_leaves M (Mef g j h f l) i = refl
+inverse_leaves M (Kef h) i = refl
+inverse_leaves M (Kemr h l) i = refl
+inverse_leaves M (Mekr c d h) i = refl
+inverse_leaves M (Kfmrh f g) i = refl
+inverse_leaves M (Mfkrh l f) i = refl
+inverse_leaves M op i = absurd (true≢false (sym i))
+
+pub operators_keep_volumes_back : OperatorsKeepVolumesBack
+operators_keep_volumes_back M N op p u sound step i on =
+    let back : LieOnPlane (effect M op) p (faces_met (effect M op) (inverse M op)) → six_volume (effect M op) u ≡ six_volume M u = λ there.
+    sym (operators_keep_volumes (effect M op) M (inverse M op) p u (effect_keeps_sound M op sound step.0) (inverse_goes M op sound step.0, sym (inverse_undoes M op sound step.0)) (inverse_leaves M op i) there) in
+    subst (λ X. LieOnPlane X p (faces_met X (inverse M op)) → six_volume X u ≡ six_volume M u) (sym step.1) back on

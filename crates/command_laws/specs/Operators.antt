@@ -1,6 +1,6 @@
 -- What `counts` answers after one operator, an `act` of a session or a `step` of a draft, which faces stand, and which volumes are kept.
 use Rattle.std.specs.Prelude.{◌≡◌, ◌≢◌, ℕ, ◌+◌, ◌-◌, pos, ◌+ℤ◌, ◌-ℤ◌, Bool, true, false, List, [], ◌∷◌, None}
-use Rattle.euler_operators.specs.Common.{Plane, code, mate, Model, face_of, solid_of, Sound, Has, corner_loop, face_at, first_false, lists, effect}
+use Rattle.euler_operators.specs.Common.{Plane, code, mate, Model, face_of, solid_of, Sound, Has, corner_loop, face_at, first_false, lists, effect, inverse}
 use Rattle.euler_operators.specs.declared.Op.{Op}
 use Rattle.euler_operators.specs.declared.Op.TheVariants.{Mev, Kev, Mef, Kef, Kemr, Mekr, Kfmrh, Mfkrh}
 use Rattle.shapes.specs.Common.{corners, is_plane_of, six_volume}
@@ -85,3 +85,7 @@ LieOnPlane M p ks = (k : ℕ) → Has M.faces k → lists ks k ≡ true → is_p
 -- where the faces that it changes, makes or kills lie on one plane, as far as they are there, each solid keeps its six volumes
 abbrev pub OperatorsKeepVolumes : Type 0
 OperatorsKeepVolumes = (M N : Model) (op : Op) (p : Plane) (u : ℕ) → Sound M → IsStep M op N → leaves_vertices op ≡ true → LieOnPlane M p (faces_met M op) → six_volume N u ≡ six_volume M u
+
+-- so it does where, once it is done, those that its inverse meets lie on one plane
+abbrev pub OperatorsKeepVolumesBack : Type 0
+OperatorsKeepVolumesBack = (M N : Model) (op : Op) (p : Plane) (u : ℕ) → Sound M → IsStep M op N → leaves_vertices op ≡ true → LieOnPlane N p (faces_met N (inverse M op)) → six_volume N u ≡ six_volume M u

@@ -1,5 +1,5 @@
 //! What one operator makes of the counts, in a session or a draft, which faces it leaves, and where it keeps the volumes.
-ghost use Rattle.command_laws.specs.Operators.{OperatorsCount, OperatorsKeepCounts, OperatorsKeepShapes, OperatorsKeepVolumes};
+ghost use Rattle.command_laws.specs.Operators.{OperatorsCount, OperatorsKeepCounts, OperatorsKeepShapes, OperatorsKeepVolumes, OperatorsKeepVolumesBack};
 
 /// An operator that makes or kills an edge, a face or a ring within a solid changes what `counts` answers of it: mev makes a vertex and an
 /// edge, mef an edge and a face, kemr a ring of an edge, and mfkrh a face of a ring; kev, kef, mekr and kfmrh take that back. Every other
@@ -15,7 +15,9 @@ pub fn operators_leave_faces()
 {}
 
 /// Where the faces that one of these changes, makes or kills lie on one plane, each solid keeps its six volumes: an edge drawn in a flat
-/// face or taken away between two of one plane, a ring of such a face, also as a face of its own.
+/// face or taken away between two of one plane, a ring of such a face, also as a face of its own. Those on one plane may be told before the
+/// operator or after it.
 pub fn operators_keep_volumes()
-    ensures { OperatorsKeepVolumes }
+    ensures before { OperatorsKeepVolumes }
+    ensures after { OperatorsKeepVolumesBack }
 {}

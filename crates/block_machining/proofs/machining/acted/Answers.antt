@@ -21,4 +21,4 @@ returns-clause-faces c = on_ok_weaker c.act-done.result (λ made k.
 
 pub returns-clause-volumes : goal.returns-clause-volumes
 returns-clause-volumes c = on_ok_weaker c.act-done.result (λ made p u.
-    c.operators_keep_volumes.ensures (held c.args.session.machine) (held c.act-done.new.self.machine) c.args.op p u c.stays_consistent.ensures.held_sound (made.0, ap (λ j. held j.machine) made.1)) c.act-done.ensures.ok
+    c.operators_keep_volumes.ensures.before (held c.args.session.machine) (held c.act-done.new.self.machine) c.args.op p u c.stays_consistent.ensures.held_sound (made.0, ap (λ j. held j.machine) made.1)) c.act-done.ensures.ok
