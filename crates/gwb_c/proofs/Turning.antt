@@ -5,9 +5,6 @@ use Rattle.session_slots.specs.declared.slot.Slot.{Slot}
 use Rattle.gwb_c.specs.Handle.{Unless, Calls, lacking}
 
 module _ (without : Option Stage → Bool) (R : Slot → Slot → Type 0) (o : Option Slot) (x : Slot) (is : o ≡ Some x) (new : Option Slot) (kind : ℕ) where
-  pub turned_away : without x.stage ≡ true → new ≡ Some x → kind ≡ lacking x.stage → Calls without R o new kind
-  turned_away hasnt kept told = subst (λ p. Calls without R p new kind) (sym is) (subst (λ b. Unless b (lacking x.stage) R x new kind) (sym hasnt) (kept, told))
-
   pub goes_on : without x.stage ≡ false → (y : Slot) → new ≡ Some y → kind ≡ status_of y.answer → R x y → Calls without R o new kind
   goes_on has y after told holds = subst (λ p. Calls without R p new kind) (sym is) (subst (λ b. Unless b (lacking x.stage) R x new kind) (sym has) (y, after, told, holds))
 

@@ -1,17 +1,8 @@
 use Rattle.std.proofs.Common.{◌∙◌, sym, ap, subst}
 use Rattle.session_slots.specs.Common.{status_of, lacks, Slot_does}
 use Rattle.session_slots.specs.declared.slot.Slot.{Slot}
-use Rattle.gwb_c.specs.Handle.{lacking}
-use Rattle.gwb_c.proofs.Staying.{stays_made}
-use Rattle.gwb_c.proofs.Turning.{turned_away, goes_on}
+use Rattle.gwb_c.proofs.Turning.{goes_on}
 use Rattle.gwb_c.proofs.calling.call.Goals as goal
-
-pub returns-then-lacks : goal.returns-then-lacks
-returns-then-lacks c =
-    let wanted = c.args.wanted in
-    turned_away (lacks wanted) (λ u v. Slot_does u wanted v) c.args.gwb.now.kept.value c.in-Some.slot c.in-Some.ensures.slot c.put.new.gwb.kept.value c.lacking-kind.result
-    (ap (λ (z : Slot). lacks wanted z.stage) (sym c.slot.ensures) ∙ sym c.lacks.ensures ∙ c.if-lacks.true) c.put.ensures
-    (c.lacking-kind.ensures ∙ ap (λ (z : Slot). lacking z.stage) c.slot-then-lacks.ensures)
 
 pub returns : goal.returns
 returns c =
@@ -19,8 +10,3 @@ returns c =
     goes_on (lacks wanted) (λ u v. Slot_does u wanted v) c.args.gwb.now.kept.value c.in-Some.slot c.in-Some.ensures.slot c.put-2.new.gwb.kept.value c.status-kind.result
     (ap (λ (z : Slot). lacks wanted z.stage) (sym c.slot.ensures) ∙ sym c.lacks.ensures ∙ c.if-lacks.false) after c.put-2.ensures
     (c.status-kind.ensures ∙ ap (λ (z : Slot). status_of z.answer) c.slot-2.ensures) (subst (λ (z : Slot). Slot_does z wanted after) c.slot_mut.ensures.value c.make.ensures)
-
-pub put-requires-2-clause-staged : goal.put-requires-2-clause-staged
-put-requires-2-clause-staged c =
-    let wanted = c.args.wanted in let after = c.make.new.slot in
-    stays_made c.in-Some.slot after wanted c.in-Some.ensures.staged (subst (λ (z : Slot). Slot_does z wanted after) c.slot_mut.ensures.value c.make.ensures).0
