@@ -15,13 +15,13 @@ use Rattle.euler_operators.specs.declared.Op.TheVariants.{Kfmrh, Merge}
 use Rattle.euler_operators.specs.Common.{Plane, Point, LoopRow, dot, is_in_range, is_lone, lists, no_loop, first_false, rotate_to, canonical, rest, mate, code, half, edge_of, is_first, empty_model, content, tail, loop_of, face_of, solid_of, outer, arc, holds, after, before, point_of, conditions, has_rings, effect, inverse, mvfs, kvfs_at, mev_lone, mev_at, kev, mef, kef, kemr, mekr, kfmrh, mfkrh, ring_in, ring_out, take_outer, merge, part}
 use Rattle.solid_measure.specs.solid_counts.Counts.{counts}
 use Rattle.split_caps.specs.Capped.{caps_of}
-use Rattle.shapes.specs.Common.{is_plane_of, lamina_face, glue_conditions, glue_model, loops_of, boundary, corners, taken_in, lamina_conditions, lamina_model, prism_conditions, with_side, raised, prism_model, block_conditions, block_model, normal, plane_of, is_flat, straddles, face_is_above, is_place, place_point, places, is_touched, is_cut_often, is_crossed, sorted_pairs, place_pairs, edge_cut, next_cut, with_crossings, drawn_pairs, face_drawn, loops_joined, join_next, draw_next, next_drawn, with_drawings, below_halves, section_cycles, is_hole, opened_along, next_opened, first_conditions, section_conditions, split_conditions, split_model}
+use Rattle.shapes.specs.Common.{is_plane_of, lamina_face, glue_conditions, glue_model, loops_of, boundary, corners, taken_in, lamina_conditions, lamina_model, prism_conditions, with_side, raised, prism_model, block_conditions, block_model, normal, plane_of, is_flat, straddles, face_is_above, is_place, place_point, places, is_touched, is_cut_often, is_crossed, sorted_pairs, place_pairs, next_cut, with_crossings, drawn_pairs, join_next, draw_next, next_drawn, with_drawings, below_halves, section_cycles, is_hole, opened_along, next_opened, first_conditions, section_conditions, split_conditions, split_model}
 use Rattle.euler_operators.specs.Table as table
 use Rattle.block_machining.specs.Machines.{blank, bossed, lengthened, merged, paired, parted, score, spur, stacked, triangular}
 
 -- opens the definitions that the machines compute by
 unfoldable computed : ℕ
-unfolding mate code half edge_of is_first rotate_to canonical rest holds after before table.empty table.get table.put table.remove table.map_rows table.first_where table.all_where table.greatest empty_model content tail loop_of face_of solid_of outer arc conditions first_false has_rings effect inverse mvfs kvfs_at mev_lone mev_at kev mef kef kemr mekr kfmrh mfkrh ring_in ring_out take_outer merge part point_of loops_of boundary corners taken_in lamina_conditions lamina_model prism_conditions with_side raised prism_model block_conditions block_model normal plane_of is_flat six_volume straddles face_is_above is_place place_point places is_touched is_cut_often is_crossed sorted_pairs place_pairs edge_cut next_cut with_crossings drawn_pairs face_drawn loops_joined join_next draw_next next_drawn with_drawings below_halves section_cycles is_hole opened_along next_opened first_conditions section_conditions split_conditions split_model
+unfolding mate code half edge_of is_first rotate_to canonical rest holds after before table.empty table.get table.put table.remove table.map_rows table.first_where table.all_where table.greatest empty_model content tail loop_of face_of solid_of outer arc conditions first_false has_rings effect inverse mvfs kvfs_at mev_lone mev_at kev mef kef kemr mekr kfmrh mfkrh ring_in ring_out take_outer merge part point_of loops_of boundary corners taken_in lamina_conditions lamina_model prism_conditions with_side raised prism_model block_conditions block_model normal plane_of is_flat six_volume straddles face_is_above is_place place_point places is_touched is_cut_often is_crossed sorted_pairs place_pairs next_cut with_crossings drawn_pairs join_next draw_next next_drawn with_drawings below_halves section_cycles is_hole opened_along next_opened first_conditions section_conditions split_conditions split_model
 computed = 0
 
 -- so many numbers of each kind are taken

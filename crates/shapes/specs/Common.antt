@@ -21,10 +21,10 @@ pub use Rattle.shapes.specs.glue.GlueOps.{closing, closings, fresh_edge, opening
 unfoldable pub use Rattle.shapes.specs.glue.GlueOps.{glue_ops}
 pub use Rattle.shapes.specs.glue.Part.{paired, seam}
 unfoldable pub use Rattle.shapes.specs.glue.Part.{glued_part}
-pub use Rattle.shapes.specs.split.Crossings.{all_cut, doubled}
-unfoldable pub use Rattle.shapes.specs.split.Crossings.{edge_cut, next_cut, with_crossings}
-pub use Rattle.shapes.specs.split.Drawing.{Drawing, FacePairs, all_drawn, all_joined, all_pairs, drawn_between, faces_drawn, from_place, in_one_loop, joined_pair, ring_free, rings_above, rings_shared, straddling_pairs, stuck_at, undrawn, with_rings}
-unfoldable pub use Rattle.shapes.specs.split.Drawing.{draw_next, drawn_pairs, face_drawn, join_next, loops_joined, next_drawn, with_drawings}
+pub use Rattle.shapes.specs.split.Crossings.{all_cut, cut_edge}
+unfoldable pub use Rattle.shapes.specs.split.Crossings.{next_cut, with_crossings}
+pub use Rattle.shapes.specs.split.Drawing.{Drawing, FacePairs, all_drawn, all_joined, all_pairs, draw_edge, draw_pair, drawn_between, faces_drawn, from_place, in_one_loop, join_edge, join_pair, ring_free, rings_above, rings_shared, straddling_pairs, stuck_at, undrawn, with_rings}
+unfoldable pub use Rattle.shapes.specs.split.Drawing.{draw_next, drawn_pairs, join_next, next_drawn, with_drawings}
 pub use Rattle.shapes.specs.split.Opening.{Caps, Opening, all_opened, both_lists, hole_closed, holes_closed, no_caps, opened_row, opened_tail, outer_caps, with_copies, with_rim}
 unfoldable pub use Rattle.shapes.specs.split.Opening.{next_opened, opened_along}
 pub use Rattle.shapes.specs.split.Places.{goes_up, in_pairs, is_up_and_down, loop_is_cut, pair_count, some_meet, sorted, sorted_in, up_first}

@@ -6,11 +6,11 @@ use Rattle.euler_operators.specs.Table as table
 use Rattle.euler_operators.proofs.Common.{tick_same, get-put_other}
 use Rattle.euler_laws.specs.Laws.{AreAccepted, effects, size}
 use Rattle.euler_laws.proofs.Common.{mapped_none, size-map_rows, size-put_new, mev_goes}
-use Rattle.shapes.specs.Common.{Growing, Taken, numbers_after, next_cut, Drawing, FacePairs, all_drawn, all_joined, draw_next, drawn_between, join_next, next_drawn, ring_free, rings_above, stuck_at, with_rings, Opening, all_opened, both_lists, opened_along, with_rim}
+use Rattle.shapes.specs.Common.{Growing, Taken, numbers_after, next_cut, Drawing, FacePairs, all_drawn, all_joined, draw_next, drawn_between, join_next, next_drawn, ring_free, rings_above, stuck_at, with_rings, Opening, all_opened, both_lists, opened_along, with_rim, cut_edge}
 use Rattle.split_drawing_laws.specs.crossings.CrossingOps as crossings
 use Rattle.split_drawing_laws.specs.drawings.Pairs.{AllFit, pairs_in}
 use Rattle.split_drawing_laws.specs.drawings.Passing.{Drawable, Going, Joining, Ready}
-use Rattle.split_drawing_laws.proofs.drawings.Drawn.{CanDraw}
+use Rattle.split_drawing_laws.proofs.drawings.Drawn.{CanDraw, ring_rows}
 use Rattle.split_drawing_laws.proofs.drawings.Faces.{begun_joining, fitting_on, going, going_on, joins}
 use Rattle.split_drawing_laws.proofs.drawings.Stays.{edges_are, joined_edges}
 use Rattle.split_drawing_laws.proofs.drawings.Whole.{drawable_on, next_is, ready}
@@ -33,14 +33,14 @@ next_one a b n e = omega arith
 
 -- ---- edges cut
 
-cut_once : (M : Model) (p : Plane) (g : Growing) (e : ℕ) → AreAccepted M (crossings.cut_edge p g e ∷ []) → let N = effect M (crossings.cut_edge p g e) in (size N.vertices ≡ size M.vertices + 1) × (size N.edges ≡ size M.edges + 1)
+cut_once : (M : Model) (p : Plane) (g : Growing) (e : ℕ) → AreAccepted M (cut_edge p g e ∷ []) → let N = effect M (cut_edge p g e) in (size N.vertices ≡ size M.vertices + 1) × (size N.edges ≡ size M.edges + 1)
 unfolding effect mev_at
 cut_once M p g e go = grind (arith, mev_goes, size-put_new, mapped_none, size-map_rows)
 
 pub cuts_make : (M : Model) (p : Plane) (g : Growing) (es : List ℕ) → AreAccepted M (crossings.ops_from p g es) → let N = effects M (crossings.ops_from p g es) in (size N.vertices ≡ size M.vertices + length es) × (size N.edges ≡ size M.edges + length es)
 cuts_make M p g [] go = (none (size M.vertices), none (size M.edges))
 cuts_make M p g (e ∷ es) go =
-    let N = effect M (crossings.cut_edge p g e) in
+    let N = effect M (cut_edge p g e) in
     let first = cut_once M p g e (go.0, tt) in
     let rest = cuts_make N p (next_cut p g e) es go.1 in
     (rest.0 ∙ next_one (size M.vertices) (size N.vertices) (length es) first.0, rest.1 ∙ next_one (size M.edges) (size N.edges) (length es) first.1)
@@ -88,7 +88,7 @@ module _ (p : Plane) (f : ℕ) (qs : List (ℕ × ℕ)) (d : Drawing) (n : ℕ) 
   left false = refl
 
   shared : (b : Bool) → let S = cond b (record L { model = with_rings L.model (rings_above L.model p f) L.taken.face }) L in (S.model.edges ≡ L.model.edges) × (S.stuck ≡ L.stuck)
-  shared true = (refl, refl)
+  shared true = (ap (λ X. X.edges) (ring_rows L.model (rings_above L.model p f) L.taken.face), refl)
   shared false = (refl, refl)
 
   pub face_makes : (drawn_between p f qs d).stuck ≡ 0 → size (drawn_between p f qs d).model.edges ≡ size d.model.edges + length qs

@@ -8,7 +8,7 @@ use Rattle.euler_operators.proofs.Common.{add_assoc, none_add, number_real}
 use Rattle.euler_laws.specs.Laws.{AreAccepted, all_rings, effects, euler_number, growth, size}
 use Rattle.euler_laws.proofs.Common.{effect_keeps_sound, loops_are}
 use Rattle.euler_laws.proofs.Growth.{grows}
-use Rattle.shapes.specs.Common.{edges_of, vertices_of, Growing, Taken, growing, numbers_after, pair_count, crossing_edges, faces_above, straddling_faces, next_cut, with_crossings, Drawing, FacePairs, draw_next, join_next, next_drawn, straddling_pairs, undrawn, with_drawings, Caps, Opening, holes_closed, next_opened, outer_caps, opened_at}
+use Rattle.shapes.specs.Common.{edges_of, vertices_of, Growing, Taken, growing, numbers_after, pair_count, crossing_edges, faces_above, straddling_faces, next_cut, with_crossings, Drawing, FacePairs, draw_next, join_next, next_drawn, straddling_pairs, undrawn, with_drawings, Caps, Opening, holes_closed, next_opened, outer_caps, opened_at, join_pair, cut_edge}
 use Rattle.solid_measure.specs.solid_counts.Counts.{counts, rings_in}
 use Rattle.split_drawing_laws.specs.crossings.CrossingOps.{crossing_ops}
 use Rattle.split_drawing_laws.specs.crossings.Laws.{CanBegin}
@@ -20,7 +20,7 @@ use Rattle.split_drawing_laws.proofs.drawings.Whole.{drawable}
 use Rattle.split_drawing_laws.proofs.pairs.Whole.{can_be_drawn}
 use Rattle.split_drawing_laws.specs.crossings.CrossingOps as crossings
 use Rattle.split_drawing_laws.specs.drawings.DrawingOps as drawings
-use Rattle.split_drawing_laws.specs.drawings.DrawingOps.{draw_ops, drawing_ops, face_ops, join_ops, join_pair, ring_ops}
+use Rattle.split_drawing_laws.specs.drawings.DrawingOps.{draw_ops, drawing_ops, face_ops, join_ops, ring_ops}
 use Rattle.split_opening_laws.specs.caps.CapOps.{cap_ops, joinings, partings}
 use Rattle.split_opening_laws.specs.opening.OpeningOps.{opening_ops}
 use Rattle.split_opening_laws.specs.strips.StripOps.{copy_ops, strip_ops}
@@ -100,7 +100,7 @@ nothing_more op ops a b = λ i. a i +ℤ b i
 
 cuts_nothing : (p : Plane) (g : Growing) (es : List ℕ) → AddsNothing (crossings.ops_from p g es)
 cuts_nothing p g [] = refl
-cuts_nothing p g (e ∷ es) = nothing_more (crossings.cut_edge p g e) (crossings.ops_from p (next_cut p g e) es) refl (cuts_nothing p (next_cut p g e) es)
+cuts_nothing p g (e ∷ es) = nothing_more (cut_edge p g e) (crossings.ops_from p (next_cut p g e) es) refl (cuts_nothing p (next_cut p g e) es)
 
 pair_nothing : (M : Model) (q : ℕ × ℕ) (e : ℕ) → growth (join_pair M q e) ≡ pos 0
 pair_nothing M q e = grind arith

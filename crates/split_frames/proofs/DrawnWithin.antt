@@ -5,16 +5,18 @@ use Rattle.euler_operators.specs.Common.{Plane, count, IsIn, canonical, edge_of,
 use Rattle.euler_operators.specs.Table as table
 use Rattle.euler_operators.proofs.Common.{mate_plus, plus_row, IsIn_or_not, IsIn_rest, count-filter, in-holds, plus_there, same_solid, IsIn_head}
 use Rattle.euler_laws.proofs.Common.{all_where_has, IsIn-from_listed, edge_there, loop_row, half_face}
-use Rattle.shapes.specs.Common.{edges_of, Growing, growing, rewritten, rewritten_row, crosses, crossing_edges, straddling_faces, all_cut, doubled, edge_cut, next_cut, with_crossings, Drawing, FacePairs, all_pairs, drawn_between, face_drawn, faces_drawn, loops_joined, next_drawn, straddling_pairs, undrawn, with_drawings}
+use Rattle.shapes.specs.Common.{edges_of, Growing, growing, rewritten, rewritten_row, crosses, crossing_edges, straddling_faces, all_cut, next_cut, with_crossings, Drawing, FacePairs, all_pairs, drawn_between, faces_drawn, next_drawn, straddling_pairs, undrawn, with_drawings}
 use Rattle.split_drawing_laws.specs.crossings.Kept.{Kept}
 use Rattle.split_drawing_laws.specs.crossings.Laws.{CanBegin}
 use Rattle.split_drawing_laws.specs.drawings.DrawnIn.{Stays, DrawnIn}
 use Rattle.split_drawing_laws.specs.drawings.Pairs.{Fits, pairs_in}
 use Rattle.split_drawing_laws.specs.drawings.Passing.{Drawable, Ready}
-use Rattle.split_drawing_laws.proofs.crossings.OneCut.{doubled_none}
+use Rattle.split_drawing_laws.proofs.crossings.OneCut.{doubled_none, doubled, cut_rows}
+use Rattle.split_drawing_laws.proofs.crossings.Runs.{Going, cut_at, goes_now, going_on, next_model}
+use Rattle.split_drawing_laws.proofs.crossings.Whole as cuts
 use Rattle.split_drawing_laws.proofs.crossings.Whole.{crossings_keep, crossings_sound, tails_stay}
 use Rattle.split_drawing_laws.proofs.crossings.Premises.{face_facts}
-use Rattle.split_drawing_laws.proofs.drawings.Drawn.{CanJoin, CanDraw}
+use Rattle.split_drawing_laws.proofs.drawings.Drawn.{CanJoin, CanDraw, face_drawn, loops_joined}
 use Rattle.split_drawing_laws.proofs.drawings.Faces.{face_goes, between_keeps}
 use Rattle.split_drawing_laws.proofs.drawings.Whole.{drawable, drawable_on, next_is, ready}
 use Rattle.split_drawing_laws.proofs.drawings.Rings.{RingOf, Newer, moved_drawn}
@@ -40,17 +42,16 @@ clear_stays : (e k : ℕ) (c : LoopContent) → IsWritten c → IsClear e c → 
 clear_stays e k (lone v) w clear = refl
 clear_stays e k (cycle hs) w clear = ap (λ xs. cycle (canonical xs)) (doubled_none e k hs clear.0 clear.1) ∙ ap cycle w
 
-cut_loops : (p : Plane) (g : Growing) (e : ℕ) → (next_cut p g e).model.loops ≡ table.map_rows (rewritten_row (flat_map (doubled e (g.taken.edge + 1)))) g.model.loops
-unfolding next_cut edge_cut
-cut_loops p g e = refl
-
-cuts_leave : (p : Plane) (l : ℕ) (row : LoopRow) → IsWritten row.content → (es : List ℕ) (g : Growing) → ((e : ℕ) → IsIn e es → IsClear e row.content) → table.get g.model.loops l ≡ Some row → table.get (all_cut p g es).model.loops l ≡ Some row
-cuts_leave p l row w [] g clear at = at
-cuts_leave p l row w (e ∷ es) g clear at =
-    let new = rewritten_row (flat_map (doubled e (g.taken.edge + 1))) in
-    cuts_leave p l row w es (next_cut p g e) (λ x i. clear x (IsIn_rest x e es i))
-    (ap (λ t. table.get t l) (cut_loops p g e) ∙ get-map_rows new g.model.loops l ∙ ap (option_map (new l)) at
-    ∙ ap (λ c. Some (record row { content = c })) (clear_stays e (g.taken.edge + 1) row.content w (clear e (IsIn_head e es))))
+cuts_leave : (M : Model) (p : Plane) (sound : Sound M) (l : ℕ) (row : LoopRow) → IsWritten row.content → (g : Growing) (ds es : List ℕ) → Going M p g ds es →
+    ((e : ℕ) → IsIn e es → IsClear e row.content) → table.get g.model.loops l ≡ Some row → table.get (all_cut p g es).model.loops l ≡ Some row
+cuts_leave M p sound l row w g ds [] going clear at = at
+cuts_leave M p sound l row w g ds (e ∷ es) going clear at =
+    let k : ℕ = g.taken.edge + 1 in
+    let new = rewritten_row (flat_map (doubled e k)) in
+    let rows = next_model M p sound g ds e es going ∙ cut_rows g.model e k (g.taken.vertex + 1) (cut_at g.model p e) (goes_now M p sound g ds e es going).can in
+    cuts_leave M p sound l row w (next_cut p g e) (e ∷ ds) es (going_on M p sound g ds e es going) (λ x i. clear x (IsIn_rest x e es i))
+    (ap (λ N. table.get N.loops l) rows ∙ get-map_rows new g.model.loops l ∙ ap (option_map (new l)) at
+    ∙ ap (λ c. Some (record row { content = c })) (clear_stays e k row.content w (clear e (IsIn_head e es))))
 
 module _ (M : Model) (s : ℕ) (p : Plane) (t : ℕ) (sound : Sound M) (begins : CanBegin M s p t) where
   abbrev C : Model
@@ -86,7 +87,7 @@ module _ (M : Model) (s : ℕ) (p : Plane) (t : ℕ) (sound : Sound M) (begins :
   -- a loop in which no half of an edge stands that is cut keeps its row
   pub uncut_loop : (l : ℕ) → Has M.loops l → ((e : ℕ) → IsIn e (crossing_edges M p s) → IsClear e (content M l)) → table.get C.loops l ≡ table.get M.loops l
   unfolding with_crossings
-  uncut_loop l there clear = let row = loop_row M l there in cuts_leave p l _ (written l there (content M l) refl) (crossing_edges M p s) (growing M) clear row ∙ sym row
+  uncut_loop l there clear = let row = loop_row M l there in cuts_leave M p sound l _ (written l there (content M l) refl) (growing M) [] (crossing_edges M p s) (cuts.begins M s p t sound begins) clear row ∙ sym row
 
   module _ (l : ℕ) (ne : solid_of_loop M l ≢ s) where
     no_item : (h : ℕ) → solid_of_half M h ≡ s → count h (items_of (content M l)) ≡ 0

@@ -6,8 +6,7 @@ use Rattle.euler_operators.specs.Common.{edge_of, plus, Model, FaceRow, LoopRow,
 use Rattle.euler_operators.specs.Table as table
 use Rattle.euler_operators.proofs.Common.{plus_row, same_edge, face_row, loop_there, same_solid, solid_row, get-put_other, get-remove_here, get-remove_other}
 use Rattle.euler_laws.proofs.Common.{KillGoes, kill_face_l, kill_solid, sound-kfmrh, face_there, solid_either, loop_row}
-use Rattle.shapes.specs.Common.{face_drawn, loops_joined}
-use Rattle.split_drawing_laws.proofs.drawings.Drawn.{CanDraw, CanJoin, draw_sound, face_drawn_else, face_drawn_new, join_sound, loops_joined_faces}
+use Rattle.split_drawing_laws.proofs.drawings.Drawn.{CanDraw, CanJoin, draw_sound, face_drawn_else, face_drawn_new, join_sound, loops_joined_faces, face_drawn, loops_joined}
 use Rattle.split_drawing_laws.proofs.drawings.Stays.{edges_are, joined_edges, row_else, row_gone, row_joined, row_other}
 use Rattle.split_drawing_laws.proofs.face_sides.Beside.{never_free, new_loop_face, old_loop_face}
 use Rattle.command_laws.proofs.Owners.{Agree, half_kept, is_either, is_of, neither, not_either, solid_of_edge, solid_of_half, solid_of_loop, turned}

@@ -5,7 +5,7 @@ use Rattle.euler_operators.specs.Common.{Plane, is_above, is_below, are_opposite
 use Rattle.euler_operators.specs.Table as table
 use Rattle.euler_operators.proofs.Common.{mate_minus, mate_plus, minus_row, plus_row, IsIn_or_not, tick_same, filter_passes, cycle_there, face_row, in-holds, loop_there, mate_there, same_face}
 use Rattle.euler_laws.proofs.Common.{halves_of_edge, half_after, loop_after, IsIn-from_listed, listed-from_in, edge_there}
-use Rattle.shapes.specs.Common.{corners, vertices_on, crossing_edges, reaches_above, reaches_below, straddles, straddling_faces, with_crossings, Drawing, FacePairs, drawn_between, face_drawn, loops_joined, next_drawn, straddling_pairs, undrawn, with_drawings, split_refusal}
+use Rattle.shapes.specs.Common.{corners, vertices_on, crossing_edges, reaches_above, reaches_below, straddles, straddling_faces, with_crossings, Drawing, FacePairs, drawn_between, next_drawn, straddling_pairs, undrawn, with_drawings, split_refusal}
 use Rattle.split_drawing_laws.specs.crossings.Kept.{Kept}
 use Rattle.split_drawing_laws.specs.crossings.Laws.{CanBegin}
 use Rattle.split_drawing_laws.specs.drawings.DrawnIn.{DrawnIn}
@@ -14,7 +14,7 @@ use Rattle.split_drawing_laws.specs.drawings.Passing.{Drawable, Ready}
 use Rattle.split_drawing_laws.proofs.crossings.Premises.{any_passes, edge_facts, tail_in_face}
 use Rattle.split_drawing_laws.proofs.crossings.Whole.{crossings_keep}
 use Rattle.split_drawing_laws.proofs.drawings.Counted.{faces_are}
-use Rattle.split_drawing_laws.proofs.drawings.Drawn.{CanDraw, CanJoin, face_drawn_else, loops_joined_faces}
+use Rattle.split_drawing_laws.proofs.drawings.Drawn.{CanDraw, CanJoin, face_drawn_else, loops_joined_faces, face_drawn, loops_joined}
 use Rattle.split_drawing_laws.proofs.drawings.Faces.{between_keeps}
 use Rattle.split_drawing_laws.proofs.drawings.Rings.{Newer, RingOf}
 use Rattle.split_drawing_laws.proofs.drawings.Stays.{row_else, row_gone, row_joined, row_other}

@@ -1,7 +1,8 @@
 -- The second rewriting: in each face that straddles, edges are drawn between its pairs of cut places.
 use Rattle.std.specs.Prelude.{ℕ, ◌+◌, Bool, cond, ◌&&◌, nat_eq, nat_lt, List, [], ◌∷◌, ◌++◌, map, length, fold, filter}
-use Rattle.euler_operators.specs.Common.{Plane, is_on, mef_old, mef_new, mekr_ring, plus, minus, Model, cycle, content, tail, loop_of, cycle_of, solid_of, after, is_ring_of, rings_of, face_at, has_rings, loop_to_face}
-use Rattle.euler_operators.specs.Table as table
+use Rattle.euler_operators.specs.Common.{Plane, is_on, At, half, plus, Model, content, loop_of, after, is_ring_of, rings_of, face_at, has_rings, effect}
+use Rattle.euler_operators.specs.declared.Op.{Op}
+use Rattle.euler_operators.specs.declared.Op.TheVariants.{Mef, Mekr, RingIn}
 use Rattle.shapes.specs.Faces.{start, vertices_on}
 use Rattle.shapes.specs.Fresh.{Taken, Growing}
 use Rattle.shapes.specs.split.Sides.{some_above, straddling_faces}
@@ -25,22 +26,13 @@ drawn_pairs M N p f = map (λ q. (from_place N p q.0, from_place N p q.1)) (plac
 abbrev pub all_pairs : Model → Model → Plane → List ℕ → List FacePairs
 all_pairs M N p fs = map (λ f. record { face = f; pairs = drawn_pairs M N p f }) fs
 
--- the loop A B, with A from u up to before k, becomes +e B, and A -e is the loop l of a new face f
-unfoldable pub face_drawn : Model → ℕ → ℕ → ℕ → ℕ → ℕ → Model
-face_drawn M u k e f l = record M {
-  faces = table.put M.faces f (record { solid = solid_of M (face_at M u); outer = l });
-  loops = table.put (table.put M.loops (loop_of M u) (record { face = face_at M u; content = cycle (mef_old (plus e) u k (cycle_of M u)) }))
-      l (record { face = f; content = cycle (mef_new (minus e) u k (cycle_of M u)) });
-  edges = table.put M.edges e (record { plus_tail = tail M u; minus_tail = tail M k });
-}
+-- an edge from u to k, in one loop, that cuts off the new face f with the loop l: what lies from u up to before k
+abbrev pub draw_edge : ℕ → ℕ → ℕ → ℕ → ℕ → Op
+draw_edge u k e f l = Mef (half u) (half k) (half (plus e)) f l
 
--- the loops Y, from c on, and X, from d on, become +e X -e Y, under the number of Y
-unfoldable pub loops_joined : Model → ℕ → ℕ → ℕ → Model
-loops_joined M c d e = record M {
-  loops = table.put (table.remove M.loops (loop_of M d)) (loop_of M c)
-      (record { face = face_at M c; content = cycle (mekr_ring (plus e) (minus e) c d (cycle_of M c) (cycle_of M d)) });
-  edges = table.put M.edges e (record { plus_tail = tail M c; minus_tail = tail M d });
-}
+-- an edge from c to d, whose loop is a ring, that joins the two loops
+abbrev pub join_edge : ℕ → ℕ → ℕ → Op
+join_edge c d e = Mekr (At (half c)) (At (half d)) (half (plus e))
 
 -- what is drawn so far, the pairs of a face that are left for the second pass, and the first face that can't be drawn, or 0
 pub record Drawing : Type 0 where
@@ -55,15 +47,15 @@ stuck_at f d = record d { stuck = cond (nat_eq d.stuck 0) f d.stuck }
 abbrev pub in_one_loop : Model → ℕ × ℕ → Bool
 in_one_loop M q = nat_eq (loop_of M q.0) (loop_of M q.1)
 
--- the edge leads from k to u where u's loop is a ring, else from u to k
-abbrev pub joined_pair : Model → ℕ × ℕ → ℕ → Model
-joined_pair M q e = cond (is_ring_of M (face_at M q.0) (loop_of M q.0)) (loops_joined M q.1 q.0 e) (loops_joined M q.0 q.1 e)
+-- a pair in different loops joined: from k to u where u's loop is a ring, else from u to k
+abbrev pub join_pair : Model → ℕ × ℕ → ℕ → Op
+join_pair M q e = cond (is_ring_of M (face_at M q.0) (loop_of M q.0)) (join_edge q.1 q.0 e) (join_edge q.0 q.1 e)
 
 -- first pass: a pair in different loops is joined, another is left
 unfoldable pub join_next : Drawing → ℕ × ℕ → Drawing
 join_next d q = cond (in_one_loop d.model q)
     (record d { left = d.left ++ q ∷ [] })
-    (record d { model = joined_pair d.model q (d.taken.edge + 1); taken = record d.taken { edge = d.taken.edge + 1 } })
+    (record d { model = effect d.model (join_pair d.model q (d.taken.edge + 1)); taken = record d.taken { edge = d.taken.edge + 1 } })
 
 abbrev pub all_joined : List (ℕ × ℕ) → Drawing → Drawing
 all_joined qs d = fold join_next (record d { left = [] }) qs
@@ -72,13 +64,14 @@ all_joined qs d = fold join_next (record d { left = [] }) qs
 abbrev pub ring_free : ℕ → List (ℕ × ℕ) → Drawing → Drawing
 ring_free f qs d = cond (nat_lt 1 (length qs) && has_rings d.model f) (stuck_at f d) d
 
--- second pass: a pair cuts a new face off. It can't be drawn where it stands in different loops
+-- a pair cuts a new face off, with a fresh edge, face and loop
+abbrev pub draw_pair : Taken → ℕ × ℕ → Op
+draw_pair c q = draw_edge q.0 q.1 (c.edge + 1) (c.face + 1) (c.loop + 1)
+
+-- second pass: a pair is drawn. It can't be drawn where it stands in different loops
 unfoldable pub draw_next : ℕ → Drawing → ℕ × ℕ → Drawing
 draw_next f d q = let c = d.taken in cond (in_one_loop d.model q)
-    (record d {
-      model = face_drawn d.model q.0 q.1 (c.edge + 1) (c.face + 1) (c.loop + 1);
-      taken = record c { face = c.face + 1; loop = c.loop + 1; edge = c.edge + 1 };
-    })
+    (record d { model = effect d.model (draw_pair c q); taken = record c { face = c.face + 1; loop = c.loop + 1; edge = c.edge + 1 } })
     (stuck_at f d)
 
 abbrev pub all_drawn : ℕ → Drawing → Drawing
@@ -90,7 +83,7 @@ rings_above M p f = filter (λ l. some_above M p (vertices_on M (content M l))) 
 
 -- some rings given to face k
 abbrev pub with_rings : Model → List ℕ → ℕ → Model
-with_rings M ls k = record M { loops = fold (λ t l. table.map_rows (loop_to_face l k) t) M.loops ls }
+with_rings M ls k = fold (λ N l. effect N (RingIn l k)) M ls
 
 -- with one pair, the rings above go to the new face
 abbrev pub rings_shared : Plane → ℕ → List (ℕ × ℕ) → Drawing → Drawing

@@ -4,9 +4,8 @@ use Rattle.euler_operators.specs.Common.{Point, Plane, At, IsCutPlane, are_oppos
 use Rattle.euler_operators.specs.declared.Op.TheVariants.{Mev}
 use Rattle.euler_operators.proofs.Common.{coordinate_within, offset_within, tick_same, mate_plus, plus_there, minus_there}
 use Rattle.euler_laws.proofs.Common.{all_hold}
-use Rattle.shapes.specs.Common.{start, finish, Taken, taken_in, Growing, growing, crossing_edges, next_cut, all_cut, with_crossings, first_conditions}
-use Rattle.split_drawing_laws.specs.crossings.CrossingOps.{cut_edge}
-use Rattle.split_drawing_laws.proofs.crossings.Steps.{CutGoes, cut_accepted, cut_made}
+use Rattle.shapes.specs.Common.{start, finish, Taken, taken_in, Growing, growing, crossing_edges, next_cut, all_cut, with_crossings, first_conditions, cut_edge}
+use Rattle.split_drawing_laws.proofs.crossings.Steps.{CutGoes, cut_accepted}
 use Rattle.split_drawing_laws.proofs.crossings.Runs.{cut_at, Crossing, Going, kept_start, goes_now, next_model, going_on}
 use Rattle.split_drawing_laws.proofs.crossings.Whole as whole
 use Rattle.solid_walks.specs.Counters.{taken_of}
@@ -113,7 +112,7 @@ module _ (M : Model) (s : ℕ) (p : Plane) (N : Model) (e : ℕ) (rs : List ℕ)
 
     grown : next_cut p (growing N) e ≡ growing K
     grown =
-        let model = next_model M p c.sound (growing N) c.done e rs c.going ∙ sym (cut_made N e ((taken_in N).edge + 1) ((taken_in N).vertex + 1) (cut_at N p e) goes) ∙ sym is in
+        let model = next_model M p c.sound (growing N) c.done e rs c.going ∙ sym is in
         λ i. record { model = model i; taken = (on.counted ∙ ap taken_in model) i }
 
     pub next_taken : Cutting M s p K rs

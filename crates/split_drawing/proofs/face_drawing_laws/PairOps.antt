@@ -4,11 +4,11 @@ use Rattle.euler_operators.specs.Common.{At, code, half, plus, Model, loop_of, i
 use Rattle.euler_operators.proofs.Common.{half-code}
 use Rattle.euler_operators.specs.declared.Op.TheVariants.{Mef, Mekr}
 use Rattle.solid_walks.proofs.face_walks_laws.HalfCodes.{code_plus}
-use Rattle.split_drawing_laws.specs.drawings.DrawingOps.{join_edge, join_pair, draw_pair}
 use Rattle.split_checks.specs.declared.cuts.Pair.{Pair}
 use Rattle.solid_walks.specs.declared.numbers.Counters.{Counters}
 use Rattle.split_checks.specs.Cuts.{codes}
 use Rattle.solid_walks.specs.Counters.{taken_of}
+use Rattle.shapes.specs.Common.{join_edge, join_pair, draw_pair}
 
 made : (e : ℕ) → record { edge = e; first = true } ≡ half (plus e)
 made e = sym (half-code (record { edge = e; first = true })) ∙ ap half (code_plus e)

@@ -1,8 +1,7 @@
 -- One pair more in each of the two passes.
 use Rattle.std.proofs.Common.{◌≡◌, ℕ, ◌+◌, ◌≤◌, true, false, List, [], ◌∷◌, ◌++◌, None, sym, ap, ◌∙◌, subst, arith, fold}
 use Rattle.euler_operators.specs.Common.{Model, HasHalf, first_false, effect}
-use Rattle.shapes.specs.Common.{Drawing, in_one_loop, joined_pair, join_next, draw_next, stuck_at}
-use Rattle.split_drawing_laws.specs.drawings.DrawingOps.{join_pair, draw_pair}
+use Rattle.shapes.specs.Common.{Drawing, in_one_loop, join_next, draw_next, stuck_at, join_pair, draw_pair}
 use Rattle.split_drawing_laws.proofs.drawings.Runs.{Leads}
 use Rattle.split_drawing_laws.proofs.drawings.Pairs.{pair_leads, pair_draws}
 use Rattle.split_drawing_laws.specs.drawings.Passing.{Joining, Going}
@@ -34,7 +33,7 @@ module _ (f : ℕ) (d : Drawing) (q : ℕ × ℕ) (qs : List (ℕ × ℕ)) (w : 
 
   -- another is joined
   module _ (e : in_one_loop d.model q ≡ false) where
-    leads : Leads d.model (joined_pair d.model q (d.taken.edge + 1)) (join_pair d.model q (d.taken.edge + 1) ∷ [])
+    leads : Leads d.model (effect d.model (join_pair d.model q (d.taken.edge + 1))) (join_pair d.model q (d.taken.edge + 1) ∷ [])
     leads = pair_leads w.before d.model f q (d.taken.edge + 1) w.joining.joined w.fit.0 e (edge_free w.before f d q qs 0 w.fit.0 w.joining) (edge_fits_now w.before f d q qs 0 w.fit.0 w.joining)
 
     pub join_goes : first_false d.model (join_pair d.model q (d.taken.edge + 1)) ≡ None
@@ -45,7 +44,7 @@ module _ (f : ℕ) (d : Drawing) (q : ℕ × ℕ) (qs : List (ℕ × ℕ)) (w : 
       X = record d { model = K; taken = record d.taken { edge = d.taken.edge + 1 } }
 
       next_is : join_next d q ≡ X
-      next_is = join_next_two d q e ∙ (λ i. record d { model = (sym leads.made ∙ sym is) i; taken = record d.taken { edge = d.taken.edge + 1 } })
+      next_is = join_next_two d q e ∙ (λ i. record d { model = sym is i; taken = record d.taken { edge = d.taken.edge + 1 } })
 
       pub joined_on : CanJoin f (record d { model = K; taken = record d.taken { edge = d.taken.edge + 1 } }) qs
       joined_on = record { before = w.before; fit = w.fit.1; joining = subst (λ x. Joining w.before f x qs 0) next_is on }
@@ -99,7 +98,7 @@ module _ (f : ℕ) (d : Drawing) (q : ℕ × ℕ) (qs : List (ℕ × ℕ)) (w : 
       Y = record d { model = K; taken = record d.taken { face = d.taken.face + 1; loop = d.taken.loop + 1; edge = d.taken.edge + 1 } }
 
       drawn_is : draw_next f d q ≡ Y
-      drawn_is = draw_next_one f d q e ∙ (λ i. record d { model = (sym draws.made ∙ sym is) i; taken = record d.taken { face = d.taken.face + 1; loop = d.taken.loop + 1; edge = d.taken.edge + 1 } })
+      drawn_is = draw_next_one f d q e ∙ (λ i. record d { model = sym is i; taken = record d.taken { face = d.taken.face + 1; loop = d.taken.loop + 1; edge = d.taken.edge + 1 } })
 
       pub drawn_on : CanDraw f (record d { model = K; taken = record d.taken { face = d.taken.face + 1; loop = d.taken.loop + 1; edge = d.taken.edge + 1 } }) qs
       drawn_on = record { before = w.before; sound = w.sound; fit = w.fit.1; going = subst (λ x. Going w.before f x qs 0) drawn_is after }

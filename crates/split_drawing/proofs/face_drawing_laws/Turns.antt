@@ -1,8 +1,7 @@
 -- The next pair of a list as the code opens it, in each of the two passes.
 use Rattle.std.proofs.Common.{◌≡◌, ℕ, ◌+◌, ◌≤◌, Bool, true, false, List, [], ◌∷◌, ◌++◌, length, map, slice_index_or, None, sym, ap, ◌∙◌, subst, fold}
 use Rattle.euler_operators.specs.Common.{Model, first_false, effect}
-use Rattle.shapes.specs.Common.{Drawing, in_one_loop, join_next, draw_next}
-use Rattle.split_drawing_laws.specs.drawings.DrawingOps.{join_pair, draw_pair}
+use Rattle.shapes.specs.Common.{Drawing, in_one_loop, join_next, draw_next, join_pair, draw_pair}
 use Rattle.split_checks.proofs.cut_places_laws.Lists.{others, parts}
 use Rattle.split_checks.specs.declared.cuts.Pair.{Pair}
 use Rattle.solid_walks.specs.declared.numbers.Counters.{Counters}

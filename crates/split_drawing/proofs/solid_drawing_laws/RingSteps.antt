@@ -1,5 +1,5 @@
 -- Rings of a face given to a new one.
-use Rattle.std.proofs.Common.{◌≡◌, ℕ, Bool, true, false, ◌&&◌, not, nat_eq, List, [], ◌∷◌, Some, refl, sym, ◌∙◌}
+use Rattle.std.proofs.Common.{◌≡◌, ℕ, Bool, true, false, ◌&&◌, not, nat_eq, List, [], ◌∷◌, Some, refl}
 use Rattle.euler_operators.specs.Table as table
 use Rattle.euler_operators.specs.Common.{Model, face_of, outer, Has, effect}
 use Rattle.euler_operators.specs.declared.Op.TheVariants.{RingIn}
@@ -7,7 +7,6 @@ use Rattle.euler_laws.specs.Laws.{effects}
 use Rattle.euler_conditions.specs.Store.{IsNextRing}
 use Rattle.shapes.specs.Common.{with_rings}
 use Rattle.split_drawing_laws.specs.drawings.DrawingOps.{ring_ops}
-use Rattle.split_drawing_laws.proofs.drawings.Drawn.{ring_moved}
 
 -- a ring that an arena finds is there
 pub ring_there : (M : Model) (f n l : ℕ) → IsNextRing M f n (Some l) → Has M.loops l
@@ -19,4 +18,4 @@ ring_there M f n l next = go (table.has M.loops l) (nat_eq (face_of M l) f) (not
 -- given one after the other
 pub rings_given : (M : Model) (ls : List ℕ) (k : ℕ) → effects M (ring_ops ls k) ≡ with_rings M ls k
 rings_given M [] k = refl
-rings_given M (l ∷ ls) k = rings_given (effect M (RingIn l k)) ls k ∙ sym (ring_moved M l k ls)
+rings_given M (l ∷ ls) k = rings_given (effect M (RingIn l k)) ls k

@@ -3,7 +3,7 @@ ghost use Rattle.std.specs.Prelude.{◌≡◌, ◌≤◌, ◌+◌, true, [], Non
 ghost use Rattle.euler_operators.specs.Common.{code, has_half, first_false};
 ghost use Rattle.undo_journal.specs.Journal.{after_step, IsFurther};
 ghost use Rattle.shapes.specs.Common.{join_next};
-ghost use Rattle.split_drawing_laws.specs.drawings.DrawingOps as ops;
+ghost use Rattle.shapes.specs.Common as ops;
 ghost use Rattle.split_checks.specs.Cuts.{codes};
 ghost use Rattle.split_checks.specs.Progress.{drawing_of};
 ghost use Rattle.split_drawing.specs.face_drawing.Passes.{CanJoin};

@@ -2,8 +2,7 @@
 ghost use Rattle.std.specs.Prelude.{◌≡◌, true};
 ghost use Rattle.euler_operators.specs.Common.{code, has_half, is_ring_of, loop_of, face_at};
 ghost use Rattle.euler_conditions.specs.Ready.{IsReady};
-ghost use Rattle.shapes.specs.Common.{in_one_loop};
-ghost use Rattle.split_drawing_laws.specs.drawings.DrawingOps.{join_pair};
+ghost use Rattle.shapes.specs.Common.{in_one_loop, join_pair};
 ghost use Rattle.split_checks.specs.Cuts.{codes};
 
 use euler_conditions::Arena;

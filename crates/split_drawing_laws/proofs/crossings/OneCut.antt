@@ -1,13 +1,26 @@
--- The lists of an edge that is cut: what mev puts before an item and what is put after its neighbour.
+-- The rows of an edge that is cut: what mev puts before an item and what is put after its neighbour.
 use Rattle.std.specs.FinMap.Entries.{find}
 use Rattle.std.proofs.Common.{◌≡◌, ℕ, ◌+◌, ◌≤◌, false, cond, nat_eq, List, [], ◌∷◌, ◌++◌, refl, sym, ap, ◌∙◌, arith, ◌≢◌, suc, ◌*◌, true, length, Option, Some, None, is_some, true≢false, flat_map, option_map, nat_cmp}
 use Rattle.std.proofs.lemmas.Bool.Decides.{nat_tests}
 use Rattle.std.proofs.lemmas.Option.{same_Some}
-use Rattle.euler_operators.specs.Common.{count, tick, IsIn, IsApart, rotate_to, canonical, rest, successor, insert_before, insert_after, plus, minus, edge_of, Point, Table, same_table, get-map_rows, Model, LoopContent, lone, cycle, LoopRow, EdgeRow, items_of, holds, tail, loop_of, content, face_of, cycle_of, after, arc, Sound, Has, HasHalf, mev_at, with_before, with_tails, edge_row}
+use Rattle.euler_operators.specs.Common.{count, tick, IsIn, IsApart, rotate_to, canonical, rest, successor, insert_before, insert_after, plus, minus, edge_of, At, half, Point, Table, same_table, get-map_rows, Model, LoopContent, lone, cycle, LoopRow, EdgeRow, items_of, holds, tail, loop_of, content, face_of, cycle_of, after, arc, Sound, Has, HasHalf, effect, mev_at, with_before, with_tails, edge_row}
 use Rattle.euler_operators.specs.Table as table
-use Rattle.euler_operators.proofs.Common.{insert_before-rotates, insert_after-rotates, count-insert_before, count-insert_after, apart_front, rotation_at, IsIn_successor, nat_eq_turned, canonical_same, IsRotation-trans, rotate_to_same, rotate_to_head, count-canonical, tick_same, tick_other, map_one, put_turned, row_some, content_row, row_of, not_held, other_loop, in-holds, holds-none, none-holds, cycle_there, cycle_sound, minus_tail_row, plus_there, minus_there, plus_row, minus_row, mate_plus}
+use Rattle.euler_operators.specs.declared.Op.TheVariants.{Mev}
+use Rattle.euler_operators.proofs.Common.{insert_before-rotates, insert_after-rotates, count-insert_before, count-insert_after, apart_front, rotation_at, IsIn_successor, nat_eq_turned, canonical_same, IsRotation-trans, rotate_to_same, rotate_to_head, count-canonical, tick_same, tick_other, map_one, put_turned, row_some, content_row, row_of, not_held, other_loop, in-holds, holds-none, none-holds, cycle_there, cycle_sound, minus_tail_row, plus_there, minus_there, plus_row, minus_row, mate_plus, code-half}
 use Rattle.euler_laws.proofs.Common.{where_held_none, where_held_there, edge_row_plus}
-use Rattle.shapes.specs.Common.{doubled, edge_cut, rewritten, rewritten_row}
+use Rattle.shapes.specs.Common.{rewritten, rewritten_row}
+
+-- edge e cut at the new vertex v, which has point q: the new edge k leads from e's start to v, and e goes on from there
+abbrev pub edge_cut : Model → ℕ → ℕ → ℕ → Point → Model
+edge_cut M e k v q = effect M (Mev (At (half (plus e))) (At (half (after M (minus e)))) (half (plus k)) v q)
+
+pub cut_is_mev : (M : Model) (e k v : ℕ) (q : Point) → edge_cut M e k v q ≡ mev_at M (plus e) (after M (minus e)) (plus k) v q
+unfolding effect
+cut_is_mev M e k v q = λ i. mev_at M (code-half (plus e) i) (code-half (after M (minus e)) i) (code-half (plus k) i) v q
+
+-- +e becomes +k +e, and -e becomes -e -k
+abbrev pub doubled : ℕ → ℕ → ℕ → List ℕ
+doubled e k h = cond (nat_eq h (plus e)) (plus k ∷ plus e ∷ []) (cond (nat_eq h (minus e)) (minus e ∷ minus k ∷ []) (h ∷ []))
 
 pub tick_is : (x y : ℕ) → x ≡ y → tick x y ≡ 1
 tick_is x y e = grind (arith, nat_tests)
@@ -57,7 +70,7 @@ put_between m y xs apart there free =
       after_apart : (m y : ℕ) (xs : List ℕ) → IsApart xs → IsIn m xs → count y xs ≡ 0 → IsApart (insert_after m y xs)
       after_apart m y xs apart there free = λ x. let n : count x (insert_after m y xs) ≡ tick x y + count x xs = count-insert_after x m y xs there in let f : tick x y + count x xs ≤ 1 = apart_front y xs free apart x in omega arith
 
--- ---- an edge cut at a new vertex is what mev makes at its plus half and the item after its minus half, where these stand in different loops
+-- ---- the rows, where the halves of the edge stand in different loops
 
 -- two rewritings after one another are a third, where they agree row by row
 maps_agree : {X : Type 0} (f g h : ℕ → X → X) (t : Table X) → ((q : ℕ) (x : X) → table.get t q ≡ Some x → g q (f q x) ≡ h q x) → table.map_rows g (table.map_rows f t) ≡ table.map_rows h t
@@ -188,6 +201,14 @@ module _ (M : Model) (e k v : ℕ) (q : Point) (goes : CanCut M e k) where
       ∙ put_turned M.edges e k (record { plus_tail = v; minus_tail = tail M (minus e) }) (record { plus_tail = tail M (plus e); minus_tail = v }) (λ s. let h : table.get M.edges e ≡ None = ap (table.get M.edges) s ∙ goes.edge_free in true≢false (ap is_some (sym at ∙ h)))
 
   -- the whole model
-  pub cut_is_mev : mev_at M (plus e) (after M (minus e)) (plus k) v q ≡ edge_cut M e k v q
-  unfolding mev_at edge_cut after
-  cut_is_mev = grind (arith, row_some, plus_row, plus_there, mate_plus, maps_agree first second both M.loops all_rows, edges_agree)
+  pub cut_rows : edge_cut M e k v q ≡ record M {
+    loops = table.map_rows (rewritten_row (flat_map (doubled e k))) M.loops;
+    edges = table.put (table.put M.edges k (record { plus_tail = tail M (plus e); minus_tail = v })) e (record { plus_tail = v; minus_tail = tail M (minus e) });
+    vertices = table.put M.vertices v q;
+  }
+  unfolding mev_at after
+  cut_rows = let row = row_some (table.get M.edges e) goes.there in cut_is_mev M e k v q ∙ (λ i. record M {
+    loops = (ap (λ h. table.map_rows (with_before next h) (table.map_rows first M.loops)) (mate_plus k) ∙ maps_agree first second both M.loops all_rows) i;
+    edges = edges_agree row.0 row.1 i;
+    vertices = table.put M.vertices v q;
+  })

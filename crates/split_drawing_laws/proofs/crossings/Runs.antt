@@ -6,10 +6,11 @@ use Rattle.euler_operators.proofs.Common.{tick_same, tick_other, plus_row, minus
 use Rattle.euler_operators.specs.Table as table
 use Rattle.euler_laws.specs.Laws.{AreAccepted, effects}
 use Rattle.shapes.proofs.Common.{none_above, number_fits}
-use Rattle.shapes.specs.Common.{start, finish, taken_in, Growing, crosses, edge_cut, next_cut, all_cut}
-use Rattle.split_drawing_laws.specs.crossings.CrossingOps.{cut_edge, ops_from}
+use Rattle.shapes.specs.Common.{start, finish, taken_in, Growing, crosses, next_cut, all_cut}
+use Rattle.split_drawing_laws.specs.crossings.CrossingOps.{ops_from}
 use Rattle.split_drawing_laws.specs.crossings.Kept.{Kept}
-use Rattle.split_drawing_laws.proofs.crossings.Steps.{CutGoes, cut_accepted, cut_made, cut_sound, cut_keeps, edge_other, point_new, tail_old, tail_new, tail_other, taken_then}
+use Rattle.split_drawing_laws.proofs.crossings.Steps.{CutGoes, cut_accepted, cut_sound, cut_keeps, edge_other, point_new, tail_old, tail_new, tail_other, taken_then}
+use Rattle.split_drawing_laws.proofs.crossings.OneCut.{edge_cut}
 
 -- where edge e meets the plane
 abbrev pub cut_at : Model → Plane → ℕ → Point
@@ -122,10 +123,9 @@ pub record Going (M : Model) (p : Plane) (g : Growing) (ds rs : List ℕ) : Type
   pub edges_left : g.taken.edge + length rs ≤ 1000000
   pub vertices_left : g.taken.vertex + length rs ≤ 1000000
 
--- its operators are accepted in turn and leave the model in which all are cut, and the counters are right
+-- its operators are accepted in turn, all its edges are cut then, and the counters are right
 pub record Gone (M : Model) (p : Plane) (g : Growing) (ds rs : List ℕ) : Type 0 where
   pub accepted : AreAccepted g.model (ops_from p g rs)
-  pub made : effects g.model (ops_from p g rs) ≡ (all_cut p g rs).model
   pub counted : (all_cut p g rs).taken ≡ taken_in (all_cut p g rs).model
   pub list : List ℕ
   pub cut : AreCut M (all_cut p g rs).model p list
@@ -169,17 +169,11 @@ module _ (M : Model) (p : Plane) (sound : Sound M) (g : Growing) (ds : List ℕ)
   unfolding next_cut
   next_taken = refl
 
-  accepted_now : AreAccepted g.model (cut_edge p g e ∷ [])
-  accepted_now = (cut_accepted g.model e (g.taken.edge + 1) (g.taken.vertex + 1) (cut_at g.model p e) goes_now, tt)
-
-  made_now : effects g.model (cut_edge p g e ∷ []) ≡ (next_cut p g e).model
-  made_now = cut_made g.model e (g.taken.edge + 1) (g.taken.vertex + 1) (cut_at g.model p e) goes_now ∙ sym next_model
-
   pub going_on : Going M p (next_cut p g e) (e ∷ ds) rs
   going_on = record {
     cut = grind (arith, next_model, cut_more, crossing_now, uncut_now, edge_free_now, vertex_free_now, edge_fits_now, vertex_fits_now);
     counted = next_taken ∙ (λ i. record (w.counted i) { edge = g.taken.edge + 1; vertex = g.taken.vertex + 1 })
-        ∙ sym (taken_then g.model e (g.taken.edge + 1) (g.taken.vertex + 1) (cut_at g.model p e) goes_now.can.there edge_above vertex_above)
+        ∙ sym (taken_then g.model e (g.taken.edge + 1) (g.taken.vertex + 1) (cut_at g.model p e) goes_now.can edge_above vertex_above)
         ∙ ap taken_in (sym next_model);
     crossing = λ x i. w.crossing x (omega (arith, i));
     apart = λ x. omega (arith, w.apart x);
@@ -188,18 +182,25 @@ module _ (M : Model) (p : Plane) (sound : Sound M) (g : Growing) (ds : List ℕ)
   }
 
 pub all_gone : (M : Model) (p : Plane) → Sound M → (g : Growing) (ds rs : List ℕ) → Going M p g ds rs → Gone M p g ds rs
-all_gone M p sound g ds [] w = record { accepted = tt; made = refl; counted = w.counted; list = ds; cut = w.cut; same = λ x. omega arith }
+all_gone M p sound g ds [] w = record { accepted = tt; counted = w.counted; list = ds; cut = w.cut; same = λ x. omega arith }
 all_gone M p sound g ds (e ∷ rs) w =
     let r : Gone M p (next_cut p g e) (e ∷ ds) rs = all_gone M p sound (next_cut p g e) (e ∷ ds) rs (going_on M p sound g ds e rs w) in
-    let m : effects g.model (cut_edge p g e ∷ []) ≡ (next_cut p g e).model = made_now M p sound g ds e rs w in
     record {
-      accepted = ((accepted_now M p sound g ds e rs w).0, subst (λ X. AreAccepted X (ops_from p (next_cut p g e) rs)) (sym m) r.accepted);
-      made = ap (λ X. effects X (ops_from p (next_cut p g e) rs)) m ∙ r.made;
+      accepted = (
+        cut_accepted g.model e (g.taken.edge + 1) (g.taken.vertex + 1) (cut_at g.model p e) (goes_now M p sound g ds e rs w),
+        subst (λ X. AreAccepted X (ops_from p (next_cut p g e) rs)) (next_model M p sound g ds e rs w) r.accepted,
+      );
       counted = r.counted;
       list = r.list;
       cut = r.cut;
       same = λ x. omega (arith, r.same x);
     }
+
+-- what they make
+pub all_made : (p : Plane) (g : Growing) (es : List ℕ) → effects g.model (ops_from p g es) ≡ (all_cut p g es).model
+unfolding next_cut
+all_made p g [] = refl
+all_made p g (e ∷ es) = all_made p (next_cut p g e) es
 
 -- none is cut
 pub none_cut : (M : Model) (p : Plane) → Sound M → AreCut M M p []

@@ -1,16 +1,16 @@
 -- One edge cut: the operator that does it, and what stays.
-use Rattle.std.proofs.Common.{◌≡◌, ◌≢◌, ℕ, ◌≤◌, true, List, [], ◌∷◌, Some, None, is_some, unwrap_or, IsTrue, refl, sym, ap, ◌∙◌, subst, arith, inl, inr, true≢false, ◌<◌, flat_map}
+use Rattle.std.proofs.Common.{◌≡◌, ◌≢◌, ℕ, ◌≤◌, true, List, [], ◌∷◌, Some, None, is_some, unwrap_or, IsTrue, refl, sym, ap, ◌∙◌, arith, inl, inr, true≢false, ◌<◌, flat_map}
 use Rattle.std.proofs.lemmas.Bool.Decides.{eqb_tells}
-use Rattle.euler_operators.specs.Common.{Point, IsInRange, count, IsIn, rotate_to, canonical, At, edge_of, is_first, plus, minus, half, Model, LoopContent, EdgeRow, items_of, holds, tail, tail_in, loop_of, content, after, point_of, no_point, is_number, Sound, Has, HasHalf, first_false, effect, mev_at, Table}
+use Rattle.euler_operators.specs.Common.{Point, IsInRange, count, IsIn, rotate_to, canonical, At, edge_of, is_first, plus, minus, half, Model, LoopContent, EdgeRow, items_of, holds, tail, tail_in, loop_of, content, after, point_of, no_point, is_number, Sound, Has, HasHalf, first_false, Table}
 use Rattle.euler_operators.specs.Table as table
 use Rattle.euler_operators.specs.declared.Op.{Op}
 use Rattle.euler_operators.specs.declared.Op.TheVariants.{Mev}
 use Rattle.euler_operators.proofs.Common.{count-append, tick_same, tick_other, count-canonical, plus_row, minus_row, code-half, mate_minus, in-holds, holds_in, tail_row, plus_there, minus_there, get-put_here, get-put_other, greatest-map, put_turned}
 use Rattle.euler_laws.proofs.Common.{Rewritten, content-new, face-same, loop-same, MevGoes, mev_accepted, effect_keeps_sound}
-use Rattle.shapes.specs.Common.{rewritten, rewritten_row, doubled, edge_cut, taken_in}
+use Rattle.shapes.specs.Common.{rewritten, rewritten_row, taken_in}
 use Rattle.shapes.proofs.Common.{greatest-put_last, greatest_is, greatest_used, free_above, at_most_greatest}
 use Rattle.split_drawing_laws.specs.crossings.Kept.{Kept}
-use Rattle.split_drawing_laws.proofs.crossings.OneCut.{tick_is, CanCut, cut_is_mev, next_half}
+use Rattle.split_drawing_laws.proofs.crossings.OneCut.{tick_is, CanCut, cut_rows, next_half, doubled, edge_cut}
 
 -- an item stands in the list where e's halves are doubled as often, or more
 doubled_has : (e k h : ℕ) → 1 ≤ count h (doubled e k h)
@@ -49,33 +49,26 @@ module _ (M : Model) (e k v : ℕ) (q : Point) (goes : CutGoes M e k v q) where
   pub cut_accepted : first_false M (Mev (At (half (plus e))) (At (half (after M (minus e)))) (half (plus k)) v q) ≡ None
   cut_accepted = grind (arith, mev_accepted, code-half, mev_goes)
 
-  pub cut_made : effect M (Mev (At (half (plus e))) (At (half (after M (minus e)))) (half (plus k)) v q) ≡ edge_cut M e k v q
-  unfolding effect
-  cut_made = (λ i. mev_at M (code-half (plus e) i) (code-half (after M (minus e)) i) (code-half (plus k) i) v q) ∙ cut_is_mev M e k v q goes.can
-
   pub cut_sound : Sound (edge_cut M e k v q)
-  cut_sound = subst Sound cut_made (effect_keeps_sound M cut_op goes.can.sound cut_accepted)
+  cut_sound = effect_keeps_sound M cut_op goes.can.sound cut_accepted
 
   -- ---- what stays
 
   pub rewrites : Rewritten M (edge_cut M e k v q) (rewritten (flat_map (doubled e k)))
-  unfolding edge_cut rotate_to canonical
-  rewrites = record { rewrite = rewritten_row (flat_map (doubled e k)); is = refl; contents = λ n row. refl; faces = λ n row. refl; none = refl }
+  unfolding rotate_to canonical
+  rewrites = record { rewrite = rewritten_row (flat_map (doubled e k)); is = ap (λ N. N.loops) (cut_rows M e k v q goes.can); contents = λ n row. refl; faces = λ n row. refl; none = refl }
 
   pub apart_new : (x : ℕ) → Has M.edges x → x ≢ k
   apart_new x there is = true≢false (sym there ∙ ap is_some (ap (table.get M.edges) is ∙ goes.can.edge_free))
 
   pub edge_other : (x : ℕ) → x ≢ e → x ≢ k → table.get (edge_cut M e k v q).edges x ≡ table.get M.edges x
-  unfolding edge_cut
-  edge_other x a b = get-put_other _ e _ x a ∙ get-put_other M.edges k _ x b
+  edge_other x a b = ap (λ N. table.get N.edges x) (cut_rows M e k v q goes.can) ∙ get-put_other _ e _ x a ∙ get-put_other M.edges k _ x b
 
   edge_old : table.get (edge_cut M e k v q).edges e ≡ Some (record { plus_tail = v; minus_tail = tail M (minus e) })
-  unfolding edge_cut
-  edge_old = get-put_here _ e _
+  edge_old = ap (λ N. table.get N.edges e) (cut_rows M e k v q goes.can) ∙ get-put_here _ e _
 
   pub edge_new : table.get (edge_cut M e k v q).edges k ≡ Some (record { plus_tail = tail M (plus e); minus_tail = v })
-  unfolding edge_cut
-  edge_new = get-put_other _ e _ k (λ s. apart_new e goes.can.there (sym s)) ∙ get-put_here M.edges k _
+  edge_new = ap (λ N. table.get N.edges k) (cut_rows M e k v q goes.can) ∙ get-put_other _ e _ k (λ s. apart_new e goes.can.there (sym s)) ∙ get-put_here M.edges k _
 
   pub edge_stays : (x : ℕ) → Has M.edges x → Has (edge_cut M e k v q).edges x
   edge_stays x there = elim (eqb_tells x e) [
@@ -84,21 +77,20 @@ module _ (M : Model) (e k v : ℕ) (q : Point) (goes : CutGoes M e k v q) where
   ]
 
   pub point_new : point_of (edge_cut M e k v q) v ≡ q
-  unfolding edge_cut point_of
-  point_new = ap (λ o. unwrap_or o no_point) (get-put_here M.vertices v q)
+  unfolding point_of
+  point_new = ap (λ N. point_of N v) (cut_rows M e k v q goes.can) ∙ ap (λ o. unwrap_or o no_point) (get-put_here M.vertices v q)
 
   pub cut_keeps : Kept M (edge_cut M e k v q)
-  unfolding edge_cut
   cut_keeps = record {
-    solids = refl;
-    faces = refl;
+    solids = ap (λ N. N.solids) (cut_rows M e k v q goes.can);
+    faces = ap (λ N. N.faces) (cut_rows M e k v q goes.can);
     loops = loop-same M (edge_cut M e k v q) (rewritten (flat_map (doubled e k))) rewrites;
     face = face-same M (edge_cut M e k v q) (rewritten (flat_map (doubled e k))) rewrites;
     halves = λ h there. edge_stays (edge_of h) there;
     loop = λ h there. cut_sound.one_loop h (loop_of M h)
         (ap (holds h) (content-new M (edge_cut M e k v q) (rewritten (flat_map (doubled e k))) rewrites (loop_of M h))
         ∙ still_held e k h (content M (loop_of M h)) (holds_in h (content M (loop_of M h)) (goes.can.sound.stands h there)));
-    points = λ w there. get-put_other M.vertices v q w (λ is. true≢false (sym there ∙ ap is_some (ap (table.get M.vertices) is ∙ goes.vertex_free)));
+    points = λ w there. ap (λ N. table.get N.vertices w) (cut_rows M e k v q goes.can) ∙ get-put_other M.vertices v q w (λ is. true≢false (sym there ∙ ap is_some (ap (table.get M.vertices) is ∙ goes.vertex_free)));
   }
 
   -- ---- where half-edges start then
@@ -131,24 +123,16 @@ greatest-put_old t n x there = greatest_is (table.put t n x) (table.greatest t)
       past : (k : ℕ) → table.greatest t < k → k ≢ n
       past k above s = let l : n ≤ table.greatest t = at_most_greatest t n there in absurd (omega arith)
 
-module _ (M : Model) (e k v : ℕ) (q : Point) (there : Has M.edges e) (k_above : table.greatest M.edges < k) (v_above : table.greatest M.vertices < v) where
+module _ (M : Model) (e k v : ℕ) (q : Point) (can : CanCut M e k) (k_above : table.greatest M.edges < k) (v_above : table.greatest M.vertices < v) where
   edges_greatest : table.greatest (edge_cut M e k v q).edges ≡ k
-  unfolding edge_cut
-  edges_greatest = grind (arith, at_most_greatest, put_turned, greatest-put_last, greatest-put_old)
-
-  vertices_greatest : table.greatest (edge_cut M e k v q).vertices ≡ v
-  unfolding edge_cut
-  vertices_greatest = greatest-put_last M.vertices v q v_above
-
-  loops_greatest : table.greatest (edge_cut M e k v q).loops ≡ table.greatest M.loops
-  unfolding edge_cut
-  loops_greatest = greatest-map (rewritten_row (flat_map (doubled e k))) M.loops
-
-  faces_greatest : table.greatest (edge_cut M e k v q).faces ≡ table.greatest M.faces
-  unfolding edge_cut
-  faces_greatest = refl
+  edges_greatest = ap (λ N. table.greatest N.edges) (cut_rows M e k v q can) ∙ grind (arith, at_most_greatest, put_turned, greatest-put_last, greatest-put_old)
 
   -- the counters then
   pub taken_then : taken_in (edge_cut M e k v q) ≡ record (taken_in M) { edge = k; vertex = v }
   unfolding taken_in
-  taken_then = λ i. record { face = faces_greatest i; loop = loops_greatest i; edge = edges_greatest i; vertex = vertices_greatest i }
+  taken_then = λ i. record {
+    face = table.greatest (cut_rows M e k v q can i).faces;
+    loop = (ap (λ N. table.greatest N.loops) (cut_rows M e k v q can) ∙ greatest-map (rewritten_row (flat_map (doubled e k))) M.loops) i;
+    edge = edges_greatest i;
+    vertex = (ap (λ N. table.greatest N.vertices) (cut_rows M e k v q can) ∙ greatest-put_last M.vertices v q v_above) i;
+  }

@@ -12,7 +12,7 @@ use Rattle.split_drawing_laws.specs.crossings.CrossingOps.{crossing_ops}
 use Rattle.split_drawing_laws.specs.crossings.Kept.{Kept}
 use Rattle.split_drawing_laws.specs.crossings.AtPlace.{AtPlace}
 use Rattle.split_drawing_laws.proofs.crossings.Premises.{picked_none, Cuttable, cuttable, crossing_here, crossing_point, one_point, minus_crosses, face_facts, edge_listed}
-use Rattle.split_drawing_laws.proofs.crossings.Runs.{AreCut, Going, Gone, all_gone, none_cut, kept_start}
+use Rattle.split_drawing_laws.proofs.crossings.Runs.{AreCut, Going, Gone, all_gone, all_made, none_cut, kept_start}
 
 -- ---- where the cut places of a face are, once the edges are cut
 
@@ -42,7 +42,7 @@ module _ (M : Model) (s : ℕ) (p : Plane) (t : ℕ) (sound : Sound M) (accepted
 
   pub crossings_made : effects M (crossing_ops M s p) ≡ (with_crossings M s p).model
   unfolding crossing_ops with_crossings
-  crossings_made = gone.made
+  crossings_made = all_made p (growing M) (crossing_edges M p s)
 
   pub crossings_counted : (with_crossings M s p).taken ≡ taken_in (with_crossings M s p).model
   unfolding with_crossings

@@ -5,10 +5,10 @@ use Rattle.euler_operators.specs.Common.{Point, Plane, origin, moved, cross, is_
 use Rattle.euler_operators.specs.Table as table
 use Rattle.euler_operators.proofs.Common.{count-canonical, IsIn_head, plus_row, same_edge, edge_of-mate, mate_plus, mate_minus, IsIn_rest, IsIn_one, all_mapped, item_there, item_loop, mate_there, plus_there, minus_there, count-append, tick_other, IsIn_or_not, moved_none}
 use Rattle.euler_laws.proofs.Common.{content-new, all_hold, IsIn-from_listed}
-use Rattle.shapes.specs.Common.{start, finish, loops_of, items_in, boundary, vertices_on, vertices_in, corners, rewritten, area, normal, anchor, first_vertex, plane_of, is_plane_of, is_flat, six_volume, negated, doubled, edge_cut, next_cut, all_cut, with_crossings, Growing, first_such, growing, crossing_edges, first_conditions}
+use Rattle.shapes.specs.Common.{start, finish, loops_of, items_in, boundary, vertices_on, vertices_in, corners, rewritten, area, normal, anchor, first_vertex, plane_of, is_plane_of, is_flat, six_volume, negated, next_cut, all_cut, with_crossings, Growing, first_such, growing, crossing_edges, first_conditions}
 use Rattle.shapes.proofs.Common.{area-append, moved_turned, area_same, cross_back, moved_back, are_on, none_such, none_found}
 use Rattle.split_drawing_laws.specs.crossings.Kept.{Kept}
-use Rattle.split_drawing_laws.proofs.crossings.OneCut.{doubled_none}
+use Rattle.split_drawing_laws.proofs.crossings.OneCut.{doubled_none, doubled, edge_cut}
 use Rattle.split_drawing_laws.proofs.crossings.Steps.{CutGoes, cut_sound, rewrites, cut_keeps, point_new, tail_old, tail_new, tail_other}
 use Rattle.split_drawing_laws.proofs.crossings.Runs.{kept_point, cut_at, Crossing, same_start, same_finish, Going, crossing_now, uncut_now, goes_now, next_model, going_on}
 use Rattle.split_drawing_laws.proofs.cut_volumes.Told.{same_rings, loop_on, loops_on, item_on, item_ends_on, Measured, measured_none, measured_on, solid_stays, same_plane, flat_still, all_volumes}

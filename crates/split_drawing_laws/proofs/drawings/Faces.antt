@@ -2,11 +2,11 @@
 use Rattle.std.proofs.Common.{◌≡◌, ℕ, suc, ◌+◌, Bool, true, false, cond, nat_eq, nat_lt, ◌&&◌, List, [], ◌∷◌, length, refl, sym, ap, ◌∙◌, subst, arith, eqb-true}
 use Rattle.euler_operators.specs.Common.{Plane, Model, content, has_rings, face_at, ring_in}
 use Rattle.euler_operators.specs.declared.Op.{Op}
-use Rattle.shapes.specs.Common.{vertices_on, some_above, Drawing, face_drawn, loops_joined, stuck_at, all_joined, ring_free, all_drawn, rings_above, with_rings, drawn_between}
+use Rattle.shapes.specs.Common.{vertices_on, some_above, Drawing, stuck_at, all_joined, ring_free, all_drawn, rings_above, with_rings, drawn_between}
 use Rattle.split_drawing_laws.specs.drawings.DrawingOps.{draw_ops, ring_ops, share_ops, drawn_ops, join_ops, face_ops}
 use Rattle.split_drawing_laws.specs.drawings.DrawnIn.{DrawnIn, Fresh, PairsHaveRoom}
 use Rattle.split_drawing_laws.specs.drawings.Pairs.{Fits, AllFit}
-use Rattle.split_drawing_laws.proofs.drawings.Drawn.{CanDraw, CanJoin}
+use Rattle.split_drawing_laws.proofs.drawings.Drawn.{CanDraw, CanJoin, face_drawn, loops_joined}
 use Rattle.split_drawing_laws.proofs.drawings.Pairs.{none_joined, joined_drawn, drawn_newer}
 use Rattle.split_drawing_laws.specs.drawings.Passing.{Ready, Joining, Going}
 use Rattle.split_drawing_laws.proofs.drawings.Passes.{either_now, Joins, joins_go, joins_keep, join_next_one, can_now, draws_keep, Draws, draws_go, draw_next_one, cut_off, room_as, edge_fits, face_fits, loop_fits}

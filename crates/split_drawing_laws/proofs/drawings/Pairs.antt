@@ -3,14 +3,13 @@ use Rattle.std.proofs.Common.{◌≡◌, ◌≢◌, ℕ, ◌<◌, Bool, true, fa
 use Rattle.std.proofs.lemmas.Bool.Decides.{nat_tests, eqb_tells}
 use Rattle.std.proofs.lemmas.Bool.{eqb-false}
 use Rattle.euler_operators.specs.Table as table
-use Rattle.euler_operators.specs.Common.{Model, loop_of, face_of, is_number, is_ring_of, Sound, HasHalf, face_at}
+use Rattle.euler_operators.specs.Common.{Model, loop_of, face_of, is_number, is_ring_of, Sound, HasHalf, face_at, effect}
 use Rattle.euler_operators.proofs.Common.{row_of, no_row, row_elsewhere}
 use Rattle.euler_laws.proofs.Common.{half_face, ring_is}
-use Rattle.shapes.specs.Common.{Taken, face_drawn, loops_joined, in_one_loop, joined_pair}
-use Rattle.split_drawing_laws.specs.drawings.DrawingOps.{join_edge, join_pair, draw_edge}
+use Rattle.shapes.specs.Common.{Taken, in_one_loop, join_pair, join_edge, draw_edge}
 use Rattle.split_drawing_laws.specs.drawings.DrawnIn.{JoinedIn, Stays, DrawnIn, Fresh}
 use Rattle.split_drawing_laws.specs.drawings.Pairs.{Fits}
-use Rattle.split_drawing_laws.proofs.drawings.Drawn.{CanDraw, draw_accepted, draw_made, draw_sound, CanJoin, join_accepted, join_made, join_sound}
+use Rattle.split_drawing_laws.proofs.drawings.Drawn.{CanDraw, draw_accepted, draw_sound, CanJoin, join_accepted, join_sound, face_drawn, loops_joined}
 use Rattle.split_drawing_laws.proofs.drawings.Stays.{draw_stays, draw_beside, draw_within, draw_solid, draw_has, draw_free, join_stays, join_beside, join_faces, join_free, stays_on}
 use Rattle.split_drawing_laws.proofs.drawings.Rings.{Newer}
 use Rattle.split_drawing_laws.proofs.drawings.Runs.{Leads, leads_one}
@@ -64,20 +63,20 @@ module _ (M N : Model) (f : ℕ) (q : ℕ × ℕ) (e : ℕ) (joined : JoinedIn M
     faces = λ h there. join_faces N c d e can h (joined.stays.halves h there) ∙ joined.faces h there;
   }
 
-  pub pair_leads : Leads N (joined_pair N q e) (join_pair N q e ∷ [])
+  pub pair_leads : Leads N (effect N (join_pair N q e)) (join_pair N q e ∷ [])
   pair_leads = go ringed refl where
-    go : (b : Bool) → ringed ≡ b → Leads N (cond b (loops_joined N q.1 q.0 e) (loops_joined N q.0 q.1 e)) (cond b (join_edge q.1 q.0 e) (join_edge q.0 q.1 e) ∷ [])
-    go true r = leads_one N (loops_joined N q.1 q.0 e) (join_edge q.1 q.0 e) (join_accepted N q.1 q.0 e (can_back r)) (join_made N q.1 q.0 e (can_back r))
-    go false r = leads_one N (loops_joined N q.0 q.1 e) (join_edge q.0 q.1 e) (join_accepted N q.0 q.1 e (can_on r)) (join_made N q.0 q.1 e (can_on r))
+    go : (b : Bool) → ringed ≡ b → let op = cond b (join_edge q.1 q.0 e) (join_edge q.0 q.1 e) in Leads N (effect N op) (op ∷ [])
+    go true r = leads_one N (loops_joined N q.1 q.0 e) (join_edge q.1 q.0 e) (join_accepted N q.1 q.0 e (can_back r)) refl
+    go false r = leads_one N (loops_joined N q.0 q.1 e) (join_edge q.0 q.1 e) (join_accepted N q.0 q.1 e (can_on r)) refl
 
   -- what holds of two loops joined in f holds of the pair joined
-  pub joined_either : (P : Model → Type 0) → ((c d : ℕ) → CanJoin N c d e → face_at N c ≡ f → face_at N d ≡ f → P (loops_joined N c d e)) → P (joined_pair N q e)
+  pub joined_either : (P : Model → Type 0) → ((c d : ℕ) → CanJoin N c d e → face_at N c ≡ f → face_at N d ≡ f → P (loops_joined N c d e)) → P (effect N (join_pair N q e))
   joined_either P each = go ringed refl where
-    go : (b : Bool) → ringed ≡ b → P (cond b (loops_joined N q.1 q.0 e) (loops_joined N q.0 q.1 e))
+    go : (b : Bool) → ringed ≡ b → P (effect N (cond b (join_edge q.1 q.0 e) (join_edge q.0 q.1 e)))
     go true r = each q.1 q.0 (can_back r) k_face u_face
     go false r = each q.0 q.1 (can_on r) u_face k_face
 
-  pub pair_joined : JoinedIn M (joined_pair N q e) f
+  pub pair_joined : JoinedIn M (effect N (join_pair N q e)) f
   pair_joined = joined_either (λ X. JoinedIn M X f) joined_on
 
   fresh_on : (c d : ℕ) → CanJoin N c d e → (t : Taken) → t.edge < e → Fresh N t → Fresh (loops_joined N c d e) (record t { edge = e })
@@ -87,7 +86,7 @@ module _ (M N : Model) (f : ℕ) (q : ℕ × ℕ) (e : ℕ) (joined : JoinedIn M
     edges = λ x above. (join_free N c d e can x).2 above (w.edges x (omega (arith, less, above)));
   }
 
-  pub pair_fresh : (t : Taken) → t.edge < e → Fresh N t → Fresh (joined_pair N q e) (record t { edge = e })
+  pub pair_fresh : (t : Taken) → t.edge < e → Fresh N t → Fresh (effect N (join_pair N q e)) (record t { edge = e })
   pair_fresh t less w = joined_either (λ X. Fresh X (record t { edge = e })) (λ c d can at to. fresh_on c d can t less w)
 
 -- ---- an edge drawn between a pair
@@ -106,7 +105,7 @@ module _ (M N : Model) (f : ℕ) (q : ℕ × ℕ) (e g l : ℕ) (sound : Sound M
   pair_can = grind (arith, u_there, k_there, eqb-true)
 
   pub pair_draws : Leads N (face_drawn N q.0 q.1 e g l) (draw_edge q.0 q.1 e g l ∷ [])
-  pair_draws = leads_one N K (draw_edge q.0 q.1 e g l) (draw_accepted N q.0 q.1 e g l pair_can) (draw_made N q.0 q.1 e g l pair_can)
+  pair_draws = leads_one N K (draw_edge q.0 q.1 e g l) (draw_accepted N q.0 q.1 e g l pair_can) refl
 
   -- what is of another face doesn't stand in u's loop
   not_there : (h : ℕ) → HasHalf M h → face_at M h ≢ f → loop_of N h ≢ loop_of N q.0

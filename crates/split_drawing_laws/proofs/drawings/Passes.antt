@@ -1,14 +1,14 @@
 -- The two passes over the pairs of a face.
 use Rattle.std.proofs.Common.{◌≡◌, ◌≢◌, ℕ, suc, ◌+◌, ◌<◌, Bool, true, false, cond, List, [], ◌∷◌, ◌++◌, length, None, refl, sym, ap, subst, arith, IsTrue, fold}
 use Rattle.euler_operators.specs.Table as table
-use Rattle.euler_operators.specs.Common.{Model, is_number, Sound, face_at}
+use Rattle.euler_operators.specs.Common.{Model, is_number, Sound, face_at, effect}
 use Rattle.shapes.proofs.Common.{number_fits}
-use Rattle.shapes.specs.Common.{Taken, Drawing, face_drawn, loops_joined, in_one_loop, joined_pair, join_next, draw_next, stuck_at}
-use Rattle.split_drawing_laws.specs.drawings.DrawingOps.{join_pair, join_ops, draw_pair, draw_ops}
+use Rattle.shapes.specs.Common.{Taken, Drawing, in_one_loop, join_next, draw_next, stuck_at, join_pair, draw_pair}
+use Rattle.split_drawing_laws.specs.drawings.DrawingOps.{join_ops, draw_ops}
 use Rattle.split_drawing_laws.specs.drawings.DrawnIn.{PairsHaveRoom}
 use Rattle.split_drawing_laws.specs.drawings.Pairs.{Fits, AllFit}
 use Rattle.split_drawing_laws.specs.drawings.Passing.{Joining, Going}
-use Rattle.split_drawing_laws.proofs.drawings.Drawn.{CanDraw, CanJoin}
+use Rattle.split_drawing_laws.proofs.drawings.Drawn.{CanDraw, CanJoin, face_drawn, loops_joined}
 use Rattle.split_drawing_laws.proofs.drawings.Pairs.{pair_leads, joined_either, pair_can, pair_joined, pair_fresh, pair_draws, pair_drawn, drawn_fresh}
 use Rattle.split_drawing_laws.proofs.drawings.Runs.{Leads, leads_none, leads_on}
 
@@ -47,11 +47,11 @@ next_above a = omega arith
 
 pub join_next_one : (d : Drawing) (q : ℕ × ℕ) → in_one_loop d.model q ≡ true → join_next d q ≡ record d { left = d.left ++ q ∷ [] }
 unfolding join_next
-join_next_one d q e = ap (λ b. cond b (record d { left = d.left ++ q ∷ [] }) (record d { model = joined_pair d.model q (d.taken.edge + 1); taken = record d.taken { edge = d.taken.edge + 1 } })) e
+join_next_one d q e = ap (λ b. cond b (record d { left = d.left ++ q ∷ [] }) (record d { model = effect d.model (join_pair d.model q (d.taken.edge + 1)); taken = record d.taken { edge = d.taken.edge + 1 } })) e
 
-pub join_next_two : (d : Drawing) (q : ℕ × ℕ) → in_one_loop d.model q ≡ false → join_next d q ≡ record d { model = joined_pair d.model q (d.taken.edge + 1); taken = record d.taken { edge = d.taken.edge + 1 } }
+pub join_next_two : (d : Drawing) (q : ℕ × ℕ) → in_one_loop d.model q ≡ false → join_next d q ≡ record d { model = effect d.model (join_pair d.model q (d.taken.edge + 1)); taken = record d.taken { edge = d.taken.edge + 1 } }
 unfolding join_next
-join_next_two d q e = ap (λ b. cond b (record d { left = d.left ++ q ∷ [] }) (record d { model = joined_pair d.model q (d.taken.edge + 1); taken = record d.taken { edge = d.taken.edge + 1 } })) e
+join_next_two d q e = ap (λ b. cond b (record d { left = d.left ++ q ∷ [] }) (record d { model = effect d.model (join_pair d.model q (d.taken.edge + 1)); taken = record d.taken { edge = d.taken.edge + 1 } })) e
 
 -- one pair
 module _ (M : Model) (f : ℕ) (d : Drawing) (q : ℕ × ℕ) (qs : List (ℕ × ℕ)) (n : ℕ) (fits : Fits M f q) (w : Joining M f d (q ∷ qs) n) where
@@ -71,12 +71,12 @@ module _ (M : Model) (f : ℕ) (d : Drawing) (q : ℕ × ℕ) (qs : List (ℕ ×
   edge_fits_now = edge_fits d.taken (length d.left + length qs + n) room_now
 
   pub either_now : in_one_loop d.model q ≡ false → (P : Model → Type 0) →
-      ((c k : ℕ) → CanJoin d.model c k (d.taken.edge + 1) → face_at d.model c ≡ f → face_at d.model k ≡ f → P (loops_joined d.model c k (d.taken.edge + 1))) → P (joined_pair d.model q (d.taken.edge + 1))
+      ((c k : ℕ) → CanJoin d.model c k (d.taken.edge + 1) → face_at d.model c ≡ f → face_at d.model k ≡ f → P (loops_joined d.model c k (d.taken.edge + 1))) → P (effect d.model (join_pair d.model q (d.taken.edge + 1)))
   either_now e = joined_either M d.model f q (d.taken.edge + 1) w.joined fits e edge_free edge_fits_now
 
   made : in_one_loop d.model q ≡ false → Next (join_next d q)
   made e = subst Next (sym (join_next_two d q e)) (
-    subst (Leads d.model (joined_pair d.model q (d.taken.edge + 1))) (sym (ap (λ b. cond b [] (join_pair d.model q (d.taken.edge + 1) ∷ [])) e))
+    subst (Leads d.model (effect d.model (join_pair d.model q (d.taken.edge + 1)))) (sym (ap (λ b. cond b [] (join_pair d.model q (d.taken.edge + 1) ∷ [])) e))
         (pair_leads M d.model f q (d.taken.edge + 1) w.joined fits e edge_free edge_fits_now),
     record {
       joined = pair_joined M d.model f q (d.taken.edge + 1) w.joined fits e edge_free edge_fits_now;
@@ -107,7 +107,7 @@ joins_go M f d (q ∷ qs) n fit w =
 pub joins_keep : (M : Model) (f : ℕ) (P : Drawing → List (ℕ × ℕ) → Type 0) →
     ((d : Drawing) (q : ℕ × ℕ) (qs : List (ℕ × ℕ)) (n : ℕ) → Fits M f q → Joining M f d (q ∷ qs) n → in_one_loop d.model q ≡ true → P d (q ∷ qs) → P (record d { left = d.left ++ q ∷ [] }) qs) →
     ((d : Drawing) (q : ℕ × ℕ) (qs : List (ℕ × ℕ)) (n : ℕ) → Fits M f q → Joining M f d (q ∷ qs) n → in_one_loop d.model q ≡ false → P d (q ∷ qs) →
-    P (record d { model = joined_pair d.model q (d.taken.edge + 1); taken = record d.taken { edge = d.taken.edge + 1 } }) qs) →
+    P (record d { model = effect d.model (join_pair d.model q (d.taken.edge + 1)); taken = record d.taken { edge = d.taken.edge + 1 } }) qs) →
     (d : Drawing) (qs : List (ℕ × ℕ)) (n : ℕ) → AllFit M f qs → Joining M f d qs n → P d qs → P (fold join_next d qs) []
 joins_keep M f P stays joins d [] n fit w a = a
 joins_keep M f P stays joins d (q ∷ qs) n fit w a = joins_keep M f P stays joins (join_next d q) qs n fit.1 (join_one M f d q qs n fit.0 w).1 (go (in_one_loop d.model q) refl) where

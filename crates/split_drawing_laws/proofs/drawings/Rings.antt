@@ -121,7 +121,7 @@ pub record Moved (M N : Model) (f k : ℕ) (ls : List ℕ) (c : Taken) : Type 0 
   pub fresh : Fresh (with_rings N ls k) c
 
 pub rings_on : (N : Model) (l k : ℕ) (ls : List ℕ) → with_rings (ring_in N l k) ls k ≡ with_rings N (l ∷ ls) k
-unfolding ring_in
+unfolding effect
 rings_on N l k ls = refl
 
 -- what each ring that is moved keeps holds once all are

@@ -1,13 +1,12 @@
 -- What stays as an edge is drawn, as two loops are joined, and as a ring is moved.
 use Rattle.std.proofs.Common.{◌≡◌, ◌≢◌, ℕ, ◌+◌, ◌≤◌, ◌<◌, List, ◌∷◌, ◌++◌, Some, None, is_some, unwrap_or, refl, sym, ap, ◌∙◌, subst, arith, ◌⊎◌, inl, inr}
 use Rattle.std.proofs.lemmas.Bool.Decides.{eqb_tells}
-use Rattle.euler_operators.specs.Common.{count, IsIn, rotate_to, mef_old, mef_new, mekr_ring, edge_of, is_first, plus, minus, Model, cycle, no_edge, items_of, holds, tail, tail_in, loop_of, content, face_of, solid_of, cycle_of, Sound, Has, HasHalf, face_at}
+use Rattle.euler_operators.specs.Common.{count, IsIn, rotate_to, mef_old, mef_new, mekr_ring, edge_of, is_first, plus, minus, Model, cycle, no_edge, items_of, holds, tail, tail_in, loop_of, content, face_of, solid_of, cycle_of, Sound, Has, HasHalf, face_at, effect, mef, mekr}
 use Rattle.euler_operators.proofs.Common.{count-append, IsIn_or_not, count-canonical, count-rotate_to, plus_row, minus_row, content_row, face_row, tail_row, in-holds, cycle_there, same_content, same_face, loop_there, row_elsewhere, get-put_here, get-put_other, get-remove_here, get-remove_other}
 use Rattle.euler_operators.specs.Table as table
 use Rattle.euler_laws.proofs.Common.{count-halves, half_face, count-mef_old, count-mef_new}
-use Rattle.shapes.specs.Common.{face_drawn, loops_joined}
 use Rattle.split_drawing_laws.specs.drawings.DrawnIn.{Stays}
-use Rattle.split_drawing_laws.proofs.drawings.Drawn.{CanDraw, draw_sound, CanJoin, join_sound, face_drawn_new, face_drawn_else, loops_joined_faces}
+use Rattle.split_drawing_laws.proofs.drawings.Drawn.{CanDraw, draw_rows, draw_sound, CanJoin, join_rows, join_sound, face_drawn_new, face_drawn_else, loops_joined_faces, face_drawn, loops_joined}
 
 -- a half-edge stands where the content says so
 pub stands_at : (N : Model) → Sound N → (x q : ℕ) (xs : List ℕ) → content N q ≡ cycle xs → IsIn x xs → loop_of N x ≡ q
@@ -57,23 +56,19 @@ module _ (M : Model) (u k e f l : ℕ) (can : CanDraw M u k e f l) where
   r_l = row_elsewhere M.loops (loop_of M u) l (loop_there M can.sound u can.u_there) can.loop_free
 
   pub row_old : table.get (face_drawn M u k e f l).loops (loop_of M u) ≡ Some (record { face = face_at M u; content = cycle (mef_old (plus e) u k (cycle_of M u)) })
-  unfolding face_drawn
-  row_old = get-put_other _ l _ (loop_of M u) r_l ∙ get-put_here M.loops (loop_of M u) _
+  row_old = ap (λ X. table.get X.loops (loop_of M u)) (draw_rows M u k e f l can) ∙ get-put_other _ l _ (loop_of M u) r_l ∙ get-put_here M.loops (loop_of M u) _
 
   pub row_new : table.get (face_drawn M u k e f l).loops l ≡ Some (record { face = f; content = cycle (mef_new (minus e) u k (cycle_of M u)) })
-  unfolding face_drawn
-  row_new = get-put_here _ l _
+  row_new = ap (λ X. table.get X.loops l) (draw_rows M u k e f l can) ∙ get-put_here _ l _
 
   pub row_else : (q : ℕ) → q ≢ loop_of M u → q ≢ l → table.get (face_drawn M u k e f l).loops q ≡ table.get M.loops q
-  unfolding face_drawn
-  row_else q a b = get-put_other _ l _ q b ∙ get-put_other M.loops (loop_of M u) _ q a
+  row_else q a b = ap (λ X. table.get X.loops q) (draw_rows M u k e f l can) ∙ get-put_other _ l _ q b ∙ get-put_other M.loops (loop_of M u) _ q a
 
   pub edges_are : (face_drawn M u k e f l).edges ≡ table.put M.edges e (record { plus_tail = tail M u; minus_tail = tail M k })
-  unfolding face_drawn
-  edges_are = refl
+  edges_are = ap (λ X. X.edges) (draw_rows M u k e f l can)
 
   vertices_are : (face_drawn M u k e f l).vertices ≡ M.vertices
-  unfolding face_drawn
+  unfolding effect mef
   vertices_are = refl
 
   pub draw_stays : Stays M (face_drawn M u k e f l)
@@ -121,26 +116,22 @@ module _ (M : Model) (c d e : ℕ) (can : CanJoin M c d e) where
   J = loops_joined M c d e
 
   pub row_joined : table.get (loops_joined M c d e).loops (loop_of M c) ≡ Some (record { face = face_at M c; content = cycle (mekr_ring (plus e) (minus e) c d (cycle_of M c) (cycle_of M d)) })
-  unfolding loops_joined
-  row_joined = get-put_here _ (loop_of M c) _
+  row_joined = ap (λ X. table.get X.loops (loop_of M c)) (join_rows M c d e can) ∙ get-put_here _ (loop_of M c) _
 
   pub row_other : (q : ℕ) → q ≢ loop_of M c → q ≢ loop_of M d → table.get (loops_joined M c d e).loops q ≡ table.get M.loops q
-  unfolding loops_joined
-  row_other q a b = get-put_other _ (loop_of M c) _ q a ∙ get-remove_other M.loops (loop_of M d) q b
+  row_other q a b = ap (λ X. table.get X.loops q) (join_rows M c d e can) ∙ get-put_other _ (loop_of M c) _ q a ∙ get-remove_other M.loops (loop_of M d) q b
 
   pub row_gone : table.get (loops_joined M c d e).loops (loop_of M d) ≡ None
-  unfolding loops_joined
-  row_gone = get-put_other _ (loop_of M c) _ (loop_of M d) (λ s. can.loops_apart (sym s)) ∙ get-remove_here M.loops (loop_of M d)
+  row_gone = ap (λ X. table.get X.loops (loop_of M d)) (join_rows M c d e can) ∙ get-put_other _ (loop_of M c) _ (loop_of M d) (λ s. can.loops_apart (sym s)) ∙ get-remove_here M.loops (loop_of M d)
 
   row_free : (q : ℕ) → table.get M.loops q ≡ None → table.get (loops_joined M c d e).loops q ≡ None
   row_free q none = row_other q (λ s. row_elsewhere M.loops (loop_of M c) q (loop_there M can.sound c can.c_there) none (sym s)) (λ s. row_elsewhere M.loops (loop_of M d) q (loop_there M can.sound d can.d_there) none (sym s)) ∙ none
 
   pub joined_edges : (loops_joined M c d e).edges ≡ table.put M.edges e (record { plus_tail = tail M c; minus_tail = tail M d })
-  unfolding loops_joined
-  joined_edges = refl
+  joined_edges = ap (λ X. X.edges) (join_rows M c d e can)
 
   joined_vertices : (loops_joined M c d e).vertices ≡ M.vertices
-  unfolding loops_joined
+  unfolding effect mekr
   joined_vertices = refl
 
   pub join_stays : Stays M (loops_joined M c d e)

@@ -6,13 +6,13 @@ use Rattle.euler_operators.specs.Common.{Plane, moved, cross, is_on, count, IsIn
 use Rattle.euler_operators.specs.Table as table
 use Rattle.euler_operators.proofs.Common.{IsIn_or_not, tick_same, tick_other, count-append, cycle_there, loop_there, lone_there, item_there, item_loop, never_lone, mate_there, content_row, face_row, same_content, same_face, same_outer, IsIn_rest, all_mapped, IsIn_head, count-canonical, plus_row, minus_row, mate_plus, plus_other, get-put_here, row_elsewhere, moved_twice, none_moved}
 use Rattle.euler_laws.proofs.Common.{listed-from_in, count-mef_old, count-mef_new, half_face}
-use Rattle.shapes.specs.Common.{start, finish, loops_of, boundary, vertices_on, corners, area, anchor, first_vertex, normal, face_drawn, loops_joined}
+use Rattle.shapes.specs.Common.{start, finish, loops_of, boundary, vertices_on, corners, area, anchor, first_vertex, normal}
 use Rattle.shapes.proofs.Common.{are_on, face_of_loop, AreHalves, different_items, loops_of_apart, area-append, area_same, halves_cancel}
 use Rattle.split_drawing_laws.specs.drawings.DrawnIn.{Stays}
 use Rattle.split_drawing_laws.proofs.crossings.Premises.{loop_in_face, item_in_face}
 use Rattle.split_drawing_laws.proofs.crossings.Whole.{item_face}
 use Rattle.split_drawing_laws.proofs.cut_volumes.Told.{loop_on, loops_on, item_on}
-use Rattle.split_drawing_laws.proofs.drawings.Drawn.{CanDraw, draw_sound, face_drawn_new, face_drawn_else, CanJoin, join_sound, loops_joined_faces}
+use Rattle.split_drawing_laws.proofs.drawings.Drawn.{CanDraw, draw_sound, face_drawn_new, face_drawn_else, CanJoin, join_sound, loops_joined_faces, face_drawn, loops_joined}
 use Rattle.split_drawing_laws.proofs.drawings.Stays.{stands_at, row_old, row_new, row_else, edges_are, draw_stays, draw_tails, draw_beside, draw_within, row_joined, row_other, row_gone, joined_edges, join_stays, join_tails, join_faces}
 use Rattle.split_drawing_laws.proofs.loop_sides.Parting.{none_new, halves_drawn, halves_joined}
 

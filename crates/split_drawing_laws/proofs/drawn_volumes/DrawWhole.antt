@@ -5,13 +5,13 @@ use Rattle.euler_operators.specs.Common.{Plane, Model, solid_of, faces_of, Sound
 use Rattle.euler_operators.specs.Table as table
 use Rattle.euler_operators.proofs.Common.{same_solid, tick_same, no_row}
 use Rattle.euler_laws.proofs.Common.{half_face, IsIn-from_listed, listed-from_in}
-use Rattle.shapes.specs.Common.{face_drawn, loops_joined, Drawing, drawn_between, FacePairs, next_drawn, faces_drawn, undrawn, straddling_pairs, with_drawings, six_volume, plane_of, is_flat, straddling_faces, with_crossings, first_conditions}
+use Rattle.shapes.specs.Common.{Drawing, drawn_between, FacePairs, next_drawn, faces_drawn, undrawn, straddling_pairs, with_drawings, six_volume, plane_of, is_flat, straddling_faces, with_crossings, first_conditions}
 use Rattle.split_drawing_laws.specs.drawings.DrawnIn.{DrawnIn}
 use Rattle.split_drawing_laws.specs.drawings.Pairs.{pairs_in}
 use Rattle.split_drawing_laws.specs.drawings.Passing.{Ready, Drawable}
 use Rattle.split_drawing_laws.specs.drawings.Laws.{CanBeDrawn}
 use Rattle.split_drawing_laws.specs.drawn_volumes.Laws.{LiesOnOld}
-use Rattle.split_drawing_laws.proofs.drawings.Drawn.{CanDraw, CanJoin}
+use Rattle.split_drawing_laws.proofs.drawings.Drawn.{CanDraw, CanJoin, face_drawn, loops_joined}
 use Rattle.split_drawing_laws.proofs.drawings.Rings.{RingOf, Newer, ring_faces}
 use Rattle.split_drawing_laws.proofs.face_sides.Beside.{never_free}
 use Rattle.split_drawing_laws.proofs.drawn_volumes.Bounds.{OnFace, on_face, face_on}

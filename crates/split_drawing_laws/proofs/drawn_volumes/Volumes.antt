@@ -5,13 +5,13 @@ use Rattle.euler_operators.specs.Common.{Plane, moved, is_on, origin, dot, same_
 use Rattle.euler_operators.proofs.Common.{count-append, tick_same, tick_other, dot_sum}
 use Rattle.euler_laws.proofs.faces.RingIn as moving
 use Rattle.euler_laws.proofs.Common.{RingGoes, half_face}
-use Rattle.shapes.specs.Common.{boundary, normal, anchor, six_volume, face_drawn, loops_joined}
+use Rattle.shapes.specs.Common.{boundary, normal, anchor, six_volume}
 use Rattle.shapes.proofs.Common.{area-append, area_same, total, volume_of, unchanged, total_same, anchor_on, told_anywhere}
 use Rattle.split_drawing_laws.proofs.drawn_volumes.Bounds.{OnFace, anchor_still, bound_one, bound_none, point_still, start_still, half_there, area_after, one_count, no_count, normal_kept, normal_is, face_on}
 use Rattle.split_drawing_laws.proofs.drawings.Rings.{ring_sound, same_walks, ring_stays, ring_back, place_is, face_else, face_kept, ring_faces}
 use Rattle.std.proofs.lemmas.Int.{ints}
 use Rattle.euler_operators.specs.Table as table
-use Rattle.split_drawing_laws.proofs.drawings.Drawn.{CanDraw, CanJoin}
+use Rattle.split_drawing_laws.proofs.drawings.Drawn.{CanDraw, CanJoin, face_drawn, loops_joined}
 use Rattle.split_drawing_laws.proofs.drawn_volumes.Bounds as draws
 use Rattle.split_drawing_laws.proofs.cut_volumes.Told.{counted_in, counted_out, same_count, six_is, changed_one}
 use Rattle.split_drawing_laws.proofs.crossings.Premises.{solid_facts}

@@ -5,9 +5,9 @@ use Rattle.euler_operators.specs.Table as table
 use Rattle.euler_operators.specs.Common.{Table, get-map_rows, Model, LoopRow, loop_of, face_of, content, items_of, tail, outer, cycle_of, Has, HasHalf, face_at, lists, loop_to_face, IsIn, rotate_to, upto, onward, mef_old, mef_new, plus, minus}
 use Rattle.euler_operators.proofs.Common.{face_row, same_face, content_row, cycle_there, outer_row, same_outer, loop_there, count-append, tick_same, from_is, rotate_to_is, count-rotate_to, count-canonical, row_elsewhere}
 use Rattle.euler_laws.proofs.Common.{content_either, half_face}
-use Rattle.shapes.specs.Common.{face_drawn, loops_joined, with_rings}
+use Rattle.shapes.specs.Common.{with_rings}
 use Rattle.split_drawing_laws.specs.drawings.DrawnIn.{Stays}
-use Rattle.split_drawing_laws.proofs.drawings.Drawn.{CanDraw, CanJoin, face_drawn_else, loops_joined_faces, draw_sound, face_drawn_new}
+use Rattle.split_drawing_laws.proofs.drawings.Drawn.{CanDraw, CanJoin, face_drawn_else, loops_joined_faces, draw_sound, ring_rows, face_drawn_new, face_drawn, loops_joined}
 use Rattle.split_drawing_laws.proofs.drawings.Stays.{row_old, row_new, row_else, row_joined, row_gone, row_other, stands_at, draw_beside}
 
 -- N is M with edges drawn in face f: the faces of M keep their rows, and their loops theirs, but for those of f
@@ -60,20 +60,23 @@ rows_given t (l ∷ ls) k q = rows_given (table.map_rows (loop_to_face l k) t) l
   go (Some row) = ap Some (grind arith)
 
 module _ (N : Model) (ls : List ℕ) (k q : ℕ) where
+  given_row : table.get (with_rings N ls k).loops q ≡ option_map (given ls k q) (table.get N.loops q)
+  given_row = ap (λ X. table.get X.loops q) (ring_rows N ls k) ∙ rows_given N.loops ls k q
+
   pub given_content : content (with_rings N ls k) q ≡ content N q
   unfolding content
-  given_content = grind (arith, rows_given, content_either)
+  given_content = grind (arith, given_row, content_either)
 
   pub given_has : table.has (with_rings N ls k).loops q ≡ table.has N.loops q
-  given_has = grind (arith, rows_given)
+  given_has = grind (arith, given_row)
 
   -- another loop keeps its row
   pub given_else : lists ls q ≡ false → table.get (with_rings N ls k).loops q ≡ table.get N.loops q
-  given_else e = grind (arith, rows_given)
+  given_else e = grind (arith, given_row)
 
   pub given_face : lists ls q ≡ true → Has N.loops q → face_of (with_rings N ls k) q ≡ k
   unfolding face_of
-  given_face e there = grind (arith, rows_given)
+  given_face e there = grind (arith, given_row)
 
 -- ---- where a face has no ring, no face that is cut off it has one
 

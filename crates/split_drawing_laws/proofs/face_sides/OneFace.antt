@@ -6,14 +6,14 @@ use Rattle.euler_operators.specs.Common.{Model, holds, content, loop_of, face_of
 use Rattle.euler_operators.specs.Table as table
 use Rattle.euler_operators.proofs.Common.{same_content, same_face, same_outer, loop_there, same_solid, row_elsewhere, no_row, tick_same, tick_other}
 use Rattle.euler_laws.proofs.Common.{no_rings_means}
-use Rattle.shapes.specs.Common.{Drawing, join_next, draw_next, face_drawn, stuck_at, all_joined, ring_free, all_drawn, rings_above, with_rings, rings_shared, drawn_between, FacePairs, next_drawn, vertices_on, some_above}
+use Rattle.shapes.specs.Common.{Drawing, join_next, draw_next, stuck_at, all_joined, ring_free, all_drawn, rings_above, with_rings, rings_shared, drawn_between, FacePairs, next_drawn, vertices_on, some_above}
 use Rattle.split_drawing_laws.specs.drawings.DrawnIn.{Stays, PairsHaveRoom, DrawnIn}
 use Rattle.split_drawing_laws.specs.drawings.Pairs.{AllFit, pairs_in}
 use Rattle.split_drawing_laws.specs.drawings.Passing.{Joining, Going, Ready, Drawable}
 use Rattle.split_drawing_laws.proofs.drawings.Pairs.{was_free, none_joined, joined_drawn, pair_can}
 use Rattle.split_drawing_laws.proofs.drawings.Passes.{either_now, joins_keep, cut_off, face_open, can_now, draws_keep, stuck_now, edge_fits, face_fits, loop_fits, room_as}
 use Rattle.split_drawing_laws.proofs.drawings.Stays.{draw_stays, stays_on, row_else}
-use Rattle.split_drawing_laws.proofs.drawings.Drawn.{loops_joined_faces, CanDraw, face_drawn_else}
+use Rattle.split_drawing_laws.proofs.drawings.Drawn.{loops_joined_faces, CanDraw, face_drawn_else, face_drawn, ring_rows}
 use Rattle.split_drawing_laws.proofs.face_sides.Beside.{Alone, draw_alone, Beside, ComesOf, joined_beside, drawn_beside, Lone, nothing_beside, never_free, given_has, given_else, given_face}
 use Rattle.split_drawing_laws.proofs.drawings.Faces.{drawn_is, face_goes, begun_joining, joins, going}
 use Rattle.split_drawing_laws.proofs.loop_sides.SidesWhole.{draws_go_on, not_stuck}
@@ -173,9 +173,12 @@ module _ (B : Model) (side : ℕ → Bool) (p : Plane) (f : ℕ) (q : ℕ × ℕ
   K_beside : Beside X K f
   K_beside = drawn_beside X q.0 q.1 e g l can X f (inl w.fit.0.u_face) g_free (nothing_beside X f)
 
+  faces_are : W.faces ≡ K.faces
+  faces_are = ap (λ N. N.faces) (ring_rows K (rings_above K p f) g)
+
   W_beside : Beside X W f
   W_beside = record {
-    faces = K_beside.faces;
+    faces = λ h there. ap (λ t. table.get t h) faces_are ∙ K_beside.faces h there;
     loops = λ r there ne old. go r there ne old (lists (rings_above K p f) r) refl;
   } where
     go : (r : ℕ) → Has W.loops r → face_of W r ≢ f → Has X.faces (face_of W r) → (b : Bool) → lists (rings_above K p f) r ≡ b → table.get W.loops r ≡ table.get X.loops r
@@ -188,7 +191,10 @@ module _ (B : Model) (side : ℕ → Bool) (p : Plane) (f : ℕ) (q : ℕ × ℕ
   W_sided : (h : ℕ) → Has W.faces h → ComesOf X f h → IsSided B W side h
   W_sided h there drawn = elim drawn [
     | inl a ↦ (false, subst (λ z. LiesOnSide B W side z false) (sym a) (old_lies B X side p f q.0 q.1 e g l cut K_stays W_sound))
-    | inr none ↦ grind (arith, new_lies, cut, K_stays, W_sound, never_free, face_drawn_else)
+    | inr none ↦ elim (eqb_tells h g) [
+      | inl b ↦ (true, subst (λ z. LiesOnSide B W side z true) (sym b.1) (new_lies B X side p f q.0 q.1 e g l cut K_stays W_sound))
+      | inr b ↦ absurd (never_free W.faces h there (ap (λ t. table.get t h) faces_are ∙ face_drawn_else X q.0 q.1 e g l h b.1 ∙ none))
+    ]
   ]
 
   pub single_done : FaceDone B d.model (drawn_between p f (q ∷ []) d).model side f

@@ -7,10 +7,10 @@ use Rattle.euler_operators.specs.Common.{Plane, is_above, IsIn, Model, LoopConte
 use Rattle.euler_operators.specs.Table as table
 use Rattle.euler_operators.proofs.Common.{tick_same, in-holds, same_face, IsIn-filter, filter_passes}
 use Rattle.euler_laws.proofs.Common.{test_ring, IsIn-from_listed, listed-from_in}
-use Rattle.shapes.specs.Common.{vertices_on, some_above, face_drawn, rings_above, with_rings}
+use Rattle.shapes.specs.Common.{vertices_on, some_above, rings_above, with_rings}
 use Rattle.shapes.proofs.Common.{ring_listed}
 use Rattle.split_drawing_laws.specs.drawings.DrawnIn.{Stays}
-use Rattle.split_drawing_laws.proofs.drawings.Drawn.{CanDraw, draw_sound}
+use Rattle.split_drawing_laws.proofs.drawings.Drawn.{CanDraw, draw_sound, face_drawn}
 use Rattle.split_drawing_laws.proofs.drawings.Rings.{RingOf, rings_are}
 use Rattle.split_drawing_laws.proofs.drawings.Stays.{row_else, draw_beside}
 use Rattle.split_drawing_laws.proofs.face_sides.Beside.{HoldsOld, u_goes, k_stays, outer_kept, old_loop_face, new_loop_face, never_free, given_content, given_has, given_else, given_face}

@@ -4,8 +4,8 @@ use Rattle.std.proofs.lemmas.Bool.Decides.{eqb_tells}
 use Rattle.euler_operators.specs.Common.{Point, after_mev, mate, plus, minus, edge_of, Model, loop_of, after, before, tail, Sound, HasHalf, Has, mev_at, Plane, count, tick, IsIn, first_refusal}
 use Rattle.euler_operators.proofs.Common.{mate_plus, plus_row, minus_row, tick_same, tick_other, plus_there, minus_there, plus_edge}
 use Rattle.euler_laws.proofs.Common.{loop_after, after-walks, walks}
-use Rattle.shapes.specs.Common.{edge_cut, next_cut, all_cut, with_crossings, Growing, growing, crossing_edges, first_conditions}
-use Rattle.split_drawing_laws.proofs.crossings.OneCut.{cut_is_mev}
+use Rattle.shapes.specs.Common.{next_cut, all_cut, with_crossings, Growing, growing, crossing_edges, first_conditions}
+use Rattle.split_drawing_laws.proofs.crossings.OneCut.{cut_is_mev, edge_cut}
 use Rattle.split_drawing_laws.proofs.crossings.Steps.{CutGoes, mev_goes, cut_keeps, edge_stays, edge_other, edge_new, tail_new, tail_other}
 use Rattle.split_drawing_laws.proofs.pairs.LoopPlaces.{before_after}
 use Rattle.split_drawing_laws.proofs.loop_sides.Parting.{none_new}
@@ -25,7 +25,7 @@ module _ (N : Model) (e k v : ℕ) (q : Point) (goes : CutGoes N e k v q) where
   F = after_mev (after N) (plus k) (mate (plus k)) (plus e) (after N (minus e))
 
   leads : (x : ℕ) → HasHalf (edge_cut N e k v q) x → after (edge_cut N e k v q) x ≡ F x
-  leads = subst (λ X. (x : ℕ) → HasHalf X x → after X x ≡ F x) (cut_is_mev N e k v q goes.can)
+  leads = subst (λ X. (x : ℕ) → HasHalf X x → after X x ≡ F x) (sym (cut_is_mev N e k v q))
       (λ x there. after-walks (mev_at N (plus e) (after N (minus e)) (plus k) v q) F (walks N goes.can.sound (plus e) (after N (minus e)) (plus k) v q (mev_goes N e k v q goes)) x there)
 
   loops_apart : plus e ≢ after N (minus e)

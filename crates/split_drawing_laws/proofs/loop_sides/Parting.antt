@@ -6,10 +6,10 @@ use Rattle.euler_operators.specs.Common.{count, IsIn, IsApart, tick, head_or, Is
 use Rattle.euler_operators.specs.Table as table
 use Rattle.euler_operators.proofs.Common.{count-append, IsIn_or_not, tick_same, tick_other, next_is_successor, IsRing-mef, IsRing-mekr, IsRing-led_over_other, IsRing-splice_other, plus_row, minus_row, same_edge, mate_plus, plus_other, content_row, in-holds, cycle_there, cycle_sound, same_content, loop_there, row_elsewhere, get-put_other}
 use Rattle.euler_laws.proofs.Common.{light, none_free, half_after}
-use Rattle.shapes.specs.Common.{face_drawn, loops_joined, start}
+use Rattle.shapes.specs.Common.{start}
 use Rattle.split_drawing_laws.specs.drawings.DrawnIn.{Stays, DrawnIn}
 use Rattle.split_drawing_laws.specs.loop_sides.Parted.{Sided, LiesOn, Parted}
-use Rattle.split_drawing_laws.proofs.drawings.Drawn.{CanDraw, draw_sound, CanJoin, join_sound}
+use Rattle.split_drawing_laws.proofs.drawings.Drawn.{CanDraw, draw_sound, CanJoin, join_sound, face_drawn, loops_joined}
 use Rattle.split_drawing_laws.proofs.drawings.Stays.{row_old, row_new, row_else, edges_are, row_joined, row_gone, row_other, joined_edges, draw_stays, join_stays, draw_tails, join_tails, stays_on}
 use Rattle.split_drawing_laws.proofs.drawings.Rings.{RingOf, Newer, ring_goes, ring_stays, ring_back, moved_after}
 use Rattle.split_drawing_laws.proofs.loop_sides.Follows.{Closing, sides_close, with_sides, side_old}

@@ -1,10 +1,10 @@
 -- The sides of half-edges through the two passes over the pairs of a face.
 use Rattle.std.proofs.Common.{◌≡◌, ◌≢◌, ℕ, ◌+◌, Bool, true, false, cond, List, [], ◌∷◌, ◌++◌, None, IsTrue, refl, sym, ap, subst, arith, ◌⊎◌, inl, inr, nat_eq, nat_lt, ◌&&◌, length, ◌∙◌, fold, map, eqb-true}
 use Rattle.std.proofs.lemmas.Bool.Decides.{eqb_tells}
-use Rattle.euler_operators.specs.Common.{Plane, count, tick, IsIn, Model, loop_of, is_number, is_ring_of, content, Sound, HasHalf, face_at, has_rings}
+use Rattle.euler_operators.specs.Common.{Plane, count, tick, IsIn, Model, loop_of, is_number, is_ring_of, content, Sound, HasHalf, face_at, has_rings, effect}
 use Rattle.euler_operators.specs.Table as table
 use Rattle.euler_operators.proofs.Common.{count-append, tick_same}
-use Rattle.shapes.specs.Common.{Drawing, loops_joined, in_one_loop, joined_pair, join_next, draw_next, stuck_at, all_joined, ring_free, all_drawn, rings_above, with_rings, drawn_between, FacePairs, next_drawn, faces_drawn, undrawn, vertices_on, start, some_above, Growing}
+use Rattle.shapes.specs.Common.{Drawing, in_one_loop, join_next, draw_next, stuck_at, all_joined, ring_free, all_drawn, rings_above, with_rings, drawn_between, FacePairs, next_drawn, faces_drawn, undrawn, vertices_on, start, some_above, Growing, join_edge, join_pair}
 use Rattle.split_drawing_laws.specs.drawings.Pairs.{Fits, AllFit}
 use Rattle.split_drawing_laws.specs.loop_sides.Parted.{Parted, ends, Crosses, AllCross, Open, LiesOn, FacesCross, all_ends}
 use Rattle.split_drawing_laws.specs.drawings.DrawnIn.{JoinedIn}
@@ -50,9 +50,9 @@ module _ (B : Model) (p : Plane) (first : ℕ → Bool) (S : ℕ → Type 0) (ot
 
   -- a pair in different loops
   pair_parted : (N : Model) (q : ℕ × ℕ) (e : ℕ) (places rest : List ℕ) → JoinedIn M N f → Fits M f q → in_one_loop N q ≡ false → table.get N.edges e ≡ None → IsTrue (is_number e) →
-      Crosses B p first q → Open B places → ((x : ℕ) → count x places ≡ count x rest + tick x q.0 + tick x q.1) → Parted B N p first S places → Parted B (joined_pair N q e) p first S rest
+      Crosses B p first q → Open B places → ((x : ℕ) → count x places ≡ count x rest + tick x q.0 + tick x q.1) → Parted B N p first S places → Parted B (effect N (join_pair N q e)) p first S rest
   pair_parted N q e places rest joined fits two free efits cross open_now closed w = go (is_ring_of N (face_at N q.0) (loop_of N q.0)) refl where
-    go : (b : Bool) → is_ring_of N (face_at N q.0) (loop_of N q.0) ≡ b → Parted B (cond b (loops_joined N q.1 q.0 e) (loops_joined N q.0 q.1 e)) p first S rest
+    go : (b : Bool) → is_ring_of N (face_at N q.0) (loop_of N q.0) ≡ b → Parted B (effect N (cond b (join_edge q.1 q.0 e) (join_edge q.0 q.1 e))) p first S rest
     go true r = parted_joined B N p first S q.1 q.0 e places rest (can_back M N f q e joined fits two free efits r) (opposed B p first q places rest cross open_now closed).1 w
     go false r = parted_joined B N p first S q.0 q.1 e places rest (can_on M N f q e joined fits two free efits r) (opposed B p first q places rest cross open_now closed).0 w
 

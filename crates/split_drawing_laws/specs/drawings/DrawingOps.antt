@@ -1,24 +1,9 @@
 -- The Euler operators by which edges are drawn in the faces that straddle a plane.
 use Rattle.std.specs.Prelude.{ℕ, ◌+◌, cond, nat_eq, List, [], ◌∷◌, ◌++◌, length}
-use Rattle.euler_operators.specs.Common.{Plane, At, half, plus, Model, loop_of, is_ring_of, face_at}
+use Rattle.euler_operators.specs.Common.{Plane}
 use Rattle.euler_operators.specs.declared.Op.{Op}
-use Rattle.euler_operators.specs.declared.Op.TheVariants.{Mef, Mekr, RingIn}
-use Rattle.shapes.specs.Common.{Taken, Growing, Drawing, in_one_loop, join_next, all_joined, ring_free, draw_next, all_drawn, rings_above, FacePairs, next_drawn, undrawn}
-
--- an edge from the corner of c to that of d, whose loop is a ring
-abbrev pub join_edge : ℕ → ℕ → ℕ → Op
-join_edge c d e = Mekr (At (half c)) (At (half d)) (half (plus e))
-
--- a pair in different loops joined: from k to u where u's loop is a ring, else from u to k
-abbrev pub join_pair : Model → ℕ × ℕ → ℕ → Op
-join_pair M q e = cond (is_ring_of M (face_at M q.0) (loop_of M q.0)) (join_edge q.1 q.0 e) (join_edge q.0 q.1 e)
-
--- a new face cut off between u and k
-abbrev pub draw_edge : ℕ → ℕ → ℕ → ℕ → ℕ → Op
-draw_edge u k e f l = Mef (half u) (half k) (half (plus e)) f l
-
-abbrev pub draw_pair : Taken → ℕ × ℕ → Op
-draw_pair c q = draw_edge q.0 q.1 (c.edge + 1) (c.face + 1) (c.loop + 1)
+use Rattle.euler_operators.specs.declared.Op.TheVariants.{RingIn}
+use Rattle.shapes.specs.Common.{Growing, Drawing, in_one_loop, join_pair, join_next, all_joined, ring_free, draw_pair, draw_next, all_drawn, rings_above, FacePairs, next_drawn, undrawn}
 
 -- first pass over some pairs
 abbrev pub join_ops : Drawing → List (ℕ × ℕ) → List Op

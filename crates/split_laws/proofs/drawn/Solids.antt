@@ -1,17 +1,17 @@
 -- Each half-edge stays in its solid while faces are drawn, and solids stay.
 use Rattle.std.proofs.Common.{◌≡◌, ◌≢◌, ℕ, ◌+◌, List, [], ◌∷◌, None, is_some, refl, sym, ap, ◌∙◌, subst, arith, inl, inr, true≢false, fold}
 use Rattle.std.proofs.lemmas.Bool.Decides.{eqb_tells}
-use Rattle.euler_operators.specs.Common.{Plane, Model, solid_of, Sound, Has, HasHalf, face_at, ring_in}
+use Rattle.euler_operators.specs.Common.{Plane, Model, solid_of, Sound, Has, HasHalf, face_at, effect, mef, mekr, ring_in}
 use Rattle.euler_operators.specs.Table as table
 use Rattle.euler_operators.proofs.Common.{solid_row, same_solid}
-use Rattle.shapes.specs.Common.{Growing, Drawing, face_drawn, loops_joined, drawn_between, FacePairs, next_drawn, faces_drawn, undrawn}
+use Rattle.shapes.specs.Common.{Growing, Drawing, drawn_between, FacePairs, next_drawn, faces_drawn, undrawn}
 use Rattle.split_drawing_laws.specs.drawings.DrawnIn.{DrawnIn}
 use Rattle.split_drawing_laws.specs.drawings.Pairs.{Fits, pairs_in}
 use Rattle.split_drawing_laws.specs.drawings.Laws.{CanBeDrawn}
 use Rattle.split_drawing_laws.specs.drawings.Passing.{Ready, Drawable}
 use Rattle.split_drawing_laws.proofs.drawings.Faces.{face_goes, between_keeps}
 use Rattle.split_drawing_laws.proofs.drawings.Whole.{ready, drawable, drawable_on, next_is}
-use Rattle.split_drawing_laws.proofs.drawings.Drawn.{face_drawn_new, face_drawn_else}
+use Rattle.split_drawing_laws.proofs.drawings.Drawn.{face_drawn_new, face_drawn_else, face_drawn, loops_joined}
 use Rattle.split_drawing_laws.proofs.face_sides.Beside.{never_free}
 use Rattle.split_laws.specs.drawn.Kept.{KeepsSolids}
 use Rattle.euler_laws.proofs.Common.{half_face}
@@ -45,7 +45,7 @@ module _ (M : Model) (f : ℕ) (sound : Sound M) where
     was_there k t s = true≢false (sym t ∙ ap is_some (sym (a.rows k t) ∙ ap (table.get X.faces) s ∙ face_free))
 
     one_new : NewOf M (face_drawn X q.0 q.1 e g l) f
-    unfolding face_drawn
+    unfolding effect mef
     one_new = record {
       rows = λ k t. face_drawn_else X q.0 q.1 e g l k (was_there k t) ∙ a.rows k t;
       news = λ k t n. elim (eqb_tells k g) [
@@ -57,7 +57,7 @@ module _ (M : Model) (f : ℕ) (sound : Sound M) where
 
 -- one face
 face_new : (p : Plane) (f : ℕ) (qs : List (ℕ × ℕ)) (d : Drawing) (n : ℕ) → Ready p f qs d n → NewOf d.model (drawn_between p f qs d).model f
-unfolding loops_joined ring_in
+unfolding effect mekr ring_in
 face_new p f qs d n w = between_keeps p f qs d n w (λ X. NewOf d.model X f)
     (λ N c k e can at a. same_new d.model N (loops_joined N c k e) f refl refl a)
     (λ N q e g l can drawn fits a. one_new d.model f w.sound N q e g l drawn fits can.face_free a)

@@ -1,10 +1,12 @@
-use Rattle.std.proofs.Common.{◌∙◌, ap, refl, subst, sym}
+use Rattle.std.proofs.Common.{◌∙◌, ap, subst, sym}
 use Rattle.euler_operators.specs.Common.{Model}
+use Rattle.euler_operators.specs.Table as table
 use Rattle.euler_laws.specs.Laws.{effects}
 use Rattle.shapes.specs.Common.{rings_above, with_rings}
 use Rattle.split_checks.specs.cut_places.Noted.{AreSides}
 use Rattle.split_checks.proofs.cut_places_laws.NotedSides.{noted_still}
 use Rattle.split_drawing_laws.specs.drawings.DrawingOps.{ring_ops}
+use Rattle.split_drawing_laws.proofs.drawings.Drawn.{ring_rows}
 use Rattle.split_drawing.proofs.solid_drawing_laws.RingSteps.{rings_given}
 use Rattle.split_drawing.proofs.solid_drawing.rings.share_rings.Goals as goal
 
@@ -18,4 +20,4 @@ pub returns-clause-sides : goal.returns-clause-sides
 returns-clause-sides c =
     let M = c.args.draft.now.model in let p = c.args.plane in let sides = c.rings_above.new.sides in let ls = c.as_slice.result.now in
     let made = c.in_ok-move_rings.ensures.model ∙ rings_given M ls c.args.to in
-    subst (λ (X : Model). AreSides X p sides) (sym made) (noted_still M (with_rings M ls c.args.to) p (λ v _. refl) sides.noted (subst (λ (X : Model). AreSides X p sides) c.arena.ensures.model c.rings_above.ensures.sides))
+    subst (λ (X : Model). AreSides X p sides) (sym made) (noted_still M (with_rings M ls c.args.to) p (λ v _. ap (λ X. table.get X.vertices v) (ring_rows M ls c.args.to)) sides.noted (subst (λ (X : Model). AreSides X p sides) c.arena.ensures.model c.rings_above.ensures.sides))
