@@ -85,6 +85,7 @@ pub fn spurred(alloc: Global) -> Result<Session, AllocError>
 
 /// The block with an edge drawn across its top, from corner to corner. So it has an edge and a face more, and its volume as before.
 pub fn scored(alloc: Global) -> Result<Session, AllocError>
+    ensures there { IfOk result (λ session. Has (held session.machine).solids 1) }
     ensures volume { IfOk result (λ session. six_volume (held session.machine) 1 ≡ pos 144) }
     ensures counts { IfOk result (λ session. counts (held session.machine) 1 ≡ record { v = 8; e = 13; f = 7; r = 0; sum = pos 2 }) }
 {

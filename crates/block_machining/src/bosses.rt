@@ -4,6 +4,7 @@ ghost use Rattle.command_laws.specs.Counted.{counts};
 ghost use Rattle.block_machining.specs.Machines.{bossed, merged};
 ghost use Rattle.sweeps.specs.PlainMachine.{held};
 ghost use Rattle.sweeps.specs.Measure.{six_volume};
+ghost use Rattle.euler_operators.specs.Common.{Has};
 
 use crate::blocks::blank;
 use crate::machining::{acted, but_for_memory, raised};
@@ -39,6 +40,7 @@ fn bossed(alloc: Global) -> Result<Session, AllocError>
 
 /// The top raised by 2 round the boss, which stands in a pocket then, 1 deep.
 pub fn pocketed(alloc: Global) -> Result<Session, AllocError>
+    ensures there { IfOk result (λ session. Has (held session.machine).solids 1) }
     ensures volume { IfOk result (λ session. six_volume (held session.machine) 1 ≡ pos 276) }
     ensures sum { IfOk result (λ session. (counts (held session.machine) 1).sum ≡ pos 2) }
 {

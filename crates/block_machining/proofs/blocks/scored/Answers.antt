@@ -1,11 +1,11 @@
 use Rattle.std.proofs.Common.{◌≡◌, refl, sym, subst, ap, ◌∙◌}
-use Rattle.euler_operators.specs.Common.{Model}
-use Rattle.sweeps.specs.PlainMachine.{act_refusal, held}
+use Rattle.euler_operators.specs.Common.{Has, Model}
+use Rattle.sweeps.specs.PlainMachine.{act, act_refusal, held}
 use Rattle.command_laws.specs.Counted.{counts}
 use Rattle.command_laws.specs.Operators.{LieOnPlane, counted_on, faces_met, solid_in}
 use Rattle.block_machining.specs.Machines.{score}
 use Rattle.block_machining.proofs.Accepted.{for_no_reason}
-use Rattle.block_machining.proofs.Worked.{score_accepted, score_in, score_lies, top_plane}
+use Rattle.block_machining.proofs.Worked.{score_accepted, score_in, score_lies, score_there, top_plane}
 use Rattle.block_machining.proofs.blocks.scored.Goals as goal
 
 pub but_for_memory-requires : goal.but_for_memory-requires
@@ -25,3 +25,8 @@ returns-clause-volume c =
     let lies = subst (λ m. LieOnPlane (held m) top_plane (faces_met (held m) score)) (sym c.in_ok-session.ensures.made) score_lies in
     let volumes = rw c.in_ok-but_for_memory.ensures at c.acted-session.ensures.volumes in
     volumes top_plane 1 refl lies ∙ c.in_ok-session.ensures.volume
+
+pub returns-clause-there : goal.returns-clause-there
+returns-clause-there c =
+    let made = rw c.in_ok-but_for_memory.ensures at c.acted-session.ensures.made in
+    subst (λ m. Has (held m).solids 1) (sym (made ∙ ap (λ m. act m score) c.in_ok-session.ensures.made)) score_there

@@ -1,5 +1,5 @@
 use Rattle.std.proofs.Common.{◌≡◌, ◌*◌, pos, ◌+ℤ◌, ◌*ℤ◌, sym, ap, subst, ◌∙◌, refl}
-use Rattle.euler_operators.specs.Common.{Sound, dot, solid_of}
+use Rattle.euler_operators.specs.Common.{Sound, dot, solid_of, Has}
 use Rattle.sweeps.specs.Machine.{sweep_refusal}
 use Rattle.sweeps.specs.Measure.{normal, six_volume}
 use Rattle.sweeps.specs.PlainMachine.{Machine, held}
@@ -36,3 +36,7 @@ returns-clause-sum c =
     let at = solid_is m c.in_ok-session.ensures.made in
     ap (λ s. (counts (held n) s).sum) (sym at) ∙ rw c.in_ok-but_for_memory.ensures at c.raised-session.ensures.sum
     ∙ ap (λ s. (counts (held m) s).sum) at ∙ ap (λ t. t.sum) c.in_ok-session.ensures.counts
+
+pub returns-clause-there : goal.returns-clause-there
+returns-clause-there c =
+    subst (λ s. Has (held c.raised-session.result.0.machine).solids s) (solid_is c.in_ok-session.session.machine c.in_ok-session.ensures.made) (rw c.in_ok-but_for_memory.ensures at c.raised-session.ensures.there)
