@@ -4,4 +4,6 @@ pub mod Stages
 pub mod Levels
 pub mod Assembled
 pub mod Ways
+pub mod Volumes
+pub mod Halves
 pub mod Cases

@@ -1,10 +1,14 @@
 -- A block that is alone in the model, cut across one of its axes.
-use Rattle.std.specs.Prelude.{◌≡◌, ◌≢◌, ℕ, ℤ, pos, negsuc, neg_ℤ, int_lt, Bool, true, false, None}
+use Rattle.std.specs.Prelude.{◌≡◌, ◌≢◌, ℕ, ℤ, pos, negsuc, neg_ℤ, ◌-ℤ◌, ◌*ℤ◌, int_lt, Bool, true, false, not, [], ◌∷◌, None}
 use Rattle.euler_operators.specs.Common.{Plane, Point, moved, empty_model, is_number}
-use Rattle.shapes.specs.Common.{vector}
+use Rattle.shapes.specs.Common.{vector, six_volume}
+use Rattle.solid_measure.specs.declared.solid_counts.Tally.{Tally}
+use Rattle.solid_measure.specs.solid_counts.Counts.{counts}
 use Rattle.undo_journal.specs.Machine.{Machine, held}
 use Rattle.plane_split.specs.Machine.{plane_with, split_refusal}
+use Rattle.plane_split.specs.SplitModels.{IsSplit}
 use Rattle.command_laws.specs.Commands.{IsBlock}
+use Rattle.split_caps.specs.Capped.{caps_of}
 
 -- the axes
 pub data Axis : Type 0 where
@@ -27,7 +31,39 @@ across y_axis false h = plane_with (pos 0) (negsuc 0) (pos 0) h
 across z_axis true h = plane_with (pos 0) (pos 0) (pos 1) (neg_ℤ h)
 across z_axis false h = plane_with (pos 0) (pos 0) (negsuc 0) h
 
+-- the product of the sizes of a block across an axis
+abbrev pub size_across : Axis → ℤ → ℤ → ℤ → ℤ
+size_across x_axis dx dy dz = dy *ℤ dz
+size_across y_axis dx dy dz = dx *ℤ dz
+size_across z_axis dx dy dz = dx *ℤ dy
+
+-- from the lesser end of a block along an axis to h, or else from h to the greater end
+abbrev pub length_along : Axis → Bool → Point → ℤ → ℤ → ℤ → ℤ → ℤ
+length_along k true p dx dy dz h = h -ℤ coordinate k p
+length_along k false p dx dy dz h = coordinate k (moved p (vector dx dy dz)) -ℤ h
+
 -- after a block in the empty model: a split across an axis strictly between its ends is accepted, if the upper part gets a number of its own
 abbrev pub LoneBlockSplitsFit : Type 0
 LoneBlockSplitsFit = (before after : Machine) (s : ℕ) (p : Point) (dx dy dz : ℤ) (k : Axis) (up : Bool) (h : ℤ) (t : ℕ) → held before ≡ empty_model → IsBlock before after s p dx dy dz →
     int_lt (coordinate k p) h ≡ true → int_lt h (coordinate k (moved p (vector dx dy dz))) ≡ true → is_number t ≡ true → t ≢ s → split_refusal after s (across k up h) t ≡ None
+
+-- each part of it has six volumes as a block of its size has, the part below the plane, that keeps the number, and the part above
+abbrev pub LoneBlockPartsMeasure : Type 0
+LoneBlockPartsMeasure = (before after parted : Machine) (s : ℕ) (p : Point) (dx dy dz : ℤ) (k : Axis) (up : Bool) (h : ℤ) (t : ℕ) → held before ≡ empty_model → IsBlock before after s p dx dy dz →
+    int_lt (coordinate k p) h ≡ true → int_lt h (coordinate k (moved p (vector dx dy dz))) ≡ true → IsSplit after parted s (across k up h) t →
+    (six_volume (held parted) s ≡ pos 6 *ℤ size_across k dx dy dz *ℤ length_along k up p dx dy dz h) × (six_volume (held parted) t ≡ pos 6 *ℤ size_across k dx dy dz *ℤ length_along k (not up) p dx dy dz h)
+
+-- what `counts` answers of a block
+abbrev pub counts_of_block : Tally
+counts_of_block = record { v = 8; e = 12; f = 6; r = 0; sum = pos 2 }
+
+-- and eight vertices, twelve edges and six faces, as a block has
+abbrev pub LoneBlockPartsCount : Type 0
+LoneBlockPartsCount = (before after parted : Machine) (s : ℕ) (p : Point) (dx dy dz : ℤ) (k : Axis) (up : Bool) (h : ℤ) (t : ℕ) → held before ≡ empty_model → IsBlock before after s p dx dy dz →
+    int_lt (coordinate k p) h ≡ true → int_lt h (coordinate k (moved p (vector dx dy dz))) ≡ true → IsSplit after parted s (across k up h) t →
+    (counts (held parted) s ≡ counts_of_block) × (counts (held parted) t ≡ counts_of_block)
+
+-- its section is one cycle, which is no hole: the caps are the faces 11, below, and 15, above
+abbrev pub LoneBlockHasCaps : Type 0
+LoneBlockHasCaps = (before after : Machine) (s : ℕ) (p : Point) (dx dy dz : ℤ) (k : Axis) (up : Bool) (h : ℤ) → held before ≡ empty_model → IsBlock before after s p dx dy dz →
+    int_lt (coordinate k p) h ≡ true → int_lt h (coordinate k (moved p (vector dx dy dz))) ≡ true → caps_of (held after) s (across k up h) ≡ record { lower = 11; upper = 15; hole = false } ∷ []

@@ -12,12 +12,13 @@
 //! what it answered of the solid and from how many vertices, edges, faces and rings the session holds more. How many vertices and
 //! edges that is, and how many faces more than rings, by the edges that are cut, the edges drawn between cut places and the half-
 //! edges round the section; `v - e + f - r`, by the cycles of the section and its holes alone. Of every other solid `counts`
-//! answers what it did. A split of a block that is alone in the session, across an axis and strictly between its ends, is accepted.
-//! Not proved: that the holes of a section have less area than its outer cycle, so that the cap below points along the direction
-//! then too; what each part counts alone; the faces and the rings apart from each other by the section.
+//! answers what it did. A split of a block that is alone in the session, across an axis and strictly between its ends, is accepted;
+//! what each of its parts measures and counts, and the numbers of its caps. Not proved: that the holes of a section have less area
+//! than its outer cycle, so that the cap below points along the direction then too; what each part of any other solid counts
+//! alone; the faces and the rings apart from each other by the section.
 
 ghost use Rattle.split_caps.specs.Counted.{SplitSharesCounts, SplitSharesSums, SplitMakesCounts, SplitKeepsCounts};
-ghost use Rattle.split_caps.specs.LoneBlocks.{LoneBlockSplitsFit};
+ghost use Rattle.split_caps.specs.LoneBlocks.{LoneBlockSplitsFit, LoneBlockPartsMeasure, LoneBlockPartsCount, LoneBlockHasCaps};
 ghost use Rattle.split_caps.specs.Laws.{CrossedAreCapped, SectionsAreCapped, CapsAreNumbered, CapsStand, HolesAreClosed, CapsHaveNormals, CapsFaceApart};
 
 use command_laws::faces_lie_flat;
@@ -54,10 +55,18 @@ pub fn splits_share_counts()
     ensures others { SplitKeepsCounts }
 {}
 
-/// A block that is alone in the session can be split across each of its axes, strictly between its ends, whichever side of the plane is the
-/// upper one: the split is accepted, if the upper part gets a number of its own.
+/// A block that is alone in the session can be split across each of its axes, strictly between its ends, whichever side of the plane is
+/// the upper one: the split is accepted, if the upper part gets a number of its own.
 pub fn lone_block_splits_fit()
     ensures { LoneBlockSplitsFit }
 {
     faces_lie_flat();
 }
+
+/// The two parts of such a block are as blocks: each has six times the product of its sizes as its six volumes, eight vertices, twelve
+/// edges and six faces. The cap of the part below is face 11, that of the part above face 15.
+pub fn lone_block_parts_are_blocks()
+    ensures volumes { LoneBlockPartsMeasure }
+    ensures counts { LoneBlockPartsCount }
+    ensures caps { LoneBlockHasCaps }
+{}

@@ -1,22 +1,27 @@
--- A split of a block alone across an axis, strictly between its ends, is accepted.
-use Rattle.std.proofs.Common.{◌≡◌, ◌≢◌, ℕ, zero, suc, ℤ, pos, negsuc, ◌+ℤ◌, neg_ℤ, int_lt, int_le, Bool, true, false, cond, not, [], ◌∷◌, None, Some, is_some, refl, sym, ap, subst, ◌∙◌, arith, ne_eqb}
+-- A split of a block alone across an axis, strictly between its ends: it is accepted, and its parts are told.
+use Rattle.std.proofs.Common.{◌≡◌, ◌≢◌, ℕ, zero, suc, ℤ, pos, negsuc, ◌+ℤ◌, ◌*ℤ◌, neg_ℤ, int_lt, int_le, Bool, true, false, cond, not, List, [], ◌∷◌, length, nat_eq, Option, None, Some, is_some, refl, sym, ap, subst, ◌∙◌, arith, ne_eqb}
 use Rattle.std.proofs.lemmas.Int.{ints}
-use Rattle.euler_operators.specs.Common.{Point, Plane, Model, moved, is_number, is_coordinate, is_in_range, is_offset, faces_of, same_point, direction, origin, empty_model, Sound, AllHold}
+use Rattle.euler_operators.specs.Common.{Point, Plane, Model, moved, is_number, is_coordinate, is_in_range, is_offset, faces_of, lists, same_point, direction, origin, empty_model, Sound, AllHold}
 use Rattle.euler_operators.specs.Table as table
 use Rattle.euler_operators.specs.Table.{get-put}
-use Rattle.euler_operators.proofs.Common.{coordinates, nat_eq_itself}
+use Rattle.euler_operators.proofs.Common.{coordinates, nat_eq_itself, nat_eq_turned}
 use Rattle.euler_laws.proofs.Common.{all_hold}
 use Rattle.euler_laws.proofs.shared.Empty.{empty_sound}
-use Rattle.shapes.specs.Common.{vector, first_such, is_flat, least_lone, taken_in, split_refusal, block_conditions, block_model}
+use Rattle.shapes.specs.Common.{vector, first_such, is_flat, least_lone, taken_in, split_refusal, split_model, split_conditions, first_conditions, block_conditions, block_model, six_volume, volume_in, edges_of, vertices_of, corners_in}
 use Rattle.undo_journal.specs.Machine.{Machine, held}
 use Rattle.command_laws.specs.Commands.{IsBlock}
 use Rattle.command_laws.specs.Flat.{IsClosedFlat, BlocksLieFlat}
-use Rattle.split_caps.specs.LoneBlocks.{Axis, x_axis, y_axis, z_axis, coordinate, across, LoneBlockSplitsFit}
+use Rattle.split_caps.specs.LoneBlocks.{Axis, x_axis, y_axis, z_axis, coordinate, across, size_across, length_along, counts_of_block, LoneBlockSplitsFit, LoneBlockPartsMeasure, LoneBlockPartsCount, LoneBlockHasCaps}
+use Rattle.split_caps.specs.Capped.{caps_of}
+use Rattle.split_caps.proofs.block_cuts.Stages.{Stages, Goes, Halves, parted}
+use Rattle.split_caps.proofs.block_cuts.Halves.{halves_x_up, halves_x_down, halves_y_up, halves_y_down, halves_z_up, halves_z_down}
+use Rattle.solid_measure.specs.solid_counts.Counts.{counts, rings_in, tally_of}
+use Rattle.plane_split.specs.SplitModels.{IsSplit}
 use Rattle.split_caps.proofs.block_cuts.Computed.{computed}
 use Rattle.split_caps.proofs.block_cuts.Box.{box, block_is_box}
 use Rattle.split_caps.proofs.block_cuts.Levels.{compared, upward, downward}
-use Rattle.split_caps.proofs.block_cuts.Assembled.{Ready, accepted}
-use Rattle.split_caps.proofs.block_cuts.Ways.{goes_x_up, goes_x_down, goes_y_up, goes_y_down, goes_z_up, goes_z_down}
+use Rattle.split_caps.proofs.block_cuts.Assembled.{Ready, accepted, caps_are, model_is}
+use Rattle.split_caps.proofs.block_cuts.Ways.{stages_x_up, goes_x_up, stages_x_down, goes_x_down, stages_y_up, goes_y_up, stages_y_down, goes_y_down, stages_z_up, goes_z_up, stages_z_down, goes_z_down}
 
 size : (d : ℤ) → int_le (pos 1) d ≡ true → (u : ℕ) × (d ≡ pos (suc u))
 size (pos (suc u)) e = (u, refl)
@@ -25,29 +30,48 @@ size (negsuc u) e = absurd (grind (arith, ints))
 
 -- ---- each axis and either way
 
-module _ (s t : ℕ) (p : Point) (h : ℤ) where
-  abbrev Fits : Plane → ℤ → ℤ → ℤ → Type 0
-  Fits q dx dy dz = let M = box s p.x (p.x +ℤ dx) p.y (p.y +ℤ dy) p.z (p.z +ℤ dz) in Ready M q s t → split_refusal M s q t ≡ None
+-- how a solid comes to be cut, and what its parts are
+record Cut (M : Model) (q : Plane) (s : ℕ) (below above : ℤ) : Type 0 where
+  stages : Stages
+  goes : Goes M q s stages
+  lower : List ℕ
+  upper : List ℕ
+  halves : (t : ℕ) → nat_eq t s ≡ false → nat_eq s t ≡ false → Halves (parted M q stages s t) s t lower upper below above
 
-  x_up : (u v : ℕ) (dx : ℤ) → int_lt p.x h ≡ true → int_lt h (p.x +ℤ dx) ≡ true → Fits (across x_axis true h) dx (pos (suc u)) (pos (suc v))
-  x_up u v dx l g ready = accepted _ _ s _ (goes_x_up s p.x (p.x +ℤ dx) p.y p.z h u v (across x_axis true h) (upward (across x_axis true h) (λ x y z. x) p.x (p.x +ℤ dx) h l g (λ x y z. omega (arith, ints)))) t ready
+module _ (s : ℕ) (p : Point) (h : ℤ) where
+  abbrev IsCut : Axis → Bool → ℤ → ℤ → ℤ → Type 0
+  IsCut k up dx dy dz = Cut (box s p.x (p.x +ℤ dx) p.y (p.y +ℤ dy) p.z (p.z +ℤ dz)) (across k up h) s (pos 6 *ℤ size_across k dx dy dz *ℤ length_along k up p dx dy dz h) (pos 6 *ℤ size_across k dx dy dz *ℤ length_along k (not up) p dx dy dz h)
 
-  x_down : (u v : ℕ) (dx : ℤ) → int_lt p.x h ≡ true → int_lt h (p.x +ℤ dx) ≡ true → Fits (across x_axis false h) dx (pos (suc u)) (pos (suc v))
-  x_down u v dx l g ready = accepted _ _ s _ (goes_x_down s p.x (p.x +ℤ dx) p.y p.z h u v (across x_axis false h) (downward (across x_axis false h) (λ x y z. x) p.x (p.x +ℤ dx) h l g (λ x y z. omega (arith, ints)))) t ready
+  x_up : (u v : ℕ) (dx : ℤ) → int_lt p.x h ≡ true → int_lt h (p.x +ℤ dx) ≡ true → IsCut x_axis true dx (pos (suc u)) (pos (suc v))
+  x_up u v dx l g = let i = (upward (across x_axis true h) (λ x y z. x) p.x (p.x +ℤ dx) h l g (λ x y z. omega (arith, ints))) in record { stages = stages_x_up s p.x (p.x +ℤ dx) p.y p.z h u v (across x_axis true h) i; goes = goes_x_up s p.x (p.x +ℤ dx) p.y p.z h u v (across x_axis true h) i; lower = _; upper = _; halves = halves_x_up s p.x (p.x +ℤ dx) p.y p.z h u v (across x_axis true h) i }
 
-  y_up : (u v : ℕ) (dy : ℤ) → int_lt p.y h ≡ true → int_lt h (p.y +ℤ dy) ≡ true → Fits (across y_axis true h) (pos (suc u)) dy (pos (suc v))
-  y_up u v dy l g ready = accepted _ _ s _ (goes_y_up s p.y (p.y +ℤ dy) p.x p.z h u v (across y_axis true h) (upward (across y_axis true h) (λ x y z. y) p.y (p.y +ℤ dy) h l g (λ x y z. omega (arith, ints)))) t ready
+  x_down : (u v : ℕ) (dx : ℤ) → int_lt p.x h ≡ true → int_lt h (p.x +ℤ dx) ≡ true → IsCut x_axis false dx (pos (suc u)) (pos (suc v))
+  x_down u v dx l g = let i = (downward (across x_axis false h) (λ x y z. x) p.x (p.x +ℤ dx) h l g (λ x y z. omega (arith, ints))) in record { stages = stages_x_down s p.x (p.x +ℤ dx) p.y p.z h u v (across x_axis false h) i; goes = goes_x_down s p.x (p.x +ℤ dx) p.y p.z h u v (across x_axis false h) i; lower = _; upper = _; halves = halves_x_down s p.x (p.x +ℤ dx) p.y p.z h u v (across x_axis false h) i }
 
-  y_down : (u v : ℕ) (dy : ℤ) → int_lt p.y h ≡ true → int_lt h (p.y +ℤ dy) ≡ true → Fits (across y_axis false h) (pos (suc u)) dy (pos (suc v))
-  y_down u v dy l g ready = accepted _ _ s _ (goes_y_down s p.y (p.y +ℤ dy) p.x p.z h u v (across y_axis false h) (downward (across y_axis false h) (λ x y z. y) p.y (p.y +ℤ dy) h l g (λ x y z. omega (arith, ints)))) t ready
+  y_up : (u v : ℕ) (dy : ℤ) → int_lt p.y h ≡ true → int_lt h (p.y +ℤ dy) ≡ true → IsCut y_axis true (pos (suc u)) dy (pos (suc v))
+  y_up u v dy l g = let i = (upward (across y_axis true h) (λ x y z. y) p.y (p.y +ℤ dy) h l g (λ x y z. omega (arith, ints))) in record { stages = stages_y_up s p.y (p.y +ℤ dy) p.x p.z h u v (across y_axis true h) i; goes = goes_y_up s p.y (p.y +ℤ dy) p.x p.z h u v (across y_axis true h) i; lower = _; upper = _; halves = halves_y_up s p.y (p.y +ℤ dy) p.x p.z h u v (across y_axis true h) i }
 
-  z_up : (u v : ℕ) (dz : ℤ) → int_lt p.z h ≡ true → int_lt h (p.z +ℤ dz) ≡ true → Fits (across z_axis true h) (pos (suc u)) (pos (suc v)) dz
-  z_up u v dz l g ready = accepted _ _ s _ (goes_z_up s p.z (p.z +ℤ dz) p.x p.y h u v (across z_axis true h) (upward (across z_axis true h) (λ x y z. z) p.z (p.z +ℤ dz) h l g (λ x y z. omega (arith, ints)))) t ready
+  y_down : (u v : ℕ) (dy : ℤ) → int_lt p.y h ≡ true → int_lt h (p.y +ℤ dy) ≡ true → IsCut y_axis false (pos (suc u)) dy (pos (suc v))
+  y_down u v dy l g = let i = (downward (across y_axis false h) (λ x y z. y) p.y (p.y +ℤ dy) h l g (λ x y z. omega (arith, ints))) in record { stages = stages_y_down s p.y (p.y +ℤ dy) p.x p.z h u v (across y_axis false h) i; goes = goes_y_down s p.y (p.y +ℤ dy) p.x p.z h u v (across y_axis false h) i; lower = _; upper = _; halves = halves_y_down s p.y (p.y +ℤ dy) p.x p.z h u v (across y_axis false h) i }
 
-  z_down : (u v : ℕ) (dz : ℤ) → int_lt p.z h ≡ true → int_lt h (p.z +ℤ dz) ≡ true → Fits (across z_axis false h) (pos (suc u)) (pos (suc v)) dz
-  z_down u v dz l g ready = accepted _ _ s _ (goes_z_down s p.z (p.z +ℤ dz) p.x p.y h u v (across z_axis false h) (downward (across z_axis false h) (λ x y z. z) p.z (p.z +ℤ dz) h l g (λ x y z. omega (arith, ints)))) t ready
+  z_up : (u v : ℕ) (dz : ℤ) → int_lt p.z h ≡ true → int_lt h (p.z +ℤ dz) ≡ true → IsCut z_axis true (pos (suc u)) (pos (suc v)) dz
+  z_up u v dz l g = let i = (upward (across z_axis true h) (λ x y z. z) p.z (p.z +ℤ dz) h l g (λ x y z. omega (arith, ints))) in record { stages = stages_z_up s p.z (p.z +ℤ dz) p.x p.y h u v (across z_axis true h) i; goes = goes_z_up s p.z (p.z +ℤ dz) p.x p.y h u v (across z_axis true h) i; lower = _; upper = _; halves = halves_z_up s p.z (p.z +ℤ dz) p.x p.y h u v (across z_axis true h) i }
+
+  z_down : (u v : ℕ) (dz : ℤ) → int_lt p.z h ≡ true → int_lt h (p.z +ℤ dz) ≡ true → IsCut z_axis false (pos (suc u)) (pos (suc v)) dz
+  z_down u v dz l g = let i = (downward (across z_axis false h) (λ x y z. z) p.z (p.z +ℤ dz) h l g (λ x y z. omega (arith, ints))) in record { stages = stages_z_down s p.z (p.z +ℤ dz) p.x p.y h u v (across z_axis false h) i; goes = goes_z_down s p.z (p.z +ℤ dz) p.x p.y h u v (across z_axis false h) i; lower = _; upper = _; halves = halves_z_down s p.z (p.z +ℤ dz) p.x p.y h u v (across z_axis false h) i }
 
 -- ---- the block in its model
+
+abbrev row_where : Bool → Option (Unit {0})
+row_where b = cond b (Some tt) None
+
+told : (b : Bool) → is_some (row_where b) ≡ b
+told true = refl
+told false = refl
+
+not_true : (b : Bool) → not b ≡ true → b ≡ false
+not_true true e = sym e
+not_true false e = refl
 
 closed_like : (M N : Model) (s : ℕ) → M ≡ N → IsClosedFlat M s → IsClosedFlat N s
 closed_like M N s e = subst (λ L. IsClosedFlat L s) e
@@ -63,6 +87,13 @@ module _ (s t : ℕ) (x0 x1 y0 y1 z0 z1 : ℤ) where
   other_solid : t ≢ s → table.has (box s x0 x1 y0 y1 z0 z1).solids t ≡ false
   unfolding computed box
   other_solid ne = ap is_some (get-put table.empty s tt t) ∙ ap (λ b. is_some (cond b (Some tt) None)) (ne_eqb t s ne)
+
+  -- the new solid's number is another one
+  other_number : (q : Plane) → split_refusal (box s x0 x1 y0 y1 z0 z1) s q t ≡ None → nat_eq t s ≡ false
+  unfolding computed box split_conditions first_conditions
+  other_number q none =
+      let hold = all_hold (split_conditions (box s x0 x1 y0 y1 z0 z1) s q t) none in
+      sym (told (nat_eq t s)) ∙ sym (ap is_some (get-put table.empty s tt t)) ∙ not_true _ hold.1.1.1.0
 
   its_faces : faces_of (box s x0 x1 y0 y1 z0 z1) s ≡ 1 ∷ 2 ∷ 3 ∷ 4 ∷ 5 ∷ 6 ∷ []
   unfolding computed box
@@ -111,41 +142,93 @@ module _ (s t : ℕ) (x0 x1 y0 y1 z0 z1 : ℤ) where
     ready z_axis true h a b ne o r = known a b ne (across z_axis true h) refl refl refl r refl
     ready z_axis false h a b ne o r = known a b ne (across z_axis false h) refl refl refl o refl
 
--- ---- the law
+-- ---- the two parts
+
+module _ (N : Model) (s t : ℕ) (lower upper : List ℕ) (below above : ℤ) (halves : Halves N s t lower upper below above) where
+  half_volumes : (six_volume N s ≡ below) × (six_volume N t ≡ above)
+  unfolding six_volume
+  half_volumes = (ap (volume_in N) halves.lower_faces ∙ halves.lower_volume, ap (volume_in N) halves.upper_faces ∙ halves.upper_volume)
+
+  counted_of : (u : ℕ) (fs : List ℕ) → faces_of N u ≡ fs → length fs ≡ 6 → length (edges_of N u) ≡ 12 → length (table.all_where (λ v _. lists (corners_in N fs) v) N.vertices) ≡ 8 → rings_in N fs ≡ [] →
+      counts N u ≡ counts_of_block
+  unfolding counts
+  counted_of u fs faces six edges vertices rings =
+      let first : length (vertices_of N u) ≡ 8 = ap (λ ks. length (table.all_where (λ v _. lists (corners_in N ks) v) N.vertices)) faces ∙ vertices in
+      let third : length (faces_of N u) ≡ 6 = ap length faces ∙ six in
+      let fourth : length (rings_in N (faces_of N u)) ≡ 0 = ap (λ ks. length (rings_in N ks)) faces ∙ ap length rings in
+      λ i. tally_of (first i) (edges i) (third i) (fourth i)
+
+  half_counts : (counts N s ≡ counts_of_block) × (counts N t ≡ counts_of_block)
+  half_counts = (
+    counted_of s lower halves.lower_faces halves.lower_six halves.lower_edges halves.lower_vertices halves.lower_rings,
+    counted_of t upper halves.upper_faces halves.upper_six halves.upper_edges halves.upper_vertices halves.upper_rings,
+  )
+
+-- ---- the laws
 
 -- the sizes as naturals, where these are known
-module _ (s t : ℕ) (p : Point) (dx dy dz h : ℤ) (x : (u : ℕ) × (dx ≡ pos (suc u))) (y : (u : ℕ) × (dy ≡ pos (suc u))) (z : (u : ℕ) × (dz ≡ pos (suc u))) where
-  fits : (k : Axis) (up : Bool) → int_lt (coordinate k p) h ≡ true → int_lt h (coordinate k (moved p (vector dx dy dz))) ≡ true → Fits s t p h (across k up h) dx dy dz
-  fits x_axis true l g = subst (λ d. Fits s t p h (across x_axis true h) dx d dz) (sym y.1) (subst (λ d. Fits s t p h (across x_axis true h) dx (pos (suc y.0)) d) (sym z.1) (x_up s t p h y.0 z.0 dx l g))
-  fits x_axis false l g = subst (λ d. Fits s t p h (across x_axis false h) dx d dz) (sym y.1) (subst (λ d. Fits s t p h (across x_axis false h) dx (pos (suc y.0)) d) (sym z.1) (x_down s t p h y.0 z.0 dx l g))
-  fits y_axis true l g = subst (λ d. Fits s t p h (across y_axis true h) d dy dz) (sym x.1) (subst (λ d. Fits s t p h (across y_axis true h) (pos (suc x.0)) dy d) (sym z.1) (y_up s t p h x.0 z.0 dy l g))
-  fits y_axis false l g = subst (λ d. Fits s t p h (across y_axis false h) d dy dz) (sym x.1) (subst (λ d. Fits s t p h (across y_axis false h) (pos (suc x.0)) dy d) (sym z.1) (y_down s t p h x.0 z.0 dy l g))
-  fits z_axis true l g = subst (λ d. Fits s t p h (across z_axis true h) d dy dz) (sym x.1) (subst (λ d. Fits s t p h (across z_axis true h) (pos (suc x.0)) d dz) (sym y.1) (z_up s t p h x.0 y.0 dz l g))
-  fits z_axis false l g = subst (λ d. Fits s t p h (across z_axis false h) d dy dz) (sym x.1) (subst (λ d. Fits s t p h (across z_axis false h) (pos (suc x.0)) d dz) (sym y.1) (z_down s t p h x.0 y.0 dz l g))
+module _ (s : ℕ) (p : Point) (dx dy dz h : ℤ) (x : (u : ℕ) × (dx ≡ pos (suc u))) (y : (u : ℕ) × (dy ≡ pos (suc u))) (z : (u : ℕ) × (dz ≡ pos (suc u))) where
+  is_cut : (k : Axis) (up : Bool) → int_lt (coordinate k p) h ≡ true → int_lt h (coordinate k (moved p (vector dx dy dz))) ≡ true → IsCut s p h k up dx dy dz
+  is_cut x_axis true l g = subst (λ d. IsCut s p h x_axis true dx d dz) (sym y.1) (subst (λ d. IsCut s p h x_axis true dx (pos (suc y.0)) d) (sym z.1) (x_up s p h y.0 z.0 dx l g))
+  is_cut x_axis false l g = subst (λ d. IsCut s p h x_axis false dx d dz) (sym y.1) (subst (λ d. IsCut s p h x_axis false dx (pos (suc y.0)) d) (sym z.1) (x_down s p h y.0 z.0 dx l g))
+  is_cut y_axis true l g = subst (λ d. IsCut s p h y_axis true d dy dz) (sym x.1) (subst (λ d. IsCut s p h y_axis true (pos (suc x.0)) dy d) (sym z.1) (y_up s p h x.0 z.0 dy l g))
+  is_cut y_axis false l g = subst (λ d. IsCut s p h y_axis false d dy dz) (sym x.1) (subst (λ d. IsCut s p h y_axis false (pos (suc x.0)) dy d) (sym z.1) (y_down s p h x.0 z.0 dy l g))
+  is_cut z_axis true l g = subst (λ d. IsCut s p h z_axis true d dy dz) (sym x.1) (subst (λ d. IsCut s p h z_axis true (pos (suc x.0)) d dz) (sym y.1) (z_up s p h x.0 y.0 dz l g))
+  is_cut z_axis false l g = subst (λ d. IsCut s p h z_axis false d dy dz) (sym x.1) (subst (λ d. IsCut s p h z_axis false (pos (suc x.0)) d dz) (sym y.1) (z_down s p h x.0 y.0 dz l g))
 
 in_range : (k : Axis) (q : Point) → is_in_range q ≡ true → is_coordinate (coordinate k q) ≡ true
 in_range x_axis q e = (coordinates q e).0
 in_range y_axis q e = (coordinates q e).1
 in_range z_axis q e = (coordinates q e).2
 
-module _ (lie_flat : BlocksLieFlat) (before after : Machine) (s : ℕ) (p : Point) (dx dy dz : ℤ) (none : held before ≡ empty_model) (made : IsBlock before after s p dx dy dz) where
-  model_is : held after ≡ box s p.x (p.x +ℤ dx) p.y (p.y +ℤ dy) p.z (p.z +ℤ dz)
-  model_is = ap held made.1 ∙ ap (λ M. block_model M s p dx dy dz) none ∙ block_is_box s p dx dy dz
-
-  flat_box : IsClosedFlat (box s p.x (p.x +ℤ dx) p.y (p.y +ℤ dy) p.z (p.z +ℤ dz)) s
-  flat_box = closed_like _ _ s model_is (lie_flat before after s p dx dy dz (subst Sound (sym none) empty_sound) made)
+module _ (before after : Machine) (s : ℕ) (p : Point) (dx dy dz : ℤ) (none : held before ≡ empty_model) (made : IsBlock before after s p dx dy dz) where
+  block_is : held after ≡ box s p.x (p.x +ℤ dx) p.y (p.y +ℤ dy) p.z (p.z +ℤ dz)
+  block_is = ap held made.1 ∙ ap (λ M. block_model M s p dx dy dz) none ∙ block_is_box s p dx dy dz
 
   hold : AllHold (block_conditions (held before) s p dx dy dz)
   hold = all_hold (block_conditions (held before) s p dx dy dz) made.0
 
-  pub split_fits : (k : Axis) (up : Bool) (h : ℤ) (t : ℕ) → int_lt (coordinate k p) h ≡ true → int_lt h (coordinate k (moved p (vector dx dy dz))) ≡ true → is_number t ≡ true → t ≢ s →
-      split_refusal (held after) s (across k up h) t ≡ None
-  unfolding block_conditions
-  split_fits k up h t l g number ne =
-      let offsets = offsets_fit (coordinate k p) (coordinate k (moved p (vector dx dy dz))) h (in_range k p hold.1.1.1.1.1.0) (in_range k (moved p (vector dx dy dz)) hold.1.1.1.1.1.1.0) l g in
-      ap (λ M. split_refusal M s (across k up h) t) model_is
-      ∙ fits s t p dx dy dz h (size dx hold.1.1.0) (size dy hold.1.1.1.0) (size dz hold.1.1.1.1.0) k up l g
-      (ready s t p.x (p.x +ℤ dx) p.y (p.y +ℤ dy) p.z (p.z +ℤ dz) flat_box k up h hold.0 number ne offsets.0 offsets.1)
+  module _ (k : Axis) (up : Bool) (h : ℤ) (l : int_lt (coordinate k p) h ≡ true) (g : int_lt h (coordinate k (moved p (vector dx dy dz))) ≡ true) where
+    cut : IsCut s p h k up dx dy dz
+    unfolding block_conditions
+    cut = is_cut s p dx dy dz h (size dx hold.1.1.0) (size dy hold.1.1.1.0) (size dz hold.1.1.1.1.0) k up l g
+
+    split_fits : BlocksLieFlat → (t : ℕ) → is_number t ≡ true → t ≢ s → split_refusal (held after) s (across k up h) t ≡ None
+    unfolding block_conditions
+    split_fits lie_flat t number ne =
+        let offsets = offsets_fit (coordinate k p) (coordinate k (moved p (vector dx dy dz))) h (in_range k p hold.1.1.1.1.1.0) (in_range k (moved p (vector dx dy dz)) hold.1.1.1.1.1.1.0) l g in
+        let flat = closed_like _ _ s block_is (lie_flat before after s p dx dy dz (subst Sound (sym none) empty_sound) made) in
+        ap (λ M. split_refusal M s (across k up h) t) block_is
+        ∙ accepted _ _ s _ cut.goes t (ready s t p.x (p.x +ℤ dx) p.y (p.y +ℤ dy) p.z (p.z +ℤ dz) flat k up h hold.0 number ne offsets.0 offsets.1)
+
+    caps_stand : caps_of (held after) s (across k up h) ≡ record { lower = 11; upper = 15; hole = false } ∷ []
+    caps_stand = ap (λ M. caps_of M s (across k up h)) block_is ∙ caps_are _ _ s _ cut.goes
+
+    module _ (parts : Machine) (t : ℕ) (split : IsSplit after parts s (across k up h) t) where
+      apart : nat_eq t s ≡ false
+      apart = other_number s t p.x (p.x +ℤ dx) p.y (p.y +ℤ dy) p.z (p.z +ℤ dz) (across k up h) (ap (λ M. split_refusal M s (across k up h) t) (sym block_is) ∙ split.0)
+
+      parts_are : held parts ≡ parted (box s p.x (p.x +ℤ dx) p.y (p.y +ℤ dy) p.z (p.z +ℤ dz)) (across k up h) cut.stages s t
+      parts_are = ap held split.1 ∙ ap (λ M. split_model M s (across k up h) t) block_is ∙ model_is _ _ s _ cut.goes t
+
+      halves : Halves (parted (box s p.x (p.x +ℤ dx) p.y (p.y +ℤ dy) p.z (p.z +ℤ dz)) (across k up h) cut.stages s t) s t cut.lower cut.upper
+          (pos 6 *ℤ size_across k dx dy dz *ℤ length_along k up p dx dy dz h) (pos 6 *ℤ size_across k dx dy dz *ℤ length_along k (not up) p dx dy dz h)
+      halves = cut.halves t apart (nat_eq_turned s t ∙ apart)
 
 pub lone_block_splits_fit : BlocksLieFlat → LoneBlockSplitsFit
-lone_block_splits_fit lie_flat before after s p dx dy dz k up h t none made l g number ne = split_fits lie_flat before after s p dx dy dz none made k up h t l g number ne
+lone_block_splits_fit lie_flat before after s p dx dy dz k up h t none made l g number ne = split_fits before after s p dx dy dz none made k up h l g lie_flat t number ne
+
+pub lone_block_has_caps : LoneBlockHasCaps
+lone_block_has_caps before after s p dx dy dz k up h none made l g = caps_stand before after s p dx dy dz none made k up h l g
+
+pub lone_block_parts_measure : LoneBlockPartsMeasure
+lone_block_parts_measure before after parts s p dx dy dz k up h t none made l g split =
+    let e = parts_are before after s p dx dy dz none made k up h l g parts t split in
+    let v = half_volumes _ s t _ _ _ _ (halves before after s p dx dy dz none made k up h l g parts t split) in
+    (ap (λ N. six_volume N s) e ∙ v.0, ap (λ N. six_volume N t) e ∙ v.1)
+
+pub lone_block_parts_count : LoneBlockPartsCount
+lone_block_parts_count before after parts s p dx dy dz k up h t none made l g split =
+    let e = parts_are before after s p dx dy dz none made k up h l g parts t split in
+    let v = half_counts _ s t _ _ _ _ (halves before after s p dx dy dz none made k up h l g parts t split) in
+    (ap (λ N. counts N s) e ∙ v.0, ap (λ N. counts N t) e ∙ v.1)

@@ -1,8 +1,10 @@
 -- What a split of a block comes through, stage by stage, as lists of numbers.
-use Rattle.std.proofs.Common.{◌≡◌, ℕ, ◌+◌, Bool, false, cond, not, ◌&&◌, true, List, [], ◌∷◌, map, filter, fold, None, length, refl, ap}
+use Rattle.std.proofs.Common.{◌≡◌, ℕ, ◌+◌, ℤ, Bool, false, cond, not, ◌&&◌, true, List, [], ◌∷◌, ◌++◌, map, filter, fold, None, length, refl, ap}
 use Rattle.std.specs.List.{list_any}
-use Rattle.euler_operators.specs.Common.{Point, Plane, Model, cuts_lattice, plus, faces_of}
-use Rattle.shapes.specs.Common.{Growing, FacePairs, Drawing, edge_cut, growing, all_cut, all_pairs, faces_drawn, undrawn, crossing_edges, straddling_faces, is_crossed, is_cut_often, is_touched, pair_count, first_such, face_is_above, reaches_above, reaches_below, place_pairs, drawn_pairs, from_place, below_halves, section_cycles, section_ends, least_branched, is_hole, start, finish}
+use Rattle.euler_operators.specs.Common.{Point, Plane, Model, cuts_lattice, plus, faces_of, lists, part}
+use Rattle.euler_operators.specs.Table as table
+use Rattle.shapes.specs.Common.{Growing, FacePairs, Drawing, edge_cut, growing, all_cut, all_pairs, faces_drawn, undrawn, crossing_edges, straddling_faces, is_crossed, is_cut_often, is_touched, pair_count, first_such, face_is_above, reaches_above, reaches_below, place_pairs, drawn_pairs, from_place, below_halves, section_cycles, section_ends, least_branched, is_hole, start, finish, opened_along, edges_of, corners_in, volume_in}
+use Rattle.solid_measure.specs.solid_counts.Counts.{rings_in}
 
 -- edges cut at points that are given
 abbrev pub next_at : Growing → (ℕ × Point) → Growing
@@ -78,4 +80,24 @@ pub record Goes (M : Model) (q : Plane) (s : ℕ) (c : Stages) : Type 0 where
   pub below : below_halves (drawn_in M q c).model (picked c.upper ten) s ≡ 34 ∷ 36 ∷ 38 ∷ 40 ∷ []
   pub unbranched : least_branched (drawn_in M q c).model (section_ends (drawn_in M q c).model (34 ∷ 36 ∷ 38 ∷ 40 ∷ [])) ≡ None
   pub round : section_cycles (drawn_in M q c).model (34 ∷ 36 ∷ 38 ∷ 40 ∷ []) ≡ c.cycle ∷ []
+  pub long : length c.cycle ≡ 4
   pub outer : is_hole (drawn_in M q c).model q c.cycle ≡ false
+
+-- the model after the split: the caps are the faces 11 and 15
+abbrev pub parted : Model → Plane → Stages → ℕ → ℕ → Model
+parted M q c s t = part (opened_along (drawn_in M q c).model (picked c.upper ten) s (record { face = 10; loop = 10; edge = 20; vertex = 12 }) c.cycle) s t (picked c.upper ten ++ 15 ∷ [])
+
+-- the faces of its two parts, and what each has
+pub record Halves (N : Model) (s t : ℕ) (lower upper : List ℕ) (below above : ℤ) : Type 0 where
+  pub lower_faces : faces_of N s ≡ lower
+  pub upper_faces : faces_of N t ≡ upper
+  pub lower_six : length lower ≡ 6
+  pub upper_six : length upper ≡ 6
+  pub lower_edges : length (edges_of N s) ≡ 12
+  pub upper_edges : length (edges_of N t) ≡ 12
+  pub lower_vertices : length (table.all_where (λ v _. lists (corners_in N lower) v) N.vertices) ≡ 8
+  pub upper_vertices : length (table.all_where (λ v _. lists (corners_in N upper) v) N.vertices) ≡ 8
+  pub lower_rings : rings_in N lower ≡ []
+  pub upper_rings : rings_in N upper ≡ []
+  pub lower_volume : volume_in N lower ≡ below
+  pub upper_volume : volume_in N upper ≡ above

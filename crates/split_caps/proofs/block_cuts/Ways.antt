@@ -40,6 +40,7 @@ module _ (s : ℕ) (low high a c h : ℤ) (u v : ℕ) (q : Plane) (i : IsAcross 
     below = simp compared;
     unbranched = refl;
     round = refl;
+    long = refl;
     outer = ap (λ w. int_lt (dot (area (drawn_in (box s low high a (a +ℤ pos (suc u)) c (c +ℤ pos (suc v))) q stages_x_up).model (map mate stages_x_up.cycle)) w) (pos 0)) i.directed
         ∙ ap (λ t. int_lt t (pos 0)) (round_x_up a c h (pos (suc u)) (pos (suc v))) ∙ not_negative (2 * (suc u * suc v));
   }
@@ -77,6 +78,7 @@ module _ (s : ℕ) (low high a c h : ℤ) (u v : ℕ) (q : Plane) (i : IsAcross 
     below = simp compared;
     unbranched = refl;
     round = refl;
+    long = refl;
     outer = ap (λ w. int_lt (dot (area (drawn_in (box s low high a (a +ℤ pos (suc u)) c (c +ℤ pos (suc v))) q stages_x_down).model (map mate stages_x_down.cycle)) w) (pos 0)) i.directed
         ∙ ap (λ t. int_lt t (pos 0)) (round_x_down a c h (pos (suc u)) (pos (suc v))) ∙ not_negative (2 * (suc u * suc v));
   }
@@ -114,6 +116,7 @@ module _ (s : ℕ) (low high a c h : ℤ) (u v : ℕ) (q : Plane) (i : IsAcross 
     below = simp compared;
     unbranched = refl;
     round = refl;
+    long = refl;
     outer = ap (λ w. int_lt (dot (area (drawn_in (box s a (a +ℤ pos (suc u)) low high c (c +ℤ pos (suc v))) q stages_y_up).model (map mate stages_y_up.cycle)) w) (pos 0)) i.directed
         ∙ ap (λ t. int_lt t (pos 0)) (round_y_up a c h (pos (suc u)) (pos (suc v))) ∙ not_negative (2 * (suc u * suc v));
   }
@@ -151,6 +154,7 @@ module _ (s : ℕ) (low high a c h : ℤ) (u v : ℕ) (q : Plane) (i : IsAcross 
     below = simp compared;
     unbranched = refl;
     round = refl;
+    long = refl;
     outer = ap (λ w. int_lt (dot (area (drawn_in (box s a (a +ℤ pos (suc u)) low high c (c +ℤ pos (suc v))) q stages_y_down).model (map mate stages_y_down.cycle)) w) (pos 0)) i.directed
         ∙ ap (λ t. int_lt t (pos 0)) (round_y_down a c h (pos (suc u)) (pos (suc v))) ∙ not_negative (2 * (suc u * suc v));
   }
@@ -188,6 +192,7 @@ module _ (s : ℕ) (low high a c h : ℤ) (u v : ℕ) (q : Plane) (i : IsAcross 
     below = simp compared;
     unbranched = refl;
     round = refl;
+    long = refl;
     outer = ap (λ w. int_lt (dot (area (drawn_in (box s a (a +ℤ pos (suc u)) c (c +ℤ pos (suc v)) low high) q stages_z_up).model (map mate stages_z_up.cycle)) w) (pos 0)) i.directed
         ∙ ap (λ t. int_lt t (pos 0)) (round_z_up a c h (pos (suc u)) (pos (suc v))) ∙ not_negative (2 * (suc u * suc v));
   }
@@ -225,6 +230,7 @@ module _ (s : ℕ) (low high a c h : ℤ) (u v : ℕ) (q : Plane) (i : IsAcross 
     below = simp compared;
     unbranched = refl;
     round = refl;
+    long = refl;
     outer = ap (λ w. int_lt (dot (area (drawn_in (box s a (a +ℤ pos (suc u)) c (c +ℤ pos (suc v)) low high) q stages_z_down).model (map mate stages_z_down.cycle)) w) (pos 0)) i.directed
         ∙ ap (λ t. int_lt t (pos 0)) (round_z_down a c h (pos (suc u)) (pos (suc v))) ∙ not_negative (2 * (suc u * suc v));
   }
