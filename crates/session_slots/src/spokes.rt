@@ -32,6 +32,7 @@ fn start_of(arena: &Arena, e: u32, v: u32) -> Option<u32>
 }
 
 /// A half-edge that starts at a vertex, of the edges above one number and up to another. It looks at them one after another.
+#[inline(always)]
 fn start_within(arena: &Arena, v: u32, above: u32, last: u32) -> Option<u32>
     requires { IsReady arena.now }
     ensures { IsStartWithin v above last arena.now.model result }
@@ -83,6 +84,20 @@ fn rising_place(arena: &Arena, v: u32, greatest: u32) -> u32
     low
 }
 
+/// A half-edge that starts at a vertex, looked for by halving, and among all edges where that finds none. It stands apart, since it is
+/// seldom called.
+#[inline(never)]
+fn far_half_edge(arena: &Arena, greatest: u32, v: u32) -> Option<u32>
+    requires { IsReady arena.now }
+    ensures { IsStart v arena.now.model result }
+{
+    let low = rising_place(arena, v, greatest);
+    if let Some(half) = start_within(arena, v, low, u32::MAX) {
+        return Some(half);
+    }
+    start_within(arena, v, 0, low)
+}
+
 /// A half-edge that starts at a vertex, where no greater numbers are in use than these.
 ///
 /// Any is right, so it looks first where one is likely: about where an edge of the vertex lies if edges and vertices rise evenly, then
@@ -100,9 +115,5 @@ pub fn vertex_half_edge(arena: &Arena, greatest: Counters, v: u32) -> Option<u32
     ) {
         return Some(half);
     }
-    let low = rising_place(arena, v, greatest.edges);
-    if let Some(half) = start_within(arena, v, low, u32::MAX) {
-        return Some(half);
-    }
-    start_within(arena, v, 0, low)
+    far_half_edge(arena, greatest.edges, v)
 }
