@@ -3,9 +3,9 @@
 
 enum { AHEAD = 64 };
 
-/* What is written, and where: how many rows there are, as many of them written as there is room for. */
+/* What is written, and where: how many rows there are, as many of them written as there is room for. Readers give the copy of the handle back. */
 struct writing {
-    const gwb *g;
+    gwb copy;
     gwb_half_edge_row *rows;
     size_t room, count;
     uint32_t read; /* the greatest edge that was read ahead */
@@ -18,25 +18,45 @@ static void read_ahead(struct writing *w, uint32_t edge)
     if (w->read >= edge + AHEAD / 2)
         return;
     w->read = w->read < edge ? edge : w->read;
-    while (w->read < edge + AHEAD && gwb_edge(w->g, w->read + 1, &ends) == GWB_FOUND)
+    while (w->read < edge + AHEAD && gwb_lent_edge(&w->copy, w->read + 1, &ends) == GWB_FOUND)
         w->read++;
 }
 
-static void write_face(struct writing *w, uint32_t face)
+/* Whether the face has half-edges: they are written. */
+static bool write_face(struct writing *w, uint32_t face)
 {
     size_t written = w->count < w->room ? w->count : w->room;
-    w->count += gwb_half_edge_rows(w->g, face, w->rows + written, w->room - written);
-    if (written < w->count && written < w->room)
+    size_t more = gwb_lent_half_edge_rows(&w->copy, face, w->rows + written, w->room - written);
+    w->count += more;
+    if (more > 0 && written < w->room)
         read_ahead(w, w->rows[written].half_edge / 2);
+    return more > 0;
+}
+
+/* Faces mostly rise one by one, so the next number is tried before the next face is looked for. */
+static void write_all(struct writing *w)
+{
+    uint32_t face = 0;
+    for (;;) {
+        if (write_face(w, face + 1))
+            face++;
+        else if (gwb_lent_number_after(&w->copy, GWB_FACE, face, &face) == GWB_FOUND)
+            write_face(w, face);
+        else
+            return;
+    }
 }
 
 size_t gwb_read_half_edges(const gwb *g, uint32_t solid, gwb_half_edge_row *rows, size_t room)
 {
-    struct writing w = {g, rows, room, 0, 0};
+    struct writing w = {*g, rows, room, 0, 0};
     if (!gwb_is_open(g))
         return SIZE_MAX;
-    for (uint32_t face = 0; next_face(g, solid, face, &face) == GWB_FOUND;)
-        write_face(&w, face);
+    if (solid == 0)
+        write_all(&w);
+    else
+        for (uint32_t face = 0; gwb_face_after(g, solid, face, &face) == GWB_FOUND;)
+            write_face(&w, face);
     return w.count;
 }
 
