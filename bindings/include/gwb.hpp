@@ -414,11 +414,16 @@ public:
 struct Throwing {
     template <class T> using Returned = T;
 
-    /// Throws as few frames above the caller as it can: each of them costs as much as all that it does itself.
-    template <class T> [[noreturn]] static T failed(std::string_view command, Failure failure)
+    /// Throws as few frames above the caller as it can: each of them costs as much as all that it does itself. Where nothing is returned, what
+    /// throws is called last, and takes the place of this frame.
+    template <class T> static T failed(std::string_view command, Failure failure)
     {
-        thrower(failure)(command, failure);
-        std::terminate();
+        if constexpr (std::is_void_v<T>) {
+            return thrower(failure)(command, failure);
+        } else {
+            thrower(failure)(command, failure);
+            std::terminate();
+        }
     }
 
     static void ended(Failure failure)
