@@ -44,7 +44,7 @@ pub(crate) fn cut_edges(
     ensures cut { IfOk result (λ found. IfOk found (λ cut. cut.items ≡ map (cut_at arena.now.model plane) edges.now)) }
     ensures off { IfOk result (λ found. IfErr found (λ e. first_such (is_off arena.now.model plane) edges.now ≡ Some e)) }
 {
-    let mut cut = Vec::new(alloc);
+    let mut cut = Vec::with_capacity(alloc, edges.len())?;
     let mut rest = edges;
     'edges: while let [e, others @ ..] = rest {
         let Some(edge) = cut_edge(arena, plane, *e) else {

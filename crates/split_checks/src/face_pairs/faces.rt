@@ -39,8 +39,8 @@ pub(crate) fn pairs_of_faces(
     ensures pairs { IfOk result (λ found. IfOk found (λ paired. map codes paired.1.items ≡ all_pairs arena.now.model plane (faces_in faces.now))) }
     ensures crossed { IfOk result (λ found. IfErr found (λ f. first_such (is_crossed arena.now.model plane) (faces_in faces.now) ≡ Some f)) }
 {
-    let mut found = Vec::new(alloc);
-    let mut pairs = Vec::new(alloc);
+    let mut found = Vec::with_capacity(alloc, faces.len())?;
+    let mut pairs = Vec::with_capacity(alloc, faces.len())?;
     let mut rest = faces;
     let mut left = places;
     'faces: while let [met, others @ ..] = rest {
