@@ -2,8 +2,11 @@
 //! Machines blocks and says what they measure. What is said of volumes and commands is proved before it is written: each function has it from
 //! `block_machining`, which makes the blocks. No command in it is refused: the only error is that memory is.
 
-use block_machining::{known, machined, made, parted, spurred, taken_back, wedge};
+use block_machining::{
+    halved, known, machined, made, parted, pocketed, scored, spurred, taken_back, underlaid, wedge,
+};
 use call_lists::Told;
+use euler_operators::Point;
 use std::alloc::AllocError;
 use std::process::ExitCode;
 
@@ -23,6 +26,32 @@ fn tell_spur(rt: &HostRuntime) -> Result<(), AllocError> {
     let commands = session.depth();
     prove!(commands == 2);
     let _ = println!(rt; "with a spur: {commands} commands to undo");
+    Ok(())
+}
+
+/// Says how large the block is with an edge across its top.
+fn tell_score(rt: &HostRuntime) -> Result<(), AllocError> {
+    let session = scored(rt.alloc())?;
+    let volume = known(&session, 1) / 6;
+    prove!(volume == 24);
+    let _ = println!(rt; "with an edge across its top: a volume of {volume}");
+    Ok(())
+}
+
+/// Says how many commands a block with a lamina under it has.
+fn tell_lamina(rt: &HostRuntime) -> Result<(), AllocError> {
+    let session = underlaid(rt.alloc())?;
+    let commands = session.depth();
+    let _ = println!(rt; "on a lamina: {commands} commands to undo");
+    Ok(())
+}
+
+/// Says how large the block is with a boss in a pocket on its top.
+fn tell_pocket(rt: &HostRuntime) -> Result<(), AllocError> {
+    let session = pocketed(rt.alloc())?;
+    let volume = known(&session, 1) / 6;
+    prove!(volume == 46);
+    let _ = println!(rt; "with a boss in a pocket: a volume of {volume}");
     Ok(())
 }
 
@@ -48,6 +77,21 @@ fn tell_parts(rt: &HostRuntime) -> Result<(), AllocError> {
     Ok(())
 }
 
+/// Says what the halves of a block of 7 by 5 by 3 measure, which is cut 4 from one end.
+fn tell_halves(rt: &HostRuntime) -> Result<(), AllocError> {
+    let corner = Point {
+        x: -10,
+        y: 20,
+        z: -30,
+    };
+    let session = halved(rt.alloc(), corner, 7, 5, 3, -6)?;
+    let (near, far) = (known(&session, 1) / 6, known(&session, 2) / 6);
+    let commands = session.depth();
+    prove!(near == 60 && far == 45 && commands == 2);
+    let _ = println!(rt; "cut across: volumes of {near} and {far}, {commands} commands to undo");
+    Ok(())
+}
+
 /// Says what a list of calls was told, one answer a call.
 fn tell_list(rt: &HostRuntime) -> Result<(), AllocError> {
     let mut told = Vec::new(rt.alloc());
@@ -70,8 +114,12 @@ fn tell_none(rt: &HostRuntime) -> Result<(), AllocError> {
 fn main(rt: HostRuntime) -> ExitCode {
     let told = tell_block(&rt)
         .and_then(|()| tell_spur(&rt))
+        .and_then(|()| tell_score(&rt))
+        .and_then(|()| tell_lamina(&rt))
+        .and_then(|()| tell_pocket(&rt))
         .and_then(|()| tell_wedge(&rt))
         .and_then(|()| tell_parts(&rt))
+        .and_then(|()| tell_halves(&rt))
         .and_then(|()| tell_none(&rt))
         .and_then(|()| tell_list(&rt));
     if told.is_ok() {
