@@ -13,15 +13,14 @@ use Rattle.command_laws.specs.Commands.{IsBlock}
 use Rattle.command_laws.specs.Flat.{IsClosedFlat, BlocksLieFlat}
 use Rattle.split_caps.specs.LoneBlocks.{Axis, x_axis, y_axis, z_axis, coordinate, across, size_across, length_along, counts_of_block, LoneBlockSplitsFit, LoneBlockPartsMeasure, LoneBlockPartsCount, LoneBlockHasCaps}
 use Rattle.split_caps.specs.Capped.{caps_of}
-use Rattle.split_caps.proofs.block_cuts.Stages.{Stages, Goes, Halves, parted}
-use Rattle.split_caps.proofs.block_cuts.Halves.{halves_x_up, halves_x_down, halves_y_up, halves_y_down, halves_z_up, halves_z_down}
+use Rattle.split_caps.proofs.block_cuts.Stages.{Cut, Halves, parted}
+use Rattle.split_caps.proofs.block_cuts.Halves.{cut_x_up, cut_x_down, cut_y_up, cut_y_down, cut_z_up, cut_z_down}
 use Rattle.solid_measure.specs.solid_counts.Counts.{counts, rings_in, tally_of}
 use Rattle.plane_split.specs.SplitModels.{IsSplit}
 use Rattle.split_caps.proofs.block_cuts.Computed.{computed}
 use Rattle.split_caps.proofs.block_cuts.Box.{box, block_is_box}
 use Rattle.split_caps.proofs.block_cuts.Levels.{compared, upward, downward}
 use Rattle.split_caps.proofs.block_cuts.Assembled.{Ready, accepted, caps_are, model_is}
-use Rattle.split_caps.proofs.block_cuts.Ways.{stages_x_up, goes_x_up, stages_x_down, goes_x_down, stages_y_up, goes_y_up, stages_y_down, goes_y_down, stages_z_up, goes_z_up, stages_z_down, goes_z_down}
 
 size : (d : ℤ) → int_le (pos 1) d ≡ true → (u : ℕ) × (d ≡ pos (suc u))
 size (pos (suc u)) e = (u, refl)
@@ -30,35 +29,27 @@ size (negsuc u) e = absurd (grind (arith, ints))
 
 -- ---- each axis and either way
 
--- how a solid comes to be cut, and what its parts are
-record Cut (M : Model) (q : Plane) (s : ℕ) (below above : ℤ) : Type 0 where
-  stages : Stages
-  goes : Goes M q s stages
-  lower : List ℕ
-  upper : List ℕ
-  halves : (t : ℕ) → nat_eq t s ≡ false → nat_eq s t ≡ false → Halves (parted M q stages s t) s t lower upper below above
-
 module _ (s : ℕ) (p : Point) (h : ℤ) where
   abbrev IsCut : Axis → Bool → ℤ → ℤ → ℤ → Type 0
   IsCut k up dx dy dz = Cut (box s p.x (p.x +ℤ dx) p.y (p.y +ℤ dy) p.z (p.z +ℤ dz)) (across k up h) s (pos 6 *ℤ size_across k dx dy dz *ℤ length_along k up p dx dy dz h) (pos 6 *ℤ size_across k dx dy dz *ℤ length_along k (not up) p dx dy dz h)
 
   x_up : (u v : ℕ) (dx : ℤ) → int_lt p.x h ≡ true → int_lt h (p.x +ℤ dx) ≡ true → IsCut x_axis true dx (pos (suc u)) (pos (suc v))
-  x_up u v dx l g = let i = (upward (across x_axis true h) (λ x y z. x) p.x (p.x +ℤ dx) h l g (λ x y z. omega (arith, ints))) in record { stages = stages_x_up s p.x (p.x +ℤ dx) p.y p.z h u v (across x_axis true h) i; goes = goes_x_up s p.x (p.x +ℤ dx) p.y p.z h u v (across x_axis true h) i; lower = _; upper = _; halves = halves_x_up s p.x (p.x +ℤ dx) p.y p.z h u v (across x_axis true h) i }
+  x_up u v dx l g = cut_x_up s p.x (p.x +ℤ dx) p.y p.z h u v (across x_axis true h) (upward (across x_axis true h) (λ x y z. x) p.x (p.x +ℤ dx) h l g (λ x y z. omega (arith, ints)))
 
   x_down : (u v : ℕ) (dx : ℤ) → int_lt p.x h ≡ true → int_lt h (p.x +ℤ dx) ≡ true → IsCut x_axis false dx (pos (suc u)) (pos (suc v))
-  x_down u v dx l g = let i = (downward (across x_axis false h) (λ x y z. x) p.x (p.x +ℤ dx) h l g (λ x y z. omega (arith, ints))) in record { stages = stages_x_down s p.x (p.x +ℤ dx) p.y p.z h u v (across x_axis false h) i; goes = goes_x_down s p.x (p.x +ℤ dx) p.y p.z h u v (across x_axis false h) i; lower = _; upper = _; halves = halves_x_down s p.x (p.x +ℤ dx) p.y p.z h u v (across x_axis false h) i }
+  x_down u v dx l g = cut_x_down s p.x (p.x +ℤ dx) p.y p.z h u v (across x_axis false h) (downward (across x_axis false h) (λ x y z. x) p.x (p.x +ℤ dx) h l g (λ x y z. omega (arith, ints)))
 
   y_up : (u v : ℕ) (dy : ℤ) → int_lt p.y h ≡ true → int_lt h (p.y +ℤ dy) ≡ true → IsCut y_axis true (pos (suc u)) dy (pos (suc v))
-  y_up u v dy l g = let i = (upward (across y_axis true h) (λ x y z. y) p.y (p.y +ℤ dy) h l g (λ x y z. omega (arith, ints))) in record { stages = stages_y_up s p.y (p.y +ℤ dy) p.x p.z h u v (across y_axis true h) i; goes = goes_y_up s p.y (p.y +ℤ dy) p.x p.z h u v (across y_axis true h) i; lower = _; upper = _; halves = halves_y_up s p.y (p.y +ℤ dy) p.x p.z h u v (across y_axis true h) i }
+  y_up u v dy l g = cut_y_up s p.y (p.y +ℤ dy) p.x p.z h u v (across y_axis true h) (upward (across y_axis true h) (λ x y z. y) p.y (p.y +ℤ dy) h l g (λ x y z. omega (arith, ints)))
 
   y_down : (u v : ℕ) (dy : ℤ) → int_lt p.y h ≡ true → int_lt h (p.y +ℤ dy) ≡ true → IsCut y_axis false (pos (suc u)) dy (pos (suc v))
-  y_down u v dy l g = let i = (downward (across y_axis false h) (λ x y z. y) p.y (p.y +ℤ dy) h l g (λ x y z. omega (arith, ints))) in record { stages = stages_y_down s p.y (p.y +ℤ dy) p.x p.z h u v (across y_axis false h) i; goes = goes_y_down s p.y (p.y +ℤ dy) p.x p.z h u v (across y_axis false h) i; lower = _; upper = _; halves = halves_y_down s p.y (p.y +ℤ dy) p.x p.z h u v (across y_axis false h) i }
+  y_down u v dy l g = cut_y_down s p.y (p.y +ℤ dy) p.x p.z h u v (across y_axis false h) (downward (across y_axis false h) (λ x y z. y) p.y (p.y +ℤ dy) h l g (λ x y z. omega (arith, ints)))
 
   z_up : (u v : ℕ) (dz : ℤ) → int_lt p.z h ≡ true → int_lt h (p.z +ℤ dz) ≡ true → IsCut z_axis true (pos (suc u)) (pos (suc v)) dz
-  z_up u v dz l g = let i = (upward (across z_axis true h) (λ x y z. z) p.z (p.z +ℤ dz) h l g (λ x y z. omega (arith, ints))) in record { stages = stages_z_up s p.z (p.z +ℤ dz) p.x p.y h u v (across z_axis true h) i; goes = goes_z_up s p.z (p.z +ℤ dz) p.x p.y h u v (across z_axis true h) i; lower = _; upper = _; halves = halves_z_up s p.z (p.z +ℤ dz) p.x p.y h u v (across z_axis true h) i }
+  z_up u v dz l g = cut_z_up s p.z (p.z +ℤ dz) p.x p.y h u v (across z_axis true h) (upward (across z_axis true h) (λ x y z. z) p.z (p.z +ℤ dz) h l g (λ x y z. omega (arith, ints)))
 
   z_down : (u v : ℕ) (dz : ℤ) → int_lt p.z h ≡ true → int_lt h (p.z +ℤ dz) ≡ true → IsCut z_axis false (pos (suc u)) (pos (suc v)) dz
-  z_down u v dz l g = let i = (downward (across z_axis false h) (λ x y z. z) p.z (p.z +ℤ dz) h l g (λ x y z. omega (arith, ints))) in record { stages = stages_z_down s p.z (p.z +ℤ dz) p.x p.y h u v (across z_axis false h) i; goes = goes_z_down s p.z (p.z +ℤ dz) p.x p.y h u v (across z_axis false h) i; lower = _; upper = _; halves = halves_z_down s p.z (p.z +ℤ dz) p.x p.y h u v (across z_axis false h) i }
+  z_down u v dz l g = cut_z_down s p.z (p.z +ℤ dz) p.x p.y h u v (across z_axis false h) (downward (across z_axis false h) (λ x y z. z) p.z (p.z +ℤ dz) h l g (λ x y z. omega (arith, ints)))
 
 -- ---- the block in its model
 

@@ -1,5 +1,5 @@
 -- What a split of a block comes through, stage by stage, as lists of numbers.
-use Rattle.std.proofs.Common.{◌≡◌, ℕ, ◌+◌, ℤ, Bool, false, cond, not, ◌&&◌, true, List, [], ◌∷◌, ◌++◌, map, filter, fold, None, length, refl, ap}
+use Rattle.std.proofs.Common.{◌≡◌, ℕ, ◌+◌, ℤ, Bool, false, cond, not, ◌&&◌, true, List, [], ◌∷◌, ◌++◌, map, filter, fold, None, length, nat_eq, refl, ap}
 use Rattle.std.specs.List.{list_any}
 use Rattle.euler_operators.specs.Common.{Point, Plane, Model, cuts_lattice, plus, faces_of, lists, part}
 use Rattle.euler_operators.specs.Table as table
@@ -101,3 +101,11 @@ pub record Halves (N : Model) (s t : ℕ) (lower upper : List ℕ) (below above 
   pub upper_rings : rings_in N upper ≡ []
   pub lower_volume : volume_in N lower ≡ below
   pub upper_volume : volume_in N upper ≡ above
+
+-- how a solid comes to be cut, and what its two parts are
+pub record Cut (M : Model) (q : Plane) (s : ℕ) (below above : ℤ) : Type 0 where
+  pub stages : Stages
+  pub goes : Goes M q s stages
+  pub lower : List ℕ
+  pub upper : List ℕ
+  pub halves : (t : ℕ) → nat_eq t s ≡ false → nat_eq s t ≡ false → Halves (parted M q stages s t) s t lower upper below above
