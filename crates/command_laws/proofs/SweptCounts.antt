@@ -84,7 +84,7 @@ module _ {M : Model} {c : Taken} {f l : ℕ} {d : Point} {hs : List ℕ} (w : Re
   -- ---- rows
 
   face_kept : (k : ℕ) → Has M.faces k → table.get N.faces k ≡ table.get M.faces k
-  face_kept k there = sides_faces M c f l d hs w (length hs) k (λ j m e. over k c.face j (in_use_within M.faces c.face w.faces_free k there) e)
+  face_kept k there = sides_faces M c f l d hs w (length hs) k (λ j m e. over k c.face j (in_use_within M.faces c.face w.free.faces k there) e)
 
   -- a face is an old one, or one of the sides
   face_cases : (k : ℕ) → Has N.faces k → (table.get N.faces k ≡ table.get M.faces k) ⊎ (solid_of N k ≡ s)
@@ -97,7 +97,7 @@ module _ {M : Model} {c : Taken} {f l : ℕ} {d : Point} {hs : List ℕ} (w : Re
     at = ap (λ t. table.get t k) (faces_grown M c s d hs (length hs))
 
   loop_kept : (q : ℕ) → q ≢ l → Has M.loops q → table.get N.loops q ≡ table.get M.loops q
-  loop_kept q ne there = get-put_other (S (length hs)).loops l _ q ne ∙ sides_loops M c f l d hs w (length hs) q (λ j m e. over q c.loop j (in_use_within M.loops c.loop w.loops_free q there) e)
+  loop_kept q ne there = get-put_other (S (length hs)).loops l _ q ne ∙ sides_loops M c f l d hs w (length hs) q (λ j m e. over q c.loop j (in_use_within M.loops c.loop w.free.loops q there) e)
 
   pub of_f : solid_of N f ≡ s
   of_f = same_solid M N f (face_kept f (face_there M c f l d hs w))
@@ -122,19 +122,19 @@ module _ {M : Model} {c : Taken} {f l : ℕ} {d : Point} {hs : List ℕ} (w : Re
   within q a n e = omega (arith, e)
 
   size_faces : (n : ℕ) → size (S n).faces ≡ size M.faces + n
-  size_faces n = ap size (faces_grown M c s d hs n) ∙ filled_size M.faces c.face (side_face M c s d hs) w.faces_free n
+  size_faces n = ap size (faces_grown M c s d hs n) ∙ filled_size M.faces c.face (side_face M c s d hs) w.free.faces n
 
   size_loops : (n : ℕ) → size (S n).loops ≡ size M.loops + n
-  size_loops n = ap size (loops_grown M c s d hs n) ∙ filled_size M.loops c.loop (side_loop M c s d hs) w.loops_free n
+  size_loops n = ap size (loops_grown M c s d hs n) ∙ filled_size M.loops c.loop (side_loop M c s d hs) w.free.loops n
 
   lifted_size : size N.loops ≡ size M.loops + length hs
-  lifted_size = size-put_old (S (length hs)).loops l _ _ (sides_loops M c f l d hs w (length hs) l (λ j m e. over l c.loop j (in_use_within M.loops c.loop w.loops_free l (ap is_some w.at)) e) ∙ w.at) ∙ size_loops (length hs)
+  lifted_size = size-put_old (S (length hs)).loops l _ _ (sides_loops M c f l d hs w (length hs) l (λ j m e. over l c.loop j (in_use_within M.loops c.loop w.free.loops l (ap is_some w.at)) e) ∙ w.at) ∙ size_loops (length hs)
 
   size_vertices : (n : ℕ) → size (S n).vertices ≡ size M.vertices + n
   unfolding with_side
   size_vertices zero = omega arith
   size_vertices (suc n) =
-      let free : table.get (S n).vertices (c.vertex + 1 + n) ≡ None = sides_vertices M c f l d hs w n (c.vertex + 1 + n) (λ j m e. less_apart j n m (sym (above c.vertex n j e))) ∙ w.vertices_free (c.vertex + 1 + n) (within (c.vertex + 1 + n) c.vertex n refl) in
+      let free : table.get (S n).vertices (c.vertex + 1 + n) ≡ None = sides_vertices M c f l d hs w n (c.vertex + 1 + n) (λ j m e. less_apart j n m (sym (above c.vertex n j e))) ∙ w.free.vertices (c.vertex + 1 + n) (within (c.vertex + 1 + n) c.vertex n refl) in
       size-put_new (S n).vertices (c.vertex + 1 + n) _ free ∙ one_more (size (S n).vertices) (size M.vertices) n (size_vertices n)
 
   size_edges : (n : ℕ) → n ≤ length hs → size (S n).edges ≡ size M.edges + 2 * n
@@ -144,9 +144,9 @@ module _ {M : Model} {c : Taken} {f l : ℕ} {d : Point} {hs : List ℕ} (w : Re
       let r = riser c.edge n in
       let t = top_edge c.edge (length hs) n in
       let free_r : table.get (S n).edges r ≡ None = sides_edges M c f l d hs w n r (λ j k. (riser_apart c.edge n j (λ e. less_apart j n k (sym e)), riser_no_top c.edge (length hs) n j m (before j n (length hs) k m)))
-      ∙ w.edges_free r (riser_above c.edge n) in
+      ∙ w.free.edges r (riser_above c.edge n) in
       let free_t : table.get (S n).edges t ≡ None = sides_edges M c f l d hs w n t (λ j k. ((λ e. riser_no_top c.edge (length hs) j n (before j n (length hs) k m) m (sym e)), top_apart c.edge (length hs) n j m (before j n (length hs) k m) (λ e. less_apart j n k (sym e))))
-      ∙ w.edges_free t (top_above c.edge (length hs) n m) in
+      ∙ w.free.edges t (top_above c.edge (length hs) n m) in
       size-put_new (table.put (S n).edges r _) t _ (get-put_other (S n).edges r _ t (λ e. riser_no_top c.edge (length hs) n n m m (sym e)) ∙ free_t)
       ∙ ap (λ k. k + 1) (size-put_new (S n).edges r _ free_r) ∙ two_more (size (S n).edges) (size M.edges) n (size_edges n (omega (arith, m)))
 

@@ -3,7 +3,7 @@ pub use Rattle.shapes.specs.Block.{base_of, block_refusal, vector}
 unfoldable pub use Rattle.shapes.specs.Block.{block_conditions, block_model}
 pub use Rattle.shapes.specs.Faces.{corners_in, edges_of, faces_of_both, finish, items_in, least_lone, start, vertices_in, vertices_of, vertices_on}
 unfoldable pub use Rattle.shapes.specs.Faces.{boundary, corners, loops_of}
-pub use Rattle.shapes.specs.Fresh.{Growing, Taken, first_such, found, growing, no_such, numbers_after, numbers_left}
+pub use Rattle.shapes.specs.Fresh.{AreFree, AreLeft, Growing, Needed, Taken, first_such, found, growing, no_such, numbers_after, numbers_left}
 unfoldable pub use Rattle.shapes.specs.Fresh.{taken_in}
 pub use Rattle.shapes.specs.Lamina.{first_far, first_repeated, lamina_at, lamina_face, lamina_refusal, with_path, with_points, with_ring}
 unfoldable pub use Rattle.shapes.specs.Lamina.{lamina_conditions, lamina_model}

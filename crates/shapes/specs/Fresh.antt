@@ -1,5 +1,5 @@
 -- The numbers that a larger command takes, and its refusals by search.
-use Rattle.std.specs.Prelude.{ℕ, ◌+◌, zero, suc, Bool, cond, nat_eq, nat_le, List, [], ◌∷◌, Option, Some, None, is_some, unwrap_or}
+use Rattle.std.specs.Prelude.{◌≡◌, ℕ, ◌+◌, ◌≤◌, ◌<◌, zero, suc, Bool, cond, nat_eq, nat_le, List, [], ◌∷◌, Option, Some, None, is_some, unwrap_or}
 use Rattle.euler_operators.specs.Table as table
 use Rattle.euler_operators.specs.Common.{Model, Condition, need, never}
 use Rattle.euler_operators.specs.declared.Why.{Why}
@@ -29,12 +29,26 @@ pub record Taken : Type 0 where
 unfoldable pub taken_in : Model → Taken
 taken_in M = record { face = table.greatest M.faces; loop = table.greatest M.loops; edge = table.greatest M.edges; vertex = table.greatest M.vertices }
 
+-- all numbers above them are free
+pub record AreFree (M : Model) (c : Taken) : Type 0 where
+  pub faces : (q : ℕ) → c.face < q → table.get M.faces q ≡ None
+  pub loops : (q : ℕ) → c.loop < q → table.get M.loops q ≡ None
+  pub edges : (q : ℕ) → c.edge < q → table.get M.edges q ≡ None
+  pub vertices : (q : ℕ) → c.vertex < q → table.get M.vertices q ≡ None
+
 -- how many numbers of each kind a command needs
 pub record Needed : Type 0 where
   pub faces : ℕ
   pub loops : ℕ
   pub edges : ℕ
   pub vertices : ℕ
+
+-- so many more are left within the limit
+pub record AreLeft (c : Taken) (n : Needed) : Type 0 where
+  pub faces : c.face + n.faces ≤ 1000000
+  pub loops : c.loop + n.loops ≤ 1000000
+  pub edges : c.edge + n.edges ≤ 1000000
+  pub vertices : c.vertex + n.vertices ≤ 1000000
 
 -- with so many more, numbers stay within the limit
 abbrev pub numbers_left : Taken → Needed → List Condition

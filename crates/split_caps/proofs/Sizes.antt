@@ -6,7 +6,7 @@ use Rattle.euler_operators.specs.Table as table
 use Rattle.euler_operators.proofs.Common.{tick_same, get-put_other}
 use Rattle.euler_laws.specs.Laws.{AreAccepted, effects, size}
 use Rattle.euler_laws.proofs.Common.{mapped_none, size-map_rows, size-put_new, mev_goes}
-use Rattle.shapes.specs.Common.{Growing, Taken, numbers_after, next_cut, Drawing, FacePairs, all_drawn, all_joined, draw_next, drawn_between, join_next, next_drawn, ring_free, rings_above, stuck_at, with_rings, Opening, all_opened, both_lists, opened_along, with_rim, cut_edge}
+use Rattle.shapes.specs.Common.{AreFree, Growing, Taken, numbers_after, next_cut, Drawing, FacePairs, all_drawn, all_joined, draw_next, drawn_between, join_next, next_drawn, ring_free, rings_above, stuck_at, with_rings, Opening, all_opened, both_lists, opened_along, with_rim, cut_edge}
 use Rattle.split_drawing_laws.specs.crossings.CrossingOps as crossings
 use Rattle.split_drawing_laws.specs.drawings.Pairs.{AllFit, pairs_in}
 use Rattle.split_drawing_laws.specs.drawings.Passing.{Drawable, Going, Joining, Ready}
@@ -17,7 +17,6 @@ use Rattle.split_drawing_laws.proofs.drawings.Whole.{drawable_on, next_is, ready
 use Rattle.split_drawing_laws.proofs.drawings.Passes.{can_now, cut_off, draws_keep, either_now, joins_keep, stuck_now}
 use Rattle.split_drawing_laws.proofs.loop_sides.SidesWhole.{not_stuck}
 use Rattle.split_opening_laws.specs.sections.InTurn.{CanBeOpenedInTurn, halves_in}
-use Rattle.split_opening_laws.specs.Numbers.{AreFree}
 use Rattle.split_opening_laws.proofs.sections.InTurn.{openings_carry}
 use Rattle.split_opening_laws.proofs.sections.OpenedRows as opened
 use Rattle.split_opening_laws.proofs.sections.Numbered.{rim_above}

@@ -6,9 +6,9 @@ use Rattle.euler_operators.specs.Common.{IsIn, Plane, count, are_opposite, is_ab
 use Rattle.euler_operators.proofs.Common.{cycle_there, loop_there, mate_there, same_outer, tick_other, tick_same}
 use Rattle.euler_laws.proofs.Common.{back_of, half_after, loop_after}
 use Rattle.euler_laws.proofs.faces.RingIn as moving
-use Rattle.shapes.specs.Common.{Drawing, FacePairs, all_drawn, all_joined, all_pairs, corners, drawn_between, drawn_pairs, face_drawn, finish, next_drawn, reaches_above, reaches_below, ring_free, rings_above, some_above, split_refusal, start, straddling_faces, straddling_pairs, stuck_at, undrawn, vertices_on, with_crossings, with_drawings, with_rings}
+use Rattle.shapes.specs.Common.{AreLeft, Drawing, FacePairs, all_drawn, all_joined, all_pairs, corners, drawn_between, drawn_pairs, face_drawn, finish, next_drawn, reaches_above, reaches_below, ring_free, rings_above, some_above, split_refusal, start, straddling_faces, straddling_pairs, stuck_at, undrawn, vertices_on, with_crossings, with_drawings, with_rings}
 use Rattle.split_drawing_laws.specs.crossings.Laws.{CanBegin}
-use Rattle.split_drawing_laws.specs.drawings.DrawnIn.{PairsHaveRoom}
+use Rattle.split_drawing_laws.specs.drawings.DrawnIn.{needed_for_pairs}
 use Rattle.split_drawing_laws.specs.drawings.Pairs.{AllFit, FacesFit, Fits, pairs_in}
 use Rattle.split_drawing_laws.specs.drawings.Passing.{Drawable, Ready}
 use Rattle.split_drawing_laws.specs.half_sides.HalfSides.{side_of}
@@ -129,7 +129,7 @@ module _ (Low : ℕ → Type 0) (p : Plane) (f : ℕ) (q : ℕ × ℕ) (d : Draw
     outer_is : outer Y f ≡ outer X f
     face : face_of Y (outer X f) ≡ f
 
-  room_one : PairsHaveRoom d.taken (suc n)
+  room_one : AreLeft d.taken (needed_for_pairs (suc n))
   room_one = room_as d.taken (length (q ∷ []) + n) (suc n) (omega arith) w.room
 
   can : CanDraw X q.0 q.1 (d.taken.edge + 1) (d.taken.face + 1) (d.taken.loop + 1)

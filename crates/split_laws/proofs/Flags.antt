@@ -5,9 +5,8 @@ use Rattle.std.proofs.lemmas.Grind.{flat_map-append}
 use Rattle.euler_operators.specs.Common.{Plane, dot, direction, cross, moved, count, IsIn, mate, Model, tail, point_of, no_point, Sound, Has, HasHalf}
 use Rattle.euler_operators.specs.Table as table
 use Rattle.euler_operators.proofs.Common.{tick_same, count-append, tick_other, mate-mate, in_use_within, mate_there}
-use Rattle.shapes.specs.Common.{start, finish, Taken, area, is_hole, has_stray_hole, Caps, Opening, opened_along, next_opened, all_opened}
+use Rattle.shapes.specs.Common.{AreFree, start, finish, Taken, area, is_hole, has_stray_hole, Caps, Opening, opened_along, next_opened, all_opened}
 use Rattle.split_opening_laws.specs.cycles.SectionCycles.{IsSectionCycle, AreSectionCycles}
-use Rattle.split_opening_laws.specs.Numbers.{AreFree}
 use Rattle.split_opening_laws.specs.sections.InTurn.{CanBeOpenedInTurn}
 use Rattle.split_opening_laws.specs.sections.Capped.{cap_faces}
 use Rattle.split_opening_laws.proofs.sections.Numbered.{in_numbers, other_number}

@@ -1,12 +1,11 @@
 -- What the steps of a block say, put together.
 use Rattle.std.proofs.Common.{◌≡◌, ℕ, ◌<◌, ℤ, pos, List, None, sym, ap, ◌∙◌, subst, get_or, map}
 use Rattle.euler_operators.specs.Common.{Point, IsInRange, moved, plus, Model, no_point, Sound}
-use Rattle.shapes.specs.Common.{Taken, taken_in, numbers_after, lamina_refusal, lamina_model, lamina_face, prism_refusal, prism_model, vector, base_of, block_refusal, block_model}
+use Rattle.shapes.specs.Common.{AreLeft, Taken, taken_in, numbers_after, lamina_refusal, lamina_model, lamina_face, prism_refusal, prism_model, vector, base_of, block_refusal, block_model}
 use Rattle.sweeps_laws.proofs.lamina.Walk.{lamina_goes, lamina_is_sound}
 use Rattle.sweeps_laws.proofs.lamina.Blocks.{blocks_have_bases, bases_rise}
 use Rattle.sweeps_laws.specs.prism.SweepOps.{loop_ops}
 use Rattle.euler_laws.specs.Laws.{effects}
-use Rattle.shapes.proofs.Common.{Left}
 use Rattle.sweeps.specs.Raising.{CanRise, with_lamina}
 use Rattle.sweeps.proofs.Base.{base, base_rises, base_risen}
 
@@ -16,7 +15,7 @@ module _ (M : Model) (sound : Sound M) (s : ℕ) (p : Point) (dx dy dz : ℤ) (e
   corner_fits = (lamina_goes M s (base_of p dx dy) sound (blocks_have_bases M s p dx dy dz e)).points_fit
 
   -- there are numbers left for its lamina
-  pub base_left : Left (taken_in M) 2 2 4 4
+  pub base_left : AreLeft (taken_in M) (record { faces = 2; loops = 2; edges = 4; vertices = 4 })
   base_left = (lamina_goes M s (base_of p dx dy) sound (blocks_have_bases M s p dx dy dz e)).left
 
   -- its lamina can be made

@@ -1,28 +1,21 @@
 -- The items of a loop that is swept, as the code holds them, and the steps that it takes with them.
-use Rattle.std.proofs.Common.{◌≡◌, ℕ, suc, zero, ◌+◌, ◌-◌, ◌*◌, ◌<◌, ◌≤◌, List, [], ◌∷◌, map, length, None, sym, ap, ◌∙◌, subst, arith, add-one, get_or}
+use Rattle.std.proofs.Common.{◌≡◌, ℕ, suc, zero, ◌+◌, ◌-◌, ◌<◌, ◌≤◌, List, [], ◌∷◌, map, length, None, sym, ap, ◌∙◌, subst, arith, add-one, get_or}
 use Rattle.std.proofs.lemmas.List.{get_or-map}
 use Rattle.euler_operators.specs.Common.{Point, IsInRange, moved, IsIn, HalfEdge, At, code, half, plus, Model, HasHalf, first_false, effect}
 use Rattle.euler_operators.proofs.Common.{IsIn-get_or, half-code}
 use Rattle.euler_operators.specs.declared.Op.TheVariants.{Mev}
 use Rattle.euler_laws.specs.Laws.{effects}
-use Rattle.shapes.specs.Common.{start, Taken, riser}
+use Rattle.shapes.specs.Common.{AreLeft, start, Taken, riser}
 use Rattle.sweeps_laws.specs.prism.SweepOps.{raise_item, close, close_last, rounds, loop_ops}
 use Rattle.sweeps_laws.proofs.prism.Sides.{half_there, two_items}
 use Rattle.sweeps_laws.proofs.prism.Turns.{turn_half, turn_range, raise_accepted, close_accepted, turn_is, last_accepted, last_is}
 use Rattle.sweeps_laws.proofs.prism.Loops.{first_accepted}
-use Rattle.sweeps_laws.specs.prism.Ready.{Ready}
+use Rattle.sweeps_laws.specs.prism.Ready.{Ready, needed_for_sides}
 
 -- the operator that raises an item
 pub same_raise : (M : Model) (c : Taken) (d : Point) (item : HalfEdge) (i : ℕ) (edge : HalfEdge) (p : Point) → edge ≡ half (plus (riser c.edge i)) → p ≡ moved (start M (code item)) d
     → Mev (At item) (At item) edge (c.vertex + 1 + i) p ≡ raise_item M c d (code item) i
 same_raise M c d item i edge p e q = λ j. Mev (At (sym (half-code item) j)) (At (sym (half-code item) j)) (e j) (c.vertex + 1 + i) (q j)
-
--- numbers are left for so many items
-pub record HasRoom (c : Taken) (n : ℕ) : Type 0 where
-  pub faces : c.face + n ≤ 1000000
-  pub loops : c.loop + n ≤ 1000000
-  pub edges : c.edge + 2 * n ≤ 1000000
-  pub vertices : c.vertex + n ≤ 1000000
 
 module _ (M : Model) (c : Taken) (f l : ℕ) (d : Point) (hs : List ℕ) (w : Ready M c f l d hs) (items : List HalfEdge) (are : map code items ≡ hs) where
   pub how_many : length items ≡ length hs
@@ -31,8 +24,8 @@ module _ (M : Model) (c : Taken) (f l : ℕ) (d : Point) (hs : List ℕ) (w : Re
     length_mapped [] = λ i. zero
     length_mapped (x ∷ xs) = ap suc (length_mapped xs)
 
-  pub has_room : (n : ℕ) → n ≡ length items → HasRoom c n
-  has_room n e = subst (HasRoom c) (sym (e ∙ how_many)) (record { faces = w.faces_left; loops = w.loops_left; edges = w.edges_left; vertices = w.vertices_left })
+  pub has_room : (n : ℕ) → n ≡ length items → AreLeft c (needed_for_sides n)
+  has_room n e = subst (λ k. AreLeft c (needed_for_sides k)) (sym (e ∙ how_many)) w.left
 
   pub item_is : (i : ℕ) (h : HalfEdge) → i < length hs → h ≡ get_or items i h → code h ≡ get_or hs i 0
   item_is i h lt e = ap code e ∙ sym (get_or-map code items i h 0 (let n = how_many in omega arith)) ∙ ap (λ xs. get_or xs i 0) are

@@ -4,7 +4,7 @@ use Rattle.std.proofs.lemmas.Bool.Decides.{nat_tests, eqb_tells}
 use Rattle.euler_operators.specs.Common.{IsIn, first_where, Model, is_number, Condition, AllHold, first_refusal, is_lone, lists}
 use Rattle.euler_operators.proofs.Common.{tick_other}
 use Rattle.euler_operators.specs.declared.Refusal.{Refusal}
-use Rattle.shapes.specs.Common.{least_lone, first_such, found, Taken, numbers_left}
+use Rattle.shapes.specs.Common.{least_lone, first_such, found, AreLeft, Needed, Taken, numbers_left}
 
 -- the refusal of lists of conditions, one after the other
 pub first_refusal-append : (cs ds : List Condition) → first_refusal cs ≡ None → first_refusal (cs ++ ds) ≡ first_refusal ds
@@ -48,23 +48,17 @@ none_such p (n ∷ ns) e x i = elim (p n) as (λ b. p n ≡ b → cond b (Some n
   ]
 ] refl e
 
--- so many numbers are left
-pub record Left (c : Taken) (f l e v : ℕ) : Type 0 where
-  pub faces : c.face + f ≤ 1000000
-  pub loops : c.loop + l ≤ 1000000
-  pub edges : c.edge + e ≤ 1000000
-  pub vertices : c.vertex + v ≤ 1000000
-
-pub numbers_are_left : (c : Taken) (f l e v : ℕ) → AllHold (numbers_left c (record { faces = f; loops = l; edges = e; vertices = v })) → Left c f l e v
-numbers_are_left c f l e v h = record {
-  faces = leb-true (c.face + f) 1000000 h.0;
-  loops = leb-true (c.loop + l) 1000000 h.1.0;
-  edges = leb-true (c.edge + e) 1000000 h.1.1.0;
-  vertices = leb-true (c.vertex + v) 1000000 h.1.1.1.0;
+-- numbers are left exactly where the conditions hold
+pub numbers_are_left : (c : Taken) (n : Needed) → AllHold (numbers_left c n) → AreLeft c n
+numbers_are_left c n h = record {
+  faces = leb-true (c.face + n.faces) 1000000 h.0;
+  loops = leb-true (c.loop + n.loops) 1000000 h.1.0;
+  edges = leb-true (c.edge + n.edges) 1000000 h.1.1.0;
+  vertices = leb-true (c.vertex + n.vertices) 1000000 h.1.1.1.0;
 }
 
-pub left_numbers_hold : (c : Taken) (f l e v : ℕ) → Left c f l e v → AllHold (numbers_left c (record { faces = f; loops = l; edges = e; vertices = v }))
-left_numbers_hold c f l e v h = (le-leb _ _ h.faces, (le-leb _ _ h.loops, (le-leb _ _ h.edges, (le-leb _ _ h.vertices, tt))))
+pub left_numbers_hold : (c : Taken) (n : Needed) → AreLeft c n → AllHold (numbers_left c n)
+left_numbers_hold c n h = (le-leb _ _ h.faces, (le-leb _ _ h.loops, (le-leb _ _ h.edges, (le-leb _ _ h.vertices, tt))))
 
 -- a number above 0 and within the limit
 pub number_fits : (n : ℕ) → 1 ≤ n → n ≤ 1000000 → is_number n ≡ true

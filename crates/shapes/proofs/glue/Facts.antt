@@ -6,8 +6,8 @@ use Rattle.euler_operators.proofs.Common.{tick_same, canonical_same, canonical-r
 use Rattle.euler_operators.specs.Table as table
 use Rattle.euler_laws.proofs.Common.{all_hold, listed_as, IsIn-from_listed, loop_row, face_there, no_rings_means, not_lone_cycle, empty_is, IsLoop, loop_sound}
 use Rattle.shapes.proofs.fresh.Rows.{none_above}
-use Rattle.shapes.proofs.fresh.Tests.{none_found, none_is_lone, none_such, Left, numbers_are_left, number_fits}
-use Rattle.shapes.specs.Common.{start, finish, boundary, items_in, loops_of, faces_of_both, least_lone, first_such, taken_in, area, normal, is_flat, plane_of, rim, outline, has_repeats, is_rotation, partner, glue_conditions, glue_refusal, fresh_edge}
+use Rattle.shapes.proofs.fresh.Tests.{none_found, none_is_lone, none_such, numbers_are_left, number_fits}
+use Rattle.shapes.specs.Common.{start, finish, boundary, items_in, loops_of, faces_of_both, least_lone, first_such, AreLeft, taken_in, area, normal, is_flat, plane_of, rim, outline, has_repeats, is_rotation, partner, glue_conditions, glue_refusal, fresh_edge}
 use Rattle.shapes.proofs.glue.Facing.{Facing}
 use Rattle.shapes.proofs.glue.Points.{same_is, no_points, both_points, once, turned_list, other_list, such_is, there_and_back}
 
@@ -142,7 +142,7 @@ pub record GlueGoes (M : Model) (f g : ℕ) : Type 0 where
   pub points_f : has_repeats (outline M f) ≡ false
   pub points_g : has_repeats (outline M g) ≡ false
   pub matches : is_rotation (outline M f) (reverse (outline M g)) ≡ true
-  pub left : Left (taken_in M) 0 0 1 0
+  pub left : AreLeft (taken_in M) (record { faces = 0; loops = 0; edges = 1; vertices = 0 })
 
 pub glue_goes : (M : Model) (f g : ℕ) → glue_refusal M f g ≡ None → GlueGoes M f g
 unfolding glue_conditions
@@ -159,7 +159,7 @@ glue_goes M f g accepted = named (all_hold (glue_conditions M f g) accepted) whe
     points_f = not-true _ twice_f;
     points_g = not-true _ twice_g;
     matches = matching;
-    left = numbers_are_left (taken_in M) 0 0 1 0 room;
+    left = numbers_are_left (taken_in M) _ room;
   }
 
 module _ (M : Model) (f g : ℕ) (sound : Sound M) (accepted : glue_refusal M f g ≡ None) where

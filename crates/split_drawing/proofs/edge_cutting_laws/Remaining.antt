@@ -100,10 +100,10 @@ module _ (M : Model) (s : ℕ) (p : Plane) (N : Model) (e : ℕ) (rs : List ℕ)
   next_op q is = λ i. Mev (At (half (plus e))) (At (half (after N (minus e)))) (half (plus ((taken_in N).edge + 1))) ((taken_in N).vertex + 1) ((is ∙ (λ j. cut_between p (sym near j) (sym far j))) i)
 
   pub edge_left : (taken_in N).edge + 1 ≤ 1000000
-  edge_left = omega (arith, c.going.edges_left)
+  edge_left = omega (arith, c.going.left.edges)
 
   pub vertex_left : (taken_in N).vertex + 1 ≤ 1000000
-  vertex_left = omega (arith, c.going.vertices_left)
+  vertex_left = omega (arith, c.going.left.vertices)
 
   -- once it is cut the others remain, and its edge and vertex are counted
   module _ (K : Model) (is : K ≡ effect N (cut_edge p (growing N) e)) where

@@ -21,7 +21,7 @@ ready_alone : (p : Plane) (f : ℕ) (qs : List (ℕ × ℕ)) (d : Drawing) (n : 
 ready_alone p f qs d n w = record {
   sound = w.sound;
   fresh = w.fresh;
-  room = record { faces = omega (arith, w.room.faces); loops = omega (arith, w.room.loops); edges = omega (arith, w.room.edges) };
+  room = record { faces = omega (arith, w.room.faces); loops = omega (arith, w.room.loops); edges = omega (arith, w.room.edges); vertices = w.room.vertices };
   fit = w.fit;
   alone = w.alone;
 }

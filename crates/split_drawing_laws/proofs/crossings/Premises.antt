@@ -6,8 +6,8 @@ use Rattle.std.proofs.lemmas.Bool.{not-false}
 use Rattle.euler_operators.specs.Common.{count, tick, IsIn, Model, items_of, content, tail, face_of, loop_of, solid_of, before, faces_of, Has, Sound, HasHalf, StandsIn, Plane, IsInRange, height, opposite, are_opposite, is_on, same_point, cuts_lattice, cut_between, plus, minus, AllHold, face_at}
 use Rattle.euler_operators.proofs.Common.{count-append, tick_same, tick_other, mate_plus, mate_minus, held_row, cycle_there, plus_there, minus_there, solid_row, IsIn-filter, count-filter, filter_passes, same_as, cut_back, opposite_back, not_level, level_is, cut_fits, row_some}
 use Rattle.euler_laws.proofs.Common.{not_false, no_zero, loop_row, face_there, point_row, all_where_in, all_where_has}
-use Rattle.shapes.specs.Common.{loops_of, items_in, boundary, corners, start, finish, edges_of, first_such, taken_in, crosses, straddles, straddling_faces, crossing_edges, is_place, place_point, places, some_meet, is_touched, is_cut_often, is_crossed, is_up_and_down, sorted_pairs, pair_count, first_conditions}
-use Rattle.shapes.proofs.Common.{tail_in, none_found, none_such, Left, numbers_are_left}
+use Rattle.shapes.specs.Common.{AreLeft, Needed, loops_of, items_in, boundary, corners, start, finish, edges_of, first_such, taken_in, crosses, straddles, straddling_faces, crossing_edges, is_place, place_point, places, some_meet, is_touched, is_cut_often, is_crossed, is_up_and_down, sorted_pairs, pair_count, first_conditions}
+use Rattle.shapes.proofs.Common.{tail_in, none_found, none_such, numbers_are_left}
 use Rattle.solid_measure_laws.proofs.Cuts.{cut_on}
 use Rattle.split_drawing_laws.proofs.crossings.Runs.{Crossing}
 
@@ -97,6 +97,10 @@ pub crossing_is_place : (M : Model) (p : Plane) (h : ℕ) → crosses M p h ≡ 
 unfolding is_place
 crossing_is_place M p h x = ap (λ b. b || (is_on p (start M h) && are_opposite p (start M (before M h)) (finish M h))) x
 
+-- what it takes to cut the edges and draw the faces
+abbrev pub needed_for_rewritings : Model → ℕ → Plane → Needed
+needed_for_rewritings M s p = let e = length (crossing_edges M p s) in let n = pair_count M p (straddling_faces M p s) in record { faces = n; loops = n; edges = e + n; vertices = e }
+
 -- ---- what the conditions say
 
 pub record Cuttable (M : Model) (s : ℕ) (p : Plane) : Type 0 where
@@ -104,8 +108,7 @@ pub record Cuttable (M : Model) (s : ℕ) (p : Plane) : Type 0 where
   pub untouched : (f : ℕ) → IsIn f (straddling_faces M p s) → is_touched M p f ≡ false
   pub not_often : (f : ℕ) → IsIn f (straddling_faces M p s) → is_cut_often M p f ≡ false
   pub uncrossed : (f : ℕ) → IsIn f (straddling_faces M p s) → is_crossed M p f ≡ false
-  pub left : Left (taken_in M) (pair_count M p (straddling_faces M p s)) (pair_count M p (straddling_faces M p s))
-      (length (crossing_edges M p s) + pair_count M p (straddling_faces M p s)) (length (crossing_edges M p s))
+  pub left : AreLeft (taken_in M) (needed_for_rewritings M s p)
 
 module _ (M : Model) (sound : Sound M) (s : ℕ) (p : Plane) where
   pub edge_facts : (e : ℕ) → IsIn e (crossing_edges M p s) → Has M.edges e × (solid_of M (face_at M (plus e)) ≡ s) × (crosses M p (plus e) ≡ true)
@@ -131,10 +134,9 @@ module _ (M : Model) (sound : Sound M) (s : ℕ) (p : Plane) where
     unfolding first_conditions
     none_crossed = none_found (first_such (is_crossed M p) (straddling_faces M p s)) hold.1.1.1.1.1.1.1.1.1.1.1.1.1.1.1.0
 
-    numbers : Left (taken_in M) (pair_count M p (straddling_faces M p s)) (pair_count M p (straddling_faces M p s))
-        (length (crossing_edges M p s) + pair_count M p (straddling_faces M p s)) (length (crossing_edges M p s))
+    numbers : AreLeft (taken_in M) (needed_for_rewritings M s p)
     unfolding first_conditions
-    numbers = grind (arith, numbers_are_left)
+    numbers = numbers_are_left (taken_in M) _ hold.1.1.1.1.1.1.1.1.1.1.1.1.1.1.1.1
 
     pub cuttable : Cuttable M s p
     cuttable = grind (arith, not-false, none_such, none_off, none_touched, none_often, none_crossed, numbers)

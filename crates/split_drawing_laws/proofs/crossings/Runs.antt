@@ -6,7 +6,7 @@ use Rattle.euler_operators.proofs.Common.{tick_same, tick_other, plus_row, minus
 use Rattle.euler_operators.specs.Table as table
 use Rattle.euler_laws.specs.Laws.{AreAccepted, effects}
 use Rattle.shapes.proofs.Common.{none_above, number_fits}
-use Rattle.shapes.specs.Common.{start, finish, taken_in, Growing, crosses, next_cut, all_cut}
+use Rattle.shapes.specs.Common.{AreLeft, Needed, start, finish, taken_in, Growing, crosses, next_cut, all_cut}
 use Rattle.split_drawing_laws.specs.crossings.CrossingOps.{ops_from}
 use Rattle.split_drawing_laws.specs.crossings.Kept.{Kept}
 use Rattle.split_drawing_laws.proofs.crossings.Steps.{CutGoes, cut_accepted, cut_sound, cut_keeps, edge_other, point_new, tail_old, tail_new, tail_other, taken_then}
@@ -114,14 +114,17 @@ module _ (M N : Model) (p : Plane) (ds : List ℕ) (sound : Sound M) (a : AreCut
 
 -- ---- all of a list
 
+-- an edge and a vertex for each of n edges that are cut
+abbrev pub needed_for_cuts : ℕ → Needed
+needed_for_cuts n = record { faces = 0; loops = 0; edges = n; vertices = n }
+
 -- the model of g is M with the edges of ds cut, and those of rs are still to be cut
 pub record Going (M : Model) (p : Plane) (g : Growing) (ds rs : List ℕ) : Type 0 where
   pub cut : AreCut M g.model p ds
   pub counted : g.taken ≡ taken_in g.model
   pub crossing : (x : ℕ) → IsIn x rs → Crossing M p x
   pub apart : (x : ℕ) → count x ds + count x rs ≤ 1
-  pub edges_left : g.taken.edge + length rs ≤ 1000000
-  pub vertices_left : g.taken.vertex + length rs ≤ 1000000
+  pub left : AreLeft g.taken (needed_for_cuts (length rs))
 
 -- its operators are accepted in turn, all its edges are cut then, and the counters are right
 pub record Gone (M : Model) (p : Plane) (g : Growing) (ds rs : List ℕ) : Type 0 where
@@ -153,10 +156,10 @@ module _ (M : Model) (p : Plane) (sound : Sound M) (g : Growing) (ds : List ℕ)
   vertex_free_now = none_above g.model.vertices (g.taken.vertex + 1) vertex_above
 
   edge_fits_now : IsTrue (is_number (g.taken.edge + 1))
-  edge_fits_now = number_fits (g.taken.edge + 1) (omega arith) (omega (arith, w.edges_left))
+  edge_fits_now = number_fits (g.taken.edge + 1) (omega arith) (omega (arith, w.left.edges))
 
   vertex_fits_now : IsTrue (is_number (g.taken.vertex + 1))
-  vertex_fits_now = number_fits (g.taken.vertex + 1) (omega arith) (omega (arith, w.vertices_left))
+  vertex_fits_now = number_fits (g.taken.vertex + 1) (omega arith) (omega (arith, w.left.vertices))
 
   pub goes_now : CutGoes g.model e (g.taken.edge + 1) (g.taken.vertex + 1) (cut_at g.model p e)
   goes_now = goes M g.model p ds sound w.cut e (g.taken.edge + 1) (g.taken.vertex + 1) crossing_now uncut_now edge_free_now vertex_free_now edge_fits_now vertex_fits_now
@@ -177,8 +180,8 @@ module _ (M : Model) (p : Plane) (sound : Sound M) (g : Growing) (ds : List ℕ)
         ∙ ap taken_in (sym next_model);
     crossing = λ x i. w.crossing x (omega (arith, i));
     apart = λ x. omega (arith, w.apart x);
-    edges_left = subst (λ c. c.edge + length rs ≤ 1000000) (sym next_taken) (omega (arith, w.edges_left));
-    vertices_left = subst (λ c. c.vertex + length rs ≤ 1000000) (sym next_taken) (omega (arith, w.vertices_left));
+    left = subst (λ c. AreLeft c (needed_for_cuts (length rs))) (sym next_taken)
+        (record { faces = w.left.faces; loops = w.left.loops; edges = omega (arith, w.left.edges); vertices = omega (arith, w.left.vertices) });
   }
 
 pub all_gone : (M : Model) (p : Plane) → Sound M → (g : Growing) (ds rs : List ℕ) → Going M p g ds rs → Gone M p g ds rs

@@ -5,14 +5,13 @@ use Rattle.euler_operators.specs.Common.{Plane, IsApart, Model, faces_of}
 use Rattle.euler_operators.proofs.Common.{count-filter}
 use Rattle.euler_laws.proofs.Common.{all_where-rises, counted_once}
 use Rattle.shapes.proofs.Common.{none_above, length-sorted, length-in_pairs}
-use Rattle.shapes.specs.Common.{taken_in, straddles, straddling_faces, places, sorted_pairs, place_pairs, pair_count, drawn_pairs, all_pairs}
-use Rattle.split_drawing_laws.specs.drawings.DrawnIn.{Fresh}
+use Rattle.shapes.specs.Common.{AreFree, taken_in, straddles, straddling_faces, places, sorted_pairs, place_pairs, pair_count, drawn_pairs, all_pairs}
 use Rattle.split_drawing_laws.specs.drawings.Pairs.{pairs_in}
 
 -- above the greatest numbers in use all are free
-pub fresh_taken : (M : Model) → Fresh M (taken_in M)
+pub fresh_taken : (M : Model) → AreFree M (taken_in M)
 unfolding taken_in
-fresh_taken M = record { faces = none_above M.faces; loops = none_above M.loops; edges = none_above M.edges }
+fresh_taken M = record { faces = none_above M.faces; loops = none_above M.loops; edges = none_above M.edges; vertices = none_above M.vertices }
 
 -- no face straddles twice
 pub straddling_apart : (M : Model) (p : Plane) (s : ℕ) → IsApart (straddling_faces M p s)

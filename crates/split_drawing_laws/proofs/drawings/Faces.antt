@@ -2,9 +2,9 @@
 use Rattle.std.proofs.Common.{◌≡◌, ℕ, suc, ◌+◌, Bool, true, false, cond, nat_eq, nat_lt, ◌&&◌, List, [], ◌∷◌, length, refl, sym, ap, ◌∙◌, subst, arith, eqb-true}
 use Rattle.euler_operators.specs.Common.{Plane, Model, content, has_rings, face_at, ring_in}
 use Rattle.euler_operators.specs.declared.Op.{Op}
-use Rattle.shapes.specs.Common.{vertices_on, some_above, Drawing, stuck_at, all_joined, ring_free, all_drawn, rings_above, with_rings, drawn_between}
+use Rattle.shapes.specs.Common.{AreFree, AreLeft, vertices_on, some_above, Drawing, stuck_at, all_joined, ring_free, all_drawn, rings_above, with_rings, drawn_between}
 use Rattle.split_drawing_laws.specs.drawings.DrawingOps.{draw_ops, ring_ops, share_ops, drawn_ops, join_ops, face_ops}
-use Rattle.split_drawing_laws.specs.drawings.DrawnIn.{DrawnIn, Fresh, PairsHaveRoom}
+use Rattle.split_drawing_laws.specs.drawings.DrawnIn.{DrawnIn, needed_for_pairs}
 use Rattle.split_drawing_laws.specs.drawings.Pairs.{Fits, AllFit}
 use Rattle.split_drawing_laws.proofs.drawings.Drawn.{CanDraw, CanJoin, face_drawn, loops_joined}
 use Rattle.split_drawing_laws.proofs.drawings.Pairs.{none_joined, joined_drawn, drawn_newer}
@@ -28,8 +28,8 @@ leading_on M f b d ops e = grind arith
 pub record Gone (d D : Drawing) (f : ℕ) (ops : List Op) (n : ℕ) : Type 0 where
   pub leads : Leads d.model D.model ops
   pub drawn : DrawnIn d.model D.model f
-  pub fresh : Fresh D.model D.taken
-  pub room : PairsHaveRoom D.taken n
+  pub fresh : AreFree D.model D.taken
+  pub room : AreLeft D.taken (needed_for_pairs n)
 
 module _ (p : Plane) (f : ℕ) (qs : List (ℕ × ℕ)) (d : Drawing) (n : ℕ) (w : Ready p f qs d n) where
   abbrev begun : Drawing
@@ -71,7 +71,7 @@ module _ (p : Plane) (f : ℕ) (q : ℕ × ℕ) (d : Drawing) (n : ℕ) (w : Rea
   pub drawn_is : all_drawn f (ring_free f (q ∷ []) (all_joined (q ∷ []) d)) ≡ cut_off held q
   drawn_is = ap (λ x. all_drawn f (ring_free f (q ∷ []) x)) (join_next_one (record d { left = [] }) q w.alone) ∙ draw_next_one f held q w.alone
 
-  room_one : PairsHaveRoom d.taken (suc n)
+  room_one : AreLeft d.taken (needed_for_pairs (suc n))
   room_one = room_as d.taken (length (q ∷ []) + n) (suc n) (omega arith) w.room
 
   cut_newer : Newer d.model (cut_off held q).model f (cut_off held q).taken.face
@@ -95,7 +95,7 @@ module _ (p : Plane) (f : ℕ) (qs : List (ℕ × ℕ)) (d : Drawing) (n : ℕ) 
   pub last : Going d.model f L [] n
   last = (draws p f qs d n w).state
 
-  room_last : PairsHaveRoom L.taken n
+  room_last : AreLeft L.taken (needed_for_pairs n)
   room_last = room_as L.taken (0 + n) n (omega arith) last.room
 
   moved : length qs ≡ 1 → Moved d.model L.model f L.taken.face (rings_above L.model p f) L.taken
@@ -106,7 +106,7 @@ module _ (p : Plane) (f : ℕ) (qs : List (ℕ × ℕ)) (d : Drawing) (n : ℕ) 
 
   abbrev Shared : Bool → Type 0
   Shared b = let S = cond b (record L { model = with_rings L.model (rings_above L.model p f) L.taken.face }) L in
-      Leads L.model S.model (cond b (ring_ops (rings_above L.model p f) L.taken.face) []) × DrawnIn d.model S.model f × Fresh S.model S.taken × PairsHaveRoom S.taken n
+      Leads L.model S.model (cond b (ring_ops (rings_above L.model p f) L.taken.face) []) × DrawnIn d.model S.model f × AreFree S.model S.taken × AreLeft S.taken (needed_for_pairs n)
 
   shared : (b : Bool) → nat_eq (length qs) 1 ≡ b → Shared b
   shared true e = let m = moved (eqb-true (length qs) 1 e) in (m.leads, m.drawn, m.fresh, room_last)

@@ -6,8 +6,8 @@ use Rattle.euler_operators.specs.Table as table
 use Rattle.euler_operators.specs.Common.{Model, loop_of, face_of, is_number, is_ring_of, Sound, HasHalf, face_at, effect}
 use Rattle.euler_operators.proofs.Common.{row_of, no_row, row_elsewhere}
 use Rattle.euler_laws.proofs.Common.{half_face, ring_is}
-use Rattle.shapes.specs.Common.{Taken, in_one_loop, join_pair, join_edge, draw_edge}
-use Rattle.split_drawing_laws.specs.drawings.DrawnIn.{JoinedIn, Stays, DrawnIn, Fresh}
+use Rattle.shapes.specs.Common.{AreFree, Taken, in_one_loop, join_pair, join_edge, draw_edge}
+use Rattle.split_drawing_laws.specs.drawings.DrawnIn.{JoinedIn, Stays, DrawnIn}
 use Rattle.split_drawing_laws.specs.drawings.Pairs.{Fits}
 use Rattle.split_drawing_laws.proofs.drawings.Drawn.{CanDraw, draw_accepted, draw_sound, CanJoin, join_accepted, join_sound, face_drawn, loops_joined}
 use Rattle.split_drawing_laws.proofs.drawings.Stays.{draw_stays, draw_beside, draw_within, draw_solid, draw_has, draw_free, join_stays, join_beside, join_faces, join_free, stays_on}
@@ -79,15 +79,16 @@ module _ (M N : Model) (f : ℕ) (q : ℕ × ℕ) (e : ℕ) (joined : JoinedIn M
   pub pair_joined : JoinedIn M (effect N (join_pair N q e)) f
   pair_joined = joined_either (λ X. JoinedIn M X f) joined_on
 
-  fresh_on : (c d : ℕ) → CanJoin N c d e → (t : Taken) → t.edge < e → Fresh N t → Fresh (loops_joined N c d e) (record t { edge = e })
+  fresh_on : (c d : ℕ) → CanJoin N c d e → (t : Taken) → t.edge < e → AreFree N t → AreFree (loops_joined N c d e) (record t { edge = e })
   fresh_on c d can t less w = record {
     faces = λ x above. (join_free N c d e can x).0 (w.faces x above);
     loops = λ x above. (join_free N c d e can x).1 (w.loops x above);
     edges = λ x above. (join_free N c d e can x).2 above (w.edges x (omega (arith, less, above)));
+    vertices = λ x above. ap (λ t. table.get t x) (join_stays N c d e can).vertices ∙ w.vertices x above;
   }
 
-  pub pair_fresh : (t : Taken) → t.edge < e → Fresh N t → Fresh (effect N (join_pair N q e)) (record t { edge = e })
-  pair_fresh t less w = joined_either (λ X. Fresh X (record t { edge = e })) (λ c d can at to. fresh_on c d can t less w)
+  pub pair_fresh : (t : Taken) → t.edge < e → AreFree N t → AreFree (effect N (join_pair N q e)) (record t { edge = e })
+  pair_fresh t less w = joined_either (λ X. AreFree X (record t { edge = e })) (λ c d can at to. fresh_on c d can t less w)
 
 -- ---- an edge drawn between a pair
 
@@ -139,11 +140,12 @@ module _ (M N : Model) (f : ℕ) (q : ℕ × ℕ) (e g l : ℕ) (sound : Sound M
         ];
   }
 
-  pub drawn_fresh : (t : Taken) → t.edge < e → t.face < g → t.loop < l → Fresh N t → Fresh (face_drawn N q.0 q.1 e g l) (record t { face = g; loop = l; edge = e })
+  pub drawn_fresh : (t : Taken) → t.edge < e → t.face < g → t.loop < l → AreFree N t → AreFree (face_drawn N q.0 q.1 e g l) (record t { face = g; loop = l; edge = e })
   drawn_fresh t a b c w = record {
     faces = λ x above. (draw_free N q.0 q.1 e g l pair_can x).0 above (w.faces x (omega (arith, b, above)));
     loops = λ x above. (draw_free N q.0 q.1 e g l pair_can x).1 above (w.loops x (omega (arith, c, above)));
     edges = λ x above. (draw_free N q.0 q.1 e g l pair_can x).2 above (w.edges x (omega (arith, a, above)));
+    vertices = λ x above. ap (λ t. table.get t x) (draw_stays N q.0 q.1 e g l pair_can).vertices ∙ w.vertices x above;
   }
 
   -- where nothing was drawn before, the new face is one of f's solid

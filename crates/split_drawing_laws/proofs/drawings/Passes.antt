@@ -3,9 +3,9 @@ use Rattle.std.proofs.Common.{◌≡◌, ◌≢◌, ℕ, suc, ◌+◌, ◌<◌, 
 use Rattle.euler_operators.specs.Table as table
 use Rattle.euler_operators.specs.Common.{Model, is_number, Sound, face_at, effect}
 use Rattle.shapes.proofs.Common.{number_fits}
-use Rattle.shapes.specs.Common.{Taken, Drawing, in_one_loop, join_next, draw_next, stuck_at, join_pair, draw_pair}
+use Rattle.shapes.specs.Common.{AreLeft, Taken, Drawing, in_one_loop, join_next, draw_next, stuck_at, join_pair, draw_pair}
 use Rattle.split_drawing_laws.specs.drawings.DrawingOps.{join_ops, draw_ops}
-use Rattle.split_drawing_laws.specs.drawings.DrawnIn.{PairsHaveRoom}
+use Rattle.split_drawing_laws.specs.drawings.DrawnIn.{needed_for_pairs}
 use Rattle.split_drawing_laws.specs.drawings.Pairs.{Fits, AllFit}
 use Rattle.split_drawing_laws.specs.drawings.Passing.{Joining, Going}
 use Rattle.split_drawing_laws.proofs.drawings.Drawn.{CanDraw, CanJoin, face_drawn, loops_joined}
@@ -20,11 +20,11 @@ all_fit_last : (M : Model) (f : ℕ) (qs : List (ℕ × ℕ)) (q : ℕ × ℕ) �
 all_fit_last M f [] q a b = (b, tt)
 all_fit_last M f (r ∷ qs) q a b = (a.0, all_fit_last M f qs q a.1 b)
 
-pub room_as : (c : Taken) (a b : ℕ) → a ≡ b → PairsHaveRoom c a → PairsHaveRoom c b
-room_as c a b e = subst (PairsHaveRoom c) e
+pub room_as : (c : Taken) (a b : ℕ) → a ≡ b → AreLeft c (needed_for_pairs a) → AreLeft c (needed_for_pairs b)
+room_as c a b e = subst (λ n. AreLeft c (needed_for_pairs n)) e
 
 -- the next edge, face and loop
-module _ (c : Taken) (n : ℕ) (room : PairsHaveRoom c (suc n)) where
+module _ (c : Taken) (n : ℕ) (room : AreLeft c (needed_for_pairs (suc n))) where
   pub edge_fits : IsTrue (is_number (c.edge + 1))
   edge_fits = number_fits (c.edge + 1) (omega arith) (omega (arith, room.edges))
 
@@ -34,11 +34,11 @@ module _ (c : Taken) (n : ℕ) (room : PairsHaveRoom c (suc n)) where
   pub loop_fits : IsTrue (is_number (c.loop + 1))
   loop_fits = number_fits (c.loop + 1) (omega arith) (omega (arith, room.loops))
 
-  room_joined : PairsHaveRoom (record c { edge = c.edge + 1 }) n
-  room_joined = record { faces = omega (arith, room.faces); loops = omega (arith, room.loops); edges = omega (arith, room.edges) }
+  room_joined : AreLeft (record c { edge = c.edge + 1 }) (needed_for_pairs n)
+  room_joined = record { faces = omega (arith, room.faces); loops = omega (arith, room.loops); edges = omega (arith, room.edges); vertices = room.vertices }
 
-  room_drawn : PairsHaveRoom (record c { face = c.face + 1; loop = c.loop + 1; edge = c.edge + 1 }) n
-  room_drawn = record { faces = omega (arith, room.faces); loops = omega (arith, room.loops); edges = omega (arith, room.edges) }
+  room_drawn : AreLeft (record c { face = c.face + 1; loop = c.loop + 1; edge = c.edge + 1 }) (needed_for_pairs n)
+  room_drawn = record { faces = omega (arith, room.faces); loops = omega (arith, room.loops); edges = omega (arith, room.edges); vertices = room.vertices }
 
 next_above : (a : ℕ) → a < a + 1
 next_above a = omega arith
@@ -58,7 +58,7 @@ module _ (M : Model) (f : ℕ) (d : Drawing) (q : ℕ × ℕ) (qs : List (ℕ ×
   abbrev Next : Drawing → Type 0
   Next x = Leads d.model x.model (cond (in_one_loop d.model q) [] (join_pair d.model q (d.taken.edge + 1) ∷ [])) × Joining M f x qs n
 
-  room_now : PairsHaveRoom d.taken (suc (length d.left + length qs + n))
+  room_now : AreLeft d.taken (needed_for_pairs (suc (length d.left + length qs + n)))
   room_now = room_as d.taken (length d.left + length (q ∷ qs) + n) (suc (length d.left + length qs + n)) (omega arith) w.room
 
   kept : in_one_loop d.model q ≡ true → Next (join_next d q)
@@ -136,7 +136,7 @@ module _ (M : Model) (f : ℕ) (sound : Sound M) (d : Drawing) (q : ℕ × ℕ) 
   abbrev After : Drawing → Type 0
   After x = Leads d.model x.model (cond (in_one_loop d.model q) (draw_pair d.taken q ∷ []) []) × Going M f x qs n
 
-  pub room_here : PairsHaveRoom d.taken (suc (length qs + n))
+  pub room_here : AreLeft d.taken (needed_for_pairs (suc (length qs + n)))
   room_here = room_as d.taken (length (q ∷ qs) + n) (suc (length qs + n)) (omega arith) w.room
 
   left_out : in_one_loop d.model q ≡ false → After (draw_next f d q)

@@ -6,8 +6,8 @@ use Rattle.euler_operators.specs.Common.{Model, holds, content, loop_of, face_of
 use Rattle.euler_operators.specs.Table as table
 use Rattle.euler_operators.proofs.Common.{same_content, same_face, same_outer, loop_there, same_solid, row_elsewhere, no_row, tick_same, tick_other}
 use Rattle.euler_laws.proofs.Common.{no_rings_means}
-use Rattle.shapes.specs.Common.{Drawing, join_next, draw_next, stuck_at, all_joined, ring_free, all_drawn, rings_above, with_rings, rings_shared, drawn_between, FacePairs, next_drawn, vertices_on, some_above}
-use Rattle.split_drawing_laws.specs.drawings.DrawnIn.{Stays, PairsHaveRoom, DrawnIn}
+use Rattle.shapes.specs.Common.{AreLeft, Drawing, join_next, draw_next, stuck_at, all_joined, ring_free, all_drawn, rings_above, with_rings, rings_shared, drawn_between, FacePairs, next_drawn, vertices_on, some_above}
+use Rattle.split_drawing_laws.specs.drawings.DrawnIn.{Stays, DrawnIn, needed_for_pairs}
 use Rattle.split_drawing_laws.specs.drawings.Pairs.{AllFit, pairs_in}
 use Rattle.split_drawing_laws.specs.drawings.Passing.{Joining, Going, Ready, Drawable}
 use Rattle.split_drawing_laws.proofs.drawings.Pairs.{was_free, none_joined, joined_drawn, pair_can}
@@ -123,7 +123,7 @@ module _ (B : Model) (side : ℕ → Bool) (p : Plane) (f : ℕ) (q : ℕ × ℕ
   shared_is : (drawn_between p f (q ∷ []) d).model ≡ with_rings K (rings_above K p f) g
   shared_is = ap (λ x. (rings_shared p f (q ∷ []) x).model) (drawn_is p f q d n w)
 
-  room_one : PairsHaveRoom d.taken (suc n)
+  room_one : AreLeft d.taken (needed_for_pairs (suc n))
   room_one = room_as d.taken (length (q ∷ []) + n) (suc n) (omega arith) w.room
 
   g_free : table.get X.faces g ≡ None

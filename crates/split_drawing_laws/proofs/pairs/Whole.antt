@@ -6,9 +6,9 @@ use Rattle.euler_operators.specs.Common.{Plane, Model, tail, loop_of, face_of, o
 use Rattle.euler_operators.proofs.Common.{tick_same, not_or_fails, count-filter}
 use Rattle.euler_laws.specs.Laws.{AreAccepted, effects}
 use Rattle.euler_laws.proofs.Common.{AreAccepted-append, effects-append, listed-from_in, IsIn-from_listed}
-use Rattle.shapes.specs.Common.{Taken, Growing, growing, taken_in, straddling_faces, crossing_edges, pair_count, is_place, places, loop_is_cut, is_cut_often, sorted, sorted_pairs, place_pairs, next_cut, all_cut, with_crossings, straddling_pairs, from_place, drawn_pairs, all_pairs, with_drawings, loops_of, boundary}
-use Rattle.shapes.proofs.Common.{Left, different_items, loops_of_apart, count-sorted, length-sorted}
-use Rattle.split_drawing_laws.specs.drawings.DrawnIn.{PairsHaveRoom, Fresh}
+use Rattle.shapes.specs.Common.{AreLeft, AreFree, Taken, Growing, growing, taken_in, straddling_faces, crossing_edges, is_place, places, loop_is_cut, is_cut_often, sorted, sorted_pairs, place_pairs, next_cut, all_cut, with_crossings, straddling_pairs, from_place, drawn_pairs, all_pairs, with_drawings, loops_of, boundary}
+use Rattle.shapes.proofs.Common.{different_items, loops_of_apart, count-sorted, length-sorted}
+use Rattle.split_drawing_laws.specs.drawings.DrawnIn.{needed_for_pairs}
 use Rattle.split_drawing_laws.specs.drawings.Pairs.{pairs_in, Fits, AllFit, LoneInOneLoop, FacesFit}
 use Rattle.split_drawing_laws.specs.crossings.AtPlace.{AtPlace}
 use Rattle.split_drawing_laws.specs.crossings.CrossingOps.{crossing_ops}
@@ -18,7 +18,7 @@ use Rattle.split_drawing_laws.specs.drawings.Laws.{CanBeDrawn}
 use Rattle.split_drawing_laws.specs.pairs.Laws.{rewriting_ops}
 use Rattle.split_drawing_laws.proofs.drawings.Counted.{pairs_counted, fresh_taken, straddling_apart, faces_are}
 use Rattle.split_drawing_laws.proofs.crossings.Whole.{at_place, item_face, can_cut, crossings_accepted, crossings_made, crossings_sound, crossings_counted, crossings_keep}
-use Rattle.split_drawing_laws.proofs.crossings.Premises.{Cuttable, face_facts}
+use Rattle.split_drawing_laws.proofs.crossings.Premises.{Cuttable, needed_for_rewritings, face_facts}
 use Rattle.split_drawing_laws.proofs.drawings.Whole.{drawing_accepted, drawing_made, drawing_sound}
 use Rattle.split_drawing_laws.proofs.pairs.Sorted.{sorted_apart, all_paired, between, drawn, all_fit, lone_in_loop, points_apart}
 use Rattle.split_drawing_laws.proofs.pairs.LoopPlaces.{places_even, two_outer, IsEven}
@@ -28,6 +28,7 @@ pub record Grown (c d : Taken) (n : ℕ) : Type 0 where
   pub faces : d.face ≡ c.face
   pub loops : d.loop ≡ c.loop
   pub edges : d.edge ≡ c.edge + n
+  pub vertices : d.vertex ≡ c.vertex + n
 
 module _ (p : Plane) where
   next_taken : (g : Growing) (e : ℕ) → (next_cut p g e).taken ≡ record g.taken { edge = g.taken.edge + 1; vertex = g.taken.vertex + 1 }
@@ -35,14 +36,12 @@ module _ (p : Plane) where
   next_taken g e = refl
 
   all_grown : (g : Growing) (es : List ℕ) → Grown g.taken (all_cut p g es).taken (length es)
-  all_grown g [] = record { faces = refl; loops = refl; edges = omega arith }
+  all_grown g [] = record { faces = refl; loops = refl; edges = omega arith; vertices = omega arith }
   all_grown g (e ∷ es) = grind (arith, next_taken, all_grown (next_cut p g e) es)
 
   module _ (M : Model) (s : ℕ) where
     -- room for the pairs that a split counts
-    pub pairs_room : Left (taken_in M) (pair_count M p (straddling_faces M p s)) (pair_count M p (straddling_faces M p s))
-        (length (crossing_edges M p s) + pair_count M p (straddling_faces M p s)) (length (crossing_edges M p s)) →
-        PairsHaveRoom (with_crossings M s p).taken (pairs_in (straddling_pairs M s p))
+    pub pairs_room : AreLeft (taken_in M) (needed_for_rewritings M s p) → AreLeft (with_crossings M s p).taken (needed_for_pairs (pairs_in (straddling_pairs M s p)))
     unfolding with_crossings
     pairs_room left = grind (arith, all_grown (growing M) (crossing_edges M p s), pairs_counted)
 
@@ -122,7 +121,7 @@ module _ (M : Model) (s : ℕ) (p : Plane) (t : ℕ) (sound : Sound M) (begins :
   pub can_be_drawn : CanBeDrawn (with_crossings M s p) (straddling_pairs M s p)
   can_be_drawn = record {
     sound = crossings_sound M s p t sound begins;
-    fresh = subst (Fresh N) (sym (crossings_counted M s p t sound begins)) (fresh_taken N);
+    fresh = subst (AreFree N) (sym (crossings_counted M s p t sound begins)) (fresh_taken N);
     room = pairs_room p M s premises.left;
     fit = faces_fit (straddling_faces M p s) (λ f i. i);
     apart = subst IsApart (sym (faces_are M N p (straddling_faces M p s))) (straddling_apart M p s);

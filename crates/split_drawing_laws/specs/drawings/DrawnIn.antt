@@ -1,8 +1,8 @@
 -- What stays while edges are drawn in a face.
-use Rattle.std.specs.Prelude.{◌≡◌, ◌≢◌, ◌⊎◌, ℕ, ◌+◌, ◌≤◌, ◌<◌, None}
+use Rattle.std.specs.Prelude.{◌≡◌, ◌≢◌, ◌⊎◌, ℕ, None}
 use Rattle.euler_operators.specs.Table as table
 use Rattle.euler_operators.specs.Common.{Model, tail, loop_of, Sound, Has, HasHalf, face_at}
-use Rattle.shapes.specs.Common.{Taken}
+use Rattle.shapes.specs.Common.{Needed}
 
 -- each half-edge stays and starts where it did, and vertices and faces stay
 pub record Stays (M N : Model) : Type 0 where
@@ -25,14 +25,6 @@ pub record DrawnIn (M N : Model) (f : ℕ) : Type 0 where
   pub beside : (h : ℕ) → HasHalf M h → face_at M h ≢ f → (loop_of N h ≡ loop_of M h) × (face_at N h ≡ face_at M h)
   pub within : (h : ℕ) → HasHalf M h → face_at M h ≡ f → (face_at N h ≡ f) ⊎ (table.get M.faces (face_at N h) ≡ None)
 
--- the numbers above those taken are free
-pub record Fresh (M : Model) (c : Taken) : Type 0 where
-  pub faces : (q : ℕ) → c.face < q → table.get M.faces q ≡ None
-  pub loops : (q : ℕ) → c.loop < q → table.get M.loops q ≡ None
-  pub edges : (q : ℕ) → c.edge < q → table.get M.edges q ≡ None
-
--- a face, a loop and an edge for each of n pairs are left
-pub record PairsHaveRoom (c : Taken) (n : ℕ) : Type 0 where
-  pub faces : c.face + n ≤ 1000000
-  pub loops : c.loop + n ≤ 1000000
-  pub edges : c.edge + n ≤ 1000000
+-- a face, a loop and an edge for each of n pairs
+abbrev pub needed_for_pairs : ℕ → Needed
+needed_for_pairs n = record { faces = n; loops = n; edges = n; vertices = 0 }

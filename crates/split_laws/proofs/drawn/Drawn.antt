@@ -1,25 +1,24 @@
 -- What the conditions of a split say once the faces are drawn: the solid can be opened along its section, and has a face on either side.
-use Rattle.std.proofs.Common.{◌≡◌, ℕ, ◌+◌, ◌*◌, ◌<◌, true, false, nat_eq, List, [], ◌++◌, length, None, IsTrue, ap, ◌∙◌, subst, arith, not, ◌&&◌, ◌||◌, is_some, unwrap_or, refl, sym, inl, inr, true≢false, append-nil, pos, int_lt}
+use Rattle.std.proofs.Common.{◌≡◌, ℕ, true, false, nat_eq, List, [], ◌++◌, length, None, IsTrue, ap, ◌∙◌, subst, arith, not, ◌&&◌, ◌||◌, is_some, unwrap_or, refl, sym, inl, inr, true≢false, append-nil, pos, int_lt}
 use Rattle.std.proofs.lemmas.Bool.{and_parts, not-true, false_from_ne_true}
 use Rattle.std.specs.List.{list_any}
 use Rattle.euler_operators.specs.Common.{Plane, Model, solid_of, is_number, faces_of, no_point, content, tail, loop_of, face_of, point_of, Sound, Has, HasHalf, AllHold, lists, face_at, is_lone, is_above, is_below, dot, direction, IsIn, edge_of, plus, minus}
 use Rattle.euler_operators.specs.Table as table
 use Rattle.euler_operators.proofs.Common.{count-filter, IsIn-filter, filter_passes, no_row, zero_first_where, first_fails, IsIn_or_not, in-holds, cycle_there, plus_there, minus_there, loop_there}
 use Rattle.euler_laws.proofs.Common.{all_hold, none_refuses, all_hold-front, all_hold-back, no_zero, all_where-rises, IsIn-from_listed, listed-from_in, halves_of_edge, loop_after, half_face, loop_row, not_lone_cycle}
-use Rattle.shapes.proofs.Common.{none_above, none_found, zero_found, Left, numbers_are_left, none_is_lone, face_of_loop}
-use Rattle.shapes.specs.Common.{least_lone, loops_of, corners, found, taken_in, reaches_above, reaches_below, face_is_above, faces_above, straddles, crossing_edges, with_crossings, Drawing, undrawn, straddling_pairs, with_drawings, below_halves, section_ends, least_branched, section_cycles, has_stray_hole, first_conditions, later_conditions, section_conditions, split_conditions, split_refusal, normal}
+use Rattle.shapes.proofs.Common.{none_found, zero_found, numbers_are_left, none_is_lone, face_of_loop}
+use Rattle.shapes.specs.Common.{AreFree, AreLeft, least_lone, loops_of, corners, found, reaches_above, reaches_below, face_is_above, faces_above, straddles, crossing_edges, with_crossings, Drawing, straddling_pairs, with_drawings, below_halves, section_ends, least_branched, section_cycles, has_stray_hole, first_conditions, later_conditions, section_conditions, split_conditions, split_refusal, normal}
 use Rattle.split_drawing_laws.specs.crossings.Laws.{CanBegin}
-use Rattle.split_drawing_laws.proofs.crossings.Whole.{crossings_counted, crossings_keep, crossings_cut, crossings_sound, same_solid, not_cut}
+use Rattle.split_drawing_laws.proofs.crossings.Whole.{crossings_keep, crossings_cut, crossings_sound, same_solid, not_cut}
 use Rattle.split_drawing_laws.proofs.crossings.Premises.{solid_facts, any_passes, tail_in_face, in_solid}
 use Rattle.split_drawing_laws.proofs.pairs.Whole.{can_be_drawn, rewritings_sound}
-use Rattle.split_drawing_laws.specs.drawings.DrawnIn.{Stays, Fresh}
+use Rattle.split_drawing_laws.specs.drawings.DrawnIn.{Stays}
 use Rattle.split_drawing_laws.specs.drawings.Laws.{CanBeDrawn}
 use Rattle.split_drawing_laws.proofs.drawings.Whole.{drawing_stays, drawing_fresh}
-use Rattle.split_drawing_laws.proofs.loop_sides.SidesWhole.{faces_go_on}
 use Rattle.split_opening_laws.specs.cycles.SectionCycles.{IsUnbranched}
 use Rattle.split_opening_laws.proofs.cycles.RisingLists.{filter_rises}
 use Rattle.split_opening_laws.specs.sections.Capped.{HasCaps}
-use Rattle.split_opening_laws.specs.Numbers.{AreFree, AreLeft}
+use Rattle.split_opening_laws.specs.Numbers.{needed_for_openings}
 use Rattle.split_opening_laws.specs.sections.InTurn.{CanBeOpenedInTurn}
 use Rattle.split_opening_laws.proofs.sections.InTurn.{can_be_opened}
 use Rattle.split_laws.specs.drawn.Kept.{KeepsSolids, HasFace}
@@ -90,12 +89,9 @@ module _ (M : Model) (s : ℕ) (p : Plane) (t : ℕ) (sound : Sound M) (accepted
   unfolding section_conditions
   no_stray = not-true (has_stray_hole D p cycles) later.1.1.0
 
-  room : Left d.taken (length halves + length cycles) (length halves + length cycles) (2 * length halves) (length halves)
+  left : AreLeft d.taken (needed_for_openings (length halves) (length cycles))
   unfolding section_conditions
-  room = numbers_are_left d.taken (length halves + length cycles) (length halves + length cycles) (2 * length halves) (length halves) later.1.1.1
-
-  left : AreLeft d.taken (length halves) (length cycles)
-  left = record { faces = room.faces; loops = room.loops; edges = room.edges; vertices = room.vertices }
+  left = numbers_are_left d.taken _ later.1.1.1
 
   pub drawn_sound : Sound (with_drawings M s p).model
   drawn_sound = rewritings_sound M s p t sound begins
@@ -111,21 +107,9 @@ module _ (M : Model) (s : ℕ) (p : Plane) (t : ℕ) (sound : Sound M) (accepted
   unfolding with_drawings
   drawn_keeps = drawing_keeps p (with_crossings M s p) (straddling_pairs M s p) can
 
-  fresh : Fresh D d.taken
-  unfolding with_drawings
-  fresh = drawing_fresh p (with_crossings M s p) (straddling_pairs M s p) can
-
-  last_vertex : d.taken.vertex ≡ table.greatest (with_crossings M s p).model.vertices
-  unfolding with_drawings taken_in
-  last_vertex = (faces_go_on p (undrawn (with_crossings M s p)) (straddling_pairs M s p)).vertex ∙ ap (λ c. c.vertex) (crossings_counted M s p t sound begins)
-
   are_free : AreFree D d.taken
-  are_free = record {
-    faces = fresh.faces;
-    loops = fresh.loops;
-    edges = fresh.edges;
-    vertices = λ q l. ap (λ u. table.get u q) drawn_stays.vertices ∙ none_above (with_crossings M s p).model.vertices q (subst (λ n. n < q) last_vertex l);
-  }
+  unfolding with_drawings
+  are_free = drawing_fresh p (with_crossings M s p) (straddling_pairs M s p) can
 
   pub t_free : table.get (with_drawings M s p).model.solids t ≡ None
   unfolding first_conditions

@@ -7,10 +7,10 @@ use Rattle.euler_operators.specs.Common.{Plane, IsIn, count, mate, plus, Model, 
 use Rattle.euler_operators.specs.Table as table
 use Rattle.euler_operators.proofs.Common.{plus_row, minus_row, mate_plus, mate_minus, all_where_none, first_where_zero, in_use_within, get-put_here, get-put_other, count-append, tick_same, tick_other, IsIn_or_not, face_row}
 use Rattle.euler_laws.proofs.Common.{loop_row, listed_front, listed-from_in, rises_over, rises_on}
-use Rattle.shapes.specs.Common.{Taken, numbers_after, below_halves, section_cycles, is_hole, Caps, Opening, opened_along, next_opened, all_opened, both_lists, rewritten_row, renamed}
+use Rattle.shapes.specs.Common.{AreFree, AreLeft, Taken, numbers_after, below_halves, section_cycles, is_hole, Caps, Opening, opened_along, next_opened, all_opened, both_lists, rewritten_row, renamed}
 use Rattle.shapes.proofs.Common.{get-put_cases}
 use Rattle.split_opening_laws.specs.cycles.SectionCycles.{AreOf, IsUnbranched}
-use Rattle.split_opening_laws.specs.Numbers.{AreFree, AreLeft}
+use Rattle.split_opening_laws.specs.Numbers.{needed_for_openings}
 use Rattle.split_opening_laws.specs.sections.InTurn.{halves_in, AreBetween, upper_faces, CanBeOpenedInTurn}
 use Rattle.split_opening_laws.specs.strips.Opened.{CanBeOpened}
 use Rattle.split_opening_laws.specs.sections.Capped.{IsPlain, ArePlain, cap_faces, HasCaps}
@@ -33,7 +33,7 @@ above_there above s o cs w f l = w.upper_there f (listed_front above (map (λ k.
 pub can_open : (above : List ℕ) (s : ℕ) (o : Opening) (bs : List ℕ) (cs : List (List ℕ)) → CanBeOpenedInTurn above s o (bs ∷ cs) → CanBeOpened o.model above s o.taken bs
 can_open above s o bs cs w =
     let n : length (halves_in (bs ∷ cs)) ≡ length bs + length (halves_in cs) = length-append bs (halves_in cs) in
-    let l : AreLeft o.taken (length (halves_in (bs ∷ cs))) (length (bs ∷ cs)) = w.left in
+    let l : AreLeft o.taken (needed_for_openings (length (halves_in (bs ∷ cs))) (length (bs ∷ cs))) = w.left in
     record {
       sound = w.sound;
       free = w.free;
@@ -53,7 +53,7 @@ unfolding next_opened
 openings_sound above s p o bs cs w = opened_sound o.model above s o.taken bs (can_open above s o bs cs w)
 
 pub can_be_opened : (M : Model) (above : List ℕ) (s : ℕ) (c : Taken) → Sound M → AreFree M c → AreOf M above s → ((f : ℕ) → lists above f ≡ true → Has M.faces f) →
-    IsUnbranched M (below_halves M above s) → AreLeft c (length (below_halves M above s)) (length (section_cycles M (below_halves M above s))) →
+    IsUnbranched M (below_halves M above s) → AreLeft c (needed_for_openings (length (below_halves M above s)) (length (section_cycles M (below_halves M above s)))) →
     CanBeOpenedInTurn above s (record { model = M; taken = c; caps = [] }) (section_cycles M (below_halves M above s))
 can_be_opened M above s c sound free of there unbranched left =
     let halves : List ℕ = below_halves M above s in
@@ -67,14 +67,14 @@ can_be_opened M above s c sound free of there unbranched left =
     } in record {
       sound = sound;
       free = free;
-      left = subst (λ n. AreLeft c n (length cs)) (sym (cycles_long M above s sound of unbranched)) left;
+      left = subst (λ n. AreLeft c (needed_for_openings n (length cs))) (sym (cycles_long M above s sound of unbranched)) left;
       cycles = cycles_apart M above s sound of unbranched;
       upper_there = subst (λ fs. (f : ℕ) → lists fs f ≡ true → Has M.faces f) (sym (append-nil above)) there;
       upper_of_solid = subst (λ fs. (f : ℕ) → lists fs f ≡ true → solid_of M f ≡ s) (sym (append-nil above)) of;
       between = subst (λ fs. AreBetween M fs (halves_in cs)) (sym (append-nil above)) bare;
     }
 
-still_left : (c : Taken) (m n k t : ℕ) → t ≡ m + n → AreLeft c t (k + 1) → AreLeft (record { face = c.face + m + 1; loop = c.loop + m + 1; edge = c.edge + 2 * m; vertex = c.vertex + m }) n k
+still_left : (c : Taken) (m n k t : ℕ) → t ≡ m + n → AreLeft c (needed_for_openings t (k + 1)) → AreLeft (record { face = c.face + m + 1; loop = c.loop + m + 1; edge = c.edge + 2 * m; vertex = c.vertex + m }) (needed_for_openings n k)
 still_left c m n k t e l = grind arith
 
 pub others_on : (above : List ℕ) (s : ℕ) (p : Plane) (o : Opening) (bs : List ℕ) (cs : List (List ℕ)) → CanBeOpenedInTurn above s o (bs ∷ cs) → CanBeOpenedInTurn above s (next_opened p above s o bs) cs
@@ -88,7 +88,7 @@ others_on above s p o bs cs w =
     record {
       sound = then_sound;
       free = still_free above s p o bs w.free;
-      left = still_left o.taken (length bs) (length (halves_in cs)) (length cs) (length (halves_in (bs ∷ cs))) (length-append bs (halves_in cs)) (subst (AreLeft o.taken (length (halves_in (bs ∷ cs)))) (one_more cs) w.left);
+      left = still_left o.taken (length bs) (length (halves_in cs)) (length cs) (length (halves_in (bs ∷ cs))) (length-append bs (halves_in cs)) (subst (λ k. AreLeft o.taken (needed_for_openings (length (halves_in (bs ∷ cs))) k)) (one_more cs) w.left);
       cycles = cycles_stay o.model above s o.taken bs cs w.sound w.free w.cycles;
       upper_there = subst (λ gs. (f : ℕ) → lists gs f ≡ true → Has N.faces f) (sym now) (still_there o.model above s o.taken bs cs fs w.sound w.free w.cycles w.upper_there w.between then_sound);
       upper_of_solid = subst (λ gs. (f : ℕ) → lists gs f ≡ true → solid_of N f ≡ s) (sym now) (still_of_solid o.model above s o.taken bs cs fs w.sound w.free w.cycles w.upper_there w.between then_sound w.upper_of_solid);

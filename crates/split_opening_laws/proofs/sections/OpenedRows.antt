@@ -5,9 +5,8 @@ use Rattle.euler_operators.specs.Common.{count, IsIn, IsApart, canonical, mate, 
 use Rattle.euler_operators.specs.Table as table
 use Rattle.euler_operators.proofs.Common.{count-canonical, from_map, count-reverse, IsApart-map, plus_row, minus_row, mate-mate, holds_in, in-holds, face_row, content_row, tail_row, cycle_there, row_of, first_where_is, in_use_within, row_some, get-put_other, get-put_here, IsIn-map}
 use Rattle.euler_laws.proofs.Common.{halves_of_edge, mapped_some}
-use Rattle.shapes.specs.Common.{Taken, numbers_after, rewritten_row, renamed, opened_tail, opened_row, with_rim, with_copies, both_lists, opened_along}
+use Rattle.shapes.specs.Common.{AreFree, Taken, numbers_after, rewritten_row, renamed, opened_tail, opened_row, with_rim, with_copies, both_lists, opened_along}
 use Rattle.shapes.proofs.Common.{get-put_cases}
-use Rattle.split_opening_laws.specs.Numbers.{AreFree}
 use Rattle.split_opening_laws.proofs.sections.Numbered.{other_number, rim_below, rim_cases, renamed_one, renamed_not, in_numbers, numbers_in, renamed_onto, length-numbers_after}
 
 -- ---- in which faces the half-edges of a section cycle and of its copy lie, once a solid is opened along it

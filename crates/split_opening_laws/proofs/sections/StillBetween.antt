@@ -6,10 +6,9 @@ use Rattle.euler_operators.specs.Common.{count, IsIn, IsApart, mate, edge_of, Mo
 use Rattle.euler_operators.specs.Table as table
 use Rattle.euler_operators.proofs.Common.{tick_same, count-append, IsIn_or_not, IsIn-get_or, Contains-from_in, from_map, mate-mate, row_of, mate_there, mate_there as half_mate, IsIn-map, in_use_within}
 use Rattle.euler_laws.proofs.Common.{halves_of_edge, first_listed, rest_listed, other_last}
-use Rattle.shapes.specs.Common.{Taken, numbers_after, next_place, opened_along}
+use Rattle.shapes.specs.Common.{AreFree, Taken, numbers_after, next_place, opened_along}
 use Rattle.sweeps_laws.proofs.swept.Numbers.{next_within}
 use Rattle.split_opening_laws.specs.cycles.SectionCycles.{IsBelowHalf, IsSectionCycle, AreSectionCycles, AreApartCycles}
-use Rattle.split_opening_laws.specs.Numbers.{AreFree}
 use Rattle.split_opening_laws.specs.sections.InTurn.{halves_in, AreBetween}
 use Rattle.split_opening_laws.proofs.sections.OpenedRows.{solid_kept, face_kept, half_kept, tail_cases, tail_kept, half_cases, face_still, upper_row, mate_face, minus_face, plus_face}
 use Rattle.split_opening_laws.proofs.cycles.Meets.{apart_before}

@@ -1,8 +1,8 @@
 -- Solids that are opened along the cycles of a section, one after the other.
 use Rattle.std.specs.Prelude.{◌≡◌, ℕ, true, false, List, ◌++◌, map, flat_map, length}
 use Rattle.euler_operators.specs.Common.{IsIn, mate, Model, solid_of, Sound, Has, HasHalf, face_at, lists}
-use Rattle.shapes.specs.Common.{Caps, Opening}
-use Rattle.split_opening_laws.specs.Numbers.{AreFree, AreLeft}
+use Rattle.shapes.specs.Common.{AreFree, AreLeft, Caps, Opening}
+use Rattle.split_opening_laws.specs.Numbers.{needed_for_openings}
 use Rattle.split_opening_laws.specs.cycles.SectionCycles.{AreApartCycles}
 
 -- the halves of some cycles, one cycle after the other
@@ -23,7 +23,7 @@ upper_faces above ks = above ++ map (λ k. k.upper) ks
 pub record CanBeOpenedInTurn (above : List ℕ) (s : ℕ) (o : Opening) (cs : List (List ℕ)) : Type 0 where
   pub sound : Sound o.model
   pub free : AreFree o.model o.taken
-  pub left : AreLeft o.taken (length (halves_in cs)) (length cs)
+  pub left : AreLeft o.taken (needed_for_openings (length (halves_in cs)) (length cs))
   pub cycles : AreApartCycles o.model above s cs
   -- the upper faces are faces of s
   pub upper_there : (f : ℕ) → lists (upper_faces above o.caps) f ≡ true → Has o.model.faces f

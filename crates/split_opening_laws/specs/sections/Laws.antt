@@ -1,10 +1,10 @@
 -- The laws of solids opened along the cycles of a section, one after the other.
 use Rattle.std.specs.Prelude.{◌≡◌, ℕ, true, List, [], ◌∷◌, length}
 use Rattle.euler_operators.specs.Common.{Plane, Model, Sound, Has, lists, torn_edge}
-use Rattle.shapes.specs.Common.{Taken, below_halves, section_cycles, opened_along, Opening, next_opened, all_opened}
+use Rattle.shapes.specs.Common.{AreFree, AreLeft, Taken, below_halves, section_cycles, opened_along, Opening, next_opened, all_opened}
 use Rattle.split_opening_laws.specs.cycles.SectionCycles.{AreOf, IsUnbranched, AreApartCycles}
 use Rattle.split_opening_laws.specs.sections.Capped.{HasCaps}
-use Rattle.split_opening_laws.specs.Numbers.{AreFree, AreLeft}
+use Rattle.split_opening_laws.specs.Numbers.{needed_for_openings}
 use Rattle.split_opening_laws.specs.sections.InTurn.{upper_faces, CanBeOpenedInTurn}
 
 -- once the solid is opened along one of some cycles, the others are still such cycles
@@ -20,7 +20,7 @@ NumbersStayFree = (above : List ℕ) (s : ℕ) (p : Plane) (o : Opening) (bs : L
 -- where no vertex is branched, and numbers are left, a solid can be opened along the cycles of its section
 abbrev pub SectionsCanBeOpened : Type 0
 SectionsCanBeOpened = (M : Model) (above : List ℕ) (s : ℕ) (c : Taken) → Sound M → AreFree M c → AreOf M above s → ((f : ℕ) → lists above f ≡ true → Has M.faces f) →
-    IsUnbranched M (below_halves M above s) → AreLeft c (length (below_halves M above s)) (length (section_cycles M (below_halves M above s))) →
+    IsUnbranched M (below_halves M above s) → AreLeft c (needed_for_openings (length (below_halves M above s)) (length (section_cycles M (below_halves M above s)))) →
     CanBeOpenedInTurn above s (record { model = M; taken = c; caps = [] }) (section_cycles M (below_halves M above s))
 
 -- the opening along the first of them makes a sound model

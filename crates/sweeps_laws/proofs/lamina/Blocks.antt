@@ -7,9 +7,10 @@ use Rattle.euler_operators.specs.Table as table
 use Rattle.euler_operators.proofs.Common.{content_row, outer_row, plus_tail_row, and_first, and_second, add_none}
 use Rattle.euler_operators.specs.declared.Why.TheVariants.{NoFace, ZeroSweep, LoneLoop, PointRange}
 use Rattle.euler_laws.proofs.Common.{◌also◌, all_hold, none_refuses}
-use Rattle.shapes.proofs.Common.{greatest-put_last, Left, numbers_are_left, left_numbers_hold, number_fits}
-use Rattle.shapes.specs.Common.{corners, loops_of, vertices_in, vertices_on, least_lone, Taken, taken_in, numbers_left, no_such, first_such, first_far, first_repeated, lamina_conditions, lamina_model, prism_conditions, prism_refusal, vector, base_of, block_conditions, block_refusal}
+use Rattle.shapes.proofs.Common.{greatest-put_last, numbers_are_left, left_numbers_hold, number_fits}
+use Rattle.shapes.specs.Common.{AreLeft, corners, loops_of, vertices_in, vertices_on, least_lone, Taken, taken_in, numbers_left, no_such, first_such, first_far, first_repeated, lamina_conditions, lamina_model, prism_conditions, prism_refusal, vector, base_of, block_conditions, block_refusal}
 use Rattle.sweeps_laws.specs.lamina.Laws.{BlocksHaveBases, BasesRise}
+use Rattle.sweeps_laws.specs.prism.Ready.{needed_for_sides}
 use Rattle.sweeps_laws.proofs.lamina.Lists.{plus_halves}
 use Rattle.sweeps_laws.proofs.swept.Lifted.{Bounded}
 use Rattle.sweeps_laws.proofs.FromSound.{sound_bounded}
@@ -61,7 +62,7 @@ pub record BlockGoes (M : Model) (s : ℕ) (p : Point) (dx dy dz : ℤ) : Type 0
   pub high : int_le (pos 1) dz ≡ true
   pub near : is_in_range p ≡ true
   pub far : is_in_range (moved p (vector dx dy dz)) ≡ true
-  pub left : Left (taken_in M) 6 6 12 8
+  pub left : AreLeft (taken_in M) (record { faces = 6; loops = 6; edges = 12; vertices = 8 })
 
 pub block_goes : (M : Model) (s : ℕ) (p : Point) (dx dy dz : ℤ) → block_refusal M s p dx dy dz ≡ None → BlockGoes M s p dx dy dz
 unfolding block_conditions
@@ -75,7 +76,7 @@ block_goes M s p dx dy dz e = named (all_hold (block_conditions M s p dx dy dz) 
     high = z_grows;
     near = first;
     far = last;
-    left = numbers_are_left (taken_in M) 6 6 12 8 room;
+    left = numbers_are_left (taken_in M) _ room;
   }
 
 -- the coordinates of the two corners that a block names are in range
@@ -122,14 +123,14 @@ blocks_have_bases M s p dx dy dz e =
     (in_range h p.x (p.y +ℤ dy) p.z (add_none p.x) refl (add_none p.z) r.px r.qy r.pz) in
     let apart = none_repeated p b g h (other_x b p x_grows) (other_x g p x_grows) (other_y g b (λ t. y_grows (t ∙ add_none p.y)))
     (other_y h p y_grows) (other_x h b (λ t. x_grows (sym t ∙ add_none p.x))) (other_x h g (λ t. x_grows (sym t ∙ add_none p.x))) in
-    let left : Left (taken_in M) 2 2 4 4 = record { faces = omega (arith, goes.left.faces); loops = omega (arith, goes.left.loops); edges = omega (arith, goes.left.edges); vertices = omega (arith, goes.left.vertices) } in
+    let left : AreLeft (taken_in M) (record { faces = 2; loops = 2; edges = 4; vertices = 4 }) = record { faces = omega (arith, goes.left.faces); loops = omega (arith, goes.left.loops); edges = omega (arith, goes.left.edges); vertices = omega (arith, goes.left.vertices) } in
     none_refuses (lamina_conditions M s (base_of p dx dy)) (
     goes.solid_fits
     also ap not goes.solid_free
     also refl
     also ap (λ (o : Option ℕ). not (is_some o)) near
     also ap (λ (o : Option ℕ). not (is_some o)) apart
-    also left_numbers_hold (taken_in M) 2 2 4 4 left
+    also left_numbers_hold (taken_in M) _ left
     )
 
 -- ---- the lamina of four points
@@ -176,12 +177,12 @@ module _ (M : Model) (sound : Sound M) (c : Taken) (is : c ≡ taken_in M) (s : 
       (cond (not (is_in_range (moved (rows.point_at M c s ps 2 (omega arith) i) d))) (Some (c.vertex + 3)) (cond (not (is_in_range (moved (rows.point_at M c s ps 3 (omega arith) i) d))) (Some (c.vertex + 4)) None))))
       ∙ (λ i. cond (not (ra i)) (Some (c.vertex + 1)) (cond (not (rb i)) (Some (c.vertex + 2)) (cond (not (rg i)) (Some (c.vertex + 3)) (cond (not (rh i)) (Some (c.vertex + 4)) None))))
 
-  base_left : Left c 6 6 12 8 → Left (taken_in base) 4 4 8 4
+  base_left : AreLeft c (record { faces = 6; loops = 6; edges = 12; vertices = 8 }) → AreLeft (taken_in base) (needed_for_sides 4)
   unfolding taken_in
   base_left left = grind (arith, greatest-with_path, greatest-with_points, greatest-put_last)
 
   rises : (d : Point) → same_point d origin ≡ false → is_in_range (moved a d) ≡ true → is_in_range (moved b d) ≡ true → is_in_range (moved g d) ≡ true → is_in_range (moved h d) ≡ true →
-      Left c 6 6 12 8 → prism_refusal base (c.face + 1) d ≡ None
+      AreLeft c (record { faces = 6; loops = 6; edges = 12; vertices = 8 }) → prism_refusal base (c.face + 1) d ≡ None
   unfolding prism_conditions
   rises d apart ra rb rg rh left = ap (λ vs. first_refusal (swept_conditions d vs)) corners_are
       ∙ none_refuses (swept_conditions d base_vertices) (
@@ -190,7 +191,7 @@ module _ (M : Model) (sound : Sound M) (c : Taken) (is : c ≡ taken_in M) (s : 
           rows.there_one M c s ps,
           (
             ap not apart,
-            (ap (λ (o : Option ℕ). not (is_some o)) (rows.none_lone M c s ps bounded), (ap (λ (o : Option ℕ). not (is_some o)) (all_in_range d ra rb rg rh), left_numbers_hold (taken_in base) 4 4 8 4 (base_left left))),
+            (ap (λ (o : Option ℕ). not (is_some o)) (rows.none_lone M c s ps bounded), (ap (λ (o : Option ℕ). not (is_some o)) (all_in_range d ra rb rg rh), left_numbers_hold (taken_in base) (needed_for_sides 4) (base_left left))),
           ),
         ),
       )

@@ -5,8 +5,8 @@ use Rattle.euler_operators.specs.Table as table
 use Rattle.euler_operators.proofs.Common.{plus_row, mate_plus, content_row, face_row, plus_tail_row, minus_tail_row, get-put_here, get-put_other, put-put, canonical_same}
 use Rattle.euler_laws.proofs.Common.{edge_row_plus, lone_accepted, mev_accepted, mef_accepted, mvfs_accepted, Around, apart_xs}
 use Rattle.euler_laws.proofs.mev.MevLoneSound.{LoneGoes}
-use Rattle.shapes.proofs.Common.{greatest-put_last, none_above, Left, number_fits}
-use Rattle.shapes.specs.Common.{Taken, numbers_after, with_points, with_path, with_ring, lamina_at}
+use Rattle.shapes.proofs.Common.{greatest-put_last, none_above, number_fits}
+use Rattle.shapes.specs.Common.{AreLeft, Taken, numbers_after, with_points, with_path, with_ring, lamina_at}
 use Rattle.sweeps_laws.specs.lamina.Path.{out, back, path_content, path_at, first_half, second_half, first_point, next_point, last_edge}
 use Rattle.sweeps_laws.proofs.lamina.Lists.{two_halves, path_read, longer, later, ring_plus, ring_minus, out_first, plus_halves, minus_halves}
 use Rattle.sweeps_laws.proofs.prism.Steps.{spur_goes, mev_here, chord_goes, mef_here}
@@ -40,7 +40,7 @@ pub record Goes (M : Model) (c : Taken) (s : ℕ) (ps : List Point) (n : ℕ) : 
   pub solid_fits : IsTrue (is_number s)
   pub many : 3 ≤ n
   pub points_fit : (i : ℕ) → i < n → IsInRange (get_or ps i no_point)
-  pub left : Left c 2 2 n n
+  pub left : AreLeft c (record { faces = 2; loops = 2; edges = n; vertices = n })
 
 module _ (M : Model) (c : Taken) (s : ℕ) (ps : List Point) (n : ℕ) (goes : Goes M c s ps n) where
   above_face : table.greatest M.faces < c.face + 1

@@ -1,5 +1,5 @@
 -- What it says that a sweep isn't refused; and so the sweep of a face, from its first operator to the prism.
-use Rattle.std.proofs.Common.{◌≡◌, ℕ, ◌*◌, true, false, not, nat_eq, ◌&&◌, ◌||◌, [], ◌∷◌, length, Some, None, refl, ap, ◌∙◌, subst, arith}
+use Rattle.std.proofs.Common.{◌≡◌, ℕ, true, false, not, nat_eq, ◌&&◌, ◌||◌, [], ◌∷◌, length, Some, None, refl, ap, ◌∙◌, subst, arith}
 use Rattle.std.proofs.lemmas.Bool.Decides.{nat_tests}
 use Rattle.std.proofs.lemmas.Bool.{not-false}
 use Rattle.euler_operators.specs.Common.{Point, is_in_range, IsInRange, moved, IsIn, Model, cycle, items_of, content, face_of, tail, point_of, Sound, Has, AllHold, is_lone, lists}
@@ -7,9 +7,10 @@ use Rattle.euler_operators.specs.Table as table
 use Rattle.euler_operators.proofs.Common.{zero_first_where, item_there, loop_number, first_fails}
 use Rattle.euler_laws.specs.Laws.{AreAccepted, effects}
 use Rattle.euler_laws.proofs.Common.{effects_keep_sound, all_hold, listed-from_in, loop_row, not_lone_cycle}
-use Rattle.shapes.proofs.Common.{none_above, none_found, none_is_lone, none_such, Left, numbers_are_left, loops_of_apart, tail_in, face_of_loop}
-use Rattle.shapes.specs.Common.{start, loops_of, corners, vertices_in, least_lone, first_such, taken_in, prism_conditions, prism_refusal, prism_model}
+use Rattle.shapes.proofs.Common.{none_above, none_found, none_is_lone, none_such, numbers_are_left, loops_of_apart, tail_in, face_of_loop}
+use Rattle.shapes.specs.Common.{AreLeft, start, loops_of, corners, vertices_in, least_lone, first_such, taken_in, prism_conditions, prism_refusal, prism_model}
 use Rattle.sweeps_laws.specs.prism.SweepOps.{sweep_ops}
+use Rattle.sweeps_laws.specs.prism.Ready.{needed_for_sides}
 use Rattle.sweeps_laws.proofs.prism.Whole.{Going, loops_swept}
 
 -- ---- a sweep that isn't refused
@@ -19,7 +20,7 @@ record PrismGoes (M : Model) (f : ℕ) (d : Point) : Type 0 where
   face_there : Has M.faces f
   none_lone : table.first_where (λ _ row. is_lone row.content && lists (f ∷ []) row.face) M.loops ≡ 0
   none_far : first_such (λ v. not (is_in_range (moved (point_of M v) d))) (corners M f) ≡ None
-  left : let n = length (corners M f) in Left (taken_in M) n n (2 * n) n
+  left : AreLeft (taken_in M) (needed_for_sides (length (corners M f)))
 
 prism_goes : (M : Model) (f : ℕ) (d : Point) → prism_refusal M f d ≡ None → PrismGoes M f d
 unfolding prism_conditions
@@ -29,7 +30,7 @@ prism_goes M f d accepted = named (all_hold (prism_conditions M f d) accepted) w
     face_there = known;
     none_lone = none_is_lone M (f ∷ []) (none_found (least_lone M (f ∷ [])) lone);
     none_far = none_found (first_such (λ v. not (is_in_range (moved (point_of M v) d))) (corners M f)) far;
-    left = let n = length (corners M f) in numbers_are_left (taken_in M) n n (2 * n) n room;
+    left = numbers_are_left (taken_in M) _ room;
   }
 
 module _ (M : Model) (f : ℕ) (d : Point) (sound : Sound M) (accepted : prism_refusal M f d ≡ None) where
@@ -61,14 +62,8 @@ module _ (M : Model) (f : ℕ) (d : Point) (sound : Sound M) (accepted : prism_r
   unfolding taken_in corners
   begins = record {
     sound = sound;
-    faces_free = λ q a. none_above M.faces q a;
-    loops_free = λ q a. none_above M.loops q a;
-    edges_free = λ q a. none_above M.edges q a;
-    vertices_free = λ q a. none_above M.vertices q a;
-    faces_left = goes.left.faces;
-    loops_left = goes.left.loops;
-    edges_left = goes.left.edges;
-    vertices_left = goes.left.vertices;
+    free = record { faces = none_above M.faces; loops = none_above M.loops; edges = none_above M.edges; vertices = none_above M.vertices };
+    left = goes.left;
     halves = λ h there. there;
     starts = λ h there. refl;
     apart = loops_of_apart M sound f;

@@ -52,13 +52,13 @@ module _ (M : Model) (c : Taken) (f l : ℕ) (d : Point) (hs : List ℕ) (w : Re
 
   pub first_accepted : first_false M (raise M c d hs 0) ≡ None
   first_accepted = mev_fits M l f [] more_items first_item (riser c.edge 0) (c.vertex + 1 + 0) (moved (start M first_item) d) around_first
-      (w.edges_free (riser c.edge 0) (omega arith)) (w.vertices_free (c.vertex + 1 + 0) (omega arith))
-      (fits (riser c.edge 0) (omega arith) (omega (arith, w.edges_left, some_items))) (fits (c.vertex + 1 + 0) (omega arith) (omega (arith, w.vertices_left, some_items)))
+      (w.free.edges (riser c.edge 0) (omega arith)) (w.free.vertices (c.vertex + 1 + 0) (omega arith))
+      (fits (riser c.edge 0) (omega arith) (omega (arith, w.left.edges, some_items))) (fits (c.vertex + 1 + 0) (omega arith) (omega (arith, w.left.vertices, some_items)))
       (w.points_fit first_item (IsIn-get_or hs 0 0 some_items))
 
   first_is : effect M (raise M c d hs 0) ≡ prism_part c f l d hs 0 M
   unfolding prism_part
-  first_is = mev_does M l f [] more_items first_item (riser c.edge 0) (c.vertex + 1 + 0) (moved (start M first_item) d) around_first (w.edges_free (riser c.edge 0) (omega arith))
+  first_is = mev_does M l f [] more_items first_item (riser c.edge 0) (c.vertex + 1 + 0) (moved (start M first_item) d) around_first (w.free.edges (riser c.edge 0) (omega arith))
       ∙ (λ i. record M {
         loops = table.put M.loops l (record { face = f; content = cycle (canonical (plus (riser c.edge 0) ∷ minus (riser c.edge 0) ∷ (sym items_are) i)) });
         edges = table.put M.edges (riser c.edge 0) (record { plus_tail = tail M first_item; minus_tail = c.vertex + 1 + 0 });
@@ -175,9 +175,9 @@ module _ (M : Model) (c : Taken) (f l : ℕ) (d : Point) (hs : List ℕ) (w : Re
     accepted : first_false P (close_last c (length hs) (suc j)) ≡ None
     accepted = mef_fits P l f b k (h ∷ a ∷ []) T t s r around_last t_free r_free (part_face_free w (suc j) s (omega arith))
         (λ e. let q : c.vertex + 1 + suc j ≡ c.vertex + 1 + 0 = sym tail_b ∙ e ∙ tail_k in omega arith)
-        (fits t (omega (arith, top_cases c.edge (length hs) (suc j))) (omega (arith, top_cases c.edge (length hs) (suc j), w.edges_left, last)))
-        (fits s (omega arith) (omega (arith, w.faces_left, last)))
-        (fits r (omega arith) (omega (arith, w.loops_left, last)))
+        (fits t (omega (arith, top_cases c.edge (length hs) (suc j))) (omega (arith, top_cases c.edge (length hs) (suc j), w.left.edges, last)))
+        (fits s (omega arith) (omega (arith, w.left.faces, last)))
+        (fits r (omega arith) (omega (arith, w.left.loops, last)))
 
     does : effect P (close_last c (length hs) (suc j)) ≡ N
     does = mef_does P l f b k (h ∷ a ∷ []) T t s r around_last t_free r_free

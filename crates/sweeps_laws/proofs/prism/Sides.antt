@@ -87,7 +87,7 @@ module _ (M : Model) (c : Taken) (f l : ℕ) (d : Point) (hs : List ℕ) (w : Re
   sides_vertices (suc i) q o = get-put_other _ _ _ q (o i (omega arith)) ∙ sides_vertices i q (λ j lt. o j (omega arith))
 
   pub old_edge : (i q : ℕ) → Has M.edges q → table.get (with_sides c (solid_of M f) d hs i M).edges q ≡ table.get M.edges q
-  old_edge i q there = let b : q ≤ c.edge = in_use_within M.edges c.edge w.edges_free q there in
+  old_edge i q there = let b : q ≤ c.edge = in_use_within M.edges c.edge w.free.edges q there in
       sides_edges i q (λ j lt. ((λ s. omega (arith, riser_is c.edge j)), (λ s. omega (arith, top_cases c.edge (length hs) j))))
 
   pub old_tail : (i h : ℕ) → HasHalf M h → tail (with_sides c (solid_of M f) d hs i M) h ≡ tail M h
@@ -96,7 +96,7 @@ module _ (M : Model) (c : Taken) (f l : ℕ) (d : Point) (hs : List ℕ) (w : Re
 
   pub old_point : (i v : ℕ) → Has M.vertices v → point_of (with_sides c (solid_of M f) d hs i M) v ≡ point_of M v
   unfolding point_of
-  old_point i v there = let b : v ≤ c.vertex = in_use_within M.vertices c.vertex w.vertices_free v there in
+  old_point i v there = let b : v ≤ c.vertex = in_use_within M.vertices c.vertex w.free.vertices v there in
       ap (λ o. unwrap_or o no_point) (sides_vertices i v (λ j lt s. omega arith))
 
   pub old_start : (i h : ℕ) → HasHalf M h → start (with_sides c (solid_of M f) d hs i M) h ≡ start M h
@@ -104,7 +104,7 @@ module _ (M : Model) (c : Taken) (f l : ℕ) (d : Point) (hs : List ℕ) (w : Re
 
   pub old_solid : (i : ℕ) → solid_of (with_sides c (solid_of M f) d hs i M) f ≡ solid_of M f
   unfolding solid_of
-  old_solid i = let b : f ≤ c.face = in_use_within M.faces c.face w.faces_free f face_there in
+  old_solid i = let b : f ≤ c.face = in_use_within M.faces c.face w.free.faces f face_there in
       ap (λ o. (unwrap_or o no_face).solid) (sides_faces i f (λ j lt s. omega arith))
 
 -- ---- an item is raised, and the side before it closed
@@ -118,7 +118,7 @@ put_over t l r a b x y ne = same_table _ _ (λ q. grind (arith, nat_tests, table
 
 module _ {M : Model} {c : Taken} {f l : ℕ} {d : Point} {hs : List ℕ} (w : Ready M c f l d hs) where
   pub loop_within : l ≤ c.loop
-  loop_within = in_use_within M.loops c.loop w.loops_free l (ap is_some w.at)
+  loop_within = in_use_within M.loops c.loop w.free.loops l (ap is_some w.at)
 
   pub part_loop : (i : ℕ) → table.get (prism_part c f l d hs i M).loops l ≡ Some (record { face = f; content = cycle (canonical (lifted_part c hs i)) })
   unfolding prism_part
@@ -126,23 +126,23 @@ module _ {M : Model} {c : Taken} {f l : ℕ} {d : Point} {hs : List ℕ} (w : Re
 
   pub part_edge_free : (i q : ℕ) → q ≢ riser c.edge i → ((j : ℕ) → j < i → (q ≢ riser c.edge j) × (q ≢ top_edge c.edge (length hs) j)) → c.edge < q → table.get (prism_part c f l d hs i M).edges q ≡ None
   unfolding prism_part
-  part_edge_free i q ne o above = get-put_other _ _ _ q ne ∙ sides_edges M c f l d hs w i q o ∙ w.edges_free q above
+  part_edge_free i q ne o above = get-put_other _ _ _ q ne ∙ sides_edges M c f l d hs w i q o ∙ w.free.edges q above
 
   pub part_vertex_free : (i q : ℕ) → c.vertex + 1 + i < q → table.get (prism_part c f l d hs i M).vertices q ≡ None
   unfolding prism_part
-  part_vertex_free i q above = get-put_other _ _ _ q (λ s. omega arith) ∙ sides_vertices M c f l d hs w i q (λ j lt s. omega arith) ∙ w.vertices_free q (omega arith)
+  part_vertex_free i q above = get-put_other _ _ _ q (λ s. omega arith) ∙ sides_vertices M c f l d hs w i q (λ j lt s. omega arith) ∙ w.free.vertices q (omega arith)
 
   pub part_face_free : (i q : ℕ) → c.face + 1 + i ≤ q → table.get (prism_part c f l d hs i M).faces q ≡ None
   unfolding prism_part
-  part_face_free i q above = sides_faces M c f l d hs w i q (λ j lt s. omega arith) ∙ w.faces_free q (omega arith)
+  part_face_free i q above = sides_faces M c f l d hs w i q (λ j lt s. omega arith) ∙ w.free.faces q (omega arith)
 
   pub part_loop_free : (i q : ℕ) → c.loop + 1 + i ≤ q → table.get (prism_part c f l d hs i M).loops q ≡ None
   unfolding prism_part
-  part_loop_free i q above = let b = loop_within in get-put_other _ _ _ q (λ s. omega arith) ∙ sides_loops M c f l d hs w i q (λ j lt s. omega arith) ∙ w.loops_free q (omega arith)
+  part_loop_free i q above = let b = loop_within in get-put_other _ _ _ q (λ s. omega arith) ∙ sides_loops M c f l d hs w i q (λ j lt s. omega arith) ∙ w.free.loops q (omega arith)
 
   pub part_tail : (i h : ℕ) → HasHalf M h → tail (prism_part c f l d hs i M) h ≡ tail M h
   unfolding prism_part tail
-  part_tail i h there = let b : edge_of h ≤ c.edge = in_use_within M.edges c.edge w.edges_free (edge_of h) there in
+  part_tail i h there = let b : edge_of h ≤ c.edge = in_use_within M.edges c.edge w.free.edges (edge_of h) there in
       ap (λ o. tail_in (unwrap_or o no_edge) (is_first h)) (get-put_other _ _ _ (edge_of h) (λ s. omega (arith, riser_is c.edge i))) ∙ old_tail M c f l d hs w i h there
 
   pub part_riser : (i : ℕ) → table.get (prism_part c f l d hs i M).edges (riser c.edge i) ≡ Some (record { plus_tail = tail (with_sides c (solid_of M f) d hs i M) (get_or hs i 0); minus_tail = c.vertex + 1 + i })
@@ -235,8 +235,8 @@ module _ {M : Model} {c : Taken} {f l : ℕ} {d : Point} {hs : List ℕ} (w : Re
 
     accepted0 : first_false P (raise M c d hs (suc i)) ≡ None
     accepted0 = mev_fits P l f (a ∷ T ++ b ∷ h ∷ []) D g u v (moved (start M g) d) around0 u_free (part_vertex_free i v (omega arith))
-        (fits u (omega (arith, riser_is c.edge (suc i))) (omega (arith, riser_is c.edge (suc i), w.edges_left, below)))
-        (fits v (omega arith) (omega (arith, w.vertices_left, below)))
+        (fits u (omega (arith, riser_is c.edge (suc i))) (omega (arith, riser_is c.edge (suc i), w.left.edges, below)))
+        (fits v (omega arith) (omega (arith, w.left.vertices, below)))
         (w.points_fit g g_in)
 
     first : effect P (raise M c d hs (suc i)) ≡ N1
@@ -272,9 +272,9 @@ module _ {M : Model} {c : Taken} {f l : ℕ} {d : Point} {hs : List ℕ} (w : Re
     accepted1 : first_false N1 (close c (length hs) i) ≡ None
     accepted1 = mef_fits N1 l f b (minus u) (h ∷ plus u ∷ []) ((g ∷ D) ++ a ∷ T) t s r around2 t_free r_free (part_face_free i s (omega arith))
         (λ e. let q : c.vertex + 1 + i ≡ c.vertex + 1 + suc i = sym tail_b ∙ e ∙ tail_u in omega arith)
-        (fits t (omega (arith, top_cases c.edge (length hs) i)) (omega (arith, top_cases c.edge (length hs) i, w.edges_left, below)))
-        (fits s (omega arith) (omega (arith, w.faces_left, below)))
-        (fits r (omega arith) (omega (arith, w.loops_left, below)))
+        (fits t (omega (arith, top_cases c.edge (length hs) i)) (omega (arith, top_cases c.edge (length hs) i, w.left.edges, below)))
+        (fits s (omega arith) (omega (arith, w.left.faces, below)))
+        (fits r (omega arith) (omega (arith, w.left.loops, below)))
 
     second : effect N1 (close c (length hs) i) ≡ N2
     second = mef_does N1 l f b (minus u) (h ∷ plus u ∷ []) ((g ∷ D) ++ a ∷ T) t s r around2 t_free r_free

@@ -21,12 +21,12 @@ module _ (M : Model) (c : Taken) (f l : ℕ) (d : Point) (hs : List ℕ) (w : Re
   part_half : (i h : ℕ) → HasHalf M h → HasHalf (prism_part c f l d hs i M) h
   unfolding prism_part
   part_half i h there =
-      let b : edge_of h ≤ c.edge = in_use_within M.edges c.edge w.edges_free (edge_of h) there in
+      let b : edge_of h ≤ c.edge = in_use_within M.edges c.edge w.free.edges (edge_of h) there in
       ap is_some (get-put_other _ _ _ (edge_of h) (λ s. omega (arith, riser_is c.edge i)) ∙ old_edge M c f l d hs w i (edge_of h) there) ∙ there
 
   part_point : (i v : ℕ) → table.get M.vertices v ≢ None → point_of (prism_part c f l d hs i M) v ≡ point_of M v
   unfolding prism_part point_of
-  part_point i v there = ap (λ o. unwrap_or o no_point) (get-put_other _ _ _ v (λ s. there (w.vertices_free v (omega arith))) ∙ sides_vertices M c f l d hs w i v (λ j lt s. there (w.vertices_free v (omega arith))))
+  part_point i v there = ap (λ o. unwrap_or o no_point) (get-put_other _ _ _ v (λ s. there (w.free.vertices v (omega arith))) ∙ sides_vertices M c f l d hs w i v (λ j lt s. there (w.free.vertices v (omega arith))))
 
   part_start : (i h : ℕ) → HasHalf M h → start (prism_part c f l d hs i M) h ≡ start M h
   part_start i h there = ap (point_of (prism_part c f l d hs i M)) (part_tail w i h there)

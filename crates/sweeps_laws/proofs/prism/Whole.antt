@@ -1,5 +1,5 @@
 -- The loops of a face swept one after the other.
-use Rattle.std.proofs.Common.{◌≡◌, ◌≢◌, ℕ, zero, suc, ◌+◌, ◌-◌, ◌*◌, ◌≤◌, ◌<◌, List, [], ◌∷◌, ◌++◌, length, Some, None, is_some, sym, ap, ◌∙◌, subst, arith, get_or, map, length-append}
+use Rattle.std.proofs.Common.{◌≡◌, ◌≢◌, ℕ, zero, suc, ◌+◌, ◌-◌, ◌≤◌, ◌<◌, List, [], ◌∷◌, ◌++◌, length, Some, is_some, sym, ap, ◌∙◌, subst, arith, get_or, map, length-append}
 use Rattle.std.proofs.lemmas.List.{length-map}
 use Rattle.euler_operators.specs.Common.{Point, IsInRange, moved, count, IsIn, IsApart, At, edge_of, half, plus, face_of, Model, cycle, items_of, content, tail, point_of, solid_of, Sound, HasHalf}
 use Rattle.euler_operators.proofs.Common.{tick_same, IsIn-get_or, content_row, face_row, IsIn_rest, IsIn_head, get-put_other, in_use_within}
@@ -8,24 +8,18 @@ use Rattle.euler_operators.specs.declared.Op.{Op}
 use Rattle.euler_operators.specs.declared.Op.TheVariants.{Mev}
 use Rattle.euler_laws.specs.Laws.{AreAccepted, effects}
 use Rattle.euler_laws.proofs.Common.{Leads, leads_none, leads_on, effects_keep_sound}
-use Rattle.shapes.specs.Common.{start, vertices_on, vertices_in, Taken, riser, top_items, with_sides, lifted, raised, raised_over, prism_from}
+use Rattle.shapes.specs.Common.{AreFree, AreLeft, start, vertices_on, vertices_in, Taken, riser, top_items, with_sides, lifted, raised, raised_over, prism_from}
 use Rattle.sweeps_laws.specs.prism.SweepOps.{close, close_last, rounds, loop_ops, taken_after, ops_from}
 use Rattle.sweeps_laws.proofs.prism.Sides.{riser_is, old_edge, old_start, sides_edges, sides_faces, sides_loops, sides_vertices, two_items, loop_within}
 use Rattle.sweeps_laws.proofs.prism.Loops.{loop_swept}
 use Rattle.sweeps_laws.proofs.swept.Numbers.{top_cases}
-use Rattle.sweeps_laws.specs.prism.Ready.{Ready}
+use Rattle.sweeps_laws.specs.prism.Ready.{Ready, needed_for_sides}
 
 -- N has grown out of M by sweeping some loops of face f along d; ls are the other ones
 pub record Going (M N : Model) (c : Taken) (f : ℕ) (d : Point) (ls : List ℕ) : Type 0 where
   pub sound : Sound N
-  pub faces_free : (q : ℕ) → c.face < q → table.get N.faces q ≡ None
-  pub loops_free : (q : ℕ) → c.loop < q → table.get N.loops q ≡ None
-  pub edges_free : (q : ℕ) → c.edge < q → table.get N.edges q ≡ None
-  pub vertices_free : (q : ℕ) → c.vertex < q → table.get N.vertices q ≡ None
-  pub faces_left : c.face + length (vertices_in M ls) ≤ 1000000
-  pub loops_left : c.loop + length (vertices_in M ls) ≤ 1000000
-  pub edges_left : c.edge + 2 * length (vertices_in M ls) ≤ 1000000
-  pub vertices_left : c.vertex + length (vertices_in M ls) ≤ 1000000
+  pub free : AreFree N c
+  pub left : AreLeft c (needed_for_sides (length (vertices_in M ls)))
   pub halves : (h : ℕ) → HasHalf M h → HasHalf N h
   pub starts : (h : ℕ) → HasHalf M h → start N h ≡ start M h
   pub apart : IsApart ls
@@ -54,14 +48,13 @@ module _ (M N : Model) (c : Taken) (f l : ℕ) (d : Point) (ls : List ℕ) (g : 
   ready = record {
     sound = g.sound;
     at = g.rows l (IsIn_head l ls);
-    faces_free = g.faces_free;
-    loops_free = g.loops_free;
-    edges_free = g.edges_free;
-    vertices_free = g.vertices_free;
-    faces_left = omega (arith, g.faces_left, corners_are);
-    loops_left = omega (arith, g.loops_left, corners_are);
-    edges_left = omega (arith, g.edges_left, corners_are);
-    vertices_left = omega (arith, g.vertices_left, corners_are);
+    free = g.free;
+    left = record {
+      faces = omega (arith, g.left.faces, corners_are);
+      loops = omega (arith, g.left.loops, corners_are);
+      edges = omega (arith, g.left.edges, corners_are);
+      vertices = omega (arith, g.left.vertices, corners_are);
+    };
     points_fit = λ h i. subst (λ p. IsInRange (moved p d)) (sym (g.starts h (g.items_there l (IsIn_head l ls) h i))) (g.points_fit l (IsIn_head l ls) h i);
   }
 
@@ -84,21 +77,25 @@ module _ (M N : Model) (c : Taken) (f l : ℕ) (d : Point) (ls : List ℕ) (g : 
 
   loop_after : (k : ℕ) → IsIn k ls → table.get N'.loops k ≡ table.get N.loops k
   loop_after k i =
-      let b : k ≤ c.loop = in_use_within N.loops c.loop g.loops_free k (ap is_some (g.rows k (IsIn_rest k l ls i))) in
+      let b : k ≤ c.loop = in_use_within N.loops c.loop g.free.loops k (ap is_some (g.rows k (IsIn_rest k l ls i))) in
       get-put_other _ l _ k (not_l k i) ∙ sides_loops N c f l d hs ready (length hs) k (λ j lt s. omega arith)
 
   next : Going M N' (taken_after c (length hs)) f d ls
   unfolding tail point_of
   next = record {
     sound = subst Sound swept (effects_keep_sound N (loop_ops M c d hs) g.sound accepted);
-    faces_free = λ q a. sides_faces N c f l d hs ready (length hs) q (λ j lt s. omega arith) ∙ g.faces_free q (omega arith);
-    loops_free = λ q a. get-put_other _ l _ q (λ s. omega (arith, loop_within ready)) ∙ sides_loops N c f l d hs ready (length hs) q (λ j lt s. omega arith) ∙ g.loops_free q (omega arith);
-    edges_free = λ q a. sides_edges N c f l d hs ready (length hs) q (λ j lt. ((λ s. omega (arith, riser_is c.edge j)), (λ s. omega (arith, top_cases c.edge (length hs) j)))) ∙ g.edges_free q (omega arith);
-    vertices_free = λ q a. sides_vertices N c f l d hs ready (length hs) q (λ j lt s. omega arith) ∙ g.vertices_free q (omega arith);
-    faces_left = omega (arith, g.faces_left, corners_are);
-    loops_left = omega (arith, g.loops_left, corners_are);
-    edges_left = omega (arith, g.edges_left, corners_are);
-    vertices_left = omega (arith, g.vertices_left, corners_are);
+    free = record {
+      faces = λ q a. sides_faces N c f l d hs ready (length hs) q (λ j lt s. omega arith) ∙ g.free.faces q (omega arith);
+      loops = λ q a. get-put_other _ l _ q (λ s. omega (arith, loop_within ready)) ∙ sides_loops N c f l d hs ready (length hs) q (λ j lt s. omega arith) ∙ g.free.loops q (omega arith);
+      edges = λ q a. sides_edges N c f l d hs ready (length hs) q (λ j lt. ((λ s. omega (arith, riser_is c.edge j)), (λ s. omega (arith, top_cases c.edge (length hs) j)))) ∙ g.free.edges q (omega arith);
+      vertices = λ q a. sides_vertices N c f l d hs ready (length hs) q (λ j lt s. omega arith) ∙ g.free.vertices q (omega arith);
+    };
+    left = record {
+      faces = omega (arith, g.left.faces, corners_are);
+      loops = omega (arith, g.left.loops, corners_are);
+      edges = omega (arith, g.left.edges, corners_are);
+      vertices = omega (arith, g.left.vertices, corners_are);
+    };
     halves = λ h there. ap is_some (old_edge N c f l d hs ready (length hs) (edge_of h) (g.halves h there)) ∙ g.halves h there;
     starts = λ h there. old_start N c f l d hs ready (length hs) h (g.halves h there) ∙ g.starts h there;
     apart = λ x. omega (arith, g.apart x);

@@ -1,8 +1,7 @@
 use Rattle.std.proofs.Common.{◌≡◌, ap, arith, length, map, subst, sym, refl, ◌∙◌}
 use Rattle.std.proofs.lemmas.Result.{on_ok_weaker}
 use Rattle.euler_operators.specs.Common.{code, plus, Model}
-use Rattle.shapes.proofs.Common.{Left}
-use Rattle.shapes.specs.Common.{Taken, numbers_after, taken_in}
+use Rattle.shapes.specs.Common.{AreLeft, Taken, numbers_after, taken_in}
 use Rattle.solid_walks.specs.declared.numbers.Counters.{Counters}
 use Rattle.solid_walks.specs.Counters.{taken_of}
 use Rattle.sweeps.specs.Raising.{with_lamina}
@@ -24,8 +23,8 @@ draw_lamina-requires-clause-few c = let four = ap length (c.as_slice.ensures ∙
 pub draw_lamina-requires-clause-accepted : goal.draw_lamina-requires-clause-accepted
 draw_lamina-requires-clause-accepted c = base_goes _ c.stays_consistent.ensures.model c.args.solid c.args.corner c.args.size.x c.args.size.y c.args.size.z c.requires.accepted _ (c.as_slice.ensures ∙ c.base-corners.ensures)
 
-left : (M : Model) (k : Counters) → taken_of k ≡ taken_in M → Left (taken_in M) 2 2 4 4 → Left (taken_of k) 2 2 4 4
-left M k is w = subst (λ t. Left t 2 2 4 4) (sym is) w
+left : (M : Model) (k : Counters) → taken_of k ≡ taken_in M → AreLeft (taken_in M) (record { faces = 2; loops = 2; edges = 4; vertices = 4 }) → AreLeft (taken_of k) (record { faces = 2; loops = 2; edges = 4; vertices = 4 })
+left M k is w = subst (λ t. AreLeft t (record { faces = 2; loops = 2; edges = 4; vertices = 4 })) (sym is) w
 
 pub base_items-items-requires : goal.base_items-items-requires
 base_items-items-requires c = (left _ c.args.taken.now c.requires.taken (base_left _ c.stays_consistent.ensures.model c.args.solid c.args.corner c.args.size.x c.args.size.y c.args.size.z c.requires.accepted)).edges

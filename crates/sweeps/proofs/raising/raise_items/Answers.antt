@@ -16,10 +16,10 @@ pub raise_item-requires-clause-there : goal.raise_item-requires-clause-there
 raise_item-requires-clause-there c = raised.there_first _ _ _ _ _ _ c.requires.ready c.args.items.now refl c.item_at.result c.item_at.ensures
 
 pub raise_item-requires-clause-edge_left : goal.raise_item-requires-clause-edge_left
-raise_item-requires-clause-edge_left c = omega (arith, two_items _ _ _ _ _ _ c.requires.ready, c.requires.ready.edges_left)
+raise_item-requires-clause-edge_left c = omega (arith, two_items _ _ _ _ _ _ c.requires.ready, c.requires.ready.left.edges)
 
 pub raise_item-requires-clause-vertex_left : goal.raise_item-requires-clause-vertex_left
-raise_item-requires-clause-vertex_left c = omega (arith, two_items _ _ _ _ _ _ c.requires.ready, c.requires.ready.vertices_left)
+raise_item-requires-clause-vertex_left c = omega (arith, two_items _ _ _ _ _ _ c.requires.ready, c.requires.ready.left.vertices)
 
 pub raise_item-requires-clause-range : goal.raise_item-requires-clause-range
 raise_item-requires-clause-range c = raised.range_first _ _ _ _ _ _ c.requires.ready c.args.items.now refl c.item_at.result c.item_at.ensures
