@@ -4,18 +4,17 @@ use Rattle.std.specs.List.{list_all}
 use Rattle.std.specs.Ordering.{eq_by_cmp, nat_cmp}
 use Rattle.std.proofs.lemmas.Bool.{and_parts, not-true}
 use Rattle.std.proofs.lemmas.Bool.Decides.{eqb_tells}
-use Rattle.std.proofs.Common.{sym, Bool, Some, cond, ap, ◌∙◌, true, not, ◌&&◌, ◌⊎◌, inl, inr, List, true≢false, length, unwrap_or, subst, arith, ◌≡◌, ◌≤◌, ℕ, ◌+◌, pos, neg_ℤ, None, false, refl, [], ◌∷◌}
+use Rattle.std.proofs.Common.{sym, Bool, Some, cond, ap, ◌∙◌, true, not, ◌&&◌, ◌⊎◌, inl, inr, List, true≢false, length, unwrap_or, subst, arith, ◌≡◌, ℕ, pos, neg_ℤ, None, false, refl, [], ◌∷◌}
 use Rattle.sweeps.specs.Measure.{six_volume}
 use Rattle.sweeps.specs.PlainMachine.{Machine, act, start, held}
 use Rattle.plane_split.specs.Machine.{plane_with, split_refusal}
-use Rattle.command_laws.specs.Accepted.{AreLeft}
 use Rattle.command_laws.specs.NewFaces.{all_moved, corner_points, last_face}
 use Rattle.command_laws.specs.Operators.{LieOnPlane, faces_met, solid_in}
 use Rattle.euler_operators.specs.declared.Op.TheVariants.{Kfmrh, Merge}
 use Rattle.euler_operators.specs.Common.{Has, Plane, Point, LoopRow, dot, is_in_range, is_lone, lists, no_loop, first_false, rotate_to, canonical, rest, mate, code, half, edge_of, is_first, empty_model, content, tail, loop_of, face_of, solid_of, outer, arc, holds, after, before, point_of, conditions, has_rings, effect, inverse, mvfs, kvfs_at, mev_lone, mev_at, kev, mef, kef, kemr, mekr, kfmrh, mfkrh, ring_in, ring_out, take_outer, merge, part}
 use Rattle.solid_measure.specs.solid_counts.Counts.{counts}
 use Rattle.split_caps.specs.Capped.{caps_of}
-use Rattle.shapes.specs.Common.{is_plane_of, lamina_face, glue_conditions, glue_model, loops_of, boundary, corners, taken_in, lamina_conditions, lamina_model, prism_conditions, with_side, raised, prism_model, block_conditions, block_model, normal, plane_of, is_flat, straddles, face_is_above, is_place, place_point, places, is_touched, is_cut_often, is_crossed, sorted_pairs, place_pairs, next_cut, with_crossings, drawn_pairs, join_next, draw_next, next_drawn, with_drawings, below_halves, section_cycles, is_hole, opened_along, next_opened, first_conditions, section_conditions, split_conditions, split_model}
+use Rattle.shapes.specs.Common.{AreLeft, Needed, Taken, is_plane_of, lamina_face, glue_conditions, glue_model, loops_of, boundary, corners, taken_in, lamina_conditions, lamina_model, prism_conditions, with_side, raised, prism_model, block_conditions, block_model, normal, plane_of, is_flat, straddles, face_is_above, is_place, place_point, places, is_touched, is_cut_often, is_crossed, sorted_pairs, place_pairs, next_cut, with_crossings, drawn_pairs, join_next, draw_next, next_drawn, with_drawings, below_halves, section_cycles, is_hole, opened_along, next_opened, first_conditions, section_conditions, split_conditions, split_model}
 use Rattle.euler_operators.specs.Table as table
 use Rattle.block_machining.specs.Machines.{blank, bossed, lengthened, merged, paired, parted, score, spur, stacked, triangular}
 
@@ -24,28 +23,16 @@ unfoldable computed : ℕ
 unfolding mate code half edge_of is_first rotate_to canonical rest holds after before table.empty table.get table.put table.remove table.map_rows table.first_where table.all_where table.greatest empty_model content tail loop_of face_of solid_of outer arc conditions first_false has_rings effect inverse mvfs kvfs_at mev_lone mev_at kev mef kef kemr mekr kfmrh mfkrh ring_in ring_out take_outer merge part point_of loops_of boundary corners taken_in lamina_conditions lamina_model prism_conditions with_side raised prism_model block_conditions block_model normal plane_of is_flat six_volume straddles face_is_above is_place place_point places is_touched is_cut_often is_crossed sorted_pairs place_pairs next_cut with_crossings drawn_pairs join_next draw_next next_drawn with_drawings below_halves section_cycles is_hole opened_along next_opened first_conditions section_conditions split_conditions split_model
 computed = 0
 
--- so many numbers of each kind are taken
-record HasTaken (m : Machine) (faces loops edges vertices : ℕ) : Type 0 where
-  of_faces : table.greatest (held m).faces ≡ faces
-  of_loops : table.greatest (held m).loops ≡ loops
-  of_edges : table.greatest (held m).edges ≡ edges
-  of_vertices : table.greatest (held m).vertices ≡ vertices
+left : (m : Machine) (c : Taken) (n : Needed) → taken_in (held m) ≡ c → AreLeft c n → AreLeft (taken_in (held m)) n
+left m c n taken w = subst (λ t. AreLeft t n) (sym taken) w
 
-left : (m : Machine) (f l e v i j k n : ℕ) → HasTaken m f l e v → f + i ≤ 1000000 → l + j ≤ 1000000 → e + k ≤ 1000000 → v + n ≤ 1000000 → AreLeft m i j k n
-left m f l e v i j k n taken a b c d = record {
-  of_faces = subst (λ x. x + i ≤ 1000000) (sym taken.of_faces) a;
-  of_loops = subst (λ x. x + j ≤ 1000000) (sym taken.of_loops) b;
-  of_edges = subst (λ x. x + k ≤ 1000000) (sym taken.of_edges) c;
-  of_vertices = subst (λ x. x + n ≤ 1000000) (sym taken.of_vertices) d;
-}
-
-start_taken : HasTaken start 0 0 0 0
+start_taken : taken_in (held start) ≡ record { face = 0; loop = 0; edge = 0; vertex = 0 }
 unfolding computed
-start_taken = record { of_faces = refl; of_loops = refl; of_edges = refl; of_vertices = refl }
+start_taken = refl
 
-blank_taken : HasTaken blank 6 6 12 8
+blank_taken : taken_in (held blank) ≡ record { face = 6; loop = 6; edge = 12; vertex = 8 }
 unfolding computed blank
-blank_taken = record { of_faces = refl; of_loops = refl; of_edges = refl; of_vertices = refl }
+blank_taken = refl
 
 pub start_free : table.has (held start).solids 1 ≡ false
 unfolding computed
@@ -55,27 +42,27 @@ pub blank_free : table.has (held blank).solids 2 ≡ false
 unfolding computed blank
 blank_free = refl
 
-pub start_left : AreLeft start 6 6 12 8
-start_left = left start 0 0 0 0 6 6 12 8 start_taken (omega arith) (omega arith) (omega arith) (omega arith)
+pub start_left : AreLeft (taken_in (held start)) (record { faces = 6; loops = 6; edges = 12; vertices = 8 })
+start_left = left start _ _ start_taken (record { faces = omega arith; loops = omega arith; edges = omega arith; vertices = omega arith })
 
-pub lamina_left : AreLeft start 2 2 3 3
-lamina_left = left start 0 0 0 0 2 2 3 3 start_taken (omega arith) (omega arith) (omega arith) (omega arith)
+pub lamina_left : AreLeft (taken_in (held start)) (record { faces = 2; loops = 2; edges = 3; vertices = 3 })
+lamina_left = left start _ _ start_taken (record { faces = omega arith; loops = omega arith; edges = omega arith; vertices = omega arith })
 
-pub blank_left : AreLeft blank 6 6 12 8
-blank_left = left blank 6 6 12 8 6 6 12 8 blank_taken (omega arith) (omega arith) (omega arith) (omega arith)
+pub blank_left : AreLeft (taken_in (held blank)) (record { faces = 6; loops = 6; edges = 12; vertices = 8 })
+blank_left = left blank _ _ blank_taken (record { faces = omega arith; loops = omega arith; edges = omega arith; vertices = omega arith })
 
-pub blank_room : AreLeft blank 2 2 3 3
-blank_room = left blank 6 6 12 8 2 2 3 3 blank_taken (omega arith) (omega arith) (omega arith) (omega arith)
+pub blank_room : AreLeft (taken_in (held blank)) (record { faces = 2; loops = 2; edges = 3; vertices = 3 })
+blank_room = left blank _ _ blank_taken (record { faces = omega arith; loops = omega arith; edges = omega arith; vertices = omega arith })
 
-pub sweep_left : AreLeft blank 4 4 8 4
-sweep_left = left blank 6 6 12 8 4 4 8 4 blank_taken (omega arith) (omega arith) (omega arith) (omega arith)
+pub sweep_left : AreLeft (taken_in (held blank)) (record { faces = 4; loops = 4; edges = 8; vertices = 4 })
+sweep_left = left blank _ _ blank_taken (record { faces = omega arith; loops = omega arith; edges = omega arith; vertices = omega arith })
 
-paired_taken : HasTaken paired 12 12 24 16
+paired_taken : taken_in (held paired) ≡ record { face = 12; loop = 12; edge = 24; vertex = 16 }
 unfolding computed blank paired
-paired_taken = record { of_faces = refl; of_loops = refl; of_edges = refl; of_vertices = refl }
+paired_taken = refl
 
-pub glue_left : AreLeft paired 0 0 1 0
-glue_left = left paired 12 12 24 16 0 0 1 0 paired_taken (omega arith) (omega arith) (omega arith) (omega arith)
+pub glue_left : AreLeft (taken_in (held paired)) (record { faces = 0; loops = 0; edges = 1; vertices = 0 })
+glue_left = left paired _ _ paired_taken (record { faces = omega arith; loops = omega arith; edges = omega arith; vertices = omega arith })
 
 -- the spur is accepted, and works in the block
 pub spur_accepted : first_false (held blank) spur ≡ None
@@ -203,12 +190,12 @@ pub none_lone : (l : ℕ) → is_lone (content (held bossed) l) ≡ false
 unfolding computed blank stacked merged bossed
 none_lone l = none_found l (held bossed).loops.rows refl
 
-bossed_taken : HasTaken bossed 12 12 24 16
+bossed_taken : taken_in (held bossed) ≡ record { face = 12; loop = 12; edge = 24; vertex = 16 }
 unfolding computed blank stacked merged bossed
-bossed_taken = record { of_faces = refl; of_loops = refl; of_edges = refl; of_vertices = refl }
+bossed_taken = refl
 
-pub pocket_left : AreLeft bossed 8 8 16 8
-pocket_left = left bossed 12 12 24 16 8 8 16 8 bossed_taken (omega arith) (omega arith) (omega arith) (omega arith)
+pub pocket_left : AreLeft (taken_in (held bossed)) (record { faces = 8; loops = 8; edges = 16; vertices = 8 })
+pocket_left = left bossed _ _ bossed_taken (record { faces = omega arith; loops = omega arith; edges = omega arith; vertices = omega arith })
 
 -- the top has eight corners, and twice its area is 20
 pub top_there : table.has (held bossed).faces 1 ≡ true
@@ -236,15 +223,15 @@ top_area = refl
 
 -- ---- the triangle
 
-triangular_taken : HasTaken triangular 2 2 3 3
+triangular_taken : taken_in (held triangular) ≡ record { face = 2; loop = 2; edge = 3; vertex = 3 }
 unfolding computed triangular
-triangular_taken = record { of_faces = refl; of_loops = refl; of_edges = refl; of_vertices = refl }
+triangular_taken = refl
 
 pub triangular_last : last_face triangular ≡ 2
-triangular_last = triangular_taken.of_faces
+triangular_last = ap (λ c. c.face) triangular_taken
 
-pub wedge_left : AreLeft triangular 3 3 6 3
-wedge_left = left triangular 2 2 3 3 3 3 6 3 triangular_taken (omega arith) (omega arith) (omega arith) (omega arith)
+pub wedge_left : AreLeft (taken_in (held triangular)) (record { faces = 3; loops = 3; edges = 6; vertices = 3 })
+wedge_left = left triangular _ _ triangular_taken (record { faces = omega arith; loops = omega arith; edges = omega arith; vertices = omega arith })
 
 pub first_face : lamina_face (held start) ≡ 1
 unfolding computed

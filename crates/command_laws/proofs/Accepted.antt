@@ -1,6 +1,6 @@
 -- When a block, a lamina and a sweep are accepted.
 use Rattle.std.specs.List.{list_all, list_any}
-use Rattle.std.proofs.Common.{◌≡◌, ℕ, ◌+◌, ◌*◌, ◌≤◌, Bool, true, false, not, cond, ◌||◌, List, [], ◌∷◌, ◌++◌, Some, None, is_some, refl, sym, ap, subst, ◌∙◌, arith, true≢false, nat_le, length, map, eq-eqb, eqb-true}
+use Rattle.std.proofs.Common.{◌≡◌, ℕ, ◌+◌, ◌≤◌, Bool, true, false, not, cond, ◌||◌, List, [], ◌∷◌, ◌++◌, Some, None, is_some, refl, sym, ap, subst, ◌∙◌, arith, true≢false, nat_le, length, map, eq-eqb, eqb-true}
 use Rattle.std.proofs.lemmas.Bool.{and_parts}
 use Rattle.std.proofs.lemmas.Bool.Decides.{nat_tests, eqb_tells}
 use Rattle.std.proofs.lemmas.List.{length-map}
@@ -8,7 +8,9 @@ use Rattle.euler_operators.specs.Common.{Point, is_in_range, moved, same_point, 
 use Rattle.euler_operators.specs.Table as table
 use Rattle.euler_operators.proofs.Common.{content_row, first_where_zero, none_all_where, and_false}
 use Rattle.euler_laws.proofs.Common.{◌also◌, none_refuses}
-use Rattle.shapes.specs.Common.{corners, loops_of, vertices_in, vertices_on, least_lone, taken_in, first_such, lamina_conditions, first_far, first_repeated, prism_conditions, block_conditions, has_repeats}
+use Rattle.shapes.proofs.Common.{left_numbers_hold}
+use Rattle.shapes.specs.Common.{AreLeft, corners, loops_of, vertices_in, vertices_on, least_lone, taken_in, first_such, lamina_conditions, first_far, first_repeated, prism_conditions, block_conditions, has_repeats}
+use Rattle.sweeps_laws.specs.prism.Ready.{needed_for_sides}
 use Rattle.undo_journal.specs.Machine.{held}
 use Rattle.gluing.proofs.glue_checks_laws.Points.{same_turned}
 use Rattle.command_laws.specs.NewFaces.{IsFaceOf, all_moved}
@@ -19,7 +21,7 @@ within k n l = grind (arith, nat_tests)
 
 pub blocks_fit : BlocksFit
 unfolding block_conditions taken_in
-blocks_fit m s p dx dy dz number free x y z near far left = grind (arith, none_refuses, within, left.of_faces, left.of_loops, left.of_edges, left.of_vertices)
+blocks_fit m s p dx dy dz number free x y z near far left = grind (arith, none_refuses, within, left.faces, left.loops, left.edges, left.vertices)
 
 -- ---- a lamina
 
@@ -55,7 +57,7 @@ all_new (p ∷ ps) = (refl, all_new ps)
 
 pub laminas_fit : LaminasFit
 unfolding lamina_conditions taken_in
-laminas_fit m s ps number free many near apart left = grind (arith, none_refuses, within, all_near, none_repeated, all_new, left.of_faces, left.of_loops, left.of_edges, left.of_vertices)
+laminas_fit m s ps number free many near apart left = grind (arith, none_refuses, within, all_near, none_repeated, all_new, left.faces, left.loops, left.edges, left.vertices)
 
 -- ---- a sweep of a face without rings
 
@@ -87,7 +89,4 @@ sweeps_fit m f s ps d sound face some apart near left =
     let n = many face in
     none_refuses (prism_conditions M f d) (sound.faces_fit f face.there also face.there also ap not apart also ap (λ o. not (is_some o)) (none_lone face some)
     also ap (λ o. not (is_some o)) (none_far M d (corners M f) (ap (λ qs. list_all is_in_range (all_moved d qs)) face.points ∙ near))
-    also within _ 1000000 (subst (λ k. table.greatest M.faces + k ≤ 1000000) n left.of_faces)
-    also within _ 1000000 (subst (λ k. table.greatest M.loops + k ≤ 1000000) n left.of_loops)
-    also within _ 1000000 (subst (λ k. table.greatest M.edges + 2 * k ≤ 1000000) n left.of_edges)
-    also within _ 1000000 (subst (λ k. table.greatest M.vertices + k ≤ 1000000) n left.of_vertices) also tt)
+    also left_numbers_hold (taken_in M) _ (subst (λ k. AreLeft (taken_in M) (needed_for_sides k)) n left))

@@ -1,17 +1,19 @@
 -- When a sweep of a face with rings and a glue are accepted.
-use Rattle.std.proofs.Common.{◌≡◌, ℕ, ◌+◌, ◌*◌, ◌≤◌, ◌⊎◌, inl, inr, Bool, true, false, not, cond, ◌&&◌, ◌||◌, List, [], ◌∷◌, Some, None, is_some, unwrap_or, refl, sym, ap, subst, ◌∙◌, true≢false, nat_eq, map, reverse, ne_eqb, eqb-true}
+use Rattle.std.proofs.Common.{◌≡◌, ℕ, ◌⊎◌, inl, inr, Bool, true, false, not, cond, ◌&&◌, ◌||◌, List, [], ◌∷◌, Some, None, is_some, unwrap_or, refl, sym, ap, subst, ◌∙◌, true≢false, nat_eq, map, reverse, ne_eqb, eqb-true}
 use Rattle.std.proofs.lemmas.Bool.{or_cases}
 use Rattle.std.proofs.lemmas.List.{length-map}
 use Rattle.euler_operators.specs.Common.{Point, IsIn, Model, LoopContent, LoopRow, no_face, lone, cycle, items_of, content, face_of, outer, point_of, solid_of, Sound, Has, is_empty, is_lone, lists, has_rings}
 use Rattle.euler_operators.specs.Table as table
 use Rattle.euler_operators.proofs.Common.{content_row, face_row, first_where_zero, IsIn_head, IsIn_rest}
 use Rattle.euler_laws.proofs.Common.{◌also◌, none_refuses, listed_passes, listed-from_in}
-use Rattle.shapes.specs.Common.{start, corners, least_lone, faces_of_both, taken_in, first_such, found, is_flat, prism_conditions, glue_conditions, outline, has_repeats, is_rotation}
+use Rattle.shapes.proofs.Common.{left_numbers_hold}
+use Rattle.shapes.specs.Common.{AreLeft, start, corners, least_lone, faces_of_both, taken_in, first_such, found, is_flat, prism_conditions, glue_conditions, outline, has_repeats, is_rotation}
+use Rattle.sweeps_laws.specs.prism.Ready.{needed_for_sides}
 use Rattle.undo_journal.specs.Machine.{held}
 use Rattle.command_laws.specs.NewFaces.{IsFaceOf}
 use Rattle.command_laws.specs.Accepted.{RingedSweepsFit, GluesFit}
 use Rattle.command_laws.specs.Flat.{IsClosedFlat}
-use Rattle.command_laws.proofs.Accepted.{within, none_far}
+use Rattle.command_laws.proofs.Accepted.{none_far}
 use Rattle.command_laws.proofs.Outlines.{points_are}
 
 -- ---- lone loops
@@ -41,10 +43,7 @@ ringed_sweeps_fit m f d sound there closed apart near left =
     none_refuses (prism_conditions M f d) (sound.faces_fit f there also there also ap not apart
     also ap (λ o. not (is_some o)) (no_lone M (f ∷ []) (λ l has on. closed l has (one_face f (face_of M l) on)))
     also ap (λ o. not (is_some o)) (none_far M d (corners M f) near)
-    also within _ 1000000 (subst (λ k. table.greatest M.faces + k ≤ 1000000) n left.of_faces)
-    also within _ 1000000 (subst (λ k. table.greatest M.loops + k ≤ 1000000) n left.of_loops)
-    also within _ 1000000 (subst (λ k. table.greatest M.edges + 2 * k ≤ 1000000) n left.of_edges)
-    also within _ 1000000 (subst (λ k. table.greatest M.vertices + k ≤ 1000000) n left.of_vertices) also tt)
+    also left_numbers_hold (taken_in M) _ (subst (λ k. AreLeft (taken_in M) (needed_for_sides k)) n left))
 
 -- ---- a glue
 
@@ -101,4 +100,4 @@ glues_fit m f g s t ps qs sound first second apart flat_s flat_t once_f once_g t
     also ap (λ o. not (is_some o)) ((λ i. first_such (λ k. not (is_flat M k)) (faces_of_both M (first.solid i) (second.solid i))) ∙ none_is_bent M sound s t flat_s flat_t)
     also ap not (ap has_repeats out_f ∙ once_f) also ap not (ap has_repeats out_g ∙ once_g)
     also ((λ i. is_rotation (out_f i) (reverse (out_g i))) ∙ turned)
-    also within _ 1000000 left.of_faces also within _ 1000000 left.of_loops also within _ 1000000 left.of_edges also within _ 1000000 left.of_vertices also tt)
+    also left_numbers_hold (taken_in M) _ left)

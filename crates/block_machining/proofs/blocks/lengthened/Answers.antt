@@ -3,7 +3,7 @@ use Rattle.sweeps.specs.Measure.{six_volume}
 use Rattle.euler_operators.specs.Common.{Model, solid_of}
 use Rattle.sweeps.specs.PlainMachine.{held}
 use Rattle.gluing.specs.Machine.{glue, glue_refusal}
-use Rattle.command_laws.specs.Accepted.{AreLeft}
+use Rattle.shapes.specs.Common.{AreLeft, taken_in}
 use Rattle.command_laws.specs.Counted.{counts}
 use Rattle.block_machining.specs.Machines.{lengthened}
 use Rattle.block_machining.specs.Meeting.{near_side, far_side}
@@ -30,7 +30,7 @@ but_for_memory-requires c refusal is =
     let flat = c.in_ok-session.ensures.flat in
     for_no_reason (glue_refusal m 4 12) refusal
     (c.glues_fit.ensures m 4 12 1 2 near_side far_side c.joined-session.ensures.sound c.in_ok-session.ensures.near c.in_ok-session.ensures.far (λ e. absurd (omega (arith, e))) flat.0 flat.1 refl refl refl
-    (subst (λ n. AreLeft n 0 0 1 0) (sym c.in_ok-session.ensures.made) glue_left))
+    (subst (λ n. AreLeft (taken_in (held n)) (record { faces = 0; loops = 0; edges = 1; vertices = 0 })) (sym c.in_ok-session.ensures.made) glue_left))
     (c.joined-session.ensures.refused refusal is)
 
 pub returns-clause-made : goal.returns-clause-made

@@ -1,7 +1,8 @@
 use Rattle.std.proofs.Common.{pos, sym, subst, arith, refl}
 use Rattle.euler_operators.specs.Common.{Point}
 use Rattle.sweeps.specs.Machine.{sweep_refusal}
-use Rattle.command_laws.specs.Accepted.{AreLeft}
+use Rattle.shapes.specs.Common.{AreLeft, taken_in}
+use Rattle.sweeps.specs.PlainMachine.{held}
 use Rattle.block_machining.specs.Meeting.{top}
 use Rattle.block_machining.proofs.Accepted.{for_no_reason}
 use Rattle.block_machining.proofs.Worked.{sweep_left}
@@ -15,5 +16,5 @@ unfolding up
 but_for_memory-requires c refusal is =
     let m = c.in_ok-session.session.machine in
     for_no_reason (sweep_refusal m 1 up) refusal
-    (c.sweeps_fit.ensures.plain m 1 1 top up c.raised-session.ensures.sound c.in_ok-session.ensures.top (omega arith) refl refl (subst (λ n. AreLeft n 4 4 8 4) (sym c.in_ok-session.ensures.made) sweep_left))
+    (c.sweeps_fit.ensures.plain m 1 1 top up c.raised-session.ensures.sound c.in_ok-session.ensures.top (omega arith) refl refl (subst (λ n. AreLeft (taken_in (held n)) (record { faces = 4; loops = 4; edges = 8; vertices = 4 })) (sym c.in_ok-session.ensures.made) sweep_left))
     (c.raised-session.ensures.refused refusal is)

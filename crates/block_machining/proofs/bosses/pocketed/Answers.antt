@@ -3,7 +3,7 @@ use Rattle.euler_operators.specs.Common.{Sound, dot, solid_of, Has}
 use Rattle.sweeps.specs.Machine.{sweep_refusal}
 use Rattle.sweeps.specs.Measure.{normal, six_volume}
 use Rattle.sweeps.specs.PlainMachine.{Machine, held}
-use Rattle.command_laws.specs.Accepted.{AreLeft}
+use Rattle.shapes.specs.Common.{AreLeft, taken_in}
 use Rattle.command_laws.specs.Counted.{counts}
 use Rattle.block_machining.specs.Machines.{bossed}
 use Rattle.block_machining.proofs.Accepted.{for_no_reason}
@@ -14,7 +14,7 @@ pub but_for_memory-requires : goal.but_for_memory-requires
 but_for_memory-requires c refusal is =
     let m = c.in_ok-session.session.machine in
     let made = c.in_ok-session.ensures.made in
-    let room = subst (λ k. AreLeft bossed k k (2 * k) k) (sym top_corners) pocket_left in
+    let room = subst (λ k. AreLeft (taken_in (held bossed)) (record { faces = k; loops = k; edges = 2 * k; vertices = k })) (sym top_corners) pocket_left in
     let fits = c.sweeps_fit.ensures.ringed bossed 1 up_two (subst (λ n. Sound (held n)) made c.raised-session.ensures.sound) top_there (λ l has at. none_lone l) refl top_near room in
     for_no_reason (sweep_refusal m 1 up_two) refusal (ap (λ n. sweep_refusal n 1 up_two) made ∙ fits) (c.raised-session.ensures.refused refusal is)
 

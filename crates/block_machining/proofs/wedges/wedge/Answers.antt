@@ -3,8 +3,7 @@ use Rattle.euler_operators.specs.Common.{Point, Model, solid_of, Has, dot, direc
 use Rattle.sweeps.specs.Machine.{sweep_refusal}
 use Rattle.sweeps.specs.Measure.{six_volume, normal, plane_of}
 use Rattle.sweeps.specs.PlainMachine.{Machine, held}
-use Rattle.shapes.specs.Common.{next_place}
-use Rattle.command_laws.specs.Accepted.{AreLeft}
+use Rattle.shapes.specs.Common.{AreLeft, taken_in, next_place}
 use Rattle.command_laws.specs.NewFaces.{IsFaceOf, all_moved, corner_points, last_face, nth, plane_round, side_over}
 use Rattle.block_machining.specs.Machines.{triangle}
 use Rattle.block_machining.specs.Wedge.{lid}
@@ -19,7 +18,7 @@ pub but_for_memory-requires : goal.but_for_memory-requires
 but_for_memory-requires c refusal is =
     let m = c.in_ok-session.session.machine in
     for_no_reason (sweep_refusal m 1 up) refusal
-    (c.sweeps_fit.ensures.plain m 1 1 triangle up c.raised-session.ensures.sound c.in_ok-session.ensures.face (omega arith) refl refl (subst (λ n. AreLeft n 3 3 6 3) (sym c.in_ok-session.ensures.made) wedge_left))
+    (c.sweeps_fit.ensures.plain m 1 1 triangle up c.raised-session.ensures.sound c.in_ok-session.ensures.face (omega arith) refl refl (subst (λ n. AreLeft (taken_in (held n)) (record { faces = 3; loops = 3; edges = 6; vertices = 3 })) (sym c.in_ok-session.ensures.made) wedge_left))
     (c.raised-session.ensures.refused refusal is)
 
 -- the normal of a face, by its plane
