@@ -7,7 +7,7 @@ use Rattle.euler_operators.specs.Table as table
 use Rattle.euler_operators.proofs.Common.{in-holds, mate_there, holds_in, loop_there, dif-parts, difs, same_dif, same_vector, moved_none, dot_moved, dot_turned, dot_origin, dot_sum, add_none, IsIn_rest, IsIn_first, each_mapped, IsIn_head, canonical_nil, count-canonical, count-append, tick_same, tick_other, IsIn_or_not, edge_of-mate, mate-mate, all_where-map, SameItems-from_permutation, ring_stays}
 use Rattle.euler_laws.proofs.Common.{first_listed, rest_listed, listed_passes, listed_as, all_where-rises, IsIn-from_listed, light, loop_row, face_there, counted_once, none_counted}
 use Rattle.shapes.specs.Common.{start, finish, loops_of, items_in, boundary, vertices_on, corners, area, normal, anchor, first_vertex, volume_in, six_volume, plane_of, is_flat, towards, negated}
-use Rattle.shapes.proofs.Common.{area-append, cross_nothing, begins, Leads, loop_closed, items_there, area_same, area_mates, own_opposite, count-mates, area_back, moved_back, dot_back, list_parts, are_on, plane_told}
+use Rattle.shapes.proofs.Common.{area-append, cross_nothing, begins, IsPathTo, loop_closed, items_there, area_same, area_mates, own_opposite, count-mates, area_back, moved_back, dot_back, list_parts, are_on, plane_told}
 use Rattle.solid_measure_laws.specs.Models.{shifted, normals_in, run_back, row_back, turned}
 use Rattle.std.proofs.lemmas.Bool.Decides.{nat_tests, eqb_tells}
 use Rattle.std.specs.List.{list_all}
@@ -67,7 +67,7 @@ module _ (M : Model) (d : Point) where
     finish_moved : (h : ℕ) → HasHalf M h → finish N h ≡ moved (finish M h) d
     finish_moved h there = start_moved (mate h) (mate_there M h there)
 
-    path_moved : (hs : List ℕ) (e : Point) → Leads M hs e → ((h : ℕ) → IsIn h hs → HasHalf M h) → area N hs ≡ moved (area M hs) (cross d (towards (begins M hs e) e))
+    path_moved : (hs : List ℕ) (e : Point) → IsPathTo M hs e → ((h : ℕ) → IsIn h hs → HasHalf M h) → area N hs ≡ moved (area M hs) (cross d (towards (begins M hs e) e))
     path_moved [] e leads there = sym (stays d e origin)
     path_moved (h ∷ hs) e leads there =
         let t = there h (IsIn_head h hs) in

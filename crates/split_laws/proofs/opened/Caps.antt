@@ -7,7 +7,7 @@ use Rattle.euler_operators.specs.Common.{Point, Plane, origin, moved, cross, sam
 use Rattle.euler_operators.proofs.Common.{tick_other, from_map, count-reverse, count-canonical, IsIn_head, content_row, mate_there, get-put_here, get-put_other, none_moved, IsIn_rest, IsIn_some_head, IsIn-map}
 use Rattle.euler_operators.specs.Table as table
 use Rattle.shapes.specs.Common.{start, finish, items_in, Taken, numbers_after, next_place, area, normal, anchor, first_vertex, is_plane_of, negated, opened_along}
-use Rattle.shapes.proofs.Common.{flat_closed, Leads, IsClosed, cross_moved, cross_nothing, none_left, area_same, area_mates}
+use Rattle.shapes.proofs.Common.{flat_closed, IsPathTo, IsClosed, cross_moved, cross_nothing, none_left, area_same, area_mates}
 use Rattle.split_opening_laws.specs.strips.Opened.{CanBeOpened}
 use Rattle.split_opening_laws.proofs.strips.Cycle.{next_cases, next_within, half_in, mate_start, place_of}
 pub use Rattle.split_opening_laws.proofs.sections.InTurn.{lower_row, loop_kinds}
@@ -36,7 +36,7 @@ each_on M p (g ∷ hs) on h i = let a = and_parts (is_on p (start M g)) _ on in 
 -- ---- paths
 
 leads_by : (M : Model) (hs : List ℕ) (e : Point) → ((i : ℕ) → suc i < length hs → finish M (get_or hs i 0) ≡ start M (get_or hs (suc i) 0)) →
-    ((i : ℕ) → suc i ≡ length hs → finish M (get_or hs i 0) ≡ e) → Leads M hs e
+    ((i : ℕ) → suc i ≡ length hs → finish M (get_or hs i 0) ≡ e) → IsPathTo M hs e
 leads_by M [] e step last = tt
 leads_by M (h ∷ []) e step last = (last 0 (omega arith), tt)
 leads_by M (h ∷ g ∷ gs) e step last = (step 0 (omega arith), leads_by M (g ∷ gs) e (λ i l. step (suc i) (omega (arith, l))) (λ i q. last (suc i) (omega (arith, q))))
