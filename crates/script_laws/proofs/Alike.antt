@@ -3,7 +3,7 @@ use Rattle.std.proofs.Common.{◌≡◌, ◌≢◌, inr, ℕ, Bool, true, false,
 use Rattle.euler_operators.specs.declared.Refusal.{Refusal}
 use Rattle.euler_operators.specs.Common.{Model}
 use Rattle.undo_journal.specs.Machine.{Machine, held, undo_refusal, undo}
-use Rattle.script_reader.specs.Grammar.{command_of}
+use Rattle.script_reader.specs.Grammar.{request_of}
 use Rattle.script_reader.specs.Lines.{lines_of}
 use Rattle.script_reader.specs.Newline as newline
 use Rattle.script_reader.specs.Words.{words}
@@ -79,7 +79,7 @@ all_alike back s t r h k u = subst (λ (M : Model). SameTurn back (answered s r)
 line_alike : (back : Bool) (s t : Machine) (line : List ℕ) → Alike back s t → words line ≢ codes "redo" ∷ [] → (back ≡ false → words line ≢ codes "undo" ∷ [])
     → (answer_of s line ≡ answer_of t line) × Alike back (machine_after s line) (machine_after t line)
 unfolding answer_of machine_after
-line_alike back s t line h k u = let turn = all_alike back s t (command_of line) h (no_redo line k) (λ b. no_undo line (u b)) in (turn.answer, turn.machines)
+line_alike back s t line h k u = let turn = all_alike back s t (request_of line) h (no_redo line k) (λ b. no_undo line (u b)) in (turn.answer, turn.machines)
 
 text_alike : (s t : Machine) (a : Answer) → s.present ≡ t.present → answer_text s a ≡ answer_text t a
 text_alike s t Silent e = refl
@@ -150,7 +150,7 @@ answered_forward s (Err k) u = other_forward s _ refl
 
 line_forward : (s : Machine) (line : List ℕ) → words line ≢ codes "undo" ∷ [] → answer_of s line ≡ done → (machine_after s line).past ≡ s.present ∷ s.past
 unfolding answer_of machine_after
-line_forward s line u e = (answered_forward s (command_of line) (no_undo line u)).step e
+line_forward s line u e = (answered_forward s (request_of line) (no_undo line u)).step e
 
 -- ---- taken back
 

@@ -2,7 +2,7 @@
 use Rattle.std.proofs.Common.{◌≡◌, ◌⊎◌, inl, inr, ℕ, false, List, [], ◌∷◌, ◌++◌, codes, Option, Some, None, Result, Ok, Err, refl, sym, ap, ◌∙◌, append-nil}
 use Rattle.euler_operators.specs.declared.Refusal.{Refusal}
 use Rattle.undo_journal.specs.Machine.{Machine}
-use Rattle.script_reader.specs.Grammar.{command_of}
+use Rattle.script_reader.specs.Grammar.{request_of}
 use Rattle.script_reader.specs.Lines.{lines_of}
 use Rattle.script_reader.specs.Newline as newline
 use Rattle.commands.specs.declared.command.Command.{Command}
@@ -45,7 +45,7 @@ answered_stays s (Err f) = inr refl
 
 line_stays : (s : Machine) (line : List ℕ) → (answer_of s line ≡ done) ⊎ (machine_after s line ≡ s)
 unfolding answer_of machine_after
-line_stays s line = answered_stays s (command_of line)
+line_stays s line = answered_stays s (request_of line)
 
 pub done_text : reply_text reply.Done ≡ codes "ok\n"
 unfolding reply_text

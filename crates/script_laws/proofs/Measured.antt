@@ -10,7 +10,7 @@ use Rattle.plane_split.specs.Machine.{plane_with, split, split_refusal}
 use Rattle.plane_split.specs.SplitModels.{PartsAreHeld, HeldShareVolumes}
 use Rattle.command_laws.specs.Solids.{BlocksAreThere}
 use Rattle.solid_measure.specs.Measure.{answer, solid_refusal, six_volume}
-use Rattle.script_reader.specs.Grammar.{command_of}
+use Rattle.script_reader.specs.Grammar.{request_of}
 use Rattle.script_reader.specs.Newline as newline
 use Rattle.commands.specs.declared.command.Change.TheVariants as change
 use Rattle.commands.specs.declared.command.Question.TheVariants as question
@@ -72,7 +72,7 @@ volume_adds script n z h small there is =
     adds_from script (volume_line n) (volume_answer z) h (one_answer s ask (volume_lacks n small) ∙ ap (answer_text (machine_after s ask)) said ∙ volume_text z)
 
 -- the machine behind a line that was answered `ok`, whose command is known
-module _ (script line : List ℕ) (c : Request) (o : Option Refusal) (next : Machine) (h : EndsLine script) (lacks : newline.Lacks line) (spelled : command_of line ≡ Ok c)
+module _ (script line : List ℕ) (c : Request) (o : Option Refusal) (next : Machine) (h : EndsLine script) (lacks : newline.Lacks line) (spelled : request_of line ≡ Ok c)
     (is : obeyed (reached script) c ≡ moved o (reached script) next) (added : Adds script (ended line) (codes "ok\n")) where
   none_refused : o ≡ None
   none_refused = not_refused o (reached script) next (ap (λ (x : Answer × Machine). x.0) (sym is) ∙ sym (answer_is (reached script) line c spelled) ∙ answered_ok script line h lacks added)

@@ -2,7 +2,7 @@
 use Rattle.std.proofs.Common.{◌≡◌, ◌≢◌, inl, inr, ℕ, List, [], ◌∷◌, codes, Ok, ap, ◌∙◌}
 use Rattle.script_reader.specs.Places.{Word}
 use Rattle.script_reader.specs.Words.{words}
-use Rattle.script_reader.specs.Grammar.{kinds_of, build, word_of, command_of}
+use Rattle.script_reader.specs.Grammar.{kinds_of, build, word_of, request_of}
 use Rattle.script_reader.specs.Spelling.{Spells, WordsSpell}
 use Rattle.commands.specs.declared.command.Command.TheVariants as command
 use Rattle.script_reader.specs.declared.command.Request.{Request}
@@ -51,7 +51,7 @@ undo_words (w ∷ ws) (inl h) = absurd (cc h.1)
 undo_words (w ∷ ws) (inr (n, e, s)) = undo_named n w ws e s
 
 -- a line that isn't this word alone doesn't spell it
-pub no_undo : (line : List ℕ) → words line ≢ codes "undo" ∷ [] → command_of line ≢ Ok undoing
+pub no_undo : (line : List ℕ) → words line ≢ codes "undo" ∷ [] → request_of line ≢ Ok undoing
 no_undo line other e = other (undo_words (words line) (line_ok line undoing e).2)
 
 redo_named : (n : Name) (w : Word) (ws : List Word) → w ≡ word_of n → Spells (kinds_of n) (build n) ws redoing → w ∷ ws ≡ codes "redo" ∷ []
@@ -84,5 +84,5 @@ redo_words (w ∷ ws) (inl h) = absurd (cc h.1)
 redo_words (w ∷ ws) (inr (n, e, s)) = redo_named n w ws e s
 
 -- a line that isn't this word alone doesn't spell it
-pub no_redo : (line : List ℕ) → words line ≢ codes "redo" ∷ [] → command_of line ≢ Ok redoing
+pub no_redo : (line : List ℕ) → words line ≢ codes "redo" ∷ [] → request_of line ≢ Ok redoing
 no_redo line other e = other (redo_words (words line) (line_ok line redoing e).2)

@@ -3,7 +3,7 @@ use Rattle.std.proofs.Common.{◌≡◌, ◌⊎◌, inl, inr, ℕ, false, List, 
 use Rattle.std.proofs.lemmas.Bool.{false≢true}
 use Rattle.std.specs.List.{AllByRecursion}
 use Rattle.undo_journal.specs.Machine.{Machine}
-use Rattle.script_reader.specs.Grammar.{command_of}
+use Rattle.script_reader.specs.Grammar.{request_of}
 use Rattle.script_reader.specs.Lined.{IsLined}
 use Rattle.script_reader.specs.Lines.{lines_of, within_limit}
 use Rattle.script_reader.specs.Newline.{Lacks}
@@ -48,7 +48,7 @@ answers_stay s t (Ok r) a p e = obeys_stay s t r a p e
 answers_stay s t (Err f) a p e = p.1
 
 judges_stay : (s t : Journal) (line : List ℕ) (a : Answer) → Judges s line a t → a ≡ Says reply.Memory → t ≡ s
-judges_stay s t line a p e = answers_stay s t (command_of line) a p e
+judges_stay s t line a p e = answers_stay s t (request_of line) a p e
 
 memory_or : (a : Answer) → (a ≡ Says reply.Memory) ⊎ ((one_line a).memory ≡ 0)
 memory_or Silent = inr refl

@@ -6,7 +6,7 @@ use Rattle.euler_operators.specs.declared.Refusal.{Refusal}
 use Rattle.euler_operators.specs.Common.{Model}
 use Rattle.undo_journal.specs.Machine.{Machine, start, held, undo, undo_refusal, redo, redo_refusal}
 use Rattle.solid_measure.specs.Measure.{answer, face_refusal, solid_refusal, plane_of, is_flat, six_volume, counts}
-use Rattle.script_reader.specs.Grammar.{arguments, command_of}
+use Rattle.script_reader.specs.Grammar.{arguments, request_of}
 use Rattle.script_reader.specs.Lines.{lines_of}
 use Rattle.script_reader.specs.Words.{words}
 use Rattle.commands.specs.declared.command.Question.{Question}
@@ -31,24 +31,24 @@ use Rattle.script_laws.proofs.Texts.{is_ok, answer_oks, answer_ends, oks_append}
 
 -- ---- what the words spell
 
-pub undo_spelled : command_of (codes "undo") ≡ Ok undoing
+pub undo_spelled : request_of (codes "undo") ≡ Ok undoing
 unfolding arguments
 undo_spelled = refl
 
-pub redo_spelled : command_of (codes "redo") ≡ Ok redoing
+pub redo_spelled : request_of (codes "redo") ≡ Ok redoing
 unfolding arguments
 redo_spelled = refl
 
-pub list_spelled : command_of (codes "list") ≡ Ok request.List
+pub list_spelled : request_of (codes "list") ≡ Ok request.List
 unfolding arguments
 list_spelled = refl
 
 -- what a line is answered whose command is known
-pub answer_is : (s : Machine) (line : List ℕ) (c : Request) → command_of line ≡ Ok c → answer_of s line ≡ (obeyed s c).0
+pub answer_is : (s : Machine) (line : List ℕ) (c : Request) → request_of line ≡ Ok c → answer_of s line ≡ (obeyed s c).0
 unfolding answer_of
 answer_is s line c e = ap (λ (r : Result Request Fault). (answered s r).0) e
 
-pub machine_is : (s : Machine) (line : List ℕ) (c : Request) → command_of line ≡ Ok c → machine_after s line ≡ (obeyed s c).1
+pub machine_is : (s : Machine) (line : List ℕ) (c : Request) → request_of line ≡ Ok c → machine_after s line ≡ (obeyed s c).1
 unfolding machine_after
 machine_is s line c e = ap (λ (r : Result Request Fault). (answered s r).1) e
 
@@ -133,7 +133,7 @@ answered_first s (Err f) = record { same = refl }
 
 line_first : (s : Machine) (line : List ℕ) → first (machine_after s line) ≡ first s
 unfolding machine_after
-line_first s line = (answered_first s (command_of line)).same
+line_first s line = (answered_first s (request_of line)).same
 
 pub lines_first : (s : Machine) (lines : List (List ℕ)) → first (after s lines) ≡ first s
 lines_first s [] = refl
@@ -177,7 +177,7 @@ answered_grows s (Err f) h k = omega arith
 
 line_grows : (s : Machine) (line : List ℕ) → words line ≢ codes "undo" ∷ [] → words line ≢ codes "redo" ∷ [] → length (machine_after s line).past ≡ length s.past + cond (is_ok (answer_of s line)) 1 0
 unfolding machine_after answer_of
-line_grows s line h k = answered_grows s (command_of line) (no_undo line h) (no_redo line k)
+line_grows s line h k = answered_grows s (request_of line) (no_undo line h) (no_redo line k)
 
 output_oks : (s : Machine) (line : List ℕ) (rest : List ℕ) → oks (answer_text (machine_after s line) (answer_of s line) ++ rest) ≡ cond (is_ok (answer_of s line)) 1 0 + oks rest
 output_oks s line rest = let t = machine_after s line in let a = answer_of s line in

@@ -5,7 +5,7 @@ use Rattle.std.proofs.lemmas.Str.Parse.{digit_from_value}
 use Rattle.std.specs.Fmt.{signed_decimal}
 use Rattle.std.specs.List.{AllByRecursion}
 use Rattle.std.specs.Str.Parse.{AllDigits}
-use Rattle.script_reader.specs.Grammar.{command_of}
+use Rattle.script_reader.specs.Grammar.{request_of}
 use Rattle.script_reader.specs.Newline as newline
 use Rattle.script_reader.specs.Spelling.{HasNoGap, IsAtGap, IsParted, SaysNumber, SaysInteger, IsAscii, WordsSpell}
 use Rattle.script_reader.specs.Words.{words}
@@ -74,7 +74,7 @@ module _ (w : List ℕ) (ws : List (List ℕ)) (h : IsWord w) (k : AreWords ws) 
   line_lacks : newline.Lacks (w ++ spaced ws)
   line_lacks = Lacks-append w (spaced ws) (lacks_plain w h.plain) (spaced_lacks ws k)
 
-  line_spells : (c : Request) → length ws ≤ 100 → WordsSpell (w ∷ ws) c → command_of (w ++ spaced ws) ≡ Ok c
+  line_spells : (c : Request) → length ws ≤ 100 → WordsSpell (w ∷ ws) c → request_of (w ++ spaced ws) ≡ Ok c
   line_spells c few s = ok_line (w ++ spaced ws) c (
     omega (arith, few, h.short, spaced_short ws k, length-append w (spaced ws)),
     ascii_append w (spaced ws) h.plain (spaced_ascii ws k),
@@ -128,7 +128,7 @@ module _ (n : ℕ) (x y z dx dy dz : ℤ) (h : n < 2 ^ 32) (k : AllByRecursion I
   pub block_lacks : newline.Lacks (codes "block" ++ spaced (decimal n ∷ map signed_decimal (x ∷ y ∷ z ∷ dx ∷ dy ∷ dz ∷ [])))
   block_lacks = line_lacks (codes "block") (decimal n ∷ map signed_decimal (x ∷ y ∷ z ∷ dx ∷ dy ∷ dz ∷ [])) block_word block_words
 
-  pub block_spelled : command_of (codes "block" ++ spaced (decimal n ∷ map signed_decimal (x ∷ y ∷ z ∷ dx ∷ dy ∷ dz ∷ []))) ≡ Ok (request.Give (command.Change (change.Block n (record { x = x; y = y; z = z }) dx dy dz)))
+  pub block_spelled : request_of (codes "block" ++ spaced (decimal n ∷ map signed_decimal (x ∷ y ∷ z ∷ dx ∷ dy ∷ dz ∷ []))) ≡ Ok (request.Give (command.Change (change.Block n (record { x = x; y = y; z = z }) dx dy dz)))
   block_spelled = line_spells (codes "block") (decimal n ∷ map signed_decimal (x ∷ y ∷ z ∷ dx ∷ dy ∷ dz ∷ [])) block_word block_words (request.Give (command.Change (change.Block n (record { x = x; y = y; z = z }) dx dy dz))) (omega arith) (inr (
     name.Block,
     refl,
@@ -152,7 +152,7 @@ module _ (n m : ℕ) (a b c d : ℤ) (h : n < 2 ^ 32) (j : m < 2 ^ 32) (k : AllB
   pub split_lacks : newline.Lacks (codes "split" ++ spaced (decimal n ∷ signed_decimal a ∷ signed_decimal b ∷ signed_decimal c ∷ signed_decimal d ∷ decimal m ∷ []))
   split_lacks = line_lacks (codes "split") (decimal n ∷ signed_decimal a ∷ signed_decimal b ∷ signed_decimal c ∷ signed_decimal d ∷ decimal m ∷ []) split_word split_words
 
-  pub split_spelled : command_of (codes "split" ++ spaced (decimal n ∷ signed_decimal a ∷ signed_decimal b ∷ signed_decimal c ∷ signed_decimal d ∷ decimal m ∷ [])) ≡ Ok (request.Give (command.Change (change.Split n a b c d m)))
+  pub split_spelled : request_of (codes "split" ++ spaced (decimal n ∷ signed_decimal a ∷ signed_decimal b ∷ signed_decimal c ∷ signed_decimal d ∷ decimal m ∷ [])) ≡ Ok (request.Give (command.Change (change.Split n a b c d m)))
   split_spelled = line_spells (codes "split") (decimal n ∷ signed_decimal a ∷ signed_decimal b ∷ signed_decimal c ∷ signed_decimal d ∷ decimal m ∷ []) split_word split_words (request.Give (command.Change (change.Split n a b c d m))) (omega arith) (inr (
     name.Split,
     refl,
@@ -163,5 +163,5 @@ module _ (n : ℕ) (h : n < 2 ^ 32) where
   pub volume_lacks : newline.Lacks (codes "volume" ++ spaced (decimal n ∷ []))
   volume_lacks = line_lacks (codes "volume") (decimal n ∷ []) volume_word (decimal_word n (omega (arith, h)), tt)
 
-  pub volume_spelled : command_of (codes "volume" ++ spaced (decimal n ∷ [])) ≡ Ok (request.Give (command.Ask (question.Volume n)))
+  pub volume_spelled : request_of (codes "volume" ++ spaced (decimal n ∷ [])) ≡ Ok (request.Give (command.Ask (question.Volume n)))
   volume_spelled = line_spells (codes "volume") (decimal n ∷ []) volume_word (decimal_word n (omega (arith, h)), tt) (request.Give (command.Ask (question.Volume n))) (omega arith) (inr (name.Volume, refl, (n, [], (says_number n h, refl), (refl, refl))))

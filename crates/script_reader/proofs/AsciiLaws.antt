@@ -2,7 +2,7 @@
 use Rattle.std.proofs.Common.{◌≡◌, ℕ, zero, suc, ◌<◌, ◌≤◌, Bool, true, false, List, [], ◌∷◌, Err, length, sym, refl, arith, nat_lt, slice_index, MatchBool, IsAscii}
 use Rattle.std.specs.Str.{IsNotAscii}
 use Rattle.std.proofs.lemmas.Bool.Decides.{nat_tests}
-use Rattle.script_reader.specs.Grammar.{is_ascii, command_of}
+use Rattle.script_reader.specs.Grammar.{is_ascii, request_of}
 use Rattle.script_reader.specs.declared.command.Fault.TheVariants.{NotAscii}
 
 all_below : (line : List ℕ) → IsAscii line → is_ascii line ≡ true
@@ -24,5 +24,5 @@ ascii_is line true all = sym (all_below line all)
 ascii_is line false some = sym (one_above line some.0 some.1)
 
 -- what is told of a line within the limit that isn't ASCII
-pub told_not_ascii : (line : List ℕ) → nat_lt 65536 (length line) ≡ false → is_ascii line ≡ false → Err NotAscii ≡ command_of line
+pub told_not_ascii : (line : List ℕ) → nat_lt 65536 (length line) ≡ false → is_ascii line ≡ false → Err NotAscii ≡ request_of line
 told_not_ascii line short other = rw (short, other) refl

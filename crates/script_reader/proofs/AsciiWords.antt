@@ -8,7 +8,7 @@ use Rattle.std.proofs.lemmas.Str.Parse.{digit_from_value}
 use Rattle.euler_operators.specs.Common.{Point, HalfEdge, Corner, At, Lone}
 use Rattle.script_reader.specs.Words.{is_space, joined, words}
 use Rattle.script_reader.specs.Places.{Word, Kind, Number, Integer, Half, AnyCorner, Place, Places, InOrOut, Meaning}
-use Rattle.script_reader.specs.Grammar.{Builder, names, word_of, kinds_of, build, is_ascii, command_of_words, command_of}
+use Rattle.script_reader.specs.Grammar.{Builder, names, word_of, kinds_of, build, is_ascii, request_of_words, request_of}
 use Rattle.script_reader.specs.declared.command.Request.{Request}
 use Rattle.script_reader.specs.declared.command.Request.TheVariants.{Nothing}
 use Rattle.script_reader.specs.declared.name.Name.{Name}
@@ -125,7 +125,7 @@ line_ascii (b ∷ line) h = elim (cases_Bool (is_space b)) [
 ]
 
 -- a line within the limit whose words spell a command that does something spells that command
-pub words_tell : (line : List ℕ) (d : Request) → nat_lt 65536 (length line) ≡ false → command_of_words (words line) ≡ Ok d → d ≢ Nothing → command_of line ≡ Ok d
+pub words_tell : (line : List ℕ) (d : Request) → nat_lt 65536 (length line) ≡ false → request_of_words (words line) ≡ Ok d → d ≢ Nothing → request_of line ≡ Ok d
 words_tell line d short e some =
     let ascii = told_ascii line (line_ascii line (command_ascii (words line) d (words_ok (words line) d e) some)) in
     rw (short, ascii, e) refl

@@ -5,7 +5,7 @@ use Rattle.std.proofs.lemmas.Bool.Decides.{nat_tests}
 use Rattle.std.proofs.lemmas.Slice.Eq.{bytes_eq-Decides}
 use Rattle.script_reader.specs.Words.{words}
 use Rattle.script_reader.specs.Places.{Word, Kind, read}
-use Rattle.script_reader.specs.Grammar.{Builder, names, word_of, kinds_of, build, read_all, name_of, arguments, is_comment, command_of_words, is_ascii, command_of}
+use Rattle.script_reader.specs.Grammar.{Builder, names, word_of, kinds_of, build, read_all, name_of, arguments, is_comment, request_of_words, is_ascii, request_of}
 use Rattle.script_reader.specs.declared.command.Request.{Request}
 use Rattle.script_reader.specs.declared.command.Request.TheVariants.{Nothing}
 use Rattle.script_reader.specs.declared.command.Fault.{Fault}
@@ -130,7 +130,7 @@ err_arguments n ws f h = err_all (kinds_of n) (build n) ws f h
 
 -- ---- the words of a line
 
-pub words_ok : (ws : List Word) (d : Request) → command_of_words ws ≡ Ok d → WordsSpell ws d
+pub words_ok : (ws : List Word) (d : Request) → request_of_words ws ≡ Ok d → WordsSpell ws d
 words_ok [] d e = cc e
 words_ok (w ∷ ws) d e = elim (cases_Bool (is_comment w)) [
   | inl is ↦ let same : d ≡ Nothing = cc (rw is at e) in inl (comment_told w is, same)
@@ -144,7 +144,7 @@ words_ok (w ∷ ws) d e = elim (cases_Bool (is_comment w)) [
 named : (w : Word) (n : Name) → w ≡ word_of n → (is_comment w ≡ false) × (name_of w ≡ Some n)
 named w n e = (rw e (no_comment n), rw e (spelled_name n))
 
-ok_words : (ws : List Word) (d : Request) → WordsSpell ws d → command_of_words ws ≡ Ok d
+ok_words : (ws : List Word) (d : Request) → WordsSpell ws d → request_of_words ws ≡ Ok d
 ok_words [] d s = rw s refl
 ok_words (w ∷ ws) d s = elim s [
   | inl note ↦ rw (told_comment w note.0, note.1) refl
@@ -153,7 +153,7 @@ ok_words (w ∷ ws) d s = elim s [
       rw (is.0, is.1) (ok_arguments known.0 ws d known.2)
 ]
 
-words_err : (ws : List Word) (f : Fault) → command_of_words ws ≡ Err f → WordsMisspell ws f
+words_err : (ws : List Word) (f : Fault) → request_of_words ws ≡ Err f → WordsMisspell ws f
 words_err [] f e = absurd (cc e)
 words_err (w ∷ ws) f e = elim (cases_Bool (is_comment w)) [
   | inl is ↦ absurd (cc (rw is at e))
@@ -166,7 +166,7 @@ words_err (w ∷ ws) f e = elim (cases_Bool (is_comment w)) [
   )
 ]
 
-err_words : (ws : List Word) (f : Fault) → WordsMisspell ws f → command_of_words ws ≡ Err f
+err_words : (ws : List Word) (f : Fault) → WordsMisspell ws f → request_of_words ws ≡ Err f
 err_words [] f h = absurd h
 err_words (w ∷ ws) f h = elim h.1 [
   | inl unknown ↦ elim (cases_Bool (is_comment w)) [
@@ -206,7 +206,7 @@ long_is n h = grind (arith, nat_tests, h)
 short_is : (n : ℕ) → n ≤ 65536 → nat_lt 65536 n ≡ false
 short_is n h = grind (arith, nat_tests, h)
 
-pub line_ok : (line : List ℕ) (d : Request) → command_of line ≡ Ok d → LineSpells line d
+pub line_ok : (line : List ℕ) (d : Request) → request_of line ≡ Ok d → LineSpells line d
 line_ok line d e = elim (cases_Bool (nat_lt 65536 (length line))) [
   | inl long ↦ absurd (cc (rw long at e))
   | inr short ↦ elim (cases_Bool (is_ascii line)) [
@@ -215,10 +215,10 @@ line_ok line d e = elim (cases_Bool (nat_lt 65536 (length line))) [
   ]
 ]
 
-pub ok_line : (line : List ℕ) (d : Request) → LineSpells line d → command_of line ≡ Ok d
+pub ok_line : (line : List ℕ) (d : Request) → LineSpells line d → request_of line ≡ Ok d
 ok_line line d s = rw (short_is (length line) s.0, told_ascii line s.1) (ok_words (words line) d s.2)
 
-pub line_err : (line : List ℕ) (f : Fault) → command_of line ≡ Err f → LineMisspells line f
+pub line_err : (line : List ℕ) (f : Fault) → request_of line ≡ Err f → LineMisspells line f
 line_err line f e = elim (cases_Bool (nat_lt 65536 (length line))) [
   | inl long ↦ inl (is_long (length line) long, cc (rw long at e))
   | inr short ↦ elim (cases_Bool (is_ascii line)) [
@@ -227,7 +227,7 @@ line_err line f e = elim (cases_Bool (nat_lt 65536 (length line))) [
   ]
 ]
 
-pub err_line : (line : List ℕ) (f : Fault) → LineMisspells line f → command_of line ≡ Err f
+pub err_line : (line : List ℕ) (f : Fault) → LineMisspells line f → request_of line ≡ Err f
 err_line line f h = elim h [
   | inl long ↦ rw (long_is (length line) long.0, long.1) refl
   | inr short ↦ elim short [

@@ -173,13 +173,13 @@ opened opening.Nothing = Ok request.Nothing
 opened opening.BadWord = Err BadWord
 opened (opening.Command n ws) = arguments n ws
 
-abbrev pub command_of_words : List Word → Result Request Fault
-command_of_words ws = opened (opening_of ws)
+abbrev pub request_of_words : List Word → Result Request Fault
+request_of_words ws = opened (opening_of ws)
 
 abbrev pub is_ascii : List ℕ → Bool
 is_ascii [] = true
 is_ascii (b ∷ line) = nat_lt b 128 && is_ascii line
 
 -- what a line asks for, which is given without its newline, or its first fault
-abbrev pub command_of : List ℕ → Result Request Fault
-command_of line = if nat_lt 65536 (length line) then Err LongLine else (if is_ascii line then command_of_words (words line) else Err NotAscii)
+abbrev pub request_of : List ℕ → Result Request Fault
+request_of line = if nat_lt 65536 (length line) then Err LongLine else (if is_ascii line then request_of_words (words line) else Err NotAscii)

@@ -1,7 +1,7 @@
 //! Laws of the lines and the grammar of a script. Each function does nothing: its contract is what is proved.
 
 ghost use Rattle.std.specs.Prelude.{◌≡◌, ◌<◌, ◌≤◌, ℕ, List, [], ◌∷◌, ◌++◌, length, Option, Ok, Err, ◌↔◌};
-ghost use Rattle.script_reader.specs.Grammar.{command_of};
+ghost use Rattle.script_reader.specs.Grammar.{request_of};
 ghost use Rattle.script_reader.specs.Lines.{lines_of};
 ghost use Rattle.script_reader.specs.Words.{words};
 ghost use Rattle.script_reader.specs.declared.command.Request.{Request};
@@ -58,6 +58,6 @@ pub fn the_end_stays<R: Read>()
 
 /// What is read is spelled so, and what is spelled so is read. A fault has its cause, the first from the left.
 pub fn reading_is_spelling()
-    ensures command { (line : List ℕ) (c : Request) → (command_of line ≡ Ok c) ↔ LineSpells line c }
-    ensures fault { (line : List ℕ) (f : Fault) → (command_of line ≡ Err f) ↔ LineMisspells line f }
+    ensures command { (line : List ℕ) (c : Request) → (request_of line ≡ Ok c) ↔ LineSpells line c }
+    ensures fault { (line : List ℕ) (f : Fault) → (request_of line ≡ Err f) ↔ LineMisspells line f }
 {}

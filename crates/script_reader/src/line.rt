@@ -2,7 +2,7 @@
 ghost use Rattle.std.specs.Prelude.{◌≡◌, ⊤, nat_lt, length, MatchOption};
 ghost use Rattle.script_reader.specs.declared.line.Opening.TheVariants as opening;
 ghost use Rattle.script_reader.specs.Words.{words};
-ghost use Rattle.script_reader.specs.Grammar.{is_ascii, is_comment, opening_of, command_of_words, command_of};
+ghost use Rattle.script_reader.specs.Grammar.{is_ascii, is_comment, opening_of, request_of_words, request_of};
 
 use super::buffer::LINE_LIMIT;
 use super::command::{Fault, Request};
@@ -64,7 +64,7 @@ pub fn opening_of(line: &[u8]) -> Opening<'_>
 /// What the words of a line say, whatever its length and its other bytes. A request for something is what `read_line` says of a line within
 /// the limit, since each of its bytes belongs to a word that was read, or separates two.
 pub fn read_words(line: &[u8]) -> Result<Request<'_>, Fault>
-    ensures { result ≡ command_of_words (words line.now) }
+    ensures { result ≡ request_of_words (words line.now) }
 {
     match opening_of(line) {
         Opening::Nothing => Ok(Request::Nothing),
@@ -91,7 +91,7 @@ pub fn is_ascii(line: &[u8]) -> bool
 
 /// What a line asks for, which is given without its newline, or the line's first fault. It takes no memory.
 pub fn read_line(line: &[u8]) -> Result<Request<'_>, Fault>
-    ensures { result ≡ command_of line.now }
+    ensures { result ≡ request_of line.now }
 {
     if is_long(line) {
         return Err(Fault::LongLine);

@@ -1,6 +1,6 @@
 -- A line is a call of a history, and a run tells one.
 use Rattle.std.proofs.Common.{◌≡◌, inl, inr, ℕ, suc, Bool, List, [], ◌∷◌, ◌++◌, length, Option, Ok, Err, refl, sym, ap, subst, ◌∙◌, arith, Result, IfOk, append-nil}
-use Rattle.script_running.specs.Common.{Answer, Call, Change, Fault, IsCall, IsConsistent, Journal, Lamina, Machine, Request, RunFault, Sound, Summary, after_call, after_calls, command_of, held, lines_of, new_journal, start, within_limit}
+use Rattle.script_running.specs.Common.{Answer, Call, Change, Fault, IsCall, IsConsistent, Journal, Lamina, Machine, Request, RunFault, Sound, Summary, after_call, after_calls, held, lines_of, new_journal, request_of, start, within_limit}
 use Rattle.undo_journal.specs.Laws.{HistoriesAreConsistent}
 use Rattle.undo_journal.proofs.Journals.{same_machine}
 use Rattle.commands.proofs.Calls.{LargerAreCalls, stopped, command_is_call}
@@ -25,7 +25,7 @@ answers l s t (Ok r) a k h = obeys l s t r a k h
 answers l s t (Err f) a k h = stopped s.machine t.machine (same_machine h.1)
 
 pub lines_are_calls : LargerAreCalls → LinesAreCalls
-lines_are_calls l s t line a k h = answers l s t (command_of line) a k h
+lines_are_calls l s t line a k h = answers l s t (request_of line) a k h
 
 pub histories_make_consistent : HistoriesAreConsistent → HistoriesMakeConsistent
 histories_make_consistent consistent s h = subst IsConsistent h.lead (consistent h.calls)

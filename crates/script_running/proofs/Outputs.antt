@@ -1,7 +1,7 @@
 -- Lines that are answered without `memory` are answered by their output.
 use Rattle.std.proofs.Common.{◌≡◌, inl, inr, ℕ, Bool, true, false, List, [], ◌∷◌, ◌++◌, refl, sym, ap, subst, ◌∙◌, arith, Option, Some, None, Ok, Err, ◌⊎◌, Result, if◌then◌else◌, append-nil}
 use Rattle.std.proofs.lemmas.Bool.{false≢true}
-use Rattle.script_running.specs.Common.{Answer, Ask, Change, Command, Fault, IsRecorded, Journal, Lamina, Machine, Model, Question, Redo, Refusal, Says, Request, Settled, Summary, TellsSession, Told, Undo, accepted, after_redo, after_undo, asked, command_of, held, made, recorded, value_or_refusal}
+use Rattle.script_running.specs.Common.{Answer, Ask, Change, Command, Fault, IsRecorded, Journal, Lamina, Machine, Model, Question, Redo, Refusal, Says, Request, Settled, Summary, TellsSession, Told, Undo, accepted, after_redo, after_undo, asked, request_of, held, made, recorded, value_or_refusal}
 use Rattle.undo_journal.specs.declared.record.Record.{Record}
 use Rattle.undo_journal.proofs.Journals.{same_machine}
 use Rattle.commands.specs.declared.command.Question.TheVariants as question
@@ -58,7 +58,7 @@ answers_so s t (Err f) a h x = (h.0, same_machine h.1)
 
 pub judges_so : (s t : Journal) (line : List ℕ) (a : Answer) → Judges s line a t → IsQuiet a → (a ≡ answer_of s.machine line) × (t.machine ≡ machine_after s.machine line)
 unfolding answer_of machine_after
-judges_so s t line a h x = answers_so s t (command_of line) a h x
+judges_so s t line a h x = answers_so s t (request_of line) a h x
 
 -- ---- what the function gives may be answered, and isn't `memory`
 
@@ -104,11 +104,11 @@ answers_to s (Err f) = (s, (refl, refl), refl, refl)
 
 pub judges_to : (s : Journal) (line : List ℕ) → (t : Journal) × Judges s line (answer_of s.machine line) t × (t.machine ≡ machine_after s.machine line)
 unfolding answer_of machine_after
-judges_to s line = let x = answers_to s (command_of line) in (x.0, x.1, x.2)
+judges_to s line = let x = answers_to s (request_of line) in (x.0, x.1, x.2)
 
 answer_quiet : (s : Machine) (line : List ℕ) → IsQuiet (answer_of s line)
 unfolding answer_of
-answer_quiet s line = (answers_to (record { machine = s; records = [] }) (command_of line)).3
+answer_quiet s line = (answers_to (record { machine = s; records = [] }) (request_of line)).3
 
 -- ---- over all lines
 

@@ -4,7 +4,7 @@ use Rattle.std.proofs.lemmas.Bool.{false≢true}
 use Rattle.std.proofs.lemmas.Bool.Decides.{nat_tests}
 use Rattle.std.proofs.KnownBytes.{Appends-nil, Appends-kept}
 use Rattle.std.specs.Io.KnownBytes.{Appends, Keeps, Consumes, IsAtEnd}
-use Rattle.script_running.specs.Common.{Answer, EndsEarly, Fault, Found, Gathers, HasRead, IsFresh, Journal, Lines, LongLine, NotAscii, Outgoing, Puts, Says, Request, RunFault, Stops, Summary, command_of, command_of_words, is_ascii, line_of, lines_of, new_journal, outgoing, reader_of, taken_of, to_come, unread_of, within_limit}
+use Rattle.script_running.specs.Common.{Answer, EndsEarly, Fault, Found, Gathers, HasRead, IsFresh, Journal, Lines, LongLine, NotAscii, Outgoing, Puts, Says, Request, RunFault, Stops, Summary, request_of, request_of_words, is_ascii, line_of, lines_of, new_journal, outgoing, reader_of, taken_of, to_come, unread_of, within_limit}
 use Rattle.script_reader.specs.Next.{Went}
 use Rattle.script_reader.specs.Words.{words}
 use Rattle.script_reader.specs.declared.lines.Found.TheVariants as found
@@ -64,9 +64,9 @@ flushed remaining first lines old mid new stop s n p k = record {
   unstopped = p.unstopped;
 }
 
-long_told : (line : List ℕ) → 65536 < length line → command_of line ≡ Err LongLine
+long_told : (line : List ℕ) → 65536 < length line → request_of line ≡ Err LongLine
 long_told line h = let e : nat_lt 65536 (length line) ≡ true = grind (arith, nat_tests) in
-    ap (λ (b : Bool). if b then Err LongLine else (if is_ascii line then command_of_words (words line) else Err NotAscii)) e
+    ap (λ (b : Bool). if b then Err LongLine else (if is_ascii line then request_of_words (words line) else Err NotAscii)) e
 
 -- the next line was read and judged, or skipped as too long and told so
 abbrev pub Hears : {R : Type 0} → (R → Option (List ℕ)) → Lines R → Lines R → Journal → Answer → Journal → Type 0

@@ -12,7 +12,7 @@ pub use Rattle.commands.specs.declared.stage.Stage.TheVariants.{Drafting, Sessio
 pub use Rattle.commands.specs.declared.stage.Stage.{Stage}
 pub use Rattle.euler_operators.specs.Common.{Model, Point, Sound}
 pub use Rattle.euler_operators.specs.declared.Refusal.{Refusal}
-pub use Rattle.script_reader.specs.Grammar.{command_of, command_of_words, is_ascii, is_operator}
+pub use Rattle.script_reader.specs.Grammar.{is_ascii, is_operator, request_of, request_of_words}
 unfoldable pub use Rattle.script_reader.specs.Grammar.{arguments}
 pub use Rattle.script_reader.specs.Lines.{lines_of, with_newlines}
 unfoldable pub use Rattle.script_reader.specs.Lines.{within_limit}

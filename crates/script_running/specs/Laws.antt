@@ -1,6 +1,6 @@
 -- What lines are answered: as the calls that they are, and by one text where no memory is refused.
 use Rattle.std.specs.Prelude.{◌≡◌, ◌↔◌, ℕ, Bool, List, Option, Some, None, Ok}
-use Rattle.script_running.specs.Common.{Answer, Change, Command, Give, Journal, Lamina, Machine, Request, Session, Summary, Told, command_of}
+use Rattle.script_running.specs.Common.{Answer, Change, Command, Give, Journal, Lamina, Machine, Request, Session, Summary, Told, request_of}
 use Rattle.commands.specs.Telling.{Tells}
 use Rattle.script_reader.specs.declared.command.Request.TheVariants as request
 use Rattle.script_running.specs.script_judging.Judging.{answer_when, Judges}
@@ -15,7 +15,7 @@ asked_for (request.Lamina n ps) = Some (Change (Lamina n ps))
 asked_for (request.Give c) = Some c
 
 abbrev pub AsksFor : List ℕ → Command → Type 0
-AsksFor line c = (r : Request) × (command_of line ≡ Ok r) × (asked_for r ≡ Some c)
+AsksFor line c = (r : Request) × (request_of line ≡ Ok r) × (asked_for r ≡ Some c)
 
 -- a line that spells a command is answered so exactly where the call to give it is told what is answered so, and leads on alike
 abbrev pub LinesAreTold : Type 0

@@ -1,6 +1,6 @@
 -- The output of a script, as a function of its lines: what they are answered where no memory is refused.
 use Rattle.std.specs.Prelude.{ℕ, Bool, List, [], ◌∷◌, ◌++◌, Option, Some, None, Result, Ok, Err, if◌then◌else◌}
-use Rattle.script_running.specs.Common.{Answer, Ask, Change, Command, Fault, Lamina, Listing, Machine, Redo, Refusal, Request, Silent, Summary, Undo, accepted, asked, command_of, held, made, redo, redo_refusal, refusal_of, start, undo, undo_refusal}
+use Rattle.script_running.specs.Common.{Answer, Ask, Change, Command, Fault, Lamina, Listing, Machine, Redo, Refusal, Request, Silent, Summary, Undo, accepted, asked, held, made, redo, redo_refusal, refusal_of, request_of, start, undo, undo_refusal}
 use Rattle.script_reader.specs.declared.command.Request.TheVariants as request
 use Rattle.script_running.specs.script_judging.Judging.{done, refused, faulty, answer_when, answer_text, no_lines, one_line, counted}
 use Rattle.script_running.specs.Outs.{stops}
@@ -31,10 +31,10 @@ answered s (Err f) = (faulty f, s)
 
 -- what a line is answered from s, and the machine after it
 unfoldable pub answer_of : Machine → List ℕ → Answer
-answer_of s line = (answered s (command_of line)).0
+answer_of s line = (answered s (request_of line)).0
 
 unfoldable pub machine_after : Machine → List ℕ → Machine
-machine_after s line = (answered s (command_of line)).1
+machine_after s line = (answered s (request_of line)).1
 
 -- what the lines are answered from s on: all of them, or those up to the answer that stops the run
 abbrev pub output_from : Bool → Machine → List (List ℕ) → List ℕ

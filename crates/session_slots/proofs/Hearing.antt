@@ -3,11 +3,11 @@ use Rattle.std.proofs.Common.{◌≡◌, ◌∙◌, inl, inr, ℕ, Bool, true, f
 use Rattle.std.proofs.lemmas.Bool.{cases_Bool}
 use Rattle.session_slots.specs.Common.{Request, Fault, Counters, Counts_in, Spoken, gives, tells, read, spoken, said_of, lacks_said, Slot_says, Slot_hears, Slot_notes, Unless_lacking, Slot}
 use Rattle.script_reader.specs.Words.{words}
-use Rattle.script_reader.specs.Grammar.{is_ascii, command_of_words}
+use Rattle.script_reader.specs.Grammar.{is_ascii, request_of_words}
 use Rattle.script_reader.proofs.AsciiWords.{words_tell}
 
 -- a line that is read once, and looked at again only where its words ask for nothing, or are wrong
-spoken_is : (line : List ℕ) (r : Result Request Fault) → nat_lt 65536 (length line) ≡ false → command_of_words (words line) ≡ r → spoken line ≡ said_of line r
+spoken_is : (line : List ℕ) (r : Result Request Fault) → nat_lt 65536 (length line) ≡ false → request_of_words (words line) ≡ r → spoken line ≡ said_of line r
 spoken_is line (Ok Request.Nothing) short e = elim (cases_Bool (is_ascii line)) [
   | inl ascii ↦ rw (short, ascii, e) refl
   | inr other ↦ rw (short, other) refl
@@ -18,7 +18,7 @@ spoken_is line (Err f) short e = elim (cases_Bool (is_ascii line)) [
 ]
 spoken_is line (Ok c) short e = ap read (words_tell line c short e (λ same. absurd (cc same)))
 
-pub words_heard : (line : List ℕ) (r : Result Request Fault) (x y : Slot) (heard : Bool) → nat_lt 65536 (length line) ≡ false → command_of_words (words line) ≡ r
+pub words_heard : (line : List ℕ) (r : Result Request Fault) (x y : Slot) (heard : Bool) → nat_lt 65536 (length line) ≡ false → request_of_words (words line) ≡ r
     → Unless_lacking (lacks_said (said_of line r) x.stage) (λ u v. Slot_says u (said_of line r) v) x y heard → Unless_lacking (lacks_said (spoken line) x.stage) (λ u v. Slot_hears u line v) x y heard
 words_heard line r x y heard short e h =
     subst (λ (s : Spoken). Unless_lacking (lacks_said s x.stage) (λ u v. Slot_says u s v) x y heard) (sym (spoken_is line r short e)) h

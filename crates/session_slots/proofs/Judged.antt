@@ -1,6 +1,6 @@
 -- What a session is told of a call is what a script's line is answered that asks for it.
 use Rattle.std.proofs.Common.{◌≡◌, ◌∙◌, Option, Some, None, Ok, Err, refl, sym, ap, Result}
-use Rattle.session_slots.specs.Common.{Refusal, Journal, command_of, Request, Fault, answer, face_refusal, solid_refusal, plane_of, is_flat, six_volume, counts, answer_when, Answer, Change, Question, Command, Call, Told, Stage, Settled, TellsSession, value_or_refusal, answer_after, Slot_makes, Slot_says, read, LinesAreJudged, Slot}
+use Rattle.session_slots.specs.Common.{Refusal, Journal, request_of, Request, Fault, answer, face_refusal, solid_refusal, plane_of, is_flat, six_volume, counts, answer_when, Answer, Change, Question, Command, Call, Told, Stage, Settled, TellsSession, value_or_refusal, answer_after, Slot_makes, Slot_says, read, LinesAreJudged, Slot}
 use Rattle.undo_journal.specs.Machine.{held}
 use Rattle.script_running.specs.script_judging.Judging.{Gives, Answers}
 
@@ -50,4 +50,4 @@ module _ (old new : Slot) (s : Journal) (is : old.stage ≡ Some (Stage.Session 
   judged (Ok (Request.Give c)) h = given c h
 
 pub lines_are_judged : LinesAreJudged
-lines_are_judged old new bytes s is h = judged old new s is (command_of bytes) h
+lines_are_judged old new bytes s is h = judged old new s is (request_of bytes) h

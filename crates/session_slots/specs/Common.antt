@@ -1,6 +1,6 @@
 -- The definitions that proofs, contracts and the crates above cite, passed on from one place. Declares nothing.
 pub mod Below
-pub use Rattle.session_slots.specs.Common.Below.{Answer, Call, Change, Command, Content, Corner, Counters, Counts, Edge, EdgeRow, Face, FaceRow, Fault, HalfEdge, HalfEdgeRow, IsIn, IsNextFace, IsNextNumber, IsNextRing, IsRotation, Journal, Judges, Kind, Loop, LoopContent, LoopRow, Model, Op, Place, Plane, PlaneRow, Point, Question, Refusal, Refused, Request, Settled, Slot, Solid, Sound, Stage, Store, Taken, Tells, TellsSession, Told, Vertex, Way, Wide, answer, answer_when, asked, command_of, counts, cycle, cycle_of, empty_store, face_refusal, faulty, has, has_half, is_flat, items_of, lone, minus, new_journal, no_loop, plane_of, plus, redos, shown, six_volume, solid_refusal, steps_in, taken_of, told_of, undos, unless_not_ascii, value_or_refusal}
+pub use Rattle.session_slots.specs.Common.Below.{Answer, Call, Change, Command, Content, Corner, Counters, Counts, Edge, EdgeRow, Face, FaceRow, Fault, HalfEdge, HalfEdgeRow, IsIn, IsNextFace, IsNextNumber, IsNextRing, IsRotation, Journal, Judges, Kind, Loop, LoopContent, LoopRow, Model, Op, Place, Plane, PlaneRow, Point, Question, Refusal, Refused, Request, Settled, Slot, Solid, Sound, Stage, Store, Taken, Tells, TellsSession, Told, Vertex, Way, Wide, answer, answer_when, asked, counts, cycle, cycle_of, empty_store, face_refusal, faulty, has, has_half, is_flat, items_of, lone, minus, new_journal, no_loop, plane_of, plus, redos, request_of, shown, six_volume, solid_refusal, steps_in, taken_of, told_of, undos, unless_not_ascii, value_or_refusal}
 unfoldable pub use Rattle.session_slots.specs.Common.Below.{after, before, code, content, edge_of, face_of, half, loop_of, loops_of, outer, point_of, solid_of, tail, taken_in}
 pub use Rattle.session_slots.specs.Answered.{counts_in, fault_in, joined, joined_plane, plane_in, refusal_in, status_of, volume_in}
 pub use Rattle.session_slots.specs.Arguments.{polygon_of}

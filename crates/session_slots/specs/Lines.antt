@@ -1,6 +1,6 @@
 -- What a line does to a slot: it is a call, or is answered by itself.
 use Rattle.std.specs.Prelude.{◌≡◌, ℕ, Bool, true, false, List, Option, Result, Ok, Err}
-use Rattle.session_slots.specs.Common.Below.{Request, Fault, command_of, faulty, unless_not_ascii, Answer, Change, Command, Call, Stage, Slot}
+use Rattle.session_slots.specs.Common.Below.{Request, Fault, request_of, faulty, unless_not_ascii, Answer, Change, Command, Call, Stage, Slot}
 use Rattle.session_slots.specs.Stages.{lacks}
 use Rattle.session_slots.specs.Slots.{Slot_makes, Counts_in}
 
@@ -31,7 +31,7 @@ said_of bytes (Ok r) = said r
 said_of bytes (Err f) = tells (unless_not_ascii bytes (faulty f))
 
 abbrev pub spoken : List ℕ → Spoken
-spoken line = read (command_of line)
+spoken line = read (request_of line)
 
 -- whether a session or a draft hasn't the call
 abbrev pub lacks_said : Spoken → Option Stage → Bool

@@ -1,6 +1,6 @@
 -- What a line is answered.
 use Rattle.std.specs.Prelude.{◌≡◌, ℕ, ◌+◌, ℤ, pos, List, [], ◌∷◌, Result, Ok, Err}
-use Rattle.script_running.specs.Common.{Answer, Change, Command, Fault, Journal, Lamina, Listing, Machine, Refusal, Says, Request, Silent, Summary, TellsSession, Told, command_of, held, listing, reply_text}
+use Rattle.script_running.specs.Common.{Answer, Change, Command, Fault, Journal, Lamina, Listing, Machine, Refusal, Says, Request, Silent, Summary, TellsSession, Told, request_of, held, listing, reply_text}
 use Rattle.euler_operators.specs.Refusal as refusal
 use Rattle.solid_measure.specs.declared.solid_counts.Tally.{Tally}
 use Rattle.commands.specs.declared.command.Told.TheVariants as told
@@ -49,7 +49,7 @@ Answers s (Err f) a t = (a ≡ faulty f) × (t ≡ s)
 
 -- from s a session may answer a line so, and go on to t
 abbrev pub Judges : Journal → List ℕ → Answer → Journal → Type 0
-Judges s line a t = Answers s (command_of line) a t
+Judges s line a t = Answers s (request_of line) a t
 
 -- the text of an answer, where the listing is that of the model held
 abbrev pub answer_text : Machine → Answer → List ℕ

@@ -6,7 +6,7 @@ pub use Rattle.euler_conditions.specs.Store.{IsNextFace, IsNextNumber, IsNextRin
 pub use Rattle.euler_operators.specs.Common.{Content, Corner, Edge, Face, HalfEdge, IsIn, IsRotation, Kind, Loop, LoopContent, LoopRow, Model, Plane, Point, Solid, Sound, Vertex, cycle, cycle_of, has, has_half, items_of, lone, minus, no_loop, plus}
 unfoldable pub use Rattle.euler_operators.specs.Common.{after, before, code, content, edge_of, face_of, half, loop_of, outer, point_of, solid_of, tail}
 pub use Rattle.euler_operators.specs.declared.{Op.Op, Refusal.Refusal}
-pub use Rattle.script_reader.specs.Grammar.{command_of}
+pub use Rattle.script_reader.specs.Grammar.{request_of}
 pub use Rattle.script_reader.specs.declared.command.{Fault.Fault, Request.Request}
 pub use Rattle.script_running.specs.declared.script_judging.judging.Answer.{Answer}
 pub use Rattle.script_running.specs.script_judging.Judging.{Judges, answer_when, faulty}
