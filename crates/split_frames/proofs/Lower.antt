@@ -6,7 +6,7 @@ use Rattle.euler_operators.specs.Common.{IsIn, Plane, count, are_opposite, is_ab
 use Rattle.euler_operators.proofs.Common.{cycle_there, loop_there, mate_there, same_outer, tick_other, tick_same}
 use Rattle.euler_laws.proofs.Common.{back_of, half_after, loop_after}
 use Rattle.euler_laws.proofs.faces.RingIn as moving
-use Rattle.shapes.specs.Common.{AreLeft, Drawing, FacePairs, all_drawn, all_joined, all_pairs, corners, drawn_between, drawn_pairs, face_drawn, finish, next_drawn, reaches_above, reaches_below, ring_free, rings_above, some_above, split_refusal, start, straddling_faces, straddling_pairs, stuck_at, undrawn, vertices_on, with_crossings, with_drawings, with_rings}
+use Rattle.shapes.specs.Common.{AreLeft, Drawing, FacePairs, all_drawn, all_joined, all_pairs, corners, drawn_between, drawn_pairs, finish, next_drawn, reaches_above, reaches_below, ring_free, rings_above, some_above, split_refusal, start, straddling_faces, straddling_pairs, stuck_at, undrawn, vertices_on, with_crossings, with_drawings, with_rings}
 use Rattle.split_drawing_laws.specs.crossings.Laws.{CanBegin}
 use Rattle.split_drawing_laws.specs.drawings.DrawnIn.{needed_for_pairs}
 use Rattle.split_drawing_laws.specs.drawings.Pairs.{AllFit, FacesFit, Fits, pairs_in}
@@ -16,7 +16,7 @@ use Rattle.split_drawing_laws.specs.loop_sides.Parted.{ends}
 use Rattle.split_drawing_laws.proofs.crossings.Premises.{any_passes, face_facts, faces_not_zero, tail_in_face}
 use Rattle.split_drawing_laws.proofs.crossings.Whole.{crossings_keep, crossings_sound}
 use Rattle.split_drawing_laws.proofs.drawings.Counted.{faces_are}
-use Rattle.split_drawing_laws.proofs.drawings.Drawn.{CanDraw}
+use Rattle.split_drawing_laws.proofs.drawings.Drawn.{CanDraw, face_drawn}
 use Rattle.split_drawing_laws.proofs.drawings.Faces.{begun_joining, drawn_is, fitting_on, going, going_on, joins, last, newer_face}
 use Rattle.split_drawing_laws.proofs.drawings.Pairs.{joined_drawn, none_joined, pair_can}
 use Rattle.split_drawing_laws.proofs.drawings.Passes.{can_now, draws_keep, edge_fits, face_fits, joins_keep, loop_fits, room_as}
