@@ -3,7 +3,8 @@ use Rattle.std.proofs.Common.{◌≡◌, ℕ, ◌+◌, ℤ, Bool, false, cond, n
 use Rattle.std.specs.List.{list_any}
 use Rattle.euler_operators.specs.Common.{Point, Plane, Model, cuts_lattice, plus, faces_of, lists, part}
 use Rattle.euler_operators.specs.Table as table
-use Rattle.shapes.specs.Common.{Growing, FacePairs, Drawing, edge_cut, growing, all_cut, all_pairs, faces_drawn, undrawn, crossing_edges, straddling_faces, is_crossed, is_cut_often, is_touched, pair_count, first_such, face_is_above, reaches_above, reaches_below, place_pairs, drawn_pairs, from_place, below_halves, section_cycles, section_ends, least_branched, is_hole, start, finish, opened_along, edges_of, corners_in, volume_in}
+use Rattle.shapes.specs.Common.{Growing, FacePairs, Drawing, growing, all_cut, all_pairs, faces_drawn, undrawn, crossing_edges, straddling_faces, is_crossed, is_cut_often, is_touched, pair_count, first_such, face_is_above, reaches_above, reaches_below, place_pairs, drawn_pairs, from_place, below_halves, section_cycles, section_ends, least_branched, is_hole, start, finish, opened_along, edges_of, corners_in, volume_in}
+use Rattle.split_drawing_laws.proofs.crossings.OneCut.{edge_cut}
 use Rattle.solid_measure.specs.solid_counts.Counts.{rings_in}
 
 -- edges cut at points that are given
