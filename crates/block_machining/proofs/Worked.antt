@@ -228,6 +228,7 @@ unfolding computed triangular
 triangular_taken = refl
 
 pub triangular_last : last_face triangular ≡ 2
+unfolding taken_in
 triangular_last = ap (λ c. c.face) triangular_taken
 
 pub wedge_left : AreLeft (taken_in (held triangular)) (record { faces = 3; loops = 3; edges = 6; vertices = 3 })
