@@ -28,7 +28,7 @@ pub same_row : (M N : Model) (q : ℕ) → Has M.loops q → table.has N.loops q
 same_row M N q there has face same = loop_row N q (has ∙ there) ∙ (λ i. Some (record { face = face i; content = same i })) ∙ sym (loop_row M q there)
 
 -- an edge with its tails has its row
-same_ends : (M N : Model) (h : ℕ) → HasHalf M h → HasHalf N h → tail N h ≡ tail M h → tail N (mate h) ≡ tail M (mate h) → table.get N.edges (edge_of h) ≡ table.get M.edges (edge_of h)
+pub same_ends : (M N : Model) (h : ℕ) → HasHalf M h → HasHalf N h → tail N h ≡ tail M h → tail N (mate h) ≡ tail M (mate h) → table.get N.edges (edge_of h) ≡ table.get M.edges (edge_of h)
 same_ends M N h was now one two = edge_there N h now ∙ (λ i. Some (edge_row h (one i) (two i))) ∙ sym (edge_there M h was)
 
 -- what is new is of the solid

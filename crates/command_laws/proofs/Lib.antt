@@ -33,3 +33,4 @@ mod InnerCounts
 mod InnerFaces
 mod Redrawn
 mod InnerVolumes
+mod Spurs

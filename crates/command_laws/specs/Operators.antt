@@ -1,6 +1,6 @@
 -- What `counts` answers after one operator, an `act` of a session or a `step` of a draft, which faces stand, and which volumes are kept.
-use Rattle.std.specs.Prelude.{◌≡◌, ◌≢◌, ℕ, ◌+◌, ◌-◌, pos, ◌+ℤ◌, ◌-ℤ◌, Bool, true, false, List, [], ◌∷◌, None}
-use Rattle.euler_operators.specs.Common.{Plane, code, mate, Model, face_of, solid_of, Sound, Has, corner_loop, face_at, first_false, lists, effect, inverse}
+use Rattle.std.specs.Prelude.{◌≡◌, ◌≢◌, ℕ, nat_eq, ◌+◌, ◌-◌, pos, ◌+ℤ◌, ◌-ℤ◌, Bool, true, false, List, [], ◌∷◌, None}
+use Rattle.euler_operators.specs.Common.{Plane, At, Lone, code, mate, Model, after, face_of, solid_of, Sound, Has, corner_loop, face_at, first_false, lists, effect, inverse}
 use Rattle.euler_operators.specs.declared.Op.{Op}
 use Rattle.euler_operators.specs.declared.Op.TheVariants.{Mev, Kev, Mef, Kef, Kemr, Mekr, Kfmrh, Mfkrh}
 use Rattle.shapes.specs.Common.{corners, is_plane_of, six_volume}
@@ -89,3 +89,26 @@ OperatorsKeepVolumes = (M N : Model) (op : Op) (p : Plane) (u : ℕ) → Sound M
 -- so it does where, once it is done, those that its inverse meets lie on one plane
 abbrev pub OperatorsKeepVolumesBack : Type 0
 OperatorsKeepVolumesBack = (M N : Model) (op : Op) (p : Plane) (u : ℕ) → Sound M → IsStep M op N → leaves_vertices op ≡ true → LieOnPlane N p (faces_met N (inverse M op)) → six_volume N u ≡ six_volume M u
+
+-- a spur is an edge that leads from a corner, or from a lone vertex, to a vertex of its own and back: mev makes one where it is given one corner
+-- twice, and kev takes one back where its half-edge is followed by the mate
+abbrev pub is_spur : Model → Op → Bool
+is_spur M (Mev (At g) (At k) h v p) = nat_eq (code g) (code k)
+is_spur M (Mev (Lone l) (Lone k) h v p) = nat_eq l k
+is_spur M (Kev h) = nat_eq (after M (code h)) (mate (code h))
+is_spur M op = false
+
+-- the face in which it stands
+abbrev pub spur_face : Model → Op → ℕ
+spur_face M (Mev c d h v p) = face_of M (corner_loop M c)
+spur_face M (Kev h) = face_at M (code h)
+spur_face M op = 0
+
+-- every other face stands as it did
+abbrev pub SpursKeepShapes : Type 0
+SpursKeepShapes = (M N : Model) (op : Op) (k : ℕ) → Sound M → IsStep M op N → is_spur M op ≡ true → Has M.faces k → k ≢ spur_face M op → StandsAsBefore M N k
+
+-- where that face lies on one plane before and after, with all its corners, each solid keeps its six volumes
+abbrev pub SpursKeepVolumes : Type 0
+SpursKeepVolumes = (M N : Model) (op : Op) (p : Plane) (u : ℕ) → Sound M → IsStep M op N → is_spur M op ≡ true →
+    let f = spur_face M op in is_plane_of M p (corners M f) ≡ true → is_plane_of N p (corners N f) ≡ true → six_volume N u ≡ six_volume M u

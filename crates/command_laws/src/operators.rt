@@ -1,5 +1,5 @@
 //! What one operator makes of the counts, in a session or a draft, which faces it leaves, and where it keeps the volumes.
-ghost use Rattle.command_laws.specs.Operators.{OperatorsCount, OperatorsKeepCounts, OperatorsKeepShapes, OperatorsKeepVolumes, OperatorsKeepVolumesBack};
+ghost use Rattle.command_laws.specs.Operators.{OperatorsCount, OperatorsKeepCounts, OperatorsKeepShapes, OperatorsKeepVolumes, OperatorsKeepVolumesBack, SpursKeepShapes, SpursKeepVolumes};
 
 /// An operator that makes or kills an edge, a face or a ring within a solid changes what `counts` answers of it: mev makes a vertex and an
 /// edge, mef an edge and a face, kemr a ring of an edge, and mfkrh a face of a ring; kev, kef, mekr and kfmrh take that back. Every other
@@ -20,4 +20,11 @@ pub fn operators_leave_faces()
 pub fn operators_keep_volumes()
     ensures before { OperatorsKeepVolumes }
     ensures after { OperatorsKeepVolumesBack }
+{}
+
+/// A mev that is given one corner twice makes a spur, an edge to a new vertex and back, and a kev takes one back. Every face but that in which
+/// it stands is left as it was; and where that one lies on one plane before and after, each solid keeps its six volumes.
+pub fn spurs_leave_faces()
+    ensures shapes { SpursKeepShapes }
+    ensures volumes { SpursKeepVolumes }
 {}
