@@ -32,14 +32,14 @@ use Rattle.command_laws.proofs.Owners.{half_is_on}
 
 -- ---- vertices on a plane
 
-each_on : (M : Model) (p : Plane) (vs : List ℕ) (v : ℕ) → are_on M p vs ≡ true → IsIn v vs → is_on p (point_of M v) ≡ true
+pub each_on : (M : Model) (p : Plane) (vs : List ℕ) (v : ℕ) → are_on M p vs ≡ true → IsIn v vs → is_on p (point_of M v) ≡ true
 each_on M p [] v on i = absurd (omega (arith, i))
 each_on M p (w ∷ vs) v on i = let a = and_parts (is_on p (point_of M w)) (are_on M p vs) on in elim (eqb_tells v w) [
   | inl e ↦ ap (λ k. is_on p (point_of M k)) e.1 ∙ a.0
   | inr e ↦ each_on M p vs v a.1 (omega (arith, i, tick_other v w e.1))
 ]
 
-all_on : (M : Model) (p : Plane) (vs : List ℕ) → ((v : ℕ) → IsIn v vs → is_on p (point_of M v) ≡ true) → are_on M p vs ≡ true
+pub all_on : (M : Model) (p : Plane) (vs : List ℕ) → ((v : ℕ) → IsIn v vs → is_on p (point_of M v) ≡ true) → are_on M p vs ≡ true
 all_on M p [] each = refl
 all_on M p (v ∷ vs) each = λ i. each v (IsIn_head v vs) i && all_on M p vs (λ w j. each w (IsIn_rest w v vs j)) i
 
@@ -53,11 +53,11 @@ module _ (M : Model) (sound : Sound M) (p : Plane) (ks : List ℕ) (on : LieOnPl
   parts : (k : ℕ) → Has M.faces k → lists ks k ≡ true → (not (same_point (direction p) origin) ≡ true) × (are_on M p (corners M k) ≡ true)
   parts k there m = and_parts (not (same_point (direction p) origin)) (are_on M p (corners M k)) (on k there m)
 
-  on_loop : (q v : ℕ) → Has M.loops q → lists ks (face_of M q) ≡ true → IsIn v (vertices_on M (content M q)) → is_on p (point_of M v) ≡ true
+  pub on_loop : (q v : ℕ) → Has M.loops q → lists ks (face_of M q) ≡ true → IsIn v (vertices_on M (content M q)) → is_on p (point_of M v) ≡ true
   unfolding corners
   on_loop q v has m i = let k = face_of M q in each_on M p (corners M k) v (parts k (sound.loops_of_faces q has) m).1 (on_some M (loops_of M k) q v (loop_in_face M sound q has) i)
 
-  on_half : (x : ℕ) → HasHalf M x → lists ks (face_at M x) ≡ true → is_on p (point_of M (tail M x)) ≡ true
+  pub on_half : (x : ℕ) → HasHalf M x → lists ks (face_at M x) ≡ true → is_on p (point_of M (tail M x)) ≡ true
   on_half x there m = on_loop (loop_of M x) (tail M x) (loop_there M sound x there) m (half_is_on M sound x there)
 
 -- ---- what is on them after

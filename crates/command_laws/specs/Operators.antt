@@ -1,6 +1,6 @@
 -- What `counts` answers after one operator, an `act` of a session or a `step` of a draft, which faces stand, and which volumes are kept.
 use Rattle.std.specs.Prelude.{◌≡◌, ◌≢◌, ℕ, nat_eq, ◌+◌, ◌-◌, pos, ◌+ℤ◌, ◌-ℤ◌, Bool, true, false, List, [], ◌∷◌, None}
-use Rattle.euler_operators.specs.Common.{Plane, At, Lone, code, mate, Model, after, face_of, solid_of, Sound, Has, corner_loop, face_at, first_false, lists, effect, inverse}
+use Rattle.euler_operators.specs.Common.{Plane, At, Lone, code, is_on, mate, Model, after, face_of, solid_of, Sound, Has, corner_loop, face_at, first_false, lists, effect, inverse}
 use Rattle.euler_operators.specs.declared.Op.{Op}
 use Rattle.euler_operators.specs.declared.Op.TheVariants.{Mev, Kev, Mef, Kef, Kemr, Mekr, Kfmrh, Mfkrh}
 use Rattle.shapes.specs.Common.{corners, is_plane_of, six_volume}
@@ -108,7 +108,12 @@ spur_face M op = 0
 abbrev pub SpursKeepShapes : Type 0
 SpursKeepShapes = (M N : Model) (op : Op) (k : ℕ) → Sound M → IsStep M op N → is_spur M op ≡ true → Has M.faces k → k ≢ spur_face M op → StandsAsBefore M N k
 
--- where that face lies on one plane before and after, with all its corners, each solid keeps its six volumes
+-- the vertex that it makes, if it makes one, lies on plane p
+abbrev pub ends_on : Plane → Op → Bool
+ends_on p (Mev c d h v end) = is_on p end
+ends_on p op = true
+
+-- where that face lies on one plane, with all its corners and the vertex that is made, each solid keeps its six volumes
 abbrev pub SpursKeepVolumes : Type 0
 SpursKeepVolumes = (M N : Model) (op : Op) (p : Plane) (u : ℕ) → Sound M → IsStep M op N → is_spur M op ≡ true →
-    let f = spur_face M op in is_plane_of M p (corners M f) ≡ true → is_plane_of N p (corners N f) ≡ true → six_volume N u ≡ six_volume M u
+    is_plane_of M p (corners M (spur_face M op)) ≡ true → ends_on p op ≡ true → six_volume N u ≡ six_volume M u

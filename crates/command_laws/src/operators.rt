@@ -23,7 +23,7 @@ pub fn operators_keep_volumes()
 {}
 
 /// A mev that is given one corner twice makes a spur, an edge to a new vertex and back, and a kev takes one back. Every face but that in which
-/// it stands is left as it was; and where that one lies on one plane before and after, each solid keeps its six volumes.
+/// it stands is left as it was; and where that one lies on one plane, with the new vertex, each solid keeps its six volumes.
 pub fn spurs_leave_faces()
     ensures shapes { SpursKeepShapes }
     ensures volumes { SpursKeepVolumes }
