@@ -2,7 +2,7 @@
 use Rattle.std.proofs.Common.{◌≡◌, ◌≢◌, ℕ, true, List, Some, None, is_some, refl, sym, ap, subst, ◌∙◌, true≢false, inl, inr}
 use Rattle.std.proofs.lemmas.Bool.{eqb-false}
 use Rattle.std.proofs.lemmas.Bool.Decides.{eqb_tells}
-use Rattle.euler_operators.specs.Common.{Corner, At, Lone, HalfEdge, Point, code, edge_of, mate, Model, content, face_of, loop_of, solid_of, tail, Sound, Has, HasHalf, corner_loop, face_at, first_false, edge_row, effect, inverse, kemr, mef, mev_at, mev_lone, mfkrh}
+use Rattle.euler_operators.specs.Common.{Corner, At, Lone, HalfEdge, Point, count, code, edge_of, mate, Model, content, face_of, loop_of, solid_of, tail, Sound, Has, HasHalf, corner_loop, face_at, first_false, edge_row, effect, inverse, kemr, mef, mev_at, mev_lone, mfkrh}
 use Rattle.euler_operators.specs.Table as table
 use Rattle.euler_operators.specs.declared.Op.{Op}
 use Rattle.euler_operators.specs.declared.Op.TheVariants.{Mev, Kev, Mef, Kef, Kemr, Mekr, Kfmrh, Mfkrh}
@@ -47,6 +47,23 @@ module _ (M N : Model) (s : ℕ) (w : Within s M N) where
 
 -- ---- an edge to a new vertex
 
+module _ (M : Model) (sound : Sound M) (g k h v : ℕ) (p : Point) (goes : MevGoes M g k h v p) where
+  -- a loop that holds neither half-edge has its row, and so has an edge of which nothing moves, and a vertex that was there
+  pub loop_apart : (q : ℕ) → Has M.loops q → q ≢ loop_of M g → q ≢ loop_of M k → table.get (mev_at M g k h v p).loops q ≡ table.get M.loops q
+  loop_apart q there not_g not_k =
+      let same = grown.same M sound g k h v p goes in
+      same_row M (mev_at M g k h v p) q there (same.loop q) (same.face q) (grown.content-N M sound g k h v p goes q
+      ∙ ap (put_before k (mate h)) (put_none g h (content M q) (none_else M sound g q not_g)) ∙ put_none k (mate h) (content M q) (none_else M sound k q not_k))
+
+  pub edge_unmoved : (x : ℕ) → HasHalf M x → count x (grown.moved M sound g k h v p goes) ≡ 0 → count (mate x) (grown.moved M sound g k h v p goes) ≡ 0 →
+      table.get (mev_at M g k h v p).edges (edge_of x) ≡ table.get M.edges (edge_of x)
+  edge_unmoved x there one two = same_ends M (mev_at M g k h v p) x there (half_old (grown.new_edge M sound g k h v p goes) x there)
+      (grown.tail_kept M sound g k h v p goes x there one) (grown.tail_kept M sound g k h v p goes (mate x) (mate_there M x there) two)
+
+  pub vertex_old : (w : ℕ) → Has M.vertices w → table.get (mev_at M g k h v p).vertices w ≡ table.get M.vertices w
+  unfolding mev_at
+  vertex_old w there = get-put_other M.vertices v p w (row_elsewhere M.vertices w v there goes.vertex_free)
+
 module _ (M : Model) (sound : Sound M) (g k h v : ℕ) (p : Point) (goes : MevGoes M g k h v p) (after : Sound (mev_at M g k h v p)) where
   abbrev G : Model
   G = mev_at M g k h v p
@@ -58,18 +75,13 @@ module _ (M : Model) (sound : Sound M) (g k h v : ℕ) (p : Point) (goes : MevGo
   one_solid = one_solid_round M sound g k goes.g_there goes.k_there (sym goes.one_tail)
 
   grown_loop : (q : ℕ) → Has M.loops q → solid_of_loop M q ≢ sg → table.get G.loops q ≡ table.get M.loops q
-  grown_loop q there ne =
-      let same = grown.same M sound g k h v p goes in
-      let not_g = none_else M sound g q (λ e. ne (ap (solid_of_loop M) e)) in
-      let not_k = none_else M sound k q (λ e. ne (ap (solid_of_loop M) e ∙ one_solid)) in
-      same_row M G q there (same.loop q) (same.face q)
-      (grown.content-N M sound g k h v p goes q ∙ ap (put_before k (mate h)) (put_none g h (content M q) not_g) ∙ put_none k (mate h) (content M q) not_k)
+  grown_loop q there ne = loop_apart M sound g k h v p goes q there (λ e. ne (ap (solid_of_loop M) e)) (λ e. ne (ap (solid_of_loop M) e ∙ one_solid))
 
   grown_edge : (x : ℕ) → HasHalf M x → solid_of_half M x ≢ sg → table.get G.edges (edge_of x) ≡ table.get M.edges (edge_of x)
   grown_edge x there ne =
-      let kept : (y : ℕ) → HasHalf M y → solid_of_half M y ≢ sg → tail G y ≡ tail M y = λ y has off. grown.tail_kept M sound g k h v p goes y has
-      (grown.not_moved M sound g k h v p goes y (λ e. off (one_solid_round M sound g y goes.g_there has (sym e)))) in
-      same_ends M G x there (half_old (grown.new_edge M sound g k h v p goes) x there) (kept x there ne) (kept (mate x) (mate_there M x there) (λ e. ne (sound.one_solid x there ∙ e)))
+      let kept : (y : ℕ) → HasHalf M y → solid_of_half M y ≢ sg → count y (grown.moved M sound g k h v p goes) ≡ 0 = λ y has off.
+      grown.not_moved M sound g k h v p goes y (λ e. off (one_solid_round M sound g y goes.g_there has (sym e))) in
+      edge_unmoved M sound g k h v p goes x there (kept x there ne) (kept (mate x) (mate_there M x there) (λ e. ne (sound.one_solid x there ∙ e)))
 
   grown_within : Within (solid_of M (face_at M g)) M (mev_at M g k h v p)
   grown_within =

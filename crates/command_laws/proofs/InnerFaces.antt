@@ -55,7 +55,7 @@ module _ (M : Model) (sound : Sound M) (g j h f l : ℕ) (goes : MefGoes M g j h
   }
 
 -- an edge that goes isn't the face's
-other_edge : (M : Model) (h k x : ℕ) → k ≢ face_at M h → k ≢ face_at M (mate h) → face_at M x ≡ k → edge_of x ≢ edge_of h
+pub other_edge : (M : Model) (h k x : ℕ) → k ≢ face_at M h → k ≢ face_at M (mate h) → face_at M x ≡ k → edge_of x ≢ edge_of h
 other_edge M h k x a b at e = elim (same_edge x h e) [
   | inl z ↦ a (sym at ∙ ap (face_at M) z)
   | inr z ↦ b (sym at ∙ ap (face_at M) z)

@@ -34,3 +34,4 @@ mod InnerFaces
 mod Redrawn
 mod InnerVolumes
 mod Spurs
+mod AtVertex

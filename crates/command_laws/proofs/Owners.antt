@@ -7,12 +7,12 @@ use Rattle.euler_operators.specs.Table as table
 use Rattle.euler_operators.proofs.Common.{tick_same, IsIn-map, same_length, IsIn_head, content_row, solid_row, item_there, item_loop, lone_there, loop_there, cycle_there, same_solid, same_face, same_content, plus_there, plus_edge, passes, count-all_where, row_some}
 use Rattle.euler_laws.specs.Laws.{size}
 use Rattle.euler_laws.proofs.Common.{size_parts, counted_once, all_where_has, all_where_in, first_passes, listed_passes, all_where-rises, IsIn-from_listed, listed-from_in, loop_row, one_solid_round, same_tail}
-use Rattle.shapes.specs.Common.{loops_of, vertices_on, corners_in, vertices_of, loops_in}
+use Rattle.shapes.specs.Common.{corners, loops_of, vertices_on, corners_in, vertices_of, loops_in}
 use Rattle.shapes.proofs.Common.{solid_loops, all_loops_apart, loop_in_solid, solid_has_loop, corners_are, on_one, on_some}
 use Rattle.solid_measure.specs.solid_counts.Counts.{rings_in, tally_of, counts}
 use Rattle.solid_measure.proofs.solid_counts_laws.HowMany.{equally_many}
 use Rattle.gluing_laws.proofs.Listed.{one_if}
-use Rattle.command_laws.proofs.OnFaces.{vertex_cases, vertex_there}
+use Rattle.command_laws.proofs.OnFaces.{loop_in_face, vertex_cases, vertex_there}
 
 -- ---- rows that pass a test on their numbers
 
@@ -120,6 +120,11 @@ module _ (M : Model) (sound : Sound M) where
     go : (c : LoopContent) → IsIn h (items_of c) → IsIn (tail M h) (vertices_on M c)
     go (lone w) i = absurd (omega arith)
     go (cycle hs) i = IsIn-map (tail M) h hs i
+
+  -- and so it starts at a corner of its face
+  pub half_corner : (h : ℕ) → HasHalf M h → IsIn (tail M h) (corners M (face_at M h))
+  unfolding corners
+  half_corner h there = on_some M (loops_of M (face_at M h)) (loop_of M h) (tail M h) (loop_in_face M sound (loop_of M h) (loop_there M sound h there)) (half_is_on h there)
 
   -- each vertex is on a loop
   on_some_loop : (v : ℕ) → Has M.vertices v → (l : ℕ) × Has M.loops l × IsOn M v l

@@ -6,41 +6,41 @@ use Rattle.euler_operators.specs.Common.{Corner, At, Lone, HalfEdge, Plane, Poin
 use Rattle.euler_operators.specs.Table as table
 use Rattle.euler_operators.specs.declared.Op.{Op}
 use Rattle.euler_operators.specs.declared.Op.TheVariants.{Mev, Kev}
-use Rattle.euler_operators.proofs.Common.{IsIn_head, count-canonical, face_row, get-put_here, get-put_other, in-holds, item_loop, item_there, lone_there, loop_there, mate_there, never_lone, row_elsewhere, same_content, tick_same, upto_itself}
-use Rattle.euler_laws.proofs.Common.{effect_keeps_sound, first_listed, half_face, inverse_goes, inverse_undoes, kev_goes, listed-from_in, lone_goes, mev_goes, MevGoes, none_else, put_before, put_none, same_tail}
+use Rattle.euler_operators.proofs.Common.{IsIn_head, count-canonical, face_row, get-put_here, get-put_other, in-holds, item_loop, item_there, lone_there, loop_there, never_lone, row_elsewhere, same_content, tick_same, upto_itself}
+use Rattle.euler_laws.proofs.Common.{effect_keeps_sound, first_listed, half_face, inverse_goes, inverse_undoes, kev_goes, listed-from_in, lone_goes, mev_goes, MevGoes, put_before, same_tail}
 use Rattle.euler_laws.proofs.shared.Same as rows
 use Rattle.euler_laws.proofs.shared.Loops.{lone_put, one_vertex, put_lone}
 use Rattle.euler_laws.proofs.mev.MevLoneSound as alone
 use Rattle.euler_laws.proofs.mev.MevLoneSound.{LoneGoes}
 use Rattle.euler_laws.proofs.mev.MevSound as grown
-use Rattle.euler_laws.proofs.shared.EdgeMore.{comes, half_cases, half_h, half_old, tail-h, tail-m}
+use Rattle.euler_laws.proofs.shared.EdgeMore.{comes, half_cases, half_h, tail-h, tail-m}
 use Rattle.shapes.specs.Common.{anchor, corners, is_plane_of, loops_of, six_volume, vertices_on}
 use Rattle.shapes.proofs.Common.{anchor_on, are_on, face_of_loop, on_one, on_some}
 use Rattle.command_laws.specs.LeftAlone.{StandsAsBefore}
 use Rattle.command_laws.specs.Operators.{LieOnPlane, SpursKeepShapes, SpursKeepVolumes, ends_on, is_spur, spur_face}
-use Rattle.command_laws.proofs.Inner.{same_ends, same_row}
+use Rattle.command_laws.proofs.Inner.{edge_unmoved, loop_apart, vertex_old}
 use Rattle.command_laws.proofs.InnerVolumes.{all_on, each_on, on_half, on_loop}
 use Rattle.command_laws.proofs.OnFaces.{loop_in_face, vertex_cases, vertex_there}
-use Rattle.command_laws.proofs.Owners.{half_is_on}
+use Rattle.command_laws.proofs.Owners.{half_corner}
 use Rattle.command_laws.proofs.Redrawn.{redrawn_keep_volumes}
 use Rattle.command_laws.proofs.Standing.{rings_same, stands}
 
 -- N is M with a spur in face f, from vertex a to vertex b: all edges and vertices of M are left, and all loops but those of f
-record HasSpur (M N : Model) (f a b : ℕ) : Type 0 where
-  before : Sound M
-  after : Sound N
-  there : Has M.faces f
-  faces : N.faces ≡ M.faces
-  loops : (q : ℕ) → Has M.loops q → face_of M q ≢ f → table.get N.loops q ≡ table.get M.loops q
-  loops_back : (q : ℕ) → Has N.loops q → face_of N q ≢ f → table.get N.loops q ≡ table.get M.loops q
-  edges : (x : ℕ) → HasHalf M x → table.get N.edges (edge_of x) ≡ table.get M.edges (edge_of x)
-  vertices : (v : ℕ) → Has M.vertices v → table.get N.vertices v ≡ table.get M.vertices v
-  homes : (q : ℕ) → face_of N q ≡ face_of M q
-  from : Has M.vertices a
-  on : IsIn a (corners M f)
-  halves : (x : ℕ) → HasHalf N x → HasHalf M x ⊎ ((tail N x ≡ a) ⊎ (tail N x ≡ b))
-  lones : (q v : ℕ) → content N q ≡ lone v → content M q ≡ lone v
-  lones_back : (q v : ℕ) → content M q ≡ lone v → (content N q ≡ lone v) ⊎ ((x : ℕ) × HasHalf N x × (face_at N x ≡ f) × (tail N x ≡ v))
+pub record HasSpur (M N : Model) (f a b : ℕ) : Type 0 where
+  pub before : Sound M
+  pub after : Sound N
+  pub there : Has M.faces f
+  pub faces : N.faces ≡ M.faces
+  pub loops : (q : ℕ) → Has M.loops q → face_of M q ≢ f → table.get N.loops q ≡ table.get M.loops q
+  pub loops_back : (q : ℕ) → Has N.loops q → face_of N q ≢ f → table.get N.loops q ≡ table.get M.loops q
+  pub edges : (x : ℕ) → HasHalf M x → table.get N.edges (edge_of x) ≡ table.get M.edges (edge_of x)
+  pub vertices : (v : ℕ) → Has M.vertices v → table.get N.vertices v ≡ table.get M.vertices v
+  pub homes : (q : ℕ) → face_of N q ≡ face_of M q
+  pub from : Has M.vertices a
+  pub on : IsIn a (corners M f)
+  pub halves : (x : ℕ) → HasHalf N x → HasHalf M x ⊎ ((tail N x ≡ a) ⊎ (tail N x ≡ b))
+  pub lones : (q v : ℕ) → content N q ≡ lone v → content M q ≡ lone v
+  pub lones_back : (q v : ℕ) → content M q ≡ lone v → (content N q ≡ lone v) ⊎ ((x : ℕ) × HasHalf N x × (face_at N x ≡ f) × (tail N x ≡ v))
 
 module _ (M N : Model) (f a b : ℕ) (w : HasSpur M N f a b) where
   row_left : (k : ℕ) → table.get N.faces k ≡ table.get M.faces k
@@ -52,7 +52,7 @@ module _ (M N : Model) (f a b : ℕ) (w : HasSpur M N f a b) where
   face_stays : (k : ℕ) → Has M.faces k → Has N.faces k
   face_stays k there = ap is_some (row_left k) ∙ there
 
-  spurred_stands : (k : ℕ) → Has M.faces k → k ≢ f → StandsAsBefore M N k
+  pub spurred_stands : (k : ℕ) → Has M.faces k → k ≢ f → StandsAsBefore M N k
   spurred_stands k there ne = stands M N (λ j. j ≢ f) w.before w.loops (λ x has a. w.edges x has) (λ l v i a. w.vertices v (vertex_there M w.before l v i)) k there ne (row_left k)
       (rings_same M N k (row_left k) (λ q has at. w.loops q has (λ e. ne (sym at ∙ e))) (λ q has at. w.loops_back q has (λ e. ne (sym at ∙ e))))
 
@@ -183,20 +183,7 @@ module _ (M : Model) (sound : Sound M) (g k h v : ℕ) (p : Point) (goes : MevGo
       ap (λ j. count x (upto g j fan.items)) one ∙ ap (count x) (upto_itself g fan.items (fan.all g goes.g_there refl))
 
   spur_loop : (q : ℕ) → Has M.loops q → face_of M q ≢ face_at M g → table.get G.loops q ≡ table.get M.loops q
-  spur_loop q there ne =
-      let same = grown.same M sound g k h v p goes in
-      let not_g = none_else M sound g q (λ e. ne (ap (face_of M) e)) in
-      let not_k = none_else M sound k q (λ e. ne (ap (face_of M) (e ∙ ap (loop_of M) one))) in
-      same_row M G q there (same.loop q) (same.face q)
-      (grown.content-N M sound g k h v p goes q ∙ ap (put_before k (mate h)) (put_none g h (content M q) not_g) ∙ put_none k (mate h) (content M q) not_k)
-
-  spur_edge : (x : ℕ) → HasHalf M x → table.get G.edges (edge_of x) ≡ table.get M.edges (edge_of x)
-  spur_edge x there = same_ends M G x there (half_old (grown.new_edge M sound g k h v p goes) x there)
-      (grown.tail_kept M sound g k h v p goes x there (none_moved x)) (grown.tail_kept M sound g k h v p goes (mate x) (mate_there M x there) (none_moved (mate x)))
-
-  spur_vertex : (w : ℕ) → Has M.vertices w → table.get G.vertices w ≡ table.get M.vertices w
-  unfolding mev_at
-  spur_vertex w there = get-put_other M.vertices v p w (row_elsewhere M.vertices w v there goes.vertex_free)
+  spur_loop q there ne = loop_apart M sound g k h v p goes q there (λ e. ne (ap (face_of M) e)) (λ e. ne (ap (face_of M) (e ∙ ap (loop_of M) one)))
 
   -- a loop is lone after if it was before
   lone_before : (q t : ℕ) → content G q ≡ lone t → content M q ≡ lone t
@@ -204,10 +191,6 @@ module _ (M : Model) (sound : Sound M) (g k h v : ℕ) (p : Point) (goes : MevGo
 
   lone_after : (q t : ℕ) → content M q ≡ lone t → content G q ≡ lone t
   lone_after q t is = grown.content-N M sound g k h v p goes q ∙ ap (λ c. put_before k (mate h) (put_before g h c)) is ∙ ap (put_before k (mate h)) (put_lone g h t) ∙ put_lone k (mate h) t
-
-  corner_on : IsIn (tail M g) (corners M (face_at M g))
-  unfolding corners
-  corner_on = on_some M (loops_of M (face_at M g)) (loop_of M g) (tail M g) (loop_in_face M sound (loop_of M g) (loop_there M sound g goes.g_there)) (half_is_on M sound g goes.g_there)
 
   spur_halves : (x : ℕ) → HasHalf G x → HasHalf M x ⊎ ((tail G x ≡ tail M g) ⊎ (tail G x ≡ v))
   spur_halves x there = let new = grown.new_edge M sound g k h v p goes in elim (half_cases new x there) [
@@ -228,11 +211,11 @@ module _ (M : Model) (sound : Sound M) (g k h v : ℕ) (p : Point) (goes : MevGo
     faces = same.faces;
     loops = spur_loop;
     loops_back = λ q there ne. spur_loop q (sym (same.loop q) ∙ there) (λ e. ne (same.face q ∙ e));
-    edges = spur_edge;
-    vertices = spur_vertex;
+    edges = λ x has. edge_unmoved M sound g k h v p goes x has (none_moved x) (none_moved (mate x));
+    vertices = vertex_old M sound g k h v p goes;
     homes = same.face;
     from = sound.tails_there g goes.g_there;
-    on = corner_on;
+    on = half_corner M sound g goes.g_there;
     halves = spur_halves;
     lones = lone_before;
     lones_back = λ q t is. inl (lone_after q t is);
@@ -275,7 +258,7 @@ module _ (M : Model) (sound : Sound M) (l h v u : ℕ) (p : Point) (goes : LoneG
   unfolding mev_lone point_of
   lone_point = ap (λ o. unwrap_or o no_point) (get-put_here M.vertices v p)
 
-  lone_spur : HasSpur M (mev_lone M l h v p) (face_of M l) u v
+  pub lone_spur : HasSpur M (mev_lone M l h v p) (face_of M l) u v
   unfolding mev_lone
   lone_spur = record {
     before = sound;

@@ -1,6 +1,6 @@
 -- What `counts` answers after one operator, an `act` of a session or a `step` of a draft, which faces stand, and which volumes are kept.
 use Rattle.std.specs.Prelude.{◌≡◌, ◌≢◌, ℕ, nat_eq, ◌+◌, ◌-◌, pos, ◌+ℤ◌, ◌-ℤ◌, Bool, true, false, List, [], ◌∷◌, None}
-use Rattle.euler_operators.specs.Common.{Plane, At, Lone, code, is_on, mate, Model, after, face_of, solid_of, Sound, Has, corner_loop, face_at, first_false, lists, effect, inverse}
+use Rattle.euler_operators.specs.Common.{Plane, At, Lone, code, is_on, mate, Model, after, tail, face_of, solid_of, Sound, Has, corner_loop, corner_tail, face_at, first_false, lists, effect, inverse}
 use Rattle.euler_operators.specs.declared.Op.{Op}
 use Rattle.euler_operators.specs.declared.Op.TheVariants.{Mev, Kev, Mef, Kef, Kemr, Mekr, Kfmrh, Mfkrh}
 use Rattle.shapes.specs.Common.{corners, is_plane_of, six_volume}
@@ -117,3 +117,18 @@ ends_on p op = true
 abbrev pub SpursKeepVolumes : Type 0
 SpursKeepVolumes = (M N : Model) (op : Op) (p : Plane) (u : ℕ) → Sound M → IsStep M op N → is_spur M op ≡ true →
     is_plane_of M p (corners M (spur_face M op)) ≡ true → ends_on p op ≡ true → six_volume N u ≡ six_volume M u
+
+-- any mev and kev, and the vertex that the one parts and the other takes away
+abbrev pub makes_vertex : Op → Bool
+makes_vertex (Mev c d h v p) = true
+makes_vertex (Kev h) = true
+makes_vertex op = false
+
+abbrev pub vertex_met : Model → Op → ℕ
+vertex_met M (Mev c d h v p) = corner_tail M c
+vertex_met M (Kev h) = tail M (mate (code h))
+vertex_met M op = 0
+
+-- every face without a corner there stands as it did
+abbrev pub OthersThanAtVertexStand : Type 0
+OthersThanAtVertexStand = (M N : Model) (op : Op) (k : ℕ) → Sound M → IsStep M op N → makes_vertex op ≡ true → Has M.faces k → lists (corners M k) (vertex_met M op) ≡ false → StandsAsBefore M N k

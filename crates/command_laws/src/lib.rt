@@ -16,9 +16,9 @@
 //! points and plane, but for the face that was swept and its loops; after a glue so it is with the faces that weren't of the
 //! solid that goes, but for the first face and its loop. What `counts` answers of the solid after a lamina, a block, a sweep of
 //! any face, a glue, and an operator that makes or kills an edge, a face or a ring, told from what it answered before, and that it
-//! answers of every other solid what it did; which faces stand after an operator that leaves all vertices, or makes or kills a spur,
-//! and that no six volumes change where the faces that it meets lie on one plane. What a split leaves as it was is proved in `split_frames`; what its caps
-//! are, and what `counts` answers after it, in `split_caps`.
+//! answers of every other solid what it did; which faces stand after an operator of one solid, and that no six volumes change after
+//! one that leaves all vertices, or makes or kills a spur, where the faces that it meets lie on one plane. What a split leaves as it
+//! was is proved in `split_frames`; what its caps are, and what `counts` answers after it, in `split_caps`.
 
 mod counted;
 mod flat;
@@ -40,6 +40,7 @@ pub use frames::{
 };
 pub use operators::{
     operators_count, operators_keep_volumes, operators_leave_faces, spurs_leave_faces,
+    vertices_leave_faces,
 };
 pub use ringed::ringed_sweeps_make_faces;
 

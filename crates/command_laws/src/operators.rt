@@ -1,5 +1,5 @@
 //! What one operator makes of the counts, in a session or a draft, which faces it leaves, and where it keeps the volumes.
-ghost use Rattle.command_laws.specs.Operators.{OperatorsCount, OperatorsKeepCounts, OperatorsKeepShapes, OperatorsKeepVolumes, OperatorsKeepVolumesBack, SpursKeepShapes, SpursKeepVolumes};
+ghost use Rattle.command_laws.specs.Operators.{OperatorsCount, OperatorsKeepCounts, OperatorsKeepShapes, OperatorsKeepVolumes, OperatorsKeepVolumesBack, OthersThanAtVertexStand, SpursKeepShapes, SpursKeepVolumes};
 
 /// An operator that makes or kills an edge, a face or a ring within a solid changes what `counts` answers of it: mev makes a vertex and an
 /// edge, mef an edge and a face, kemr a ring of an edge, and mfkrh a face of a ring; kev, kef, mekr and kfmrh take that back. Every other
@@ -27,4 +27,10 @@ pub fn operators_keep_volumes()
 pub fn spurs_leave_faces()
     ensures shapes { SpursKeepShapes }
     ensures volumes { SpursKeepVolumes }
+{}
+
+/// After any mev and kev, also where a fan of edges moves to the new vertex or back, each face without a corner at the vertex that mev parts,
+/// or that kev takes away, stands as it did.
+pub fn vertices_leave_faces()
+    ensures { OthersThanAtVertexStand }
 {}
