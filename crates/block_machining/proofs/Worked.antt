@@ -4,14 +4,14 @@ use Rattle.std.specs.List.{list_all}
 use Rattle.std.specs.Ordering.{eq_by_cmp, nat_cmp}
 use Rattle.std.proofs.lemmas.Bool.{and_parts, not-true}
 use Rattle.std.proofs.lemmas.Bool.Decides.{eqb_tells}
-use Rattle.std.proofs.Common.{sym, Bool, Some, cond, ap, ◌∙◌, true, not, ◌&&◌, ◌⊎◌, inl, inr, List, true≢false, length, unwrap_or, subst, arith, ◌≡◌, ℕ, pos, neg_ℤ, None, false, refl, [], ◌∷◌}
+use Rattle.std.proofs.Common.{sym, Bool, Some, cond, nat_eq, ap, ◌∙◌, true, not, ◌&&◌, ◌⊎◌, inl, inr, List, true≢false, length, unwrap_or, subst, arith, ◌≡◌, ℕ, pos, neg_ℤ, None, false, refl, [], ◌∷◌}
 use Rattle.sweeps.specs.Measure.{six_volume}
 use Rattle.sweeps.specs.PlainMachine.{Machine, act, start, held}
 use Rattle.plane_split.specs.Machine.{plane_with, split_refusal}
 use Rattle.command_laws.specs.NewFaces.{all_moved, corner_points, last_face}
-use Rattle.command_laws.specs.Operators.{LieOnPlane, faces_met, solid_in}
+use Rattle.command_laws.specs.Operators.{LieOnPlane, faces_met, is_spur, solid_in, spur_face}
 use Rattle.euler_operators.specs.declared.Op.TheVariants.{Kfmrh, Merge}
-use Rattle.euler_operators.specs.Common.{Has, Plane, Point, LoopRow, dot, is_in_range, is_lone, lists, no_loop, first_false, rotate_to, canonical, rest, mate, code, half, edge_of, is_first, empty_model, content, tail, loop_of, face_of, solid_of, outer, arc, holds, after, before, point_of, conditions, has_rings, effect, inverse, mvfs, kvfs_at, mev_lone, mev_at, kev, mef, kef, kemr, mekr, kfmrh, mfkrh, ring_in, ring_out, take_outer, merge, part}
+use Rattle.euler_operators.specs.Common.{Has, Model, Plane, Point, LoopRow, dot, is_in_range, is_lone, lists, no_loop, first_false, rotate_to, canonical, rest, mate, code, half, edge_of, is_first, empty_model, content, tail, loop_of, face_of, solid_of, outer, arc, holds, after, before, point_of, conditions, has_rings, effect, inverse, mvfs, kvfs_at, mev_lone, mev_at, kev, mef, kef, kemr, mekr, kfmrh, mfkrh, ring_in, ring_out, take_outer, merge, part}
 use Rattle.solid_measure.specs.solid_counts.Counts.{counts}
 use Rattle.split_caps.specs.Capped.{caps_of}
 use Rattle.shapes.specs.Common.{AreLeft, Needed, Taken, is_plane_of, lamina_face, glue_conditions, glue_model, loops_of, boundary, corners, taken_in, lamina_conditions, lamina_model, prism_conditions, with_side, raised, prism_model, block_conditions, block_model, normal, plane_of, is_flat, straddles, face_is_above, is_place, place_point, places, is_touched, is_cut_often, is_crossed, sorted_pairs, place_pairs, next_cut, with_crossings, drawn_pairs, join_next, draw_next, next_drawn, with_drawings, below_halves, section_cycles, is_hole, opened_along, next_opened, first_conditions, section_conditions, split_conditions, split_model}
@@ -72,6 +72,15 @@ spur_accepted = refl
 pub spur_in : solid_in (held blank) spur ≡ 1
 unfolding computed blank
 spur_in = refl
+
+-- it is a spur, and stands in another face than the side at the greatest x
+pub is_one_spur : (M : Model) → is_spur M spur ≡ true
+unfolding computed
+is_one_spur M = refl
+
+pub spur_apart : nat_eq 4 (spur_face (held blank) spur) ≡ false
+unfolding computed blank
+spur_apart = refl
 
 pub split_accepted : split_refusal lengthened 1 (plane_with (pos 1) (pos 0) (pos 0) (neg_ℤ (pos 2))) 2 ≡ None
 unfolding computed glue_conditions glue_model blank paired lengthened

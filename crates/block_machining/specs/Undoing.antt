@@ -4,7 +4,7 @@ use Rattle.euler_operators.specs.declared.Op.{Op}
 use Rattle.euler_operators.specs.Common.{Plane, lists, Model, Has}
 use Rattle.sweeps.specs.Measure.{six_volume}
 use Rattle.command_laws.specs.Counted.{counts}
-use Rattle.command_laws.specs.Operators.{LieOnPlane, counted_on, faces_met, is_inner, leaves_vertices, solid_in}
+use Rattle.command_laws.specs.Operators.{LieOnPlane, counted_on, faces_met, is_inner, is_spur, leaves_vertices, solid_in, spur_face}
 use Rattle.command_laws.specs.LeftAlone.{StandsAsBefore}
 use Rattle.sweeps.specs.PlainMachine.{Machine, depth, ahead, held, undo, undo_refusal}
 
@@ -25,3 +25,7 @@ LeavesFaces M N op = (k : ℕ) → leaves_vertices op ≡ true → Has M.faces k
 -- and where these lie on one plane it changes no six volumes
 abbrev pub KeepsVolumes : Model → Model → Op → Type 0
 KeepsVolumes M N op = (p : Plane) (u : ℕ) → leaves_vertices op ≡ true → LieOnPlane M p (faces_met M op) → six_volume N u ≡ six_volume M u
+
+-- a spur leaves each face but that in which it stands
+abbrev pub SpurLeavesFaces : Model → Model → Op → Type 0
+SpurLeavesFaces M N op = (k : ℕ) → is_spur M op ≡ true → Has M.faces k → k ≢ spur_face M op → StandsAsBefore M N k

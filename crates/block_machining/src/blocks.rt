@@ -63,12 +63,15 @@ pub fn machined(alloc: Global) -> Result<Session, AllocError>
     Ok(tried(session, Op::Kvfs(1)))
 }
 
-/// The block with a spur: an edge from one of its corners to a point inside. So it has a vertex and an edge more.
+/// The block with a spur: an edge from one of its corners to a point inside. So it has a vertex and an edge more. The side at the greatest x
+/// has the corners and the plane that it had.
 pub fn spurred(alloc: Global) -> Result<Session, AllocError>
+    ensures side { IfOk result (λ session. IsFaceOf (held session.machine) 4 1 near_side) }
     ensures counts { IfOk result (λ session. counts (held session.machine) 1 ≡ record { v = 9; e = 13; f = 6; r = 0; sum = pos 2 }) }
     ensures depth { IfOk result (λ session. depth session.machine ≡ 2) }
 {
     let session = blank(alloc)?;
+    faces_stand();
     let corner = Corner::At(HalfEdge {
         edge: 1,
         first: true,

@@ -1,11 +1,13 @@
-use Rattle.std.proofs.Common.{◌≡◌, suc, refl, sym, ap, ◌∙◌}
+use Rattle.std.proofs.Common.{◌≡◌, ◌≢◌, suc, refl, subst, sym, ap, ◌∙◌}
+use Rattle.std.proofs.lemmas.Bool.{eqb-false}
 use Rattle.euler_operators.specs.Common.{Model}
 use Rattle.sweeps.specs.PlainMachine.{act_refusal, held}
 use Rattle.command_laws.specs.Counted.{counts}
-use Rattle.command_laws.specs.Operators.{counted_on, solid_in}
-use Rattle.block_machining.specs.Machines.{spur}
+use Rattle.command_laws.specs.Operators.{counted_on, solid_in, spur_face}
+use Rattle.block_machining.specs.Machines.{blank, spur}
+use Rattle.block_machining.specs.Meeting.{near_side}
 use Rattle.block_machining.proofs.Accepted.{for_no_reason}
-use Rattle.block_machining.proofs.Worked.{spur_accepted, spur_in}
+use Rattle.block_machining.proofs.Worked.{is_one_spur, spur_accepted, spur_apart, spur_in}
 use Rattle.block_machining.proofs.blocks.spurred.Goals as goal
 
 pub but_for_memory-requires : goal.but_for_memory-requires
@@ -22,3 +24,12 @@ returns-clause-counts c =
 
 pub returns-clause-depth : goal.returns-clause-depth
 returns-clause-depth c = (rw c.in_ok-but_for_memory.ensures at c.acted-session.ensures.undone).0 ∙ ap suc c.in_ok-session.ensures.depth
+
+pub returns-clause-side : goal.returns-clause-side
+returns-clause-side c =
+    let M : Model = held c.in_ok-session.session.machine in
+    let N : Model = held c.acted-session.result.0.machine in
+    let side = c.in_ok-session.ensures.side in
+    let apart : 4 ≢ spur_face M spur = subst (λ m. 4 ≢ spur_face (held m) spur) (sym c.in_ok-session.ensures.made) (eqb-false 4 (spur_face (held blank) spur) spur_apart) in
+    let left = rw c.in_ok-but_for_memory.ensures at c.acted-session.ensures.spurred in
+    c.faces_stand.ensures M N 4 1 near_side (left 4 (is_one_spur M) side.there apart) side
