@@ -2,9 +2,10 @@
 use Rattle.std.specs.Prelude.{◌≡◌, ◌≢◌, ℕ, suc, true, false, None}
 use Rattle.euler_operators.specs.declared.Op.{Op}
 use Rattle.euler_operators.specs.Common.{Plane, lists, Model, Has}
+use Rattle.shapes.specs.Common.{corners}
 use Rattle.sweeps.specs.Measure.{six_volume}
 use Rattle.command_laws.specs.Counted.{counts}
-use Rattle.command_laws.specs.Operators.{LieOnPlane, counted_on, faces_met, is_inner, is_spur, leaves_vertices, solid_in, spur_face}
+use Rattle.command_laws.specs.Operators.{LieOnPlane, counted_on, faces_met, is_inner, is_spur, leaves_vertices, makes_vertex, solid_in, spur_face, vertex_met}
 use Rattle.command_laws.specs.LeftAlone.{StandsAsBefore}
 use Rattle.sweeps.specs.PlainMachine.{Machine, depth, ahead, held, undo, undo_refusal}
 
@@ -29,3 +30,7 @@ KeepsVolumes M N op = (p : Plane) (u : ℕ) → leaves_vertices op ≡ true → 
 -- a spur leaves each face but that in which it stands
 abbrev pub SpurLeavesFaces : Model → Model → Op → Type 0
 SpurLeavesFaces M N op = (k : ℕ) → is_spur M op ≡ true → Has M.faces k → k ≢ spur_face M op → StandsAsBefore M N k
+
+-- one that makes or kills a vertex leaves the faces that have no corner at it
+abbrev pub LeavesFacesApart : Model → Model → Op → Type 0
+LeavesFacesApart M N op = (k : ℕ) → makes_vertex op ≡ true → Has M.faces k → lists (corners M k) (vertex_met M op) ≡ false → StandsAsBefore M N k

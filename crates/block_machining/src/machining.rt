@@ -6,7 +6,7 @@ ghost use Rattle.command_laws.specs.LeftAlone.{KeepsEdges, KeepsLoops, Each, OfO
 ghost use Rattle.command_laws.specs.RingedFaces.{IsFarFace};
 ghost use Rattle.block_machining.specs.Cutting.{AreCapped, ComeOfFaces, CutInTwo, FaceApart, HasOuterCap, KeepPlanes, KeepsBelow, LieOnEitherSide, ShareFaces, ShareSums, StayFlat};
 ghost use Rattle.block_machining.specs.Joining.{TakesOver};
-ghost use Rattle.block_machining.specs.Undoing.{AreCounted, IsOneCommand, KeepsVolumes, LeavesFaces, SpurLeavesFaces};
+ghost use Rattle.block_machining.specs.Undoing.{AreCounted, IsOneCommand, KeepsVolumes, LeavesFaces, LeavesFacesApart, SpurLeavesFaces};
 ghost use Rattle.gluing.specs.Machine.{glue, glue_refusal};
 ghost use Rattle.plane_split.specs.Machine.{plane_with, split, split_refusal};
 ghost use Rattle.sweeps.specs.Machine.{sweep_refusal};
@@ -19,7 +19,7 @@ use command_laws::{
     faces_lie_flat, glues_join_counts, glues_keep_and_join, glues_leave_alone,
     glues_take_faces_over, operators_count, operators_keep_volumes, operators_leave_faces,
     ringed_sweeps_make_faces, solids_are_there, spurs_leave_faces, sweeps_add_counts,
-    sweeps_leave_alone,
+    sweeps_leave_alone, vertices_leave_faces,
 };
 use gluing::{glue, glue_measures, six_volume};
 use plane_split::{split, splits_are_held};
@@ -135,7 +135,7 @@ pub(crate) fn but_for_memory(done: Result<(), Failure>) -> Result<(), AllocError
 
 /// An operator as a command. Where it makes or kills an edge, a face or a ring, what the solids count then is told from what they did; where
 /// it leaves all vertices, the faces that it doesn't meet stand, and if those that it does lie on one plane, no volume changes; a spur leaves
-/// every face but its own. Undo gives the model before.
+/// every face but its own, and what makes or kills a vertex each face without a corner there. Undo gives the model before.
 pub fn acted(mut session: Session, op: Op) -> (Session, Result<(), Failure>)
     ensures made { OnOk result.1 (result.0.machine ≡ act session.machine op) }
     ensures refused { (refusal : Refusal) → (result.1 ≡ Err (Failure.Refused refusal)) → (act_refusal session.machine op ≡ Some refusal) }
@@ -143,6 +143,7 @@ pub fn acted(mut session: Session, op: Op) -> (Session, Result<(), Failure>)
     ensures faces { OnOk result.1 (LeavesFaces (held session.machine) (held result.0.machine) op) }
     ensures volumes { OnOk result.1 (KeepsVolumes (held session.machine) (held result.0.machine) op) }
     ensures spurred { OnOk result.1 (SpurLeavesFaces (held session.machine) (held result.0.machine) op) }
+    ensures apart { OnOk result.1 (LeavesFacesApart (held session.machine) (held result.0.machine) op) }
     ensures undone { OnOk result.1 (IsOneCommand session.machine result.0.machine) }
     ensures err { OnErr result.1 (result.0 ≡ session) }
 {
@@ -151,6 +152,7 @@ pub fn acted(mut session: Session, op: Op) -> (Session, Result<(), Failure>)
     operators_leave_faces();
     operators_keep_volumes();
     spurs_leave_faces();
+    vertices_leave_faces();
     let done = session.act(op);
     (session, done)
 }

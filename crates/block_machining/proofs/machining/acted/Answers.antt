@@ -26,3 +26,7 @@ returns-clause-volumes c = on_ok_weaker c.act-done.result (λ made p u.
 pub returns-clause-spurred : goal.returns-clause-spurred
 returns-clause-spurred c = on_ok_weaker c.act-done.result (λ made k.
     c.spurs_leave_faces.ensures.shapes (held c.args.session.machine) (held c.act-done.new.self.machine) c.args.op k c.stays_consistent.ensures.held_sound (made.0, ap (λ j. held j.machine) made.1)) c.act-done.ensures.ok
+
+pub returns-clause-apart : goal.returns-clause-apart
+returns-clause-apart c = on_ok_weaker c.act-done.result (λ made k.
+    c.vertices_leave_faces.ensures (held c.args.session.machine) (held c.act-done.new.self.machine) c.args.op k c.stays_consistent.ensures.held_sound (made.0, ap (λ j. held j.machine) made.1)) c.act-done.ensures.ok
