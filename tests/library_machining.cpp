@@ -487,6 +487,54 @@ static void try_drafts()
     check(bench.listing() == before, "which is undone at once");
 }
 
+// Makes a pocket where that is possible, which has to be said as it is of the same model read anew.
+static bool makes(Workbench &bench, Face face, std::int64_t x, std::int64_t z, std::int64_t depth)
+{
+    Workbench anew;
+    anew.load(bench.listing());
+    Attempts here = bench.attempt(), there = anew.attempt();
+    const std::vector<Point> square = {{x, 5, z}, {x + 4, 5, z}, {x + 4, 9, z}, {x, 9, z}};
+    const Result<Pocket> made = pocket(here, face, square, depth), expected = pocket(there, face, square, depth);
+    const bool are_both = made && expected && made->sides == expected->sides;
+    check(are_both || (!made && !expected && made.error().number == expected.error().number), "a pocket as in the model read anew");
+    return static_cast<bool>(made);
+}
+
+// What else changes a model than features of outlines is not missed by the next one.
+static void try_what_is_known()
+{
+    Workbench bench;
+    const Profile plate = profile(bench, {{0, 0, 0}, {40, 0, 0}, {40, 20, 0}, {0, 20, 0}}, {0, 0, 10});
+    const auto sinks = [&](std::int64_t x, std::int64_t depth) { return makes(bench, plate.far, x, 10, depth); };
+    check(sinks(2, 4) && !sinks(3, 1) && !makes(bench, plate.base, 3, 0, 6), "a pocket where one was made");
+    bench.undo();
+    check(sinks(3, 1), "an undo");
+    bench.undo();
+    check(sinks(4, 4), "another one");
+    bench.undo();
+    bench.redo();
+    check(!sinks(2, 1), "a redo");
+    {
+        const Draft draft = bench.draft();
+        const Mark mark = bench.mark();
+        check(sinks(10, 2) && !sinks(11, 2), "a draft");
+        bench.back(mark);
+        check(sinks(11, 2) && !sinks(10, 2), "a mark");
+    }
+    check(sinks(10, 2), "a draft that is given up");
+    const Pocket low = pocket(bench, plate.far, {{20, 5, 10}, {24, 5, 10}, {24, 9, 10}, {20, 9, 10}}, 2);
+    (void)bench.run("sweep " + std::to_string(low.face.number()) + " 0 0 -4");
+    check(!makes(bench, plate.base, 19, 0, 5) && makes(bench, plate.base, 19, 0, 3), "a line");
+    (void)slot(bench, plate.far, {30, 0, 10}, {30, 6, 10}, 4, 2);
+    check(!sinks(29, 1) && sinks(33, 1), "another feature");
+    move_solid(bench, plate.solid, Motion::move({-8, 0, 0}));
+    check(!sinks(27, 1) && sinks(7, 1), "a solid that was moved");
+    gwb *handle = bench.handle();
+    check(makes(bench, plate.base, 17, 0, 1), "a handle that was lent");
+    (void)gwb_undo(handle);
+    check(makes(bench, plate.base, 18, 0, 1) && !makes(bench, plate.base, 17, 0, 1), "and is used later on");
+}
+
 // As far out as points lie: what doesn't fit would be seen by sanitizers.
 static void try_far()
 {
@@ -517,6 +565,7 @@ int main(int count, char **words)
         try_what_comes_back();
         try_refusals();
         try_drafts();
+        try_what_is_known();
         try_far();
     } catch (const std::exception &error) {
         std::cout << error.what() << '\n';

@@ -493,6 +493,10 @@ private:
     Ranges made_{}; ///< by the steps until then
 };
 
+namespace machining {
+class Surroundings;
+}
+
 /// A session, shared by its workbench, the drafts and the ranges of it. It is closed as soon as the workbench is gone; what is left of it
 /// says so.
 class State {
@@ -502,11 +506,24 @@ public:
     std::uint64_t changes = 0;
     /// The number of the draft that was opened last.
     std::uint64_t draft = 0;
+    /// What features have read of the model.
+    std::shared_ptr<machining::Surroundings> surroundings;
 
     State() = default;
     State(const State &) = delete;
     State &operator=(const State &) = delete;
     ~State() { gwb_close(&handle); }
+
+    /// A number of the model that is held: never that of another one. Once the handle was lent it is another one each time.
+    [[nodiscard]] std::uint64_t model()
+    {
+        if (is_lent_)
+            model_ = ++models_;
+        return model_;
+    }
+
+    /// Before the handle is given to the caller, who may do anything with it from then on.
+    void lend() { is_lent_ = true; }
 
     /// The fresh numbers of a kind: those that the last command made.
     [[nodiscard]] std::optional<gwb_range> fresh(gwb_entity kind) const
@@ -530,7 +547,7 @@ public:
             return;
         is_kept_ = false;
         if (kind == GWB_OK)
-            changes++;
+            change();
         if (kind == GWB_OK && is_drafting_)
             add(live());
     }
@@ -553,7 +570,7 @@ public:
         for (std::uint32_t kind = GWB_FACE; kind < made.size(); kind++)
             if (gwb_number_after(&handle, kind, before[kind], &made[kind].first) == GWB_FOUND)
                 made[kind].last = now[kind];
-        changes++;
+        change();
         kept_ = made;
         is_kept_ = true;
         if (is_drafting_)
@@ -564,7 +581,10 @@ public:
     std::uint64_t begin_draft()
     {
         is_drafting_ = true;
+        is_kept_ = false;
         drafted_ = {};
+        model_before_ = model_;
+        changes++;
         return ++draft;
     }
 
@@ -577,25 +597,35 @@ public:
         return mark;
     }
 
-    /// After the steps since a mark were taken back.
-    void go_back(const Mark &mark)
+    /// After the steps since a mark were taken back, if there were any.
+    void go_back(const Mark &mark, bool were_any)
     {
         changes++;
+        if (were_any)
+            model_ = ++models_;
         is_kept_ = false;
         drafted_ = mark.made_;
     }
 
-    /// After a draft has ended; where it was committed it has made what its steps made.
+    /// After a draft has ended; where it was committed it has made what its steps made, and else the model is the one before it.
     void end_draft(bool is_committed)
     {
         is_drafting_ = false;
         changes++;
+        if (!is_committed)
+            model_ = model_before_;
         is_kept_ = is_committed;
         kept_ = drafted_;
     }
 
 private:
     using Ranges = Mark::Ranges;
+
+    void change()
+    {
+        changes++;
+        model_ = ++models_;
+    }
 
     [[nodiscard]] gwb_range live(gwb_entity kind) const
     {
@@ -615,8 +645,9 @@ private:
         }
     }
 
-    bool is_kept_ = false, is_drafting_ = false;
+    bool is_kept_ = false, is_drafting_ = false, is_lent_ = false;
     Ranges kept_{}, drafted_{};
+    std::uint64_t model_ = 1, model_before_ = 1, models_ = 1;
 };
 
 // ---- ranges
@@ -1072,10 +1103,10 @@ public:
     [[nodiscard]] Returned<Draft> draft()
     {
         gwb_kind kind = gwb_draft(held());
+        if (kind == GWB_OK)
+            return Draft(state_);
         follow(kind);
-        if (kind != GWB_OK)
-            return Policy::template failed<Draft>("draft", failure(kind));
-        return Draft(state_);
+        return Policy::template failed<Draft>("draft", failure(kind));
     }
 
     /// How far the draft that is open has come, for back().
@@ -1087,10 +1118,11 @@ public:
     /// Takes the draft's steps since a mark back, and leaves it open. NoDraft where none is open.
     Returned<void> back(const Mark &mark)
     {
+        const std::size_t steps = gwb_mark(seen());
         const gwb_kind kind = gwb_back(held(), mark.steps());
         if (kind != GWB_OK)
             return Policy::template failed<void>("back", failure(kind));
-        state_->go_back(mark);
+        state_->go_back(mark, mark.steps() < steps);
         return Returned<void>();
     }
 
@@ -1339,12 +1371,18 @@ public:
     [[nodiscard]] Commands<Results> attempt() const { return Commands<Results>(state_); }
 
     /// For the calls of gwb.h; that of a workbench that was moved from is closed. It stays where it is when the workbench is moved. What
-    /// they do to a draft or to the model the ranges and drafts here don't notice.
-    [[nodiscard]] gwb *handle() { return held(); }
+    /// they do to a draft or to the model the ranges and drafts here don't notice; features read their solid anew from then on.
+    [[nodiscard]] gwb *handle()
+    {
+        if (state_ != nullptr)
+            state_->lend();
+        return held();
+    }
     [[nodiscard]] const gwb *handle() const { return seen(); }
 
 protected:
     template <class> friend class Commands;
+    friend class machining::Surroundings;
     Commands() = default;
     explicit Commands(std::shared_ptr<State> state) : state_(std::move(state)) {}
 

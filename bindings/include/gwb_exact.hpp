@@ -5,6 +5,7 @@
 #ifndef GWB_EXACT_HPP
 #define GWB_EXACT_HPP
 #include "gwb.hpp"
+#include <map>
 #if !defined(__SIZEOF_INT128__)
 #error "the features take integers of 128 bits, as GCC and Clang have them"
 #endif
@@ -146,6 +147,57 @@ struct Box {
                 return false;
         return true;
     }
+};
+
+/// Numbers by boxes. Each lies in a grid whose cells are longer than its box, by a power of two, in the cell of the box's lowest corner.
+class BoxIndex {
+public:
+    void put(const Box &box, std::size_t number)
+    {
+        int size = 0;
+        while (longest(subtract(box.high, box.low)) >> size != 0)
+            size++;
+        grids_[size][cell(box.low, size)].push_back({box, number});
+    }
+
+    /// The numbers of the boxes that meet one, rising.
+    [[nodiscard]] std::vector<std::size_t> meeting(const Box &box) const
+    {
+        std::vector<std::size_t> found;
+        for (const auto &[size, grid] : grids_)
+            look(grid, subtract(cell(box.low, size), {1, 1, 1}), cell(box.high, size), box, found);
+        std::sort(found.begin(), found.end());
+        return found;
+    }
+
+private:
+    struct Entry {
+        Box box;
+        std::size_t number;
+    };
+    using Grid = std::map<Vector, std::vector<Entry>>;
+
+    static Vector cell(const Vector &at, int size) { return {at[0] >> size, at[1] >> size, at[2] >> size}; }
+
+    /// Looks at the cells from one to another; at all of them where that are fewer.
+    static void look(const Grid &grid, const Vector &first, const Vector &last, const Box &box, std::vector<std::size_t> &found)
+    {
+        if ((last[0] - first[0] + 1) * (last[1] - first[1] + 1) > static_cast<Wide>(grid.size()))
+            return take(grid.begin(), grid.end(), box, found);
+        for (Wide x = first[0]; x <= last[0]; x++)
+            for (Wide y = first[1]; y <= last[1]; y++)
+                take(grid.lower_bound({x, y, first[2]}), grid.upper_bound({x, y, last[2]}), box, found);
+    }
+
+    static void take(Grid::const_iterator at, Grid::const_iterator end, const Box &box, std::vector<std::size_t> &found)
+    {
+        for (; at != end; ++at)
+            for (const Entry &entry : at->second)
+                if (entry.box.meets(box))
+                    found.push_back(entry.number);
+    }
+
+    std::map<int, Grid> grids_;
 };
 
 // ---- planes

@@ -7,7 +7,7 @@
 ///     hole(bench, made.face, {{9, 7, 6}, {11, 7, 6}, {10, 9, 6}});
 ///
 /// Outlines may run either way round; what belongs to their points comes in the order of the points: the first of `sides` lies between the
-/// first two. A feature reads the solid of its face once, and compares what lies near.
+/// first two. A feature compares what lies near. What was read of a solid for one feature is known to the next ones, until another command comes.
 #ifndef GWB_MACHINING_HPP
 #define GWB_MACHINING_HPP
 #include "gwb_exact.hpp"
@@ -145,80 +145,46 @@ inline std::optional<Vector> steps_along(const Vector &across, std::int64_t leng
 
 // ---- faces
 
-/// The points of the loops of a face, the outer one first. A lone loop has one.
+/// The points of the loops of a face. A lone loop has one.
 inline std::vector<Path> loops_at(const Attempts &bench, Face face)
 {
     std::vector<Path> loops;
-    for (Loop loop : bench.loops_of(face)) {
-        Path &path = loops.emplace_back();
-        for (HalfEdge half_edge : bench.around(loop))
-            path.push_back(vector(*bench.vertex(*bench.start_of(half_edge))));
-        if (path.empty())
-            path.push_back(vector(*bench.vertex(bench.lone_vertex(loop)->value_or(Vertex()))));
+    std::uint32_t last = 0;
+    for (const gwb_half_edge_row &row : bench.half_edge_rows(face)) {
+        if (std::exchange(last, row.loop) != row.loop)
+            loops.emplace_back();
+        loops.back().push_back(vector(*bench.vertex(Vertex(row.start))));
     }
+    for (Loop loop : bench.loops_of(face))
+        if (const std::optional<Vertex> vertex = *bench.lone_vertex(loop))
+            loops.push_back({vector(*bench.vertex(*vertex))});
     return loops;
 }
 
-/// A flat face as a region of its plane.
-class Region {
+/// The plane of a face.
+class Plane {
 public:
     /// None where a loop is lone, the face has no area, a vertex lies off its plane or an edge has no length.
-    static std::optional<Region> of(const std::vector<Path> &loops)
+    static std::optional<Plane> of(const std::vector<Path> &loops)
     {
         Vector sum{};
         for (const Path &path : loops)
             sum = add(sum, area_vector(path));
         if (is_zero(sum))
             return std::nullopt;
-        const Region region(reduced(sum), loops);
-        return std::all_of(loops.begin(), loops.end(), [&](const Path &path) { return region.has(path); }) ? std::optional(region) : std::nullopt;
+        const Plane plane(reduced(sum), loops[0][0]);
+        return std::all_of(loops.begin(), loops.end(), [&](const Path &path) { return plane.has(path); }) ? std::optional(plane) : std::nullopt;
     }
 
     /// Its normal, as short as it can be.
     [[nodiscard]] const Vector &across() const { return across_; }
-    /// Positive where the point lies before the face's plane, negative behind it.
+    /// Positive where the point lies before it, negative behind it.
     [[nodiscard]] Wide height(const Vector &at) const { return dot(across_, subtract(at, origin_)); }
 
-    /// Where the point of a segment that lies on the face's plane lies against the face: so far along as its start's height says of the
-    /// difference to that of its end.
-    [[nodiscard]] Place locate_between(const Vector &start, const Vector &end) const
-    {
-        const Wide before = height(start), scale = before == height(end) ? 1 : magnitude(before - height(end));
-        const Wide along = before == height(end) ? 0 : magnitude(before);
-        const auto part = [&](std::size_t axis) { return start[axis] * scale + along * (end[axis] - start[axis]); };
-        return locate({part(axes_[0]), part(axes_[1]), scale});
-    }
-
-    /// The points of an outline strictly inside the face, which has this number, turned so that they run as a ring does; the first stays the
-    /// first.
-    [[nodiscard]] Result<Path> ring_path(Face face, const Path &path) const
-    {
-        for (std::size_t at = 0; at < path.size(); at++)
-            if (height(path[at]) != 0)
-                return impossible(Misfit::not_in_plane, place(at));
-        const Result<Vector> normal = simple_normal(path);
-        if (!normal)
-            return normal.error();
-        const Outline own = flattened(path, axes_);
-        const Result<void> inside = require_inside(face, path, own);
-        if (!inside)
-            return inside.error();
-        return twice_area(own) < 0 ? path : turned(path);
-    }
-
 private:
-    struct FlatLoop {
-        Outline sides;
-        Box box;
-    };
+    Plane(const Vector &across, const Vector &origin) : across_(across), origin_(origin) {}
 
-    Region(const Vector &across, const std::vector<Path> &loops) : across_(across), origin_(loops[0][0]), axes_(flat_axes(across))
-    {
-        for (const Path &path : loops)
-            loops_.push_back({flattened(path, axes_), Box::around(path)});
-    }
-
-    /// Whether a loop lies on the plane, and none of its edges has no length.
+    /// Whether a loop lies on it, and none of its edges has no length.
     [[nodiscard]] bool has(const Path &path) const
     {
         for (std::size_t at = 0; at < path.size(); at++)
@@ -227,11 +193,61 @@ private:
         return true;
     }
 
+    Vector across_, origin_;
+};
+
+/// The plane of a face. Refused: NoFace, NotFlat.
+inline Result<Plane> plane_of(const Attempts &bench, Face face)
+{
+    if (!bench.face(face))
+        return bench.is_open() ? refused(GWB_WHY_NO_FACE, face.number()) : Failure{Problem::closed};
+    const std::optional<Plane> plane = Plane::of(loops_at(bench, face));
+    return plane ? Result<Plane>(*plane) : Result<Plane>(refused(GWB_WHY_NOT_FLAT, face.number()));
+}
+
+/// A flat face as a region of its plane, so far as its loops tell that lie near a place.
+class Region {
+public:
+    Region(const Plane &plane, const std::vector<Path> &loops) : plane_(plane), axes_(flat_axes(plane.across()))
+    {
+        for (const Path &path : loops)
+            loops_.push_back(flattened(path, axes_));
+    }
+
+    [[nodiscard]] const Plane &plane() const { return plane_; }
+
+    /// Where the point of a segment that lies on the face's plane lies against the face: so far along as its start's height says of the
+    /// difference to that of its end.
+    [[nodiscard]] Place locate_between(const Vector &start, const Vector &end) const
+    {
+        const Wide before = plane_.height(start), after = plane_.height(end), scale = before == after ? 1 : magnitude(before - after);
+        const Wide along = before == after ? 0 : magnitude(before);
+        const auto part = [&](std::size_t axis) { return start[axis] * scale + along * (end[axis] - start[axis]); };
+        return locate({part(axes_[0]), part(axes_[1]), scale});
+    }
+
+    /// Refuses an outline of its plane that doesn't lie strictly inside the face, which has this number, or has a ring of it inside.
+    [[nodiscard]] Result<void> require_inside(Face face, const Outline &own) const
+    {
+        bool is_around = false;
+        for (const Outline &sides : loops_) {
+            for (const Segment &side : sides)
+                for (const Segment &other : own)
+                    if (side.is_near(other) && side.meets(other))
+                        return impossible(Misfit::outline_outside, face.number());
+            is_around = is_around || exact::locate(own, sides[0].start) == Place::inside;
+        }
+        if (locate(own[0].start) != Place::inside)
+            return impossible(Misfit::outline_outside, face.number());
+        return is_around ? Result<void>(impossible(Misfit::outline_around_ring, face.number())) : Result<void>();
+    }
+
+private:
     [[nodiscard]] Place locate(const Spot &spot) const
     {
         bool is_within = false;
-        for (const FlatLoop &loop : loops_) {
-            const Place at = exact::locate(loop.sides, spot);
+        for (const Outline &sides : loops_) {
+            const Place at = exact::locate(sides, spot);
             if (at == Place::on)
                 return at;
             is_within = is_within != (at == Place::inside);
@@ -239,114 +255,131 @@ private:
         return is_within ? Place::inside : Place::outside;
     }
 
-    [[nodiscard]] Result<void> require_inside(Face face, const Path &path, const Outline &own) const
-    {
-        const Box box = Box::around(path);
-        bool is_around = false, is_within = false;
-        for (const FlatLoop &loop : loops_) {
-            if (!loop.box.meets(box))
-                continue;
-            for (const Segment &side : loop.sides)
-                for (const Segment &other : own)
-                    if (side.is_near(other) && side.meets(other))
-                        return impossible(Misfit::outline_outside, face.number());
-            is_within = is_within != (exact::locate(loop.sides, own[0].start) == Place::inside);
-            is_around = is_around || exact::locate(own, loop.sides[0].start) == Place::inside;
-        }
-        if (!is_within)
-            return impossible(Misfit::outline_outside, face.number());
-        return is_around ? Result<void>(impossible(Misfit::outline_around_ring, face.number())) : Result<void>();
-    }
-
-    Vector across_, origin_;
+    Plane plane_;
     Axes axes_;
-    std::vector<FlatLoop> loops_;
+    std::vector<Outline> loops_;
 };
-
-/// The region of a face. Refused: NoFace, NotFlat.
-inline Result<Region> region_of(const Attempts &bench, Face face)
-{
-    if (!bench.face(face))
-        return bench.is_open() ? refused(GWB_WHY_NO_FACE, face.number()) : Failure{Problem::closed};
-    std::optional<Region> region = Region::of(loops_at(bench, face));
-    return region ? Result<Region>(*region) : Result<Region>(refused(GWB_WHY_NOT_FLAT, face.number()));
-}
 
 // ---- what lies near
 
-/// The loops of a solid with their points, read at once.
+/// The loops of a solid with their points, by boxes, and the planes of its faces.
 class Surface {
 public:
     Surface(const Attempts &bench, Solid solid)
     {
-        for (const gwb_half_edge_row &row : bench.half_edge_rows(solid)) {
-            if (loops_.empty() || loops_.back().loop != row.loop)
-                loops_.push_back({Face(row.face), row.loop, points_.size(), points_.size()});
-            loops_.back().last++;
-            points_.push_back(vector(*bench.vertex(Vertex(row.start))));
-            is_first_.push_back(row.half_edge % 2 == 0);
-        }
         for (Face face : bench.faces(solid))
-            for (Loop loop : bench.loops_of(face))
-                if (auto vertex = *bench.lone_vertex(loop))
-                    lone_.push_back(vector(*bench.vertex(*vertex)));
+            put(bench, face);
+    }
+
+    /// Takes in a face that is new.
+    void put(const Attempts &bench, Face face)
+    {
+        const std::vector<Path> loops = loops_at(bench, face);
+        for (const Path &path : loops)
+            put(face, path);
+        if (const std::optional<Plane> plane = Plane::of(loops))
+            planes_.emplace(face, *plane);
+    }
+
+    /// Takes in a ring of a face that is new, in the face's plane.
+    void put(Face face, const Path &path)
+    {
+        const Box box = Box::around(path);
+        boxes_.put(box, loops_.size());
+        loops_.push_back({face, path});
+        around_ = around_ ? joined(*around_, box) : box;
+    }
+
+    /// The plane of a face, where that is plain and flat.
+    [[nodiscard]] const Plane *plane(Face face) const
+    {
+        const auto found = planes_.find(face);
+        return found != planes_.end() ? &found->second : nullptr;
     }
 
     /// A box around the part of a ray that lies in the box around the solid.
     [[nodiscard]] Box box_of_ray(const Vector &start, const Vector &way) const
     {
-        const Box around = Box::around(points_);
         Box ray{start, start};
         for (std::size_t axis = 0; axis < 3; axis++) {
             if (way[axis] > 0)
-                ray.high[axis] = around.high[axis];
+                ray.high[axis] = around_->high[axis];
             if (way[axis] < 0)
-                ray.low[axis] = around.low[axis];
+                ray.low[axis] = around_->low[axis];
         }
         return ray;
     }
 
-    /// Whether the test holds for an edge that meets a box, by its ends; a lone vertex stands for both.
-    template <class Test> [[nodiscard]] bool any_edge(const Box &box, Test test) const
+    /// The loops that meet a box, by faces.
+    using Near = std::map<Face, std::vector<Path>>;
+    [[nodiscard]] Near near(const Box &box) const
     {
-        for (const LoopPoints &loop : loops_)
-            for (std::size_t at = loop.first; at < loop.last; at++) {
-                const Vector &start = points_[at], &end = points_[at + 1 < loop.last ? at + 1 : loop.first];
-                if (is_first_[at] && Box::between(start, end).meets(box) && test(start, end))
-                    return true;
-            }
-        return std::any_of(lone_.begin(), lone_.end(), [&](const Vector &at) { return test(at, at); });
+        Near found;
+        for (std::size_t at : boxes_.meeting(box))
+            found[loops_[at].first].push_back(loops_[at].second);
+        return found;
     }
 
-    /// Calls for each plain flat face that meets a box but for two, rising.
-    template <class Call> void for_faces(const Box &box, const std::array<Face, 2> &but, Call call) const
+    /// The points of an outline strictly inside a plain flat face, turned so that they run as a ring does; the first stays the first.
+    [[nodiscard]] Result<Path> ring_path(Face face, const Path &path) const
     {
-        for (std::size_t first = 0, last = 0; first < loops_.size(); first = last) {
-            const Face face = loops_[first].face;
-            while (last < loops_.size() && loops_[last].face == face)
-                last++;
-            if (face == but[0] || face == but[1] || !Box::around(path(loops_[first])).meets(box))
-                continue;
-            std::vector<Path> loops;
-            for (std::size_t at = first; at < last; at++)
-                loops.push_back(path(loops_[at]));
-            if (std::optional<Region> region = Region::of(loops))
-                call(face, *region, loops);
-        }
+        const Plane &plane = planes_.at(face);
+        for (std::size_t at = 0; at < path.size(); at++)
+            if (plane.height(path[at]) != 0)
+                return impossible(Misfit::not_in_plane, place(at));
+        const Result<Vector> normal = simple_normal(path);
+        if (!normal)
+            return normal.error();
+        const Outline own = flattened(path, flat_axes(plane.across()));
+        const Result<void> inside = Region(plane, near(Box::around(path))[face]).require_inside(face, own);
+        if (!inside)
+            return inside.error();
+        return twice_area(own) < 0 ? path : turned(path);
     }
 
 private:
-    struct LoopPoints {
-        Face face;
-        std::uint32_t loop;
-        std::size_t first, last; ///< of the points
-    };
+    static Box joined(Box box, const Box &other)
+    {
+        box.take(other.low);
+        box.take(other.high);
+        return box;
+    }
 
-    [[nodiscard]] Path path(const LoopPoints &loop) const { return Path(&points_[loop.first], &points_[loop.first] + (loop.last - loop.first)); }
+    std::vector<std::pair<Face, Path>> loops_;
+    std::map<Face, Plane> planes_;
+    BoxIndex boxes_;
+    std::optional<Box> around_;
+};
 
-    std::vector<LoopPoints> loops_;
-    Path points_, lone_;
-    std::vector<bool> is_first_;
+/// What is known of the solids of a model.
+class Surroundings {
+public:
+    /// Those of the model that a workbench holds, which are forgotten where it isn't the one that they are of.
+    static Surroundings &of(const Attempts &bench)
+    {
+        State &state = *bench.state_;
+        if (state.surroundings == nullptr)
+            state.surroundings = std::make_shared<Surroundings>();
+        const std::uint64_t model = state.model();
+        if (std::exchange(state.surroundings->model_, model) != model)
+            state.surroundings->surfaces_.clear();
+        return *state.surroundings;
+    }
+
+    /// The surface of a solid, which is read where it isn't known.
+    const Surface &surface(const Attempts &bench, Solid solid) { return surfaces_.try_emplace(solid, bench, solid).first->second; }
+
+    /// Takes in what a command did to a solid, and that it did nothing else to the model.
+    template <class Put> void follow(const Attempts &bench, Solid solid, Put put)
+    {
+        model_ = 0;
+        put(surfaces_.at(solid));
+        model_ = bench.state_->model();
+    }
+
+private:
+    std::uint64_t model_ = 0; ///< 0: of none
+    std::map<Solid, Surface> surfaces_;
 };
 
 /// Points as seen along a vector: as spots, exactly.
@@ -388,6 +421,17 @@ public:
     }
 
     [[nodiscard]] const Box &box() const { return box_; }
+
+    /// Whether it meets an edge of a loop, or the vertex of a lone one.
+    [[nodiscard]] bool meets_loop(const Path &path) const
+    {
+        for (std::size_t at = 0; at < path.size(); at++) {
+            const Vector &start = path[at], &end = path[(at + 1) % path.size()];
+            if (Box::between(start, end).meets(box_) && meets_edge(start, end))
+                return true;
+        }
+        return false;
+    }
 
     /// Whether a point of the segment lies in the prism or on it; in the face, and in the other one, only what is on the outline counts.
     [[nodiscard]] bool meets_edge(Vector start, Vector end) const
@@ -433,7 +477,8 @@ private:
 
     static bool meets(const Region &region, const Vector &start, const Vector &end)
     {
-        return sign(region.height(start)) * sign(region.height(end)) <= 0 && region.locate_between(start, end) != Place::outside;
+        const Plane &plane = region.plane();
+        return sign(plane.height(start)) * sign(plane.height(end)) <= 0 && region.locate_between(start, end) != Place::outside;
     }
 
     Path path_, far_;
@@ -448,12 +493,17 @@ private:
 /// Refuses a feature that would meet or touch the solid elsewhere than in the face, or in the other one where it ends there.
 inline Result<void> require_room(const Surface &surface, const Prism &prism, Face face, Face other = Face())
 {
-    bool meets = surface.any_edge(prism.box(), [&](const Vector &start, const Vector &end) { return prism.meets_edge(start, end); });
-    if (!meets)
-        surface.for_faces(prism.box(), {face, other}, [&](Face, const Region &region, const std::vector<Path> &) {
-            meets = meets || prism.meets_face(region);
-        });
-    return meets ? Result<void>(impossible(Misfit::meets, face.number())) : Result<void>();
+    const Surface::Near near = surface.near(prism.box());
+    const auto has_edge = [&](const auto &of) {
+        return std::any_of(of.second.begin(), of.second.end(), [&](const Path &path) { return prism.meets_loop(path); });
+    };
+    const auto is_face = [&](const auto &of) {
+        const Plane *plane = of.first != face && of.first != other ? surface.plane(of.first) : nullptr;
+        return plane != nullptr && prism.meets_face(Region(*plane, of.second));
+    };
+    if (std::any_of(near.begin(), near.end(), has_edge) || std::any_of(near.begin(), near.end(), is_face))
+        return impossible(Misfit::meets, face.number());
+    return {};
 }
 
 /// The face that a ray from a point of a face goes out through, which is parallel, and the way to it.
@@ -491,14 +541,15 @@ inline Result<Opposite> opposite(const Surface &surface, Face face, const Vector
     const Sight sight(across, start);
     const Vector back = negative(across);
     std::optional<Reach> nearest;
-    surface.for_faces(surface.box_of_ray(start, back), {face, Face()}, [&](Face other, const Region &region, const std::vector<Path> &loops) {
-        const Wide slope = dot(region.across(), back), height = region.height(start);
+    for (const auto &[other, loops] : surface.near(surface.box_of_ray(start, back))) {
+        const Plane *plane = other != face ? surface.plane(other) : nullptr;
+        const Wide slope = plane != nullptr ? dot(plane->across(), back) : 0, height = plane != nullptr ? plane->height(start) : 0;
         if (sign(height) * sign(slope) >= 0 || !is_seen(sight, loops))
-            return;
-        const Reach reach{magnitude(height), magnitude(slope), other, region.across()};
+            continue;
+        const Reach reach{magnitude(height), magnitude(slope), other, plane->across()};
         if (!nearest || reach.is_before(*nearest))
             nearest = reach;
-    });
+    }
     if (!nearest)
         return impossible(Misfit::no_opposite, face.number());
     if (!are_parallel(nearest->across, back))
@@ -612,6 +663,7 @@ inline Result<Profile> make_profile(Attempts bench, Solid solid, Items<Point> po
 
 /// An outline that is ready to be drawn in a face.
 struct Drawing {
+    Surroundings *known;
     Solid solid;
     Vector across;
     Path path;
@@ -620,14 +672,19 @@ struct Drawing {
 
 inline Result<Drawing> drawing(const Attempts &bench, Face face, Items<Point> points)
 {
-    const Result<Region> region = region_of(bench, face);
-    if (!region)
-        return region.error();
+    const Result<FaceRow> row = bench.face(face);
+    if (!row)
+        return bench.is_open() ? refused(GWB_WHY_NO_FACE, face.number()) : Failure{Problem::closed};
+    Surroundings &known = Surroundings::of(bench);
+    const Surface &surface = known.surface(bench, row->solid);
+    const Plane *plane = surface.plane(face);
+    if (plane == nullptr)
+        return refused(GWB_WHY_NOT_FLAT, face.number());
     const Result<Path> given = path_of(points);
     if (!given)
         return given.error();
-    const Result<Path> path = region->ring_path(face, *given);
-    return path ? Result<Drawing>(Drawing{bench.face(face)->solid, region->across(), *path, *path != *given}) : Result<Drawing>(path.error());
+    const Result<Path> path = surface.ring_path(face, *given);
+    return path ? Result<Drawing>(Drawing{&known, row->solid, plane->across(), *path, *path != *given}) : Result<Drawing>(path.error());
 }
 
 inline Result<Ring> make_ring(Attempts bench, Face face, Items<Point> points)
@@ -636,6 +693,11 @@ inline Result<Ring> make_ring(Attempts bench, Face face, Items<Point> points)
     if (!drawn)
         return drawn.error();
     Result<Ring> made = draw(bench, face, drawn->path);
+    if (made)
+        drawn->known->follow(bench, drawn->solid, [&](Surface &surface) {
+            surface.put(face, drawn->path);
+            surface.put(bench, made->face);
+        });
     if (made && drawn->is_turned) {
         std::reverse(made->edges.begin(), made->edges.end());
         std::reverse(made->vertices.begin() + 1, made->vertices.end());
@@ -653,6 +715,14 @@ inline Result<Pocket> draw_and_sweep(Attempts bench, Face face, const Drawing &d
     return sides ? Result<Pocket>(Pocket{ring->face, ring->loop, by_points(*sides, drawn.is_turned)}) : Result<Pocket>(sides.error());
 }
 
+/// Takes in a ring in a face, and the sides over it.
+inline void put_sides(Surface &surface, const Attempts &bench, Face face, const Path &ring, const std::vector<Face> &sides)
+{
+    surface.put(face, ring);
+    for (Face side : sides)
+        surface.put(bench, side);
+}
+
 /// Moves an outline in a face along the face's normal: by a length that is below zero for a pocket.
 inline Result<Pocket> raise(Attempts bench, Face face, Items<Point> points, std::int64_t length)
 {
@@ -664,8 +734,17 @@ inline Result<Pocket> raise(Attempts bench, Face face, Items<Point> points, std:
         return impossible(Misfit::off_lattice, face.number());
     if (std::any_of(drawn->path.begin(), drawn->path.end(), [&](const Vector &at) { return !is_in_range(add(at, *way)); }))
         return length < 0 ? impossible(Misfit::meets, face.number()) : refused(GWB_WHY_POINT_RANGE, 0);
-    const Result<void> room = require_room(Surface(bench, drawn->solid), Prism(drawn->across, drawn->path, *way, false), face);
-    return room ? draw_and_sweep(bench, face, *drawn, *way) : Result<Pocket>(room.error());
+    const Prism prism(drawn->across, drawn->path, *way, false);
+    const Result<void> room = require_room(drawn->known->surface(bench, drawn->solid), prism, face);
+    if (!room)
+        return room.error();
+    const Result<Pocket> made = draw_and_sweep(bench, face, *drawn, *way);
+    if (made)
+        drawn->known->follow(bench, drawn->solid, [&](Surface &surface) {
+            put_sides(surface, bench, face, drawn->path, made->sides);
+            surface.put(bench, made->face);
+        });
+    return made;
 }
 
 inline Result<Hole> make_hole(Attempts bench, Face face, Items<Point> points)
@@ -673,13 +752,13 @@ inline Result<Hole> make_hole(Attempts bench, Face face, Items<Point> points)
     const Result<Drawing> drawn = drawing(bench, face, points);
     if (!drawn)
         return drawn.error();
-    const Surface surface(bench, drawn->solid);
+    const Surface &surface = drawn->known->surface(bench, drawn->solid);
     const Result<Opposite> end = opposite(surface, face, drawn->across, drawn->path[0]);
     if (!end)
         return end.error();
     Path far;
     std::transform(drawn->path.begin(), drawn->path.end(), std::back_inserter(far), [&](const Vector &at) { return add(at, end->way); });
-    const Result<Path> there = region_of(bench, end->face)->ring_path(end->face, far);
+    const Result<Path> there = surface.ring_path(end->face, far);
     if (!there)
         return there.error();
     const Result<void> room = require_room(surface, Prism(drawn->across, drawn->path, end->way, true), face, end->face);
@@ -689,7 +768,13 @@ inline Result<Hole> make_hole(Attempts bench, Face face, Items<Point> points)
     if (!made)
         return made.error();
     const Result<void> joined = bench.kfmrh(end->face, made->face);
-    return joined ? Result<Hole>(Hole{end->face, made->loop, made->sides}) : Result<Hole>(joined.error());
+    if (!joined)
+        return joined.error();
+    drawn->known->follow(bench, drawn->solid, [&](Surface &of) {
+        put_sides(of, bench, face, drawn->path, made->sides);
+        of.put(end->face, far);
+    });
+    return Hole{end->face, made->loop, made->sides};
 }
 
 /// What a feature gives, as one command.

@@ -75,8 +75,8 @@ inline Wedge wedge(const Corner &start, const Corner &end)
 /// The shortest normal of a face that is plain and flat.
 inline Result<Vector> flat_normal(const Attempts &bench, Face face)
 {
-    const Result<machining::Region> region = region_of(bench, face);
-    return region ? Result<Vector>(region->across()) : Result<Vector>(region.error());
+    const Result<Plane> plane = plane_of(bench, face);
+    return plane ? Result<Vector>(plane->across()) : Result<Vector>(plane.error());
 }
 
 /// The whole vector of a length along a direction.
@@ -88,16 +88,16 @@ inline Result<Vector> along(const Vector &way, std::int64_t length, Face face)
 
 inline Result<Tool> notch_tool(const Attempts &bench, Face face, const Path &points, std::int64_t depth)
 {
-    const Result<machining::Region> region = region_of(bench, face);
-    if (!region)
-        return region.error();
+    const Result<Plane> plane = plane_of(bench, face);
+    if (!plane)
+        return plane.error();
     for (std::size_t at = 0; at < points.size(); at++)
-        if (region->height(points[at]) != 0)
+        if (plane->height(points[at]) != 0)
             return impossible(Misfit::not_in_plane, place(at));
     const Result<Vector> normal = simple_normal(points);
     if (!normal)
         return normal.error();
-    const Result<Vector> way = along(negative(region->across()), depth, face);
+    const Result<Vector> way = along(negative(plane->across()), depth, face);
     return way ? Result<Tool>(prism(points, *way)) : Result<Tool>(way.error());
 }
 
@@ -211,7 +211,7 @@ inline Result<bool> bends_outwards(const Attempts &bench, HalfEdge half)
     if (!across)
         return across.error();
     const Face other = *bench.face_of(half.twin());
-    const Result<machining::Region> beyond = region_of(bench, other);
+    const Result<Plane> beyond = plane_of(bench, other);
     if (!beyond)
         return beyond.error();
     if (are_parallel(*across, beyond->across()))
@@ -380,8 +380,8 @@ inline Result<void> given(const Attempts &bench, Face face, std::initializer_lis
     for (std::int64_t size : sizes)
         if (number++; size < 1)
             return refused(GWB_WHY_SIZE_RANGE, number);
-    const Result<machining::Region> region = region_of(bench, face);
-    return region ? Result<void>() : Result<void>(region.error());
+    const Result<Plane> plane = plane_of(bench, face);
+    return plane ? Result<void>() : Result<void>(plane.error());
 }
 
 /// A feature in a face by a tool that is made of points and sizes.
