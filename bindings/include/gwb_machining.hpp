@@ -162,17 +162,17 @@ inline std::vector<Path> loops_at(const Attempts &bench, Face face)
 }
 
 /// The plane of a face.
-class Plane {
+class FacePlane {
 public:
     /// None where a loop is lone, the face has no area, a vertex lies off its plane or an edge has no length.
-    static std::optional<Plane> of(const std::vector<Path> &loops)
+    static std::optional<FacePlane> of(const std::vector<Path> &loops)
     {
         Vector sum{};
         for (const Path &path : loops)
             sum = add(sum, area_vector(path));
         if (is_zero(sum))
             return std::nullopt;
-        const Plane plane(reduced(sum), loops[0][0]);
+        const FacePlane plane(reduced(sum), loops[0][0]);
         return std::all_of(loops.begin(), loops.end(), [&](const Path &path) { return plane.has(path); }) ? std::optional(plane) : std::nullopt;
     }
 
@@ -182,7 +182,7 @@ public:
     [[nodiscard]] Wide height(const Vector &at) const { return dot(across_, subtract(at, origin_)); }
 
 private:
-    Plane(const Vector &across, const Vector &origin) : across_(across), origin_(origin) {}
+    FacePlane(const Vector &across, const Vector &origin) : across_(across), origin_(origin) {}
 
     /// Whether a loop lies on it, and none of its edges has no length.
     [[nodiscard]] bool has(const Path &path) const
@@ -197,24 +197,24 @@ private:
 };
 
 /// The plane of a face. Refused: NoFace, NotFlat.
-inline Result<Plane> plane_of(const Attempts &bench, Face face)
+inline Result<FacePlane> plane_of(const Attempts &bench, Face face)
 {
     if (!bench.face(face))
         return bench.is_open() ? refused(GWB_WHY_NO_FACE, face.number()) : Failure{Problem::closed};
-    const std::optional<Plane> plane = Plane::of(loops_at(bench, face));
-    return plane ? Result<Plane>(*plane) : Result<Plane>(refused(GWB_WHY_NOT_FLAT, face.number()));
+    const std::optional<FacePlane> plane = FacePlane::of(loops_at(bench, face));
+    return plane ? Result<FacePlane>(*plane) : Result<FacePlane>(refused(GWB_WHY_NOT_FLAT, face.number()));
 }
 
 /// A flat face as a region of its plane, so far as its loops tell that lie near a place.
 class Region {
 public:
-    Region(const Plane &plane, const std::vector<Path> &loops) : plane_(plane), axes_(flat_axes(plane.across()))
+    Region(const FacePlane &plane, const std::vector<Path> &loops) : plane_(plane), axes_(flat_axes(plane.across()))
     {
         for (const Path &path : loops)
             loops_.push_back(flattened(path, axes_));
     }
 
-    [[nodiscard]] const Plane &plane() const { return plane_; }
+    [[nodiscard]] const FacePlane &plane() const { return plane_; }
 
     /// Where the point of a segment that lies on the face's plane lies against the face: so far along as its start's height says of the
     /// difference to that of its end.
@@ -255,7 +255,7 @@ private:
         return is_within ? Place::inside : Place::outside;
     }
 
-    Plane plane_;
+    FacePlane plane_;
     Axes axes_;
     std::vector<Outline> loops_;
 };
@@ -277,7 +277,7 @@ public:
         const std::vector<Path> loops = loops_at(bench, face);
         for (const Path &path : loops)
             put(face, path);
-        if (const std::optional<Plane> plane = Plane::of(loops))
+        if (const std::optional<FacePlane> plane = FacePlane::of(loops))
             planes_.emplace(face, *plane);
     }
 
@@ -291,7 +291,7 @@ public:
     }
 
     /// The plane of a face, where that is plain and flat.
-    [[nodiscard]] const Plane *plane(Face face) const
+    [[nodiscard]] const FacePlane *plane(Face face) const
     {
         const auto found = planes_.find(face);
         return found != planes_.end() ? &found->second : nullptr;
@@ -323,7 +323,7 @@ public:
     /// The points of an outline strictly inside a plain flat face, turned so that they run as a ring does; the first stays the first.
     [[nodiscard]] Result<Path> ring_path(Face face, const Path &path) const
     {
-        const Plane &plane = planes_.at(face);
+        const FacePlane &plane = planes_.at(face);
         for (std::size_t at = 0; at < path.size(); at++)
             if (plane.height(path[at]) != 0)
                 return impossible(Misfit::not_in_plane, place(at));
@@ -346,7 +346,7 @@ private:
     }
 
     std::vector<std::pair<Face, Path>> loops_;
-    std::map<Face, Plane> planes_;
+    std::map<Face, FacePlane> planes_;
     BoxIndex boxes_;
     std::optional<Box> around_;
 };
@@ -477,7 +477,7 @@ private:
 
     static bool meets(const Region &region, const Vector &start, const Vector &end)
     {
-        const Plane &plane = region.plane();
+        const FacePlane &plane = region.plane();
         return sign(plane.height(start)) * sign(plane.height(end)) <= 0 && region.locate_between(start, end) != Place::outside;
     }
 
@@ -498,7 +498,7 @@ inline Result<void> require_room(const Surface &surface, const Prism &prism, Fac
         return std::any_of(of.second.begin(), of.second.end(), [&](const Path &path) { return prism.meets_loop(path); });
     };
     const auto is_face = [&](const auto &of) {
-        const Plane *plane = of.first != face && of.first != other ? surface.plane(of.first) : nullptr;
+        const FacePlane *plane = of.first != face && of.first != other ? surface.plane(of.first) : nullptr;
         return plane != nullptr && prism.meets_face(Region(*plane, of.second));
     };
     if (std::any_of(near.begin(), near.end(), has_edge) || std::any_of(near.begin(), near.end(), is_face))
@@ -542,7 +542,7 @@ inline Result<Opposite> opposite(const Surface &surface, Face face, const Vector
     const Vector back = negative(across);
     std::optional<Reach> nearest;
     for (const auto &[other, loops] : surface.near(surface.box_of_ray(start, back))) {
-        const Plane *plane = other != face ? surface.plane(other) : nullptr;
+        const FacePlane *plane = other != face ? surface.plane(other) : nullptr;
         const Wide slope = plane != nullptr ? dot(plane->across(), back) : 0, height = plane != nullptr ? plane->height(start) : 0;
         if (sign(height) * sign(slope) >= 0 || !is_seen(sight, loops))
             continue;
@@ -677,7 +677,7 @@ inline Result<Drawing> drawing(const Attempts &bench, Face face, Items<Point> po
         return bench.is_open() ? refused(GWB_WHY_NO_FACE, face.number()) : Failure{Problem::closed};
     Surroundings &known = Surroundings::of(bench);
     const Surface &surface = known.surface(bench, row->solid);
-    const Plane *plane = surface.plane(face);
+    const FacePlane *plane = surface.plane(face);
     if (plane == nullptr)
         return refused(GWB_WHY_NOT_FLAT, face.number());
     const Result<Path> given = path_of(points);

@@ -75,7 +75,7 @@ inline Wedge wedge(const Corner &start, const Corner &end)
 /// The shortest normal of a face that is plain and flat.
 inline Result<Vector> flat_normal(const Attempts &bench, Face face)
 {
-    const Result<Plane> plane = plane_of(bench, face);
+    const Result<FacePlane> plane = plane_of(bench, face);
     return plane ? Result<Vector>(plane->across()) : Result<Vector>(plane.error());
 }
 
@@ -88,7 +88,7 @@ inline Result<Vector> along(const Vector &way, std::int64_t length, Face face)
 
 inline Result<Tool> notch_tool(const Attempts &bench, Face face, const Path &points, std::int64_t depth)
 {
-    const Result<Plane> plane = plane_of(bench, face);
+    const Result<FacePlane> plane = plane_of(bench, face);
     if (!plane)
         return plane.error();
     for (std::size_t at = 0; at < points.size(); at++)
@@ -211,7 +211,7 @@ inline Result<bool> bends_outwards(const Attempts &bench, HalfEdge half)
     if (!across)
         return across.error();
     const Face other = *bench.face_of(half.twin());
-    const Result<Plane> beyond = plane_of(bench, other);
+    const Result<FacePlane> beyond = plane_of(bench, other);
     if (!beyond)
         return beyond.error();
     if (are_parallel(*across, beyond->across()))
@@ -380,7 +380,7 @@ inline Result<void> given(const Attempts &bench, Face face, std::initializer_lis
     for (std::int64_t size : sizes)
         if (number++; size < 1)
             return refused(GWB_WHY_SIZE_RANGE, number);
-    const Result<Plane> plane = plane_of(bench, face);
+    const Result<FacePlane> plane = plane_of(bench, face);
     return plane ? Result<void>() : Result<void>(plane.error());
 }
 

@@ -4,6 +4,7 @@
 //! are multiplied, only which product is the greater one is asked, in 256.
 use crate::Point;
 use std::cmp::Ordering;
+use std::collections::BTreeMap;
 
 /// No coordinate lies farther out.
 pub const FARTHEST: i128 = 1_000_000_000;
@@ -127,6 +128,11 @@ impl Block {
         Self { low: ends(i128::min), high: ends(i128::max) }
     }
 
+    /// Around this one and another.
+    pub fn joined(&self, other: &Self) -> Self {
+        Self::around(&[self.low, self.high, other.low, other.high])
+    }
+
     /// A box around the part of a ray that lies in this one, in which it starts.
     pub fn ray(&self, start: Vector, way: Vector) -> Self {
         let end = |axis: usize, is_along: bool, edge: i128| if is_along { edge } else { start[axis] };
@@ -137,6 +143,44 @@ impl Block {
     pub fn meets(&self, other: &Self) -> bool {
         (0..3).all(|axis| self.low[axis] <= other.high[axis] && other.low[axis] <= self.high[axis])
     }
+}
+
+type Cells = BTreeMap<Vector, Vec<(Block, usize)>>;
+
+/// Numbers by boxes. Each lies in a grid whose cells are longer than its box, by a power of two, in the cell of the box's lowest corner.
+#[derive(Default)]
+pub struct BlockIndex {
+    grids: BTreeMap<u32, Cells>,
+}
+
+impl BlockIndex {
+    pub fn put(&mut self, block: Block, number: usize) {
+        let size = i128::BITS - longest(subtract(block.high, block.low)).leading_zeros();
+        self.grids.entry(size).or_default().entry(cell(block.low, size)).or_default().push((block, number));
+    }
+
+    /// The numbers of the boxes that meet one, rising.
+    pub fn meeting(&self, block: &Block) -> Vec<usize> {
+        let look = |(&size, cells): (&u32, _)| look(cells, subtract(cell(block.low, size), [1; 3]), cell(block.high, size));
+        let near = self.grids.iter().flat_map(look);
+        let mut found: Vec<usize> = near.filter(|(other, _)| other.meets(block)).map(|&(_, number)| number).collect();
+        found.sort_unstable();
+        found
+    }
+}
+
+fn cell(at: Vector, size: u32) -> Vector {
+    at.map(|part| part >> size)
+}
+
+/// What lies in the cells from one to another; in all of them where that are fewer.
+fn look(cells: &Cells, first: Vector, last: Vector) -> Box<dyn Iterator<Item = &(Block, usize)> + '_> {
+    let columns = (last[0] - first[0] + 1) * (last[1] - first[1] + 1);
+    if columns > cells.len() as i128 {
+        return Box::new(cells.values().flatten());
+    }
+    let columns = (first[0]..=last[0]).flat_map(move |x| (first[1]..=last[1]).map(move |y| [x, y]));
+    Box::new(columns.flat_map(move |[x, y]| cells.range([x, y, first[2]]..=[x, y, last[2]]).flat_map(|(_, held)| held)))
 }
 
 /// Where a point lies against an outline.

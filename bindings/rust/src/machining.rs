@@ -1,9 +1,9 @@
 //! Features of outlines: profiles, rings, pockets, bosses and holes. What isn't possible is refused before anything is given.
 use crate::exact::{add, dot, is_in_range, longest, point, vector, Vector, FARTHEST};
 use crate::features::also_alone;
-use crate::outlines::{impossible, path_of, refused, simple_normal, steps_along, turned, Region};
+use crate::outlines::{impossible, path_of, refused, simple_normal, steps_along, turned};
 use crate::room::{opposite, Prism, Surface};
-use crate::{lone, minus, plus, Corner, Draft, Edge, Error, Face, Loop, Misfit, Operators, Point, Refusal, Session, Solid, Vertex};
+use crate::{lone, minus, plus, Corner, Draft, Edge, Error, Face, Loop, Misfit, Operators, Point, Readers, Refusal, Session, Solid, Vertex};
 
 /// What [`profile`](Draft::profile) makes.
 #[derive(Clone, Debug, PartialEq, Eq)]
@@ -54,7 +54,8 @@ pub struct Hole {
 }
 
 /// Features of outlines, which may run either way round. What isn't possible is [`Error::Impossible`], or refused as a command would be; then
-/// the draft is as it was. A feature reads the solid of its face once, and compares what lies near.
+/// the draft is as it was. A feature compares what lies near. What was read of a solid for one feature is known to the next ones, until
+/// another command comes.
 impl Draft<'_> {
     /// A new solid: the outline through the points, moved along the vector. It is never inside out, whichever way the points run.
     ///
@@ -90,7 +91,14 @@ impl Draft<'_> {
     /// `OutlineAroundRing`: a ring of the face lies inside it.
     pub fn ring(&mut self, face: Face, points: &[impl Copy + Into<Point>]) -> Result<Ring, Error> {
         let drawing = Drawing::of(self, face, points)?;
-        let Ring { face, of_loop, edges, mut vertices } = self.together(|draft, _| drawing.draw(draft))?;
+        let give = |draft: &mut Operators| drawing.draw(draft);
+        let made = self.together(|draft, _| {
+            draft.followed(drawing.solid, give, |surface, readers, made| {
+                surface.put_ring(face, drawing.path.clone());
+                surface.put(readers, made.face);
+            })
+        });
+        let Ring { face, of_loop, edges, mut vertices } = made?;
         if drawing.is_turned {
             vertices[1..].reverse();
         }
@@ -122,15 +130,21 @@ impl Draft<'_> {
     /// meet or touch something else of the solid.
     pub fn hole(&mut self, face: Face, points: &[impl Copy + Into<Point>]) -> Result<Hole, Error> {
         let drawing = Drawing::of(self, face, points)?;
-        let surface = Surface::of(self, drawing.solid);
-        let (other, way) = opposite(&surface, face, drawing.across, drawing.path[0])?;
+        let surface = self.surface(drawing.solid);
+        let (other, way) = opposite(surface, face, drawing.across, drawing.path[0])?;
         let far: Vec<Vector> = drawing.path.iter().map(|&at| add(at, way)).collect();
-        Region::of_face(self, other)?.ring_path(other, &far)?;
-        Prism::new(drawing.across, &drawing.path, way, true).require_room(&surface, face, other)?;
-        self.together(|draft, _| {
+        surface.ring_path(other, &far)?;
+        Prism::new(drawing.across, &drawing.path, way, true).require_room(surface, face, other)?;
+        let give = |draft: &mut Operators| {
             let Pocket { face, of_loop, sides } = drawing.sweep(draft, way)?;
             draft.kfmrh(other, face)?;
             Ok(Hole { other, of_loop, sides })
+        };
+        self.together(|draft, _| {
+            draft.followed(drawing.solid, give, |surface, readers, made| {
+                drawing.put_sides(surface, readers, &made.sides);
+                surface.put_ring(other, far);
+            })
         })
     }
 
@@ -141,8 +155,14 @@ impl Draft<'_> {
         if !drawing.path.iter().all(|&at| is_in_range(add(at, way))) {
             return Err(if length < 0 { impossible(Misfit::Meets, face.0) } else { refused(Refusal::PointRange, 0) });
         }
-        Prism::new(drawing.across, &drawing.path, way, false).require_room(&Surface::of(self, drawing.solid), face, face)?;
-        self.together(|draft, _| drawing.sweep(draft, way))
+        Prism::new(drawing.across, &drawing.path, way, false).require_room(self.surface(drawing.solid), face, face)?;
+        let give = |draft: &mut Operators| drawing.sweep(draft, way);
+        self.together(|draft, _| {
+            draft.followed(drawing.solid, give, |surface, readers, made| {
+                drawing.put_sides(surface, readers, &made.sides);
+                surface.put(readers, made.face);
+            })
+        })
     }
 }
 
@@ -177,12 +197,21 @@ struct Drawing {
 }
 
 impl Drawing {
-    fn of(operators: &Operators, face: Face, points: &[impl Copy + Into<Point>]) -> Result<Self, Error> {
-        let region = Region::of_face(operators, face)?;
+    fn of(operators: &mut Operators, face: Face, points: &[impl Copy + Into<Point>]) -> Result<Self, Error> {
+        let solid = operators.face(face).ok_or(refused(Refusal::NoFace, face.0))?.solid;
+        let surface = operators.surface(solid);
+        let across = surface.plane(face)?.across;
         let given = path_of(points)?;
-        let path = region.ring_path(face, &given)?;
-        let solid = operators.face(face).map_or_else(Solid::default, |row| row.solid);
-        Ok(Self { face, solid, across: region.across, is_turned: path != given, path })
+        let path = surface.ring_path(face, &given)?;
+        Ok(Self { face, solid, across, is_turned: path != given, path })
+    }
+
+    /// Takes in its ring, and the sides over it.
+    fn put_sides(&self, surface: &mut Surface, readers: &Readers, sides: &[Face]) {
+        surface.put_ring(self.face, self.path.clone());
+        for &side in sides {
+            surface.put(readers, side);
+        }
     }
 
     /// The ring, and the face inside it, whose half-edges are the second ones of the edges.

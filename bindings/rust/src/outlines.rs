@@ -1,7 +1,7 @@
 //! Outlines on flat faces, tested exactly before anything is made of them.
 use crate::exact::{
-    add, area_vector, dot, flat_axes, flattened, is_in_range, locate, locate_in, longest, reduced, sides_of, square_root, subtract, times, twice_area,
-    vector, Axes, Block, Place, Segment, Spot, Vector, FARTHEST,
+    add, area_vector, dot, flat_axes, flattened, is_in_range, locate, locate_in, longest, reduced, sides_of, square_root, subtract, times, vector,
+    Axes, Place, Segment, Spot, Vector, FARTHEST,
 };
 use crate::{Error, Face, Misfit, Point, Readers, Refusal};
 use std::collections::HashSet;
@@ -91,76 +91,70 @@ pub fn loops_at(readers: &Readers, face: Face) -> Vec<Vec<Vector>> {
     readers.loops_of(face).map(path).collect()
 }
 
-struct FlatLoop {
-    sides: Vec<Segment>,
-    block: Block,
-}
-
-/// A flat face as a region of its plane.
-pub struct Region {
+/// The plane of a face.
+pub struct FacePlane {
     /// Its normal, as short as it can be.
     pub across: Vector,
     origin: Vector,
-    axes: Axes,
-    loops: Vec<FlatLoop>,
 }
 
-impl Region {
+impl FacePlane {
     /// None where a loop is lone, the face has no area, a vertex lies off its plane or an edge has no length.
     pub fn of(loops: &[Vec<Vector>]) -> Option<Self> {
         let sum = loops.iter().fold([0; 3], |sum, path| add(sum, area_vector(path)));
         if sum == [0; 3] {
             return None;
         }
-        let across = reduced(sum);
-        let axes = flat_axes(across);
-        let flat = |path: &Vec<Vector>| FlatLoop { sides: flattened(path, axes), block: Block::around(path) };
-        let region = Self { across, origin: loops[0][0], axes, loops: loops.iter().map(flat).collect() };
-        let is_plain = |path: &Vec<Vector>| sides_of(path).all(|(start, end)| region.height(start) == 0 && start != end);
-        loops.iter().all(is_plain).then_some(region)
+        let plane = Self { across: reduced(sum), origin: loops[0][0] };
+        let is_plain = |path: &Vec<Vector>| sides_of(path).all(|(start, end)| plane.height(start) == 0 && start != end);
+        loops.iter().all(is_plain).then_some(plane)
     }
 
-    /// The region of a face. Refused: `NoFace`, `NotFlat`.
+    /// The plane of a face. Refused: `NoFace`, `NotFlat`.
     pub fn of_face(readers: &Readers, face: Face) -> Result<Self, Error> {
         readers.face(face).ok_or(refused(Refusal::NoFace, face.0))?;
         Self::of(&loops_at(readers, face)).ok_or(refused(Refusal::NotFlat, face.0))
     }
 
-    /// Positive where the point lies before the face's plane, negative behind it.
+    /// Positive where the point lies before it, negative behind it.
     pub fn height(&self, at: Vector) -> i128 {
         dot(self.across, subtract(at, self.origin))
+    }
+}
+
+/// A flat face as a region of its plane, so far as its loops tell that lie near a place.
+pub struct Region<'face> {
+    pub plane: &'face FacePlane,
+    axes: Axes,
+    loops: Vec<Vec<Segment>>,
+}
+
+impl<'face> Region<'face> {
+    pub fn new(plane: &'face FacePlane, loops: &[&[Vector]]) -> Self {
+        let axes = flat_axes(plane.across);
+        Self { plane, axes, loops: loops.iter().map(|path| flattened(path, axes)).collect() }
+    }
+
+    fn locate(&self, spot: &Spot) -> Place {
+        locate_in(self.loops.iter().map(Vec::as_slice), spot)
     }
 
     /// Where a segment that doesn't lie on one side of the face's plane alone meets the plane, against the face. Of one that lies in the
     /// plane it is the start.
     pub fn locate_between(&self, start: Vector, end: Vector) -> Place {
-        let (before, after) = (self.height(start), self.height(end));
+        let (before, after) = (self.plane.height(start), self.plane.height(end));
         let (along, scale) = if before == after { (0, 1) } else { (before.abs(), (before - after).abs()) };
         let [x, y] = self.axes.map(|axis| start[axis] * scale + along * (end[axis] - start[axis]));
-        locate_in(self.loops.iter().map(|of_loop| of_loop.sides.as_slice()), &Spot { x, y, scale })
+        self.locate(&Spot { x, y, scale })
     }
 
-    /// The points of an outline strictly inside the face, which has this number, turned so that they run as a ring does; the first stays the
-    /// first.
-    pub fn ring_path(&self, face: Face, path: &[Vector]) -> Result<Vec<Vector>, Error> {
-        if let Some(at) = path.iter().position(|&at| self.height(at) != 0) {
-            return Err(impossible(Misfit::NotInPlane, place(at)));
-        }
-        simple_normal(path)?;
-        let own = flattened(path, self.axes);
-        self.require_inside(face, path, &own)?;
-        Ok(if twice_area(&own) < 0 { path.to_vec() } else { turned(path) })
-    }
-
-    fn require_inside(&self, face: Face, path: &[Vector], own: &[Segment]) -> Result<(), Error> {
-        let block = Block::around(path);
-        let near: Vec<&[Segment]> = self.loops.iter().filter(|of_loop| of_loop.block.meets(&block)).map(|of_loop| of_loop.sides.as_slice()).collect();
+    /// Refuses an outline of its plane that doesn't lie strictly inside the face, which has this number, or has a ring of it inside.
+    pub fn require_inside(&self, face: Face, own: &[Segment]) -> Result<(), Error> {
         let meets = |side: &Segment| own.iter().any(|other| side.is_near(other) && side.meets(other));
-        let crosses = near.iter().any(|sides| sides.iter().any(meets));
-        if crosses || locate_in(near.iter().copied(), &own[0].start) != Place::Inside {
+        if self.loops.iter().flatten().any(meets) || self.locate(&own[0].start) != Place::Inside {
             return Err(impossible(Misfit::OutlineOutside, face.0));
         }
-        let is_around = near.iter().any(|sides| locate(own, &sides[0].start) == Place::Inside);
+        let is_around = self.loops.iter().any(|sides| locate(own, &sides[0].start) == Place::Inside);
         if is_around { Err(impossible(Misfit::OutlineAroundRing, face.0)) } else { Ok(()) }
     }
 }

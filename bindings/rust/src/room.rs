@@ -1,71 +1,102 @@
 //! Whether a solid has room for a feature: nothing of it may meet the prism that an outline sweeps over.
 use crate::exact::{
-    add, are_parallel, compare_products, dot, flat_axes, locate, locate_in, longest, negative, outline_of, sides_of, subtract, times, vector, Block,
-    Place, Segment, Spot, Vector, FARTHEST,
+    add, are_parallel, compare_products, dot, flat_axes, flattened, locate, locate_in, longest, negative, outline_of, sides_of, subtract, times,
+    twice_area, Block, BlockIndex, Place, Segment, Spot, Vector, FARTHEST,
 };
-use crate::outlines::{impossible, Region};
-use crate::{Error, Face, HalfEdgeRow, Loop, Misfit, Readers, Solid};
-use std::ops::Range;
+use crate::outlines::{impossible, loops_at, place, refused, simple_normal, turned, FacePlane, Region};
+use crate::{Error, Face, Misfit, Readers, Refusal, Solid};
+use std::collections::BTreeMap;
 
-/// The loops of a solid with their points, read at once.
+/// The loops that meet a box, by faces.
+type Near<'near> = BTreeMap<Face, Vec<&'near [Vector]>>;
+
+/// The loops of a solid with their points, by boxes, and the planes of its faces.
+#[derive(Default)]
 pub struct Surface {
-    /// The loops of each face, the outer one first, each by its points.
-    faces: Vec<(Face, Vec<Range<usize>>)>,
-    points: Vec<Vector>,
-    /// Whether the half-edge at each point is the first of its edge.
-    firsts: Vec<bool>,
-    lone: Vec<Vector>,
+    loops: Vec<(Face, Vec<Vector>)>,
+    planes: BTreeMap<Face, FacePlane>,
+    blocks: BlockIndex,
+    around: Option<Block>,
 }
 
 impl Surface {
-    pub fn of(readers: &Readers, solid: Solid) -> Self {
-        let at = |vertex| readers.vertex(vertex).map(vector);
-        let loops_of = readers.faces(solid).flat_map(|face| readers.loops_of(face));
-        let lone = loops_of.filter_map(|of_loop| readers.lone_vertex(of_loop).and_then(at)).collect();
-        let mut surface = Self { faces: Vec::new(), points: Vec::new(), firsts: Vec::new(), lone };
-        let mut last = (Face::default(), Loop::default());
-        for row in readers.half_edge_rows(solid) {
-            surface.put(&row, (row.face != last.0, row.of_loop != last.1), at(row.start).unwrap_or_default());
-            last = (row.face, row.of_loop);
+    fn of(readers: &Readers, solid: Solid) -> Self {
+        let mut surface = Self::default();
+        for face in readers.faces(solid) {
+            surface.put(readers, face);
         }
         surface
     }
 
-    /// Puts one more half-edge in, of the face and the loop of the last one or of new ones.
-    fn put(&mut self, row: &HalfEdgeRow, (is_new_face, is_new_loop): (bool, bool), start: Vector) {
-        let here = self.points.len();
-        if is_new_face {
-            self.faces.push((row.face, Vec::new()));
+    /// Takes in a face that is new.
+    pub fn put(&mut self, readers: &Readers, face: Face) {
+        let loops = loops_at(readers, face);
+        if let Some(plane) = FacePlane::of(&loops) {
+            self.planes.insert(face, plane);
         }
-        if let Some((_, loops)) = self.faces.last_mut() {
-            if is_new_loop {
-                loops.push(here..here);
-            }
-            if let Some(of_loop) = loops.last_mut() {
-                of_loop.end += 1;
-            }
+        for path in loops {
+            self.put_ring(face, path);
         }
-        self.points.push(start);
-        self.firsts.push(!row.half_edge.is_second());
     }
 
-    /// The ends of the edges that meet a box; a lone vertex stands for both.
-    fn edges_near<'near>(&'near self, block: &'near Block) -> impl Iterator<Item = (Vector, Vector)> + 'near {
-        let loops = self.faces.iter().flat_map(|(_, loops)| loops);
-        let sides = loops.flat_map(|of_loop| of_loop.clone().zip(sides_of(&self.points[of_loop.clone()])));
-        let edges = sides.filter(|&(at, _)| self.firsts[at]).map(|(_, ends)| ends);
-        let near = edges.filter(|&(start, end)| Block::around(&[start, end]).meets(block));
-        near.chain(self.lone.iter().map(|&at| (at, at)))
+    /// Takes in a ring of a face that is new, in the face's plane.
+    pub fn put_ring(&mut self, face: Face, path: Vec<Vector>) {
+        let block = Block::around(&path);
+        self.around = Some(self.around.as_ref().map_or(block, |around| around.joined(&block)));
+        self.blocks.put(block, self.loops.len());
+        self.loops.push((face, path));
     }
 
-    /// The plain flat faces that meet a box, but for some, with their loops, rising.
-    fn faces_near<'near>(&'near self, block: &'near Block, but: [Face; 2]) -> impl Iterator<Item = (Face, Region, Vec<Vec<Vector>>)> + 'near {
-        let path = move |of_loop: &Range<usize>| self.points[of_loop.clone()].to_vec();
-        let meets = move |outer: &Range<usize>| Block::around(&self.points[outer.clone()]).meets(block);
-        self.faces.iter().filter(move |(face, loops)| !but.contains(face) && meets(&loops[0])).filter_map(move |(face, loops)| {
-            let paths: Vec<Vec<Vector>> = loops.iter().map(path).collect();
-            Some((*face, Region::of(&paths)?, paths))
-        })
+    /// The plane of a face. Refused: `NotFlat`, where it isn't plain and flat.
+    pub fn plane(&self, face: Face) -> Result<&FacePlane, Error> {
+        self.planes.get(&face).ok_or(refused(Refusal::NotFlat, face.0))
+    }
+
+    fn near(&self, block: &Block) -> Near<'_> {
+        let mut found = Near::new();
+        for at in self.blocks.meeting(block) {
+            let (face, path) = &self.loops[at];
+            found.entry(*face).or_default().push(path);
+        }
+        found
+    }
+
+    /// The points of an outline strictly inside a plain flat face, turned so that they run as a ring does; the first stays the first.
+    pub fn ring_path(&self, face: Face, path: &[Vector]) -> Result<Vec<Vector>, Error> {
+        let plane = self.plane(face)?;
+        if let Some(at) = path.iter().position(|&at| plane.height(at) != 0) {
+            return Err(impossible(Misfit::NotInPlane, place(at)));
+        }
+        simple_normal(path)?;
+        let own = flattened(path, flat_axes(plane.across));
+        let loops = self.near(&Block::around(path)).remove(&face).unwrap_or_default();
+        Region::new(plane, &loops).require_inside(face, &own)?;
+        Ok(if twice_area(&own) < 0 { path.to_vec() } else { turned(path) })
+    }
+}
+
+/// What is known of the solids of a model, which has this number.
+#[derive(Default)]
+pub struct Surroundings {
+    model: u64,
+    surfaces: BTreeMap<Solid, Surface>,
+}
+
+impl Surroundings {
+    /// The surface of a solid of the model that is held, which is read where it isn't known.
+    pub fn surface(&mut self, readers: &Readers, model: u64, solid: Solid) -> &Surface {
+        if self.model != model {
+            *self = Self { model, surfaces: BTreeMap::new() };
+        }
+        self.surfaces.entry(solid).or_insert_with(|| Surface::of(readers, solid))
+    }
+
+    /// Takes in what the commands from one model to another did to a solid, where they did nothing else.
+    pub fn follow(&mut self, [before, after]: [u64; 2], solid: Solid, put: impl FnOnce(&mut Surface)) {
+        if let (true, Some(surface)) = (self.model == before, self.surfaces.get_mut(&solid)) {
+            put(surface);
+            self.model = after;
+        }
     }
 }
 
@@ -117,13 +148,20 @@ impl Prism {
 
     /// Refuses a feature that would meet or touch the solid elsewhere than in the face, or in the other one where it ends there.
     pub fn require_room(&self, surface: &Surface, face: Face, other: Face) -> Result<(), Error> {
-        let meets = surface.edges_near(&self.block).any(|(start, end)| self.meets_edge(start, end))
-            || surface.faces_near(&self.block, [face, other]).any(|(_, region, _)| self.meets_face(&region));
+        let near = surface.near(&self.block);
+        let planes = near.iter().filter(|(of, _)| ![face, other].contains(of)).filter_map(|(&of, loops)| Some((surface.plane(of).ok()?, loops)));
+        let mut regions = planes.map(|(plane, loops)| Region::new(plane, loops));
+        let meets = near.values().flatten().any(|path| self.meets_loop(path)) || regions.any(|region| self.meets_face(&region));
         if meets { Err(impossible(Misfit::Meets, face.0)) } else { Ok(()) }
     }
 
     fn height(&self, at: Vector) -> i128 {
         dot(self.up, subtract(at, self.path[0]))
+    }
+
+    /// Whether it meets an edge of a loop, or the vertex of a lone one.
+    fn meets_loop(&self, path: &[Vector]) -> bool {
+        sides_of(path).any(|(start, end)| Block::around(&[start, end]).meets(&self.block) && self.meets_edge(start, end))
     }
 
     /// Whether a point of the segment lies in the prism or on it; in the face, and in the other one, only what is on the outline counts.
@@ -158,7 +196,8 @@ impl Prism {
         let rising = self.path.iter().copied().zip(self.far.iter().copied());
         let mut edges = sides_of(&self.path).chain(sides_of(&self.far)).chain(rising);
         edges.any(|(start, end)| {
-            region.height(start).signum() * region.height(end).signum() <= 0 && region.locate_between(start, end) != Place::Outside
+            let [start_height, end_height] = [start, end].map(|at| region.plane.height(at));
+            start_height.signum() * end_height.signum() <= 0 && region.locate_between(start, end) != Place::Outside
         })
     }
 }
@@ -177,16 +216,18 @@ pub fn opposite(surface: &Surface, face: Face, across: Vector, start: Vector) ->
         return Err(impossible(Misfit::OffLattice, face.0));
     }
     let (sight, back) = (Sight::new(across, start), negative(across));
-    let reach = |(other, region, loops): (Face, Region, Vec<Vec<Vector>>)| {
-        let (slope, height) = (dot(region.across, back), region.height(start));
+    let reach = |(&other, loops): (&Face, &Vec<&[Vector]>)| {
+        let plane = surface.plane(other).ok().filter(|_| other != face)?;
+        let (slope, height) = (dot(plane.across, back), plane.height(start));
+        if height.signum() * slope.signum() >= 0 {
+            return None;
+        }
         let outlines: Vec<Vec<Segment>> = loops.iter().map(|path| sight.outline(path)).collect();
-        let is_hit = height.signum() * slope.signum() < 0
-            && locate_in(outlines.iter().map(Vec::as_slice), &Spot::whole(0, 0)) != Place::Outside;
-        is_hit.then(|| Reach { height: height.abs(), slope: slope.abs(), face: other, across: region.across })
+        let is_hit = locate_in(outlines.iter().map(Vec::as_slice), &Spot::whole(0, 0)) != Place::Outside;
+        is_hit.then(|| Reach { height: height.abs(), slope: slope.abs(), face: other, across: plane.across })
     };
-    let block = Block::around(&surface.points).ray(start, back);
-    let hits = surface.faces_near(&block, [face, face]).filter_map(reach);
-    let nearest = hits.min_by(|one, other| compare_products(one.height, other.slope, other.height, one.slope));
+    let near = surface.around.map(|around| surface.near(&around.ray(start, back))).unwrap_or_default();
+    let nearest = near.iter().filter_map(reach).min_by(|one, other| compare_products(one.height, other.slope, other.height, one.slope));
     let nearest = nearest.ok_or(impossible(Misfit::NoOpposite, face.0))?;
     if !are_parallel(nearest.across, back) {
         return Err(impossible(Misfit::NotParallel, nearest.face.0));

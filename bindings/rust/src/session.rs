@@ -58,7 +58,9 @@ impl Session {
     /// [`Error::Memory`]; [`Error::InDraft`] where a draft was forgotten.
     pub fn draft(&mut self) -> Result<Draft<'_>, Error> {
         let answer = unsafe { gwb_sys::gwb_draft(self.handle()) };
-        self.told(answer)?;
+        if answer != kind::OK {
+            self.told(answer)?;
+        }
         self.begin_draft();
         Ok(Draft::new(self))
     }
@@ -69,7 +71,7 @@ impl Session {
     /// [`Error::NoDraft`] where none is open.
     pub fn abandon(&mut self) -> Result<(), Error> {
         let answer = unsafe { gwb_sys::gwb_abandon(self.handle()) };
-        self.told(answer)?;
+        self.answered(answer)?;
         self.end_draft(false);
         Ok(())
     }

@@ -8,7 +8,7 @@ use crate::exact::{
 };
 use crate::features::{also_alone, TakenApart};
 use crate::machining::at_least_one;
-use crate::outlines::{impossible, path_of, place, refused, simple_normal, steps_along, Region};
+use crate::outlines::{impossible, path_of, place, refused, simple_normal, steps_along, FacePlane};
 use crate::sheets::{block_of, overlaid, Patch, Sheet, Side};
 use crate::{minus, plus, Draft, Edge, Error, Face, HalfEdge, Misfit, Point, Readers, Refusal, Session};
 use std::collections::BTreeSet;
@@ -35,8 +35,8 @@ impl Draft<'_> {
     /// solid elsewhere, or the solid would touch itself; `NothingLeft`.
     pub fn notch(&mut self, face: Face, points: &[impl Copy + Into<Point>], depth: i64) -> Result<Notch, Error> {
         let depth = at_least_one(depth, 1)?;
-        let region = Region::of_face(self, face)?;
-        let tool = notch_tool(&region, face, &path_of(points)?, depth)?;
+        let plane = FacePlane::of_face(self, face)?;
+        let tool = notch_tool(&plane, face, &path_of(points)?, depth)?;
         self.change(face, &tool, true)
     }
 
@@ -46,11 +46,11 @@ impl Draft<'_> {
     /// As those of [`notch`](Self::notch); `OffLattice`: half of the width isn't whole across the line.
     pub fn slot(&mut self, face: Face, start: impl Into<Point>, end: impl Into<Point>, width: i64, depth: i64) -> Result<Notch, Error> {
         let (width, depth) = (at_least_one(width, 1)?, at_least_one(depth, 2)?);
-        let region = Region::of_face(self, face)?;
+        let plane = FacePlane::of_face(self, face)?;
         let ends = path_of(&[start.into(), end.into()])?;
-        let side = beside(region.across, face, &ends, width)?;
+        let side = beside(plane.across, face, &ends, width)?;
         let outline = [subtract(ends[0], side), subtract(ends[1], side), add(ends[1], side), add(ends[0], side)];
-        let tool = notch_tool(&region, face, &outline, depth)?;
+        let tool = notch_tool(&plane, face, &outline, depth)?;
         self.change(face, &tool, true)
     }
 
@@ -60,7 +60,7 @@ impl Draft<'_> {
     /// As those of [`slot`](Self::slot).
     pub fn groove(&mut self, face: Face, start: impl Into<Point>, end: impl Into<Point>, width: i64, depth: i64) -> Result<Notch, Error> {
         let (width, depth) = (at_least_one(width, 1)?, at_least_one(depth, 2)?);
-        let across = Region::of_face(self, face)?.across;
+        let across = FacePlane::of_face(self, face)?.across;
         let ends = path_of(&[start.into(), end.into()])?;
         let side = beside(across, face, &ends, width)?;
         let way = along(negative(across), depth, face)?;
@@ -76,7 +76,7 @@ impl Draft<'_> {
     /// As those of [`notch`](Self::notch); `NoEdge`. [`Error::Impossible`]: `NotOfFace`: the edge isn't one of the face.
     pub fn shoulder(&mut self, face: Face, edge: Edge, width: i64, depth: i64) -> Result<Notch, Error> {
         let (width, depth) = (at_least_one(width, 1)?, at_least_one(depth, 2)?);
-        let across = Region::of_face(self, face)?.across;
+        let across = FacePlane::of_face(self, face)?.across;
         let faces = self.faces_of(edge).ok_or(refused(Refusal::NoEdge, edge.0))?;
         if !faces.contains(&face) {
             return Err(impossible(Misfit::NotOfFace, edge.0));
@@ -209,12 +209,12 @@ fn along(way: Vector, length: i64, face: Face) -> Result<Vector, Error> {
     steps_along(way, length).ok_or(impossible(Misfit::OffLattice, face.0))
 }
 
-fn notch_tool(region: &Region, face: Face, path: &[Vector], depth: i64) -> Result<Tool, Error> {
-    if let Some(at) = path.iter().position(|&at| region.height(at) != 0) {
+fn notch_tool(plane: &FacePlane, face: Face, path: &[Vector], depth: i64) -> Result<Tool, Error> {
+    if let Some(at) = path.iter().position(|&at| plane.height(at) != 0) {
         return Err(impossible(Misfit::NotInPlane, place(at)));
     }
     simple_normal(path)?;
-    Ok(Tool::prism(path, along(negative(region.across), depth, face)?))
+    Ok(Tool::prism(path, along(negative(plane.across), depth, face)?))
 }
 
 /// The way from a line in a face to the right side of a strip around it.
@@ -257,7 +257,7 @@ fn on_side(face: Face, corner: Vector, end: Vector, step: Vector) -> Result<Vect
 /// The points where the line at a distance from a half-edge, in its face, meets the sides before and after it.
 fn setbacks(readers: &Readers, half: HalfEdge, width: i64) -> Result<[Vector; 2], Error> {
     let face = readers.face_of(half).unwrap_or_default();
-    let across = Region::of_face(readers, face)?.across;
+    let across = FacePlane::of_face(readers, face)?.across;
     let (start, end) = (point_at(readers, half), point_at(readers, half.twin()));
     let step = along(reduced(cross(across, subtract(end, start))), width, face)?;
     let before = readers.previous(half).map_or(start, |previous| point_at(readers, previous));
@@ -267,7 +267,7 @@ fn setbacks(readers: &Readers, half: HalfEdge, width: i64) -> Result<[Vector; 2]
 
 /// Whether the solid has less than half of the room around an edge; refused where its faces lie in one plane.
 fn bends_outwards(readers: &Readers, half: HalfEdge) -> Result<bool, Error> {
-    let across = |half: HalfEdge| Region::of_face(readers, readers.face_of(half).unwrap_or_default()).map(|region| region.across);
+    let across = |half: HalfEdge| FacePlane::of_face(readers, readers.face_of(half).unwrap_or_default()).map(|plane| plane.across);
     let (one, other) = (across(half)?, across(half.twin())?);
     if are_parallel(one, other) {
         return Err(impossible(Misfit::FlatEdge, half.edge().0));

@@ -209,3 +209,45 @@ fn in_a_draft() {
     draft.commit().unwrap();
     assert_eq!((session.depth(), session.listing().unwrap()), (2, pocketed));
 }
+
+/// Makes a pocket where that is possible, which has to be said as it is of the same model read anew.
+fn makes(session: &mut Session, face: Face, [x, z]: [i64; 2], depth: i64) -> bool {
+    let mut anew = Session::new().unwrap();
+    anew.load(&session.listing().unwrap()).unwrap();
+    let square = [[x, 5, z], [x + 4, 5, z], [x + 4, 9, z], [x, 9, z]];
+    let made = session.pocket(face, &square, depth);
+    assert_eq!(made, anew.pocket(face, &square, depth));
+    made.is_ok()
+}
+
+/// What else changes a model than features of outlines is not missed by the next one.
+#[test]
+fn what_is_known() -> Result<(), Error> {
+    let mut session = Session::new()?;
+    let plate = session.profile(None, &[[0, 0, 0], [40, 0, 0], [40, 20, 0], [0, 20, 0]], [0, 0, 10])?;
+    let (far, base) = (plate.far, plate.base);
+    assert!(makes(&mut session, far, [2, 10], 4) && !makes(&mut session, far, [3, 10], 1) && !makes(&mut session, base, [3, 0], 6));
+    session.undo()?;
+    assert!(makes(&mut session, far, [3, 10], 1));
+    session.undo()?;
+    assert!(makes(&mut session, far, [4, 10], 4));
+    session.undo()?;
+    session.redo()?;
+    assert!(!makes(&mut session, far, [2, 10], 1));
+    let square = |x: i64| [[x, 5, 10], [x + 4, 5, 10], [x + 4, 9, 10], [x, 9, 10]];
+    let mut draft = session.draft()?;
+    let mark = draft.mark();
+    assert!(draft.pocket(far, &square(10), 2).is_ok() && draft.pocket(far, &square(11), 2).is_err());
+    draft.back(mark)?;
+    assert!(draft.pocket(far, &square(11), 2).is_ok() && draft.pocket(far, &square(10), 2).is_err());
+    drop(draft);
+    assert!(makes(&mut session, far, [10, 10], 2));
+    let low = session.pocket(far, &square(20), 2)?;
+    session.run(&format!("sweep {} 0 0 -4", low.face.0))?;
+    assert!(!makes(&mut session, base, [19, 0], 5) && makes(&mut session, base, [19, 0], 3));
+    session.slot(far, [30, 0, 10], [30, 6, 10], 4, 2)?;
+    assert!(!makes(&mut session, far, [29, 10], 1) && makes(&mut session, far, [33, 10], 1));
+    session.move_solid(plate.solid, gwb::Motion::by([-8, 0, 0]))?;
+    assert!(!makes(&mut session, far, [27, 10], 1) && makes(&mut session, far, [7, 10], 1));
+    Ok(())
+}
