@@ -626,6 +626,73 @@ static void try_heaps()
     check(held == 0, "all is given back");
 }
 
+// ---- twelve commands in a draft
+
+using Step = std::function<void(Workbench &)>;
+
+// A hole through a block, which gets longer by a block that is cut and glued on.
+static const std::vector<Step> TWELVE = {
+    [](Workbench &bench) { bench.run("mev +7 +7 20 20 2 2 9"); },   [](Workbench &bench) { bench.run("kemr +20 20"); },
+    [](Workbench &bench) { bench.run("mev @20 @20 21 21 2 5 9"); }, [](Workbench &bench) { bench.run("mev -21 -21 22 22 5 5 9"); },
+    [](Workbench &bench) { bench.run("mev -22 -22 23 23 5 2 9"); }, [](Workbench &bench) { bench.run("mef -23 +21 24 20 21"); },
+    [](Workbench &bench) { bench.sweep(Face(20), {0, 0, -9}); },    [](Workbench &bench) { bench.kfmrh(Face(2), Face(20)); },
+    [](Workbench &bench) { bench.block(Solid(2), {9, 0, 0}, {6, 9, 9}); },
+    [](Workbench &bench) { bench.split(Solid(2), 1, 0, 0, -12, Solid(3)); },
+    [](Workbench &bench) { bench.glue(Face(4), Face(30)); },        [](Workbench &bench) { bench.glue(Face(35), Face(39)); }};
+
+static long requests_left = 0;
+
+// Gives a step with one request for memory more each time, until that is enough: refused memory leaves no trace. Says how often it was refused.
+static long give_at_last(Workbench &bench, const Step &step)
+{
+    const std::string before = bench.listing();
+    for (long allowed = 0;; allowed++) {
+        requests_left = allowed;
+        try {
+            step(bench);
+            return requests_left = 1000000, allowed;
+        } catch (const std::bad_alloc &) {
+            requests_left = 1000000;
+            check(bench.listing() == before, "a step that memory was refused for");
+        }
+    }
+}
+
+static void try_twelve_commands()
+{
+    const auto allocate = [](void *, std::size_t size) -> void * { return requests_left-- > 0 ? std::malloc(size) : nullptr; };
+    const auto reallocate = [](void *, void *block, std::size_t size) -> void * { return requests_left-- > 0 ? std::realloc(block, size) : nullptr; };
+    const gwb_heap heap{allocate, reallocate, [](void *, void *block) { std::free(block); }, nullptr};
+    requests_left = 1000000;
+    Workbench bench(heap);
+    bench.block(Solid(1), {0, 0, 0}, {9, 9, 9});
+    const std::string held = bench.listing();
+    Draft draft = bench.draft();
+    long refusals = 0;
+    for (const Step &step : TWELVE) {
+        const Mark outer = bench.mark();
+        const std::string before = bench.listing();
+        check(throws<RefusedBy<GWB_WHY_SAME_FACE>>([&] { bench.kfmrh(Face(2), Face(2)); }) && bench.listing() == before, "a step that is refused");
+        bench.block(Solid(9), {0, 40, 0}, {1, 1, 1});
+        const Mark inner = bench.mark();
+        const std::string with_block = bench.listing();
+        bench.lamina(Solid(10), {{0, 60, 0}, {1, 60, 0}, {0, 61, 0}});
+        bench.back(inner);
+        check(bench.listing() == with_block && with_block != before, "back to a mark within a mark");
+        bench.back(outer);
+        check(bench.listing() == before, "back to the mark before the step");
+        refusals += give_at_last(bench, step);
+    }
+    check(refusals > 12 && narrow(bench.six_volumes(Solid(1))) == 6804, "the hole, and the longer block");
+    const std::string made = bench.listing();
+    draft.commit();
+    check(bench.depth() == 2 && bench.listing() == made, "twelve commands are one");
+    bench.undo();
+    check(bench.listing() == held, "one undo takes all of them back");
+    bench.redo();
+    check(bench.listing() == made, "and one redo does them again");
+}
+
 // Every method of a closed workbench throws Closed.
 static void try_closed(Workbench &bench)
 {
@@ -745,6 +812,7 @@ int main()
                            try_ranges,
                            try_moves,
                            try_heaps,
+                           try_twelve_commands,
                            try_closed_ones}) {
         try {
             part();

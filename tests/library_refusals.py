@@ -19,6 +19,13 @@ from refused_growths import SCRIPTS
 
 
 POINTS = 'mvfs 1 1 1 1 0 0 0;mvfs 2 2 2 2 1 1 1;mvfs 3 3 3 3 2 2 2;merge 1 2;merge 1 3;'
+# A hole through a block, which gets longer by a block that is cut and glued on. Commands are refused on the way, and others taken back to a mark
+# within a mark.
+TWELVE = ('block 1 0 0 0 9 9 9;draft;kfmrh 2 2;mev +7 +7 20 20 2 2 9;kev +99;kemr +20 20;sweep 99 0 0 1;mev @20 @20 21 21 2 5 9;block 1 0 0 0 1 1 1;'
+          'mev -21 -21 22 22 5 5 9;mev -22 -22 23 23 5 2 9;back 3;mev -21 -21 22 22 5 5 9;glue 1 1;mev -22 -22 23 23 5 2 9;mef -23 +21 24 20 21;'
+          'sweep 20 0 0 -9;kfmrh 2 20;back 6;back 5;mef -23 +21 24 20 21;split 1 0 0 1 9 3;sweep 20 0 0 -9;lamina 3 0 0 0 1 0 0;kfmrh 2 20;'
+          'kemr +99 9;block 2 9 0 0 6 9 9;split 2 1 0 0 -20 3;split 2 1 0 0 -12 3;glue 4 35;glue 4 30;glue 35 30;glue 35 39;kvfs 1;volume 1;commit;list;'
+          'undo;list;redo;list')
 TYPED = {
     'part': POINTS + 'part 2 2 3;undo;part 2 9;part 2 3 2;part 2 2 3;list',
     'part in a draft': POINTS + 'draft;part 2 2;part 3 3;commit;list;undo;list',
@@ -27,6 +34,7 @@ TYPED = {
     'larger commands in a draft': 'block 1 0 0 0 4 4 4;draft;block 2 0 0 4 4 4 4;glue 1 8;split 1 0 0 1 -6 3;commit;list;undo;list;redo;list',
     'draft taken back to a mark': 'block 1 0 0 0 4 4 4;draft;mev +7 +7 13 9 2 2 4;block 2 0 0 4 4 4 4;lamina 3 0 0 9 3 0 9 0 3 9;sweep 13 0 0 2;back 1;'
                                   'kemr +13 7;commit;list;undo;list',
+    'twelve commands in a draft': TWELVE,
     'draft given up': 'block 1 0 0 0 4 4 4;draft;mev +7 +7 13 9 2 2 4;kemr +13 7',
 }
 
