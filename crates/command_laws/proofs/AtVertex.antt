@@ -1,19 +1,20 @@
 -- Mev and kev leave each face that has no corner at the vertex that they part or take away.
 use Rattle.std.proofs.Common.{◌≡◌, ◌≢◌, ℕ, true, false, None, refl, sym, ap, subst, ◌∙◌, true≢false, inl, inr}
-use Rattle.euler_operators.specs.Common.{At, Lone, IsIn, Point, lone_vertex, first_false, code, edge_of, mate, Model, lone, content, face_of, tail, after, Sound, Has, HasHalf, face_at, lists, effect, kev, mev_at}
+use Rattle.std.proofs.lemmas.Bool.{false_from_ne_true}
+use Rattle.euler_operators.specs.Common.{At, Lone, IsIn, lone_vertex, first_false, code, edge_of, mate, Model, lone, content, face_of, tail, after, Sound, Has, HasHalf, face_at, lists, effect, kev}
 use Rattle.euler_operators.specs.Table as table
 use Rattle.euler_operators.specs.declared.Op.{Op}
 use Rattle.euler_operators.specs.declared.Op.TheVariants.{Mev, Kev}
 use Rattle.euler_operators.proofs.Common.{edge_of-mate, get-remove_other, item_loop, item_there, mate_there}
-use Rattle.euler_laws.proofs.Common.{half_after, listed-from_in, loop_after, KevGoes, MevGoes, none_else, effect_keeps_sound, kev_goes, lone_goes, mev_goes, mixed_first, mixed_second}
+use Rattle.euler_laws.proofs.Common.{half_after, listed-from_in, loop_after, KevGoes, none_else, effect_keeps_sound, kev_goes, lone_goes, mev_goes, mixed_first, mixed_second}
 use Rattle.euler_laws.proofs.kev.KevSound as gone
-use Rattle.euler_laws.proofs.mev.MevSound as grown
 use Rattle.shapes.specs.Common.{corners, vertices_on}
 use Rattle.command_laws.specs.LeftAlone.{StandsAsBefore}
-use Rattle.command_laws.specs.Operators.{OthersThanAtVertexStand, makes_vertex, vertex_met}
-use Rattle.command_laws.proofs.Inner.{edge_unmoved, loop_apart, same_ends, same_row, vertex_old}
+use Rattle.command_laws.specs.Operators.{OthersThanAtVertexStand, makes_vertex, meets_fan, vertex_met}
+use Rattle.command_laws.proofs.Fans.{met_corner, mev_stands}
+use Rattle.command_laws.proofs.Inner.{same_ends, same_row}
 use Rattle.command_laws.proofs.InnerFaces.{other_edge}
-use Rattle.command_laws.proofs.OnFaces.{vertex_cases, vertex_there}
+use Rattle.command_laws.proofs.OnFaces.{vertex_cases}
 use Rattle.command_laws.proofs.Owners.{half_corner}
 use Rattle.command_laws.proofs.Spurs.{lone_spur, spurred_stands}
 use Rattle.command_laws.proofs.Standing.{rings_same, stands}
@@ -28,29 +29,6 @@ module _ (M : Model) (sound : Sound M) (t k : ℕ) (off : lists (corners M k) t 
 
   ends_apart : (x : ℕ) → HasHalf M x → face_at M x ≡ k → tail M (mate x) ≢ t
   ends_apart x has at e = starts_apart (after M x) (half_after M sound x has) (ap (face_of M) (loop_after M sound x has) ∙ at) (sound.ends_meet x has ∙ e)
-
--- ---- mev at two half-edges
-
-module _ (M : Model) (sound : Sound M) (g j h v : ℕ) (p : Point) (goes : MevGoes M g j h v p) (k : ℕ) (there : Has M.faces k) (off : lists (corners M k) (tail M g) ≡ false) where
-  abbrev G : Model
-  G = mev_at M g j h v p
-
-  kept_loop : (q : ℕ) → Has M.loops q → face_of M q ≡ k → table.get G.loops q ≡ table.get M.loops q
-  kept_loop q has at = loop_apart M sound g j h v p goes q has
-      (λ e. starts_apart M sound (tail M g) k off g goes.g_there (sym (ap (face_of M) e) ∙ at) refl)
-      (λ e. starts_apart M sound (tail M g) k off j goes.k_there (sym (ap (face_of M) e) ∙ at) goes.one_tail)
-
-  kept_edge : (x : ℕ) → HasHalf M x → face_at M x ≡ k → table.get G.edges (edge_of x) ≡ table.get M.edges (edge_of x)
-  kept_edge x has at = edge_unmoved M sound g j h v p goes x has
-      (grown.not_moved M sound g j h v p goes x (starts_apart M sound (tail M g) k off x has at))
-      (grown.not_moved M sound g j h v p goes (mate x) (ends_apart M sound (tail M g) k off x has at))
-
-  pub mev_stands : StandsAsBefore M (mev_at M g j h v p) k
-  mev_stands =
-      let same = grown.same M sound g j h v p goes in
-      let row : table.get G.faces k ≡ table.get M.faces k = ap (λ t. table.get t k) same.faces in
-      stands M G (λ f. f ≡ k) sound kept_loop kept_edge (λ l w i at. vertex_old M sound g j h v p goes w (vertex_there M sound l w i)) k there refl row
-      (rings_same M G k row kept_loop (λ q has at. kept_loop q (sym (same.loop q) ∙ has) (sym (same.face q) ∙ at)))
 
 -- ---- kev
 
@@ -97,7 +75,9 @@ module _ (M : Model) (sound : Sound M) (h : ℕ) (goes : KevGoes M h) (k : ℕ) 
 
 stands_apart : (op : Op) (M : Model) (k : ℕ) → Sound M → first_false M op ≡ None → makes_vertex op ≡ true → Has M.faces k → lists (corners M k) (vertex_met M op) ≡ false → StandsAsBefore M (effect M op) k
 unfolding effect
-stands_apart (Mev (At g) (At j) h v p) M k sound e i there off = mev_stands M sound (code g) (code j) (code h) v p (mev_goes M g j h v p e) k there off
+stands_apart (Mev (At g) (At j) h v p) M k sound e i there off =
+    let goes = mev_goes M g j h v p e in
+    mev_stands M sound (code g) (code j) (code h) v p goes k there (false_from_ne_true (meets_fan M (Mev (At g) (At j) h v p) k) (λ m. no_corner M sound _ k off (met_corner M sound (code g) (code j) (code h) v p goes k m)))
 stands_apart (Mev (At g) (Lone l) h v p) M k sound e i there off = absurd (mixed_first M g l h v p sound e)
 stands_apart (Mev (Lone l) (At j) h v p) M k sound e i there off = absurd (mixed_second M l j h v p sound e)
 stands_apart (Mev (Lone l) (Lone d) h v p) M k sound e i there off =

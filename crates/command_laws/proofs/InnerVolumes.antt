@@ -124,21 +124,21 @@ module _ (M N : Model) (p : Plane) (ks : List ℕ) (w : AreMet M N p ks) where
         | inr h ↦ ap (λ t. is_on p (point_of M t)) (sym h.2) ∙ half_on h.0 (item_there N w.after q h.0 h.1) (ap (lists ks) (ap (face_of N) (item_loop N w.after q h.0 h.1) ∙ of) ∙ m)
       ]
 
-  redrawn : AreRedrawn M N p (anchor M w.face) (met_in ks)
+  redrawn : AreRedrawn M N (λ k. p) (anchor M w.face) (met_in ks)
   redrawn =
       let at = parts M w.before p ks w.on w.face w.there w.listed in
+      let point = anchor_on M p w.face w.before w.there at.1 in
       record {
         before = w.before;
         after = w.after;
-        point = anchor_on M p w.face w.before w.there at.1;
-        on = w.on;
-        on_then = λ k there m i. at.0 i && all_on N p (corners N k) (λ v j. corner_on k v there m j) i;
+        on = λ k there m. (w.on k there m, point);
+        on_then = λ k there m. (λ i. at.0 i && all_on N p (corners N k) (λ v j. corner_on k v there m j) i, point);
         stays = λ k there off. let s = left_stands M N k w.before there (w.left k there off) in (s.there, s.solid, s.plane);
         back = λ k there off. sym (ap is_some (w.rows k off)) ∙ there;
       }
 
   met_keep_volumes : (u : ℕ) → six_volume N u ≡ six_volume M u
-  met_keep_volumes u = redrawn_keep_volumes M N p (anchor M w.face) (met_in ks) redrawn u
+  met_keep_volumes u = redrawn_keep_volumes M N (λ k. p) (anchor M w.face) (met_in ks) redrawn u
 
 -- ---- what stays of the corners, operator by operator
 

@@ -34,4 +34,6 @@ mod InnerFaces
 mod Redrawn
 mod InnerVolumes
 mod Spurs
+mod Fans
 mod AtVertex
+mod FanVolumes

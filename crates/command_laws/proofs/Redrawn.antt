@@ -1,23 +1,23 @@
--- Two models whose faces are the same, but for some that lie on one plane in both: each solid keeps its six volumes. They are told from a point of
--- that plane, from which those faces add nothing; and over a whole solid the point doesn't matter, since the normals sum to nothing.
+-- Two models whose faces are the same, but for some that lie in both on planes through one point: each solid keeps its six volumes. They are told from
+-- that point, from which those faces add nothing; and over a whole solid the point doesn't matter, since the normals sum to nothing.
 use Rattle.std.proofs.Common.{◌≡◌, ℕ, ℤ, pos, ◌+ℤ◌, ◌-ℤ◌, neg_ℤ, ◌≤◌, Bool, true, false, cond, not, List, [], ◌∷◌, filter, refl, sym, ap, ◌∙◌, true≢false, arith, inl, inr}
 use Rattle.std.proofs.lemmas.Bool.{not-true}
 use Rattle.std.proofs.lemmas.Int.{ints}
-use Rattle.euler_operators.specs.Common.{Plane, Point, IsIn, SameItems, count, direction, dot, is_on, origin, Model, faces_of, solid_of, Sound, Has}
+use Rattle.euler_operators.specs.Common.{Plane, Point, IsIn, SameItems, count, direction, dot, origin, Model, faces_of, solid_of, Sound, Has}
 use Rattle.euler_operators.proofs.Common.{IsIn-filter, IsIn_or_not, count-filter, dot_origin, dot_sum, dot_turned, filter_passes}
 use Rattle.euler_laws.proofs.Common.{IsIn-from_listed, counted_once, face_in, in_faces, listed-from_in}
-use Rattle.shapes.specs.Common.{anchor, corners, is_plane_of, normal, plane_of, six_volume}
+use Rattle.shapes.specs.Common.{anchor, normal, plane_of, six_volume}
 use Rattle.shapes.proofs.Common.{faces_rise, told_anywhere, total, total_same, unchanged, volume_is, volume_of}
 use Rattle.solid_measure_laws.specs.Models.{normals_in}
 use Rattle.solid_measure_laws.proofs.Moved.{normals_close}
+use Rattle.command_laws.specs.Operators.{LiesWith}
 
--- the faces that are met lie on plane p, which has the point q, in M and in N; each other face is in both, of one solid, and in one plane
-pub record AreRedrawn (M N : Model) (p : Plane) (q : Point) (met : ℕ → Bool) : Type 0 where
+-- the faces that are met lie in M and in N each on its plane of p, which has the point q; each other face is in both, of one solid, and in one plane
+pub record AreRedrawn (M N : Model) (p : ℕ → Plane) (q : Point) (met : ℕ → Bool) : Type 0 where
   pub before : Sound M
   pub after : Sound N
-  pub point : is_on p q ≡ true
-  pub on : (k : ℕ) → Has M.faces k → met k ≡ true → is_plane_of M p (corners M k) ≡ true
-  pub on_then : (k : ℕ) → Has N.faces k → met k ≡ true → is_plane_of N p (corners N k) ≡ true
+  pub on : (k : ℕ) → Has M.faces k → met k ≡ true → LiesWith M (p k) q k
+  pub on_then : (k : ℕ) → Has N.faces k → met k ≡ true → LiesWith N (p k) q k
   pub stays : (k : ℕ) → Has M.faces k → met k ≡ false → Has N.faces k × (solid_of N k ≡ solid_of M k) × (plane_of N k ≡ plane_of M k)
   pub back : (k : ℕ) → Has N.faces k → met k ≡ false → Has M.faces k
 
@@ -48,8 +48,8 @@ module _ (q : Point) (M : Model) where
       ∙ sym (told_all (faces_of M u) ∙ less_none (total (volume_of M) (faces_of M u)) _ (ap (dot q) (normals_close M sound u) ∙ dot_turned q origin ∙ dot_origin q))
 
 -- a face on a plane adds nothing from a point of it
-nothing_told : (M : Model) (p : Plane) (q : Point) (k : ℕ) → Sound M → Has M.faces k → is_plane_of M p (corners M k) ≡ true → is_on p q ≡ true → told_from q M k ≡ pos 0
-nothing_told M p q k sound there on at = none (volume_of M k) (dot q (normal M k)) (told_anywhere M p k q sound there on at) where
+nothing_told : (M : Model) (p : Plane) (q : Point) (k : ℕ) → Sound M → Has M.faces k → LiesWith M p q k → told_from q M k ≡ pos 0
+nothing_told M p q k sound there on = none (volume_of M k) (dot q (normal M k)) (told_anywhere M p k q sound there on.0 on.1) where
   none : (v a : ℤ) → a ≡ v → v -ℤ a ≡ pos 0
   none v a e = omega (arith, ints, e)
 
@@ -77,7 +77,7 @@ dropped w p (x ∷ xs) none = go (p x) refl (dropped w p xs none) where
   go true e rest = ap (λ t. w x +ℤ t) rest
   go false e rest = nothing_more (w x) (total w xs) (total w (filter p xs)) (none x e) rest
 
-module _ (M N : Model) (p : Plane) (q : Point) (met : ℕ → Bool) (drawn : AreRedrawn M N p q met) (u : ℕ) where
+module _ (M N : Model) (p : ℕ → Plane) (q : Point) (met : ℕ → Bool) (drawn : AreRedrawn M N p q met) (u : ℕ) where
   -- what a face adds that isn't met
   weight : ℕ → ℤ
   weight k = cond (met k) (pos 0) (told_from q M k)
@@ -96,14 +96,14 @@ module _ (M N : Model) (p : Plane) (q : Point) (met : ℕ → Bool) (drawn : Are
   unfolding weight
   told_before k there = go (met k) refl where
     go : (b : Bool) → met k ≡ b → told_from q M k ≡ cond b (pos 0) (told_from q M k)
-    go true e = nothing_told M p q k drawn.before there (drawn.on k there e) drawn.point
+    go true e = nothing_told M (p k) q k drawn.before there (drawn.on k there e)
     go false e = refl
 
   told_after : (k : ℕ) → Has N.faces k → told_from q N k ≡ weight k
   unfolding weight
   told_after k there = go (met k) refl where
     go : (b : Bool) → met k ≡ b → told_from q N k ≡ cond b (pos 0) (told_from q M k)
-    go true e = nothing_told N p q k drawn.after there (drawn.on_then k there e) drawn.point
+    go true e = nothing_told N (p k) q k drawn.after there (drawn.on_then k there e)
     go false e = same_told M N q k (drawn.stays k (drawn.back k there e) e).2
 
   face_facts : (X : Model) (k : ℕ) → IsIn k (faces_of X u) → Has X.faces k × (solid_of X k ≡ u)

@@ -121,7 +121,7 @@ module _ (M N : Model) (f a b : ℕ) (w : HasSpur M N f a b) where
             | inr h ↦ ap (λ t. is_on p (point_of N t)) (sym h.2) ∙ half_lies h.0 (item_there N w.after q h.0 h.1) (ap (face_of N) (item_loop N w.after q h.0 h.1) ∙ of)
           ]
 
-      spurred_lies : is_plane_of N p (corners N f) ≡ true
+      pub spurred_lies : is_plane_of N p (corners N f) ≡ true
       spurred_lies = λ i. (and_parts (not (same_point (direction p) origin)) (are_on M p (corners M f)) on).0 i && all_on N p (corners N f) corner_lies i
 
     -- where it lies there with the spur, it does without
@@ -149,16 +149,17 @@ module _ (M N : Model) (f a b : ℕ) (w : HasSpur M N f a b) where
       unspurred_lies : is_plane_of M p (corners M f) ≡ true
       unspurred_lies = λ i. (and_parts (not (same_point (direction p) origin)) (are_on N p (corners N f)) on).0 i && all_on M p (corners M f) corner_lay i
 
-  spurred_keeps_volumes : (p : Plane) (u : ℕ) → is_plane_of M p (corners M f) ≡ true → is_plane_of N p (corners N f) ≡ true → six_volume N u ≡ six_volume M u
-  spurred_keeps_volumes p u on on_then = redrawn_keep_volumes M N p (anchor M f) (λ k. nat_eq k f) (record {
+  pub spurred_keeps_volumes : (p : Plane) (u : ℕ) → is_plane_of M p (corners M f) ≡ true → is_plane_of N p (corners N f) ≡ true → six_volume N u ≡ six_volume M u
+  spurred_keeps_volumes p u on on_then = redrawn_keep_volumes M N (λ k. p) (anchor M f) (λ k. nat_eq k f) (record {
     before = w.before;
     after = w.after;
-    point = anchor_on M p f w.before w.there (and_parts (not (same_point (direction p) origin)) (are_on M p (corners M f)) on).1;
-    on = λ k there m. ap (λ j. is_plane_of M p (corners M j)) (eqb-true k f m) ∙ on;
-    on_then = λ k there m. ap (λ j. is_plane_of N p (corners N j)) (eqb-true k f m) ∙ on_then;
+    on = λ k there m. (ap (λ j. is_plane_of M p (corners M j)) (eqb-true k f m) ∙ on, point);
+    on_then = λ k there m. (ap (λ j. is_plane_of N p (corners N j)) (eqb-true k f m) ∙ on_then, point);
     stays = λ k there off. let s = spurred_stands k there (eqb-false k f off) in (s.there, s.solid, s.plane);
     back = λ k there off. face_back k there;
-  }) u
+  }) u where
+    point : is_on p (anchor M f) ≡ true
+    point = anchor_on M p f w.before w.there (and_parts (not (same_point (direction p) origin)) (are_on M p (corners M f)) on).1
 
   -- what is new stands in the face
   spur_home : (h : ℕ) → HasHalf N h → table.get M.edges (edge_of h) ≡ None → face_at N h ≡ f
@@ -254,7 +255,7 @@ module _ (M : Model) (sound : Sound M) (l h v u : ℕ) (p : Point) (goes : LoneG
     | inr e ↦ inl (alone.content_other sound goes q e.1 ∙ is)
   ]
 
-  lone_point : point_of L v ≡ p
+  pub lone_point : point_of (mev_lone M l h v p) v ≡ p
   unfolding mev_lone point_of
   lone_point = ap (λ o. unwrap_or o no_point) (get-put_here M.vertices v p)
 

@@ -1,6 +1,6 @@
 -- What `counts` answers after one operator, an `act` of a session or a `step` of a draft, which faces stand, and which volumes are kept.
-use Rattle.std.specs.Prelude.{◌≡◌, ◌≢◌, ℕ, nat_eq, ◌+◌, ◌-◌, pos, ◌+ℤ◌, ◌-ℤ◌, Bool, true, false, List, [], ◌∷◌, None}
-use Rattle.euler_operators.specs.Common.{Plane, At, Lone, code, is_on, mate, Model, after, tail, face_of, solid_of, Sound, Has, corner_loop, corner_tail, face_at, first_false, lists, effect, inverse}
+use Rattle.std.specs.Prelude.{◌≡◌, ◌≢◌, ℕ, nat_eq, ◌+◌, ◌-◌, pos, ◌+ℤ◌, ◌-ℤ◌, Bool, true, false, List, [], ◌∷◌, map, None}
+use Rattle.euler_operators.specs.Common.{Plane, Point, At, Lone, code, is_on, mate, origin, Model, after, arc, tail, face_of, point_of, solid_of, Sound, Has, corner_loop, corner_tail, face_at, first_false, lists, effect, inverse}
 use Rattle.euler_operators.specs.declared.Op.{Op}
 use Rattle.euler_operators.specs.declared.Op.TheVariants.{Mev, Kev, Mef, Kef, Kemr, Mekr, Kfmrh, Mfkrh}
 use Rattle.shapes.specs.Common.{corners, is_plane_of, six_volume}
@@ -132,3 +132,42 @@ vertex_met M op = 0
 -- every face without a corner there stands as it did
 abbrev pub OthersThanAtVertexStand : Type 0
 OthersThanAtVertexStand = (M N : Model) (op : Op) (k : ℕ) → Sound M → IsStep M op N → makes_vertex op ≡ true → Has M.faces k → lists (corners M k) (vertex_met M op) ≡ false → StandsAsBefore M N k
+
+-- mev moves a fan, the half-edges from its first corner up to its second, to the new vertex, and meets their faces and that of the half-edge where the
+-- fan ends; kev moves all that start at the vertex that goes, but its own half-edge, and meets the faces with a corner there
+abbrev pub meets_fan : Model → Op → ℕ → Bool
+meets_fan M (Mev (At g) (At j) h v p) k = lists (map (face_at M) (code j ∷ arc M (code g) (code j))) k
+meets_fan M (Mev (Lone l) d h v p) k = nat_eq k (face_of M l)
+meets_fan M (Kev h) k = lists (corners M k) (tail M (mate (code h)))
+meets_fan M op k = false
+
+-- every other face stands as it did
+abbrev pub FansKeepShapes : Type 0
+FansKeepShapes = (M N : Model) (op : Op) (k : ℕ) → Sound M → IsStep M op N → makes_vertex op ≡ true → Has M.faces k → meets_fan M op k ≡ false → StandsAsBefore M N k
+
+-- the point to which the fan moves
+abbrev pub moves_to : Model → Op → Point
+moves_to M (Mev c d h v p) = p
+moves_to M (Kev h) = point_of M (tail M (code h))
+moves_to M op = origin
+
+-- face k lies on plane p, with all its corners, and so does point r
+abbrev pub LiesWith : Model → Plane → Point → ℕ → Type 0
+LiesWith M p r k = (is_plane_of M p (corners M k) ≡ true) × (is_on p r ≡ true)
+
+-- each face that the fan meets lies on a plane of its own, with the point to which the fan moves
+abbrev pub FanLiesFlat : Model → Op → (ℕ → Plane) → Type 0
+FanLiesFlat M op planes = (k : ℕ) → Has M.faces k → meets_fan M op k ≡ true → LiesWith M (planes k) (moves_to M op) k
+
+-- then each solid keeps its six volumes
+abbrev pub FansKeepVolumes : Type 0
+FansKeepVolumes = (M N : Model) (op : Op) (planes : ℕ → Plane) (u : ℕ) → Sound M → IsStep M op N → makes_vertex op ≡ true → FanLiesFlat M op planes → six_volume N u ≡ six_volume M u
+
+-- so it does where, once it is done, the fan that its inverse moves lies flat
+abbrev pub FansKeepVolumesBack : Type 0
+FansKeepVolumesBack = (M N : Model) (op : Op) (planes : ℕ → Plane) (u : ℕ) → Sound M → IsStep M op N → makes_vertex op ≡ true → FanLiesFlat N (inverse M op) planes → six_volume N u ≡ six_volume M u
+
+-- where the fan lies flat before, each face that lies on its plane lies on it still
+abbrev pub FansKeepPlanes : Type 0
+FansKeepPlanes = (M N : Model) (op : Op) (planes : ℕ → Plane) (k : ℕ) → Sound M → IsStep M op N → makes_vertex op ≡ true → FanLiesFlat M op planes → Has M.faces k →
+    is_plane_of M (planes k) (corners M k) ≡ true → is_plane_of N (planes k) (corners N k) ≡ true

@@ -1,5 +1,5 @@
 //! What one operator makes of the counts, in a session or a draft, which faces it leaves, and where it keeps the volumes.
-ghost use Rattle.command_laws.specs.Operators.{OperatorsCount, OperatorsKeepCounts, OperatorsKeepShapes, OperatorsKeepVolumes, OperatorsKeepVolumesBack, OthersThanAtVertexStand, SpursKeepShapes, SpursKeepVolumes};
+ghost use Rattle.command_laws.specs.Operators.{FansKeepPlanes, FansKeepShapes, FansKeepVolumes, FansKeepVolumesBack, OperatorsCount, OperatorsKeepCounts, OperatorsKeepShapes, OperatorsKeepVolumes, OperatorsKeepVolumesBack, OthersThanAtVertexStand, SpursKeepShapes, SpursKeepVolumes};
 
 /// An operator that makes or kills an edge, a face or a ring within a solid changes what `counts` answers of it: mev makes a vertex and an
 /// edge, mef an edge and a face, kemr a ring of an edge, and mfkrh a face of a ring; kev, kef, mekr and kfmrh take that back. Every other
@@ -33,4 +33,19 @@ pub fn spurs_leave_faces()
 /// or that kev takes away, stands as it did.
 pub fn vertices_leave_faces()
     ensures { OthersThanAtVertexStand }
+{}
+
+/// A mev moves a fan, the half-edges from its first corner up to its second, to the new vertex, and meets their faces and that of the half-edge
+/// where the fan ends; a kev meets those with a corner at the vertex that goes. Every other face stands as it did.
+pub fn fans_leave_faces()
+    ensures { FansKeepShapes }
+{}
+
+/// Where each face that the fan meets lies on a plane of its own, with the point to which the fan moves, each solid keeps its six volumes: an
+/// edge divided at a point of it, a corner cut loose along an edge, and both taken back. The planes may be told before the operator or after it.
+/// Told before, each face that lies on its plane lies on it still.
+pub fn fans_keep_volumes()
+    ensures before { FansKeepVolumes }
+    ensures after { FansKeepVolumesBack }
+    ensures planes { FansKeepPlanes }
 {}
