@@ -104,11 +104,11 @@ module _ (M : Model) (sound : Sound M) (g j h v : ℕ) (p : Point) (goes : MevGo
   abbrev G : Model
   G = mev_at M g j h v p
 
-  new_point : point_of (mev_at M g j h v p) v ≡ p
+  pub new_point : point_of (mev_at M g j h v p) v ≡ p
   unfolding mev_at point_of
   new_point = ap (λ o. unwrap_or o no_point) (get-put_here M.vertices v p)
 
-  old_point : (w : ℕ) → Has M.vertices w → point_of (mev_at M g j h v p) w ≡ point_of M w
+  pub old_point : (w : ℕ) → Has M.vertices w → point_of (mev_at M g j h v p) w ≡ point_of M w
   old_point w there = point_kept M G w (vertex_old M sound g j h v p goes w there)
 
   loop_kept : (x : ℕ) → HasHalf M x → loop_of (mev_at M g j h v p) x ≡ loop_of M x
@@ -151,7 +151,7 @@ module _ (M : Model) (sound : Sound M) (h : ℕ) (goes : KevGoes M h) (then : So
   abbrev w : ℕ
   w = tail M (mate h)
 
-  kept_point : (t : ℕ) → t ≢ tail M (mate h) → point_of (kev M h) t ≡ point_of M t
+  pub kept_point : (t : ℕ) → t ≢ tail M (mate h) → point_of (kev M h) t ≡ point_of M t
   unfolding kev
   kept_point t ne = point_kept M (kev M h) t (get-remove_other M.vertices (tail M (mate h)) t ne)
 

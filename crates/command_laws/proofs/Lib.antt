@@ -37,3 +37,5 @@ mod Spurs
 mod Fans
 mod AtVertex
 mod FanVolumes
+mod AlongLines
+mod FanNormals

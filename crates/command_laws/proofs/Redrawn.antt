@@ -67,7 +67,7 @@ same_told M N q k e =
 -- ---- over the faces that aren't met
 
 -- what a test drops adds nothing
-dropped : (w : ℕ → ℤ) (p : ℕ → Bool) (xs : List ℕ) → ((x : ℕ) → p x ≡ false → w x ≡ pos 0) → total w xs ≡ total w (filter p xs)
+pub dropped : (w : ℕ → ℤ) (p : ℕ → Bool) (xs : List ℕ) → ((x : ℕ) → p x ≡ false → w x ≡ pos 0) → total w xs ≡ total w (filter p xs)
 dropped w p [] none = refl
 dropped w p (x ∷ xs) none = go (p x) refl (dropped w p xs none) where
   nothing_more : (a b c : ℤ) → a ≡ pos 0 → b ≡ c → a +ℤ b ≡ c

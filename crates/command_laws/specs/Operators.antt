@@ -1,9 +1,9 @@
 -- What `counts` answers after one operator, an `act` of a session or a `step` of a draft, which faces stand, and which volumes are kept.
 use Rattle.std.specs.Prelude.{◌≡◌, ◌≢◌, ℕ, nat_eq, ◌+◌, ◌-◌, pos, ◌+ℤ◌, ◌-ℤ◌, Bool, true, false, List, [], ◌∷◌, map, None}
-use Rattle.euler_operators.specs.Common.{Plane, Point, At, Lone, code, is_on, mate, origin, Model, after, arc, tail, face_of, point_of, solid_of, Sound, Has, corner_loop, corner_tail, face_at, first_false, lists, effect, inverse}
+use Rattle.euler_operators.specs.Common.{Plane, Point, At, Lone, IsIn, code, cross, is_on, mate, origin, Model, after, arc, tail, face_of, point_of, solid_of, Sound, Has, HasHalf, corner_loop, corner_tail, face_at, first_false, lists, effect, inverse}
 use Rattle.euler_operators.specs.declared.Op.{Op}
 use Rattle.euler_operators.specs.declared.Op.TheVariants.{Mev, Kev, Mef, Kef, Kemr, Mekr, Kfmrh, Mfkrh}
-use Rattle.shapes.specs.Common.{corners, is_plane_of, six_volume}
+use Rattle.shapes.specs.Common.{corners, finish, is_flat, is_plane_of, normal, plane_of, six_volume, start, towards}
 use Rattle.solid_measure.specs.declared.solid_counts.Tally.{Tally}
 use Rattle.solid_measure.specs.solid_counts.Counts.{counts}
 use Rattle.command_laws.specs.LeftAlone.{StandsAsBefore}
@@ -171,3 +171,22 @@ FansKeepVolumesBack = (M N : Model) (op : Op) (planes : ℕ → Plane) (u : ℕ)
 abbrev pub FansKeepPlanes : Type 0
 FansKeepPlanes = (M N : Model) (op : Op) (planes : ℕ → Plane) (k : ℕ) → Sound M → IsStep M op N → makes_vertex op ≡ true → FanLiesFlat M op planes → Has M.faces k →
     is_plane_of M (planes k) (corners M k) ≡ true → is_plane_of N (planes k) (corners N k) ≡ true
+
+-- three points lie on one line
+abbrev pub AreOnLine : Point → Point → Point → Type 0
+AreOnLine p q r = cross (towards p q) (towards p r) ≡ origin
+
+-- each half-edge of the fan ends on the line through the vertex where it starts and the one to which it moves; at a lone vertex there is none
+abbrev pub FanLeadsAlong : Model → Op → Type 0
+FanLeadsAlong M (Mev (At g) (At j) h v p) = (x : ℕ) → IsIn x (arc M (code g) (code j)) → AreOnLine (start M (code g)) p (finish M x)
+FanLeadsAlong M (Kev h) = (x : ℕ) → HasHalf M x → tail M x ≡ tail M (mate (code h)) → x ≢ mate (code h) → AreOnLine (start M (code h)) (finish M (code h)) (finish M x)
+FanLeadsAlong M op = Unit {0}
+
+-- then each face keeps its normal, also one that isn't flat
+abbrev pub FansKeepNormals : Type 0
+FansKeepNormals = (M N : Model) (op : Op) (k : ℕ) → Sound M → IsStep M op N → makes_vertex op ≡ true → FanLeadsAlong M op → normal N k ≡ normal M k
+
+-- and where the faces that the fan meets are flat, with the point to which it moves on their planes, each flat face is flat still, in the plane that it had
+abbrev pub FansKeepFlatFaces : Type 0
+FansKeepFlatFaces = (M N : Model) (op : Op) (k : ℕ) → Sound M → IsStep M op N → makes_vertex op ≡ true → FanLeadsAlong M op → FanLiesFlat M op (plane_of M) → Has M.faces k →
+    is_flat M k ≡ true → (is_flat N k ≡ true) × (plane_of N k ≡ plane_of M k)

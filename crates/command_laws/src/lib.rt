@@ -18,8 +18,8 @@
 //! any face, a glue, and an operator that makes or kills an edge, a face or a ring, told from what it answered before, and that it
 //! answers of every other solid what it did; which faces stand after an operator of one solid, and that no six volumes change after
 //! one that leaves all vertices, or makes or kills a spur, where the faces that it meets lie on one plane, and after one that moves a
-//! fan where they lie on planes with the point to which it moves. What a split leaves as it was is proved in `split_frames`; what its
-//! caps are, and what `counts` answers after it, in `split_caps`.
+//! fan where they lie on planes with the point to which it moves; and that no normal changes where the fan moves along its own line.
+//! What a split leaves as it was is proved in `split_frames`; what its caps are, and what `counts` answers after it, in `split_caps`.
 
 mod counted;
 mod flat;
@@ -40,8 +40,8 @@ pub use frames::{
     blocks_leave_alone, faces_stand, glues_leave_alone, laminas_leave_alone, sweeps_leave_alone,
 };
 pub use operators::{
-    fans_keep_volumes, fans_leave_faces, operators_count, operators_keep_volumes,
-    operators_leave_faces, spurs_leave_faces, vertices_leave_faces,
+    fans_keep_normals, fans_keep_volumes, fans_leave_faces, operators_count,
+    operators_keep_volumes, operators_leave_faces, spurs_leave_faces, vertices_leave_faces,
 };
 pub use ringed::ringed_sweeps_make_faces;
 

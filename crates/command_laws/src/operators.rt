@@ -1,5 +1,5 @@
 //! What one operator makes of the counts, in a session or a draft, which faces it leaves, and where it keeps the volumes.
-ghost use Rattle.command_laws.specs.Operators.{FansKeepPlanes, FansKeepShapes, FansKeepVolumes, FansKeepVolumesBack, OperatorsCount, OperatorsKeepCounts, OperatorsKeepShapes, OperatorsKeepVolumes, OperatorsKeepVolumesBack, OthersThanAtVertexStand, SpursKeepShapes, SpursKeepVolumes};
+ghost use Rattle.command_laws.specs.Operators.{FansKeepFlatFaces, FansKeepNormals, FansKeepPlanes, FansKeepShapes, FansKeepVolumes, FansKeepVolumesBack, OperatorsCount, OperatorsKeepCounts, OperatorsKeepShapes, OperatorsKeepVolumes, OperatorsKeepVolumesBack, OthersThanAtVertexStand, SpursKeepShapes, SpursKeepVolumes};
 
 /// An operator that makes or kills an edge, a face or a ring within a solid changes what `counts` answers of it: mev makes a vertex and an
 /// edge, mef an edge and a face, kemr a ring of an edge, and mfkrh a face of a ring; kev, kef, mekr and kfmrh take that back. Every other
@@ -48,4 +48,12 @@ pub fn fans_keep_volumes()
     ensures before { FansKeepVolumes }
     ensures after { FansKeepVolumesBack }
     ensures planes { FansKeepPlanes }
+{}
+
+/// Where each half-edge of the fan ends on the line through the two vertices, each face keeps its normal: an edge divided at a point of it, any
+/// spur, and both taken back. Where the faces that the fan meets are flat, with the point to which it moves on their planes, each flat face is
+/// flat still, in the plane that it had.
+pub fn fans_keep_normals()
+    ensures normals { FansKeepNormals }
+    ensures flat { FansKeepFlatFaces }
 {}
