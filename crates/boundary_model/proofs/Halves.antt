@@ -11,10 +11,10 @@ edge_of-code h = elim (h.first) as (λ b. cond b (2 * h.edge) (2 * h.edge + 1) /
 
 pub half-code : (h : HalfEdge) → half (code h) ≡ h
 unfolding half code
-half-code h = go h.edge h.first where
-  go : (e : ℕ) (b : Bool) → ◌≡◌ {A = HalfEdge} (record { edge = cond b (2 * e) (2 * e + 1) / 2; first = nat_eq (cond b (2 * e) (2 * e + 1) % 2) 0 }) (record { edge = e; first = b })
-  go e true = let p : 2 * e / 2 ≡ e = omega arith in let q : nat_eq (2 * e % 2) 0 ≡ true = grind (arith, nat_tests) in λ i. record { edge = p i; first = q i }
-  go e false = let p : (2 * e + 1) / 2 ≡ e = omega arith in let q : nat_eq ((2 * e + 1) % 2) 0 ≡ false = grind (arith, nat_tests) in λ i. record { edge = p i; first = q i }
+half-code h = halved_again h.edge h.first where
+  halved_again : (e : ℕ) (b : Bool) → ◌≡◌ {A = HalfEdge} (record { edge = cond b (2 * e) (2 * e + 1) / 2; first = nat_eq (cond b (2 * e) (2 * e + 1) % 2) 0 }) (record { edge = e; first = b })
+  halved_again e true = let p : 2 * e / 2 ≡ e = omega arith in let q : nat_eq (2 * e % 2) 0 ≡ true = grind (arith, nat_tests) in λ i. record { edge = p i; first = q i }
+  halved_again e false = let p : (2 * e + 1) / 2 ≡ e = omega arith in let q : nat_eq ((2 * e + 1) % 2) 0 ≡ false = grind (arith, nat_tests) in λ i. record { edge = p i; first = q i }
 
 pub code-half : (n : ℕ) → code (half n) ≡ n
 unfolding half code
@@ -31,10 +31,10 @@ same_code h m e = sym (half-code h) ∙ ap half e ∙ half-code m
 
 pub is_first-code : (h : HalfEdge) → is_first (code h) ≡ h.first
 unfolding code is_first
-is_first-code h = go h.edge h.first where
-  go : (e : ℕ) (b : Bool) → nat_eq (cond b (2 * e) (2 * e + 1) % 2) 0 ≡ b
-  go e true = grind (arith, nat_tests)
-  go e false = grind (arith, nat_tests)
+is_first-code h = parity_tells h.edge h.first where
+  parity_tells : (e : ℕ) (b : Bool) → nat_eq (cond b (2 * e) (2 * e + 1) % 2) 0 ≡ b
+  parity_tells e true = grind (arith, nat_tests)
+  parity_tells e false = grind (arith, nat_tests)
 
 pub half-plus : (e : ℕ) → half (plus e) ≡ record { edge = e; first = true }
 unfolding code

@@ -44,10 +44,10 @@ module _ (M : Model) where
   -- the row of a loop that holds something
   pub held_row : (h l : ℕ) → StandsIn M h l → get M.loops l ≡ Some (record { face = face_of M l; content = content M l })
   unfolding content face_of holds
-  held_row h l stands = go (get M.loops l) refl stands where
-    go : (o : Option LoopRow) → get M.loops l ≡ o → holds h (unwrap_or o no_loop).content ≡ true → o ≡ Some (record { face = (unwrap_or o no_loop).face; content = (unwrap_or o no_loop).content })
-    go None e s = absurd (omega (arith, holds_in h (cycle []) s))
-    go (Some row) e s = refl
+  held_row h l stands = row_that_holds (get M.loops l) refl stands where
+    row_that_holds : (o : Option LoopRow) → get M.loops l ≡ o → holds h (unwrap_or o no_loop).content ≡ true → o ≡ Some (record { face = (unwrap_or o no_loop).face; content = (unwrap_or o no_loop).content })
+    row_that_holds None e s = absurd (omega (arith, holds_in h (cycle []) s))
+    row_that_holds (Some row) e s = refl
 
   module _ (sound : Sound M) where
     -- no loop holds a half-edge whose edge isn't there
@@ -73,10 +73,10 @@ module _ (M : Model) where
     cycle_there h there = holds_in h (content M (loop_of M h)) (sound.stands h there)
 
     pub content_cycle : (h : ℕ) → HasHalf M h → content M (loop_of M h) ≡ cycle (cycle_of M h)
-    content_cycle h there = go (content M (loop_of M h)) (cycle_there h there) where
-      go : (c : LoopContent) → IsIn h (items_of c) → c ≡ cycle (items_of c)
-      go (lone v) i = absurd (omega arith)
-      go (cycle hs) i = refl
+    content_cycle h there = holder_is_cycle (content M (loop_of M h)) (cycle_there h there) where
+      holder_is_cycle : (c : LoopContent) → IsIn h (items_of c) → c ≡ cycle (items_of c)
+      holder_is_cycle (lone v) i = absurd (omega arith)
+      holder_is_cycle (cycle hs) i = refl
 
     pub cycle_sound : (h : ℕ) → HasHalf M h → IsCycle (cycle_of M h)
     cycle_sound h there = sound.cycles (loop_of M h) (cycle_of M h) (ap is_some (held_row h (loop_of M h) (sound.stands h there))) (content_cycle h there)
@@ -143,10 +143,10 @@ never_lone hs v e = true≢false (sym (ap lone_tells e))
 -- a lone loop is there
 pub lone_there : (M : Model) (l v : ℕ) → content M l ≡ lone v → Has M.loops l
 unfolding content
-lone_there M l v = go (get M.loops l) where
-  go : (o : Option LoopRow) → (unwrap_or o no_loop).content ≡ lone v → is_some o ≡ true
-  go None e = absurd (never_lone [] v e)
-  go (Some row) e = refl
+lone_there M l v = row_of_lone (get M.loops l) where
+  row_of_lone : (o : Option LoopRow) → (unwrap_or o no_loop).content ≡ lone v → is_some o ≡ true
+  row_of_lone None e = absurd (never_lone [] v e)
+  row_of_lone (Some row) e = refl
 
 -- ---- half-edges and edges
 

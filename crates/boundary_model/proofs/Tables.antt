@@ -74,15 +74,15 @@ below_not_found k q (e ∷ es) y h is same =
 -- the only number whose row passes the test
 pub first_where_is : {X : Type 0} (p : ℕ → X → Bool) (t : Table X) (n : ℕ) (x : X) → get t n ≡ Some x → p n x ≡ true → ((q : ℕ) (y : X) → get t q ≡ Some y → p q y ≡ true → q ≡ n) → first_where p t ≡ n
 unfolding first_where get
-first_where_is {X = X} p t n x there passes only = go t.rows t.rising there only where
-  go : (es : List (ℕ × X)) → T (is_sorted nat_cmp es) → find nat_cmp n es ≡ Some x → ((q : ℕ) (y : X) → find nat_cmp q es ≡ Some y → p q y ≡ true → q ≡ n) → first_in p es ≡ n
-  go [] s there only = cc
-  go (e ∷ es) s there only =
+first_where_is {X = X} p t n x there passes only = first_in_is t.rows t.rising there only where
+  first_in_is : (es : List (ℕ × X)) → T (is_sorted nat_cmp es) → find nat_cmp n es ≡ Some x → ((q : ℕ) (y : X) → find nat_cmp q es ≡ Some y → p q y ≡ true → q ≡ n) → first_in p es ≡ n
+  first_in_is [] s there only = cc
+  first_in_is (e ∷ es) s there only =
       elim (p e.0 e.1) as (λ b. p e.0 e.1 ≡ b → cond b e.0 (first_in p es) ≡ n) [
         | true ↦ λ t. only e.0 e.1 (find_here e es) t
         | false ↦ λ t.
             let apart : n ≢ e.0 = λ same. true≢false (sym passes ∙ ap (p n) (same_Some x e.1 (sym there ∙ ap (λ k. find nat_cmp k (e ∷ es)) same ∙ find_here e es)) ∙ ap (λ k. p k e.1) same ∙ t) in
-            go es (and_right _ _ s) (sym (find_later n e es apart) ∙ there)
+            first_in_is es (and_right _ _ s) (sym (find_later n e es apart) ∙ there)
             (λ q y at holds. only q y (find_later q e es (below_not_found e.0 q es y (and_left _ _ s) at) ∙ at) holds)
       ] refl
 
@@ -92,45 +92,45 @@ NonePasses {X = X} p t = (q : ℕ) (y : X) → get t q ≡ Some y → p q y ≡ 
 
 pub first_where_zero : {X : Type 0} (p : ℕ → X → Bool) (t : Table X) → NonePasses p t → first_where p t ≡ 0
 unfolding first_where get
-first_where_zero {X = X} p t none = go t.rows t.rising none where
-  go : (es : List (ℕ × X)) → T (is_sorted nat_cmp es) → ((q : ℕ) (y : X) → find nat_cmp q es ≡ Some y → p q y ≡ false) → first_in p es ≡ 0
-  go [] s none = refl
-  go (e ∷ es) s none = ap (λ b. cond b e.0 (first_in p es)) (none e.0 e.1 (find_here e es))
-      ∙ go es (and_right _ _ s) (λ q y at. none q y (find_later q e es (below_not_found e.0 q es y (and_left _ _ s) at) ∙ at))
+first_where_zero {X = X} p t none = first_in_none t.rows t.rising none where
+  first_in_none : (es : List (ℕ × X)) → T (is_sorted nat_cmp es) → ((q : ℕ) (y : X) → find nat_cmp q es ≡ Some y → p q y ≡ false) → first_in p es ≡ 0
+  first_in_none [] s none = refl
+  first_in_none (e ∷ es) s none = ap (λ b. cond b e.0 (first_in p es)) (none e.0 e.1 (find_here e es))
+      ∙ first_in_none es (and_right _ _ s) (λ q y at. none q y (find_later q e es (below_not_found e.0 q es y (and_left _ _ s) at) ∙ at))
 
 pub all_where_none : {X : Type 0} (p : ℕ → X → Bool) (t : Table X) → NonePasses p t → all_where p t ≡ []
 unfolding all_where get
-all_where_none {X = X} p t none = go t.rows t.rising none where
-  go : (es : List (ℕ × X)) → T (is_sorted nat_cmp es) → ((q : ℕ) (y : X) → find nat_cmp q es ≡ Some y → p q y ≡ false) → all_in p es ≡ []
-  go [] s none = refl
-  go (e ∷ es) s none = ap (λ b. cond b (e.0 ∷ all_in p es) (all_in p es)) (none e.0 e.1 (find_here e es))
-      ∙ go es (and_right _ _ s) (λ q y at. none q y (find_later q e es (below_not_found e.0 q es y (and_left _ _ s) at) ∙ at))
+all_where_none {X = X} p t none = all_in_none t.rows t.rising none where
+  all_in_none : (es : List (ℕ × X)) → T (is_sorted nat_cmp es) → ((q : ℕ) (y : X) → find nat_cmp q es ≡ Some y → p q y ≡ false) → all_in p es ≡ []
+  all_in_none [] s none = refl
+  all_in_none (e ∷ es) s none = ap (λ b. cond b (e.0 ∷ all_in p es) (all_in p es)) (none e.0 e.1 (find_here e es))
+      ∙ all_in_none es (and_right _ _ s) (λ q y at. none q y (find_later q e es (below_not_found e.0 q es y (and_left _ _ s) at) ∙ at))
 
 pub zero_first_where : {X : Type 0} (p : ℕ → X → Bool) (t : Table X) → ((q : ℕ) (y : X) → get t q ≡ Some y → q ≢ 0) → first_where p t ≡ 0 → NonePasses p t
 unfolding first_where get
-zero_first_where {X = X} p t pos zero q y at = go t.rows t.rising pos zero q y at where
-  go : (es : List (ℕ × X)) → T (is_sorted nat_cmp es) → ((q : ℕ) (y : X) → find nat_cmp q es ≡ Some y → q ≢ 0) → first_in p es ≡ 0 → (q : ℕ) (y : X) → find nat_cmp q es ≡ Some y → p q y ≡ false
-  go [] s pos zero q y at = cc
-  go (e ∷ es) s pos zero q y at =
+zero_first_where {X = X} p t pos zero q y at = passes_none t.rows t.rising pos zero q y at where
+  passes_none : (es : List (ℕ × X)) → T (is_sorted nat_cmp es) → ((q : ℕ) (y : X) → find nat_cmp q es ≡ Some y → q ≢ 0) → first_in p es ≡ 0 → (q : ℕ) (y : X) → find nat_cmp q es ≡ Some y → p q y ≡ false
+  passes_none [] s pos zero q y at = cc
+  passes_none (e ∷ es) s pos zero q y at =
       elim (p e.0 e.1) as (λ b. p e.0 e.1 ≡ b → cond b e.0 (first_in p es) ≡ 0 → p q y ≡ false) [
         | true ↦ λ t z. absurd (pos e.0 e.1 (find_here e es) z)
         | false ↦ λ t z. elim (eqb_tells q e.0) [
           | inl a ↦ ap (p q) (same_Some y e.1 (sym at ∙ ap (λ k. find nat_cmp k (e ∷ es)) a.1 ∙ find_here e es)) ∙ ap (λ k. p k e.1) a.1 ∙ t
-          | inr a ↦ go es (and_right _ _ s) (λ k x f. pos k x (find_later k e es (below_not_found e.0 k es x (and_left _ _ s) f) ∙ f)) z q y (sym (find_later q e es a.1) ∙ at)
+          | inr a ↦ passes_none es (and_right _ _ s) (λ k x f. pos k x (find_later k e es (below_not_found e.0 k es x (and_left _ _ s) f) ∙ f)) z q y (sym (find_later q e es a.1) ∙ at)
         ]
       ] refl zero
 
 pub none_all_where : {X : Type 0} (p : ℕ → X → Bool) (t : Table X) → all_where p t ≡ [] → NonePasses p t
 unfolding all_where get
-none_all_where {X = X} p t zero q y at = go t.rows t.rising zero q y at where
-  go : (es : List (ℕ × X)) → T (is_sorted nat_cmp es) → all_in p es ≡ [] → (q : ℕ) (y : X) → find nat_cmp q es ≡ Some y → p q y ≡ false
-  go [] s zero q y at = cc
-  go (e ∷ es) s zero q y at =
+none_all_where {X = X} p t zero q y at = absent_in_all t.rows t.rising zero q y at where
+  absent_in_all : (es : List (ℕ × X)) → T (is_sorted nat_cmp es) → all_in p es ≡ [] → (q : ℕ) (y : X) → find nat_cmp q es ≡ Some y → p q y ≡ false
+  absent_in_all [] s zero q y at = cc
+  absent_in_all (e ∷ es) s zero q y at =
       elim (p e.0 e.1) as (λ b. p e.0 e.1 ≡ b → cond b (e.0 ∷ all_in p es) (all_in p es) ≡ [] → p q y ≡ false) [
         | true ↦ λ t z. absurd (no_cons e.0 (all_in p es) z)
         | false ↦ λ t z. elim (eqb_tells q e.0) [
           | inl a ↦ ap (p q) (same_Some y e.1 (sym at ∙ ap (λ k. find nat_cmp k (e ∷ es)) a.1 ∙ find_here e es)) ∙ ap (λ k. p k e.1) a.1 ∙ t
-          | inr a ↦ go es (and_right _ _ s) z q y (sym (find_later q e es a.1) ∙ at)
+          | inr a ↦ absent_in_all es (and_right _ _ s) z q y (sym (find_later q e es a.1) ∙ at)
         ]
       ] refl zero
 
@@ -178,10 +178,10 @@ remove_turned t n k = same_table _ _ (λ q. grind (arith, nat_tests, tables))
 -- ---- rewritings
 
 pub map_alike : {X : Type 0} (g h : ℕ → X → X) (t : Table X) → ((q : ℕ) (x : X) → get t q ≡ Some x → g q x ≡ h q x) → map_rows g t ≡ map_rows h t
-map_alike {X} g h t e = same_table (map_rows g t) (map_rows h t) (λ q. get-map_rows g t q ∙ go q (get t q) refl ∙ sym (get-map_rows h t q)) where
-  go : (q : ℕ) (o : Option X) → get t q ≡ o → option_map (g q) o ≡ option_map (h q) o
-  go q None at = refl
-  go q (Some x) at = ap Some (e q x at)
+map_alike {X} g h t e = same_table (map_rows g t) (map_rows h t) (λ q. get-map_rows g t q ∙ row_alike q (get t q) refl ∙ sym (get-map_rows h t q)) where
+  row_alike : (q : ℕ) (o : Option X) → get t q ≡ o → option_map (g q) o ≡ option_map (h q) o
+  row_alike q None at = refl
+  row_alike q (Some x) at = ap Some (e q x at)
 
 pub all_in-map : {X : Type 0} (f : ℕ → X → X) (p : ℕ → X → Bool) (es : List (ℕ × X)) → all_in p (map_entries f es) ≡ all_in (λ q x. p q (f q x)) es
 all_in-map f p [] = refl
@@ -216,18 +216,18 @@ module _ {X : Type 0} where
 
   pub count-all_where : (p : ℕ → X → Bool) (t : Table X) (q : ℕ) → count q (all_where p t) ≡ passes p q (get t q)
   unfolding all_where get
-  count-all_where p t q = go t.rows t.rising where
-    go : (es : List (ℕ × X)) → T (is_sorted nat_cmp es) → count q (all_in p es) ≡ passes p q (find nat_cmp q es)
-    go [] s = refl
-    go (e ∷ es) s = elim (eqb_tells q e.0) [
+  count-all_where p t q = count_in_all t.rows t.rising where
+    count_in_all : (es : List (ℕ × X)) → T (is_sorted nat_cmp es) → count q (all_in p es) ≡ passes p q (find nat_cmp q es)
+    count_in_all [] s = refl
+    count_in_all (e ∷ es) s = elim (eqb_tells q e.0) [
       | inl a ↦
-          let rest : count q (all_in p es) ≡ 0 = go es (and_right _ _ s) ∙ ap (passes p q) (ap (λ k. find nat_cmp k es) a.1 ∙ not_below e.0 es (and_left _ _ s)) in
+          let rest : count q (all_in p es) ≡ 0 = count_in_all es (and_right _ _ s) ∙ ap (passes p q) (ap (λ k. find nat_cmp k es) a.1 ∙ not_below e.0 es (and_left _ _ s)) in
           elim (p e.0 e.1) as (λ b. p e.0 e.1 ≡ b → count q (cond b (e.0 ∷ all_in p es) (all_in p es)) ≡ passes p q (find nat_cmp q (e ∷ es))) [
             | true ↦ λ h. omega (arith, rest, ap (tick q) (sym a.1), tick_same q, ap (passes p q) (ap (λ k. find nat_cmp k (e ∷ es)) a.1 ∙ find_here e es), ap {B = ℕ} (λ k. cond (p k e.1) 1 0) a.1, ap {B = ℕ} (λ b. cond b 1 0) h)
             | false ↦ λ h. rest ∙ sym (ap (passes p q) (ap (λ k. find nat_cmp k (e ∷ es)) a.1 ∙ find_here e es) ∙ ap {B = ℕ} (λ k. cond (p k e.1) 1 0) a.1 ∙ ap {B = ℕ} (λ b. cond b 1 0) h)
           ] refl
       | inr a ↦
-          let rest : count q (all_in p es) ≡ passes p q (find nat_cmp q (e ∷ es)) = go es (and_right _ _ s) ∙ ap (passes p q) (sym (find_later q e es a.1)) in
+          let rest : count q (all_in p es) ≡ passes p q (find nat_cmp q (e ∷ es)) = count_in_all es (and_right _ _ s) ∙ ap (passes p q) (sym (find_later q e es a.1)) in
           elim (p e.0 e.1) as (λ b. count q (cond b (e.0 ∷ all_in p es) (all_in p es)) ≡ passes p q (find nat_cmp q (e ∷ es))) [
             | true ↦ omega (arith, rest, tick_other q e.0 a.1)
             | false ↦ rest

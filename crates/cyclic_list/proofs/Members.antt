@@ -74,13 +74,13 @@ count-filter p x (y ∷ ys) = grind (arith, count-filter p x ys)
 
 pub filter_passes : (p : ℕ → Bool) (x : ℕ) (xs : List ℕ) → IsIn x (filter p xs) → p x ≡ true
 filter_passes p x [] i = absurd (omega arith)
-filter_passes p x (y ∷ ys) i = go (p y) refl (filter_passes p x ys) i where
-  go : (b : Bool) → p y ≡ b → (IsIn x (filter p ys) → p x ≡ true) → IsIn x (cond b (y ∷ filter p ys) (filter p ys)) → p x ≡ true
-  go true e later i = elim (eqb_tells x y) [
+filter_passes p x (y ∷ ys) i = passes_where_kept (p y) refl (filter_passes p x ys) i where
+  passes_where_kept : (b : Bool) → p y ≡ b → (IsIn x (filter p ys) → p x ≡ true) → IsIn x (cond b (y ∷ filter p ys) (filter p ys)) → p x ≡ true
+  passes_where_kept true e later i = elim (eqb_tells x y) [
     | inl s ↦ ap p s.1 ∙ e
     | inr s ↦ later (omega (arith, i, tick_other x y s.1))
   ]
-  go false e later i = later i
+  passes_where_kept false e later i = later i
 
 -- ---- lengths
 

@@ -42,7 +42,7 @@ lone_items (cycle hs) v e = absurd e
 -- a loop that is not there has no half-edge
 pub absent_items : (M : Model) (l : ℕ) → has M.loops l ≡ false → items_of (content M l) ≡ []
 unfolding content
-absent_items M l none = go _ none where
-  go : (o : Option LoopRow) → is_some o ≡ false → items_of (unwrap_or o no_loop).content ≡ []
-  go None e = refl
-  go (Some row) e = absurd (true≢false e)
+absent_items M l none = items_of_none _ none where
+  items_of_none : (o : Option LoopRow) → is_some o ≡ false → items_of (unwrap_or o no_loop).content ≡ []
+  items_of_none None e = refl
+  items_of_none (Some row) e = absurd (true≢false e)

@@ -29,10 +29,10 @@ select b (l ∷ ls) = cond (nat_eq (first_letter l) b) (l ∷ select b ls) (sele
 
 select-append : (b : ℕ) (ls ms : List Line) → select b (ls ++ ms) ≡ select b ls ++ select b ms
 select-append b [] ms = refl
-select-append b (l ∷ ls) ms = go (nat_eq (first_letter l) b) (select-append b ls ms) where
-  go : (c : Bool) → select b (ls ++ ms) ≡ select b ls ++ select b ms → cond c (l ∷ select b (ls ++ ms)) (select b (ls ++ ms)) ≡ cond c (l ∷ select b ls) (select b ls) ++ select b ms
-  go true e = ap (λ (ks : List Line). l ∷ ks) e
-  go false e = e
+select-append b (l ∷ ls) ms = selected_first (nat_eq (first_letter l) b) (select-append b ls ms) where
+  selected_first : (c : Bool) → select b (ls ++ ms) ≡ select b ls ++ select b ms → cond c (l ∷ select b (ls ++ ms)) (select b (ls ++ ms)) ≡ cond c (l ∷ select b ls) (select b ls) ++ select b ms
+  selected_first true e = ap (λ (ks : List Line). l ∷ ks) e
+  selected_first false e = e
 
 both : (b : ℕ) (ls ms ps qs : List Line) → select b ls ≡ ps → select b ms ≡ qs → select b (ls ++ ms) ≡ ps ++ qs
 both b ls ms ps qs e f = select-append b ls ms ∙ (λ i. e i ++ f i)
@@ -45,16 +45,16 @@ first_is M Edge n = refl
 first_is M Vertex n = refl
 
 select_map : (M : Model) (b : ℕ) (k : Kind) (ns : List ℕ) → select b (map (line M k) ns) ≡ cond (nat_eq (letter k) b) (map (line M k) ns) []
-select_map M b k [] = go (nat_eq (letter k) b) where
-  go : (c : Bool) → ◌≡◌ {A = List Line} [] (cond c [] [])
-  go true = refl
-  go false = refl
+select_map M b k [] = nothing_either_way (nat_eq (letter k) b) where
+  nothing_either_way : (c : Bool) → ◌≡◌ {A = List Line} [] (cond c [] [])
+  nothing_either_way true = refl
+  nothing_either_way false = refl
 select_map M b k (n ∷ ns) =
     ap (λ x. cond (nat_eq x b) (line M k n ∷ select b (map (line M k) ns)) (select b (map (line M k) ns))) (first_is M k n)
-    ∙ go (nat_eq (letter k) b) (select_map M b k ns) where
-      go : (c : Bool) → select b (map (line M k) ns) ≡ cond c (map (line M k) ns) [] → cond c (line M k n ∷ select b (map (line M k) ns)) (select b (map (line M k) ns)) ≡ cond c (line M k n ∷ map (line M k) ns) []
-      go true e = ap (λ (ls : List Line). line M k n ∷ ls) e
-      go false e = e
+    ∙ all_or_none (nat_eq (letter k) b) (select_map M b k ns) where
+      all_or_none : (c : Bool) → select b (map (line M k) ns) ≡ cond c (map (line M k) ns) [] → cond c (line M k n ∷ select b (map (line M k) ns)) (select b (map (line M k) ns)) ≡ cond c (line M k n ∷ map (line M k) ns) []
+      all_or_none true e = ap (λ (ls : List Line). line M k n ∷ ls) e
+      all_or_none false e = e
 
 part : Model → ℕ → Kind → List Line
 part M b k = cond (nat_eq (letter k) b) (kind_lines M k) []

@@ -72,10 +72,10 @@ module _ (M : Model) (sound : Sound M) where
 
   pub point_in_range : (v : ℕ) → Has M.vertices v → is_in_range (point_of M v) ≡ true
   unfolding point_of
-  point_in_range v there = go (get M.vertices v) refl there where
-    go : (o : Option Point) → get M.vertices v ≡ o → is_some o ≡ true → is_in_range (unwrap_or o no_point) ≡ true
-    go None e t = absurd (true≢false (sym t))
-    go (Some p) e t = sound.points_fit v p e
+  point_in_range v there = row_in_range (get M.vertices v) refl there where
+    row_in_range : (o : Option Point) → get M.vertices v ≡ o → is_some o ≡ true → is_in_range (unwrap_or o no_point) ≡ true
+    row_in_range None e t = absurd (true≢false (sym t))
+    row_in_range (Some p) e t = sound.points_fit v p e
 
   clean_content : (l : ℕ) → Has M.loops l → (c : LoopContent) → content M l ≡ c → are_clean (content_words c) ≡ true
   clean_content l there (lone v) e = and_from (is_clean (decimal v)) true (clean_decimal v (vertex_small v (sound.lone_at_vertex l v e))) refl

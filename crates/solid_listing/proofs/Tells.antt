@@ -38,26 +38,26 @@ lines_told M N one two e = unbarred (lines M) (lines N) (lines_good M one) (line
 
 -- tables with the same numbers and rows
 same_rows : {X : Type 0} (s t : Table X) → ((q : ℕ) → has s q ≡ has t q) → ((q : ℕ) (x y : X) → get s q ≡ Some x → get t q ≡ Some y → x ≡ y) → s ≡ t
-same_rows {X = X} s t numbers rows = same_table s t (λ q. go (get s q) (get t q) (numbers q) (rows q)) where
-  go : (o p : Option X) → is_some o ≡ is_some p → ((x y : X) → o ≡ Some x → p ≡ Some y → x ≡ y) → o ≡ p
-  go None None e r = refl
-  go None (Some y) e r = absurd (true≢false (sym e))
-  go (Some x) None e r = absurd (true≢false e)
-  go (Some x) (Some y) e r = ap Some (r x y refl refl)
+same_rows {X = X} s t numbers rows = same_table s t (λ q. same_option (get s q) (get t q) (numbers q) (rows q)) where
+  same_option : (o p : Option X) → is_some o ≡ is_some p → ((x y : X) → o ≡ Some x → p ≡ Some y → x ≡ y) → o ≡ p
+  same_option None None e r = refl
+  same_option None (Some y) e r = absurd (true≢false (sym e))
+  same_option (Some x) None e r = absurd (true≢false e)
+  same_option (Some x) (Some y) e r = ap Some (r x y refl refl)
 
 -- a vertex of a lone loop is no half-edge
 no_half : (v : ℕ) (hs : List ℕ) → content_words (lone v) ≡ map half_word hs → ⊥
 no_half v [] e = cc
 no_half v (h ∷ hs) e =
     let w : codes "at" ≡ half_word h = cc in
-    go (is_first h) (ap first_byte w) where
+    no_sign (is_first h) (ap first_byte w) where
       first_byte : Word → ℕ
       first_byte [] = 0
       first_byte (b ∷ bs) = b
 
-      go : (b : Bool) → ◌≡◌ {A = ℕ} 97 (cond b 43 45) → ⊥
-      go true s = omega arith
-      go false s = omega arith
+      no_sign : (b : Bool) → ◌≡◌ {A = ℕ} 97 (cond b 43 45) → ⊥
+      no_sign true s = omega arith
+      no_sign false s = omega arith
 
 three : (a b c : Bool) → a && b && c ≡ true → b ≡ true
 three true true c e = refl

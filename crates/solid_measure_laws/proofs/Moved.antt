@@ -126,13 +126,13 @@ module _ (M : Model) (d : Point) where
 
 -- a rising list has once what it lists
 count_listed : (q : ℕ) (ns : List ℕ) → strictly_rises ns ≡ true → count q ns ≡ cond (lists ns q) 1 0
-count_listed q ns up = go (lists ns q) refl where
+count_listed q ns up = once_or_not (lists ns q) refl where
   once : (n : ℕ) → n ≤ 1 → 1 ≤ n → n ≡ 1
   once n l m = omega arith
 
-  go : (b : Bool) → lists ns q ≡ b → count q ns ≡ cond b 1 0
-  go true e = once (count q ns) (counted_once q ns up) (IsIn-from_listed q ns e)
-  go false e = none_counted q ns e
+  once_or_not : (b : Bool) → lists ns q ≡ b → count q ns ≡ cond b 1 0
+  once_or_not true e = once (count q ns) (counted_once q ns up) (IsIn-from_listed q ns e)
+  once_or_not false e = none_counted q ns e
 
 -- the half-edges of some faces
 abbrev pub halves_in : Model → List ℕ → List ℕ
@@ -215,10 +215,10 @@ module _ (M : Model) (sound : Sound M) where
 
     -- both halves of an edge stand in the faces of a solid, or none does
     both_halves : (x : ℕ) → count (mate x) (halves_in M (faces_of M s)) ≡ count x (halves_in M (faces_of M s))
-    both_halves x = go (has_half M x) refl where
-      go : (b : Bool) → has_half M x ≡ b → count (mate x) (halves_in M (faces_of M s)) ≡ count x (halves_in M (faces_of M s))
-      go true e = half_counted (mate x) (mates_there x ∙ e) ∙ ap (λ k. cond (nat_eq k s) 1 0) (sym (sound.one_solid x e)) ∙ sym (half_counted x e)
-      go false e = none_there (mate x) (faces_of M s) (mates_there x ∙ e) ∙ sym (none_there x (faces_of M s) e)
+    both_halves x = counted_alike (has_half M x) refl where
+      counted_alike : (b : Bool) → has_half M x ≡ b → count (mate x) (halves_in M (faces_of M s)) ≡ count x (halves_in M (faces_of M s))
+      counted_alike true e = half_counted (mate x) (mates_there x ∙ e) ∙ ap (λ k. cond (nat_eq k s) 1 0) (sym (sound.one_solid x e)) ∙ sym (half_counted x e)
+      counted_alike false e = none_there (mate x) (faces_of M s) (mates_there x ∙ e) ∙ sym (none_there x (faces_of M s) e)
 
     pub normals_close : normals_in M (faces_of M s) ≡ origin
     normals_close =

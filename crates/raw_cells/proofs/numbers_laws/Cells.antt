@@ -200,7 +200,7 @@ module _ {X : Type 0} (cells wide : List (Option X)) (words new : List ℕ) (roo
   }
 
   pub rows_widened : (q : ℕ) → row_at (rows_of (uses new) (take upto wide)) q ≡ row_at (rows_of (uses words) (take room cells)) q
-  rows_widened q = row_is wide new upto widened q ∙ go (uses new q) (λ e. w.same q (within_room q e) e) ∙ ap (λ b. cond b (row_at cells q) None) (w.uses_same q) ∙ sym (row_is cells words room w.are q) where
-    go : (b : Bool) → (b ≡ true → row_at wide q ≡ row_at cells q) → cond b (row_at wide q) None ≡ cond b (row_at cells q) None
-    go true e = e refl
-    go false e = refl
+  rows_widened q = row_is wide new upto widened q ∙ written_alike (uses new q) (λ e. w.same q (within_room q e) e) ∙ ap (λ b. cond b (row_at cells q) None) (w.uses_same q) ∙ sym (row_is cells words room w.are q) where
+    written_alike : (b : Bool) → (b ≡ true → row_at wide q ≡ row_at cells q) → cond b (row_at wide q) None ≡ cond b (row_at cells q) None
+    written_alike true e = e refl
+    written_alike false e = refl

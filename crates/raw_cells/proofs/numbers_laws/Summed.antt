@@ -18,10 +18,10 @@ pub none_in_word : (words : List ℕ) (i k : ℕ) → has_bits words i ≡ false
 none_in_word words i k none at = uses_none words k (no_bits (word_at words (k / 64)) (ap (has_bits words) at ∙ none))
 
 pub word_of : (words : List ℕ) (n : ℕ) → uses words n ≡ true → has_bits words (n / 64) ≡ true
-word_of words n h = go (has_bits words (n / 64)) refl where
-  go : (b : Bool) → has_bits words (n / 64) ≡ b → b ≡ true
-  go true e = refl
-  go false e = absurd (true≢false (sym h ∙ none_in_word words (n / 64) n e refl))
+word_of words n h = has_some (has_bits words (n / 64)) refl where
+  has_some : (b : Bool) → has_bits words (n / 64) ≡ b → b ≡ true
+  has_some true e = refl
+  has_some false e = absurd (true≢false (sym h ∙ none_in_word words (n / 64) n e refl))
 
 -- a word that has bits has a number in use
 number_of : (words : List ℕ) (i : ℕ) → word_at words i < 2 ^ 64 → 0 < word_at words i → (k : ℕ) × (k / 64 ≡ i) × (uses words k ≡ true)
@@ -108,10 +108,10 @@ module _ (words summaries : List ℕ) (S : AreSummed words summaries) where
 
     module _ (goes : (q : ℕ) → uses new q ≡ cond (nat_eq q n) false (uses words q)) where
       was_there : (q : ℕ) → uses new q ≡ true → uses words q ≡ true
-      was_there q h = go (nat_eq q n) (sym (goes q) ∙ h) where
-        go : (b : Bool) → cond b false (uses words q) ≡ true → uses words q ≡ true
-        go true e = absurd (true≢false (sym e))
-        go false e = e
+      was_there q h = not_taken (nat_eq q n) (sym (goes q) ∙ h) where
+        not_taken : (b : Bool) → cond b false (uses words q) ≡ true → uses words q ≡ true
+        not_taken true e = absurd (true≢false (sym e))
+        not_taken false e = e
 
       pub take-kept : word_at new (n / 64) < 2 ^ 64 → 0 < word_at new (n / 64) → AreSummed new summaries
       take-kept fits some =
