@@ -5,7 +5,7 @@ pub use Rattle.euler_laws.proofs.Sizes.{loops_are, mapped_none, rises_apart, ris
 pub use Rattle.euler_laws.proofs.faces.Kfmrh.{KillGoes, MakeGoes, g_gone, kfmrh_accepted, kfmrh_goes, kill_face_else, kill_face_l, kill_outer, kill_same, kill_solid, l_face, mfkrh_accepted, mfkrh_goes, sound-kfmrh}
 pub use Rattle.euler_laws.proofs.faces.RingIn.{RingGoes, ring_in_accepted, ring_in_goes, sound-ring_in}
 pub use Rattle.euler_laws.proofs.faces.RingOut.{outer_goes_so, ring_out_goes}
-pub use Rattle.euler_laws.proofs.faces.Solids.{KvfsGoes, kvfs_goes, mvfs_accepted, mvfs_goes}
+pub use Rattle.euler_laws.proofs.faces.Solids.{KvfsGoes, faces_one, kvfs_goes, mvfs_accepted, mvfs_goes}
 pub use Rattle.euler_laws.proofs.kemr.Kemr.{CornerAt, MekrGoes, corner_here, kemr_goes, mekr_accepted}
 pub use Rattle.euler_laws.proofs.kemr.KemrSound.{KemrGoes}
 pub use Rattle.euler_laws.proofs.kev.Kev.{kev_accepted, kev_goes}
@@ -15,10 +15,10 @@ pub use Rattle.euler_laws.proofs.mef.KefSound.{KefGoes}
 pub use Rattle.euler_laws.proofs.mef.Mef.{mef_goes}
 pub use Rattle.euler_laws.proofs.mef.MefSound.{MefGoes}
 pub use Rattle.euler_laws.proofs.mef.MefUndo.{count-mef_new, count-mef_old, loops-mef}
-pub use Rattle.euler_laws.proofs.mekr.MekrSpots.{JoinGoes, count_spot, join_goes, ring_is}
+pub use Rattle.euler_laws.proofs.mekr.MekrSpots.{JoinGoes, MekrHolds, count_spot, join_goes, mekr_holds, ring_is}
 pub use Rattle.euler_laws.proofs.merge.Merge.{MergeGoes, OtherSolids, joined_same, joined_t, merge_accepted, merge_goes, merge_other, solid_new, sound-merge}
-pub use Rattle.euler_laws.proofs.merge.Part.{PartGoes, face_in, in_faces, part_accepted}
-pub use Rattle.euler_laws.proofs.mev.Mev.{lone_accepted, lone_goes, mev_accepted, mev_goes, mixed_first, mixed_second}
+pub use Rattle.euler_laws.proofs.merge.Part.{PartGoes, face_in, faces_known-there, in_faces, listed_in_solid, part_accepted, part_goes}
+pub use Rattle.euler_laws.proofs.mev.Mev.{MevHolds, lone_accepted, lone_goes, mev_accepted, mev_goes, mev_holds, mixed_first, mixed_second}
 pub use Rattle.euler_laws.proofs.mev.MevSound.{MevGoes, tails_of_row, walks}
 pub use Rattle.euler_laws.proofs.shared.Arcs.{arc_is, halves_of_edge}
 pub use Rattle.euler_laws.proofs.shared.Bounds.{half_below, ring_number, steps, steps_are}

@@ -3,7 +3,7 @@ use Rattle.std.proofs.Common.{◌≡◌, ◌≢◌, ℕ, Some, None, is_some, Is
 use Rattle.std.proofs.lemmas.Bool.Decides.{eqb_tells}
 use Rattle.std.proofs.lemmas.Bool.{not-true, eqb-false}
 use Rattle.euler_operators.specs.Table as table
-use Rattle.euler_operators.specs.Common.{map_rows, Model, face_of, solid_of, outer, is_number, Sound, Has, AllHold, first_false, conditions, effect, inverse, kfmrh, mfkrh, loop_to_face}
+use Rattle.euler_operators.specs.Common.{map_rows, Model, face_of, solid_of, outer, is_number, Sound, Has, first_false, conditions, effect, inverse, kfmrh, mfkrh, loop_to_face}
 use Rattle.euler_operators.proofs.Common.{remove-put, no_row, row_elsewhere, solid_row, outer_row, nat_eq_itself}
 use Rattle.euler_operators.specs.declared.Op.TheVariants.{Kfmrh, Mfkrh}
 use Rattle.euler_laws.proofs.shared.Goes.{◌also◌, all_hold, none_refuses, not_false, taken}
@@ -123,8 +123,8 @@ module _ (M : Model) (sound : Sound M) (l f : ℕ) (goes : MakeGoes M l f) where
   pub not_f : (p : ℕ) → Has M.faces p → p ≢ f
   not_f p t = row_elsewhere M.faces p f t goes.face_free
 
-  on : (p : ℕ) → Has M.faces p → Has P.faces p
-  on p t = has_on make_set.rows p (not_f p t) t
+  face_on : (p : ℕ) → Has M.faces p → Has P.faces p
+  face_on p t = has_on make_set.rows p (not_f p t) t
 
   f_there : Has P.faces f
   f_there = ap is_some (row_here make_set.rows)
@@ -136,7 +136,7 @@ module _ (M : Model) (sound : Sound M) (l f : ℕ) (goes : MakeGoes M l f) where
   unfolding mfkrh
   sound-mfkrh = sound-moves make_moves sound (record {
     home = f_there;
-    kept = λ q t a. on (face_of M q) (sound.loops_of_faces q t);
+    kept = λ q t a. face_on (face_of M q) (sound.loops_of_faces q t);
     outers = λ p t. elim (eqb_tells p f) [
       | inl e ↦ inl (ap (outer P) e.1 ∙ outer_row P f _ (row_here make_set.rows), e.1)
       | inr e ↦ let b = has_back make_set.rows p e.1 t in inr (old_outer make_moves sound p b (outer_other make_set p e.1) (never_outer M sound l goes.is_ring p b))
@@ -145,7 +145,7 @@ module _ (M : Model) (sound : Sound M) (l f : ℕ) (goes : MakeGoes M l f) where
       | inl e ↦ subst (Has M.solids) (sym (ap (solid_of P) e.1 ∙ solid_row P f _ (row_here make_set.rows))) (sound.faces_of_solids _ home)
       | inr e ↦ subst (Has M.solids) (sym (solid_other make_set p e.1)) (sound.faces_of_solids p (has_back make_set.rows p e.1 t))
     ];
-    has_face = λ s t. let x = sound.solid_has_face s t in (x.0, on x.0 x.1, solid_other make_set x.0 (not_f x.0 x.1) ∙ x.2);
+    has_face = λ s t. let x = sound.solid_has_face s t in (x.0, face_on x.0 x.1, solid_other make_set x.0 (not_f x.0 x.1) ∙ x.2);
     solid_new = solid_row P f _ (row_here make_set.rows);
     solid_kept = λ q t a. solid_other make_set (face_of M q) (not_f _ (sound.loops_of_faces q t));
     fit = fit-put M.faces sound.faces_fit f _ goes.face_fits;
@@ -153,7 +153,7 @@ module _ (M : Model) (sound : Sound M) (l f : ℕ) (goes : MakeGoes M l f) where
 
   pub kill_goes : KillGoes P (face_of M l) f
   kill_goes = record {
-    f_there = on _ home;
+    f_there = face_on _ home;
     g_there = f_there;
     apart = not_f _ home;
     one_solid = solid_other make_set _ (not_f _ home) ∙ sym (solid_row P f _ (row_here make_set.rows));
@@ -175,15 +175,13 @@ module _ (M : Model) (sound : Sound M) (l f : ℕ) (goes : MakeGoes M l f) where
 
 pub kfmrh_goes : (M : Model) (f g : ℕ) → first_false M (Kfmrh f g) ≡ None → KillGoes M f g
 unfolding first_false conditions
-kfmrh_goes M f g e = named (all_hold (conditions M (Kfmrh f g)) e) where
-  named : AllHold (conditions M (Kfmrh f g)) → KillGoes M f g
-  named (_, (_, (f_known, (g_known, (faces_differ, (one_solid, (no_rings, _))))))) = record {
-    f_there = f_known;
-    g_there = g_known;
-    apart = eqb-false _ _ (not-true _ faces_differ);
-    one_solid = eqb-true _ _ one_solid;
-    no_rings = no_rings_means M g (not-true _ no_rings);
-  }
+kfmrh_goes M f g e = let (_, (_, (f_known, (g_known, (faces_differ, (one_solid, (no_rings, _))))))) = all_hold (conditions M (Kfmrh f g)) e in record {
+  f_there = f_known;
+  g_there = g_known;
+  apart = eqb-false _ _ (not-true _ faces_differ);
+  one_solid = eqb-true _ _ one_solid;
+  no_rings = no_rings_means M g (not-true _ no_rings);
+}
 
 pub kfmrh_accepted : (N : Model) (f g : ℕ) → Sound N → KillGoes N f g → first_false N (Kfmrh f g) ≡ None
 unfolding first_false conditions
@@ -200,14 +198,12 @@ kfmrh_accepted N f g sound goes = none_refuses (conditions N (Kfmrh f g)) (
 
 pub mfkrh_goes : (M : Model) (l f : ℕ) → first_false M (Mfkrh l f) ≡ None → MakeGoes M l f
 unfolding first_false conditions
-mfkrh_goes M l f e = named (all_hold (conditions M (Mfkrh l f)) e) where
-  named : AllHold (conditions M (Mfkrh l f)) → MakeGoes M l f
-  named (_, (face_number, (l_known, (face_free, (l_ring, _))))) = record {
-    l_there = l_known;
-    face_free = no_row _ (not-true _ face_free);
-    is_ring = is_ring M l l_ring;
-    face_fits = face_number;
-  }
+mfkrh_goes M l f e = let (_, (face_number, (l_known, (face_free, (l_ring, _))))) = all_hold (conditions M (Mfkrh l f)) e in record {
+  l_there = l_known;
+  face_free = no_row _ (not-true _ face_free);
+  is_ring = is_ring M l l_ring;
+  face_fits = face_number;
+}
 
 pub mfkrh_accepted : (N : Model) (l f : ℕ) → Sound N → MakeGoes N l f → first_false N (Mfkrh l f) ≡ None
 unfolding first_false conditions

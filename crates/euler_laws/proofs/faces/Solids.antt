@@ -2,7 +2,7 @@
 use Rattle.std.proofs.Common.{◌≡◌, ℕ, true, false, not, nat_eq, ◌||◌, List, [], ◌∷◌, Some, None, unwrap_or, is_some, refl, sym, ap, ◌∙◌, subst, arith, inl, inr, true≢false, eq-eqb, eqb-true}
 use Rattle.std.proofs.lemmas.Bool.Decides.{nat_tests, eqb_tells}
 use Rattle.std.proofs.lemmas.Bool.{not-true, not-false}
-use Rattle.euler_operators.specs.Common.{Point, Model, lone, no_face, content, face_of, solid_of, outer, point_of, faces_of, rings_of, Sound, Has, AllHold, first_false, conditions, bare_face, has_rings, is_empty, is_lone, lone_vertex, lists, effect, inverse, mvfs, kvfs_at, head_or_zero}
+use Rattle.euler_operators.specs.Common.{Point, Model, lone, no_face, content, face_of, solid_of, outer, point_of, faces_of, rings_of, Sound, Has, first_false, conditions, bare_face, has_rings, is_empty, is_lone, lone_vertex, lists, effect, inverse, mvfs, kvfs_at, head_or_zero}
 use Rattle.euler_operators.specs.Table as table
 use Rattle.euler_operators.proofs.Common.{put-remove, remove-put, no_row, row_some, get-remove_here, and_first, and_second}
 use Rattle.euler_operators.specs.declared.Op.TheVariants.{Mvfs, Kvfs}
@@ -111,7 +111,7 @@ module _ {M : Model} (sound : Sound M) {s f l v : ℕ} {p : Point} (goes : MvfsG
 -- ---- conditions
 
 -- the one face of a solid is the first of its list, and all of it
-faces_one : (M : Model) → (s f : ℕ) → KvfsGoes M s f → faces_of M s ≡ f ∷ []
+pub faces_one : (M : Model) → (s f : ℕ) → KvfsGoes M s f → faces_of M s ≡ f ∷ []
 unfolding solid_of
 faces_one M s f goes = grind (arith, one_listed (faces_of M s) f, all_where-rises, passes_listed, listed_passes)
 
@@ -135,7 +135,7 @@ kvfs_facts M s (f ∷ []) is there e =
 
 pub kvfs_goes : (M : Model) (s : ℕ) → first_false M (Kvfs s) ≡ None → KvfsGoes M s (head_or_zero (faces_of M s))
 unfolding first_false conditions
-kvfs_goes M s e = let w = all_hold (conditions M (Kvfs s)) e in kvfs_facts M s (faces_of M s) refl w.1.0 w.1.1.0
+kvfs_goes M s e = let (_, (known, (bare, _))) = all_hold (conditions M (Kvfs s)) e in kvfs_facts M s (faces_of M s) refl known bare
 
 ringless : (N : Model) (f : ℕ) → has_rings N f ≡ false → is_empty (rings_of N f) ≡ true
 unfolding has_rings
@@ -148,19 +148,17 @@ kvfs_accepted N s f sound goes =
 
 pub mvfs_goes : (M : Model) (s f l v : ℕ) (p : Point) → first_false M (Mvfs s f l v p) ≡ None → MvfsGoes M s f l v p
 unfolding first_false conditions
-mvfs_goes M s f l v p e = named (all_hold (conditions M (Mvfs s f l v p)) e) where
-  named : AllHold (conditions M (Mvfs s f l v p)) → MvfsGoes M s f l v p
-  named (solid_number, (face_number, (loop_number, (vertex_number, (solid_free, (face_free, (loop_free, (vertex_free, (in_range, _))))))))) = record {
-    solid_free = no_row _ (not-true _ solid_free);
-    face_free = no_row _ (not-true _ face_free);
-    loop_free = no_row _ (not-true _ loop_free);
-    vertex_free = no_row _ (not-true _ vertex_free);
-    solid_fits = solid_number;
-    face_fits = face_number;
-    loop_fits = loop_number;
-    vertex_fits = vertex_number;
-    point_fits = in_range;
-  }
+mvfs_goes M s f l v p e = let (solid_number, (face_number, (loop_number, (vertex_number, (solid_free, (face_free, (loop_free, (vertex_free, (in_range, _))))))))) = all_hold (conditions M (Mvfs s f l v p)) e in record {
+  solid_free = no_row _ (not-true _ solid_free);
+  face_free = no_row _ (not-true _ face_free);
+  loop_free = no_row _ (not-true _ loop_free);
+  vertex_free = no_row _ (not-true _ vertex_free);
+  solid_fits = solid_number;
+  face_fits = face_number;
+  loop_fits = loop_number;
+  vertex_fits = vertex_number;
+  point_fits = in_range;
+}
 
 -- mvfs keeps a sound model sound
 pub mvfs_accepted : (N : Model) (s f l v : ℕ) (p : Point) → MvfsGoes N s f l v p → first_false N (Mvfs s f l v p) ≡ None

@@ -2,7 +2,7 @@
 use Rattle.std.proofs.Common.{◌≡◌, ◌≢◌, ℕ, ◌≤◌, Bool, true, not, nat_eq, ◌&&◌, List, [], ◌∷◌, ◌++◌, Some, None, is_some, IsTrue, refl, sym, ap, ◌∙◌, subst, arith, ne_eqb, eq-eqb, eqb-true}
 use Rattle.std.proofs.lemmas.Bool.Decides.{nat_tests}
 use Rattle.std.proofs.lemmas.Bool.{not-true}
-use Rattle.euler_operators.specs.Common.{count, IsIn, IsApart, head_or, canonical, rotate_to, between, beyond, HalfEdge, Corner, code, half, mate, edge_of, Model, cycle, LoopRow, items_of, tail, loop_of, content, cycle_of, face_of, outer, is_number, is_ring_of, Sound, Has, HasHalf, AllHold, first_false, conditions, corner_tail, corner_loop, corner_list, corner_known, corner_lone, corner_number, is_lone, effect, inverse, kemr, mekr, corner_of, cycle_or_lone, edge_row}
+use Rattle.euler_operators.specs.Common.{count, IsIn, IsApart, head_or, canonical, rotate_to, between, beyond, HalfEdge, Corner, code, half, mate, edge_of, Model, cycle, LoopRow, items_of, tail, loop_of, content, cycle_of, face_of, outer, is_number, is_ring_of, Sound, Has, HasHalf, first_false, conditions, corner_tail, corner_loop, corner_list, corner_known, corner_lone, corner_number, is_lone, effect, inverse, kemr, mekr, corner_of, cycle_or_lone, edge_row}
 use Rattle.euler_operators.proofs.Common.{tick_same, rotate_to_canonical, canonical-rotate_to, ring_split, edge_of-code, code-half, mate-mate, mate_other, two_undone, no_row, row_of}
 use Rattle.euler_operators.specs.Table as table
 use Rattle.euler_operators.specs.declared.Op.TheVariants.{Kemr, Mekr}
@@ -75,14 +75,12 @@ mekr_accepted N c d h q l u w ys xs goes = none_refuses (conditions N (Mekr c d 
 
 pub kemr_goes : (M : Model) (h : HalfEdge) (l : ℕ) → first_false M (Kemr h l) ≡ None → KemrGoes M (code h) l
 unfolding first_false conditions
-kemr_goes M h l e = named (all_hold (conditions M (Kemr h l)) e) where
-  named : AllHold (conditions M (Kemr h l)) → KemrGoes M (code h) l
-  named (_, (loop_number, (known, (loop_free, (one_loop, _))))) = record {
-    h_there = half_of M h known;
-    loop_free = no_row _ (not-true _ loop_free);
-    one_loop = eqb-true _ _ one_loop;
-    loop_fits = loop_number;
-  }
+kemr_goes M h l e = let (_, (loop_number, (known, (loop_free, (one_loop, _))))) = all_hold (conditions M (Kemr h l)) e in record {
+  h_there = half_of M h known;
+  loop_free = no_row _ (not-true _ loop_free);
+  one_loop = eqb-true _ _ one_loop;
+  loop_fits = loop_number;
+}
 
 module _ {M : Model} (sound : Sound M) {h l : ℕ} (goes : KemrGoes M h l) where
   abbrev pub N : Model

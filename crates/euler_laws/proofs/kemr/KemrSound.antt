@@ -47,8 +47,8 @@ module _ (M : Model) (sound : Sound M) (h l : ℕ) (goes : KemrGoes M h l) where
   abbrev pub F : ℕ → ℕ
   F = after_kef (after M) h m
 
-  pub hm : h ≢ m
-  hm = mate_other h
+  pub mate_apart : h ≢ m
+  mate_apart = mate_other h
 
   pub m_there : HasHalf M m
   m_there = mate_there M h goes.h_there
@@ -63,15 +63,15 @@ module _ (M : Model) (sound : Sound M) (h l : ℕ) (goes : KemrGoes M h l) where
   cyc = cycle_sound M sound h goes.h_there
 
   pub count_xs : (x : ℕ) → count x X + count x Y + tick x h + tick x m ≡ count x xs
-  count_xs x = omega (arith, count-rotate_to x h xs, ap (count x) (ring_split h m xs h_in m_in hm), count-append x (h ∷ X) (m ∷ Y))
+  count_xs x = omega (arith, count-rotate_to x h xs, ap (count x) (ring_split h m xs h_in m_in mate_apart), count-append x (h ∷ X) (m ∷ Y))
 
   pub after_h : after M h ≡ head_or m X
   unfolding after
-  after_h = after_first xs cyc.apart h m h_in m_in hm
+  after_h = after_first xs cyc.apart h m h_in m_in mate_apart
 
   pub after_m : after M m ≡ head_or h Y
   unfolding after
-  after_m = ap (λ q. successor q m) (ap (λ q. items_of (content M q)) (sym goes.one_loop)) ∙ after_second xs cyc h m hm h_in m_in
+  after_m = ap (λ q. successor q m) (ap (λ q. items_of (content M q)) (sym goes.one_loop)) ∙ after_second xs cyc h m mate_apart h_in m_in
 
   h_out : count h Y ≡ 0
   h_out = omega (arith, count_xs h, tick_same h, cyc.apart h)
@@ -142,7 +142,7 @@ module _ (M : Model) (sound : Sound M) (h l : ℕ) (goes : KemrGoes M h l) where
   in_X x i = in-holds x (content N l) (subst (λ c. IsIn x (items_of c)) (sym content_l) (omega (arith, i, count_or_lone x X w)))
 
   parted : IsRing F Y × IsRing F X
-  parted = let t = IsRing-kemr (after M) h m xs cyc.apart h_in m_in hm (light M sound r).1 in
+  parted = let t = IsRing-kemr (after M) h m xs cyc.apart h_in m_in mate_apart (light M sound r).1 in
       (IsRing-same F (canonical Y) Y (IsRotation-sym Y (canonical Y) (canonical-rotates Y)) t.0, IsRing-same F (canonical X) X (IsRotation-sym X (canonical X) (canonical-rotates X)) t.1)
 
   two_loops : (q : ℕ) → OneOf r l q → Has N.loops q → IsLoop F (content N q)

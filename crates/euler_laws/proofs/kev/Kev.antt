@@ -2,7 +2,7 @@
 use Rattle.std.proofs.Common.{◌≡◌, ◌≢◌, ℕ, Bool, true, false, cond, nat_eq, ◌&&◌, None, refl, ap, arith, ne_eqb, eqb-true}
 use Rattle.std.proofs.lemmas.Bool.Decides.{eqb_tells}
 use Rattle.std.proofs.lemmas.Bool.{not-true}
-use Rattle.euler_operators.specs.Common.{Point, HalfEdge, Corner, At, Lone, code, half, mate, Model, tail, loop_of, content, after, point_of, Sound, AllHold, first_false, conditions, lone_vertex, effect, inverse, mev_at, mev_lone, kev, kev_corner, kev_corner_mate}
+use Rattle.euler_operators.specs.Common.{Point, HalfEdge, Corner, At, Lone, code, half, mate, Model, tail, loop_of, content, after, point_of, Sound, first_false, conditions, lone_vertex, effect, inverse, mev_at, mev_lone, kev, kev_corner, kev_corner_mate}
 use Rattle.euler_operators.proofs.Common.{none_but, edge_of-code, code-half}
 use Rattle.euler_operators.specs.declared.Op.TheVariants.{Mev, Kev}
 use Rattle.euler_laws.proofs.shared.Goes.{all_hold, none_refuses}
@@ -24,13 +24,11 @@ use Rattle.euler_laws.proofs.shared.Lawful.{IsLawful}
 
 pub kev_goes : (M : Model) (h : HalfEdge) → Sound M → first_false M (Kev h) ≡ None → KevGoes M (code h)
 unfolding first_false conditions
-kev_goes M h sound e = named (all_hold (conditions M (Kev h)) e) where
-  named : AllHold (conditions M (Kev h)) → KevGoes M (code h)
-  named (_, (known, (no_parallel, (end_open, _)))) = record {
-    h_there = half_of M h known;
-    no_parallel = none_parallel M (code h) sound.edges_fit (eqb-true _ _ no_parallel);
-    not_bare = ring_none (after M (mate (code h))) (code h) (after M (code h)) (mate (code h)) (not-true _ end_open);
-  }
+kev_goes M h sound e = let (_, (known, (no_parallel, (end_open, _)))) = all_hold (conditions M (Kev h)) e in record {
+  h_there = half_of M h known;
+  no_parallel = none_parallel M (code h) sound.edges_fit (eqb-true _ _ no_parallel);
+  not_bare = ring_none (after M (mate (code h))) (code h) (after M (code h)) (mate (code h)) (not-true _ end_open);
+}
 
 pub kev_accepted : (N : Model) (h : HalfEdge) → Sound N → KevGoes N (code h) → first_false N (Kev h) ≡ None
 unfolding first_false conditions

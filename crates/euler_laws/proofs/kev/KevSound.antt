@@ -2,13 +2,13 @@
 use Rattle.std.proofs.Common.{◌≡◌, ◌≢◌, ℕ, ◌+◌, Bool, true, false, cond, nat_eq, ◌||◌, List, [], ◌++◌, Option, Some, None, unwrap_or, is_some, refl, sym, ap, ◌∙◌, subst, arith, ◌⊎◌, inl, inr, true≢false, option_map}
 use Rattle.std.proofs.lemmas.Bool.Decides.{nat_tests, eqb_tells}
 use Rattle.euler_operators.specs.Common.{count, tick, IsIn, IsApart, canonical, rest, IsRing, without, redirect, after_kev, mate, edge_of, is_first, tables, Model, LoopContent, lone, cycle, EdgeRow, items_of, holds, tail, loop_of, content, after, tail_in, no_edge, Sound, Has, HasHalf, StandsIn, IsTail, IsLoneAt, kev, without_edge, moved_tail, cycle_or_lone}
-use Rattle.euler_operators.proofs.Common.{count-append, tick_same, tick_other, IsIn_or_not, count-canonical, IsApart-canonical, count_at, without_none, mate_other, edge_of-mate, mate-mate, edges_apart, mate_edge_apart, get-remove_here, get-remove_other, row_elsewhere, in-holds, holds_in, holds-none, cycle_there, mate_there, or_true}
+use Rattle.euler_operators.proofs.Common.{count-append, tick_same, tick_other, IsIn_or_not, count-canonical, IsApart-canonical, count_at, without_none, mate_other, edge_of-mate, mate-mate, edges_apart, mate_edge_apart, row_elsewhere, in-holds, holds_in, holds-none, cycle_there, mate_there, or_true}
 use Rattle.euler_operators.specs.Table as table
 use Rattle.euler_laws.proofs.shared.Fans.{Fan, fan_of, half_after, loop_after, ring_reaches, two_reaches, none_in_fan}
 use Rattle.euler_laws.proofs.shared.Loops.{IsLoop, count_out, count_gone, apart_out, ring_out, light, loop_sound, Walks, loop_at}
 use Rattle.euler_laws.proofs.shared.Arcs.{fan_kev, fan_kev_other}
 use Rattle.euler_laws.proofs.shared.Same.{mapped_some, Rewritten, content-new, face-same, loop-same, SameFaces, solid_at, solid_at-same}
-use Rattle.euler_laws.proofs.shared.Parts.{VerticesHold, RangesHold, sound_of, fit-map, fit-remove, points-remove, stay_of_same, faces_hold}
+use Rattle.euler_laws.proofs.shared.Parts.{RowSet, row_here, has_on, has_back, VerticesHold, RangesHold, sound_of, fit-map, fit-remove, points-remove, stay_of_same, faces_hold}
 use Rattle.euler_laws.proofs.shared.EdgeLess.{EdgeGoes, half_stays, half_was, other_edge as of_other_edge, not_mate, next_other, alone_there}
 use Rattle.euler_laws.proofs.shared.Rows.{count_or_lone, loop_or_lone, was_empty, no_items}
 
@@ -265,19 +265,18 @@ module _ (M : Model) (sound : Sound M) (h : ℕ) (goes : KevGoes M h) where
 
   -- ---- vertices
 
-  pub vertex_gone : table.get N.vertices w ≡ None
+  vertex_taken : RowSet M.vertices N.vertices w None
   unfolding kev
-  vertex_gone = get-remove_here M.vertices w
+  vertex_taken = record { are = refl }
 
-  vertex_same : (t : ℕ) → t ≢ w → table.get N.vertices t ≡ table.get M.vertices t
-  unfolding kev
-  vertex_same t a = get-remove_other M.vertices w t a
+  pub vertex_gone : table.get N.vertices w ≡ None
+  vertex_gone = row_here vertex_taken
 
   not_w : (t : ℕ) → Has N.vertices t → t ≢ w
   not_w t there = row_elsewhere N.vertices t w there vertex_gone
 
   pub has_vertex : (t : ℕ) → t ≢ w → Has M.vertices t → Has N.vertices t
-  has_vertex t a there = ap is_some (vertex_same t a) ∙ there
+  has_vertex t a there = has_on vertex_taken t a there
 
   pub has_u : Has N.vertices u
   has_u = has_vertex u u_w (sound.tails_there h goes.h_there)
@@ -352,7 +351,7 @@ module _ (M : Model) (sound : Sound M) (h : ℕ) (goes : KevGoes M h) where
   pub lone_or_tail-kev : (t : ℕ) → Has N.vertices t → ((q : ℕ) × IsLoneAt N q t) ⊎ IsTail N t
   lone_or_tail-kev t there = elim (eqb_tells t u) [
     | inl e ↦ subst (λ y. ((q : ℕ) × IsLoneAt N q y) ⊎ IsTail N y) (sym e.1) at_u
-    | inr e ↦ elim (sound.lone_or_tail t (ap is_some (sym (vertex_same t (not_w t there))) ∙ there)) [
+    | inr e ↦ elim (sound.lone_or_tail t (has_back vertex_taken t (not_w t there) there)) [
       | inl a ↦ inl (a.0, content-N a.0 ∙ ap new a.1 ∙ back_none h u (lone t) refl refl)
       | inr x ↦
           let a : edge_of x.half ≢ edge_of h = other_edge x.half (λ q. e.1 (sym x.starts ∙ ap (tail M) q)) (λ q. not_w t there (sym x.starts ∙ ap (tail M) q)) in

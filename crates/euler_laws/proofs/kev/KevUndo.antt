@@ -7,14 +7,14 @@ use Rattle.euler_operators.specs.Table as table
 use Rattle.euler_laws.proofs.shared.Fans.{half_after, loop_after}
 use Rattle.euler_laws.proofs.shared.Loops.{put_before, put_there, put_none, put_lone, after-walks, count_out, light, none_else}
 use Rattle.euler_laws.proofs.shared.Arcs.{arc_is}
-use Rattle.euler_laws.proofs.shared.Undo.{same_loops, same_edges, edge_again, same_model, taken_out, both_out, put_in, both_in, after_first}
+use Rattle.euler_laws.proofs.shared.Undo.{same_edges, edge_again, same_model, taken_out, both_out, put_in, both_in, after_first}
 use Rattle.euler_laws.proofs.shared.EdgeMore.{EdgeComes, tail-h, tail-m, OneMore, comes, tail_old}
 use Rattle.euler_laws.proofs.shared.EdgeLess.{of_edge}
 use Rattle.euler_laws.proofs.mev.MevSound as put
 use Rattle.euler_laws.proofs.mev.MevSound.{MevGoes}
 use Rattle.euler_laws.proofs.kev.KevSound as kill
 use Rattle.euler_laws.proofs.kev.KevSound.{KevGoes, without_both, back_none, back_h, back_m}
-use Rattle.euler_laws.proofs.kev.MevUndo.{as_cycle}
+use Rattle.euler_laws.proofs.kev.MevUndo.{as_cycle, loops_again}
 use Rattle.euler_laws.proofs.shared.Rows.{point_row, after_second}
 use Rattle.euler_laws.proofs.mev.MevLoneSound as lones
 use Rattle.euler_laws.proofs.mev.MevLoneSound.{LoneGoes}
@@ -136,10 +136,7 @@ module _ {M : Model} (sound : Sound M) {h : ℕ} (goes : KevGoes M h) where
     ]
 
     bare_loops : L.loops ≡ M.loops
-    bare_loops = same_loops L M
-        (λ q. (lones.same sound-N lone_goes).loop q ∙ (kill.same M sound h goes).loop q)
-        (λ q _. (lones.same sound-N lone_goes).face q ∙ (kill.same M sound h goes).face q)
-        bare_contents
+    bare_loops = loops_again (kill.same M sound h goes) (lones.same sound-N lone_goes) bare_contents
 
     bare_tails : (x : ℕ) → HasHalf M x → tail L x ≡ tail M x
     bare_tails x there = elim (eqb_tells (edge_of x) (edge_of h)) [
@@ -148,13 +145,9 @@ module _ {M : Model} (sound : Sound M) {h : ℕ} (goes : KevGoes M h) where
           ∙ kill.tail_kept M sound h goes x there e.1 (kill.bare M sound h goes bare x there e.1).1
     ]
 
-    bare_vertices : L.vertices ≡ M.vertices
-    unfolding kev mev_lone
-    bare_vertices = put-remove M.vertices w (point_of M w) point_there
-
     pub mev_lone-kev : mev_lone (kev M h) l h w (point_of M w) ≡ M
     unfolding kev mev_lone
-    mev_lone-kev = same_model L M refl refl bare_loops (same_edges L M (edge_again (kill.edge_goes M sound h goes) goes.h_there (comes edge)) bare_tails) bare_vertices
+    mev_lone-kev = same_model L M refl refl bare_loops (same_edges L M (edge_again (kill.edge_goes M sound h goes) goes.h_there (comes edge)) bare_tails) (put-remove M.vertices w (point_of M w) point_there)
 
   -- and another by mev at two half-edges
   module _ (open_end : after M (mate h) ≢ h) where
@@ -215,8 +208,8 @@ module _ {M : Model} (sound : Sound M) {h : ℕ} (goes : KevGoes M h) where
       | inr z ↦ z
     ]
 
-    hm : h ≢ m
-    hm = mate_other h
+    mate_apart : h ≢ m
+    mate_apart = mate_other h
 
     abbrev back : LoopContent → LoopContent
     back x = put_before d m (put_before c h (without_both h (tail M h) x))
@@ -228,28 +221,28 @@ module _ {M : Model} (sound : Sound M) {h : ℕ} (goes : KevGoes M h) where
         elim (IsIn_or_not h hs) [
           | inl i ↦ elim (IsIn_or_not m hs) [
             | inl j ↦
-                let ah : after M h ≡ head_or m (between h m hs) = after_in q h hs e i ∙ after_first hs cy.apart h m i j hm in
-                let am : after M m ≡ head_or h (beyond h m hs) = after_in q m hs e j ∙ after_second hs cy h m hm i j in
+                let ah : after M h ≡ head_or m (between h m hs) = after_in q h hs e i ∙ after_first hs cy.apart h m i j mate_apart in
+                let am : after M m ≡ head_or h (beyond h m hs) = after_in q m hs e j ∙ after_second hs cy h m mate_apart i j in
                 let ne : beyond h m hs ≢ [] = λ z. open_end (am ∙ ap (head_or h) z) in
                 let de : d ≡ head_or m (beyond h m hs) = am ∙ same_head (beyond h m hs) ne in
                 let ce : c ≡ head_or (head_or m (beyond h m hs)) (between h m hs) = elim c_cases [
                   | inl s ↦ s.1 ∙ de ∙ sym (empty_head (between h m hs) (head_or m (beyond h m hs)) (sym ah ∙ s.0) (count-before m (rest h hs)))
                   | inr s ↦ s.1 ∙ ah ∙ full_head (between h m hs) (head_or m (beyond h m hs)) (λ t. s.0 (ah ∙ t))
                 ] in
-                let t = corners_in hs cy h m hm i j ne in
+                let t = corners_in hs cy h m mate_apart i j ne in
                 ap (λ y. put_before d m (put_before c h y))
-                (back_h h (tail M h) (cycle hs) i ∙ as_cycle (without m (without h hs)) (kev_ring h m hs) (tail M h) (both_out hs cy.apart h m i j hm) (some_item (head_or m (beyond h m hs)) (kev_ring h m hs) t.0))
-                ∙ both_back hs cy h m hm i j ne c d de ce
+                (back_h h (tail M h) (cycle hs) i ∙ as_cycle (without m (without h hs)) (kev_ring h m hs) (tail M h) (both_out hs cy.apart h m i j mate_apart) (some_item (head_or m (beyond h m hs)) (kev_ring h m hs) t.0))
+                ∙ both_back hs cy h m mate_apart i j ne c d de ce
             | inr j ↦
                 let ah : after M h ≡ successor hs h = after_in q h hs e i in
                 let hin : IsIn (after M h) hs = subst (λ y. IsIn y hs) (sym ah) (IsIn_successor h hs i) in
                 let ce : c ≡ successor hs h = elim c_cases [ inl s ↦ absurd (omega (arith, hin, ap (λ y. count y hs) s.0)) | inr s ↦ s.1 ∙ ah ] in
                 let dn : count d hs ≡ 0 = after_out q m hs e m_there j in
-                let out : count m (without h hs) ≡ 0 = omega (arith, count_out m h hs (λ s. hm (sym s))) in
+                let out : count m (without h hs) ≡ 0 = omega (arith, count_out m h hs (λ s. mate_apart (sym s))) in
                 ap (λ y. put_before d m (put_before c h y))
                 (back_h h (tail M h) (cycle hs) i ∙ as_cycle (without m (without h hs)) (take_ring h hs) (tail M h) (ap canonical (without_none m (without h hs) out) ∙ taken_out hs cy.apart h i)
                 (some_item (successor hs h) (take_ring h hs) (in_take hs cy h i (λ s. kill.h_on M sound h goes (ah ∙ s)))))
-                ∙ ap (put_before d m) (ap (λ y. put_before y h (cycle (take_ring h hs))) ce ∙ one_back hs cy h m hm i (λ s. kill.h_on M sound h goes (ah ∙ s)))
+                ∙ ap (put_before d m) (ap (λ y. put_before y h (cycle (take_ring h hs))) ce ∙ one_back hs cy h m mate_apart i (λ s. kill.h_on M sound h goes (ah ∙ s)))
                 ∙ put_none d m (cycle hs) dn
           ]
           | inr i ↦
@@ -258,12 +251,12 @@ module _ {M : Model} (sound : Sound M) {h : ℕ} (goes : KevGoes M h) where
                 | inl j ↦
                     let am : after M m ≡ successor hs m = after_in q m hs e j in
                     let cn : count c hs ≡ 0 = elim c_cases [ inl s ↦ absurd (omega (arith, j, ch, ap (λ y. count y hs) s.0)) | inr s ↦ ap (λ y. count y hs) s.1 ∙ ch ] in
-                    let ct : count c (take_ring m hs) ≡ 0 = take_none hs cy m h (λ s. hm (sym s)) c j cn in
+                    let ct : count c (take_ring m hs) ≡ 0 = take_none hs cy m h (λ s. mate_apart (sym s)) c j cn in
                     ap (λ y. put_before d m (put_before c h y))
                     (back_m h (tail M h) (cycle hs) j ∙ as_cycle (without m (without h hs)) (take_ring m hs) (tail M h) (ap (λ y. canonical (without m y)) (without_none h hs i) ∙ taken_out hs cy.apart m j)
                     (some_item (successor hs m) (take_ring m hs) (in_take hs cy m j (λ s. kill.m_on M sound h goes (am ∙ s)))))
                     ∙ ap (put_before d m) (put_none c h (cycle (take_ring m hs)) ct)
-                    ∙ ap (λ y. put_before y m (cycle (take_ring m hs))) am ∙ one_back hs cy m h (λ s. hm (sym s)) j (λ s. kill.m_on M sound h goes (am ∙ s))
+                    ∙ ap (λ y. put_before y m (cycle (take_ring m hs))) am ∙ one_back hs cy m h (λ s. mate_apart (sym s)) j (λ s. kill.m_on M sound h goes (am ∙ s))
                 | inr j ↦
                     let dn : count d hs ≡ 0 = after_out q m hs e m_there j in
                     let cn : count c hs ≡ 0 = elim c_cases [ inl s ↦ ap (λ y. count y hs) s.1 ∙ dn | inr s ↦ ap (λ y. count y hs) s.1 ∙ ch ] in
@@ -294,10 +287,7 @@ module _ {M : Model} (sound : Sound M) {h : ℕ} (goes : KevGoes M h) where
         ∙ ap (λ y. put_before d m (put_before c h y)) (kill.content-N M sound h goes q) ∙ content_of q (content M q) there refl
 
     loops-back : K.loops ≡ M.loops
-    loops-back = same_loops K M
-        (λ q. (put.same N sound-N c d h w (point_of M w) put_goes).loop q ∙ (kill.same M sound h goes).loop q)
-        (λ q _. (put.same N sound-N c d h w (point_of M w) put_goes).face q ∙ (kill.same M sound h goes).face q)
-        contents
+    loops-back = loops_again (kill.same M sound h goes) (put.same N sound-N c d h w (point_of M w) put_goes) contents
 
     -- ---- what moves back: all but m that started at the killed vertex
 
@@ -324,13 +314,13 @@ module _ {M : Model} (sound : Sound M) {h : ℕ} (goes : KevGoes M h) where
 
     -- c is the first of what moved, or d where nothing did
     c_first : (ts : List ℕ) → c ≡ head_or d (rest m vs)
-    c_first ts = go (rest m vs) killed_ring (omega (arith, count_at m m vs m_in, tick_same m, (kill.fan_killed M sound h goes).apart m)) where
+    c_first ts = c_leads (rest m vs) killed_ring (omega (arith, count_at m m vs m_in, tick_same m, (kill.fan_killed M sound h goes).apart m)) where
       to_m : round M m ≡ after M h
       to_m = ap (after M) (mate-mate h)
 
-      go : (xs : List ℕ) → round M m ≡ head_or m xs → count m xs ≡ 0 → c ≡ head_or d xs
-      go [] e n = elim c_cases [ inl s ↦ s.1 | inr s ↦ absurd (s.0 (sym to_m ∙ e)) ]
-      go (x ∷ xs) e n = elim c_cases [
+      c_leads : (xs : List ℕ) → round M m ≡ head_or m xs → count m xs ≡ 0 → c ≡ head_or d xs
+      c_leads [] e n = elim c_cases [ inl s ↦ s.1 | inr s ↦ absurd (s.0 (sym to_m ∙ e)) ]
+      c_leads (x ∷ xs) e n = elim c_cases [
         | inl s ↦ absurd (omega (arith, n, ap (tick m) (sym (sym to_m ∙ e) ∙ s.0), tick_same m))
         | inr s ↦ s.1 ∙ sym to_m ∙ e
       ]
@@ -384,11 +374,7 @@ module _ {M : Model} (sound : Sound M) {h : ℕ} (goes : KevGoes M h) where
       | inr e ↦ tails_old x there e.1
     ]
 
-    vertices-back : K.vertices ≡ M.vertices
-    unfolding kev mev_at
-    vertices-back = put-remove M.vertices w (point_of M w) point_there
-
     -- mev takes kev back
     pub mev_at-kev : mev_at (kev M h) c d h w (point_of M w) ≡ M
     unfolding kev mev_at
-    mev_at-kev = same_model K M refl refl loops-back (same_edges K M (edge_again (kill.edge_goes M sound h goes) goes.h_there new_edge) tails) vertices-back
+    mev_at-kev = same_model K M refl refl loops-back (same_edges K M (edge_again (kill.edge_goes M sound h goes) goes.h_there new_edge) tails) (put-remove M.vertices w (point_of M w) point_there)

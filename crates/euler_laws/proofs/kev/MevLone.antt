@@ -6,9 +6,10 @@ use Rattle.euler_operators.proofs.Common.{tick_same, count-canonical, edge_of-ma
 use Rattle.euler_operators.specs.Table as table
 use Rattle.euler_laws.proofs.shared.EdgeMore.{OneMore, comes, half_h, half_old, edge_apart, tail-h, tail-m, tail_old}
 use Rattle.euler_laws.proofs.shared.Loops.{none_free}
-use Rattle.euler_laws.proofs.shared.Undo.{same_loops, same_edges, edge_back, same_model}
+use Rattle.euler_laws.proofs.shared.Undo.{same_edges, edge_back, same_model}
 use Rattle.euler_laws.proofs.mev.MevLoneSound as put
 use Rattle.euler_laws.proofs.mev.MevLoneSound.{LoneGoes}
+use Rattle.euler_laws.proofs.kev.MevUndo.{loops_again}
 use Rattle.euler_laws.proofs.kev.KevSound as kill
 use Rattle.euler_laws.proofs.kev.KevSound.{KevGoes, back_none}
 
@@ -40,10 +41,7 @@ module _ {M : Model} (sound : Sound M) {l h v u : ℕ} {p : Point} (goes : LoneG
   ]
 
   loops-back : K.loops ≡ M.loops
-  loops-back = same_loops K M
-      (λ q. (kill.same N sound-N h kev_goes).loop q ∙ (put.same sound goes).loop q)
-      (λ q _. (kill.same N sound-N h kev_goes).face q ∙ (put.same sound goes).face q)
-      contents
+  loops-back = loops_again (put.same sound goes) (kill.same N sound-N h kev_goes) contents
 
   tails : (x : ℕ) → HasHalf M x → tail K x ≡ tail M x
   tails x there = let s = tail_old edge x there in

@@ -4,6 +4,7 @@ use Rattle.euler_operators.specs.Common.{Point, count, tick, IsIn, IsApart, cano
 use Rattle.euler_operators.proofs.Common.{count-append, tick_same, tick_other, IsIn_or_not, count-canonical, IsApart-canonical, canonical_nil, count-rotate_to, kev-mev, take-put, apart_put, apart_mev, without_none, count-insert_before, mate_other, edge_of-mate, remove-put, mate_there}
 use Rattle.euler_operators.specs.Table as table
 use Rattle.euler_laws.proofs.shared.Loops.{put_before, put_there, put_none, put_lone, none_free, count_out, after-walks}
+use Rattle.euler_laws.proofs.shared.Same.{SameFaces}
 use Rattle.euler_laws.proofs.shared.Undo.{same_loops, same_edges, edge_back, same_model, taken_out, both_out, put_in, both_in}
 use Rattle.euler_laws.proofs.shared.EdgeMore.{EdgeComes, half_h, half_m, tail-h, tail-m, edge_apart, not_h, not_m, half_old, half_cases}
 use Rattle.euler_laws.proofs.mev.MevSound as put
@@ -17,6 +18,10 @@ led_at next c y = rw (eq-eqb y y refl) refl
 pub as_cycle : (xs hs : List ℕ) (v : ℕ) → canonical xs ≡ hs → hs ≢ [] → cycle_or_lone xs v ≡ cycle hs
 as_cycle [] hs v e ne = absurd (ne (sym e ∙ canonical_nil))
 as_cycle (x ∷ xs) hs v e ne = ap cycle e
+
+-- the loops are back where two steps keep the faces, and each loop holds what it held
+pub loops_again : {M N K : Model} → SameFaces M N → SameFaces N K → ((q : ℕ) → Has M.loops q → content K q ≡ content M q) → K.loops ≡ M.loops
+loops_again {M = M} {K = K} first second contents = same_loops K M (λ q. second.loop q ∙ first.loop q) (λ q _. second.face q ∙ first.face q) contents
 
 -- a content that mev and then kev rewrite
 module _ (h g k t : ℕ) where
@@ -111,10 +116,7 @@ module _ {M : Model} (sound : Sound M) {g k h v : ℕ} {p : Point} (goes : MevGo
       (not_m new_edge g goes.g_there) (not_h new_edge k goes.k_there)
 
   loops-back : K.loops ≡ M.loops
-  loops-back = same_loops K M
-      (λ q. (kill.same N sound-N h kev_goes).loop q ∙ (put.same M sound g k h v p goes).loop q)
-      (λ q _. (kill.same N sound-N h kev_goes).face q ∙ (put.same M sound g k h v p goes).face q)
-      contents
+  loops-back = loops_again (put.same M sound g k h v p goes) (kill.same N sound-N h kev_goes) contents
 
   tails : (x : ℕ) → HasHalf M x → tail K x ≡ tail M x
   tails x there =

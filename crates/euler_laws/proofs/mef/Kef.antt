@@ -2,7 +2,7 @@
 use Rattle.std.proofs.Common.{◌≡◌, ℕ, true, None, is_some, refl, sym, ap, ◌∙◌, arith, ne_eqb, eq-eqb}
 use Rattle.std.proofs.lemmas.Bool.Decides.{eqb_tells}
 use Rattle.std.proofs.lemmas.Bool.{not-true, eqb-false}
-use Rattle.euler_operators.specs.Common.{mef_old, mef_new, kef_ring, HalfEdge, code, mate, edge_of, Model, cycle, items_of, loop_of, content, cycle_of, face_of, is_number, Sound, HasHalf, AllHold, first_false, conditions, face_at, effect, inverse, mef, kef}
+use Rattle.euler_operators.specs.Common.{mef_old, mef_new, kef_ring, HalfEdge, code, mate, edge_of, Model, cycle, items_of, loop_of, content, cycle_of, face_of, is_number, Sound, HasHalf, first_false, conditions, face_at, effect, inverse, mef, kef}
 use Rattle.euler_operators.proofs.Common.{kef-mef, edge_of-code, code-half, remove-put, two_undone, row_of, cycle_sound}
 use Rattle.euler_operators.specs.Table as table
 use Rattle.euler_operators.specs.declared.Op.TheVariants.{Mef, Kef}
@@ -23,13 +23,11 @@ use Rattle.euler_laws.proofs.shared.Lawful.{IsLawful}
 
 pub kef_goes : (M : Model) (h : HalfEdge) → first_false M (Kef h) ≡ None → KefGoes M (code h)
 unfolding first_false conditions
-kef_goes M h e = named (all_hold (conditions M (Kef h)) e) where
-  named : AllHold (conditions M (Kef h)) → KefGoes M (code h)
-  named (_, (known, (faces_apart, (no_rings, _)))) = record {
-    h_there = half_of M h known;
-    faces_apart = eqb-false _ _ (not-true _ faces_apart);
-    no_rings = no_rings_means M (face_at M (mate (code h))) (not-true _ no_rings);
-  }
+kef_goes M h e = let (_, (known, (faces_apart, (no_rings, _)))) = all_hold (conditions M (Kef h)) e in record {
+  h_there = half_of M h known;
+  faces_apart = eqb-false _ _ (not-true _ faces_apart);
+  no_rings = no_rings_means M (face_at M (mate (code h))) (not-true _ no_rings);
+}
 
 pub kef_accepted : (N : Model) (h : HalfEdge) → Sound N → KefGoes N (code h) → first_false N (Kef h) ≡ None
 unfolding first_false conditions

@@ -71,8 +71,8 @@ module _ {M : Model} (sound : Sound M) {h q l u w : ℕ} {Y X : List ℕ} (goes 
   abbrev pub F : ℕ → ℕ
   F = after_mef (after M) h m c e
 
-  hm : h ≢ m
-  hm = mate_other h
+  mate_apart : h ≢ m
+  mate_apart = mate_other h
 
   pub more : OneMore M N h u w
   unfolding join_loops
@@ -106,16 +106,16 @@ module _ {M : Model} (sound : Sound M) {h q l u w : ℕ} {Y X : List ℕ} (goes 
   apart_zs =
       let a = out h (λ t. not_h (comes more) h t refl) in
       let b = out m (λ t. not_m (comes more) m t refl) in
-      apart_braced h m X Y hm (omega (arith, count-append h X Y, a.0, a.1)) (omega (arith, count-append m X Y, b.0, b.1)) apart_both
+      apart_braced h m X Y mate_apart (omega (arith, count-append h X Y, a.0, a.1)) (omega (arith, count-append m X Y, b.0, b.1)) apart_both
 
   count_zs : (x : ℕ) → count x (canonical zs) ≡ tick x h + count x X + tick x m + count x Y
   count_zs x = omega (arith, count-canonical x zs, count-append x (h ∷ X) (m ∷ Y))
 
-  he : h ≢ e
-  he p = elim e_cases [ inl o ↦ hm (p ∙ o.1) | inr o ↦ not_h (comes more) e (in_X e o.0).0 (sym p) ]
+  h_not_e : h ≢ e
+  h_not_e p = elim e_cases [ inl o ↦ mate_apart (p ∙ o.1) | inr o ↦ not_h (comes more) e (in_X e o.0).0 (sym p) ]
 
-  ce : c ≢ e
-  ce p = grind (arith, c_cases, he, e_cases, not_m (comes more) c, in_Y c)
+  c_not_e : c ≢ e
+  c_not_e p = grind (arith, c_cases, h_not_e, e_cases, not_m (comes more) c, in_Y c)
 
   -- ---- loops
 
@@ -154,22 +154,22 @@ module _ {M : Model} (sound : Sound M) {h q l u w : ℕ} {Y X : List ℕ} (goes 
   loop_new x d = grind (arith, loop_both sound rows x q, content_first set, in-holds x (cycle (canonical zs)), count_zs x, tick_same x)
 
   at_h : F h ≡ e
-  at_h = led_h (after M) h m c e hm he ce
+  at_h = led_h (after M) h m c e mate_apart h_not_e c_not_e
 
   at_m : F m ≡ c
-  at_m = led_m (after M) h m c e hm he ce
+  at_m = led_m (after M) h m c e mate_apart h_not_e c_not_e
 
   path_X : IsPath F X m
   path_X = part_path (after M) F X m m goes.second.apart (ring_there M sound l w X goes.second)
-      (λ y i a. let o = (in_X y i).0 in led_second (after M) h m c e hm he ce y (not_h (comes more) y o) (not_m (comes more) y o) a)
-      (λ y i j a. let o = (in_X y i).0 in led_else (after M) h m c e hm he ce y (not_h (comes more) y o) (not_m (comes more) y o) (not_c (after M y) j) a) where
+      (λ y i a. let o = (in_X y i).0 in led_second (after M) h m c e mate_apart h_not_e c_not_e y (not_h (comes more) y o) (not_m (comes more) y o) a)
+      (λ y i j a. let o = (in_X y i).0 in led_else (after M) h m c e mate_apart h_not_e c_not_e y (not_h (comes more) y o) (not_m (comes more) y o) (not_c (after M y) j) a) where
         not_c : (x : ℕ) → IsIn x X → x ≢ c
         not_c x j p = elim c_cases [ inl a ↦ not_h (comes more) x (in_X x j).0 (p ∙ a.1) | inr a ↦ in_one c (subst (λ y. IsIn y X) p j) a.0 ]
 
   path_Y : IsPath F Y h
   path_Y = part_path (after M) F Y h h goes.first.apart (ring_there M sound q u Y goes.first)
-      (λ y i a. let o = (in_Y y i).0 in led_first (after M) h m c e hm he ce y (not_h (comes more) y o) (not_m (comes more) y o) a)
-      (λ y i j a. let o = (in_Y y i).0 in led_else (after M) h m c e hm he ce y (not_h (comes more) y o) (not_m (comes more) y o) a (not_e (after M y) j)) where
+      (λ y i a. let o = (in_Y y i).0 in led_first (after M) h m c e mate_apart h_not_e c_not_e y (not_h (comes more) y o) (not_m (comes more) y o) a)
+      (λ y i j a. let o = (in_Y y i).0 in led_else (after M) h m c e mate_apart h_not_e c_not_e y (not_h (comes more) y o) (not_m (comes more) y o) a (not_e (after M y) j)) where
         not_e : (x : ℕ) → IsIn x Y → x ≢ e
         not_e x j p = elim e_cases [ inl a ↦ not_m (comes more) x (in_Y x j).0 (p ∙ a.1) | inr a ↦ in_one e a.0 (subst (λ y. IsIn y Y) p j) ]
 
@@ -188,7 +188,7 @@ module _ {M : Model} (sound : Sound M) {h q l u w : ℕ} {Y X : List ℕ} (goes 
       (none e (λ o. elim e_cases [ inl k ↦ absurd (not_m (comes more) e o k.1) | inr k ↦ inr (in_X e k.0).1 ])) t
 
   put : PutBefore M h u w c e
-  put = grind (arith, sound, c_cases, not_h (comes more) c, comes more, more, e_cases, not_m (comes more) e, he)
+  put = grind (arith, sound, c_cases, not_h (comes more) c, comes more, more, e_cases, not_m (comes more) e, h_not_e)
 
   fan_u : Fan F N u
   fan_u = grind (arith, c_cases, fan_alone more F u h (first_starts more), sound.lone_is_no_tail q, at_m, fan_first more put, in_Y c)

@@ -2,7 +2,7 @@
 use Rattle.std.proofs.Common.{◌≡◌, ◌≢◌, ℕ, true, List, [], ◌∷◌, None, is_some, IsTrue, refl, sym, ap, ◌∙◌, subst, arith, ◌⊎◌, inl, inr, Bool, not, nat_eq, ◌&&◌, eqb-true}
 use Rattle.std.proofs.lemmas.Bool.Decides.{nat_tests}
 use Rattle.std.proofs.lemmas.Bool.{not-true, eqb-false}
-use Rattle.euler_operators.specs.Common.{count, IsIn, IsApart, head_or, canonical, rotate_to, IsRing, HalfEdge, Corner, At, Lone, code, edge_of, Model, lone, items_of, tail, after, loop_of, content, cycle_of, face_of, outer, is_number, Sound, Has, HasHalf, StandsIn, AllHold, first_false, conditions, corner_tail, corner_loop, corner_list, corner_known, corner_lone, cycle_or_lone}
+use Rattle.euler_operators.specs.Common.{count, IsIn, IsApart, head_or, canonical, rotate_to, IsRing, HalfEdge, Corner, At, Lone, code, edge_of, Model, lone, items_of, tail, after, loop_of, content, cycle_of, face_of, outer, is_number, Sound, Has, HasHalf, StandsIn, first_false, conditions, corner_tail, corner_loop, corner_list, corner_known, corner_lone, cycle_or_lone}
 use Rattle.euler_operators.proofs.Common.{tick_same, rotate_to_is, IsApart-rotate_to, canonical-rotate_to, canonical-rotates, IsRotation-sym, IsRing-same, edge_of-code, in-holds, row_of, content_cycle, cycle_there, cycle_sound, no_row, same_head}
 use Rattle.euler_operators.specs.Table as table
 use Rattle.euler_operators.specs.declared.Op.TheVariants.{Mekr}
@@ -41,12 +41,22 @@ pub record JoinGoes (M : Model) (h q l u w : ℕ) (Y X : List ℕ) : Type 0 wher
 pub ring_is : (b : Bool) (f o k : ℕ) → (b && nat_eq f f && not (nat_eq o k)) ≡ true → o ≢ k
 ring_is b f o k e p = grind (arith, nat_tests)
 
-pub join_goes : (M : Model) (c d : Corner) (h : HalfEdge) → Sound M → first_false M (Mekr c d h) ≡ None →
-    JoinGoes M (code h) (corner_loop M c) (corner_loop M d) (corner_tail M c) (corner_tail M d) (corner_list M c) (corner_list M d)
+-- what the conditions of mekr say of its two corners, and of what these stand for
+pub record MekrHolds (M : Model) (c d : Corner) (h : HalfEdge) : Type 0 where
+  pub first_known : (corner_known M c).holds ≡ true
+  pub second_known : (corner_known M d).holds ≡ true
+  pub first_lone : (corner_lone M c).holds ≡ true
+  pub second_lone : (corner_lone M d).holds ≡ true
+  pub joins : JoinGoes M (code h) (corner_loop M c) (corner_loop M d) (corner_tail M c) (corner_tail M d) (corner_list M c) (corner_list M d)
+
+pub mekr_holds : (M : Model) (c d : Corner) (h : HalfEdge) → Sound M → first_false M (Mekr c d h) ≡ None → MekrHolds M c d h
 unfolding first_false conditions
-join_goes M c d h sound e = named (all_hold (conditions M (Mekr c d h)) e) where
-  named : AllHold (conditions M (Mekr c d h)) → JoinGoes M (code h) (corner_loop M c) (corner_loop M d) (corner_tail M c) (corner_tail M d) (corner_list M c) (corner_list M d)
-  named (_, (_, (edge_number, (c_known, (d_known, (c_lone, (d_lone, (edge_free, (loops_differ, (one_face, (d_ring, (tails_differ, _)))))))))))) = record {
+mekr_holds M c d h sound e = let (_, (_, (edge_number, (c_known, (d_known, (c_lone, (d_lone, (edge_free, (loops_differ, (one_face, (d_ring, (tails_differ, _)))))))))))) = all_hold (conditions M (Mekr c d h)) e in record {
+  first_known = c_known;
+  second_known = d_known;
+  first_lone = c_lone;
+  second_lone = d_lone;
+  joins = record {
     first = spot_of M sound c c_known c_lone;
     second = spot_of M sound d d_known d_lone;
     edge_free = ap (table.get M.edges) (edge_of-code h) ∙ no_row _ (not-true _ edge_free);
@@ -55,7 +65,12 @@ join_goes M c d h sound e = named (all_hold (conditions M (Mekr c d h)) e) where
     one_face = eqb-true _ _ one_face;
     no_outer = is_ring M (corner_loop M d) d_ring;
     ends_apart = eqb-false _ _ (not-true _ tails_differ);
-  }
+  };
+}
+
+pub join_goes : (M : Model) (c d : Corner) (h : HalfEdge) → Sound M → first_false M (Mekr c d h) ≡ None →
+    JoinGoes M (code h) (corner_loop M c) (corner_loop M d) (corner_tail M c) (corner_tail M d) (corner_list M c) (corner_list M d)
+join_goes M c d h sound e = (mekr_holds M c d h sound e).joins
 
 first_of : (k : ℕ) (zs : List ℕ) → ((zs ≡ []) × (head_or k zs ≡ k)) ⊎ ((ys : List ℕ) × (zs ≡ head_or k zs ∷ ys))
 first_of k [] = inl (refl, refl)

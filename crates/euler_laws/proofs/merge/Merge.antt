@@ -1,15 +1,16 @@
 -- Faces that go to another solid, and merge: it keeps a sound model sound.
-use Rattle.std.proofs.Common.{◌≡◌, ◌≢◌, ℕ, Bool, true, false, cond, nat_eq, Some, None, unwrap_or, is_some, refl, sym, ap, ◌∙◌, subst, arith, true≢false, option_map, ne_eqb}
+use Rattle.std.proofs.Common.{◌≡◌, ◌≢◌, ℕ, Bool, true, false, cond, nat_eq, Some, None, unwrap_or, is_some, refl, sym, ap, ◌∙◌, subst, arith, inl, inr, option_map, ne_eqb}
 use Rattle.std.proofs.lemmas.Bool.Decides.{nat_tests, eqb_tells}
 use Rattle.std.proofs.lemmas.Bool.{not-true, eqb-false}
-use Rattle.euler_operators.specs.Common.{mate, map_rows, get-map_rows, tables, Model, FaceRow, no_face, no_loop, loop_of, content, face_of, solid_of, outer, Sound, Has, HasHalf, NumbersFit, first_false, conditions, merge, faces_to_solid}
+use Rattle.euler_operators.specs.Common.{mate, map_rows, get-map_rows, Model, FaceRow, no_face, no_loop, loop_of, content, face_of, solid_of, outer, Sound, Has, HasHalf, NumbersFit, first_false, conditions, merge, faces_to_solid}
 use Rattle.euler_operators.specs.Table as table
-use Rattle.euler_operators.proofs.Common.{row_of, mate_there}
+use Rattle.euler_operators.proofs.Common.{row_of, row_elsewhere, mate_there}
 use Rattle.euler_operators.specs.declared.Op.TheVariants.{Merge}
 use Rattle.euler_laws.proofs.shared.Goes.{all_hold, none_refuses}
 use Rattle.euler_laws.proofs.shared.Rows.{face_there}
 use Rattle.euler_laws.proofs.shared.Faces.{sound-same}
 use Rattle.euler_laws.proofs.shared.Same.{mapped_some}
+use Rattle.euler_laws.proofs.shared.Parts.{RowSet, row_here, has_on, has_back}
 
 -- ---- faces that go to another solid
 
@@ -98,28 +99,27 @@ module _ {M : Model} (sound : Sound M) {s t : ℕ} (goes : MergeGoes M s t) wher
   pub solid_new : (q : ℕ) → Has M.faces q → solid_of N q ≡ joined s t (solid_of M q)
   solid_new q there = solid_moved M N (λ _ row. nat_eq row.solid t) s faces_are q there
 
-  pub solid_gone : table.get N.solids t ≡ None
+  pub solid_taken : RowSet M.solids N.solids t None
   unfolding merge
-  solid_gone = grind (arith, nat_tests, tables)
-
-  pub solid_other : (n : ℕ) → n ≢ t → table.get N.solids n ≡ table.get M.solids n
-  unfolding merge
-  solid_other n a = grind (arith, nat_tests, tables)
+  solid_taken = record { are = refl }
 
   not_t : (n : ℕ) → Has N.solids n → n ≢ t
-  not_t n there e = true≢false (sym there ∙ ap is_some (ap (table.get N.solids) e ∙ solid_gone))
+  not_t n there = row_elsewhere N.solids n t there (row_here solid_taken)
 
   solid_back : (n : ℕ) → Has N.solids n → Has M.solids n
-  solid_back n there = ap is_some (sym (solid_other n (not_t n there))) ∙ there
-
-  joined_there : (n : ℕ) → Has M.solids n → Has N.solids (joined s t n)
-  joined_there n there = grind (arith, eqb_tells, solid_other)
+  solid_back n there = has_back solid_taken n (not_t n there) there
 
   pub joined_same : (n : ℕ) → n ≢ t → joined s t n ≡ n
   joined_same n a = let e : nat_eq n t ≡ false = grind (arith, nat_tests) in ap (λ b. cond b s n) e
 
   pub joined_t : joined s t t ≡ s
   joined_t = let e : nat_eq t t ≡ true = grind (arith, nat_tests) in ap (λ b. cond b s t) e
+
+  joined_there : (n : ℕ) → Has M.solids n → Has N.solids (joined s t n)
+  joined_there n there = elim (eqb_tells n t) [
+    | inl e ↦ subst (Has N.solids) (sym (ap (joined s t) e.1 ∙ joined_t)) (has_on solid_taken s goes.apart goes.s_there)
+    | inr e ↦ subst (Has N.solids) (sym (joined_same n e.1)) (has_on solid_taken n e.1 there)
+  ]
 
   face_loop : (x : ℕ) → HasHalf M x → Has M.faces (face_of M (loop_of M x))
   face_loop x there = sound.loops_of_faces (loop_of M x) (ap is_some (row_of M sound x there))

@@ -2,14 +2,15 @@
 use Rattle.std.proofs.Common.{◌≡◌, ◌≢◌, ℕ, Bool, true, false, cond, not, nat_eq, ◌||◌, List, [], ◌∷◌, ◌++◌, Some, None, unwrap_or, is_some, IsTrue, refl, sym, ap, ◌∙◌, subst, arith, inl, inr, true≢false, eq-eqb, ne_eqb, eqb-true}
 use Rattle.std.proofs.lemmas.Bool.Decides.{nat_tests, eqb_tells}
 use Rattle.std.proofs.lemmas.Bool.{not-true, not-false}
-use Rattle.euler_operators.specs.Common.{mate, edge_of, plus, minus, map_rows, tables, Model, FaceRow, no_face, loop_of, face_of, solid_of, outer, is_number, faces_of, Sound, Has, HasHalf, AllHold, first_false, conditions, numbers_in_range, faces_known, faces_in, face_at, lists, lists_all, strictly_rises, is_empty, torn_edge, differ, effect, inverse, merge, part, faces_to_solid}
+use Rattle.euler_operators.specs.Common.{mate, edge_of, plus, minus, map_rows, Model, FaceRow, no_face, loop_of, face_of, solid_of, outer, is_number, faces_of, Sound, Has, HasHalf, AllHold, first_false, conditions, numbers_in_range, faces_known, faces_in, face_at, lists, lists_all, strictly_rises, is_empty, torn_edge, differ, effect, inverse, merge, part, faces_to_solid}
 use Rattle.euler_operators.specs.Table as table
-use Rattle.euler_operators.proofs.Common.{plus_row, mate_plus, mate_minus, get-put_here, put-remove, remove-put, map_same, first_where_zero, zero_first_where, no_row, row_some, mate_there}
+use Rattle.euler_operators.proofs.Common.{plus_row, mate_plus, mate_minus, put-remove, remove-put, map_same, first_where_zero, zero_first_where, no_row, row_some, row_elsewhere, mate_there}
 use Rattle.euler_operators.specs.declared.Op.TheVariants.{Merge, Part}
 use Rattle.euler_laws.proofs.shared.Goes.{◌also◌, all_hold, none_refuses, not_false, taken, no_zero, all_hold-append, all_hold-front, all_hold-back}
 use Rattle.euler_laws.proofs.shared.Fans.{half_face}
 use Rattle.euler_laws.proofs.shared.Arcs.{halves_of_edge}
 use Rattle.euler_laws.proofs.shared.Same.{map_twice}
+use Rattle.euler_laws.proofs.shared.Parts.{RowSet, row_here, has_on, has_back}
 use Rattle.euler_laws.proofs.shared.Rows.{face_there, solid_row}
 use Rattle.euler_laws.proofs.shared.Listed.{listed_as, listed_passes, passes_listed, all_where-rises, first_listed, rest_listed, listed_cases}
 use Rattle.euler_laws.proofs.merge.Merge as joins
@@ -52,22 +53,18 @@ module _ {M : Model} (sound : Sound M) {s t : ℕ} {fs : List ℕ} (goes : PartG
   solid_unlisted : (q : ℕ) → Has M.faces q → lists fs q ≡ false → solid_of N q ≡ solid_of M q
   solid_unlisted q there l = solid_new q there ∙ ap (λ b. cond b t (solid_of M q)) l
 
-  pub t_new : Has N.solids t
+  solid_put : RowSet M.solids N.solids t (Some tt)
   unfolding part
-  t_new = ap is_some (get-put_here M.solids t tt)
+  solid_put = record { are = refl }
 
-  solid_other : (n : ℕ) → n ≢ t → table.get N.solids n ≡ table.get M.solids n
-  unfolding part
-  solid_other n a = grind (arith, nat_tests, tables)
+  pub t_new : Has N.solids t
+  t_new = ap is_some (row_here solid_put)
 
   pub not_t : (n : ℕ) → Has M.solids n → n ≢ t
-  not_t n there e = true≢false (sym there ∙ ap is_some (ap (table.get M.solids) e ∙ goes.t_free))
+  not_t n there = row_elsewhere M.solids n t there goes.t_free
 
   pub solid_on : (n : ℕ) → Has M.solids n → Has N.solids n
-  solid_on n there = ap is_some (solid_other n (not_t n there)) ∙ there
-
-  solid_back : (n : ℕ) → n ≢ t → Has N.solids n → Has M.solids n
-  solid_back n a there = ap is_some (sym (solid_other n a)) ∙ there
+  solid_on n there = has_on solid_put n (not_t n there) there
 
   face_of_solid : (n q : ℕ) (b : Bool) → lists fs q ≡ b → Has M.faces q → solid_of M q ≡ n → n ≢ t → (f : ℕ) × Has M.faces f × (solid_of N f ≡ n)
   face_of_solid n q true l there e a = let o = goes.left in (o.0, o.1, solid_unlisted o.0 o.1 o.3 ∙ o.2 ∙ sym (goes.each q l).1 ∙ e)
@@ -78,10 +75,10 @@ module _ {M : Model} (sound : Sound M) {s t : ℕ} {fs : List ℕ} (goes : PartG
       (λ q there. subst (Has N.solids) (sym (solid_new q there)) (either (lists fs q) q (sound.faces_of_solids q there)))
       (λ n there. elim (eqb_tells n t) [
         | inl e ↦ let o = goes.listed in (o.0, (goes.each o.0 o.1).0, solid_listed o.0 o.1 ∙ sym e.1)
-        | inr e ↦ let x = sound.solid_has_face n (solid_back n e.1 there) in face_of_solid n x.0 (lists fs x.0) refl x.1 x.2 e.1
+        | inr e ↦ let x = sound.solid_has_face n (has_back solid_put n e.1 there) in face_of_solid n x.0 (lists fs x.0) refl x.1 x.2 e.1
       ])
       (λ x there. solid_new _ (half_face M sound x there) ∙ (λ i. cond (goes.whole x there i) t (sound.one_solid x there i)) ∙ sym (solid_new _ (half_face M sound (mate x) (mate_there M x there))))
-      (λ n there. elim (eqb_tells n t) [ inl e ↦ subst (λ y. IsTrue (is_number y)) (sym e.1) goes.t_fits | inr e ↦ sound.solids_fit n (solid_back n e.1 there) ]) where
+      (λ n there. elim (eqb_tells n t) [ inl e ↦ subst (λ y. IsTrue (is_number y)) (sym e.1) goes.t_fits | inr e ↦ sound.solids_fit n (has_back solid_put n e.1 there) ]) where
         either : (b : Bool) (q : ℕ) → Has M.solids (solid_of M q) → Has N.solids (cond b t (solid_of M q))
         either true q there = t_new
         either false q there = solid_on (solid_of M q) there
@@ -93,16 +90,16 @@ module _ {M : Model} (sound : Sound M) {s t : ℕ} {fs : List ℕ} (goes : PartG
   row_back : (q : ℕ) (row : FaceRow) → table.get M.faces q ≡ Some row →
       faces_to_solid (λ _ row. nat_eq row.solid t) s q (faces_to_solid (λ f _. lists fs f) t q row) ≡ row
   unfolding solid_of
-  row_back q row at = go (lists fs q)
+  row_back q row at = given_back (lists fs q)
       (λ l. sym (ap (λ o. (unwrap_or o no_face).solid) at) ∙ (goes.each q l).1)
       (λ e. not_t (solid_of M q) (sound.faces_of_solids q (ap is_some at)) (ap (λ o. (unwrap_or o no_face).solid) at ∙ e)) where
         abbrev_row : Bool → FaceRow
         abbrev_row b = cond b (record row { solid = t }) row
 
-        go : (b : Bool) → (b ≡ true → row.solid ≡ s) → row.solid ≢ t → cond (nat_eq (abbrev_row b).solid t) (record (abbrev_row b) { solid = s }) (abbrev_row b) ≡ row
-        go true e a = let y : nat_eq t t ≡ true = grind (arith, nat_tests) in
+        given_back : (b : Bool) → (b ≡ true → row.solid ≡ s) → row.solid ≢ t → cond (nat_eq (abbrev_row b).solid t) (record (abbrev_row b) { solid = s }) (abbrev_row b) ≡ row
+        given_back true e a = let y : nat_eq t t ≡ true = grind (arith, nat_tests) in
             ap (λ b. cond b (record row { solid = s }) (record row { solid = t })) y ∙ (λ i. record { solid = sym (e refl) i; outer = row.outer })
-        go false e a = let y : nat_eq row.solid t ≡ false = grind (arith, nat_tests) in ap (λ b. cond b (record row { solid = s }) row) y
+        given_back false e a = let y : nat_eq row.solid t ≡ false = grind (arith, nat_tests) in ap (λ b. cond b (record row { solid = s }) row) y
 
   faces_back : (merge N s t).faces ≡ M.faces
   unfolding merge part
@@ -142,8 +139,8 @@ module _ {M : Model} (sound : Sound M) {s t : ℕ} (goes : MergeGoes M s t) wher
 
   pub split_goes : PartGoes J s t (faces_of M t)
   split_goes = record {
-    s_there = ap is_some (joins.solid_other sound goes s goes.apart) ∙ goes.s_there;
-    t_free = joins.solid_gone sound goes;
+    s_there = has_on (joins.solid_taken sound goes) s goes.apart goes.s_there;
+    t_free = row_here (joins.solid_taken sound goes);
     t_fits = sound.solids_fit t goes.t_there;
     each = λ f l. let x = face_in M t f l in (face_on f x.0, joins.solid_new sound goes f x.0 ∙ ap (joins.joined s t) x.1 ∙ joins.joined_t sound goes);
     listed = let x = sound.solid_has_face t goes.t_there in (x.0, face_listed x.0 x.1 ∙ eq-eqb (solid_of M x.0) t x.2);
@@ -157,10 +154,10 @@ module _ {M : Model} (sound : Sound M) {s t : ℕ} (goes : MergeGoes M s t) wher
       faces_to_solid (λ f _. lists (faces_of M t) f) t q (faces_to_solid (λ _ row. nat_eq row.solid t) s q row) ≡ row
   row_home q row at = ap (λ b. cond b (record (cond (nat_eq row.solid t) (record row { solid = s }) row) { solid = t }) (cond (nat_eq row.solid t) (record row { solid = s }) row))
       (listed_as (λ _ row. nat_eq row.solid t) M.faces q row at)
-      ∙ go (nat_eq row.solid t) (λ e. eqb-true row.solid t e) where
-        go : (b : Bool) → (b ≡ true → row.solid ≡ t) → cond b (record (cond b (record row { solid = s }) row) { solid = t }) (cond b (record row { solid = s }) row) ≡ row
-        go true e = λ i. record { solid = sym (e refl) i; outer = row.outer }
-        go false e = refl
+      ∙ taken_back (nat_eq row.solid t) (λ e. eqb-true row.solid t e) where
+        taken_back : (b : Bool) → (b ≡ true → row.solid ≡ t) → cond b (record (cond b (record row { solid = s }) row) { solid = t }) (cond b (record row { solid = s }) row) ≡ row
+        taken_back true e = λ i. record { solid = sym (e refl) i; outer = row.outer }
+        taken_back false e = refl
 
   faces_home : (part J s t (faces_of M t)).faces ≡ M.faces
   unfolding merge part
@@ -177,21 +174,27 @@ numbers_hold : (fs : List ℕ) → ((f : ℕ) → lists fs f ≡ true → is_num
 numbers_hold [] each = tt
 numbers_hold (f ∷ fs) each = (each f (first_listed f fs), numbers_hold fs (λ q l. each q (rest_listed f q fs l)))
 
-known_hold : (M : Model) (fs : List ℕ) → ((f : ℕ) → lists fs f ≡ true → table.has M.faces f ≡ true) → AllHold (faces_known M fs)
-known_hold M [] each = tt
-known_hold M (f ∷ fs) each = (each f (first_listed f fs), known_hold M fs (λ q l. each q (rest_listed f q fs l)))
+faces_known-hold : (M : Model) (fs : List ℕ) → ((f : ℕ) → lists fs f ≡ true → table.has M.faces f ≡ true) → AllHold (faces_known M fs)
+faces_known-hold M [] each = tt
+faces_known-hold M (f ∷ fs) each = (each f (first_listed f fs), faces_known-hold M fs (λ q l. each q (rest_listed f q fs l)))
 
-hold_known : (M : Model) (fs : List ℕ) → AllHold (faces_known M fs) → (f : ℕ) → lists fs f ≡ true → table.has M.faces f ≡ true
-hold_known M [] h f l = absurd (true≢false (sym l))
-hold_known M (g ∷ fs) h f l = elim (listed_cases g f fs l) [ inl e ↦ ap (table.has M.faces) e ∙ h.0 | inr r ↦ hold_known M fs h.1 f r ]
+pub faces_known-there : (M : Model) (fs : List ℕ) → AllHold (faces_known M fs) → (f : ℕ) → lists fs f ≡ true → Has M.faces f
+faces_known-there M [] h f l = absurd (true≢false (sym l))
+faces_known-there M (g ∷ fs) h f l = elim (listed_cases g f fs l) [ inl e ↦ ap (table.has M.faces) e ∙ h.0 | inr r ↦ faces_known-there M fs h.1 f r ]
 
-in_hold : (M : Model) (s : ℕ) (fs : List ℕ) → ((f : ℕ) → lists fs f ≡ true → solid_of M f ≡ s) → AllHold (faces_in M s fs)
-in_hold M s [] each = tt
-in_hold M s (f ∷ fs) each = (eq-eqb _ _ (each f (first_listed f fs)), in_hold M s fs (λ q l. each q (rest_listed f q fs l)))
+faces_in-hold : (M : Model) (s : ℕ) (fs : List ℕ) → ((f : ℕ) → lists fs f ≡ true → solid_of M f ≡ s) → AllHold (faces_in M s fs)
+faces_in-hold M s [] each = tt
+faces_in-hold M s (f ∷ fs) each = (eq-eqb _ _ (each f (first_listed f fs)), faces_in-hold M s fs (λ q l. each q (rest_listed f q fs l)))
 
-hold_in : (M : Model) (s : ℕ) (fs : List ℕ) → AllHold (faces_in M s fs) → (f : ℕ) → lists fs f ≡ true → solid_of M f ≡ s
-hold_in M s [] h f l = absurd (true≢false (sym l))
-hold_in M s (g ∷ fs) h f l = elim (listed_cases g f fs l) [ inl e ↦ ap (solid_of M) e ∙ eqb-true _ _ h.0 | inr r ↦ hold_in M s fs h.1 f r ]
+faces_in-solid : (M : Model) (s : ℕ) (fs : List ℕ) → AllHold (faces_in M s fs) → (f : ℕ) → lists fs f ≡ true → solid_of M f ≡ s
+faces_in-solid M s [] h f l = absurd (true≢false (sym l))
+faces_in-solid M s (g ∷ fs) h f l = elim (listed_cases g f fs l) [ inl e ↦ ap (solid_of M) e ∙ eqb-true _ _ h.0 | inr r ↦ faces_in-solid M s fs h.1 f r ]
+
+pub listed_in_solid : (M : Model) (s : ℕ) (fs : List ℕ) → AllHold (faces_known M fs ++ faces_in M s fs) → (f : ℕ) → lists fs f ≡ true → Has M.faces f × (solid_of M f ≡ s)
+listed_in_solid M s fs h f l = (
+  faces_known-there M fs (all_hold-front (faces_known M fs) (faces_in M s fs) h) f l,
+  faces_in-solid M s fs (all_hold-back (faces_known M fs) (faces_in M s fs) h) f l,
+)
 
 -- the four causes of a bad part
 or_false : (a b c d : Bool) → a ≡ false → b ≡ false → c ≡ false → d ≡ false → (a || b || c || d) ≡ false
@@ -240,21 +243,21 @@ torn_not M fs sound z x there =
 pub part_goes : (M : Model) (s t : ℕ) (fs : List ℕ) → Sound M → first_false M (Part s t fs) ≡ None → PartGoes M s t fs
 unfolding first_false conditions
 part_goes M s t fs sound e =
-    let w = all_hold (conditions M (Part s t fs)) e in
-    let x = all_hold-back (numbers_in_range fs) _ w.1.1 in
-    let y = all_hold-front (faces_known M fs ++ faces_in M s fs) _ x.1.1 in
-    let n = false_or (is_empty fs) (not (strictly_rises fs)) (lists_all fs (faces_of M s)) (not (nat_eq (torn_edge M fs) 0)) (not-true _ (all_hold-back (faces_known M fs ++ faces_in M s fs) _ x.1.1).0) in
-    let o = left_out fs (faces_of M s) n.2 in
+    let (_, (t_fits, after_numbers)) = all_hold (conditions M (Part s t fs)) e in
+    let (s_known, (t_free, of_faces)) = all_hold-back (numbers_in_range fs) _ after_numbers in
+    let (good, _) = all_hold-back (faces_known M fs ++ faces_in M s fs) _ of_faces in
+    let (filled, rises, not_all, not_torn) = false_or (is_empty fs) (not (strictly_rises fs)) (lists_all fs (faces_of M s)) (not (nat_eq (torn_edge M fs) 0)) (not-true _ good) in
+    let o = left_out fs (faces_of M s) not_all in
     let i = face_in M s o.0 o.1 in
     record {
-      s_there = x.0;
-      t_free = no_row _ (not-true _ x.1.0);
-      t_fits = w.1.0;
-      each = λ f l. (hold_known M fs (all_hold-front (faces_known M fs) (faces_in M s fs) y) f l, hold_in M s fs (all_hold-back (faces_known M fs) (faces_in M s fs) y) f l);
-      listed = some_listed fs n.0;
-      rises = not-false (strictly_rises fs) n.1;
+      s_there = s_known;
+      t_free = no_row _ (not-true _ t_free);
+      t_fits = t_fits;
+      each = listed_in_solid M s fs (all_hold-front (faces_known M fs ++ faces_in M s fs) _ of_faces);
+      listed = some_listed fs filled;
+      rises = not-false (strictly_rises fs) rises;
       left = (o.0, i.0, i.1, o.2);
-      whole = torn_not M fs sound (eqb-true _ _ (not-false (nat_eq (torn_edge M fs) 0) n.3));
+      whole = torn_not M fs sound (eqb-true _ _ (not-false (nat_eq (torn_edge M fs) 0) not_torn));
     }
 
 pub part_accepted : (N : Model) (s t : ℕ) (fs : List ℕ) → Sound N → PartGoes N s t fs → first_false N (Part s t fs) ≡ None
@@ -267,7 +270,7 @@ part_accepted N s t fs sound goes =
     also all_hold-append (numbers_in_range fs) _ (numbers_hold fs (λ f l. sound.faces_fit f (goes.each f l).0)) (
     goes.s_there
     also not_false _ (taken _ goes.t_free)
-    also all_hold-append (faces_known N fs ++ faces_in N s fs) _ (all_hold-append (faces_known N fs) (faces_in N s fs) (known_hold N fs (λ f l. (goes.each f l).0)) (in_hold N s fs (λ f l. (goes.each f l).1))) (
+    also all_hold-append (faces_known N fs ++ faces_in N s fs) _ (all_hold-append (faces_known N fs) (faces_in N s fs) (faces_known-hold N fs (λ f l. (goes.each f l).0)) (faces_in-hold N s fs (λ f l. (goes.each f l).1))) (
     not_false _ (or_false (is_empty fs) (not (strictly_rises fs)) (lists_all fs (faces_of N s)) (not (nat_eq (torn_edge N fs) 0))
     (listed_some fs goes.listed.0 goes.listed.1)
     (ap not goes.rises)

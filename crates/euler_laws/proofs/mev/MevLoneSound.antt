@@ -1,5 +1,5 @@
 -- A sound model stays sound under mev at a lone loop.
-use Rattle.std.proofs.Common.{◌≡◌, ◌≢◌, ℕ, ◌+◌, true, cond, nat_eq, List, [], ◌∷◌, Some, None, is_some, IsTrue, sym, ap, ◌∙◌, subst, arith, inl, inr}
+use Rattle.std.proofs.Common.{◌≡◌, ◌≢◌, ℕ, ◌+◌, true, cond, nat_eq, List, [], ◌∷◌, Some, None, is_some, IsTrue, refl, sym, ap, ◌∙◌, subst, arith, inl, inr}
 use Rattle.std.proofs.lemmas.Bool.Decides.{nat_tests, eqb_tells}
 use Rattle.euler_operators.specs.Common.{Point, IsInRange, count, tick, head_or, canonical, IsRing, mate, edge_of, Model, lone, cycle, LoopRow, items_of, tail, loop_of, content, face_of, after, is_number, Sound, Has, HasHalf, IsLoneAt, lone_vertex, mev_lone, edge_row}
 use Rattle.euler_operators.proofs.Common.{tick_same, tick_other, tick_le, count-canonical, IsPath-agree, mate_other, edge_of-mate, mate-mate, get-put_here, get-put_other, row_elsewhere, no_tail, content_row, face_row, mate_there, same_content, same_face}
@@ -7,7 +7,7 @@ use Rattle.euler_operators.specs.Table as table
 use Rattle.euler_laws.proofs.shared.Fans.{Fan, fan_of}
 use Rattle.euler_laws.proofs.shared.Loops.{IsLoop, canonical_cycle, canonical_ring, Walks, after-walks, one_vertex}
 use Rattle.euler_laws.proofs.shared.Same.{SameFaces, solid_at}
-use Rattle.euler_laws.proofs.shared.Parts.{VerticesHold, RangesHold, sound_of, fit-put, points-put, FacesStay, stay_of_same, solid_kept, faces_hold}
+use Rattle.euler_laws.proofs.shared.Parts.{RowSet, row_here, has_on, has_back, VerticesHold, RangesHold, sound_of, fit-put, points-put, FacesStay, stay_of_same, solid_kept, faces_hold}
 use Rattle.euler_laws.proofs.shared.EdgeMore.{OneMore, comes, not_h, not_m, half_h, half_m, tail-h, tail_old, half_cases, first_starts, second_starts, fan_alone, fan_stays, fans-more, vertices_hold-more}
 use Rattle.euler_laws.proofs.shared.EdgeLess.{ticks_apart}
 use Rattle.euler_laws.proofs.shared.TwoRows.{OneOf, TwoRows, Elsewhere, walks-rows, one_solid-rows, two_rows-more}
@@ -121,16 +121,12 @@ module _ {M : Model} (sound : Sound M) {l h v u : ℕ} {p : Point} (goes : LoneG
 
   -- ---- vertices
 
-  vertex_same : (w : ℕ) → w ≢ v → table.get N.vertices w ≡ table.get M.vertices w
+  vertex_put : RowSet M.vertices N.vertices v (Some p)
   unfolding mev_lone
-  vertex_same w a = get-put_other M.vertices v p w a
-
-  vertex_new : Has N.vertices v
-  unfolding mev_lone
-  vertex_new = ap is_some (get-put_here M.vertices v p)
+  vertex_put = record { are = refl }
 
   has_vertex : (w : ℕ) → Has M.vertices w → Has N.vertices w
-  has_vertex w there = ap is_some (vertex_same w (not_v w there)) ∙ there
+  has_vertex w there = has_on vertex_put w (not_v w there) there
 
   lone_back : (q w : ℕ) → IsLoneAt N q w → IsLoneAt M q w × (w ≢ u) × (w ≢ v)
   lone_back q w e = grind (arith, content_new, content_other q, sound.one_lone q l u, sound.lone_at_vertex q w)
@@ -138,9 +134,9 @@ module _ {M : Model} (sound : Sound M) {l h v u : ℕ} {p : Point} (goes : LoneG
   vertices : VerticesHold N
   vertices = vertices_hold-more sound edge (record {
     first_there = has_vertex u u_there;
-    second_there = vertex_new;
+    second_there = ap is_some (row_here vertex_put);
     on = has_vertex;
-    back = λ w there a. ap is_some (sym (vertex_same w a)) ∙ there;
+    back = λ w there a. has_back vertex_put w a there;
     lone_back = lone_back;
     lone_on = λ q w e a b. content_other q (λ s. a (one_vertex w u (sym e ∙ ap (content M) s ∙ goes.is_lone))) ∙ e;
   })

@@ -2,14 +2,14 @@
 use Rattle.std.proofs.Common.{◌≡◌, ◌≢◌, ℕ, ◌+◌, ◌≤◌, true, false, cond, nat_lt, List, [], ◌∷◌, Option, Some, None, unwrap_or, is_some, IsTrue, refl, sym, ap, ◌∙◌, subst, arith, ◌⊎◌, inl, inr, true≢false, option_map}
 use Rattle.std.proofs.lemmas.Bool.Decides.{nat_tests, eqb_tells}
 use Rattle.euler_operators.specs.Common.{Point, IsInRange, count, tick, IsIn, IsApart, canonical, upto, onward, IsRing, insert_before, led_over, after_mev, mate, edge_of, is_first, tables, Model, LoopContent, lone, cycle, LoopRow, EdgeRow, items_of, holds, tail, loop_of, content, after, arc, tail_in, no_edge, is_number, Sound, Has, HasHalf, StandsIn, IsLoneAt, mev_at, edge_row, with_before, with_tails}
-use Rattle.euler_operators.proofs.Common.{tick_same, tick_other, IsIn_or_not, mate_other, edge_of-mate, edges_apart, get-put_here, get-put_other, row_elsewhere, no_tail, in-holds, holds_in, cycle_there, mate_there}
+use Rattle.euler_operators.proofs.Common.{tick_same, tick_other, IsIn_or_not, mate_other, edge_of-mate, edges_apart, row_elsewhere, no_tail, in-holds, holds_in, cycle_there, mate_there}
 use Rattle.euler_operators.specs.Table as table
 use Rattle.euler_laws.proofs.shared.Fans.{Fan, fan_of}
 use Rattle.euler_laws.proofs.shared.Loops.{IsLoop, put_before, put_none, put_lone, lone_put, count_put_there, count_put_none, count_put_other, put_keeps, put_came, loop_put, loop_sound, none_free, none_else, Walks}
 use Rattle.euler_laws.proofs.shared.Arcs.{halves_of_edge, arc_is, fan_mev, fan_mev_other}
 use Rattle.euler_laws.proofs.shared.Same.{map_twice, mapped_some, Rewritten, content-new, face-same, loop-same, SameFaces, solid_at, solid_at-same, one_solid_round}
 use Rattle.euler_laws.proofs.shared.Rows.{count-halves}
-use Rattle.euler_laws.proofs.shared.Parts.{VerticesHold, RangesHold, sound_of, fit-put, fit-map, points-put, stay_of_same, faces_hold}
+use Rattle.euler_laws.proofs.shared.Parts.{RowSet, row_here, has_on, has_back, VerticesHold, RangesHold, sound_of, fit-put, fit-map, points-put, stay_of_same, faces_hold}
 use Rattle.euler_laws.proofs.shared.EdgeMore.{EdgeComes, half_h, half_m, tail-h, tail-m, edge_apart, not_h, not_m, half_old, half_cases, vertices-more}
 use Rattle.euler_laws.proofs.shared.EdgeLess.{not_mate, of_edge}
 use Rattle.euler_laws.proofs.shared.TwoRows.{OneOf, TwoRows, in_both, stands_both, only, placed, one_solid-rows}
@@ -275,19 +275,15 @@ module _ (M : Model) (sound : Sound M) (g k h v : ℕ) (p : Point) (goes : MevGo
 
   -- ---- vertices
 
-  vertex_new : Has N.vertices v
+  vertex_put : RowSet M.vertices N.vertices v (Some p)
   unfolding mev_at
-  vertex_new = ap is_some (get-put_here M.vertices v p)
-
-  vertex_same : (w : ℕ) → w ≢ v → table.get N.vertices w ≡ table.get M.vertices w
-  unfolding mev_at
-  vertex_same w a = get-put_other M.vertices v p w a
+  vertex_put = record { are = refl }
 
   not_v : (w : ℕ) → Has M.vertices w → w ≢ v
   not_v w there = row_elsewhere M.vertices w v there goes.vertex_free
 
   has_vertex : (w : ℕ) → Has M.vertices w → Has N.vertices w
-  has_vertex w there = ap is_some (vertex_same w (not_v w there)) ∙ there
+  has_vertex w there = has_on vertex_put w (not_v w there) there
 
   lone_back : (q w : ℕ) → IsLoneAt N q w → IsLoneAt M q w
   lone_back q w e = lone_put g h w (content M q) (lone_put k m w (first q) (sym (content-N q) ∙ e))
@@ -307,9 +303,9 @@ module _ (M : Model) (sound : Sound M) (g k h v : ℕ) (p : Point) (goes : MevGo
   vertices : VerticesHold N
   vertices = vertices-more sound new_edge tails (record {
     first_there = has_vertex u (sound.tails_there g goes.g_there);
-    second_there = vertex_new;
+    second_there = ap is_some (row_here vertex_put);
     on = has_vertex;
-    back = λ w there a. ap is_some (sym (vertex_same w a)) ∙ there;
+    back = λ w there a. has_back vertex_put w a there;
     lone_back = λ q w e. let b = lone_back q w e in (b, λ a. sound.lone_is_no_tail q g goes.g_there (b ∙ ap lone a), not_v w (sound.lone_at_vertex q w b));
     lone_on = λ q w e a b. content-N q ∙ ap new e ∙ ap (put_before k m) (put_lone g h w) ∙ put_lone k m w;
   }) ends_differ
