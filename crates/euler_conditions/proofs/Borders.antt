@@ -1,8 +1,8 @@
 -- Edges between listed faces and others.
-use Rattle.std.proofs.Common.{◌≡◌, ◌≢◌, ℕ, ◌≤◌, Bool, true, false, cond, not, nat_eq, ◌||◌, List, [], ◌∷◌, ◌++◌, length, append_assoc, Option, Some, None, Ok, Err, is_some, refl, sym, ap, subst, ◌∙◌, arith, true≢false, ◌⊎◌, inl, inr, ne_eqb, eq-eqb, eqb-true}
+use Rattle.std.proofs.Common.{◌≡◌, ◌≢◌, ℕ, ◌≤◌, Bool, true, false, cond, not, nat_eq, ◌||◌, List, [], ◌∷◌, ◌++◌, length, append_assoc, Some, None, Ok, Err, is_some, refl, sym, ap, subst, ◌∙◌, arith, true≢false, ◌⊎◌, inl, inr, ne_eqb, eq-eqb}
 use Rattle.std.proofs.lemmas.Bool.Decides.{nat_tests}
-use Rattle.std.proofs.lemmas.Bool.{not-true}
-use Rattle.euler_operators.specs.Common.{IsIn, code, mate, edge_of, plus, minus, HalfEdge, Model, EdgeRow, LoopContent, lone, cycle, items_of, content, face_of, outer, loop_of, solid_of, faces_of, is_ring_of, Sound, Has, HasHalf, Condition, AllHold, conditions, first_false, need, never, first_refusal, verdict, numbers_in_range, faces_known, faces_in, lists, strictly_rises, is_empty, is_bad_part, face_at, torn_edge, differ, has_rings}
+use Rattle.std.proofs.lemmas.Bool.{not-true, false_from_ne_true}
+use Rattle.euler_operators.specs.Common.{IsIn, code, mate, edge_of, plus, minus, HalfEdge, Model, EdgeRow, LoopContent, lone, cycle, items_of, content, face_of, outer, loop_of, faces_of, is_ring_of, Sound, Has, HasHalf, Condition, AllHold, conditions, first_false, need, never, first_refusal, verdict, numbers_in_range, faces_known, faces_in, lists, strictly_rises, is_empty, is_bad_part, face_at, torn_edge, differ, has_rings}
 use Rattle.euler_operators.specs.declared.Content.TheVariants as Content
 use Rattle.euler_operators.specs.Table as table
 use Rattle.euler_operators.proofs.Common.{plus_row, minus_row, mate_plus, mate_minus, in-holds, holds_in, loop_there, first_where_zero, zero_first_where, row_some}
@@ -10,7 +10,7 @@ use Rattle.halfedge_arena.specs.Store.{Tells, IsNextRing}
 use Rattle.euler_operators.specs.declared.Refusal.{Refusal}
 use Rattle.euler_operators.specs.declared.Why.TheVariants.{NoSolid, SolidTaken, BadPart}
 use Rattle.euler_operators.specs.declared.Op.TheVariants.{Part}
-use Rattle.euler_laws.proofs.Common.{halves_of_edge, outer_or_ring, all_hold, all_hold-front, all_hold-back, no_rings_means, face_there, all_where-rises, passes_listed, listed_cases, all_listed}
+use Rattle.euler_laws.proofs.Common.{halves_of_edge, outer_or_ring, all_hold, all_hold-back, verdict_passed, no_rings_means, face_there, all_where-rises, passes_listed, all_listed, faces_known-there, listed_in_solid}
 use Rattle.euler_conditions.specs.Parts.{StaysIn, FaceLeadsOut, FaceStaysIn, AreFacesOf, parts_known}
 use Rattle.euler_conditions.proofs.Orders.{part_refuses, part_holds}
 
@@ -57,13 +57,12 @@ module _ (M : Model) (sound : Sound M) (fs : List ℕ) where
   listed_half stay x t l = stay (face_at M x) l (loop_of M x) (loop_there M sound x t) refl x (holds_in x (content M (loop_of M x)) (sound.stands x t))
 
   pub none_torn : ((f : ℕ) → lists fs f ≡ true → FaceStaysIn M fs f) → false ≡ not (nat_eq (torn_edge M fs) 0)
-  none_torn stay = sym (ap not (eq-eqb (torn_edge M fs) 0 (first_where_zero Test M.edges (λ e row at. go e row at (Test e row) refl)))) where
-    go : (e : ℕ) (row : EdgeRow) → table.get M.edges e ≡ Some row → (b : Bool) → Test e row ≡ b → Test e row ≡ false
-    go e row at false p = p
-    go e row at true p = absurd (elim (differ_cases (lists fs (face_at M (plus e))) (lists fs (face_at M (minus e))) p) [
+  none_torn stay = sym (ap not (eq-eqb (torn_edge M fs) 0 (first_where_zero Test M.edges (λ e row at. false_from_ne_true (Test e row) (not_torn e row at))))) where
+    not_torn : (e : ℕ) (row : EdgeRow) → table.get M.edges e ≡ Some row → Test e row ≢ true
+    not_torn e row at torn = elim (differ_cases (lists fs (face_at M (plus e))) (lists fs (face_at M (minus e))) torn) [
       | inl q ↦ true≢false (sym (ap (λ y. lists fs (face_at M y)) (sym (mate_plus e)) ∙ listed_half stay (plus e) (ap (table.has M.edges) (plus_row e).0 ∙ ap is_some at) q.0) ∙ q.1)
       | inr q ↦ true≢false (sym (ap (λ y. lists fs (face_at M y)) (sym (mate_minus e)) ∙ listed_half stay (minus e) (ap (table.has M.edges) (minus_row e).0 ∙ ap is_some at) q.1) ∙ q.0)
-    ])
+    ]
 
 -- the rings up to the next one
 pub rings_met : (M : Model) (fs : List ℕ) (f last ring : ℕ) → IsNextRing M f last (Some ring) → ((k : ℕ) → k ≤ last → is_ring_of M f k ≡ true → StaysIn M fs k) → StaysIn M fs ring → (k : ℕ) → k ≤ ring → is_ring_of M f k ≡ true → StaysIn M fs k
@@ -105,15 +104,11 @@ module _ (M : Model) (s t : ℕ) (fs : List ℕ) (front : verdict (first_refusal
       faces_left free = solid_held ∙ ap (λ b. verdict (cond (not b) (first_refusal (faces_known M fs ++ faces_in M s fs)) (Some (record { why = SolidTaken; number = t })))) free
 
 -- faces that are known are there, and faces that are in the solid are of it
-ok_none : (o : Option Refusal) → verdict o ≡ Ok tt → o ≡ None
-ok_none None e = refl
-ok_none (Some r) e = cc
+verdict_holds : (cs : List Condition) → verdict (first_refusal cs) ≡ Ok tt → AllHold cs
+verdict_holds cs e = all_hold cs (verdict_passed (first_refusal cs) tt (sym e))
 
 pub known_there : (M : Model) (fs : List ℕ) → verdict (first_refusal (faces_known M fs)) ≡ Ok tt → (q : ℕ) → lists fs q ≡ true → Has M.faces q
-known_there M fs e q l = go fs (all_hold (faces_known M fs) (ok_none (first_refusal (faces_known M fs)) e)) l where
-  go : (fs : List ℕ) → AllHold (faces_known M fs) → lists fs q ≡ true → Has M.faces q
-  go [] h l = absurd (true≢false (sym l))
-  go (f ∷ fs) h l = elim (listed_cases f q fs l) [ inl p ↦ ap (table.has M.faces) p ∙ h.0 | inr p ↦ go fs h.1 p ]
+known_there M fs e = faces_known-there M fs (verdict_holds (faces_known M fs) e)
 
 -- ---- the last condition of part
 
@@ -134,17 +129,9 @@ module _ (M : Model) (s t : ℕ) (fs : List ℕ) where
   part_left b is e = ap (λ cs. verdict (first_refusal cs)) part_is ∙ part_holds (parts_known M s t fs) bad is ∙ ap (λ c. verdict (cond (not c) None (Some (record { why = BadPart; number = s })))) e
 
   pub are_faces : verdict (first_refusal (parts_known M s t fs)) ≡ Ok tt → AreFacesOf M s fs
-  are_faces e f l =
-      let front = need (table.has M.solids s) NoSolid s ∷ never (table.has M.solids t) SolidTaken t ∷ faces_known M fs in
-      let h = all_hold-back (numbers_in_range (s ∷ t ∷ fs)) (front ++ faces_in M s fs) (all_hold (parts_known M s t fs) (ok_none (first_refusal (parts_known M s t fs)) e)) in
-      (known_in fs (all_hold-front front (faces_in M s fs) h).1.1 l, solid_in fs (all_hold-back front (faces_in M s fs) h) l) where
-        known_in : (gs : List ℕ) → AllHold (faces_known M gs) → lists gs f ≡ true → Has M.faces f
-        known_in [] h l = absurd (true≢false (sym l))
-        known_in (g ∷ gs) h l = elim (listed_cases g f gs l) [ inl p ↦ ap (table.has M.faces) p ∙ h.0 | inr p ↦ known_in gs h.1 p ]
-
-        solid_in : (gs : List ℕ) → AllHold (faces_in M s gs) → lists gs f ≡ true → solid_of M f ≡ s
-        solid_in [] h l = absurd (true≢false (sym l))
-        solid_in (g ∷ gs) h l = elim (listed_cases g f gs l) [ inl p ↦ ap (solid_of M) p ∙ eqb-true (solid_of M g) s h.0 | inr p ↦ solid_in gs h.1 p ]
+  are_faces e =
+      let (_, (_, of_faces)) = all_hold-back (numbers_in_range (s ∷ t ∷ fs)) _ (verdict_holds (parts_known M s t fs) e) in
+      listed_in_solid M s fs of_faces
 
 pub not_empty : (fs : List ℕ) → length fs ≢ 0 → is_empty fs ≡ false
 not_empty [] ne = absurd (ne refl)

@@ -3,6 +3,7 @@ use Rattle.std.proofs.Common.{◌≡◌, ◌≢◌, ℕ, ◌/◌, Bool, true, fa
 use mathlib.Core.Bool.{beq}
 use Rattle.std.proofs.lemmas.Bool.Decides.{nat_tests}
 use Rattle.euler_operators.specs.Common.{HalfEdge, code, edge_of, mate, Model, cycle, content, loop_of, tail, Sound, Has, HasHalf}
+use Rattle.euler_operators.specs.Table as table
 use Rattle.euler_conditions.specs.Ends.{leads_to, lesser}
 use Rattle.euler_operators.proofs.Common.{edge_of-code, edge_of-mate, number_real, loop_there}
 
@@ -14,6 +15,9 @@ filled M sound l t e = (sound.cycles l [] t e).some_item refl
 
 pub mate_edge : (h m : HalfEdge) → code m ≡ mate (code h) → m.edge ≡ h.edge
 mate_edge h m e = sym (edge_of-code m) ∙ ap edge_of e ∙ edge_of-mate (code h) ∙ edge_of-code h
+
+pub mate_edge_there : (M : Model) (h m : HalfEdge) → code m ≡ mate (code h) → Has M.edges h.edge → Has M.edges m.edge
+mate_edge_there M h m e there = ap (table.has M.edges) (mate_edge h m e) ∙ there
 
 -- two half-edges are one where their codes are
 pub same_test : (h m : HalfEdge) → (nat_eq h.edge m.edge && beq h.first m.first) ≡ nat_eq (code h) (code m)

@@ -4,21 +4,24 @@ use Rattle.euler_operators.specs.declared.Refusal.{Refusal}
 use Rattle.euler_operators.specs.Common.{Condition, first_refusal, verdict}
 use Rattle.euler_conditions.specs.Answer.{answer}
 
+-- a condition in front of others: a refusal, its own or one behind it, stays where more follows; where all hold, what follows is left
+refused_before : (b : Bool) (r e : Refusal) (x y : Option Refusal) → (verdict x ≡ Err e → verdict y ≡ Err e) → verdict (cond b x (Some r)) ≡ Err e → verdict (cond b y (Some r)) ≡ Err e
+refused_before true r e x y more is = more is
+refused_before false r e x y more is = is
+
+pub held_before : (b : Bool) (r : Refusal) (x y z : Option Refusal) → (verdict x ≡ Ok tt → verdict y ≡ verdict z) → verdict (cond b x (Some r)) ≡ Ok tt → verdict (cond b y (Some r)) ≡ verdict z
+held_before true r x y z more is = more is
+held_before false r x y z more is = cc
+
 -- a part that is refused is refused whatever follows
 pub part_refuses : (cs ds : List Condition) (e : Refusal) → verdict (first_refusal cs) ≡ Err e → verdict (first_refusal (cs ++ ds)) ≡ Err e
 part_refuses [] ds e is = cc
-part_refuses (c ∷ cs) ds e is = go c.holds (part_refuses cs ds e) is where
-  go : (b : Bool) → (verdict (first_refusal cs) ≡ Err e → verdict (first_refusal (cs ++ ds)) ≡ Err e) → verdict (cond b (first_refusal cs) (Some c.refusal)) ≡ Err e → verdict (cond b (first_refusal (cs ++ ds)) (Some c.refusal)) ≡ Err e
-  go true more h = more h
-  go false more h = h
+part_refuses (c ∷ cs) ds e is = refused_before c.holds c.refusal e (first_refusal cs) (first_refusal (cs ++ ds)) (part_refuses cs ds e) is
 
 -- a part that holds leaves what follows
 pub part_holds : (cs ds : List Condition) → verdict (first_refusal cs) ≡ Ok tt → verdict (first_refusal (cs ++ ds)) ≡ verdict (first_refusal ds)
 part_holds [] ds is = refl
-part_holds (c ∷ cs) ds is = go c.holds (part_holds cs ds) is where
-  go : (b : Bool) → (verdict (first_refusal cs) ≡ Ok tt → verdict (first_refusal (cs ++ ds)) ≡ verdict (first_refusal ds)) → verdict (cond b (first_refusal cs) (Some c.refusal)) ≡ Ok tt → verdict (cond b (first_refusal (cs ++ ds)) (Some c.refusal)) ≡ verdict (first_refusal ds)
-  go true more h = more h
-  go false more h = cc
+part_holds (c ∷ cs) ds is = held_before c.holds c.refusal (first_refusal cs) (first_refusal (cs ++ ds)) (first_refusal ds) (part_holds cs ds) is
 
 -- conditions in three parts, of which the first holds and the second is refused
 pub middle_refuses : (all fronts bs cs : List Condition) (e : Refusal) → all ≡ fronts ++ (bs ++ cs) → verdict (first_refusal fronts) ≡ Ok tt → verdict (first_refusal bs) ≡ Err e → verdict (first_refusal all) ≡ Err e

@@ -136,10 +136,10 @@ module _ (M : Model) (sound : Sound M) (h : ℕ) (there : HasHalf M h) where
 
   module _ (old least g n k : ℕ) (w : HalfSeen M h far old g n) (steps : n ≡ k + 1) (found : (least ≡ cond (leads_to M h far g) (lesser old (edge_of g)) old)) where
     seen_more : Seen M h far least (w.met ++ g ∷ [])
-    seen_more = subst (λ b. Seen M h far b (w.met ++ g ∷ [])) (sym found) (go (leads_to M h far g) refl) where
-      go : (b : Bool) → leads_to M h far g ≡ b → Seen M h far (cond b (lesser old (edge_of g)) old) (w.met ++ g ∷ [])
-      go true e = seen_beside M h far old g w.met e (edge_fits g w.there) w.seen
-      go false e = seen_other M h far old g w.met e w.seen
+    seen_more = subst (λ b. Seen M h far b (w.met ++ g ∷ [])) (sym found) (seen_either (leads_to M h far g) refl) where
+      seen_either : (b : Bool) → leads_to M h far g ≡ b → Seen M h far (cond b (lesser old (edge_of g)) old) (w.met ++ g ∷ [])
+      seen_either true e = seen_beside M h far old g w.met e (edge_fits g w.there) w.seen
+      seen_either false e = seen_other M h far old g w.met e w.seen
 
     pub walk_closed : round M g ≡ h → least ≡ parallel M h
     unfolding whole

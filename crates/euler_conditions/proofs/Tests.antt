@@ -4,6 +4,7 @@ use Rattle.euler_operators.specs.declared.Refusal.{Refusal}
 use Rattle.euler_operators.specs.declared.Why.{Why}
 use Rattle.euler_operators.specs.Common.{Condition, first_refusal, verdict}
 use Rattle.euler_conditions.specs.Answer.{answer}
+use Rattle.euler_conditions.proofs.Orders.{held_before}
 
 -- a refusal as a check answers it
 abbrev pub refuses : Why → ℕ → Result (Unit {0}) Refusal
@@ -23,11 +24,7 @@ in_front (c ∷ cs) o = cond c.holds (in_front cs o) (Some c.refusal)
 
 pub all_pass : (cs : List Condition) (o : Option Refusal) → verdict (first_refusal cs) ≡ Ok tt → verdict (in_front cs o) ≡ verdict o
 all_pass [] o held = refl
-all_pass (c ∷ cs) o held = go c.holds held (all_pass cs o) where
-  go : (b : Bool) → verdict (cond b (first_refusal cs) (Some c.refusal)) ≡ Ok tt → (verdict (first_refusal cs) ≡ Ok tt → verdict (in_front cs o) ≡ verdict o) →
-      verdict (cond b (in_front cs o) (Some c.refusal)) ≡ verdict o
-  go true held more = more held
-  go false held more = cc
+all_pass (c ∷ cs) o held = held_before c.holds c.refusal (first_refusal cs) (in_front cs o) o (all_pass cs o) held
 
 -- numbers that are the same, and numbers that aren't
 pub same_numbers : (m n : ℕ) → m ≡ n → not (nat_eq m n) ≡ false
