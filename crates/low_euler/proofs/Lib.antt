@@ -2,7 +2,6 @@ pub mod face_operators_laws
 pub mod loop_operators_laws
 pub mod steps_laws
 pub mod Made
-pub mod Accepted
 pub mod Parts
 pub mod Inverses
 pub mod Undone

@@ -1,32 +1,35 @@
 -- The numbers that an accepted operator makes lie in range, and room that is made one number after another.
-use Rattle.std.proofs.Common.{◌≡◌, ℕ, ◌≤◌, true, List, [], ◌∷◌, None, refl, ◌∙◌, arith}
+use Rattle.std.proofs.Common.{◌≡◌, ℕ, ◌≤◌, true, List, [], ◌∷◌, None, refl, sym, ap, ◌∙◌, arith}
 use Rattle.std.proofs.lemmas.Bool.Decides.{nat_tests}
-use Rattle.euler_operators.specs.Common.{Kind, Model, is_number, conditions, first_false}
+use Rattle.euler_operators.specs.Common.{HalfEdge, code, edge_of, Kind, Model, Sound, is_number, first_false}
 use Rattle.euler_conditions.specs.Store.{Store, HasGrown}
 use Rattle.euler_operators.specs.declared.Op.{Op}
 use Rattle.euler_operators.specs.declared.Op.TheVariants as op
-use Rattle.euler_laws.proofs.Common.{all_hold}
+use Rattle.euler_operators.proofs.Common.{edge_of-code}
+use Rattle.euler_laws.proofs.Common.{mvfs_goes, mev_holds, mef_goes, kemr_goes, join_goes, mfkrh_goes, part_goes}
 use Rattle.euler_conditions.specs.Ready.{AllRoom, made}
 use Rattle.low_euler.specs.Room.{AllFit, KeepsRoom}
 
 -- the numbers that an operator makes are in range where its conditions hold
-pub made_fit : (M : Model) (o : Op) → first_false M o ≡ None → AllFit (made o)
-unfolding conditions first_false
-made_fit M (op.Mvfs s f l v p) e = let w = all_hold (conditions M (op.Mvfs s f l v p)) e in (w.0, (w.1.0, (w.1.1.0, (w.1.1.1.0, tt))))
-made_fit M (op.Kvfs s) e = tt
-made_fit M (op.Mev c d h v p) e = let w = all_hold (conditions M (op.Mev c d h v p)) e in (w.1.1.0, (w.1.1.1.0, tt))
-made_fit M (op.Kev h) e = tt
-made_fit M (op.Mef g k h f l) e = let w = all_hold (conditions M (op.Mef g k h f l)) e in (w.1.1.0, (w.1.1.1.0, (w.1.1.1.1.0, tt)))
-made_fit M (op.Kef h) e = tt
-made_fit M (op.Kemr h l) e = let w = all_hold (conditions M (op.Kemr h l)) e in (w.1.0, tt)
-made_fit M (op.Mekr c d h) e = let w = all_hold (conditions M (op.Mekr c d h)) e in (w.1.1.0, tt)
-made_fit M (op.Kfmrh f g) e = tt
-made_fit M (op.Mfkrh l f) e = let w = all_hold (conditions M (op.Mfkrh l f)) e in (w.1.0, tt)
-made_fit M (op.RingIn l f) e = tt
-made_fit M (op.RingOut l f) e = tt
-made_fit M (op.Outer l f) e = tt
-made_fit M (op.Merge s t) e = tt
-made_fit M (op.Part s t fs) e = let w = all_hold (conditions M (op.Part s t fs)) e in (w.1.0, tt)
+edge_fits : (h : HalfEdge) → is_number (edge_of (code h)) ≡ true → is_number h.edge ≡ true
+edge_fits h fits = ap is_number (sym (edge_of-code h)) ∙ fits
+
+pub made_fit : (M : Model) (o : Op) → Sound M → first_false M o ≡ None → AllFit (made o)
+made_fit M (op.Mvfs s f l v p) sound e = let goes = mvfs_goes M s f l v p e in (goes.solid_fits, (goes.face_fits, (goes.loop_fits, (goes.vertex_fits, tt))))
+made_fit M (op.Kvfs s) sound e = tt
+made_fit M (op.Mev c d h v p) sound e = let holds = mev_holds M c d h v p e in (edge_fits h holds.edge_fits, (holds.vertex_fits, tt))
+made_fit M (op.Kev h) sound e = tt
+made_fit M (op.Mef g k h f l) sound e = let goes = mef_goes M g k h f l e in (edge_fits h goes.edge_fits, (goes.face_fits, (goes.loop_fits, tt)))
+made_fit M (op.Kef h) sound e = tt
+made_fit M (op.Kemr h l) sound e = ((kemr_goes M h l e).loop_fits, tt)
+made_fit M (op.Mekr c d h) sound e = (edge_fits h (join_goes M c d h sound e).edge_fits, tt)
+made_fit M (op.Kfmrh f g) sound e = tt
+made_fit M (op.Mfkrh l f) sound e = ((mfkrh_goes M l f e).face_fits, tt)
+made_fit M (op.RingIn l f) sound e = tt
+made_fit M (op.RingOut l f) sound e = tt
+made_fit M (op.Outer l f) sound e = tt
+made_fit M (op.Merge s t) sound e = tt
+made_fit M (op.Part s t fs) sound e = ((part_goes M s t fs sound e).t_fits, tt)
 
 -- a number in range, as bounds
 pub least : (n : ℕ) → is_number n ≡ true → 1 ≤ n

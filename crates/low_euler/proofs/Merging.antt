@@ -1,18 +1,17 @@
 -- Faces that go to another solid one by one, until the solid has none.
-use Rattle.std.proofs.Common.{◌≡◌, ◌≢◌, ℕ, ◌<◌, Bool, true, false, cond, nat_eq, ◌&&◌, [], ◌∷◌, ◌+◌, length, Option, Some, None, is_some, unwrap_or, refl, sym, ap, ◌∙◌, arith, inl, inr, option_map}
-use Rattle.std.proofs.lemmas.Bool.Decides.{nat_tests, eqb_tells}
-use Rattle.euler_operators.specs.Common.{count, tick, Table, get, map_rows, put, remove, get-map_rows, Model, FaceRow, no_face, solid_of, outer, faces_of, is_number, Sound, conditions, first_false, effect, merge, faces_to_solid}
+use Rattle.std.proofs.Common.{◌≡◌, ◌≢◌, ℕ, ◌<◌, Bool, true, false, cond, nat_eq, ◌&&◌, [], ◌∷◌, ◌+◌, length, Option, Some, None, is_some, unwrap_or, refl, sym, ap, ◌∙◌, arith, inl, inr, option_map, ne_eqb}
+use Rattle.std.proofs.lemmas.Bool.Decides.{eqb_tells}
+use Rattle.std.proofs.lemmas.Bool.{false_from_ne_true}
+use Rattle.euler_operators.specs.Common.{count, tick, Table, get, map_rows, put, remove, get-map_rows, Model, FaceRow, no_face, solid_of, outer, faces_of, Sound, first_false, effect, merge, faces_to_solid}
 use Rattle.euler_operators.proofs.Common.{tick_same, tick_other, get-put_here, get-put_other, map-put, put_same, map_same, all_where_none, none_all_where, passes, count-all_where, same_length}
 use Rattle.euler_operators.specs.declared.Op.TheVariants.{Merge}
-use Rattle.euler_laws.proofs.Common.{all_hold}
+use Rattle.euler_laws.proofs.Common.{merge_goes, no_zero}
 use Rattle.euler_conditions.specs.Store.{Store, set_solid, take_solid, is_face_of, IsNextFace}
 use Rattle.euler_conditions.specs.Ready.{after}
 use Rattle.low_euler.proofs.Faces.{row_there, row_tells}
-use Rattle.std.proofs.lemmas.Bool.{not-true}
 
 pub merge_apart : (M : Model) (s t : ℕ) → first_false M (Merge s t) ≡ None → nat_eq s t ≡ false
-unfolding conditions first_false
-merge_apart M s t e = not-true (nat_eq s t) (all_hold (conditions M (Merge s t)) e).1.1.1.1.0
+merge_apart M s t e = ne_eqb s t (merge_goes M s t e).apart
 
 module _ (s : Store) (kept gone : ℕ) where
   abbrev given : ℕ → FaceRow → FaceRow
@@ -85,10 +84,4 @@ no_face_left M n none next = all_where_none (λ _ row. nat_eq row.solid n) M.fac
 
 -- 0 is no face
 pub no_zero_face : (M : Model) (n : ℕ) → Sound M → is_face_of M n 0 ≡ false
-no_zero_face M n sound = go (is_face_of M n 0) refl where
-  zero_out : is_number 0 ≡ true → ⊥
-  zero_out e = grind (arith, nat_tests)
-
-  go : (b : Bool) → is_face_of M n 0 ≡ b → is_face_of M n 0 ≡ false
-  go true e = absurd (zero_out (sound.faces_fit 0 (ap is_some (row_there M n 0 e).1)))
-  go false e = e
+no_zero_face M n sound = false_from_ne_true (is_face_of M n 0) (λ e. no_zero 0 refl (sound.faces_fit 0 (ap is_some (row_there M n 0 e).1)))

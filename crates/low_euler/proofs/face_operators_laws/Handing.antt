@@ -3,12 +3,10 @@ use Rattle.std.proofs.Common.{◌≡◌, ◌≢◌, ℕ, ◌+◌, ◌<◌, Bool,
 use Rattle.std.proofs.lemmas.Bool.Decides.{nat_tests, eqb_tells}
 use Rattle.std.proofs.lemmas.List.{take_more}
 use Rattle.euler_operators.specs.Table as table
-use Rattle.euler_operators.specs.Common.{Table, map_rows, put, same_table, get-map_rows, get-put, Model, FaceRow, no_face, outer, Has, AllHold, need, never, is_bad_part, lists, conditions, first_false, faces_known, faces_in, numbers_in_range, faces_to_solid}
+use Rattle.euler_operators.specs.Common.{Table, map_rows, put, same_table, get-map_rows, get-put, Model, FaceRow, no_face, outer, Has, lists, faces_to_solid}
 use Rattle.euler_conditions.specs.Store.{Store, set_solid}
-use Rattle.euler_operators.specs.declared.Op.TheVariants.{Part}
-use Rattle.euler_operators.specs.declared.Why.TheVariants.{NoSolid, SolidTaken, BadPart}
 use Rattle.euler_operators.proofs.Common.{or_true, or_false, row_some}
-use Rattle.euler_laws.proofs.Common.{all_hold, all_hold-front, all_hold-back, listed_cases}
+use Rattle.euler_laws.proofs.Common.{mapped_some}
 use Rattle.low_euler.specs.face_operators.Moving.{moved}
 
 abbrev given : List ℕ → ℕ → ℕ → FaceRow → FaceRow
@@ -16,10 +14,7 @@ given fs n = faces_to_solid (λ f _. lists fs f) n
 
 -- a rewriting keeps which numbers have rows
 pub has_given : (t : Table FaceRow) (fs : List ℕ) (n q : ℕ) → table.has (map_rows (given fs n) t) q ≡ table.has t q
-has_given t fs n q = ap is_some (get-map_rows (given fs n) t q) ∙ go (table.get t q) where
-  go : (o : Option FaceRow) → is_some (option_map (given fs n q) o) ≡ is_some o
-  go None = refl
-  go (Some row) = refl
+has_given t fs n q = ap is_some (get-map_rows (given fs n) t q) ∙ mapped_some (given fs n q) (table.get t q)
 
 or_assoc : (a b c : Bool) → (a || (b || c)) ≡ ((a || b) || c)
 or_assoc true b c = refl
@@ -42,10 +37,10 @@ module _ (M : Model) (fs : List ℕ) (n f : ℕ) (there : Has M.faces f) where
 
   here : (row : FaceRow) → table.get M.faces f ≡ Some row → outer N f ≡ row.outer
   unfolding outer
-  here row at = ap (λ o. (unwrap_or o no_face).outer) (get-map_rows (given fs n) M.faces f ∙ ap (option_map (given fs n f)) at) ∙ go (lists fs f) where
-    go : (b : Bool) → (cond b (record row { solid = n }) row).outer ≡ row.outer
-    go true = refl
-    go false = refl
+  here row at = ap (λ o. (unwrap_or o no_face).outer) (get-map_rows (given fs n) M.faces f ∙ ap (option_map (given fs n f)) at) ∙ outer_stays (lists fs f) where
+    outer_stays : (b : Bool) → (cond b (record row { solid = n }) row).outer ≡ row.outer
+    outer_stays true = refl
+    outer_stays false = refl
 
   one_more : put old f (record { solid = n; outer = outer N f }) ≡ map_rows (given (fs ++ f ∷ []) n) M.faces
   one_more = same_table _ _ (λ q. get-put old f (record { solid = n; outer = outer N f }) q ∙ elim (eqb_tells q f) [
@@ -68,19 +63,7 @@ step s fs i n f l at there =
     ∙ ap (λ xs. moved s xs n) (ap (λ g. take i fs ++ g ∷ []) (sym at) ∙ sym (take_more fs i 0 l))
 
 pub start : (s : Store) (n : ℕ) → s ≡ moved s [] n
-start s n = ap (λ t. record s { model = record s.model { faces = t } }) (same_table _ _ (λ q. sym (get-map_rows (given [] n) s.model.faces q ∙ go (table.get s.model.faces q)))) where
-  go : (o : Option FaceRow) → option_map (λ (row : FaceRow). row) o ≡ o
-  go None = refl
-  go (Some row) = refl
-
-known_has : (M : Model) (fs : List ℕ) → AllHold (faces_known M fs) → (q : ℕ) → lists fs q ≡ true → Has M.faces q
-known_has M [] h q l = cc
-known_has M (f ∷ fs) h q l = elim (listed_cases f q fs l) [ inl e ↦ ap (table.has M.faces) e ∙ h.0 | inr e ↦ known_has M fs h.1 q e ]
-
-pub part_has : (M : Model) (s t : ℕ) (fs : List ℕ) → first_false M (Part s t fs) ≡ None → (q : ℕ) → lists fs q ≡ true → Has M.faces q
-unfolding conditions first_false
-part_has M s t fs e =
-    let front = need (table.has M.solids s) NoSolid s ∷ never (table.has M.solids t) SolidTaken t ∷ faces_known M fs in
-    let last = never (is_bad_part M s fs) BadPart s ∷ [] in
-    let h = all_hold-back (numbers_in_range (s ∷ t ∷ fs)) ((front ++ faces_in M s fs) ++ last) (all_hold (conditions M (Part s t fs)) e) in
-    known_has M fs (all_hold-front front (faces_in M s fs) (all_hold-front (front ++ faces_in M s fs) last h)).1.1
+start s n = ap (λ t. record s { model = record s.model { faces = t } }) (same_table _ _ (λ q. sym (get-map_rows (given [] n) s.model.faces q ∙ nothing_given (table.get s.model.faces q)))) where
+  nothing_given : (o : Option FaceRow) → option_map (λ (row : FaceRow). row) o ≡ o
+  nothing_given None = refl
+  nothing_given (Some row) = refl

@@ -11,10 +11,10 @@ unfolding content
 content_same M t l = refl
 
 put_stays : {X : Type 0} (t : Table X) (n q : ℕ) (x : X) → table.has t q ≡ true → table.has (put t n x) q ≡ true
-put_stays t n q x h = ap is_some (get-put t n x q) ∙ go (nat_eq q n) where
-  go : (b : Bool) → is_some (cond b (Some x) (table.get t q)) ≡ true
-  go true = refl
-  go false = h
+put_stays t n q x h = ap is_some (get-put t n x q) ∙ has_either (nat_eq q n) where
+  has_either : (b : Bool) → is_some (cond b (Some x) (table.get t q)) ≡ true
+  has_either true = refl
+  has_either false = h
 
 -- a face that is there stays where another outer loop is set
 pub face_stays : (s : Store) (f l q : ℕ) → Has s.model.faces q → table.has (set_outer s f l).model.faces q ≡ true

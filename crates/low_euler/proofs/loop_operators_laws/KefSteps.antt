@@ -92,8 +92,8 @@ module _ (s : Store) (half : HalfEdge) (ok : Accepts s (Kef half)) where
   loops_apart n e same = laws.r_s M sound h goes (sym (sym (ap (loop_of M) e) ∙ same))
 
   -- the two loops, and the half-edges in them
-  hm : m ≢ h
-  hm e = mate_other h (sym e)
+  mate_is_other : m ≢ h
+  mate_is_other e = mate_other h (sym e)
 
   abbrev all : List ℕ
   all = xs ++ ys
@@ -175,11 +175,11 @@ module _ (s : Store) (half : HalfEdge) (ok : Accepts s (Kef half)) where
   unfolding after_half
   some_follow = left_filled A B (λ e. laws.m_on M sound h goes (ap (head_or m) e))
 
-  second_is : take_out (take_out one m) h ≡ state (cycle (canonical (A ++ B))) (cycle []) (pair m h hm)
+  second_is : take_out (take_out one m) h ≡ state (cycle (canonical (A ++ B))) (cycle []) (pair m h mate_is_other)
   second_is = ap (λ t. take_out t h) first_is
       ∙ two.take_out_r M r l (face_of M r) (face_of M l) all loops s.room (cycle kept) (cycle []) (table.put table.empty m (m ∷ [])) fits_three h h_kept
-      ∙ ap (λ q. state (cycle_or_lone q (tail M h)) (cycle []) (pair m h hm)) (rest_both h m xs ys once h_in m_in)
-      ∙ ap (λ c. state c (cycle []) (pair m h hm)) (cycle_filled (A ++ B) (tail M h) some_follow)
+      ∙ ap (λ q. state (cycle_or_lone q (tail M h)) (cycle []) (pair m h mate_is_other)) (rest_both h m xs ys once h_in m_in)
+      ∙ ap (λ c. state c (cycle []) (pair m h mate_is_other)) (cycle_filled (A ++ B) (tail M h) some_follow)
 
   -- what the loop that goes asks
   abbrev less : Table LoopRow → Table (List ℕ) → Store
@@ -190,7 +190,7 @@ module _ (s : Store) (half : HalfEdge) (ok : Accepts s (Kef half)) where
 
   edgeless_is : edgeless ≡ less joined_loops table.empty
   unfolding take_edge
-  edgeless_is = ap (λ t. take_edge t (edge_of h)) second_is ∙ ap (less joined_loops) (edge_gone m h hm (edge_of h) (halves_back h))
+  edgeless_is = ap (λ t. take_edge t (edge_of h)) second_is ∙ ap (less joined_loops) (edge_gone m h mate_is_other (edge_of h) (halves_back h))
 
   pub gone_still : (p : Store) (n : ℕ) → n ≡ l → p ≡ edgeless → table.has p.model.loops n ≡ true
   gone_still p n en e = ap (table.has p.model.loops) en ∙ ap (λ (t : Store). table.has t.model.loops l) (e ∙ edgeless_is)

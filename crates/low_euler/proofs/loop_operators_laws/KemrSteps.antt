@@ -73,8 +73,8 @@ module _ (s : Store) (half : HalfEdge) (l : ℕ) (ok : Accepts s (Kemr half l)) 
   once : IsApart xs
   once = (laws.cyc M sound h l goes).apart
 
-  hm : h ≢ m
-  hm = mate_other h
+  mate_apart : h ≢ m
+  mate_apart = mate_other h
 
   m_h : m ≢ h
   m_h e = mate_other h (sym e)
@@ -114,10 +114,10 @@ module _ (s : Store) (half : HalfEdge) (l : ℕ) (ok : Accepts s (Kemr half l)) 
   fits_one x = omega (arith, count_all x)
 
   fits_two : Fits (cycle left) (cycle right)
-  fits_two x = omega (arith, count_all x, count-cut h m xs once h_in m_in hm x)
+  fits_two x = omega (arith, count_all x, count-cut h m xs once h_in m_in mate_apart x)
 
   pub cut_asks : (p : Store) (n : ℕ) → p ≡ looped → n ≡ m → CanCut p h n l
-  cut_asks p n e en = two.cut_asks M r l (face_of M r) (face_of M r) all loops s.room xs table.empty fits_one h m h_in m_in hm p n (e ∙ looped_is) en
+  cut_asks p n e en = two.cut_asks M r l (face_of M r) (face_of M r) all loops s.room xs table.empty fits_one h m h_in m_in mate_apart p n (e ∙ looped_is) en
 
   parted_is : parted ≡ state (cycle left) (cycle right) table.empty
   parted_is = ap (λ b. cond b (cut_loose looped h m) (cut_to looped h m l)) (ne_eqb l 0 (number_real l goes.loop_fits))
@@ -125,10 +125,10 @@ module _ (s : Store) (half : HalfEdge) (l : ℕ) (ok : Accepts s (Kemr half l)) 
       ∙ two.cut_parts M r l (face_of M r) (face_of M r) all loops s.room xs (cycle []) table.empty fits_one h m h_in
 
   h_left : IsIn h left
-  h_left = (IsIn-cut h m xs once h_in m_in hm).0
+  h_left = (IsIn-cut h m xs once h_in m_in mate_apart).0
 
   m_right : IsIn m right
-  m_right = (IsIn-cut h m xs once h_in m_in hm).1
+  m_right = (IsIn-cut h m xs once h_in m_in mate_apart).1
 
   -- what the edge that is killed asks
   pub m_parted : IsStanding parted.model m
@@ -137,7 +137,7 @@ module _ (s : Store) (half : HalfEdge) (l : ℕ) (ok : Accepts s (Kemr half l)) 
   first_is : take_out parted m ≡ state (cycle left) (cycle_or_lone X (tail M m)) (table.put table.empty m (m ∷ []))
   first_is = ap (λ t. take_out t m) parted_is
       ∙ two.take_out_l M r l (face_of M r) (face_of M r) all loops s.room (cycle left) (cycle right) table.empty fits_two m m_right
-      ∙ ap (λ q. state (cycle left) (cycle_or_lone q (tail M m)) (table.put table.empty m (m ∷ []))) (rest_right h m xs once h_in m_in hm)
+      ∙ ap (λ q. state (cycle left) (cycle_or_lone q (tail M m)) (table.put table.empty m (m ∷ []))) (rest_right h m xs once h_in m_in mate_apart)
 
   fits_three : Fits (cycle left) (cycle_or_lone X (tail M m))
   fits_three x = omega (arith, count_or_lone x X (tail M m), fits_two x, count_right x) where
@@ -150,7 +150,7 @@ module _ (s : Store) (half : HalfEdge) (l : ℕ) (ok : Accepts s (Kemr half l)) 
   second_is : take_out (take_out parted m) h ≡ state (cycle_or_lone Y (tail M h)) (cycle_or_lone X (tail M m)) (pair m h m_h)
   second_is = ap (λ t. take_out t h) first_is
       ∙ two.take_out_r M r l (face_of M r) (face_of M r) all loops s.room (cycle left) (cycle_or_lone X (tail M m)) (table.put table.empty m (m ∷ [])) fits_three h h_left
-      ∙ ap (λ q. state (cycle_or_lone q (tail M h)) (cycle_or_lone X (tail M m)) (pair m h m_h)) (rest_left h m xs once h_in m_in hm)
+      ∙ ap (λ q. state (cycle_or_lone q (tail M h)) (cycle_or_lone X (tail M m)) (pair m h m_h)) (rest_left h m xs once h_in m_in mate_apart)
 
   abbrev with_loops : Table LoopRow → Store
   with_loops t = record s { model = record M { loops = t; edges = table.remove M.edges (edge_of h) } }

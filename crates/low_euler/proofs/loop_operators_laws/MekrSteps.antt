@@ -1,11 +1,11 @@
 -- What mekr's writers make of a store, one after another.
-use Rattle.std.proofs.Common.{◌≡◌, ◌≢◌, ℕ, ◌+◌, true, false, List, [], ◌∷◌, ◌++◌, Some, None, is_some, refl, sym, ap, ◌∙◌, subst, arith, true≢false}
-use Rattle.euler_operators.specs.Common.{count, tick, IsIn, IsApart, canonical, rotate_to, joined, HalfEdge, Corner, At, Lone, code, mate, edge_of, Table, Model, LoopContent, lone, cycle, items_of, content, face_of, loop_of, cycle_of, has_half, Sound, first_false, conditions, corner_known, corner_lone, corner_loop, corner_tail, corner_list, is_lone, effect, mekr, edge_row}
+use Rattle.std.proofs.Common.{◌≡◌, ◌≢◌, ℕ, ◌+◌, true, false, List, [], ◌∷◌, ◌++◌, Some, is_some, refl, sym, ap, ◌∙◌, subst, arith, true≢false}
+use Rattle.euler_operators.specs.Common.{count, tick, IsIn, IsApart, canonical, rotate_to, joined, HalfEdge, Corner, At, Lone, code, mate, edge_of, Table, Model, LoopContent, lone, cycle, items_of, content, face_of, loop_of, cycle_of, has_half, Sound, corner_known, corner_lone, corner_loop, corner_tail, corner_list, is_lone, effect, mekr, edge_row}
 use Rattle.euler_operators.proofs.Common.{count-append, tick_same, count-canonical, canonical_one, apart_front, rest_canonical, mate_other, edge_of-code, put_same, cycle_there, number_real}
 use Rattle.euler_operators.specs.Table as table
 use Rattle.euler_operators.specs.declared.Op.TheVariants.{Mekr}
 use Rattle.euler_conditions.specs.Ready.{Accepts, after}
-use Rattle.euler_laws.proofs.Common.{all_hold, half_of, loop_row, JoinGoes, join_goes, count_spot}
+use Rattle.euler_laws.proofs.Common.{half_of, loop_row, JoinGoes, MekrHolds, mekr_holds, count_spot}
 use Rattle.euler_conditions.specs.Store.{Store, with_loop, fill, join, take_loop}
 use Rattle.low_euler.specs.steps.Steps.{IsStanding, IsUnused, IsCorner, CanTake, with_edge, put_before, put_at, make_edge}
 use Rattle.low_euler.proofs.steps_laws.StoreSteps.{remove-put_same}
@@ -18,13 +18,6 @@ use Rattle.low_euler.proofs.steps_laws.SoundLoops.{edged_loops, none_first, none
 corner_there : (M : Model) (c : Corner) → (corner_known M c).holds ≡ true → (corner_lone M c).holds ≡ true → IsCorner M c
 corner_there M (At g) known bare = half_of M g known
 corner_there M (Lone l) known bare = (known, bare)
-
-corners_there : (M : Model) (c d : Corner) (h : HalfEdge) → first_false M (Mekr c d h) ≡ None → IsCorner M c × IsCorner M d
-unfolding first_false conditions
-corners_there M c d h e =
-    let w = all_hold (conditions M (Mekr c d h)) e in
-    let t = w.1.1.1 in
-    (corner_there M c t.0 t.1.1.0, corner_there M d t.1.0 t.1.1.1.0)
 
 none_in_lone : (c : LoopContent) → is_lone c ≡ true → items_of c ≡ []
 none_in_lone (lone v) e = refl
@@ -64,14 +57,17 @@ module _ (s : Store) (first second : Corner) (half : HalfEdge) (ok : Accepts s (
   bare : s.loose ≡ table.empty
   bare = ok.ready.bare
 
+  holds : MekrHolds M first second half
+  holds = mekr_holds M first second half sound ok.holds
+
   pub goes : JoinGoes M h r l u w Y X
-  goes = join_goes M first second half sound ok.holds
+  goes = holds.joins
 
   pub first_there : IsCorner M first
-  first_there = (corners_there M first second half ok.holds).0
+  first_there = corner_there M first holds.first_known holds.first_lone
 
   pub second_there : IsCorner M second
-  second_there = (corners_there M first second half ok.holds).1
+  second_there = corner_there M second holds.second_known holds.second_lone
 
   -- the steps
   abbrev pub edged : Store
@@ -142,11 +138,11 @@ module _ (s : Store) (first second : Corner) (half : HalfEdge) (ok : Accepts s (
   abbrev Fits : LoopContent → LoopContent → Type 0
   Fits c d = two.Fits N r l (face_of M r) (face_of M l) all loops c d
 
-  hm : h ≢ m
-  hm = mate_other h
+  mate_apart : h ≢ m
+  mate_apart = mate_other h
 
   abbrev loose : Table (List ℕ)
-  loose = pair h m hm
+  loose = pair h m mate_apart
 
   edged_is : edged ≡ state C D loose
   unfolding with_edge
@@ -204,7 +200,7 @@ module _ (s : Store) (first second : Corner) (half : HalfEdge) (ok : Accepts s (
   first_is : first_in ≡ state (cycle ys) D left
   first_is = ap (λ t. put_at t first h) edged_is
       ∙ put_corner (state C D loose) r h (two.content_r N r l (face_of M r) (face_of M l) all loops C D) (two.loop_r N r l (face_of M r) (face_of M l) all loops C D fits_one)
-      (pair_singles h m hm) (get_first h m hm) first refl first_there
+      (pair_singles h m mate_apart) (get_first h m mate_apart) first refl first_there
       ∙ two.new_r N r l (face_of M r) (face_of M l) all loops s.room C D (cycle ys) left r refl
 
   count_ys : (x : ℕ) → count x ys ≡ tick x h + count x (items_of C)
@@ -226,9 +222,9 @@ module _ (s : Store) (first second : Corner) (half : HalfEdge) (ok : Accepts s (
   second_is : second_in ≡ state (cycle ys) (cycle xs) table.empty
   second_is = ap (λ t. put_at t second m) first_is
       ∙ put_corner (state (cycle ys) D left) l m (two.content_l N r l (face_of M r) (face_of M l) all loops (cycle ys) D) (two.loop_l N r l (face_of M r) (face_of M l) all loops (cycle ys) D fits_two)
-      (singles_remove loose h (pair_singles h m hm)) (left_second h m hm) second refl second_there
+      (singles_remove loose h (pair_singles h m mate_apart)) (left_second h m mate_apart) second refl second_there
       ∙ two.new_l N r l (face_of M r) (face_of M l) all loops s.room (cycle ys) D (cycle xs) (table.remove left m) l refl
-      ∙ ap (state (cycle ys) (cycle xs)) (pair_gone h m hm)
+      ∙ ap (state (cycle ys) (cycle xs)) (pair_gone h m mate_apart)
 
   count_xs : (x : ℕ) → count x xs ≡ tick x m + count x (items_of D)
   count_xs x = count-canonical x (m ∷ X) ∙ omega (arith, count_D x)

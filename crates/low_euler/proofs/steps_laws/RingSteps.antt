@@ -110,10 +110,10 @@ module _ (xs : List ℕ) (d : IsApart xs) (g : ℕ) (i : IsIn g xs) where
 
   -- where it is alone, nothing follows it
   pub nothing_follows : p ≡ g → rest g xs ≡ []
-  nothing_follows e = go (rest g xs) (omega (arith, count_at g g xs i, d g, tick_same g)) e where
-    go : (us : List ℕ) → count g us ≡ 0 → last_or g us ≡ g → us ≡ []
-    go [] n q = refl
-    go (u ∷ us) n q =
+  nothing_follows e = empty_by_last (rest g xs) (omega (arith, count_at g g xs i, d g, tick_same g)) e where
+    empty_by_last : (us : List ℕ) → count g us ≡ 0 → last_or g us ≡ g → us ≡ []
+    empty_by_last [] n q = refl
+    empty_by_last (u ∷ us) n q =
         let f = front_of u us in
         absurd (omega (arith, n, ap (count g) f.1, count-append g f.0 (last_or u us ∷ []), ap (λ z. count g (z ∷ [])) q, tick_same g))
 

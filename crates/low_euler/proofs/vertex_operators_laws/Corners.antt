@@ -1,18 +1,16 @@
 -- The corners at which mev may be called.
-use Rattle.std.proofs.Common.{◌≡◌, ℕ, None, sym, ap, subst, ◌∙◌, eqb-true}
-use Rattle.euler_operators.specs.Common.{Point, HalfEdge, Corner, At, Lone, Model, lone, content, Sound, first_false, conditions, lone_vertex}
+use Rattle.std.proofs.Common.{◌≡◌, ℕ, None, sym, ap, subst, ◌∙◌}
+use Rattle.euler_operators.specs.Common.{Point, HalfEdge, Corner, At, Lone, Model, lone, content, Sound, first_false, lone_vertex}
 use Rattle.euler_operators.specs.declared.Op.TheVariants.{Mev}
-use Rattle.euler_laws.proofs.Common.{all_hold, mixed_first, mixed_second, lone_is}
+use Rattle.euler_laws.proofs.Common.{mev_holds, mixed_first, mixed_second, lone_is}
 use Rattle.euler_conditions.specs.Store.{Store}
 use Rattle.euler_conditions.specs.Ready.{Accepts, after}
 
 -- two lone loops at one vertex are one
 same_lone : (M : Model) (l d : ℕ) (h : HalfEdge) (v : ℕ) (p : Point) → Sound M → first_false M (Mev (Lone l) (Lone d) h v p) ≡ None → d ≡ l
-unfolding first_false conditions
 same_lone M l d h v p sound e =
-    let w = all_hold (conditions M (Mev (Lone l) (Lone d) h v p)) e in
-    let t = w.1.1.1.1 in
-    sound.one_lone d l (lone_vertex (content M d)) (lone_is (content M d) t.1.1.1.0) (lone_is (content M l) t.1.1.0 ∙ ap lone (eqb-true _ _ t.1.1.1.1.1.1.1.0))
+    let holds = mev_holds M (Lone l) (Lone d) h v p e in
+    sound.one_lone d l (lone_vertex (content M d)) (lone_is (content M d) holds.second_lone) (lone_is (content M l) holds.first_lone ∙ ap lone holds.one_tail)
 
 module _ (s : Store) (l : ℕ) (h : HalfEdge) (v : ℕ) (p : Point) where
   -- beside a lone loop there is no other corner

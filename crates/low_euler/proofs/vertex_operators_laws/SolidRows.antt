@@ -1,10 +1,10 @@
 -- A solid with one face and one vertex, made and killed by the writers of an arena.
-use Rattle.std.proofs.Common.{◌≡◌, ℕ, true, List, [], ◌∷◌, Some, None, is_some, unwrap_or, refl, sym, ap, subst, ◌∙◌, true≢false}
-use Rattle.euler_operators.specs.Common.{Point, Table, Model, LoopRow, lone, cycle, items_of, no_loop, outer, face_of, faces_of, content, first_false, conditions, bare_face, is_lone, lone_vertex, effect, mvfs, kvfs_at, head_or_zero}
+use Rattle.std.proofs.Common.{◌≡◌, ℕ, true, [], ◌∷◌, Some, None, is_some, unwrap_or, sym, ap, subst, ◌∙◌}
+use Rattle.euler_operators.specs.Common.{Point, Table, Model, LoopRow, lone, cycle, items_of, no_loop, outer, face_of, faces_of, content, first_false, is_lone, lone_vertex, effect, mvfs, kvfs_at, head_or_zero}
 use Rattle.euler_operators.specs.Table as table
 use Rattle.euler_operators.specs.declared.Op.TheVariants.{Mvfs, Kvfs}
 use Rattle.euler_operators.proofs.Common.{get-put_here, put-put}
-use Rattle.euler_laws.proofs.Common.{all_hold, KvfsGoes, kvfs_goes}
+use Rattle.euler_laws.proofs.Common.{KvfsGoes, faces_one, kvfs_goes}
 use Rattle.euler_conditions.specs.Store.{Store, put_vertex, put_solid, put_face, put_loop, with_lone, only_item, take_solid, take_face, take_loop, take_vertex}
 use Rattle.euler_conditions.specs.Ready.{IsReady, after}
 use Rattle.euler_conditions.proofs.Solids.{one_face}
@@ -35,14 +35,8 @@ module _ (s : Store) (n f l v : ℕ) (p : Point) where
 
 -- ---- a solid that is killed
 
-bare_is_one : (M : Model) (fs : List ℕ) → bare_face M fs ≡ true → is_some (only_item fs) ≡ true
-bare_is_one M [] e = absurd (true≢false (sym e))
-bare_is_one M (f ∷ []) e = refl
-bare_is_one M (f ∷ g ∷ fs) e = absurd (true≢false (sym e))
-
 pub has_one_face : (M : Model) (n : ℕ) → first_false M (Kvfs n) ≡ None → is_some (only_item (faces_of M n)) ≡ true
-unfolding first_false conditions
-has_one_face M n e = let w = all_hold (conditions M (Kvfs n)) e in bare_is_one M (faces_of M n) w.1.1.0
+has_one_face M n e = ap (λ fs. is_some (only_item fs)) (faces_one M n (head_or_zero (faces_of M n)) (kvfs_goes M n e))
 
 module _ (s : Store) (n f : ℕ) (ready : IsReady s) (holds : first_false s.model (Kvfs n) ≡ None) (is : only_item (faces_of s.model n) ≡ Some f) where
   abbrev M : Model

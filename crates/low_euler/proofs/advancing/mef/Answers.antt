@@ -4,7 +4,7 @@ use Rattle.low_euler.proofs.Stepped.{accepted_grown, stepped_grown, mef_back}
 use Rattle.low_euler.proofs.advancing.mef.Goals as goal
 
 pub room_for_three-requires : goal.room_for_three-requires
-room_for_three-requires c = made_fit _ (Mef c.args.from c.args.to c.args.half c.args.face c.args.outer) c.requires.accepted
+room_for_three-requires c = made_fit _ (Mef c.args.from c.args.to c.args.half c.args.face c.args.outer) c.requires.ready.sound c.requires.accepted
 
 pub mef-requires : goal.mef-requires
 mef-requires c = accepted_grown c.args.arena.now c.room_for_three.new.arena (Mef c.args.from c.args.to c.args.half c.args.face c.args.outer) c.requires.ready c.requires.accepted c.in_ok-room_for_three.ensures.grown c.in_ok-room_for_three.ensures.ok

@@ -4,7 +4,7 @@ use Rattle.low_euler.proofs.Stepped.{accepted_grown, stepped_grown, mev_back}
 use Rattle.low_euler.proofs.advancing.mev.Goals as goal
 
 pub room_for_two-requires : goal.room_for_two-requires
-room_for_two-requires c = made_fit _ (Mev c.args.from c.args.to c.args.half c.args.vertex c.args.point) c.requires.accepted
+room_for_two-requires c = made_fit _ (Mev c.args.from c.args.to c.args.half c.args.vertex c.args.point) c.requires.ready.sound c.requires.accepted
 
 pub mev-requires : goal.mev-requires
 mev-requires c = accepted_grown c.args.arena.now c.room_for_two.new.arena (Mev c.args.from c.args.to c.args.half c.args.vertex c.args.point) c.requires.ready c.requires.accepted c.in_ok-room_for_two.ensures.grown c.in_ok-room_for_two.ensures.ok

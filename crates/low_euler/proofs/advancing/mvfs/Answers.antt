@@ -4,7 +4,7 @@ use Rattle.low_euler.proofs.Stepped.{accepted_grown, stepped_grown, mvfs_back}
 use Rattle.low_euler.proofs.advancing.mvfs.Goals as goal
 
 pub room_for_solid-requires : goal.room_for_solid-requires
-room_for_solid-requires c = made_fit _ (Mvfs c.args.solid c.args.face c.args.outer c.args.vertex c.args.point) c.requires.accepted
+room_for_solid-requires c = made_fit _ (Mvfs c.args.solid c.args.face c.args.outer c.args.vertex c.args.point) c.requires.ready.sound c.requires.accepted
 
 pub mvfs-requires : goal.mvfs-requires
 mvfs-requires c = accepted_grown c.args.arena.now c.room_for_solid.new.arena (Mvfs c.args.solid c.args.face c.args.outer c.args.vertex c.args.point) c.requires.ready c.requires.accepted c.in_ok-room_for_solid.ensures.grown c.in_ok-room_for_solid.ensures.ok

@@ -1,17 +1,17 @@
 use Rattle.std.proofs.Common.{ap, ◌∙◌}
 use Rattle.euler_operators.specs.Table as table
 use Rattle.euler_laws.proofs.Common.{kef_goes, of_half}
-use Rattle.low_euler.proofs.Accepted.{mate_there}
+use Rattle.euler_conditions.proofs.Known.{mate_edge_there}
 use Rattle.low_euler.proofs.Inverses.{half_then, kef_inverse}
 use Rattle.low_euler.proofs.inverse.kef.Goals as goal
 
 pub loop_of-killed-requires-clause-there : goal.loop_of-killed-requires-clause-there
 loop_of-killed-requires-clause-there c =
-    let M = c.args.arena.now.model in mate_there M c.args.h c.mate-mate.result c.mate-mate.ensures (of_half M c.args.h (kef_goes M c.args.h c.requires.accepted).h_there)
+    let M = c.args.arena.now.model in mate_edge_there M c.args.h c.mate-mate.result c.mate-mate.ensures (of_half M c.args.h (kef_goes M c.args.h c.requires.accepted).h_there)
 
 pub next-first-requires-clause-there : goal.next-first-requires-clause-there
 next-first-requires-clause-there c =
-    let M = c.args.arena.now.model in mate_there M c.args.h c.mate-mate.result c.mate-mate.ensures (of_half M c.args.h (kef_goes M c.args.h c.requires.accepted).h_there)
+    let M = c.args.arena.now.model in mate_edge_there M c.args.h c.mate-mate.result c.mate-mate.ensures (of_half M c.args.h (kef_goes M c.args.h c.requires.accepted).h_there)
 
 pub next-second-requires-clause-there : goal.next-second-requires-clause-there
 next-second-requires-clause-there c = of_half c.args.arena.now.model c.args.h (kef_goes c.args.arena.now.model c.args.h c.requires.accepted).h_there

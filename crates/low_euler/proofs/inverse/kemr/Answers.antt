@@ -1,5 +1,5 @@
 use Rattle.euler_laws.proofs.Common.{kemr_goes, of_half}
-use Rattle.low_euler.proofs.Accepted.{mate_there}
+use Rattle.euler_conditions.proofs.Known.{mate_edge_there}
 use Rattle.low_euler.proofs.Inverses.{kemr_inverse}
 use Rattle.low_euler.proofs.inverse.kemr.Goals as goal
 
@@ -8,7 +8,7 @@ loop_of-kept-requires-clause-there c = of_half c.args.arena.now.model c.args.h (
 
 pub corner_after-first-requires-clause-there : goal.corner_after-first-requires-clause-there
 corner_after-first-requires-clause-there c =
-    let M = c.args.arena.now.model in mate_there M c.args.h c.mate-mate.result c.mate-mate.ensures (of_half M c.args.h (kemr_goes M c.args.h c.args.ring c.requires.accepted).h_there)
+    let M = c.args.arena.now.model in mate_edge_there M c.args.h c.mate-mate.result c.mate-mate.ensures (of_half M c.args.h (kemr_goes M c.args.h c.args.ring c.requires.accepted).h_there)
 
 pub corner_after-second-requires-clause-there : goal.corner_after-second-requires-clause-there
 corner_after-second-requires-clause-there c = of_half c.args.arena.now.model c.args.h (kemr_goes c.args.arena.now.model c.args.h c.args.ring c.requires.accepted).h_there

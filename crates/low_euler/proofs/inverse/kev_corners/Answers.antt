@@ -1,5 +1,5 @@
 use Rattle.euler_laws.proofs.Common.{kev_goes, of_half}
-use Rattle.low_euler.proofs.Accepted.{mate_there}
+use Rattle.euler_conditions.proofs.Known.{mate_edge_there}
 use Rattle.std.proofs.Common.{true, false, refl, sym, ◌∙◌}
 use Rattle.low_euler.proofs.Inverses.{corners}
 use Rattle.low_euler.proofs.inverse.kev_corners.Goals as goal
@@ -9,7 +9,7 @@ next-following-requires-clause-there c = of_half c.args.arena.now.model c.args.h
 
 pub next-back-requires-clause-there : goal.next-back-requires-clause-there
 next-back-requires-clause-there c =
-    let M = c.args.arena.now.model in mate_there M c.args.h c.mate-mate.result c.mate-mate.ensures (of_half M c.args.h (kev_goes M c.args.h c.requires.ready.sound c.requires.accepted).h_there)
+    let M = c.args.arena.now.model in mate_edge_there M c.args.h c.mate-mate.result c.mate-mate.ensures (of_half M c.args.h (kev_goes M c.args.h c.requires.ready.sound c.requires.accepted).h_there)
 
 pub loop_of-requires-clause-there : goal.loop_of-requires-clause-there
 loop_of-requires-clause-there c = of_half c.args.arena.now.model c.args.h (kev_goes c.args.arena.now.model c.args.h c.requires.ready.sound c.requires.accepted).h_there

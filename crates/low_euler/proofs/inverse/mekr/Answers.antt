@@ -1,11 +1,11 @@
 use Rattle.std.proofs.Common.{ap}
 use Rattle.euler_operators.specs.Common.{inverse}
 use Rattle.euler_operators.specs.declared.Op.TheVariants.{Kemr}
-use Rattle.low_euler.proofs.Accepted.{mekr_second}
+use Rattle.euler_laws.proofs.Common.{mekr_holds}
 use Rattle.low_euler.proofs.inverse.mekr.Goals as goal
 
 pub corner_loop-ring-requires-clause-known : goal.corner_loop-ring-requires-clause-known
-corner_loop-ring-requires-clause-known c = mekr_second c.args.arena.now.model c.args.first c.args.second c.args.h c.requires.accepted
+corner_loop-ring-requires-clause-known c = (mekr_holds c.args.arena.now.model c.args.first c.args.second c.args.h c.requires.ready.sound c.requires.accepted).second_known
 
 pub returns-clause-is : goal.returns-clause-is
 unfolding inverse

@@ -3,12 +3,12 @@ use Rattle.euler_operators.specs.Table as table
 use Rattle.euler_conditions.specs.Store.{Store}
 use Rattle.euler_operators.specs.Common.{effect, part}
 use Rattle.low_euler.specs.face_operators.Moving.{moved}
-use Rattle.low_euler.proofs.face_operators_laws.Handing.{part_has}
+use Rattle.euler_laws.proofs.Common.{part_goes}
 use Rattle.low_euler.proofs.face_operators.moving.part.Goals as goal
 
 pub give_faces-requires-clause-there : goal.give_faces-requires-clause-there
 give_faces-requires-clause-there c = λ f l.
-    ap (λ (s : Store). table.has s.model.faces f) c.put_solid.ensures ∙ part_has c.args.arena.now.model c.args.kept c.args.made c.args.faces.now c.requires.holds f l
+    ap (λ (s : Store). table.has s.model.faces f) c.put_solid.ensures ∙ ((part_goes c.args.arena.now.model c.args.kept c.args.made c.args.faces.now c.requires.ready.sound c.requires.holds).each f l).0
 
 pub returns : goal.returns
 unfolding effect part

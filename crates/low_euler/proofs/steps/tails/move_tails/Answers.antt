@@ -25,12 +25,12 @@ next-requires c =
     ∙ ap (has_half (set_tail c.round.arena c.round.code c.args.vertex).model) (c.mate.ensures ∙ ap mate (ap code c.of_code-in-round.ensures ∙ code-half c.round.code))
     ∙ mate_there c.args.arena.now c.round.arena (code c.args.from) (code c.args.to) c.round.code c.args.vertex c.requires.sound c.requires.to c.round.invariant
 
-on : (c : goal.After-next) → HasCome c.args.arena.now c.set_tail.new.self (code c.args.from) (code c.args.to) (code c.next.result) c.args.vertex
-on c = come_next c.args.arena.now c.round.arena (code c.args.from) (code c.args.to) c.round.code c.args.vertex c.requires.sound c.requires.to c.round.invariant _ _ _
+come_on : (c : goal.After-next) → HasCome c.args.arena.now c.set_tail.new.self (code c.args.from) (code c.args.to) (code c.next.result) c.args.vertex
+come_on c = come_next c.args.arena.now c.round.arena (code c.args.from) (code c.args.to) c.round.code c.args.vertex c.requires.sound c.requires.to c.round.invariant _ _ _
     (c.set_tail.ensures ∙ ap (λ y. set_tail c.round.arena y c.args.vertex) (ap code c.of_code.ensures ∙ code-half c.round.code)) (c.mate.ensures ∙ ap mate (ap code c.of_code-in-round.ensures ∙ code-half c.round.code)) c.next.ensures.in_loop (λ e. c.round-test.true (e ∙ sym c.code-end.ensures))
 
 pub code-code-requires-in-round : goal.code-code-requires-in-round
-code-code-requires-in-round c = edge_fits _ c.requires.sound c.next.result (on c).here
+code-code-requires-in-round c = edge_fits _ c.requires.sound c.next.result (come_on c).here
 
 pub round-smaller : goal.round-smaller
 round-smaller c =
