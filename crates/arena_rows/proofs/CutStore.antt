@@ -6,7 +6,7 @@ use Rattle.arena_rows.specs.declared.rows.LoopCell.{LoopCell}
 use Rattle.arena_rows.specs.declared.rows.StoredContent.TheVariants.{Empty, At}
 use Rattle.boundary_model.specs.Table.{get, put, remove}
 use Rattle.raw_cells.specs.Rows.{row_at}
-use Rattle.arena_rows.specs.Common.{ArenaRows, table_of, Store, loosened, Spots, live, next, label, ring, spliced_at, labelled, AreRings, store_of, RowsAreTied, stored_content, loop_row, AreLoops, StandsAt, cut_loose, cut_to, join_loops, join_loose, loose_ring, held_row, Fits}
+use Rattle.arena_rows.specs.Common.{ArenaRows, table_of, Store, loosened, Spots, live, next, label, ring, spliced, labelled, AreRings, store_of, RowsAreTied, stored_content, loop_row, AreLoops, StandsAt, cut_loose, cut_to, join_loops, join_loose, loose_ring, held_row, Fits}
 use Rattle.boundary_model.specs.Model.{Model, cycle}
 use Rattle.boundary_model.specs.Items.{IsIn}
 use Rattle.boundary_model.specs.Rings.{cut_left, cut_right, joined, successor, predecessor}
@@ -71,7 +71,7 @@ module _ (arena : ArenaRows) (tied : RowsAreTied arena) where
 
   module _ (a b l : ℕ) (g : CutFacts sp arena.loops a b l) (ne : a ≢ b) where
     abbrev cutted : Spots
-    cutted = labelled (spliced_at sp a b) l (ring (spliced_at sp a b) b)
+    cutted = labelled (spliced sp a b) l (ring (spliced sp a b) b)
 
     abbrev here : ℕ
     here = label sp a
@@ -133,7 +133,7 @@ module _ (arena : ArenaRows) (tied : RowsAreTied arena) where
 
   module _ (a b : ℕ) (g : JoinFacts sp a b) where
     abbrev jspots : Spots
-    jspots = spliced_at (labelled sp (label sp a) (ring sp b)) a b
+    jspots = spliced (labelled sp (label sp a) (ring sp b)) a b
 
     abbrev jhere : ℕ
     jhere = label sp a

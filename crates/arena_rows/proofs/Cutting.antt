@@ -9,7 +9,7 @@ use Rattle.arena_rows.specs.declared.rows.StoredContent.{StoredContent}
 use Rattle.arena_rows.specs.declared.rows.StoredContent.TheVariants.{Empty, Lone, At}
 use Rattle.boundary_model.specs.Table.{put, remove, tabulate}
 use Rattle.raw_cells.specs.Rows.{row_at}
-use Rattle.arena_rows.specs.Common.{ArenaRows, RowsAreTied, table_of, loosened, Spots, codes, live, label, ring, spliced_at, labelled, AreRings, stored_content, loop_row, HasEntry, AreLoops, StandsAt, edge_row, loose_row}
+use Rattle.arena_rows.specs.Common.{ArenaRows, RowsAreTied, table_of, loosened, Spots, codes, live, label, ring, spliced, labelled, AreRings, stored_content, loop_row, HasEntry, AreLoops, StandsAt, edge_row, loose_row}
 use Rattle.boundary_model.specs.Model.{cycle}
 use Rattle.boundary_model.specs.Rings.{cut_left, cut_right, joined}
 use Rattle.boundary_model.proofs.Cuts.{IsIn-cut}
@@ -66,7 +66,7 @@ module _ (arena : ArenaRows) (tied : RowsAreTied arena) where
     right = cut_right a b whole
 
     abbrev sp1 : Spots
-    sp1 = spliced_at sp a b
+    sp1 = spliced sp a b
 
     abbrev sp2 : Spots
     sp2 = labelled sp1 l (ring sp1 b)
@@ -240,7 +240,7 @@ module _ (arena : ArenaRows) (tied : RowsAreTied arena) where
     js1 = labelled sp jla ys
 
     abbrev js2 : Spots
-    js2 = spliced_at js1 a b
+    js2 = spliced js1 a b
 
     abbrev joint : List ℕ
     joint = joined a b xs ys

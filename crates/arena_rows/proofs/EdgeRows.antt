@@ -3,12 +3,13 @@ use Rattle.std.proofs.Common.{◌≡◌, ℕ, Bool, true, [], ◌∷◌, Some, i
 use Rattle.raw_ring.specs.Rings.{or_zero, of_spot}
 use Rattle.boundary_model.specs.HalfEdge.{plus, minus}
 use Rattle.boundary_model.specs.Model.{Model}
-use Rattle.arena_rows.specs.Common.{ArenaRows, Store, Spots, codes, live, label, ring, retailed, AreRings, store_of, RowsAreTied, AreLoops, loose_row, set_tail, put_edge, take_edge, woken, asleep}
+use Rattle.arena_rows.specs.Common.{ArenaRows, Store, Spots, codes, live, label, ring, AreRings, store_of, RowsAreTied, AreLoops, loose_row, set_tail, put_edge, take_edge, woken, asleep}
+use Rattle.arena_rows.specs.ring_spots.Spots as ring_spots
 use Rattle.boundary_model.specs.Table.{get, tabulate}
 use Rattle.arena_rows.proofs.ring_spots_laws.SpotTables.{loose_alike, loose_same}
 use Rattle.arena_rows.proofs.Tellings.{loops_same, loops_kept}
 use Rattle.arena_rows.proofs.Filling.{tied_with}
-use Rattle.arena_rows.proofs.ring_spots_laws.SpotLaws.{AreRings-retailed, live-retailed, label-retailed, ring-retailed}
+use Rattle.arena_rows.proofs.ring_spots_laws.SpotLaws.{AreRings-set_tail, live-set_tail, label-set_tail, ring-set_tail}
 use Rattle.arena_rows.proofs.ring_spots_laws.EdgeSpots.{IsFree, edges_tail, w_plus, w_minus, w_other, w_old, w_cases, old_ring, w_rings, w_label, w_loose, w_edges, s_other, s_left, s_ring, s_rings, s_label, s_named, s_loose, s_edges, ring_of_plus, ring_of_minus}
 
 module _ (arena : ArenaRows) (tied : RowsAreTied arena) where
@@ -29,23 +30,23 @@ module _ (arena : ArenaRows) (tied : RowsAreTied arena) where
 
   module _ (h v : ℕ) (a : live sp h ≡ true) where
     abbrev moved : Spots
-    moved = retailed sp h v
+    moved = ring_spots.set_tail sp h v
 
     m_rings : AreRings moved
-    m_rings = AreRings-retailed sp R h v
+    m_rings = AreRings-set_tail sp R h v
 
     m_loops : AreLoops moved arena.loops
-    m_loops = loops_kept sp moved arena.loops are tied.loops_fit.no_zero (λ c a n. (live-retailed sp h v c ∙ a, label-retailed sp h v c, ring-retailed sp R h v c)) (λ c a n. (sym (live-retailed sp h v c) ∙ a, λ z. n (label-retailed sp h v c ∙ z)))
+    m_loops = loops_kept sp moved arena.loops are tied.loops_fit.no_zero (λ c a n. (live-set_tail sp h v c ∙ a, label-set_tail sp h v c, ring-set_tail sp R h v c)) (λ c a n. (sym (live-set_tail sp h v c) ∙ a, λ z. n (label-set_tail sp h v c ∙ z)))
 
     pub tied_tail : (known' : ℕ → Bool) (new : Spots) → new ≡ moved → RowsAreTied (record arena { spots = new; known = known' })
-    tied_tail known' new e = subst (λ s. RowsAreTied (record arena { spots = s; known = known' })) (sym e) (tied_with arena tied moved known' arena.loops m_rings (live-retailed sp h v 0) m_loops tied.loops_fit)
+    tied_tail known' new e = subst (λ s. RowsAreTied (record arena { spots = s; known = known' })) (sym e) (tied_with arena tied moved known' arena.loops m_rings (live-set_tail sp h v 0) m_loops tied.loops_fit)
 
     pub store_tail : (known' : ℕ → Bool) → known' ≡ arena.known → (new : Spots) → new ≡ moved → store_of (record arena { spots = new; known = known' }) ≡ set_tail S h v
     unfolding set_tail
     store_tail known' k new e = (λ i. store_of (record arena { spots = e i; known = k i }))
         ∙ (λ i. record S {
-          model = record M { edges = edges_tail sp R h v a i; loops = loops_same sp moved arena.loops are (λ c _ _. ring-retailed sp R h v c) tied.loops_fit.no_zero i };
-          loose = loose_same sp moved (λ k. loose_alike sp moved k (live-retailed sp h v k) (label-retailed sp h v k) (ring-retailed sp R h v k)) i;
+          model = record M { edges = edges_tail sp R h v a i; loops = loops_same sp moved arena.loops are (λ c _ _. ring-set_tail sp R h v c) tied.loops_fit.no_zero i };
+          loose = loose_same sp moved (λ k. loose_alike sp moved k (live-set_tail sp h v k) (label-set_tail sp h v k) (ring-set_tail sp R h v k)) i;
         })
 
   -- an edge whose two codes were asleep

@@ -12,5 +12,5 @@ pub use Rattle.arena_rows.specs.ring_spots.Labels.{AreLabelled, AreOwned, HaveLa
 unfoldable pub use Rattle.arena_rows.specs.ring_spots.Labels.{map_in_loops}
 pub use Rattle.arena_rows.specs.ring_spots.Last.{is_edge}
 pub use Rattle.arena_rows.specs.ring_spots.SpotTables.{both_tails, edge_room, edge_row, loose_row}
-pub use Rattle.arena_rows.specs.ring_spots.Spots.{AreRings, PartlyLabelled, IsRingOf, Spots, asleep, is_in, label, labelled, live, map_spot, next, retailed, spliced_at, tail_at, with_links, woken, woken_as}
+pub use Rattle.arena_rows.specs.ring_spots.Spots.{AreRings, PartlyLabelled, IsRingOf, Spots, asleep, is_in, label, labelled, live, map_spot, next, spliced, tail_at, with_links, woken, woken_as}
 unfoldable pub use Rattle.arena_rows.specs.ring_spots.Spots.{codes, edges_end, ring}

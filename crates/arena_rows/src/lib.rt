@@ -8,7 +8,7 @@
 //!
 //! # What is proved
 //!
-//! Items that have owners (`Chains`): `insert` and `remove` are equations on the table of owners, `count` is how many items an
+//! Items that have owners (`Chains`): `put` and `take` are equations on the table of owners, `count` is how many items an
 //! owner has, `after` its least item above a number; `reach_owner`, `reach_item` keep all, also on `AllocError`; `copy` is equal.
 //! Rings of half-edges (`EdgeRings`), on which `halfedge_arena` stands with the rows.
 

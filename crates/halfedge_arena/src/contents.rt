@@ -22,7 +22,7 @@ impl Arena {
             stored: StoredContent::Empty,
         };
         if let StoredContent::At(c) = old.stored {
-            self.rings.relabel(c, 0);
+            self.rings.put_in_loop(c, 0);
             self.loops.set(l, cell);
             return;
         }
@@ -60,7 +60,7 @@ impl Arena {
             face: old.face,
             stored: StoredContent::At(item),
         };
-        self.rings.relabel(item, l);
+        self.rings.put_in_loop(item, l);
         self.loops.set(l, cell);
     }
 

@@ -40,7 +40,7 @@ impl Arena {
     {
         let cell = FaceCell { solid: s, outer: l };
         self.faces.put(f, cell);
-        self.solid_faces.insert(s, f);
+        self.solid_faces.put(s, f);
     }
 
     /// Face f goes, which is there.
@@ -49,7 +49,7 @@ impl Arena {
         ensures { self.new ≡ take_face self.old f }
     {
         self.faces.take(f);
-        self.solid_faces.remove(f);
+        self.solid_faces.take(f);
     }
 
     /// Face f, which is there, gets another outer loop.
@@ -74,8 +74,8 @@ impl Arena {
             outer: old.outer,
         };
         self.faces.set(f, cell);
-        self.solid_faces.remove(f);
-        self.solid_faces.insert(s, f);
+        self.solid_faces.take(f);
+        self.solid_faces.put(s, f);
     }
 
     /// A new vertex v at a point in range; v has its room.
@@ -110,7 +110,7 @@ impl Arena {
             stored: StoredContent::Empty,
         };
         self.loops.put(l, cell);
-        self.face_loops.insert(f, l);
+        self.face_loops.put(f, l);
     }
 
     /// Loop l goes, which is there and is empty or lone.
@@ -120,7 +120,7 @@ impl Arena {
         ensures { self.new ≡ take_loop self.old l }
     {
         self.loops.take(l);
-        self.face_loops.remove(l);
+        self.face_loops.take(l);
     }
 
     /// Loop l, which is there, is of another face, whose number has its room. Its place there is looked for as `put_loop` does.
@@ -135,8 +135,8 @@ impl Arena {
             stored: old.stored,
         };
         self.loops.set(l, cell);
-        self.face_loops.remove(l);
-        self.face_loops.insert(f, l);
+        self.face_loops.take(l);
+        self.face_loops.put(f, l);
     }
 
     /// A new edge e from the vertex `start` to the vertex `end`. Its half-edges are loose, each a ring of its own. Number e is free and
@@ -146,7 +146,7 @@ impl Arena {
         requires free { has_number self.old Kind.Edge e ≡ false }
         ensures { self.new ≡ put_edge self.old e start end }
     {
-        self.rings.wake_edge(e, start, end);
+        self.rings.put_edge(e, start, end);
     }
 
     /// Edge e goes, whose half-edges are loose, each a ring of its own.
@@ -155,7 +155,7 @@ impl Arena {
         requires second { get self.old.loose (minus e) ≡ Some (minus e ∷ []) }
         ensures { self.new ≡ take_edge self.old e }
     {
-        self.rings.sleep_edge(e);
+        self.rings.take_edge(e);
     }
 
     /// A half-edge, whose edge is there, starts at vertex v.
@@ -165,6 +165,6 @@ impl Arena {
     {
         let _ = &self.rings;
         let item = h.code();
-        self.rings.retail(item, v);
+        self.rings.set_tail(item, v);
     }
 }

@@ -20,6 +20,6 @@ abbrev pub asleep : Option Row → Option Row
 asleep None = None
 asleep (Some r) = Some (record { at = r.at; label = r.label; live = false })
 
-abbrev pub relabelled : ℕ → Option Row → Option Row
-relabelled l None = None
-relabelled l (Some r) = Some (record { at = r.at; label = l; live = r.live })
+abbrev pub set_label : ℕ → Option Row → Option Row
+set_label l None = None
+set_label l (Some r) = Some (record { at = r.at; label = l; live = r.live })

@@ -2,7 +2,7 @@
 ghost use Rattle.std.specs.Prelude.{◌≡◌, ℕ, ◌<◌, ◌≤◌, [], true, false, Some, None, IsSome, length, set, OnOk};
 ghost use Rattle.raw_cells.specs.Rows.{row_at, has_row};
 ghost use Rattle.raw_cells.specs.Numbers.{IsNext};
-ghost use Rattle.raw_ring.specs.Table.{LiesAt, HasLabel, woken, asleep, relabelled};
+ghost use Rattle.raw_ring.specs.Table.{LiesAt, HasLabel, woken, asleep, set_label};
 
 use crate::node::NodePtr;
 use crate::row::Row;
@@ -132,9 +132,9 @@ impl Table {
     }
 
     /// A code that has a row gets a label.
-    pub(crate) fn relabel(&mut self, code: u32, label: u32)
+    pub(crate) fn set_label(&mut self, code: u32, label: u32)
         requires { IsSome (row_at self.old code) }
-        ensures { self.new ≡ set self.old code (relabelled label (row_at self.old code)) }
+        ensures { self.new ≡ set self.old code (set_label label (row_at self.old code)) }
     {
         self.labels.put(code, label);
     }

@@ -1,13 +1,13 @@
 -- A code that is alone in its ring, joined to a ring or cut from one.
 use Rattle.std.proofs.Common.{◌≡◌, ◌≢◌, ℕ, Bool, true, false, cond, nat_eq, List, [], ◌∷◌, Option, Some, None, refl, sym, ap, subst, ◌∙◌, arith, eq-eqb, ne_eqb, inl, inr}
 use Rattle.std.proofs.lemmas.Bool.Decides.{eqb_tells}
-use Rattle.raw_ring.specs.Rings.{RingMap, Spot, spot, with_label}
+use Rattle.raw_ring.specs.Rings.{RingMap, Spot, spot, set_label}
 use Rattle.boundary_model.specs.Items.{count, IsIn}
 use Rattle.boundary_model.proofs.Lists.{IsIn_or_not, tick_le, tick_other}
 use Rattle.boundary_model.proofs.Rotations.{IsIn_head, canonical_one}
 use Rattle.boundary_model.proofs.Members.{IsIn_one}
 use Rattle.arena_rows.specs.declared.ring_spots.labels.Label.{Label}
-use Rattle.arena_rows.specs.Common.{Spots, live, next, label, ring, is_in, map_spot, labelled, spliced_at, AreRings, own, holder, loop_at, with_loop, in_loops, map_in_loops, AreLabelled, ShareLabel, has_label}
+use Rattle.arena_rows.specs.Common.{Spots, live, next, label, ring, is_in, map_spot, labelled, spliced, AreRings, own, holder, loop_at, with_loop, in_loops, map_in_loops, AreLabelled, ShareLabel, has_label}
 use Rattle.arena_rows.proofs.ring_spots_laws.SpotLaws.{ring_is, ring_same, ring_meet, next_in_ring, is_in-yes, is_in-no, label-labelled_in, label-labelled_out, live-labelled, ring-labelled, next-spliced}
 use Rattle.arena_rows.proofs.ring_spots_laws.Relabelling.{known_step}
 use Rattle.arena_rows.proofs.ring_spots_laws.LoopSpots.{blank-labelled, loops-labelled, loops-spliced, ring-loops}
@@ -19,13 +19,13 @@ pub ring_alone : (sp : Spots) → AreRings sp → (c : ℕ) → live sp c ≡ tr
 ring_alone sp R c h e = ring_is sp c (c ∷ []) (e, tt) (λ y. omega (arith, tick_le y c)) (IsIn_head c []) (λ x i. R.bound x (ap (live sp) (IsIn_one c x i) ∙ h)) ∙ canonical_one c
 
 -- the code after a leads to itself once it is cut off
-pub next_cut : (sp : Spots) (a b : ℕ) → live sp b ≡ true → next sp a ≡ b → a ≢ b → next (spliced_at sp a b) b ≡ b
+pub next_cut : (sp : Spots) (a b : ℕ) → live sp b ≡ true → next sp a ≡ b → a ≢ b → next (spliced sp a b) b ≡ b
 next_cut sp a b h e ne = next-spliced sp a b b h
     ∙ ap (λ t. cond t (next sp b) (cond (nat_eq b b) (next sp a) (next sp b))) (ne_eqb b a (λ q. ne (sym q)))
     ∙ ap (λ t. cond t (next sp a) (next sp b)) (eq-eqb b b refl) ∙ e
 
 -- one code gets a label
-pub labelled_one : (m new : RingMap) (c l : ℕ) → ring (spot m) c ≡ c ∷ [] → new ≡ with_label m c l → spot new ≡ labelled (spot m) l (ring (spot m) c)
+pub labelled_one : (m new : RingMap) (c l : ℕ) → ring (spot m) c ≡ c ∷ [] → new ≡ set_label m c l → spot new ≡ labelled (spot m) l (ring (spot m) c)
 labelled_one m new c l alone is = λ i q. (known_step m new c l is q ∙ at q ∙ ap (λ hs. labelled (spot m) l hs q) (sym alone)) i where
   at : (q : ℕ) → cond (nat_eq q c) (map_spot (λ s. record s { label = l }) (spot m q)) (spot m q) ≡ labelled (spot m) l (c ∷ []) q
   at q = elim (eqb_tells q c) [
@@ -152,23 +152,23 @@ module _ (cutted : Spots) (known : ℕ → Bool) (rows rows' : List (Option Labe
       ∙ ap (labelled (in_loops rows cutted) l) (sym (ring-loops rows cutted b))
 
 -- the same, told of what was before the cut
-pub seen-cut_alone : (sp cutted seen : Spots) (rows : List (Option Label)) (a b l : ℕ) → cutted ≡ spliced_at sp a b → seen ≡ labelled (in_loops rows cutted) l (ring (in_loops rows cutted) b) →
-    seen ≡ labelled (spliced_at (in_loops rows sp) a b) l (ring (spliced_at (in_loops rows sp) a b) b)
+pub seen-cut_alone : (sp cutted seen : Spots) (rows : List (Option Label)) (a b l : ℕ) → cutted ≡ spliced sp a b → seen ≡ labelled (in_loops rows cutted) l (ring (in_loops rows cutted) b) →
+    seen ≡ labelled (spliced (in_loops rows sp) a b) l (ring (spliced (in_loops rows sp) a b) b)
 seen-cut_alone sp cutted seen rows a b l cut is = is
     ∙ ap (λ (s : Spots). labelled (in_loops rows s) l (ring (in_loops rows s) b)) cut
     ∙ ap (λ (s : Spots). labelled s l (ring s b)) (loops-spliced rows sp a b)
 
 -- a code that was alone has got the label of a's ring, and stands there
-module _ (sp : Spots) (known : ℕ → Bool) (rows : List (Option Label)) (A : AreLabelled sp known rows) (a b : ℕ) (a_there : live sp a ≡ true) (b_there : live sp b ≡ true) (other : label sp b ≢ label sp a) (new : Spots) (is : new ≡ spliced_at (labelled sp (label sp a) (ring sp b)) a b) where
+module _ (sp : Spots) (known : ℕ → Bool) (rows : List (Option Label)) (A : AreLabelled sp known rows) (a b : ℕ) (a_there : live sp a ≡ true) (b_there : live sp b ≡ true) (other : label sp b ≢ label sp a) (new : Spots) (is : new ≡ spliced (labelled sp (label sp a) (ring sp b)) a b) where
   abbrev like_a : Spots
   like_a = labelled sp (label sp a) (ring sp b)
 
   pub labelled-join_alone : (known' : ℕ → Bool) → known' ≡ known → AreLabelled new known' rows
   labelled-join_alone known' same = labelled-join_to like_a known rows a b (share-one sp known rows A a b a_there b_there other like_a known (inr refl) refl) new known' is same
 
-  pub seen-join_alone : in_loops rows new ≡ spliced_at (labelled (in_loops rows sp) (loop_at rows (label sp a)) (ring sp b)) a b
+  pub seen-join_alone : in_loops rows new ≡ spliced (labelled (in_loops rows sp) (loop_at rows (label sp a)) (ring sp b)) a b
   seen-join_alone = ap (in_loops rows) is ∙ loops-spliced rows like_a a b
-      ∙ ap (λ (s : Spots). spliced_at s a b) (loops-labelled sp like_a rows rows (loop_at rows (label sp a)) (ring sp b) (blank-labelled sp (label sp a) (ring sp b))
+      ∙ ap (λ (s : Spots). spliced s a b) (loops-labelled sp like_a rows rows (loop_at rows (label sp a)) (ring sp b) (blank-labelled sp (label sp a) (ring sp b))
       (λ q h i. ap (loop_at rows) (label-labelled_in sp (label sp a) (ring sp b) q i h))
       (λ q h n. ap (loop_at rows) (label-labelled_out sp (label sp a) (ring sp b) q n)))
 
@@ -180,19 +180,19 @@ other_label rows m a b h k other e = other (seen_label rows m b k ∙ ap (loop_a
 pub record CutOff (sp : Spots) (a b : ℕ) : Type 0 where
   pub b_there : live sp b ≡ true
   pub together : IsIn b (ring sp a)
-  pub rings : AreRings (spliced_at sp a b)
-  pub live_cut : live (spliced_at sp a b) b ≡ true
-  pub alone : ring (spliced_at sp a b) b ≡ b ∷ []
+  pub rings : AreRings (spliced sp a b)
+  pub live_cut : live (spliced sp a b) b ≡ true
+  pub alone : ring (spliced sp a b) b ≡ b ∷ []
 
 pub cut_off : (sp : Spots) (known : ℕ → Bool) (rows : List (Option Label)) → AreLabelled sp known rows → (a b : ℕ) → live sp a ≡ true → next sp a ≡ b → a ≢ b → CutOff sp a b
 cut_off sp known rows A a b h e ne =
     let together : IsIn b (ring sp a) = subst (λ z. IsIn z (ring sp a)) e (next_in_ring sp A.table.rings a h) in
     let k : live sp b ≡ true = (A.table.rings.rings a h).awake b together in
     let S = share-cut sp known rows A a b h together ne in
-    record { b_there = k; together = together; rings = S.table.rings; live_cut = S.b_there; alone = ring_alone (spliced_at sp a b) S.table.rings b S.b_there (next_cut sp a b k e ne) }
+    record { b_there = k; together = together; rings = S.table.rings; live_cut = S.b_there; alone = ring_alone (spliced sp a b) S.table.rings b S.b_there (next_cut sp a b k e ne) }
 
 -- b takes the label that it owns, where that isn't the one of the ring that it was in
-pub labelled_off : (sp : Spots) (known : ℕ → Bool) (rows : List (Option Label)) (A : AreLabelled sp known rows) (a b : ℕ) (there : live sp a ≡ true) (e : next sp a ≡ b) (ne : a ≢ b) (now : Spots) (known' : ℕ → Bool) → now ≡ spliced_at sp a b → known' ≡ known →
+pub labelled_off : (sp : Spots) (known : ℕ → Bool) (rows : List (Option Label)) (A : AreLabelled sp known rows) (a b : ℕ) (there : live sp a ≡ true) (e : next sp a ≡ b) (ne : a ≢ b) (now : Spots) (known' : ℕ → Bool) → now ≡ spliced sp a b → known' ≡ known →
     (l : ℕ) → l ≡ own rows b → l ≢ label now b → has_label rows b ≡ true → AreLabelled (labelled now l (ring now b)) known' rows
 labelled_off sp known rows A a b there e ne now known' cut same l is other b_known =
     let g = cut_off sp known rows A a b there e ne in

@@ -12,17 +12,18 @@ use Rattle.boundary_model.specs.Model.{EdgeRow, no_edge}
 use Rattle.boundary_model.proofs.Halves.{plus_row, minus_row, mate-mate, mate_plus, mate_minus}
 use Rattle.boundary_model.proofs.Tests.{and_first, and_second}
 use Rattle.boundary_model.proofs.Members.{IsIn_one}
-use Rattle.arena_rows.specs.Common.{Spots, codes, edges_end, live, next, label, tail_at, ring, map_spot, woken, asleep, retailed, IsRingOf, AreRings, edge_row, both_tails, loose_row, edge_room}
-use Rattle.arena_rows.proofs.ring_spots_laws.SpotLaws.{AreRings-retailed, live-retailed, ring_kept, ring_of, ring_same, next_in_ring}
+use Rattle.arena_rows.specs.Common.{Spots, codes, edges_end, live, next, label, tail_at, ring, map_spot, woken, asleep, IsRingOf, AreRings, edge_row, both_tails, loose_row, edge_room}
+use Rattle.arena_rows.specs.ring_spots.Spots.{set_tail}
+use Rattle.arena_rows.proofs.ring_spots_laws.SpotLaws.{AreRings-set_tail, live-set_tail, ring_kept, ring_of, ring_same, next_in_ring}
 use Rattle.arena_rows.proofs.ring_spots_laws.SpotTables.{half_is, row_live, edges_at, loose_row_is, loose_at, loose_row_means, loose_dead, loose_kept, codes_are, edge_has, edge_has_room}
 
 module _ (sp : Spots) (R : AreRings sp) where
   module _ (h v : ℕ) (a : live sp h ≡ true) where
     abbrev moved : Spots
-    moved = retailed sp h v
+    moved = set_tail sp h v
 
     m_rings : AreRings moved
-    m_rings = AreRings-retailed sp R h v
+    m_rings = AreRings-set_tail sp R h v
 
     tail_here : (x : ℕ) → live sp x ≡ true → x ≡ h → tail_at moved x ≡ v
     tail_here x b e = ap (λ t. or_zero (of_spot (λ s. s.tail) (cond t (map_spot (λ s. record s { tail = v }) (sp x)) (sp x)))) (eq-eqb x h e) ∙ go (sp x) b where
@@ -40,7 +41,7 @@ module _ (sp : Spots) (R : AreRings sp) where
     changed row = cond (is_first h) (record row { plus_tail = v }) (record row { minus_tail = v })
 
     row_new : edge_row moved (edge_of h) ≡ Some (changed old)
-    row_new = row_live moved m_rings h (live-retailed sp h v h ∙ a) ∙ elim (half_is h) [
+    row_new = row_live moved m_rings h (live-set_tail sp h v h ∙ a) ∙ elim (half_is h) [
       | inl p ↦
           let other : minus (edge_of h) ≢ h = λ e. omega arith in
           (λ i. Some (record { plus_tail = tail_here (plus (edge_of h)) (ap (live sp) (sym p.0) ∙ a) (sym p.0) i; minus_tail = or_zero (of_spot (λ s. s.tail) (spot_there (minus (edge_of h)) other i)) }))

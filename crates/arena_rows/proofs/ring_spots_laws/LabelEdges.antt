@@ -7,8 +7,9 @@ use Rattle.boundary_model.specs.Items.{IsIn}
 use Rattle.boundary_model.specs.HalfEdge.{plus, minus}
 use Rattle.boundary_model.proofs.Members.{IsIn_one}
 use Rattle.arena_rows.specs.declared.ring_spots.labels.Label.{Label}
-use Rattle.arena_rows.specs.Common.{Spots, live, next, label, ring, map_spot, woken, woken_as, asleep, retailed, AreRings, own, holder, loop_at, with_loop, in_loops, but_label, AreLabelled, HaveNewLabels, has_label}
-use Rattle.arena_rows.proofs.ring_spots_laws.SpotLaws.{live-retailed, label-retailed, ring-retailed, AreRings-retailed}
+use Rattle.arena_rows.specs.Common.{Spots, live, next, label, ring, map_spot, woken, woken_as, asleep, AreRings, own, holder, loop_at, with_loop, in_loops, but_label, AreLabelled, HaveNewLabels, has_label}
+use Rattle.arena_rows.specs.ring_spots.Spots.{set_tail}
+use Rattle.arena_rows.proofs.ring_spots_laws.SpotLaws.{live-set_tail, label-set_tail, ring-set_tail, AreRings-set_tail}
 use Rattle.arena_rows.proofs.ring_spots_laws.RingMaps.{spot-insert, known-same}
 use Rattle.arena_rows.proofs.ring_spots_laws.EdgeSpots.{w_rings, w_cases, old_ring, r_plus, r_minus, s_rings, s_ring, s_left, s_other}
 use Rattle.arena_rows.proofs.ring_spots_laws.LabelTables.{owned_more, holder_same, loop_same}
@@ -49,8 +50,8 @@ module _ (sp : Spots) (known : ℕ → Bool) (rows new : List (Option Label)) (A
 
 module _ (sp : Spots) (known : ℕ → Bool) (rows : List (Option Label)) (A : AreLabelled sp known rows) where
   -- a half-edge starts elsewhere
-  pub labelled-retailed : (c v : ℕ) (now : Spots) (known' : ℕ → Bool) → now ≡ retailed sp c v → known' ≡ known → AreLabelled now known' rows
-  labelled-retailed c v = labelled_stays sp (retailed sp c v) known rows A (AreRings-retailed sp A.table.rings c v) (λ q a. (sym (live-retailed sp c v q) ∙ a, label-retailed sp c v q, ring-retailed sp A.table.rings c v q))
+  pub labelled-set_tail : (c v : ℕ) (now : Spots) (known' : ℕ → Bool) → now ≡ set_tail sp c v → known' ≡ known → AreLabelled now known' rows
+  labelled-set_tail c v = labelled_stays sp (set_tail sp c v) known rows A (AreRings-set_tail sp A.table.rings c v) (λ q a. (sym (live-set_tail sp c v q) ∙ a, label-set_tail sp c v q, ring-set_tail sp A.table.rings c v q))
 
   -- an edge goes to sleep, whose half-edges are rings of one
   module _ (e : ℕ) (plus_live : live sp (plus e) ≡ true) (minus_live : live sp (minus e) ≡ true) (plus_next : next sp (plus e) ≡ plus e) (minus_next : next sp (minus e) ≡ minus e) where

@@ -5,7 +5,7 @@ use Rattle.boundary_model.specs.Rings.{cut_left, cut_right, joined}
 use Rattle.boundary_model.proofs.Lists.{IsIn_or_not}
 use Rattle.boundary_model.proofs.Cuts.{IsIn-cut}
 use Rattle.arena_rows.specs.declared.ring_spots.labels.Label.{Label}
-use Rattle.arena_rows.specs.Common.{Spots, live, label, ring, labelled, spliced_at, AreRings, own, holder, loop_at, in_loops, AreOwned, HaveLabels, AreLabelled, ShareLabel, IsRelabelled, HaveOneLabel, has_label}
+use Rattle.arena_rows.specs.Common.{Spots, live, label, ring, labelled, spliced, AreRings, own, holder, loop_at, in_loops, AreOwned, HaveLabels, AreLabelled, ShareLabel, IsRelabelled, HaveOneLabel, has_label}
 use Rattle.arena_rows.proofs.ring_spots_laws.SpotLaws.{ring_same, ring_meet, live-labelled, ring-labelled, label-labelled_in, label-labelled_out, AreRings-labelled, live-spliced, label-spliced, AreRings-cut, ring_left, ring_right, ring_beside, cut_items, AreRings-join, ring_joint, ring_aside, join_items}
 use Rattle.arena_rows.proofs.ring_spots_laws.LabelTables.{handed_over, holder_x, holder_other}
 use Rattle.arena_rows.proofs.ring_spots_laws.LoopSpots.{blank-labelled, loops-labelled}
@@ -53,7 +53,7 @@ module _ (sp : Spots) (known : ℕ → Bool) (rows : List (Option Label)) (A : A
   -- a ring is cut
   module _ (a b : ℕ) (a_there : live sp a ≡ true) (together : IsIn b (ring sp a)) (ne : a ≢ b) where
     abbrev cutted : Spots
-    cutted = spliced_at sp a b
+    cutted = spliced sp a b
 
     cut_b_there : live sp b ≡ true
     cut_b_there = (A.table.rings.rings a a_there).awake b together
@@ -246,19 +246,19 @@ module _ (sp : Spots) (known : ℕ → Bool) (rows : List (Option Label)) (a b :
     labelled-apart known' same = subst (λ k. AreLabelled new k rows') (sym same) (subst (λ s. AreLabelled s known rows') (sym is) now_labelled)
 
   -- the two rings are joined
-  labelled-join : AreLabelled (spliced_at sp a b) known rows
+  labelled-join : AreLabelled (spliced sp a b) known rows
   labelled-join = record {
-    table = table_kept sp (spliced_at sp a b) known rows S.table (AreRings-join sp S.table.rings a b S.a_there S.b_there S.apart S.one) (λ c h. subst (λ n. has_label rows n ≡ true) (sym (label-spliced sp a b c)) (S.table.labels_there c (sym (live-spliced sp a b c) ∙ h)));
+    table = table_kept sp (spliced sp a b) known rows S.table (AreRings-join sp S.table.rings a b S.a_there S.b_there S.apart S.one) (λ c h. subst (λ n. has_label rows n ≡ true) (sym (label-spliced sp a b c)) (S.table.labels_there c (sym (live-spliced sp a b c) ∙ h)));
     held = λ c h. let k = sym (live-spliced sp a b c) ∙ h in elim (IsIn_or_not c (joined a b (ring sp a) (ring sp b))) [
       | inl i ↦ in_joint c k i
-      | inr n ↦ subst (λ hs. IsIn (holder rows (label (spliced_at sp a b) c)) hs) (sym (ring_aside sp S.table.rings a b S.a_there S.b_there S.apart S.one c k n).0)
+      | inr n ↦ subst (λ hs. IsIn (holder rows (label (spliced sp a b) c)) hs) (sym (ring_aside sp S.table.rings a b S.a_there S.b_there S.apart S.one c k n).0)
           (subst (λ w. IsIn (holder rows w) (ring sp c)) (sym (label-spliced sp a b c)) (S.others c k (omega (arith, items c)) (omega (arith, items c))))
     ];
   } where
     items : (q : ℕ) → count q (joined a b (ring sp a) (ring sp b)) ≡ count q (ring sp a) + count q (ring sp b)
     items = join_items sp S.table.rings a b S.a_there S.b_there S.apart S.one
 
-    one_label : (c : ℕ) → live sp c ≡ true → IsIn c (joined a b (ring sp a) (ring sp b)) → label (spliced_at sp a b) c ≡ label sp a
+    one_label : (c : ℕ) → live sp c ≡ true → IsIn c (joined a b (ring sp a) (ring sp b)) → label (spliced sp a b) c ≡ label sp a
     one_label c h i = label-spliced sp a b c ∙ elim (IsIn_or_not c (ring sp a)) [
       | inl j ↦ (S.table.rings.rings a S.a_there).one_label c j
       | inr n ↦ (S.table.rings.rings b S.b_there).one_label c (omega (arith, items c)) ∙ S.one
@@ -267,9 +267,9 @@ module _ (sp : Spots) (known : ℕ → Bool) (rows : List (Option Label)) (a b :
     held_joint : IsIn (holder rows (label sp a)) (joined a b (ring sp a) (ring sp b))
     held_joint = elim S.held [ inl i ↦ omega (arith, i, items (holder rows (label sp a))) | inr i ↦ omega (arith, i, items (holder rows (label sp a))) ]
 
-    in_joint : (c : ℕ) → live sp c ≡ true → IsIn c (joined a b (ring sp a) (ring sp b)) → IsIn (holder rows (label (spliced_at sp a b) c)) (ring (spliced_at sp a b) c)
-    in_joint c h i = subst (λ hs. IsIn (holder rows (label (spliced_at sp a b) c)) hs) (sym (ring_joint sp S.table.rings a b S.a_there S.b_there S.apart S.one c i).0)
+    in_joint : (c : ℕ) → live sp c ≡ true → IsIn c (joined a b (ring sp a) (ring sp b)) → IsIn (holder rows (label (spliced sp a b) c)) (ring (spliced sp a b) c)
+    in_joint c h i = subst (λ hs. IsIn (holder rows (label (spliced sp a b) c)) hs) (sym (ring_joint sp S.table.rings a b S.a_there S.b_there S.apart S.one c i).0)
         (subst (λ w. IsIn (holder rows w) (joined a b (ring sp a) (ring sp b))) (sym (one_label c h i)) held_joint)
 
-  pub labelled-join_to : (new : Spots) (known' : ℕ → Bool) → new ≡ spliced_at sp a b → known' ≡ known → AreLabelled new known' rows
+  pub labelled-join_to : (new : Spots) (known' : ℕ → Bool) → new ≡ spliced sp a b → known' ≡ known → AreLabelled new known' rows
   labelled-join_to new known' is same = subst (λ k. AreLabelled new k rows) (sym same) (subst (λ s. AreLabelled s known rows) (sym is) labelled-join)

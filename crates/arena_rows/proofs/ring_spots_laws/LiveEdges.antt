@@ -7,9 +7,10 @@ use Rattle.raw_ring.specs.Rings.{RingMap, spot, ring_of_one}
 use Rattle.boundary_model.specs.HalfEdge.{plus, minus}
 use Rattle.boundary_model.proofs.Tests.{and_false}
 use Rattle.raw_cells.specs.Numbers.{uses}
-use Rattle.arena_rows.specs.Common.{Spots, live, woken, asleep, labelled, spliced_at, retailed, is_edge, AreEdges}
+use Rattle.arena_rows.specs.Common.{Spots, live, woken, asleep, labelled, spliced, is_edge, AreEdges}
+use Rattle.arena_rows.specs.ring_spots.Spots.{set_tail}
 use Rattle.raw_cells.proofs.numbers_laws.Words.{uses_past}
-use Rattle.arena_rows.proofs.ring_spots_laws.SpotLaws.{live-labelled, live-spliced, live-retailed}
+use Rattle.arena_rows.proofs.ring_spots_laws.SpotLaws.{live-labelled, live-spliced, live-set_tail}
 use Rattle.arena_rows.proofs.ring_spots_laws.RingMaps.{no_codes, spot-empty, known-empty}
 
 module _ (sp new : Spots) (e : ℕ) where
@@ -53,14 +54,14 @@ module _ (m : RingMap) (words : List ℕ) (A : AreEdges m words) where
   pub edges_labelled : (new : RingMap) (l : ℕ) (hs : List ℕ) → spot new ≡ labelled (spot m) l hs → contains_key new ≡ contains_key m → AreEdges new words
   edges_labelled new l hs is = edges_alike new (λ c. ap (λ (s : Spots). live s c) is ∙ live-labelled (spot m) l hs c)
 
-  pub edges_cut : (new : RingMap) (a b l : ℕ) (hs : List ℕ) → spot new ≡ labelled (spliced_at (spot m) a b) l hs → contains_key new ≡ contains_key m → AreEdges new words
-  edges_cut new a b l hs is = edges_alike new (λ c. ap (λ (s : Spots). live s c) is ∙ live-labelled (spliced_at (spot m) a b) l hs c ∙ live-spliced (spot m) a b c)
+  pub edges_cut : (new : RingMap) (a b l : ℕ) (hs : List ℕ) → spot new ≡ labelled (spliced (spot m) a b) l hs → contains_key new ≡ contains_key m → AreEdges new words
+  edges_cut new a b l hs is = edges_alike new (λ c. ap (λ (s : Spots). live s c) is ∙ live-labelled (spliced (spot m) a b) l hs c ∙ live-spliced (spot m) a b c)
 
-  pub edges_joined : (new : RingMap) (a b l : ℕ) (hs : List ℕ) → spot new ≡ spliced_at (labelled (spot m) l hs) a b → contains_key new ≡ contains_key m → AreEdges new words
+  pub edges_joined : (new : RingMap) (a b l : ℕ) (hs : List ℕ) → spot new ≡ spliced (labelled (spot m) l hs) a b → contains_key new ≡ contains_key m → AreEdges new words
   edges_joined new a b l hs is = edges_alike new (λ c. ap (λ (s : Spots). live s c) is ∙ live-spliced (labelled (spot m) l hs) a b c ∙ live-labelled (spot m) l hs c)
 
-  pub edges_retailed : (new : RingMap) (h t : ℕ) → spot new ≡ retailed (spot m) h t → contains_key new ≡ contains_key m → AreEdges new words
-  edges_retailed new h t is = edges_alike new (λ c. ap (λ (s : Spots). live s c) is ∙ live-retailed (spot m) h t c)
+  pub edges_set_tail : (new : RingMap) (h t : ℕ) → spot new ≡ set_tail (spot m) h t → contains_key new ≡ contains_key m → AreEdges new words
+  edges_set_tail new h t is = edges_alike new (λ c. ap (λ (s : Spots). live s c) is ∙ live-set_tail (spot m) h t c)
 
   -- edge e comes or goes, and its number with it
   edges_turned : (new : RingMap) (after : List ℕ) (e : ℕ) (b : Bool) → is_edge (spot new) e ≡ b → ((k : ℕ) → k ≢ e → is_edge (spot new) k ≡ is_edge (spot m) k) → contains_key new ≡ contains_key m →

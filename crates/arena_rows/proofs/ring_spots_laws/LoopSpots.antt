@@ -10,7 +10,8 @@ use Rattle.boundary_model.specs.Table.{map_rows, get-map_rows}
 use Rattle.boundary_model.specs.Table as table
 use Rattle.boundary_model.proofs.Lists.{IsIn_or_not}
 use Rattle.arena_rows.specs.declared.ring_spots.labels.Label.{Label}
-use Rattle.arena_rows.specs.Common.{Spots, codes, live, next, label, ring, is_in, map_spot, asleep, retailed, with_links, spliced_at, labelled, AreRings, but_label, loop_at, with_loop, in_loops, rows_of, map_in_loops}
+use Rattle.arena_rows.specs.Common.{Spots, codes, live, next, label, ring, is_in, map_spot, asleep, with_links, spliced, labelled, AreRings, but_label, loop_at, with_loop, in_loops, rows_of, map_in_loops}
+use Rattle.arena_rows.specs.ring_spots.Spots.{set_tail}
 use Rattle.arena_rows.proofs.ring_spots_laws.SpotLaws.{either, live-map, ring_kept, ring_next, label-labelled_in, label-labelled_out}
 
 same_spot : (o p : Option Spot) → but_label o ≡ but_label p → (is_some o ≡ true → or_zero (of_spot (λ s. s.label) o) ≡ or_zero (of_spot (λ s. s.label) p)) → o ≡ p
@@ -80,8 +81,8 @@ module _ (rows : List (Option Label)) (sp : Spots) where
     go None e = absurd (true≢false (sym e))
     go (Some s) e = refl
 
-  pub loops-retailed : (h v : ℕ) → in_loops rows (retailed sp h v) ≡ retailed (in_loops rows sp) h v
-  loops-retailed h v = λ i q. go (nat_eq q h) (sp q) i where
+  pub loops-set_tail : (h v : ℕ) → in_loops rows (set_tail sp h v) ≡ set_tail (in_loops rows sp) h v
+  loops-set_tail h v = λ i q. go (nat_eq q h) (sp q) i where
     go : (b : Bool) (o : Option Spot) → map_spot (with_loop rows) (cond b (map_spot (λ s. record s { tail = v }) o) o) ≡ cond b (map_spot (λ s. record s { tail = v }) (map_spot (with_loop rows) o)) (map_spot (with_loop rows) o)
     go true None = refl
     go true (Some s) = refl
@@ -93,7 +94,7 @@ module _ (rows : List (Option Label)) (sp : Spots) where
     go true o = refl
     go false o = refl
 
-  pub loops-spliced : (a b : ℕ) → in_loops rows (spliced_at sp a b) ≡ spliced_at (in_loops rows sp) a b
+  pub loops-spliced : (a b : ℕ) → in_loops rows (spliced sp a b) ≡ spliced (in_loops rows sp) a b
   loops-spliced a b = (λ i q. go (splice (next sp) a b q) (sp q) i) ∙ ap (λ (f : ℕ → ℕ). with_links (in_loops rows sp) (splice f a b)) (λ i q. sym (next-loops q) i) where
     go : (n : ℕ) (o : Option Spot) → map_spot (with_loop rows) (map_spot (λ s. record s { next = n }) o) ≡ map_spot (λ s. record s { next = n }) (map_spot (with_loop rows) o)
     go n None = refl

@@ -5,12 +5,12 @@ use Rattle.boundary_model.specs.Items.{count, IsIn}
 use Rattle.boundary_model.specs.Rings.{splice, joined}
 use Rattle.boundary_model.proofs.Lists.{IsIn_or_not}
 use Rattle.arena_rows.specs.declared.ring_spots.labels.Label.{Label}
-use Rattle.arena_rows.specs.Common.{Spots, live, next, label, ring, is_in, map_spot, with_links, labelled, spliced_at, loop_at, in_loops, AreLabelled, ShareLabel, IsRelabelled}
+use Rattle.arena_rows.specs.Common.{Spots, live, next, label, ring, is_in, map_spot, with_links, labelled, spliced, loop_at, in_loops, AreLabelled, ShareLabel, IsRelabelled}
 use Rattle.arena_rows.proofs.ring_spots_laws.SpotLaws.{next-labelled, live-labelled, label-labelled_in, label-labelled_out, label-spliced, ring_joint, join_items}
 use Rattle.arena_rows.proofs.ring_spots_laws.LoopSpots.{same_spots, blank-labelled, blank-loops, live-alike, ring-alike, live-loops, label-loops, loops-spliced}
 use Rattle.arena_rows.proofs.ring_spots_laws.LabelLaws.{share-cut}
 
-labelled-spliced : (sp : Spots) (l : ℕ) (hs : List ℕ) (a b : ℕ) → labelled (spliced_at sp a b) l hs ≡ spliced_at (labelled sp l hs) a b
+labelled-spliced : (sp : Spots) (l : ℕ) (hs : List ℕ) (a b : ℕ) → labelled (spliced sp a b) l hs ≡ spliced (labelled sp l hs) a b
 labelled-spliced sp l hs a b = (λ i q. go (is_in q hs) (splice (next sp) a b q) (sp q) i) ∙ ap (λ (f : ℕ → ℕ). with_links (labelled sp l hs) (splice f a b)) (λ i q. sym (next-labelled sp l hs q) i) where
   go : (t : Bool) (n : ℕ) (o : Option Spot) → cond t (map_spot (λ s. record s { label = l }) (map_spot (λ s. record s { next = n }) o)) (map_spot (λ s. record s { next = n }) o) ≡ map_spot (λ s. record s { next = n }) (cond t (map_spot (λ s. record s { label = l }) o) o)
   go true n None = refl
@@ -71,25 +71,25 @@ module _ (sp now : Spots) (rows rows' : List (Option Label)) (a b kept : ℕ) (r
 
 module _ (sp : Spots) (known : ℕ → Bool) (rows : List (Option Label)) (A : AreLabelled sp known rows) (a b : ℕ) (a_there : live sp a ≡ true) where
   -- the cut ring and what came of its labels
-  pub seen-cut : (together : IsIn b (ring sp a)) (ne : a ≢ b) (cutted now : Spots) (rows' : List (Option Label)) (l : ℕ) → cutted ≡ spliced_at sp a b → IsRelabelled cutted now a b → loop_at rows' ≡ loop_at rows →
-      labelled (labelled (in_loops rows' now) (loop_at rows (label sp a)) (ring now a)) l (ring now b) ≡ labelled (spliced_at (in_loops rows sp) a b) l (ring (spliced_at (in_loops rows sp) a b) b)
+  pub seen-cut : (together : IsIn b (ring sp a)) (ne : a ≢ b) (cutted now : Spots) (rows' : List (Option Label)) (l : ℕ) → cutted ≡ spliced sp a b → IsRelabelled cutted now a b → loop_at rows' ≡ loop_at rows →
+      labelled (labelled (in_loops rows' now) (loop_at rows (label sp a)) (ring now a)) l (ring now b) ≡ labelled (spliced (in_loops rows sp) a b) l (ring (spliced (in_loops rows sp) a b) b)
   seen-cut together ne cutted now rows' l is r loops =
       let S = share-cut sp known rows A a b a_there together ne in
-      seen_apart (spliced_at sp a b) now rows rows' a b (loop_at rows (label sp a)) (subst (λ s. IsRelabelled s now a b) is r) loops (λ q h i. ap (loop_at rows) ((S.table.rings.rings a S.a_there).one_label q i ∙ label-spliced sp a b a)) l
-      ∙ (λ i. labelled (in_loops rows (spliced_at sp a b)) l (sym (ring-alike (spliced_at sp a b) (in_loops rows (spliced_at sp a b)) (blank-loops rows (spliced_at sp a b)) b) i))
+      seen_apart (spliced sp a b) now rows rows' a b (loop_at rows (label sp a)) (subst (λ s. IsRelabelled s now a b) is r) loops (λ q h i. ap (loop_at rows) ((S.table.rings.rings a S.a_there).one_label q i ∙ label-spliced sp a b a)) l
+      ∙ (λ i. labelled (in_loops rows (spliced sp a b)) l (sym (ring-alike (spliced sp a b) (in_loops rows (spliced sp a b)) (blank-loops rows (spliced sp a b)) b) i))
       ∙ ap (λ (s : Spots). labelled s l (ring s b)) (loops-spliced rows sp a b)
 
   -- the joint ring and what came of its labels
-  pub seen-join : (shared : Spots) (known' : ℕ → Bool) → ShareLabel shared known' rows a b → IsRelabelled sp shared a b → (new : Spots) → new ≡ spliced_at shared a b →
-      labelled (in_loops rows new) (loop_at rows (label sp a)) (ring new a) ≡ spliced_at (labelled (in_loops rows sp) (loop_at rows (label sp a)) (ring sp b)) a b
+  pub seen-join : (shared : Spots) (known' : ℕ → Bool) → ShareLabel shared known' rows a b → IsRelabelled sp shared a b → (new : Spots) → new ≡ spliced shared a b →
+      labelled (in_loops rows new) (loop_at rows (label sp a)) (ring new a) ≡ spliced (labelled (in_loops rows sp) (loop_at rows (label sp a)) (ring sp b)) a b
   seen-join shared known' S r new is =
       let kept = loop_at rows (label sp a) in
       let hs : List ℕ = joined a b (ring shared a) (ring shared b) in
       let items : (q : ℕ) → count q hs ≡ count q (ring shared a) + count q (ring shared b) = join_items shared S.table.rings a b S.a_there S.b_there S.apart S.one in
       let at_a = (S.table.rings.rings a S.a_there).item in
-      let joint : ring (spliced_at shared a b) a ≡ hs = (ring_joint shared S.table.rings a b S.a_there S.b_there S.apart S.one a (omega (arith, items a, at_a))).0 in
+      let joint : ring (spliced shared a b) a ≡ hs = (ring_joint shared S.table.rings a b S.a_there S.b_there S.apart S.one a (omega (arith, items a, at_a))).0 in
       ap (λ s. labelled (in_loops rows s) kept (ring s a)) is
       ∙ (λ i. labelled (loops-spliced rows shared a b i) kept (joint i))
       ∙ labelled-spliced (in_loops rows shared) kept hs a b
-      ∙ ap (λ (s : Spots). spliced_at s a b) (seen_together sp shared rows rows a b kept r refl (λ q h i. ap (loop_at rows) ((A.table.rings.rings a a_there).one_label q i)) hs
+      ∙ ap (λ (s : Spots). spliced s a b) (seen_together sp shared rows rows a b kept r refl (λ q h i. ap (loop_at rows) ((A.table.rings.rings a a_there).one_label q i)) hs
       (λ q. items q ∙ (λ i. count q (ring-alike sp shared r.same a i) + count q (ring-alike sp shared r.same b i))))

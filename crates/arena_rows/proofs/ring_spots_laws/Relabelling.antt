@@ -1,7 +1,7 @@
 -- A walk round a ring that gives each item a label.
 use Rattle.std.proofs.Common.{◌≡◌, ◌≢◌, ℕ, ◌+◌, ◌-◌, ◌<◌, Bool, true, false, ◌||◌, cond, nat_eq, List, [], ◌∷◌, Some, is_some, refl, sym, ap, subst, ◌∙◌, arith, eq-eqb, ne_eqb, eqb, true≢false, inl, inr}
 use Rattle.std.proofs.lemmas.Bool.Decides.{eqb_tells}
-use Rattle.raw_ring.specs.Rings.{RingMap, or_zero, of_spot, spot, next_of, with_label}
+use Rattle.raw_ring.specs.Rings.{RingMap, or_zero, of_spot, spot, next_of, set_label}
 use Rattle.arena_rows.proofs.ring_spots_laws.RingMaps.{spot-with}
 use Rattle.boundary_model.specs.Items.{count, IsIn}
 use Rattle.boundary_model.specs.Rings.{walk_to, rotate_to}
@@ -101,12 +101,12 @@ pub step_in : (sp : Spots) (R : AreRings sp) (from h : ℕ) → live sp from ≡
 step_in sp R from h a i = let b = (R.rings from a).awake h i in subst (IsIn (next sp h)) (ring_same sp R from h a i) (next_in_ring sp R h b)
 
 -- what one `set_label` does
-pub known_step : (m new : RingMap) (h l : ℕ) → new ≡ with_label m h l → (q : ℕ) → spot new q ≡ cond (nat_eq q h) (map_spot (λ s. record s { label = l }) (spot m q)) (spot m q)
+pub known_step : (m new : RingMap) (h l : ℕ) → new ≡ set_label m h l → (q : ℕ) → spot new q ≡ cond (nat_eq q h) (map_spot (λ s. record s { label = l }) (spot m q)) (spot m q)
 known_step m new h l e q = ap (λ (k : RingMap). spot k q) e ∙ spot-with m h (λ s. record s { label = l }) q
 
-pub label_step : (m new : RingMap) (h l q : ℕ) → new ≡ with_label m h l → live (spot new) q ≡ live (spot m) q
+pub label_step : (m new : RingMap) (h l q : ℕ) → new ≡ set_label m h l → live (spot new) q ≡ live (spot m) q
 label_step m new h l q e = ap is_some (known_step m new h l e q) ∙ either is_some (nat_eq q h) _ _ _ (live-map _ (spot m q)) refl
 
-pub next_step : (m new : RingMap) (h l : ℕ) → new ≡ with_label m h l → {n : ℕ} → next (spot m) h ≡ n → (x : ℕ) → next_of new h ≡ Some x → n ≡ x
+pub next_step : (m new : RingMap) (h l : ℕ) → new ≡ set_label m h l → {n : ℕ} → next (spot m) h ≡ n → (x : ℕ) → next_of new h ≡ Some x → n ≡ x
 next_step m new h l e {n = n} was x is = sym (sym (ap or_zero is) ∙ ap (λ o. or_zero (of_spot (λ s. s.next) o)) (known_step m new h l e h)
     ∙ either (λ o. or_zero (of_spot (λ s. s.next) o)) (nat_eq h h) _ _ _ (next-label l (spot m h)) refl ∙ was)

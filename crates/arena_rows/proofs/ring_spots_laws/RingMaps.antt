@@ -3,9 +3,11 @@ use Rattle.std.proofs.Common.{◌≡◌, ◌≢◌, ℕ, Bool, true, false, cond
 use Rattle.std.proofs.lemmas.Bool.Decides.{eqb_tells}
 use Rattle.std.specs.FinMap.{get, insert, contains_key}
 use Rattle.std.specs.FinMap as map
-use Rattle.raw_ring.specs.Rings.{Spot, RingMap, spot, awake, or_zero, of_spot, next_of, put_spot, with_spot, with_next, with_tail, with_room, spliced}
+use Rattle.raw_ring.specs.Rings as rings
+use Rattle.raw_ring.specs.Rings.{Spot, RingMap, spot, awake, or_zero, of_spot, next_of, put_spot, with_spot, with_next, with_room}
 use Rattle.raw_ring.proofs.Mapping.{get-put}
-use Rattle.arena_rows.specs.Common.{next, asleep, map_spot, retailed, spliced_at}
+use Rattle.arena_rows.specs.Common.{next, asleep, map_spot, spliced}
+use Rattle.arena_rows.specs.ring_spots.Spots.{set_tail}
 
 awake-cond : (b : Bool) (v : Option Spot) (o : Option (Option Spot)) → awake (cond b (Some v) o) ≡ cond b v (awake o)
 awake-cond true v o = refl
@@ -70,19 +72,19 @@ both_led false true x y o e = refl
 both_led false false x y o e = sym (same_next o)
 
 -- a splice
-pub spot-spliced : (m : RingMap) (a b : ℕ) → spot (spliced m a b) ≡ spliced_at (spot m) a b
+pub spot-spliced : (m : RingMap) (a b : ℕ) → spot (rings.spliced m a b) ≡ spliced (spot m) a b
 spot-spliced m a b = λ i q. (
     spot-with (with_next m a (or_zero (next_of m b))) b (λ s. record s { next = or_zero (next_of m a) }) q
     ∙ ap (λ o. cond (nat_eq q b) (map_spot (λ s. record s { next = or_zero (next_of m a) }) o) o) (spot-with m a (λ s. record s { next = or_zero (next_of m b) }) q)
     ∙ both_led (nat_eq q a) (nat_eq q b) (or_zero (next_of m a)) (or_zero (next_of m b)) (spot m q) (λ s t. ap (λ z. or_zero (next_of m z)) (sym (eqb-true q a s) ∙ eqb-true q b t))) i
 
-pub known-spliced : (m : RingMap) (a b : ℕ) → contains_key (spliced m a b) ≡ contains_key m
+pub known-spliced : (m : RingMap) (a b : ℕ) → contains_key (rings.spliced m a b) ≡ contains_key m
 known-spliced m a b = λ i q. (known-with (with_next m a (or_zero (next_of m b))) b (λ s. record s { next = or_zero (next_of m a) }) q ∙ known-with m a (λ s. record s { next = or_zero (next_of m b) }) q) i
 
-pub spot-tail : (m : RingMap) (c t : ℕ) → spot (with_tail m c t) ≡ retailed (spot m) c t
+pub spot-tail : (m : RingMap) (c t : ℕ) → spot (rings.set_tail m c t) ≡ set_tail (spot m) c t
 spot-tail m c t = λ i q. spot-with m c (λ s. record s { tail = t }) q i
 
-pub known-tail : (m : RingMap) (c t : ℕ) → contains_key (with_tail m c t) ≡ contains_key m
+pub known-tail : (m : RingMap) (c t : ℕ) → contains_key (rings.set_tail m c t) ≡ contains_key m
 known-tail m c t = λ i q. known-with m c (λ s. record s { tail = t }) q i
 
 pub spot-asleep : (m : RingMap) (c : ℕ) → spot (insert m c None) ≡ asleep (spot m) c

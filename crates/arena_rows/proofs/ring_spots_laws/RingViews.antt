@@ -5,7 +5,7 @@ use Rattle.std.specs.FinMap.{contains_key, same_map, get-empty, nat_cmp-IsAntisy
 use Rattle.raw_ring.specs.Rings.{RingMap, Spot, spot, or_zero, of_spot, next_of, tail_of, label_of, IsPermutation}
 use Rattle.boundary_model.specs.HalfEdge.{plus, minus}
 use Rattle.arena_rows.specs.declared.ring_spots.labels.Label.{Label}
-use Rattle.arena_rows.specs.Common.{Spots, live, label, ring, labelled, spliced_at, map_spot, loop_at, with_loop, in_loops, map_in_loops, AreEdgeRings}
+use Rattle.arena_rows.specs.Common.{Spots, live, label, ring, labelled, spliced, map_spot, loop_at, with_loop, in_loops, map_in_loops, AreEdgeRings}
 use Rattle.arena_rows.proofs.ring_spots_laws.RingMaps.{no_codes, spot-empty, known-empty}
 use Rattle.arena_rows.proofs.ring_spots_laws.LabelTables.{no_label}
 use Rattle.arena_rows.proofs.ring_spots_laws.LiveEdges.{no_edges}
@@ -67,10 +67,10 @@ module _ (rows : List (Option Label)) (m : RingMap) where
   seen-put rows' from l e = seen_as (λ s. labelled s l (ring s from)) rows rows' m m (e ∙ ap (labelled (in_loops rows (spot m)) l) (sym (ring-loops rows (spot m) from)))
 
   -- two rings in one
-  pub seen-joined : (rows' : List (Option Label)) (new : RingMap) (a b : ℕ) → live (spot m) a ≡ true → in_loops rows' (spot new) ≡ spliced_at (labelled (in_loops rows (spot m)) (loop_at rows (label (spot m) a)) (ring (spot m) b)) a b →
-      spot (map_in_loops rows' new) ≡ spliced_at (labelled (spot (map_in_loops rows m)) (label (spot (map_in_loops rows m)) a) (ring (spot (map_in_loops rows m)) b)) a b
-  seen-joined rows' new a b h e = seen_as (λ s. spliced_at (labelled s (label s a) (ring s b)) a b) rows rows' m new
-      (e ∙ (λ i. spliced_at (labelled (in_loops rows (spot m)) (sym (label-loops rows (spot m) a h) i) (sym (ring-loops rows (spot m) b) i)) a b))
+  pub seen-joined : (rows' : List (Option Label)) (new : RingMap) (a b : ℕ) → live (spot m) a ≡ true → in_loops rows' (spot new) ≡ spliced (labelled (in_loops rows (spot m)) (loop_at rows (label (spot m) a)) (ring (spot m) b)) a b →
+      spot (map_in_loops rows' new) ≡ spliced (labelled (spot (map_in_loops rows m)) (label (spot (map_in_loops rows m)) a) (ring (spot (map_in_loops rows m)) b)) a b
+  seen-joined rows' new a b h e = seen_as (λ s. spliced (labelled s (label s a) (ring s b)) a b) rows rows' m new
+      (e ∙ (λ i. spliced (labelled (in_loops rows (spot m)) (sym (label-loops rows (spot m) a h) i) (sym (ring-loops rows (spot m) b) i)) a b))
 
 -- with no code
 pub seen-empty : (rows : List (Option Label)) (m : RingMap) → m ≡ no_codes → map_in_loops rows m ≡ no_codes

@@ -12,7 +12,8 @@ use Rattle.boundary_model.proofs.Rotations.{count-canonical, canonical-canonical
 use Rattle.boundary_model.proofs.Rings.{IsPath-agree, canonical-orbit, next_is_successor, IsIn_successor}
 use Rattle.boundary_model.proofs.Cuts.{splice_elsewhere, count-cut, IsApart-cut, IsRing-cut, count-joined, IsApart-joined, IsRing-join}
 use Rattle.boundary_model.specs.HalfEdge.{mate}
-use Rattle.arena_rows.specs.Common.{Spots, codes, live, next, label, ring, is_in, map_spot, retailed, spliced_at, labelled, IsRingOf, AreRings}
+use Rattle.arena_rows.specs.Common.{Spots, codes, live, next, label, ring, is_in, map_spot, spliced, labelled, IsRingOf, AreRings}
+use Rattle.arena_rows.specs.ring_spots.Spots.{set_tail}
 
 pub canonical_fixed : (xs : List ℕ) → IsApart (canonical xs) → canonical (canonical xs) ≡ canonical xs
 canonical_fixed xs d = canonical-canonical xs (λ x. omega (arith, count-canonical x xs, d x))
@@ -103,14 +104,14 @@ pub is_in-no : (x : ℕ) (xs : List ℕ) → count x xs ≡ 0 → is_in x xs ≡
 is_in-no x xs i = grind (arith, nat_tests)
 
 module _ (sp : Spots) where
-  pub live-retailed : (c t x : ℕ) → live (retailed sp c t) x ≡ live sp x
-  live-retailed c t x = either is_some (nat_eq x c) _ _ _ (live-map _ (sp x)) refl
+  pub live-set_tail : (c t x : ℕ) → live (set_tail sp c t) x ≡ live sp x
+  live-set_tail c t x = either is_some (nat_eq x c) _ _ _ (live-map _ (sp x)) refl
 
-  pub next-retailed : (c t x : ℕ) → next (retailed sp c t) x ≡ next sp x
-  next-retailed c t x = either (λ o. or_zero (of_spot (λ s. s.next) o)) (nat_eq x c) _ _ _ (next-tail t (sp x)) refl
+  pub next-set_tail : (c t x : ℕ) → next (set_tail sp c t) x ≡ next sp x
+  next-set_tail c t x = either (λ o. or_zero (of_spot (λ s. s.next) o)) (nat_eq x c) _ _ _ (next-tail t (sp x)) refl
 
-  pub label-retailed : (c t x : ℕ) → label (retailed sp c t) x ≡ label sp x
-  label-retailed c t x = either (λ o. or_zero (of_spot (λ s. s.label) o)) (nat_eq x c) _ _ _ (label-tail t (sp x)) refl
+  pub label-set_tail : (c t x : ℕ) → label (set_tail sp c t) x ≡ label sp x
+  label-set_tail c t x = either (λ o. or_zero (of_spot (λ s. s.label) o)) (nat_eq x c) _ _ _ (label-tail t (sp x)) refl
 
   pub live-labelled : (l : ℕ) (hs : List ℕ) (x : ℕ) → live (labelled sp l hs) x ≡ live sp x
   live-labelled l hs x = either is_some (is_in x hs) _ _ _ (live-map _ (sp x)) refl
@@ -124,29 +125,29 @@ module _ (sp : Spots) where
   pub label-labelled_out : (l : ℕ) (hs : List ℕ) (x : ℕ) → count x hs ≡ 0 → label (labelled sp l hs) x ≡ label sp x
   label-labelled_out l hs x n = ap (λ b. or_zero (of_spot (λ s. s.label) (cond b (map_spot (λ s. record s { label = l }) (sp x)) (sp x)))) (is_in-no x hs n)
 
-  pub live-spliced : (a b x : ℕ) → live (spliced_at sp a b) x ≡ live sp x
+  pub live-spliced : (a b x : ℕ) → live (spliced sp a b) x ≡ live sp x
   live-spliced a b x = live-map _ (sp x)
 
-  pub label-spliced : (a b x : ℕ) → label (spliced_at sp a b) x ≡ label sp x
+  pub label-spliced : (a b x : ℕ) → label (spliced sp a b) x ≡ label sp x
   label-spliced a b x = label-link _ (sp x)
 
-  pub next-spliced : (a b x : ℕ) → live sp x ≡ true → next (spliced_at sp a b) x ≡ splice (next sp) a b x
+  pub next-spliced : (a b x : ℕ) → live sp x ≡ true → next (spliced sp a b) x ≡ splice (next sp) a b x
   next-spliced a b x h = next-link _ (sp x) h
 
 -- ---- the rings stay rings
 
 module _ (sp : Spots) (R : AreRings sp) where
-  pub AreRings-retailed : (c t : ℕ) → AreRings (retailed sp c t)
-  AreRings-retailed c t = let new = retailed sp c t in let bound : (x : ℕ) → live new x ≡ true → x < codes = λ x a. R.bound x (sym (live-retailed sp c t x) ∙ a) in record {
+  pub AreRings-set_tail : (c t : ℕ) → AreRings (set_tail sp c t)
+  AreRings-set_tail c t = let new = set_tail sp c t in let bound : (x : ℕ) → live new x ≡ true → x < codes = λ x a. R.bound x (sym (live-set_tail sp c t x) ∙ a) in record {
     bound = bound;
-    rings = λ d a. let b = sym (live-retailed sp c t d) ∙ a in
-        (ring_kept sp new R d b (λ x _ e. live-retailed sp c t x ∙ e) bound (λ x i. next-retailed sp c t x)
-        (λ x i. label-retailed sp c t x ∙ (R.rings d b).one_label x i ∙ sym (label-retailed sp c t d))).1;
-    mates = λ d a. live-retailed sp c t (mate d) ∙ R.mates d (sym (live-retailed sp c t d) ∙ a);
+    rings = λ d a. let b = sym (live-set_tail sp c t d) ∙ a in
+        (ring_kept sp new R d b (λ x _ e. live-set_tail sp c t x ∙ e) bound (λ x i. next-set_tail sp c t x)
+        (λ x i. label-set_tail sp c t x ∙ (R.rings d b).one_label x i ∙ sym (label-set_tail sp c t d))).1;
+    mates = λ d a. live-set_tail sp c t (mate d) ∙ R.mates d (sym (live-set_tail sp c t d) ∙ a);
   }
 
-  pub ring-retailed : (c t x : ℕ) → ring (retailed sp c t) x ≡ ring sp x
-  ring-retailed c t x = ring_next sp (retailed sp c t) x (next-retailed sp c t)
+  pub ring-set_tail : (c t x : ℕ) → ring (set_tail sp c t) x ≡ ring sp x
+  ring-set_tail c t x = ring_next sp (set_tail sp c t) x (next-set_tail sp c t)
 
   -- the items of the ring of b get the label l
   module _ (b l : ℕ) (there : live sp b ≡ true) where
@@ -179,7 +180,7 @@ module _ (sp : Spots) (R : AreRings sp) where
 
   module _ (a b : ℕ) (a_there : live sp a ≡ true) (b_there : live sp b ≡ true) where
     abbrev changed : Spots
-    changed = spliced_at sp a b
+    changed = spliced sp a b
 
     changed_bound : (x : ℕ) → live changed x ≡ true → x < codes
     changed_bound x h = R.bound x (sym (live-spliced sp a b x) ∙ h)

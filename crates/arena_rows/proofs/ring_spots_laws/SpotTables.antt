@@ -14,7 +14,7 @@ use Rattle.boundary_model.proofs.Halves.{mate_cases, mate_plus}
 use Rattle.boundary_model.proofs.Tables.{first_where_is}
 use Rattle.boundary_model.proofs.Models.{holds_in, in-holds}
 use Rattle.boundary_model.proofs.Tests.{and_first, and_second, and_false}
-use Rattle.arena_rows.specs.Common.{Spots, codes, edges_end, live, label, tail_at, ring, map_spot, is_in, spliced_at, labelled, AreRings, edge_row, both_tails, loose_row, edge_room}
+use Rattle.arena_rows.specs.Common.{Spots, codes, edges_end, live, label, tail_at, ring, map_spot, is_in, spliced, labelled, AreRings, edge_row, both_tails, loose_row, edge_room}
 use Rattle.arena_rows.proofs.ring_spots_laws.SpotLaws.{either, ring_same, canonical_ring}
 
 pub half_is : (h : ℕ) → ((h ≡ plus (edge_of h)) × (is_first h ≡ true) × (mate h ≡ minus (edge_of h))) ⊎ ((h ≡ minus (edge_of h)) × (is_first h ≡ false) × (mate h ≡ plus (edge_of h)))
@@ -133,7 +133,7 @@ tails-next n (Some s) = refl
 pub tails-labelled : (sp : Spots) (l : ℕ) (hs : List ℕ) (q : ℕ) → of_spot (λ s. s.tail) (labelled sp l hs q) ≡ of_spot (λ s. s.tail) (sp q)
 tails-labelled sp l hs q = either tails (is_in q hs) _ _ _ (tails-label l (sp q)) refl
 
-pub tails-spliced : (sp : Spots) (a b q : ℕ) → of_spot (λ s. s.tail) (spliced_at sp a b q) ≡ of_spot (λ s. s.tail) (sp q)
+pub tails-spliced : (sp : Spots) (a b q : ℕ) → of_spot (λ s. s.tail) (spliced sp a b q) ≡ of_spot (λ s. s.tail) (sp q)
 tails-spliced sp a b q = tails-next _ (sp q)
 
 -- ---- loose rings

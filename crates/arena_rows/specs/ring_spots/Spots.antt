@@ -50,14 +50,14 @@ abbrev pub map_spot : (Spot → Spot) → Option Spot → Option Spot
 map_spot f None = None
 map_spot f (Some s) = Some (f s)
 
-abbrev pub retailed : Spots → ℕ → ℕ → Spots
-retailed sp c t q = cond (nat_eq q c) (map_spot (λ s. record s { tail = t }) (sp q)) (sp q)
+abbrev pub set_tail : Spots → ℕ → ℕ → Spots
+set_tail sp c t q = cond (nat_eq q c) (map_spot (λ s. record s { tail = t }) (sp q)) (sp q)
 
 abbrev pub with_links : Spots → (ℕ → ℕ) → Spots
 with_links sp f q = map_spot (λ s. record s { next = f q }) (sp q)
 
-abbrev pub spliced_at : Spots → ℕ → ℕ → Spots
-spliced_at sp a b = with_links sp (splice (next sp) a b)
+abbrev pub spliced : Spots → ℕ → ℕ → Spots
+spliced sp a b = with_links sp (splice (next sp) a b)
 
 abbrev pub labelled : Spots → ℕ → List ℕ → Spots
 labelled sp l hs q = cond (is_in q hs) (map_spot (λ s. record s { label = l }) (sp q)) (sp q)

@@ -68,7 +68,7 @@ impl Chains {
     /// A number becomes an item of an owner; it is free, and both numbers have their room. Its place is looked for, and it is then the
     /// finger: items that come in order cost one step each, and where none goes the numbers up to N, in whatever order they come, cost
     /// no more than about N log N in all.
-    pub fn insert(&mut self, owner: u32, item: u32)
+    pub fn put(&mut self, owner: u32, item: u32)
         requires owner_room { owner < self.old.owners_end }
         requires room { item < self.old.items_end }
         requires some { item ≢ 0 }
@@ -91,12 +91,12 @@ impl Chains {
             };
             chain_in(&mut self.heads, &mut self.links, item, last, head);
         } else {
-            insert_within(&mut self.heads, &mut self.links, owner, item, head);
+            put_within(&mut self.heads, &mut self.links, owner, item, head);
         }
     }
 
     /// An item goes, which is there. The finger moves to a neighbour. It walks over nothing.
-    pub fn remove(&mut self, item: u32)
+    pub fn take(&mut self, item: u32)
         requires { has self.old.owner_of item ≡ true }
         ensures { self.new ≡ take self.old item }
     {
@@ -158,7 +158,7 @@ fn chain_in(heads: &mut Rows<Head>, links: &mut Rows<Link>, item: u32, new: Link
 
 /// Puts a number among an owner's items, wherever its place is. That is looked for.
 #[inline(never)]
-fn insert_within(heads: &mut Rows<Head>, links: &mut Rows<Link>, owner: u32, item: u32, head: Head)
+fn put_within(heads: &mut Rows<Head>, links: &mut Rows<Link>, owner: u32, item: u32, head: Head)
     requires chained { AreChained heads.old links.old }
     requires head { head ≡ head_at heads.old owner }
     requires owner_room { owner < length heads.old }

@@ -2,7 +2,7 @@
 ghost use Rattle.std.specs.Prelude.{◌≡◌, ◌≢◌, true, Some, [], ◌∷◌};
 ghost use Rattle.std.specs.FinMap.{contains_key};
 ghost use Rattle.raw_ring.specs.Rings.{spot, next_of};
-ghost use Rattle.arena_rows.specs.ring_spots.Spots.{live, label, ring, labelled, spliced_at};
+ghost use Rattle.arena_rows.specs.ring_spots.Spots.{live, label, ring, labelled, spliced};
 ghost use Rattle.arena_rows.specs.ring_spots.Labels.{in_loops, AreLabelled, ShareLabel};
 
 use crate::ring_spots::labels::{Label, hand_over, own, row_of, stand_for, stand_for_own};
@@ -15,11 +15,11 @@ pub(crate) fn join_alone(rings: &mut Rings, a: u32, b: u32)
     requires a { live (spot rings.old) a ≡ true }
     requires b { live (spot rings.old) b ≡ true }
     requires alone { ring (spot rings.old) b ≡ b ∷ [] }
-    ensures spots { spot rings.new ≡ spliced_at (labelled (spot rings.old) (label (spot rings.old) a) (ring (spot rings.old) b)) a b }
+    ensures spots { spot rings.new ≡ spliced (labelled (spot rings.old) (label (spot rings.old) a) (ring (spot rings.old) b)) a b }
     ensures known { contains_key rings.new ≡ contains_key rings.old }
 {
-    relabel_one(rings, b, rings.label(a));
-    links::exchange(rings, a, b);
+    set_label(rings, b, rings.label(a));
+    links::splice(rings, a, b);
 }
 
 /// Takes b, which follows a, out of their ring. It stands in loop l then, or is loose where l is 0.
@@ -28,15 +28,15 @@ pub(crate) fn cut_alone(rings: &mut Rings, labels: &mut Rows<Label>, a: u32, b: 
     requires follows { next_of rings.old a ≡ Some b }
     requires apart { a ≢ b }
     ensures whole { AreLabelled (spot rings.new) (contains_key rings.new) labels.new }
-    ensures spots { in_loops labels.new (spot rings.new) ≡ labelled (spliced_at (in_loops labels.old (spot rings.old)) a b) l (ring (spliced_at (in_loops labels.old (spot rings.old)) a b) b) }
+    ensures spots { in_loops labels.new (spot rings.new) ≡ labelled (spliced (in_loops labels.old (spot rings.old)) a b) l (ring (spliced (in_loops labels.old (spot rings.old)) a b) b) }
     ensures known { contains_key rings.new ≡ contains_key rings.old }
 {
-    links::exchange(rings, a, b);
+    links::splice(rings, a, b);
     let row = row_of(labels, b);
     if row.own == rings.label(b) {
         give_up_label(rings, labels, a, b, l);
     } else {
-        relabel_one(rings, b, row.own);
+        set_label(rings, b, row.own);
         stand_for_own(labels, b, row, l);
     }
 }
@@ -53,12 +53,12 @@ fn give_up_label(rings: &mut Rings, labels: &mut Rows<Label>, a: u32, b: u32, l:
 {
     hand_over(labels, a, rings.label(b));
     let free = own(labels, b);
-    relabel_one(rings, b, free);
+    set_label(rings, b, free);
     stand_for(labels, free, l);
 }
 
 /// Gives a code, which is alone in its ring, the label l.
-fn relabel_one(rings: &mut Rings, code: u32, l: u32)
+fn set_label(rings: &mut Rings, code: u32, l: u32)
     requires there { live (spot rings.old) code ≡ true }
     requires alone { ring (spot rings.old) code ≡ code ∷ [] }
     ensures spots { spot rings.new ≡ labelled (spot rings.old) l (ring (spot rings.old) code) }

@@ -4,7 +4,7 @@ ghost use Rattle.std.specs.FinMap.{empty, contains_key};
 ghost use Rattle.raw_ring.specs.Rings.{spot, next_of, tail_of, label_of, IsLive, IsAsleep, IsPermutation};
 ghost use Rattle.boundary_model.specs.HalfEdge.{plus, minus};
 ghost use Rattle.boundary_model.specs.Items.{IsIn};
-ghost use Rattle.arena_rows.specs.ring_spots.Spots.{live, label, ring, labelled, woken, asleep, spliced_at, retailed};
+ghost use Rattle.arena_rows.specs.ring_spots.Spots.{live, label, ring, labelled, woken, asleep, spliced, set_tail};
 ghost use Rattle.arena_rows.specs.ring_spots.Last.{is_edge};
 ghost use Rattle.raw_cells.specs.Numbers.{IsLast, IsNext};
 
@@ -95,31 +95,31 @@ impl EdgeRings {
     }
 
     /// Wakes both half-edges of an edge.
-    pub fn wake_edge(&mut self, e: u32, start: u32, end: u32)
+    pub fn put_edge(&mut self, e: u32, start: u32, end: u32)
         requires limit { e ≤ 1000000 }
         requires first { IsAsleep self.old (plus e) }
         requires second { IsAsleep self.old (minus e) }
         ensures spots { spot self.new ≡ woken (woken (spot self.old) (plus e) start) (minus e) end }
         ensures known { contains_key self.new ≡ contains_key self.old }
     {
-        links::wake_edge(&mut self.rings, &mut self.labels, e, start, end);
+        links::put_edge(&mut self.rings, &mut self.labels, e, start, end);
         self.edges.put(e);
     }
 
     /// Puts both half-edges of an edge to sleep, each of which is a ring of one.
-    pub fn sleep_edge(&mut self, e: u32)
+    pub fn take_edge(&mut self, e: u32)
         requires limit { e ≤ 1000000 }
         requires first { next_of self.old (plus e) ≡ Some (plus e) }
         requires second { next_of self.old (minus e) ≡ Some (minus e) }
         ensures spots { spot self.new ≡ asleep (asleep (spot self.old) (plus e)) (minus e) }
         ensures known { contains_key self.new ≡ contains_key self.old }
     {
-        links::sleep_edge(&mut self.rings, e);
+        links::take_edge(&mut self.rings, e);
         self.edges.take(e);
     }
 
     /// Puts the ring of a half-edge into loop l, or into none where l is 0. It writes one number, and walks over nothing.
-    pub fn relabel(&mut self, from: u32, l: u32)
+    pub fn put_in_loop(&mut self, from: u32, l: u32)
         requires { live (spot self.old) from ≡ true }
         ensures spots { spot self.new ≡ labelled (spot self.old) l (ring (spot self.old) from) }
         ensures known { contains_key self.new ≡ contains_key self.old }
@@ -136,7 +136,7 @@ impl EdgeRings {
         requires together { IsIn b (ring (spot self.old) a) }
         requires apart { a ≢ b }
         requires kept { label (spot self.old) a ≡ kept }
-        ensures spots { spot self.new ≡ labelled (spliced_at (spot self.old) a b) l (ring (spliced_at (spot self.old) a b) b) }
+        ensures spots { spot self.new ≡ labelled (spliced (spot self.old) a b) l (ring (spliced (spot self.old) a b) b) }
         ensures known { contains_key self.new ≡ contains_key self.old }
     {
         parts::cut(&mut self.rings, &mut self.labels, a, b, l, kept);
@@ -151,7 +151,7 @@ impl EdgeRings {
         requires b { live (spot self.old) b ≡ true }
         requires apart { label (spot self.old) b ≢ label (spot self.old) a }
         requires kept { label (spot self.old) a ≡ kept }
-        ensures spots { spot self.new ≡ spliced_at (labelled (spot self.old) (label (spot self.old) a) (ring (spot self.old) b)) a b }
+        ensures spots { spot self.new ≡ spliced (labelled (spot self.old) (label (spot self.old) a) (ring (spot self.old) b)) a b }
         ensures known { contains_key self.new ≡ contains_key self.old }
     {
         parts::join(&mut self.rings, &mut self.labels, a, b, kept);
@@ -163,7 +163,7 @@ impl EdgeRings {
     pub fn cut_alone(&mut self, a: u32, b: u32, l: u32)
         requires follows { next_of self.old a ≡ Some b }
         requires apart { a ≢ b }
-        ensures spots { spot self.new ≡ labelled (spliced_at (spot self.old) a b) l (ring (spliced_at (spot self.old) a b) b) }
+        ensures spots { spot self.new ≡ labelled (spliced (spot self.old) a b) l (ring (spliced (spot self.old) a b) b) }
         ensures known { contains_key self.new ≡ contains_key self.old }
     {
         alone::cut_alone(&mut self.rings, &mut self.labels, a, b, l);
@@ -176,19 +176,19 @@ impl EdgeRings {
         requires a { live (spot self.old) a ≡ true }
         requires alone { next_of self.old b ≡ Some b }
         requires apart { label (spot self.old) b ≢ label (spot self.old) a }
-        ensures spots { spot self.new ≡ spliced_at (labelled (spot self.old) (label (spot self.old) a) (ring (spot self.old) b)) a b }
+        ensures spots { spot self.new ≡ spliced (labelled (spot self.old) (label (spot self.old) a) (ring (spot self.old) b)) a b }
         ensures known { contains_key self.new ≡ contains_key self.old }
     {
         alone::join_alone(&mut self.rings, a, b);
     }
 
     /// Changes the vertex at which a half-edge starts.
-    pub fn retail(&mut self, h: u32, v: u32)
+    pub fn set_tail(&mut self, h: u32, v: u32)
         requires { live (spot self.old) h ≡ true }
-        ensures spots { spot self.new ≡ retailed (spot self.old) h v }
+        ensures spots { spot self.new ≡ set_tail (spot self.old) h v }
         ensures known { contains_key self.new ≡ contains_key self.old }
     {
-        links::retail(&mut self.rings, h, v);
+        links::set_tail(&mut self.rings, h, v);
     }
 
     /// Gives both half-edges of an edge their nodes. Where they have them, no `Err` comes.

@@ -4,7 +4,7 @@ ghost use Rattle.std.specs.FinMap.{contains_key};
 ghost use Rattle.raw_ring.specs.Rings.{spot, next_of, IsAsleep};
 ghost use Rattle.boundary_model.specs.HalfEdge.{plus, minus};
 ghost use Rattle.boundary_model.specs.Items.{count};
-ghost use Rattle.arena_rows.specs.ring_spots.Spots.{live, ring, labelled, woken, woken_as, asleep, spliced_at, retailed, AreRings};
+ghost use Rattle.arena_rows.specs.ring_spots.Spots.{live, ring, labelled, woken, woken_as, asleep, spliced, set_tail, AreRings};
 ghost use Rattle.arena_rows.specs.ring_spots.Labels.{has_label, own, holder, loop_at, in_loops, AreLabelled};
 
 use crate::ring_spots::labels::{Label, reach, row_of, stand_for_own};
@@ -21,7 +21,7 @@ pub(crate) fn has_edge_room(rings: &Rings, e: u32) -> bool
 }
 
 /// Wakes both half-edges of an edge. Each has the label that it owns, which stands for no loop.
-pub(crate) fn wake_edge(rings: &mut Rings, labels: &mut Rows<Label>, e: u32, start: u32, end: u32)
+pub(crate) fn put_edge(rings: &mut Rings, labels: &mut Rows<Label>, e: u32, start: u32, end: u32)
     requires whole { AreLabelled (spot rings.old) (contains_key rings.old) labels.old }
     requires limit { e ≤ 1000000 }
     requires first { IsAsleep rings.old (plus e) }
@@ -52,7 +52,7 @@ fn wake(rings: &mut Rings, labels: &mut Rows<Label>, code: u32, tail: u32)
 }
 
 /// Puts both half-edges of an edge to sleep, each of which is a ring of one.
-pub(crate) fn sleep_edge(rings: &mut Rings, e: u32)
+pub(crate) fn take_edge(rings: &mut Rings, e: u32)
     requires limit { e ≤ 1000000 }
     requires first { next_of rings.old (plus e) ≡ Some (plus e) }
     requires second { next_of rings.old (minus e) ≡ Some (minus e) }
@@ -64,18 +64,18 @@ pub(crate) fn sleep_edge(rings: &mut Rings, e: u32)
 }
 
 /// Gives each item of a ring the label l.
-pub(crate) fn relabel(rings: &mut Rings, from: u32, l: u32)
+pub(crate) fn set_labels(rings: &mut Rings, from: u32, l: u32)
     requires rings { AreRings (spot rings.old) }
     requires there { live (spot rings.old) from ≡ true }
     ensures spots { spot rings.new ≡ labelled (spot rings.old) l (ring (spot rings.old) from) }
     ensures known { contains_key rings.new ≡ contains_key rings.old }
 {
-    relabel_seeking(rings, from, l, from);
+    set_labels_seeking(rings, from, l, from);
 }
 
 /// Gives each item of a ring the label l, and tells whether a code is one of them.
 #[inline(always)]
-pub(crate) fn relabel_seeking(rings: &mut Rings, from: u32, l: u32, sought: u32) -> bool
+pub(crate) fn set_labels_seeking(rings: &mut Rings, from: u32, l: u32, sought: u32) -> bool
     requires rings { AreRings (spot rings.old) }
     requires there { live (spot rings.old) from ≡ true }
     ensures spots { spot rings.new ≡ labelled (spot rings.old) l (ring (spot rings.old) from) }
@@ -96,19 +96,19 @@ pub(crate) fn relabel_seeking(rings: &mut Rings, from: u32, l: u32, sought: u32)
 }
 
 /// Exchanges the successors of two codes.
-pub(crate) fn exchange(rings: &mut Rings, a: u32, b: u32)
+pub(crate) fn splice(rings: &mut Rings, a: u32, b: u32)
     requires a { live (spot rings.old) a ≡ true }
     requires b { live (spot rings.old) b ≡ true }
-    ensures spots { spot rings.new ≡ spliced_at (spot rings.old) a b }
+    ensures spots { spot rings.new ≡ spliced (spot rings.old) a b }
     ensures known { contains_key rings.new ≡ contains_key rings.old }
 {
     rings.splice(a, b);
 }
 
 /// Changes the vertex at which a half-edge starts.
-pub(crate) fn retail(rings: &mut Rings, h: u32, v: u32)
+pub(crate) fn set_tail(rings: &mut Rings, h: u32, v: u32)
     requires { live (spot rings.old) h ≡ true }
-    ensures spots { spot rings.new ≡ retailed (spot rings.old) h v }
+    ensures spots { spot rings.new ≡ set_tail (spot rings.old) h v }
     ensures known { contains_key rings.new ≡ contains_key rings.old }
 {
     rings.set_tail(h, v);

@@ -3,7 +3,7 @@ ghost use Rattle.std.specs.Prelude.{◌≡◌, ◌≢◌, ◌≤◌, ℕ, true, 
 ghost use Rattle.std.specs.FinMap.{contains_key};
 ghost use Rattle.raw_ring.specs.Rings.{spot};
 ghost use Rattle.boundary_model.specs.Items.{IsIn};
-ghost use Rattle.arena_rows.specs.ring_spots.Spots.{live, label, ring, labelled, spliced_at, AreRings};
+ghost use Rattle.arena_rows.specs.ring_spots.Spots.{live, label, ring, labelled, spliced, AreRings};
 ghost use Rattle.arena_rows.specs.ring_spots.Labels.{has_label, own, holder, loop_at, in_loops, AreLabelled, ShareLabel, IsRelabelled, HaveOneLabel};
 
 use crate::ring_spots::labels::{Label, hand_over, holder, loop_at, own, stand_for};
@@ -23,10 +23,10 @@ pub(crate) fn cut(rings: &mut Rings, labels: &mut Rows<Label>, a: u32, b: u32, l
     requires apart { a ≢ b }
     requires kept { kept ≡ loop_at labels.old (label (spot rings.old) a) }
     ensures whole { AreLabelled (spot rings.new) (contains_key rings.new) labels.new }
-    ensures spots { in_loops labels.new (spot rings.new) ≡ labelled (spliced_at (in_loops labels.old (spot rings.old)) a b) l (ring (spliced_at (in_loops labels.old (spot rings.old)) a b) b) }
+    ensures spots { in_loops labels.new (spot rings.new) ≡ labelled (spliced (in_loops labels.old (spot rings.old)) a b) l (ring (spliced (in_loops labels.old (spot rings.old)) a b) b) }
     ensures known { contains_key rings.new ≡ contains_key rings.old }
 {
-    links::exchange(rings, a, b);
+    links::splice(rings, a, b);
     set_apart(rings, labels, a, b, kept);
     put_in_loop(rings, labels, b, l);
 }
@@ -41,11 +41,11 @@ pub(crate) fn join(rings: &mut Rings, labels: &mut Rows<Label>, a: u32, b: u32, 
     requires apart { loop_at labels.old (label (spot rings.old) b) ≢ loop_at labels.old (label (spot rings.old) a) }
     requires kept { kept ≡ loop_at labels.old (label (spot rings.old) a) }
     ensures whole { AreLabelled (spot rings.new) (contains_key rings.new) labels.new }
-    ensures spots { in_loops labels.new (spot rings.new) ≡ spliced_at (labelled (in_loops labels.old (spot rings.old)) (loop_at labels.old (label (spot rings.old) a)) (ring (spot rings.old) b)) a b }
+    ensures spots { in_loops labels.new (spot rings.new) ≡ spliced (labelled (in_loops labels.old (spot rings.old)) (loop_at labels.old (label (spot rings.old) a)) (ring (spot rings.old) b)) a b }
     ensures known { contains_key rings.new ≡ contains_key rings.old }
 {
     share_label(rings, labels, a, b, kept);
-    links::exchange(rings, a, b);
+    links::splice(rings, a, b);
 }
 
 /// The loop in which a live code stands, or 0.
@@ -100,8 +100,8 @@ fn give_label(rings: &mut Rings, labels: &mut Rows<Label>, part: u32, rest: u32)
     let other = own(labels, part);
     if other == shared {
         hand_over(labels, rest, shared);
-        links::relabel(rings, part, own(labels, part));
-    } else if links::relabel_seeking(rings, part, other, holder(labels, shared)) {
+        links::set_labels(rings, part, own(labels, part));
+    } else if links::set_labels_seeking(rings, part, other, holder(labels, shared)) {
         hand_over(labels, rest, shared);
     }
 }
@@ -121,10 +121,10 @@ fn share_label(rings: &mut Rings, labels: &mut Rows<Label>, a: u32, b: u32, kept
 {
     if is_shorter(rings, a, b) {
         let shared = rings.label(b);
-        links::relabel(rings, a, shared);
+        links::set_labels(rings, a, shared);
         stand_for(labels, shared, kept);
     } else {
-        links::relabel(rings, b, rings.label(a));
+        links::set_labels(rings, b, rings.label(a));
     }
 }
 

@@ -9,8 +9,8 @@ use Rattle.arena_rows.proofs.ring_spots_laws.LabelLaws.{labelled_alike, share-cu
 use Rattle.arena_rows.proofs.ring_spots_laws.Alone.{cut_off, seen-apart, seen-cut_alone, labelled_off}
 use Rattle.arena_rows.proofs.ring_spots.alone.cut_alone.Goals as goal
 
-pub exchange-requires-clause-b : goal.exchange-requires-clause-b
-exchange-requires-clause-b c = (cut_off _ _ _ c.requires.whole c.args.a c.args.b (IsLive-next _ _ _ c.requires.follows) (ap or_zero c.requires.follows) c.requires.apart).b_there
+pub splice-requires-clause-b : goal.splice-requires-clause-b
+splice-requires-clause-b c = (cut_off _ _ _ c.requires.whole c.args.a c.args.b (IsLive-next _ _ _ c.requires.follows) (ap or_zero c.requires.follows) c.requires.apart).b_there
 
 pub row_of-row-requires : goal.row_of-row-requires
 row_of-row-requires c =
@@ -20,27 +20,27 @@ row_of-row-requires c =
 pub label-requires : goal.label-requires
 label-requires c =
     let g = cut_off _ _ _ c.requires.whole c.args.a c.args.b (IsLive-next _ _ _ c.requires.follows) (ap or_zero c.requires.follows) c.requires.apart in
-    ap (λ (s : Spots). live s c.args.b) c.exchange.ensures.spots ∙ g.live_cut
+    ap (λ (s : Spots). live s c.args.b) c.splice.ensures.spots ∙ g.live_cut
 
 pub give_up_label-requires-clause-shared : goal.give_up_label-requires-clause-shared
 give_up_label-requires-clause-shared c =
     let g = cut_off _ _ _ c.requires.whole c.args.a c.args.b (IsLive-next _ _ _ c.requires.follows) (ap or_zero c.requires.follows) c.requires.apart in
-    share-cut_to _ _ _ c.requires.whole c.args.a c.args.b (IsLive-next _ _ _ c.requires.follows) g.together c.requires.apart _ _ c.exchange.ensures.spots c.exchange.ensures.known
+    share-cut_to _ _ _ c.requires.whole c.args.a c.args.b (IsLive-next _ _ _ c.requires.follows) g.together c.requires.apart _ _ c.splice.ensures.spots c.splice.ensures.known
 
 pub give_up_label-requires-clause-alone : goal.give_up_label-requires-clause-alone
 give_up_label-requires-clause-alone c =
     let g = cut_off _ _ _ c.requires.whole c.args.a c.args.b (IsLive-next _ _ _ c.requires.follows) (ap or_zero c.requires.follows) c.requires.apart in
-    ap (λ (s : Spots). ring s c.args.b) c.exchange.ensures.spots ∙ g.alone
+    ap (λ (s : Spots). ring s c.args.b) c.splice.ensures.spots ∙ g.alone
 
-pub relabel_one-requires-clause-there : goal.relabel_one-requires-clause-there
-relabel_one-requires-clause-there c =
+pub set_label-requires-clause-there : goal.set_label-requires-clause-there
+set_label-requires-clause-there c =
     let g = cut_off _ _ _ c.requires.whole c.args.a c.args.b (IsLive-next _ _ _ c.requires.follows) (ap or_zero c.requires.follows) c.requires.apart in
-    ap (λ (s : Spots). live s c.args.b) c.exchange.ensures.spots ∙ g.live_cut
+    ap (λ (s : Spots). live s c.args.b) c.splice.ensures.spots ∙ g.live_cut
 
-pub relabel_one-requires-clause-alone : goal.relabel_one-requires-clause-alone
-relabel_one-requires-clause-alone c =
+pub set_label-requires-clause-alone : goal.set_label-requires-clause-alone
+set_label-requires-clause-alone c =
     let g = cut_off _ _ _ c.requires.whole c.args.a c.args.b (IsLive-next _ _ _ c.requires.follows) (ap or_zero c.requires.follows) c.requires.apart in
-    ap (λ (s : Spots). ring s c.args.b) c.exchange.ensures.spots ∙ g.alone
+    ap (λ (s : Spots). ring s c.args.b) c.splice.ensures.spots ∙ g.alone
 
 pub stand_for_own-requires-clause-row : goal.stand_for_own-requires-clause-row
 stand_for_own-requires-clause-row c = c.row_of-row.ensures
@@ -51,28 +51,28 @@ stand_for_own-requires-clause-label c =
     ap (λ (r : Label). has_label c.args.labels.now r.own) c.row_of-row.ensures ∙ c.requires.whole.table.owners.own_there _ (c.requires.whole.table.codes_there _ (live_known _ _ g.b_there))
 
 pub returns-then-row-label-clause-spots : goal.returns-then-row-label-clause-spots
-returns-then-row-label-clause-spots c = seen-cut_alone _ _ _ _ _ _ _ c.exchange.ensures.spots c.give_up_label.ensures.spots
+returns-then-row-label-clause-spots c = seen-cut_alone _ _ _ _ _ _ _ c.splice.ensures.spots c.give_up_label.ensures.spots
 
 pub returns-then-row-label-clause-known : goal.returns-then-row-label-clause-known
-returns-then-row-label-clause-known c = c.give_up_label.ensures.known ∙ c.exchange.ensures.known
+returns-then-row-label-clause-known c = c.give_up_label.ensures.known ∙ c.splice.ensures.known
 
 pub returns-else-row-label-clause-whole : goal.returns-else-row-label-clause-whole
 returns-else-row-label-clause-whole c =
     let g = cut_off _ _ _ c.requires.whole c.args.a c.args.b (IsLive-next _ _ _ c.requires.follows) (ap or_zero c.requires.follows) c.requires.apart in
-    let whole = labelled_off _ _ _ c.requires.whole c.args.a c.args.b (IsLive-next _ _ _ c.requires.follows) (ap or_zero c.requires.follows) c.requires.apart _ _ c.exchange.ensures.spots c.exchange.ensures.known _ (ap (λ (r : Label). r.own) c.row_of-row.ensures)
+    let whole = labelled_off _ _ _ c.requires.whole c.args.a c.args.b (IsLive-next _ _ _ c.requires.follows) (ap or_zero c.requires.follows) c.requires.apart _ _ c.splice.ensures.spots c.splice.ensures.known _ (ap (λ (r : Label). r.own) c.row_of-row.ensures)
     (λ e. c.if-row-label.false (e ∙ ap or_zero c.label.ensures)) (c.requires.whole.table.codes_there _ (live_known _ _ g.b_there)) in
-    labelled_alike _ _ _ _ (subst (λ k. AreLabelled (spot c.relabel_one.new.rings) k c.args.labels.now) (sym c.relabel_one.ensures.known)
-    (subst (λ s. AreLabelled s (contains_key c.exchange.new.rings) c.args.labels.now) (sym c.relabel_one.ensures.spots) whole))
+    labelled_alike _ _ _ _ (subst (λ k. AreLabelled (spot c.set_label.new.rings) k c.args.labels.now) (sym c.set_label.ensures.known)
+    (subst (λ s. AreLabelled s (contains_key c.splice.new.rings) c.args.labels.now) (sym c.set_label.ensures.spots) whole))
     c.stand_for_own.ensures.own c.stand_for_own.ensures.holder c.stand_for_own.ensures.there
 
 pub returns-else-row-label-clause-spots : goal.returns-else-row-label-clause-spots
 returns-else-row-label-clause-spots c =
     let g = cut_off _ _ _ c.requires.whole c.args.a c.args.b (IsLive-next _ _ _ c.requires.follows) (ap or_zero c.requires.follows) c.requires.apart in
-    let whole = labelled_off _ _ _ c.requires.whole c.args.a c.args.b (IsLive-next _ _ _ c.requires.follows) (ap or_zero c.requires.follows) c.requires.apart _ _ c.exchange.ensures.spots c.exchange.ensures.known _ (ap (λ (r : Label). r.own) c.row_of-row.ensures)
+    let whole = labelled_off _ _ _ c.requires.whole c.args.a c.args.b (IsLive-next _ _ _ c.requires.follows) (ap or_zero c.requires.follows) c.requires.apart _ _ c.splice.ensures.spots c.splice.ensures.known _ (ap (λ (r : Label). r.own) c.row_of-row.ensures)
     (λ e. c.if-row-label.false (e ∙ ap or_zero c.label.ensures)) (c.requires.whole.table.codes_there _ (live_known _ _ g.b_there)) in
-    seen-cut_alone _ _ _ _ _ _ _ c.exchange.ensures.spots
-    (seen-apart (spot c.exchange.new.rings) _ c.args.labels.now c.args.labels.now c.args.b _ (subst AreRings (sym c.exchange.ensures.spots) g.rings) (ap (λ (s : Spots). live s c.args.b) c.exchange.ensures.spots ∙ g.live_cut) whole
-    c.args.l _ _ c.relabel_one.ensures.spots refl c.stand_for_own.ensures.loops)
+    seen-cut_alone _ _ _ _ _ _ _ c.splice.ensures.spots
+    (seen-apart (spot c.splice.new.rings) _ c.args.labels.now c.args.labels.now c.args.b _ (subst AreRings (sym c.splice.ensures.spots) g.rings) (ap (λ (s : Spots). live s c.args.b) c.splice.ensures.spots ∙ g.live_cut) whole
+    c.args.l _ _ c.set_label.ensures.spots refl c.stand_for_own.ensures.loops)
 
 pub returns-else-row-label-clause-known : goal.returns-else-row-label-clause-known
-returns-else-row-label-clause-known c = c.relabel_one.ensures.known ∙ c.exchange.ensures.known
+returns-else-row-label-clause-known c = c.set_label.ensures.known ∙ c.splice.ensures.known

@@ -32,12 +32,12 @@ pub returns-clause-whole : goal.returns-clause-whole
 returns-clause-whole c =
     let S = c.requires.shared in
     let whole = labelled_given _ _ _ c.args.a c.args.b S c.requires.alone _ (S.table.codes_there _ (live_known _ _ S.a_there)) (S.table.codes_there _ (live_known _ _ S.b_there)) c.hand_over.ensures.there _ (ap or_zero c.label.ensures) c.hand_over.ensures.own c.hand_over.ensures.holder _ c.own-free.ensures in
-    labelled_alike _ _ _ _ (subst (λ k. AreLabelled (spot c.relabel_one.new.rings) k c.hand_over.new.labels) (sym c.relabel_one.ensures.known)
-    (subst (λ s. AreLabelled s (contains_key c.args.rings.now) c.hand_over.new.labels) (sym c.relabel_one.ensures.spots) whole))
+    labelled_alike _ _ _ _ (subst (λ k. AreLabelled (spot c.set_label.new.rings) k c.hand_over.new.labels) (sym c.set_label.ensures.known)
+    (subst (λ s. AreLabelled s (contains_key c.args.rings.now) c.hand_over.new.labels) (sym c.set_label.ensures.spots) whole))
     c.stand_for.ensures.own c.stand_for.ensures.holder c.stand_for.ensures.there
 
 pub returns-clause-spots : goal.returns-clause-spots
 returns-clause-spots c =
     let S = c.requires.shared in
     let whole = labelled_given _ _ _ c.args.a c.args.b S c.requires.alone _ (S.table.codes_there _ (live_known _ _ S.a_there)) (S.table.codes_there _ (live_known _ _ S.b_there)) c.hand_over.ensures.there _ (ap or_zero c.label.ensures) c.hand_over.ensures.own c.hand_over.ensures.holder _ c.own-free.ensures in
-    seen-apart (spot c.args.rings.now) _ c.args.labels.now _ c.args.b _ S.table.rings S.b_there whole c.args.l _ _ c.relabel_one.ensures.spots c.hand_over.ensures.loops c.stand_for.ensures.loops
+    seen-apart (spot c.args.rings.now) _ c.args.labels.now _ c.args.b _ S.table.rings S.b_there whole c.args.l _ _ c.set_label.ensures.spots c.hand_over.ensures.loops c.stand_for.ensures.loops

@@ -1,14 +1,14 @@
 use Rattle.std.proofs.Common.{ap, sym, ◌∙◌}
 use Rattle.raw_ring.specs.Rings.{or_zero, spot}
-use Rattle.arena_rows.specs.Common.{Spots, live, ring, labelled, spliced_at}
+use Rattle.arena_rows.specs.Common.{Spots, live, ring, labelled, spliced}
 use Rattle.arena_rows.proofs.ring_spots_laws.SpotLaws.{live-labelled}
 use Rattle.arena_rows.proofs.ring_spots.alone.join_alone.Goals as goal
 
-pub exchange-requires-clause-a : goal.exchange-requires-clause-a
-exchange-requires-clause-a c = ap (λ (s : Spots). live s c.args.a) c.relabel_one.ensures.spots ∙ live-labelled (spot c.args.rings.now) _ (ring (spot c.args.rings.now) c.args.b) c.args.a ∙ c.requires.a
+pub splice-requires-clause-a : goal.splice-requires-clause-a
+splice-requires-clause-a c = ap (λ (s : Spots). live s c.args.a) c.set_label.ensures.spots ∙ live-labelled (spot c.args.rings.now) _ (ring (spot c.args.rings.now) c.args.b) c.args.a ∙ c.requires.a
 
-pub exchange-requires-clause-b : goal.exchange-requires-clause-b
-exchange-requires-clause-b c = ap (λ (s : Spots). live s c.args.b) c.relabel_one.ensures.spots ∙ live-labelled (spot c.args.rings.now) _ (ring (spot c.args.rings.now) c.args.b) c.args.b ∙ c.requires.b
+pub splice-requires-clause-b : goal.splice-requires-clause-b
+splice-requires-clause-b c = ap (λ (s : Spots). live s c.args.b) c.set_label.ensures.spots ∙ live-labelled (spot c.args.rings.now) _ (ring (spot c.args.rings.now) c.args.b) c.args.b ∙ c.requires.b
 
 pub returns-clause-spots : goal.returns-clause-spots
-returns-clause-spots c = c.exchange.ensures.spots ∙ ap (λ (s : Spots). spliced_at s c.args.a c.args.b) (c.relabel_one.ensures.spots ∙ ap (λ n. labelled (spot c.args.rings.now) n (ring (spot c.args.rings.now) c.args.b)) (sym (ap or_zero c.label.ensures)))
+returns-clause-spots c = c.splice.ensures.spots ∙ ap (λ (s : Spots). spliced s c.args.a c.args.b) (c.set_label.ensures.spots ∙ ap (λ n. labelled (spot c.args.rings.now) n (ring (spot c.args.rings.now) c.args.b)) (sym (ap or_zero c.label.ensures)))

@@ -1,5 +1,5 @@
-use Rattle.raw_ring.proofs.Linking.{Retails-written}
+use Rattle.raw_ring.proofs.Linking.{SetsTail-written}
 use Rattle.raw_ring.proofs.nodes.Nodes.set_tail.Goals as goal
 
 pub returns : goal.returns
-returns c = Retails-written _ _ _ _ _ c.read-node.ensures c.write.ensures
+returns c = SetsTail-written _ _ _ _ _ c.read-node.ensures c.write.ensures

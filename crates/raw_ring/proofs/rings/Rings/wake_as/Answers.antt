@@ -1,7 +1,7 @@
 use Rattle.std.proofs.Common.{refl, ap, ◌∙◌, set, is_some}
 use Rattle.raw_ring.specs.Table.{woken}
 use Rattle.raw_ring.proofs.Mapping.{row_known, asleep_is}
-use Rattle.raw_ring.proofs.Tying.{node_there, IsTied-set, IsTied-retailed, ring_map-woken}
+use Rattle.raw_ring.proofs.Tying.{node_there, IsTied-set, IsTied-set_tail, ring_map-woken}
 use Rattle.raw_ring.proofs.rings.Rings.wake_as.Goals as goal
 
 pub place-at-requires : goal.place-at-requires
@@ -16,7 +16,7 @@ wake-requires c = ap is_some c.place-at.ensures.2
 pub invariant_of-self : goal.invariant_of-self
 invariant_of-self c =
     let found = c.place-at.ensures.2 in
-    rw (c.wake.ensures ∙ ap (λ o. set c.self.inside.slots c.args.code (woken c.args.label o)) found) (IsTied-set _ _ _ _ _ (IsTied-retailed _ _ _ _ _ _ c.self.invariant found c.set_tail.ensures) found refl (λ off. cc))
+    rw (c.wake.ensures ∙ ap (λ o. set c.self.inside.slots c.args.code (woken c.args.label o)) found) (IsTied-set _ _ _ _ _ (IsTied-set_tail _ _ _ _ _ _ c.self.invariant found c.set_tail.ensures) found refl (λ off. cc))
 
 pub returns : goal.returns
 returns c =

@@ -1,7 +1,7 @@
 use Rattle.std.proofs.Common.{◌≡◌, sym, ◌∙◌, subst}
 use Rattle.raw_ring.specs.Rings.{spot}
 use Rattle.boundary_model.specs.Items.{IsIn}
-use Rattle.arena_rows.specs.Common.{Spots, label, ring, labelled, spliced_at, map_in_loops}
+use Rattle.arena_rows.specs.Common.{Spots, label, ring, labelled, spliced, map_in_loops}
 use Rattle.arena_rows.proofs.ring_spots_laws.RingViews.{seen_live, seen_label, seen_ring, seen_as, known_as}
 use Rattle.arena_rows.proofs.ring_spots_laws.LiveEdges.{edges_cut}
 use Rattle.arena_rows.proofs.ring_spots.edge_rings.EdgeRings.cut.Goals as goal
@@ -20,11 +20,11 @@ cut-requires-clause-kept c =
 
 pub invariant_of-self : goal.invariant_of-self
 invariant_of-self c =
-    let spots = seen_as (λ (s : Spots). labelled (spliced_at s c.args.a c.args.b) c.args.l (ring (spliced_at s c.args.a c.args.b) c.args.b)) c.self.inside.labels c.cut.new.labels c.self.inside.rings c.cut.new.rings c.cut.ensures.spots in
+    let spots = seen_as (λ (s : Spots). labelled (spliced s c.args.a c.args.b) c.args.l (ring (spliced s c.args.a c.args.b) c.args.b)) c.self.inside.labels c.cut.new.labels c.self.inside.rings c.cut.new.rings c.cut.ensures.spots in
     record { labelled = c.cut.ensures.whole; edges = edges_cut _ _ c.self.invariant.edges _ c.args.a c.args.b c.args.l _ spots (known_as c.self.inside.labels c.cut.new.labels c.self.inside.rings c.cut.new.rings c.cut.ensures.known) }
 
 pub returns-clause-spots : goal.returns-clause-spots
-returns-clause-spots c = rw (← c.self.view_is) (seen_as (λ (s : Spots). labelled (spliced_at s c.args.a c.args.b) c.args.l (ring (spliced_at s c.args.a c.args.b) c.args.b)) c.self.inside.labels c.cut.new.labels c.self.inside.rings c.cut.new.rings c.cut.ensures.spots)
+returns-clause-spots c = rw (← c.self.view_is) (seen_as (λ (s : Spots). labelled (spliced s c.args.a c.args.b) c.args.l (ring (spliced s c.args.a c.args.b) c.args.b)) c.self.inside.labels c.cut.new.labels c.self.inside.rings c.cut.new.rings c.cut.ensures.spots)
 
 pub returns-clause-known : goal.returns-clause-known
 returns-clause-known c = rw (← c.self.view_is) (known_as c.self.inside.labels c.cut.new.labels c.self.inside.rings c.cut.new.rings c.cut.ensures.known)

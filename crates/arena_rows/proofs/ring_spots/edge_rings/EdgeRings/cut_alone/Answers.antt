@@ -1,5 +1,5 @@
 use Rattle.std.proofs.Common.{sym, ◌∙◌}
-use Rattle.arena_rows.specs.Common.{Spots, ring, labelled, spliced_at}
+use Rattle.arena_rows.specs.Common.{Spots, ring, labelled, spliced}
 use Rattle.arena_rows.proofs.ring_spots_laws.RingViews.{seen_next, seen_as, known_as}
 use Rattle.arena_rows.proofs.ring_spots_laws.LiveEdges.{edges_cut}
 use Rattle.arena_rows.proofs.ring_spots.edge_rings.EdgeRings.cut_alone.Goals as goal
@@ -9,11 +9,11 @@ cut_alone-requires-clause-follows c = sym (seen_next c.self.inside.labels c.self
 
 pub invariant_of-self : goal.invariant_of-self
 invariant_of-self c =
-    let spots = seen_as (λ (s : Spots). labelled (spliced_at s c.args.a c.args.b) c.args.l (ring (spliced_at s c.args.a c.args.b) c.args.b)) c.self.inside.labels c.cut_alone.new.labels c.self.inside.rings c.cut_alone.new.rings c.cut_alone.ensures.spots in
+    let spots = seen_as (λ (s : Spots). labelled (spliced s c.args.a c.args.b) c.args.l (ring (spliced s c.args.a c.args.b) c.args.b)) c.self.inside.labels c.cut_alone.new.labels c.self.inside.rings c.cut_alone.new.rings c.cut_alone.ensures.spots in
     record { labelled = c.cut_alone.ensures.whole; edges = edges_cut _ _ c.self.invariant.edges _ c.args.a c.args.b c.args.l _ spots (known_as c.self.inside.labels c.cut_alone.new.labels c.self.inside.rings c.cut_alone.new.rings c.cut_alone.ensures.known) }
 
 pub returns-clause-spots : goal.returns-clause-spots
-returns-clause-spots c = rw (← c.self.view_is) (seen_as (λ (s : Spots). labelled (spliced_at s c.args.a c.args.b) c.args.l (ring (spliced_at s c.args.a c.args.b) c.args.b)) c.self.inside.labels c.cut_alone.new.labels c.self.inside.rings c.cut_alone.new.rings c.cut_alone.ensures.spots)
+returns-clause-spots c = rw (← c.self.view_is) (seen_as (λ (s : Spots). labelled (spliced s c.args.a c.args.b) c.args.l (ring (spliced s c.args.a c.args.b) c.args.b)) c.self.inside.labels c.cut_alone.new.labels c.self.inside.rings c.cut_alone.new.rings c.cut_alone.ensures.spots)
 
 pub returns-clause-known : goal.returns-clause-known
 returns-clause-known c = rw (← c.self.view_is) (known_as c.self.inside.labels c.cut_alone.new.labels c.self.inside.rings c.cut_alone.new.rings c.cut_alone.ensures.known)

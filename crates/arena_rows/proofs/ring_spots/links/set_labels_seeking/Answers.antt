@@ -7,7 +7,7 @@ use Rattle.arena_rows.specs.Common.{codes, next, ring}
 use Rattle.arena_rows.proofs.ring_spots_laws.RingMaps.{known-with}
 use Rattle.arena_rows.proofs.ring_spots_laws.SpotTables.{codes_are}
 use Rattle.arena_rows.proofs.ring_spots_laws.Relabelling.{walk_items, missed_more, missed_last, missed_over, not_met, partly_start, partly_next, partly_live, partly_last, partly_more, partly_over, step_in, label_step, known_step, next_step}
-use Rattle.arena_rows.proofs.ring_spots.links.relabel_seeking.Goals as goal
+use Rattle.arena_rows.proofs.ring_spots.links.set_labels_seeking.Goals as goal
 
 pub round-init : goal.round-init
 round-init c = record {

@@ -4,7 +4,7 @@ use Rattle.boundary_model.specs.HalfEdge.{plus, minus}
 use Rattle.boundary_model.proofs.Halves.{plus_other}
 use Rattle.arena_rows.specs.Common.{Spots, live, woken_as, own, loop_at, has_label}
 use Rattle.arena_rows.proofs.ring_spots_laws.LabelEdges.{live-woken_other, labelled-woken, loops-woken}
-use Rattle.arena_rows.proofs.ring_spots.links.wake_edge.Goals as goal
+use Rattle.arena_rows.proofs.ring_spots.links.put_edge.Goals as goal
 
 pub wake-requires-clause-code : goal.wake-requires-clause-code
 wake-requires-clause-code c = c.requires.whole.table.codes_there (plus c.args.e) c.requires.first.0

@@ -2,10 +2,10 @@ use Rattle.std.proofs.Common.{Some, refl, arith}
 use Rattle.raw_cells.specs.Rows.{row_at}
 use Rattle.raw_ring.specs.Rings.{or_zero}
 use Rattle.raw_ring.specs.Joined.{or_false, with_marks}
-use Rattle.raw_ring.specs.Table.{relabelled}
+use Rattle.raw_ring.specs.Table.{set_label}
 use Rattle.raw_ring.proofs.Pointers.{some_of}
 use Rattle.raw_ring.proofs.Joining.{place_there, mark_rooms, marks_changed, cell_written, cells_kept, column_here, column_other, column_there}
-use Rattle.raw_ring.proofs.table.Table.relabel.Goals as goal
+use Rattle.raw_ring.proofs.table.Table.set_label.Goals as goal
 
 pub put-requires : goal.put-requires
 put-requires c = (mark_rooms c.self.inside.places c.self.inside.labels c.self.inside.lives _ c.self.invariant (rw (← c.self.view_is) at c.requires)).0
@@ -28,4 +28,4 @@ returns c =
     let place = some_of _ (place_there c.self.inside.places c.self.inside.labels c.self.inside.lives _ (rw (← c.self.view_is) at c.requires)) in
     let label = column_here _ _ _ _ labels in
     rw (← c.self.view_is)
-    (marks_changed c.self.inside.places c.self.inside.labels c.self.inside.lives _ _ _ (relabelled c.args.label) place.0 _ place.1 refl (λ i. with_marks (Some place.0) (or_zero (label i), or_false (row_at c.self.inside.lives c.args.code))) (column_other _ _ _ _ labels) (λ q ne. refl))
+    (marks_changed c.self.inside.places c.self.inside.labels c.self.inside.lives _ _ _ (set_label c.args.label) place.0 _ place.1 refl (λ i. with_marks (Some place.0) (or_zero (label i), or_false (row_at c.self.inside.lives c.args.code))) (column_other _ _ _ _ labels) (λ q ne. refl))

@@ -1,7 +1,7 @@
 use Rattle.std.proofs.Common.{sym, ◌∙◌, refl}
 use Rattle.arena_rows.proofs.ring_spots_laws.RingViews.{seen_live, seen-put, known_as}
 use Rattle.arena_rows.proofs.ring_spots_laws.LiveEdges.{edges_labelled}
-use Rattle.arena_rows.proofs.ring_spots.edge_rings.EdgeRings.relabel.Goals as goal
+use Rattle.arena_rows.proofs.ring_spots.edge_rings.EdgeRings.put_in_loop.Goals as goal
 
 pub put_in_loop-requires-clause-there : goal.put_in_loop-requires-clause-there
 put_in_loop-requires-clause-there c = sym (seen_live c.self.inside.labels c.self.inside.rings c.args.from) ∙ (rw (← c.self.view_is) at c.requires)

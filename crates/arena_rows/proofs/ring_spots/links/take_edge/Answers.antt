@@ -6,7 +6,7 @@ use Rattle.boundary_model.specs.HalfEdge.{plus, minus}
 use Rattle.boundary_model.proofs.Halves.{plus_other}
 use Rattle.arena_rows.specs.Common.{asleep}
 use Rattle.arena_rows.proofs.ring_spots_laws.RingMaps.{spot-insert, spot-asleep, known-same, live_known}
-use Rattle.arena_rows.proofs.ring_spots.links.sleep_edge.Goals as goal
+use Rattle.arena_rows.proofs.ring_spots.links.take_edge.Goals as goal
 
 still : (m new : RingMap) (e : ℕ) → new ≡ insert m (plus e) None → next_of m (minus e) ≡ Some (minus e) → next_of new (minus e) ≡ Some (minus e)
 still m new e is h = ap (λ (k : RingMap). next_of k (minus e)) is ∙ ap (of_spot (λ (s : Spot). s.next)) (spot-insert m (plus e) None (minus e) ∙ ap (λ b. cond b None (spot m (minus e))) (ne_eqb (minus e) (plus e) (λ q. plus_other e (sym q)))) ∙ h

@@ -4,7 +4,7 @@ use Rattle.raw_ring.specs.Rings.{spot}
 use Rattle.boundary_model.specs.Items.{IsIn}
 use Rattle.boundary_model.specs.Rings.{walk_to}
 use Rattle.arena_rows.specs.Common.{codes, next, ring, PartlyLabelled}
-use Rattle.arena_rows.proofs.ring_spots.links.relabel_seeking.Given as goal
+use Rattle.arena_rows.proofs.ring_spots.links.set_labels_seeking.Given as goal
 
 abbrev pub invariant-round : goal.invariant-round
 invariant-round l = record {

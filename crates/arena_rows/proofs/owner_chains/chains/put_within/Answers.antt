@@ -1,6 +1,6 @@
 use Rattle.std.proofs.Common.{ap}
 use Rattle.arena_rows.specs.Common.{is_of}
-use Rattle.arena_rows.proofs.owner_chains.chains.insert_within.Goals as goal
+use Rattle.arena_rows.proofs.owner_chains.chains.put_within.Goals as goal
 
 pub place_of-place-requires-clause-free : goal.place_of-place-requires-clause-free
 place_of-place-requires-clause-free c = ap (is_of c.args.owner) c.requires.free

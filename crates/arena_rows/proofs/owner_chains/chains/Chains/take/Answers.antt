@@ -2,7 +2,7 @@ use Rattle.std.proofs.Common.{arith}
 use Rattle.arena_rows.proofs.owner_chains_laws.Tables.{row_there}
 use Rattle.arena_rows.proofs.owner_chains_laws.Following.{item_there}
 use Rattle.arena_rows.proofs.owner_chains_laws.Going.{Goes, counted, goes, take_is}
-use Rattle.arena_rows.proofs.owner_chains.chains.Chains.remove.Goals as goal
+use Rattle.arena_rows.proofs.owner_chains.chains.Chains.take.Goals as goal
 
 pub known-gone-requires : goal.known-gone-requires
 known-gone-requires c = row_there c.self.inside.links c.args.item (rw (← c.self.view_is) at c.requires)

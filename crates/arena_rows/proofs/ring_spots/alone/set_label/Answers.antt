@@ -3,7 +3,7 @@ use Rattle.std.specs.FinMap.{contains_key}
 use Rattle.raw_ring.specs.Rings.{RingMap}
 use Rattle.arena_rows.proofs.ring_spots_laws.RingMaps.{known-with}
 use Rattle.arena_rows.proofs.ring_spots_laws.Alone.{labelled_one}
-use Rattle.arena_rows.proofs.ring_spots.alone.relabel_one.Goals as goal
+use Rattle.arena_rows.proofs.ring_spots.alone.set_label.Goals as goal
 
 pub returns-clause-spots : goal.returns-clause-spots
 returns-clause-spots c = labelled_one c.args.rings.now _ c.args.code c.args.l c.requires.alone c.set_label.ensures

@@ -4,7 +4,7 @@ use Rattle.arena_rows.specs.Common.{items, head_at}
 use Rattle.arena_rows.proofs.owner_chains_laws.Tables.{row_free}
 use Rattle.arena_rows.proofs.owner_chains_laws.Following.{item_there, last_above, ends_below}
 use Rattle.arena_rows.proofs.owner_chains_laws.Going.{no_items}
-use Rattle.arena_rows.proofs.owner_chains.chains.Chains.insert.Goals as goal
+use Rattle.arena_rows.proofs.owner_chains.chains.Chains.put.Goals as goal
 
 pub chain_in-requires-clause-free : goal.chain_in-requires-clause-free
 chain_in-requires-clause-free c = row_free _ _ (rw (← c.self.view_is) at c.requires.free)
@@ -40,8 +40,8 @@ chain_in-requires-then-comes_last-clause-next c =
     let last = c.comes_last.ensures c.if-comes_last.true in
     last_above _ _ c.self.invariant c.args.owner _ last.0 there last.2
 
-pub insert_within-requires-clause-free : goal.insert_within-requires-clause-free
-insert_within-requires-clause-free c = row_free _ _ (rw (← c.self.view_is) at c.requires.free)
+pub put_within-requires-clause-free : goal.put_within-requires-clause-free
+put_within-requires-clause-free c = row_free _ _ (rw (← c.self.view_is) at c.requires.free)
 
 pub returns-then-head-eq0 : goal.returns-then-head-eq0
 returns-then-head-eq0 c = rw (← c.self.view_is) c.chain_in.ensures.put
@@ -50,4 +50,4 @@ pub returns-then-comes_last : goal.returns-then-comes_last
 returns-then-comes_last c = rw (← c.self.view_is) c.chain_in-then-comes_last.ensures.put
 
 pub returns-else-comes_last : goal.returns-else-comes_last
-returns-else-comes_last c = rw (← c.self.view_is) c.insert_within.ensures.put
+returns-else-comes_last c = rw (← c.self.view_is) c.put_within.ensures.put
