@@ -40,24 +40,24 @@ pub record JoinFacts (sp : Spots) (a b : ℕ) : Type 0 where
   pub other : label sp b ≢ label sp a
 
 module _ (arena : ArenaRows) (tied : RowsAreTied arena) where
-  abbrev sp : Spots
-  sp = arena.spots
+  abbrev spots : Spots
+  spots = arena.spots
 
   abbrev loops : List (Option LoopCell)
   loops = arena.loops
 
-  abbrev R : AreRings sp
-  R = tied.rings
+  abbrev rings : AreRings spots
+  rings = tied.rings
 
-  abbrev are : AreLoops sp loops
+  abbrev are : AreLoops spots loops
   are = tied.loops_tied
 
-  module _ (a b l : ℕ) (g : CutFacts sp loops a b l) (ne : a ≢ b) where
-    abbrev la : ℕ
-    la = label sp a
+  module _ (a b l : ℕ) (g : CutFacts spots loops a b l) (ne : a ≢ b) where
+    abbrev label_a : ℕ
+    label_a = label spots a
 
     abbrev whole : List ℕ
-    whole = ring sp a
+    whole = ring spots a
 
     abbrev left : List ℕ
     left = cut_left a b whole
@@ -65,327 +65,327 @@ module _ (arena : ArenaRows) (tied : RowsAreTied arena) where
     abbrev right : List ℕ
     right = cut_right a b whole
 
-    abbrev sp1 : Spots
-    sp1 = spliced sp a b
+    abbrev cut_spots : Spots
+    cut_spots = spliced spots a b
 
-    abbrev sp2 : Spots
-    sp2 = labelled sp1 l (ring sp1 b)
+    abbrev labelled_spots : Spots
+    labelled_spots = labelled cut_spots l (ring cut_spots b)
 
     together : IsIn b whole
-    together = same_loop sp loops R are a b g.a_there g.b_there g.looped g.one
+    together = same_loop spots loops rings are a b g.a_there g.b_there g.looped g.one
 
-    pub rings1 : AreRings sp1
-    rings1 = AreRings-cut sp R a b g.a_there g.b_there together ne
+    pub rings1 : AreRings cut_spots
+    rings1 = AreRings-cut spots rings a b g.a_there g.b_there together ne
 
-    pub there1 : live sp1 b ≡ true
-    there1 = live-spliced sp a b b ∙ g.b_there
+    pub there1 : live cut_spots b ≡ true
+    there1 = live-spliced spots a b b ∙ g.b_there
 
-    pub rings2 : AreRings sp2
-    rings2 = AreRings-labelled sp1 rings1 b l there1
+    pub rings2 : AreRings labelled_spots
+    rings2 = AreRings-labelled cut_spots rings1 b l there1
 
     a_left : IsIn a left
-    a_left = (IsIn-cut a b whole (R.rings a g.a_there).apart (R.rings a g.a_there).item together ne).0
+    a_left = (IsIn-cut a b whole (rings.rings a g.a_there).apart (rings.rings a g.a_there).item together ne).0
 
     b_right : IsIn b right
-    b_right = (IsIn-cut a b whole (R.rings a g.a_there).apart (R.rings a g.a_there).item together ne).1
+    b_right = (IsIn-cut a b whole (rings.rings a g.a_there).apart (rings.rings a g.a_there).item together ne).1
 
-    right_is : ring sp1 b ≡ right
-    right_is = (ring_right sp R a b g.a_there g.b_there together ne b b_right).0
+    right_is : ring cut_spots b ≡ right
+    right_is = (ring_right spots rings a b g.a_there g.b_there together ne b b_right).0
 
     items : (x : ℕ) → count x left + count x right ≡ count x whole
-    items = cut_items sp R a b g.a_there g.b_there together ne
+    items = cut_items spots rings a b g.a_there g.b_there together ne
 
-    pub live2 : (x : ℕ) → live sp2 x ≡ live sp x
-    live2 x = live-labelled sp1 l (ring sp1 b) x ∙ live-spliced sp a b x
+    pub live2 : (x : ℕ) → live labelled_spots x ≡ live spots x
+    live2 x = live-labelled cut_spots l (ring cut_spots b) x ∙ live-spliced spots a b x
 
-    awake_whole : (x : ℕ) → IsIn x whole → live sp x ≡ true
-    awake_whole x i = (R.rings a g.a_there).awake x i
+    awake_whole : (x : ℕ) → IsIn x whole → live spots x ≡ true
+    awake_whole x i = (rings.rings a g.a_there).awake x i
 
-    label_right : (x : ℕ) → IsIn x right → label sp2 x ≡ l
-    label_right x i = label-labelled_in sp1 l (ring sp1 b) x (subst (IsIn x) (sym right_is) i) (live-spliced sp a b x ∙ awake_whole x (omega (arith, items x)))
+    label_right : (x : ℕ) → IsIn x right → label labelled_spots x ≡ l
+    label_right x i = label-labelled_in cut_spots l (ring cut_spots b) x (subst (IsIn x) (sym right_is) i) (live-spliced spots a b x ∙ awake_whole x (omega (arith, items x)))
 
-    label_not_right : (x : ℕ) → count x right ≡ 0 → label sp2 x ≡ label sp x
-    label_not_right x n = label-labelled_out sp1 l (ring sp1 b) x (ap (count x) right_is ∙ n) ∙ label-spliced sp a b x
+    label_not_right : (x : ℕ) → count x right ≡ 0 → label labelled_spots x ≡ label spots x
+    label_not_right x n = label-labelled_out cut_spots l (ring cut_spots b) x (ap (count x) right_is ∙ n) ∙ label-spliced spots a b x
 
-    label_left : (x : ℕ) → IsIn x left → label sp2 x ≡ la
-    label_left x i = label_not_right x (omega (arith, items x, (R.rings a g.a_there).apart x)) ∙ (R.rings a g.a_there).one_label x (omega (arith, items x))
+    label_left : (x : ℕ) → IsIn x left → label labelled_spots x ≡ label_a
+    label_left x i = label_not_right x (omega (arith, items x, (rings.rings a g.a_there).apart x)) ∙ (rings.rings a g.a_there).one_label x (omega (arith, items x))
 
-    ring2 : (x : ℕ) → ring sp2 x ≡ ring sp1 x
-    ring2 x = ring-labelled sp1 rings1 b l there1 x
+    ring2 : (x : ℕ) → ring labelled_spots x ≡ ring cut_spots x
+    ring2 x = ring-labelled cut_spots rings1 b l there1 x
 
-    pub ring_of_left : ring sp2 a ≡ left
-    ring_of_left = ring2 a ∙ (ring_left sp R a b g.a_there g.b_there together ne a a_left).0
+    pub ring_of_left : ring labelled_spots a ≡ left
+    ring_of_left = ring2 a ∙ (ring_left spots rings a b g.a_there g.b_there together ne a a_left).0
 
-    pub ring_of_right : ring sp2 b ≡ right
+    pub ring_of_right : ring labelled_spots b ≡ right
     ring_of_right = ring2 b ∙ right_is
 
-    ring_out : (x : ℕ) → live sp x ≡ true → count x whole ≡ 0 → ring sp2 x ≡ ring sp x
-    ring_out x h n = ring2 x ∙ (ring_beside sp R a b g.a_there g.b_there together ne x h n).0
+    ring_out : (x : ℕ) → live spots x ≡ true → count x whole ≡ 0 → ring labelled_spots x ≡ ring spots x
+    ring_out x h n = ring2 x ∙ (ring_beside spots rings a b g.a_there g.b_there together ne x h n).0
 
-    label_out : (x : ℕ) → count x whole ≡ 0 → label sp2 x ≡ label sp x
+    label_out : (x : ℕ) → count x whole ≡ 0 → label labelled_spots x ≡ label spots x
     label_out x n = label_not_right x (omega (arith, items x))
 
     -- what is labelled otherwise isn't in the ring
-    out : (x : ℕ) → label sp x ≢ la → count x whole ≡ 0
-    out x n = elim (IsIn_or_not x whole) [ inl i ↦ absurd (n ((R.rings a g.a_there).one_label x i)) | inr m ↦ m ]
+    out : (x : ℕ) → label spots x ≢ label_a → count x whole ≡ 0
+    out x n = elim (IsIn_or_not x whole) [ inl i ↦ absurd (n ((rings.rings a g.a_there).one_label x i)) | inr m ↦ m ]
 
-    pub kept2 : (q c : ℕ) → q ≢ la → live sp c ≡ true → label sp c ≡ q → ring sp2 c ≡ ring sp c
+    pub kept2 : (q c : ℕ) → q ≢ label_a → live spots c ≡ true → label spots c ≡ q → ring labelled_spots c ≡ ring spots c
     kept2 q c n h e = ring_out c h (out c (λ z. n (sym e ∙ z)))
 
-    apart_l : l ≢ 0 → l ≢ la
+    apart_l : l ≢ 0 → l ≢ label_a
     apart_l n e =
         let f = g.free n in
-        let i : IsIn a (ring sp (are.stands a g.a_there g.looped).entry) = (are.stands a g.a_there g.looped).item in
-        let z : stored_content sp f.cell.stored ≡ cycle (ring sp (are.stands a g.a_there g.looped).entry) = ap (λ (c : LoopCell). stored_content sp c.stored) (same_Some _ _ (sym f.here ∙ ap (row_at loops) e ∙ (are.stands a g.a_there g.looped).here)) in
-        let k : count a (ring sp (are.stands a g.a_there g.looped).entry) ≡ 0 = ap (count a) (sym (ap items_of z) ∙ f.bare) in
+        let i : IsIn a (ring spots (are.stands a g.a_there g.looped).entry) = (are.stands a g.a_there g.looped).item in
+        let z : stored_content spots f.cell.stored ≡ cycle (ring spots (are.stands a g.a_there g.looped).entry) = ap (λ (c : LoopCell). stored_content spots c.stored) (same_Some _ _ (sym f.here ∙ ap (row_at loops) e ∙ (are.stands a g.a_there g.looped).here)) in
+        let k : count a (ring spots (are.stands a g.a_there g.looped).entry) ≡ 0 = ap (count a) (sym (ap items_of z) ∙ f.bare) in
         absurd (omega arith)
 
     -- the rows after the cut
-    module _ (new : List (Option LoopCell)) (fa : ℕ) (at_la : row_at new la ≡ Some (record { face = fa; stored = At a })) (at_l : l ≢ 0 → (f : ℕ) × (row_at new l ≡ Some (record { face = f; stored = At b })))
-        (elsewhere : (q : ℕ) → q ≢ la → q ≢ l → row_at new q ≡ row_at loops q) (new_zero : row_at new 0 ≡ None) where
-      old : (q : ℕ) → q ≢ la → (stored : StoredContent) → HasEntry sp q stored → HasEntry sp2 q stored
+    module _ (new : List (Option LoopCell)) (fa : ℕ) (at_la : row_at new label_a ≡ Some (record { face = fa; stored = At a })) (at_l : l ≢ 0 → (f : ℕ) × (row_at new l ≡ Some (record { face = f; stored = At b })))
+        (elsewhere : (q : ℕ) → q ≢ label_a → q ≢ l → row_at new q ≡ row_at loops q) (new_zero : row_at new 0 ≡ None) where
+      old : (q : ℕ) → q ≢ label_a → (stored : StoredContent) → HasEntry spots q stored → HasEntry labelled_spots q stored
       old q n Empty e = tt
       old q n (Lone v) e = tt
       old q n (At c) e = (live2 c ∙ e.0, label_out c (out c (λ z. n (sym e.1 ∙ z))) ∙ e.1)
 
-      cut_entries : (q : ℕ) (cell : LoopCell) → row_at new q ≡ Some cell → HasEntry sp2 q cell.stored
-      cut_entries q cell at = elim (eqb_tells q la) [
-        | inl p ↦ subst (HasEntry sp2 q) (ap (λ (c : LoopCell). c.stored) (same_Some _ _ (sym (ap (row_at new) p.1 ∙ at_la) ∙ at))) (live2 a ∙ g.a_there, label_left a a_left ∙ sym p.1)
+      cut_entries : (q : ℕ) (cell : LoopCell) → row_at new q ≡ Some cell → HasEntry labelled_spots q cell.stored
+      cut_entries q cell at = elim (eqb_tells q label_a) [
+        | inl p ↦ subst (HasEntry labelled_spots q) (ap (λ (c : LoopCell). c.stored) (same_Some _ _ (sym (ap (row_at new) p.1 ∙ at_la) ∙ at))) (live2 a ∙ g.a_there, label_left a a_left ∙ sym p.1)
         | inr p ↦ elim (eqb_tells q l) [
           | inl r ↦
               let n : l ≢ 0 = λ z. true≢false (ap is_some (sym at) ∙ ap is_some (ap (row_at new) (r.1 ∙ z) ∙ new_zero)) in
-              subst (HasEntry sp2 q) (ap (λ (c : LoopCell). c.stored) (same_Some _ _ (sym (ap (row_at new) r.1 ∙ (at_l n).1) ∙ at))) (live2 b ∙ g.b_there, label_right b b_right ∙ sym r.1)
+              subst (HasEntry labelled_spots q) (ap (λ (c : LoopCell). c.stored) (same_Some _ _ (sym (ap (row_at new) r.1 ∙ (at_l n).1) ∙ at))) (live2 b ∙ g.b_there, label_right b b_right ∙ sym r.1)
           | inr r ↦ old q p.1 cell.stored (are.entries q cell (sym (elsewhere q p.1 r.1) ∙ at))
         ]
       ]
 
-      cut_stands : (x : ℕ) → live sp2 x ≡ true → label sp2 x ≢ 0 → StandsAt sp2 new x (label sp2 x)
+      cut_stands : (x : ℕ) → live labelled_spots x ≡ true → label labelled_spots x ≢ 0 → StandsAt labelled_spots new x (label labelled_spots x)
       cut_stands x h n = elim (IsIn_or_not x left) [
-        | inl i ↦ subst (StandsAt sp2 new x) (sym (label_left x i)) (record { face = fa; entry = a; here = at_la; item = subst (IsIn x) (sym ring_of_left) i })
+        | inl i ↦ subst (StandsAt labelled_spots new x) (sym (label_left x i)) (record { face = fa; entry = a; here = at_la; item = subst (IsIn x) (sym ring_of_left) i })
         | inr m ↦ elim (IsIn_or_not x right) [
           | inl i ↦
               let k : l ≢ 0 = λ z. n (label_right x i ∙ z) in
-              subst (StandsAt sp2 new x) (sym (label_right x i)) (record { face = (at_l k).0; entry = b; here = (at_l k).1; item = subst (IsIn x) (sym ring_of_right) i })
+              subst (StandsAt labelled_spots new x) (sym (label_right x i)) (record { face = (at_l k).0; entry = b; here = (at_l k).1; item = subst (IsIn x) (sym ring_of_right) i })
           | inr k ↦
               let away : count x whole ≡ 0 = omega (arith, items x) in
               let e = label_out x away in
-              let there : live sp x ≡ true = sym (live2 x) ∙ h in
+              let there : live spots x ≡ true = sym (live2 x) ∙ h in
               let s = are.stands x there (λ z. n (e ∙ z)) in
-              let ent = are.entries (label sp x) (record { face = s.face; stored = At s.entry }) s.here in
-              let not_la : label sp x ≢ la = λ z. let w : IsIn x whole = same_loop sp loops R are a x g.a_there there g.looped z in absurd (omega arith) in
-              let not_l : label sp x ≢ l = λ z.
+              let ent = are.entries (label spots x) (record { face = s.face; stored = At s.entry }) s.here in
+              let not_la : label spots x ≢ label_a = λ z. let w : IsIn x whole = same_loop spots loops rings are a x g.a_there there g.looped z in absurd (omega arith) in
+              let not_l : label spots x ≢ l = λ z.
               let nz : l ≢ 0 = λ y. n (e ∙ z ∙ y) in let f = g.free nz in
-              let c : stored_content sp f.cell.stored ≡ cycle (ring sp s.entry) = ap (λ (c : LoopCell). stored_content sp c.stored) (same_Some _ _ (sym f.here ∙ ap (row_at loops) (sym z) ∙ s.here)) in
-              let u : count x (ring sp s.entry) ≡ 0 = ap (count x) (sym (ap items_of c) ∙ f.bare) in
+              let c : stored_content spots f.cell.stored ≡ cycle (ring spots s.entry) = ap (λ (c : LoopCell). stored_content spots c.stored) (same_Some _ _ (sym f.here ∙ ap (row_at loops) (sym z) ∙ s.here)) in
+              let u : count x (ring spots s.entry) ≡ 0 = ap (count x) (sym (ap items_of c) ∙ f.bare) in
               let i = s.item in absurd (omega arith) in
-              subst (StandsAt sp2 new x) (sym e) (record {
+              subst (StandsAt labelled_spots new x) (sym e) (record {
                 face = s.face;
                 entry = s.entry;
-                here = elsewhere (label sp x) not_la not_l ∙ s.here;
-                item = subst (IsIn x) (sym (kept2 (label sp x) s.entry not_la ent.0 ent.1)) s.item;
+                here = elsewhere (label spots x) not_la not_l ∙ s.here;
+                item = subst (IsIn x) (sym (kept2 (label spots x) s.entry not_la ent.0 ent.1)) s.item;
               })
         ]
       ]
 
-      pub AreLoops-cut : AreLoops sp2 new
+      pub AreLoops-cut : AreLoops labelled_spots new
       AreLoops-cut = record { entries = cut_entries; stands = cut_stands }
 
-    pub apart_rows : l ≢ 0 → l ≢ la
+    pub apart_rows : l ≢ 0 → l ≢ label_a
     apart_rows = apart_l
 
     -- the loose rings after the cut
-    out_alike : (k : ℕ) → count k whole ≡ 0 → loose_row sp2 k ≡ loose_row sp k
-    out_alike k n = loose_kept sp sp2 k (live2 k) (λ h. (label_out k n, ring_out k h n))
+    out_alike : (k : ℕ) → count k whole ≡ 0 → loose_row labelled_spots k ≡ loose_row spots k
+    out_alike k n = loose_kept spots labelled_spots k (live2 k) (λ h. (label_out k n, ring_out k h n))
 
-    in_none : (k : ℕ) → IsIn k whole → loose_row sp k ≡ None
-    in_none k i = loose_none sp k (λ z. g.looped (sym ((R.rings a g.a_there).one_label k i) ∙ z))
+    in_none : (k : ℕ) → IsIn k whole → loose_row spots k ≡ None
+    in_none k i = loose_none spots k (λ z. g.looped (sym ((rings.rings a g.a_there).one_label k i) ∙ z))
 
-    pub loose-cut_to : l ≢ 0 → tabulate (loose_row sp2) codes ≡ tabulate (loose_row sp) codes
-    loose-cut_to n = loose_same sp sp2 (λ k. elim (IsIn_or_not k left) [
-      | inl i ↦ loose_none sp2 k (λ z. g.looped (sym (label_left k i) ∙ z)) ∙ sym (in_none k (omega (arith, items k)))
+    pub loose-cut_to : l ≢ 0 → tabulate (loose_row labelled_spots) codes ≡ tabulate (loose_row spots) codes
+    loose-cut_to n = loose_same spots labelled_spots (λ k. elim (IsIn_or_not k left) [
+      | inl i ↦ loose_none labelled_spots k (λ z. g.looped (sym (label_left k i) ∙ z)) ∙ sym (in_none k (omega (arith, items k)))
       | inr m ↦ elim (IsIn_or_not k right) [
-        | inl i ↦ loose_none sp2 k (λ z. n (sym (label_right k i) ∙ z)) ∙ sym (in_none k (omega (arith, items k)))
+        | inl i ↦ loose_none labelled_spots k (λ z. n (sym (label_right k i) ∙ z)) ∙ sym (in_none k (omega (arith, items k)))
         | inr j ↦ out_alike k (omega (arith, items k))
       ]
     ])
 
-    pub loose-cut_loose : l ≡ 0 → tabulate (loose_row sp2) codes ≡ loosened right (tabulate (loose_row sp) codes)
-    loose-cut_loose z = loose_added sp sp2 R rings2 b right (live2 b ∙ g.b_there) (label_right b b_right ∙ z) ring_of_right (λ k i. in_none k (omega (arith, items k)))
+    pub loose-cut_loose : l ≡ 0 → tabulate (loose_row labelled_spots) codes ≡ loosened right (tabulate (loose_row spots) codes)
+    loose-cut_loose z = loose_added spots labelled_spots rings rings2 b right (live2 b ∙ g.b_there) (label_right b b_right ∙ z) ring_of_right (λ k i. in_none k (omega (arith, items k)))
         (λ k m. elim (IsIn_or_not k left) [
-          | inl i ↦ loose_none sp2 k (λ y. g.looped (sym (label_left k i) ∙ y)) ∙ sym (in_none k (omega (arith, items k)))
+          | inl i ↦ loose_none labelled_spots k (λ y. g.looped (sym (label_left k i) ∙ y)) ∙ sym (in_none k (omega (arith, items k)))
           | inr j ↦ out_alike k (omega (arith, items k))
         ])
 
-    pub edges-cut : tabulate (edge_row sp2) codes ≡ tabulate (edge_row sp) codes
-    edges-cut = edges_same sp sp2 (λ q. tails-labelled sp1 l (ring sp1 b) q ∙ tails-spliced sp a b q)
+    pub edges-cut : tabulate (edge_row labelled_spots) codes ≡ tabulate (edge_row spots) codes
+    edges-cut = edges_same spots labelled_spots (λ q. tails-labelled cut_spots l (ring cut_spots b) q ∙ tails-spliced spots a b q)
 
-    pub loops-cut : (rows : List (Option LoopCell)) (fa : ℕ) → ((q : ℕ) → row_at rows q ≡ cond (nat_eq q la) (Some (record { face = fa; stored = At a })) (row_at loops q)) → table_of (loop_row sp2) rows ≡ put (table_of (loop_row sp) loops) la (record { face = fa; content = cycle left })
-    loops-cut rows fa is = loops_table sp sp2 loops rows are la (record { face = fa; stored = At a }) is kept2 ∙ ap (λ hs. put (table_of (loop_row sp) loops) la (record { face = fa; content = cycle hs })) ring_of_left
+    pub loops-cut : (rows : List (Option LoopCell)) (fa : ℕ) → ((q : ℕ) → row_at rows q ≡ cond (nat_eq q label_a) (Some (record { face = fa; stored = At a })) (row_at loops q)) → table_of (loop_row labelled_spots) rows ≡ put (table_of (loop_row spots) loops) label_a (record { face = fa; content = cycle left })
+    loops-cut rows fa is = loops_table spots labelled_spots loops rows are label_a (record { face = fa; stored = At a }) is kept2 ∙ ap (λ hs. put (table_of (loop_row spots) loops) label_a (record { face = fa; content = cycle hs })) ring_of_left
 
   -- a's loop takes the ring of b, which stands in another loop or in none
-  module _ (a b : ℕ) (g : JoinFacts sp a b) where
+  module _ (a b : ℕ) (g : JoinFacts spots a b) where
     abbrev jla : ℕ
-    jla = label sp a
+    jla = label spots a
 
     abbrev jlb : ℕ
-    jlb = label sp b
+    jlb = label spots b
 
-    abbrev xs : List ℕ
-    xs = ring sp a
+    abbrev ring_a : List ℕ
+    ring_a = ring spots a
 
-    abbrev ys : List ℕ
-    ys = ring sp b
+    abbrev ring_b : List ℕ
+    ring_b = ring spots b
 
-    abbrev js1 : Spots
-    js1 = labelled sp jla ys
+    abbrev relabelled_spots : Spots
+    relabelled_spots = labelled spots jla ring_b
 
-    abbrev js2 : Spots
-    js2 = spliced js1 a b
+    abbrev joined_spots : Spots
+    joined_spots = spliced relabelled_spots a b
 
     abbrev joint : List ℕ
-    joint = joined a b xs ys
+    joint = joined a b ring_a ring_b
 
-    pub jrings1 : AreRings js1
-    jrings1 = AreRings-labelled sp R b jla g.b_there
+    pub jrings1 : AreRings relabelled_spots
+    jrings1 = AreRings-labelled spots rings b jla g.b_there
 
-    pub a_live1 : live js1 a ≡ true
-    a_live1 = live-labelled sp jla ys a ∙ g.a_there
+    pub a_live1 : live relabelled_spots a ≡ true
+    a_live1 = live-labelled spots jla ring_b a ∙ g.a_there
 
-    pub b_live1 : live js1 b ≡ true
-    b_live1 = live-labelled sp jla ys b ∙ g.b_there
+    pub b_live1 : live relabelled_spots b ≡ true
+    b_live1 = live-labelled spots jla ring_b b ∙ g.b_there
 
-    jring1 : (x : ℕ) → ring js1 x ≡ ring sp x
-    jring1 x = ring-labelled sp R b jla g.b_there x
+    jring1 : (x : ℕ) → ring relabelled_spots x ≡ ring spots x
+    jring1 x = ring-labelled spots rings b jla g.b_there x
 
     -- the two rings have no item in common
-    parted : (x : ℕ) → IsIn x xs → count x ys ≡ 0
-    parted x i = elim (IsIn_or_not x ys) [ inl j ↦ absurd (g.other (sym ((R.rings b g.b_there).one_label x j) ∙ (R.rings a g.a_there).one_label x i)) | inr n ↦ n ]
+    parted : (x : ℕ) → IsIn x ring_a → count x ring_b ≡ 0
+    parted x i = elim (IsIn_or_not x ring_b) [ inl j ↦ absurd (g.other (sym ((rings.rings b g.b_there).one_label x j) ∙ (rings.rings a g.a_there).one_label x i)) | inr n ↦ n ]
 
-    b_apart : count b (ring js1 a) ≡ 0
-    b_apart = ap (count b) (jring1 a) ∙ elim (IsIn_or_not b xs) [ inl i ↦ absurd (g.other ((R.rings a g.a_there).one_label b i)) | inr n ↦ n ]
+    b_apart : count b (ring relabelled_spots a) ≡ 0
+    b_apart = ap (count b) (jring1 a) ∙ elim (IsIn_or_not b ring_a) [ inl i ↦ absurd (g.other ((rings.rings a g.a_there).one_label b i)) | inr n ↦ n ]
 
-    label_ys : (x : ℕ) → IsIn x ys → label js1 x ≡ jla
-    label_ys x i = label-labelled_in sp jla ys x i ((R.rings b g.b_there).awake x i)
+    label_ys : (x : ℕ) → IsIn x ring_b → label relabelled_spots x ≡ jla
+    label_ys x i = label-labelled_in spots jla ring_b x i ((rings.rings b g.b_there).awake x i)
 
-    label_not_ys : (x : ℕ) → count x ys ≡ 0 → label js1 x ≡ label sp x
-    label_not_ys x n = label-labelled_out sp jla ys x n
+    label_not_ys : (x : ℕ) → count x ring_b ≡ 0 → label relabelled_spots x ≡ label spots x
+    label_not_ys x n = label-labelled_out spots jla ring_b x n
 
-    label_a1 : label js1 a ≡ jla
-    label_a1 = label_not_ys a (parted a (R.rings a g.a_there).item)
+    label_a1 : label relabelled_spots a ≡ jla
+    label_a1 = label_not_ys a (parted a (rings.rings a g.a_there).item)
 
-    one1 : label js1 b ≡ label js1 a
-    one1 = label_ys b (R.rings b g.b_there).item ∙ sym label_a1
+    one1 : label relabelled_spots b ≡ label relabelled_spots a
+    one1 = label_ys b (rings.rings b g.b_there).item ∙ sym label_a1
 
-    pub jrings2 : AreRings js2
-    jrings2 = AreRings-join js1 jrings1 a b a_live1 b_live1 b_apart one1
+    pub jrings2 : AreRings joined_spots
+    jrings2 = AreRings-join relabelled_spots jrings1 a b a_live1 b_live1 b_apart one1
 
-    joint1 : joined a b (ring js1 a) (ring js1 b) ≡ joint
-    joint1 = ap (λ w. joined a b w (ring js1 b)) (jring1 a) ∙ ap (joined a b xs) (jring1 b)
+    joint1 : joined a b (ring relabelled_spots a) (ring relabelled_spots b) ≡ joint
+    joint1 = ap (λ w. joined a b w (ring relabelled_spots b)) (jring1 a) ∙ ap (joined a b ring_a) (jring1 b)
 
-    jitems : (x : ℕ) → count x joint ≡ count x xs + count x ys
-    jitems x = ap (count x) (sym joint1) ∙ join_items js1 jrings1 a b a_live1 b_live1 b_apart one1 x ∙ ap (λ w. count x w + count x (ring js1 b)) (jring1 a) ∙ ap (λ w. count x xs + count x w) (jring1 b)
+    jitems : (x : ℕ) → count x joint ≡ count x ring_a + count x ring_b
+    jitems x = ap (count x) (sym joint1) ∙ join_items relabelled_spots jrings1 a b a_live1 b_live1 b_apart one1 x ∙ ap (λ w. count x w + count x (ring relabelled_spots b)) (jring1 a) ∙ ap (λ w. count x ring_a + count x w) (jring1 b)
 
-    pub jlive2 : (x : ℕ) → live js2 x ≡ live sp x
-    jlive2 x = live-spliced js1 a b x ∙ live-labelled sp jla ys x
+    pub jlive2 : (x : ℕ) → live joined_spots x ≡ live spots x
+    jlive2 x = live-spliced relabelled_spots a b x ∙ live-labelled spots jla ring_b x
 
-    jlabel_in : (x : ℕ) → IsIn x joint → label js2 x ≡ jla
-    jlabel_in x i = label-spliced js1 a b x ∙ elim (IsIn_or_not x ys) [
+    jlabel_in : (x : ℕ) → IsIn x joint → label joined_spots x ≡ jla
+    jlabel_in x i = label-spliced relabelled_spots a b x ∙ elim (IsIn_or_not x ring_b) [
       | inl j ↦ label_ys x j
-      | inr n ↦ label_not_ys x n ∙ (R.rings a g.a_there).one_label x (omega (arith, jitems x))
+      | inr n ↦ label_not_ys x n ∙ (rings.rings a g.a_there).one_label x (omega (arith, jitems x))
     ]
 
-    jlabel_out : (x : ℕ) → count x ys ≡ 0 → label js2 x ≡ label sp x
-    jlabel_out x n = label-spliced js1 a b x ∙ label_not_ys x n
+    jlabel_out : (x : ℕ) → count x ring_b ≡ 0 → label joined_spots x ≡ label spots x
+    jlabel_out x n = label-spliced relabelled_spots a b x ∙ label_not_ys x n
 
-    jring_in : (x : ℕ) → IsIn x joint → ring js2 x ≡ joint
-    jring_in x i = (ring_joint js1 jrings1 a b a_live1 b_live1 b_apart one1 x (subst (IsIn x) (sym joint1) i)).0 ∙ joint1
+    jring_in : (x : ℕ) → IsIn x joint → ring joined_spots x ≡ joint
+    jring_in x i = (ring_joint relabelled_spots jrings1 a b a_live1 b_live1 b_apart one1 x (subst (IsIn x) (sym joint1) i)).0 ∙ joint1
 
-    jring_out : (x : ℕ) → live sp x ≡ true → count x joint ≡ 0 → ring js2 x ≡ ring sp x
-    jring_out x h n = (ring_aside js1 jrings1 a b a_live1 b_live1 b_apart one1 x (live-labelled sp jla ys x ∙ h) (ap (count x) joint1 ∙ n)).0 ∙ jring1 x
+    jring_out : (x : ℕ) → live spots x ≡ true → count x joint ≡ 0 → ring joined_spots x ≡ ring spots x
+    jring_out x h n = (ring_aside relabelled_spots jrings1 a b a_live1 b_live1 b_apart one1 x (live-labelled spots jla ring_b x ∙ h) (ap (count x) joint1 ∙ n)).0 ∙ jring1 x
 
     -- what is labelled otherwise is in neither
-    jaway : (x : ℕ) → label sp x ≢ jla → label sp x ≢ jlb → count x joint ≡ 0
+    jaway : (x : ℕ) → label spots x ≢ jla → label spots x ≢ jlb → count x joint ≡ 0
     jaway x n m = elim (IsIn_or_not x joint) [
-      | inl i ↦ elim (IsIn_or_not x xs) [
-        | inl j ↦ absurd (n ((R.rings a g.a_there).one_label x j))
-        | inr k ↦ let j : IsIn x ys = omega (arith, jitems x) in absurd (m ((R.rings b g.b_there).one_label x j))
+      | inl i ↦ elim (IsIn_or_not x ring_a) [
+        | inl j ↦ absurd (n ((rings.rings a g.a_there).one_label x j))
+        | inr k ↦ let j : IsIn x ring_b = omega (arith, jitems x) in absurd (m ((rings.rings b g.b_there).one_label x j))
       ]
       | inr k ↦ k
     ]
 
-    pub jkept : (q c : ℕ) → q ≢ jla → q ≢ jlb → live sp c ≡ true → label sp c ≡ q → ring js2 c ≡ ring sp c
+    pub jkept : (q c : ℕ) → q ≢ jla → q ≢ jlb → live spots c ≡ true → label spots c ≡ q → ring joined_spots c ≡ ring spots c
     jkept q c n m h e = jring_out c h (jaway c (λ z. n (sym e ∙ z)) (λ z. m (sym e ∙ z)))
 
-    jitem_ys : (x : ℕ) → IsIn x ys → IsIn x joint
+    jitem_ys : (x : ℕ) → IsIn x ring_b → IsIn x joint
     jitem_ys x i = omega (arith, jitems x)
 
-    pub jedges : tabulate (edge_row js2) codes ≡ tabulate (edge_row sp) codes
-    jedges = edges_same sp js2 (λ q. tails-spliced js1 a b q ∙ tails-labelled sp jla ys q)
+    pub jedges : tabulate (edge_row joined_spots) codes ≡ tabulate (edge_row spots) codes
+    jedges = edges_same spots joined_spots (λ q. tails-spliced relabelled_spots a b q ∙ tails-labelled spots jla ring_b q)
 
-    jout_alike : (k : ℕ) → count k joint ≡ 0 → loose_row js2 k ≡ loose_row sp k
-    jout_alike k n = loose_kept sp js2 k (jlive2 k) (λ h. (jlabel_out k (omega (arith, jitems k)), jring_out k h n))
+    jout_alike : (k : ℕ) → count k joint ≡ 0 → loose_row joined_spots k ≡ loose_row spots k
+    jout_alike k n = loose_kept spots joined_spots k (jlive2 k) (λ h. (jlabel_out k (omega (arith, jitems k)), jring_out k h n))
 
-    jin_none : (k : ℕ) → IsIn k joint → loose_row js2 k ≡ None
-    jin_none k i = loose_none js2 k (λ z. g.looped (sym (jlabel_in k i) ∙ z))
+    jin_none : (k : ℕ) → IsIn k joint → loose_row joined_spots k ≡ None
+    jin_none k i = loose_none joined_spots k (λ z. g.looped (sym (jlabel_in k i) ∙ z))
 
-    pub loose-join_loops : jlb ≢ 0 → tabulate (loose_row js2) codes ≡ tabulate (loose_row sp) codes
-    loose-join_loops n = loose_same sp js2 (λ k. elim (IsIn_or_not k xs) [
-      | inl i ↦ jin_none k (omega (arith, jitems k)) ∙ sym (loose_none sp k (λ z. g.looped (sym ((R.rings a g.a_there).one_label k i) ∙ z)))
-      | inr m ↦ elim (IsIn_or_not k ys) [
-        | inl i ↦ jin_none k (omega (arith, jitems k)) ∙ sym (loose_none sp k (λ z. n (sym ((R.rings b g.b_there).one_label k i) ∙ z)))
+    pub loose-join_loops : jlb ≢ 0 → tabulate (loose_row joined_spots) codes ≡ tabulate (loose_row spots) codes
+    loose-join_loops n = loose_same spots joined_spots (λ k. elim (IsIn_or_not k ring_a) [
+      | inl i ↦ jin_none k (omega (arith, jitems k)) ∙ sym (loose_none spots k (λ z. g.looped (sym ((rings.rings a g.a_there).one_label k i) ∙ z)))
+      | inr m ↦ elim (IsIn_or_not k ring_b) [
+        | inl i ↦ jin_none k (omega (arith, jitems k)) ∙ sym (loose_none spots k (λ z. n (sym ((rings.rings b g.b_there).one_label k i) ∙ z)))
         | inr j ↦ jout_alike k (omega (arith, jitems k))
       ]
     ])
 
-    pub loose-join_loose : tabulate (loose_row js2) codes ≡ remove (tabulate (loose_row sp) codes) (head_or 0 ys)
-    loose-join_loose = loose_removed sp js2 R jrings2 b g.b_there (λ k i. jin_none k (jitem_ys k i))
-        (λ k m. elim (IsIn_or_not k xs) [
-          | inl i ↦ jin_none k (omega (arith, jitems k)) ∙ sym (loose_none sp k (λ z. g.looped (sym ((R.rings a g.a_there).one_label k i) ∙ z)))
+    pub loose-join_loose : tabulate (loose_row joined_spots) codes ≡ remove (tabulate (loose_row spots) codes) (head_or 0 ring_b)
+    loose-join_loose = loose_removed spots joined_spots rings jrings2 b g.b_there (λ k i. jin_none k (jitem_ys k i))
+        (λ k m. elim (IsIn_or_not k ring_a) [
+          | inl i ↦ jin_none k (omega (arith, jitems k)) ∙ sym (loose_none spots k (λ z. g.looped (sym ((rings.rings a g.a_there).one_label k i) ∙ z)))
           | inr j ↦ jout_alike k (omega (arith, jitems k))
         ])
 
-    joint_in : (d : ℕ) → IsIn d xs → IsIn d joint
+    joint_in : (d : ℕ) → IsIn d ring_a → IsIn d joint
     joint_in d i = omega (arith, i, jitems d)
 
-    pub jring_of : (d : ℕ) → IsIn d xs → ring js2 d ≡ joint
+    pub jring_of : (d : ℕ) → IsIn d ring_a → ring joined_spots d ≡ joint
     jring_of d i = jring_in d (joint_in d i)
 
     -- the rows after the join: loop b is empty, if it is a loop, and loop a has an entry d of its own
-    module _ (d : ℕ) (d_in : IsIn d (ring sp a)) (new : List (Option LoopCell)) (fa : ℕ) (at_la : row_at new jla ≡ Some (record { face = fa; stored = At d })) (at_lb : (cell : LoopCell) → row_at new jlb ≡ Some cell → cell.stored ≡ Empty)
+    module _ (d : ℕ) (d_in : IsIn d (ring spots a)) (new : List (Option LoopCell)) (fa : ℕ) (at_la : row_at new jla ≡ Some (record { face = fa; stored = At d })) (at_lb : (cell : LoopCell) → row_at new jlb ≡ Some cell → cell.stored ≡ Empty)
         (elsewhere : (q : ℕ) → q ≢ jla → q ≢ jlb → row_at new q ≡ row_at loops q) where
-      jold : (q : ℕ) → q ≢ jla → q ≢ jlb → (stored : StoredContent) → HasEntry sp q stored → HasEntry js2 q stored
+      jold : (q : ℕ) → q ≢ jla → q ≢ jlb → (stored : StoredContent) → HasEntry spots q stored → HasEntry joined_spots q stored
       jold q n m Empty e = tt
       jold q n m (Lone v) e = tt
       jold q n m (At c) e =
           let z = jaway c (λ z. n (sym e.1 ∙ z)) (λ z. m (sym e.1 ∙ z)) in
           (jlive2 c ∙ e.0, jlabel_out c (omega (arith, jitems c)) ∙ e.1)
 
-      join_entries : (q : ℕ) (cell : LoopCell) → row_at new q ≡ Some cell → HasEntry js2 q cell.stored
+      join_entries : (q : ℕ) (cell : LoopCell) → row_at new q ≡ Some cell → HasEntry joined_spots q cell.stored
       join_entries q cell at = elim (eqb_tells q jla) [
-        | inl p ↦ subst (HasEntry js2 q) (ap (λ (c : LoopCell). c.stored) (same_Some _ _ (sym (ap (row_at new) p.1 ∙ at_la) ∙ at))) (jlive2 d ∙ (R.rings a g.a_there).awake d d_in, jlabel_in d (joint_in d d_in) ∙ sym p.1)
+        | inl p ↦ subst (HasEntry joined_spots q) (ap (λ (c : LoopCell). c.stored) (same_Some _ _ (sym (ap (row_at new) p.1 ∙ at_la) ∙ at))) (jlive2 d ∙ (rings.rings a g.a_there).awake d d_in, jlabel_in d (joint_in d d_in) ∙ sym p.1)
         | inr p ↦ elim (eqb_tells q jlb) [
-          | inl r ↦ subst (HasEntry js2 q) (sym (at_lb cell (ap (row_at new) (sym r.1) ∙ at))) tt
+          | inl r ↦ subst (HasEntry joined_spots q) (sym (at_lb cell (ap (row_at new) (sym r.1) ∙ at))) tt
           | inr r ↦ jold q p.1 r.1 cell.stored (are.entries q cell (sym (elsewhere q p.1 r.1) ∙ at))
         ]
       ]
 
-      join_stands : (x : ℕ) → live js2 x ≡ true → label js2 x ≢ 0 → StandsAt js2 new x (label js2 x)
+      join_stands : (x : ℕ) → live joined_spots x ≡ true → label joined_spots x ≢ 0 → StandsAt joined_spots new x (label joined_spots x)
       join_stands x h n = elim (IsIn_or_not x joint) [
-        | inl i ↦ subst (StandsAt js2 new x) (sym (jlabel_in x i)) (record { face = fa; entry = d; here = at_la; item = subst (IsIn x) (sym (jring_of d d_in)) i })
+        | inl i ↦ subst (StandsAt joined_spots new x) (sym (jlabel_in x i)) (record { face = fa; entry = d; here = at_la; item = subst (IsIn x) (sym (jring_of d d_in)) i })
         | inr m ↦
             let e = jlabel_out x (omega (arith, jitems x)) in
-            let there : live sp x ≡ true = sym (jlive2 x) ∙ h in
+            let there : live spots x ≡ true = sym (jlive2 x) ∙ h in
             let s = are.stands x there (λ z. n (e ∙ z)) in
-            let ent = are.entries (label sp x) (record { face = s.face; stored = At s.entry }) s.here in
-            let not_la : label sp x ≢ jla = λ z. let w : IsIn x xs = same_loop sp loops R are a x g.a_there there g.looped z in absurd (omega (arith, jitems x)) in
-            let not_lb : label sp x ≢ jlb = λ z. let w : IsIn x ys = same_loop sp loops R are b x g.b_there there (λ y. n (e ∙ z ∙ y)) z in absurd (omega (arith, jitems x)) in
-            subst (StandsAt js2 new x) (sym e) (record {
+            let ent = are.entries (label spots x) (record { face = s.face; stored = At s.entry }) s.here in
+            let not_la : label spots x ≢ jla = λ z. let w : IsIn x ring_a = same_loop spots loops rings are a x g.a_there there g.looped z in absurd (omega (arith, jitems x)) in
+            let not_lb : label spots x ≢ jlb = λ z. let w : IsIn x ring_b = same_loop spots loops rings are b x g.b_there there (λ y. n (e ∙ z ∙ y)) z in absurd (omega (arith, jitems x)) in
+            subst (StandsAt joined_spots new x) (sym e) (record {
               face = s.face;
               entry = s.entry;
-              here = elsewhere (label sp x) not_la not_lb ∙ s.here;
-              item = subst (IsIn x) (sym (jkept (label sp x) s.entry not_la not_lb ent.0 ent.1)) s.item;
+              here = elsewhere (label spots x) not_la not_lb ∙ s.here;
+              item = subst (IsIn x) (sym (jkept (label spots x) s.entry not_la not_lb ent.0 ent.1)) s.item;
             })
       ]
 
-      pub AreLoops-join : AreLoops js2 new
+      pub AreLoops-join : AreLoops joined_spots new
       AreLoops-join = record { entries = join_entries; stands = join_stands }

@@ -20,12 +20,12 @@ use Rattle.arena_rows.proofs.Views.{get-table_of, read_row, table_of-same, table
 -- by the rows: the owner of each, and what the model's rows say
 alike_rows : {X Y : Type 0} (rows : List (Option X)) (g : X → ℕ) (f : X → Y) (o : ℕ) (p : ℕ → Y → Bool) → ((q : ℕ) (x : X) → p q (f x) ≡ nat_eq (g x) o) → (q : ℕ) → count q (owned o (table_of g rows)) ≡ count q (all_where p (table_of f rows))
 alike_rows rows g f o p same q =
-    count-all_where (λ _ x. nat_eq x o) (table_of g rows) q ∙ ap (passes (λ _ x. nat_eq x o) q) (get-table_of g rows q) ∙ go (row_at rows q)
+    count-all_where (λ _ x. nat_eq x o) (table_of g rows) q ∙ ap (passes (λ _ x. nat_eq x o) q) (get-table_of g rows q) ∙ rows_pass_alike (row_at rows q)
     ∙ sym (count-all_where p (table_of f rows) q ∙ ap (passes p q) (get-table_of f rows q))
   where
-    go : (x : Option _) → passes (λ _ x. nat_eq x o) q (map_row g x) ≡ passes p q (map_row f x)
-    go None = refl
-    go (Some x) = ap {B = ℕ} (λ b. cond b 1 0) (sym (same q x))
+    rows_pass_alike : (x : Option _) → passes (λ _ x. nat_eq x o) q (map_row g x) ≡ passes p q (map_row f x)
+    rows_pass_alike None = refl
+    rows_pass_alike (Some x) = ap {B = ℕ} (λ b. cond b 1 0) (sym (same q x))
 
 pub face_count_is : (faces : List (Option FaceCell)) (s : ℕ) → length (owned s (solid_numbers faces)) ≡ length (all_where (λ _ row. nat_eq row.solid s) (table_of face_row faces))
 face_count_is faces s = same_length _ _ (alike_rows faces (λ cell. cell.solid) face_row s (λ _ row. nat_eq row.solid s) (λ q x. refl))
@@ -35,16 +35,16 @@ module _ (sp : Spots) (loops : List (Option LoopCell)) (f out : ℕ) where
   rings = all_where (λ l row. nat_eq row.face f && not (nat_eq out l)) (table_of (loop_row sp) loops)
 
   count-rings : (q : ℕ) (x : Option LoopCell) → cond (names f x) 1 0 ≡ cond (cond (nat_eq out q) (names f x) false) 1 0 + passes (λ l row. nat_eq row.face f && not (nat_eq out l)) q (map_row (loop_row sp) x)
-  count-rings q None = go (nat_eq out q) where
-    go : (b : Bool) → 0 ≡ cond (cond b false false) 1 0 + 0
-    go true = omega arith
-    go false = omega arith
-  count-rings q (Some cell) = go (nat_eq cell.face f) (nat_eq out q) where
-    go : (b d : Bool) → cond b 1 0 ≡ cond (cond d b false) 1 0 + cond (b && not d) 1 0
-    go true true = omega arith
-    go true false = omega arith
-    go false true = omega arith
-    go false false = omega arith
+  count-rings q None = nothing_counted (nat_eq out q) where
+    nothing_counted : (b : Bool) → 0 ≡ cond (cond b false false) 1 0 + 0
+    nothing_counted true = omega arith
+    nothing_counted false = omega arith
+  count-rings q (Some cell) = loop_counted (nat_eq cell.face f) (nat_eq out q) where
+    loop_counted : (b d : Bool) → cond b 1 0 ≡ cond (cond d b false) 1 0 + cond (b && not d) 1 0
+    loop_counted true true = omega arith
+    loop_counted true false = omega arith
+    loop_counted false true = omega arith
+    loop_counted false false = omega arith
 
   by_names : (q : ℕ) (x : Option LoopCell) → passes (λ _ n. nat_eq n f) q (map_row (λ (cell : LoopCell). cell.face) x) ≡ cond (names f x) 1 0
   by_names q None = refl
@@ -71,10 +71,10 @@ module _ (sp : Spots) (loops : List (Option LoopCell)) (f out : ℕ) where
       there q ne false = omega arith
 
   pub ring_count_is : (b : Bool) → names f (row_at loops out) ≡ b → length (owned f (face_numbers loops)) ≡ cond b 1 0 + length rings
-  ring_count_is b e = alike_rings ∙ ap (λ c. length (more c out rings)) e ∙ go b where
-    go : (b : Bool) → length (more b out rings) ≡ cond b 1 0 + length rings
-    go true = omega arith
-    go false = omega arith
+  ring_count_is b e = alike_rings ∙ ap (λ c. length (more c out rings)) e ∙ length-more b where
+    length-more : (b : Bool) → length (more b out rings) ≡ cond b 1 0 + length rings
+    length-more true = omega arith
+    length-more false = omega arith
 
 -- what the loops of a face say of its rings
 pub rings_counted : (arena : ArenaRows) (ss fs : Owners) → IsWhole arena ss fs →
@@ -105,16 +105,16 @@ put_after t n o = same_table _ _ (λ q. get-put (table.remove t n) n o q ∙ eli
 -- what the owners of rows say of one of them
 module _ {X : Type 0} (g : X → ℕ) (rows : List (Option X)) (os : Owners) (of_rows : os.owner_of ≡ table_of g rows) (n : ℕ) where
   pub owner_free : is_some (row_at rows n) ≡ false → get os.owner_of n ≡ None
-  owner_free free = ap (λ t. get t n) of_rows ∙ get-table_of g rows n ∙ go (row_at rows n) free where
-    go : (o : Option X) → is_some o ≡ false → map_row g o ≡ None
-    go None e = refl
-    go (Some x) e = absurd (true≢false e)
+  owner_free free = ap (λ t. get t n) of_rows ∙ get-table_of g rows n ∙ map_row-none (row_at rows n) free where
+    map_row-none : (o : Option X) → is_some o ≡ false → map_row g o ≡ None
+    map_row-none None e = refl
+    map_row-none (Some x) e = absurd (true≢false e)
 
   pub owner_there : is_some (row_at rows n) ≡ true → is_some (get os.owner_of n) ≡ true
-  owner_there there = ap (λ t. is_some (get t n)) of_rows ∙ ap is_some (get-table_of g rows n) ∙ go (row_at rows n) there where
-    go : (o : Option X) → is_some o ≡ true → is_some (map_row g o) ≡ true
-    go None e = e
-    go (Some x) e = refl
+  owner_there there = ap (λ t. is_some (get t n)) of_rows ∙ ap is_some (get-table_of g rows n) ∙ map_row-some (row_at rows n) there where
+    map_row-some : (o : Option X) → is_some o ≡ true → is_some (map_row g o) ≡ true
+    map_row-some None e = e
+    map_row-some (Some x) e = refl
 
   pub owner_taken : (new : Owners) → new ≡ take os n → get new.owner_of n ≡ None
   owner_taken new is = ap (λ (t : Owners). get t.owner_of n) is ∙ get-remove os.owner_of n n ∙ ap (λ b. cond b None (get os.owner_of n)) (eq-eqb n n refl)

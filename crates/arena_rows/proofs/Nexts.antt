@@ -16,72 +16,72 @@ use Rattle.arena_rows.proofs.Views.{get-table_of}
 use Rattle.arena_rows.proofs.Indexed.{face_count_is}
 
 module _ (arena : ArenaRows) (ss fs : Owners) (whole : IsWhole arena ss fs) where
-  abbrev M : Model
-  M = (store_of arena).model
+  abbrev model : Model
+  model = (store_of arena).model
 
-  pub face_test : (s k : ℕ) → is_owner s (get ss.owner_of k) ≡ is_face_of M s k
+  pub face_test : (s k : ℕ) → is_owner s (get ss.owner_of k) ≡ is_face_of model s k
   unfolding solid_of
-  face_test s k = ap (λ t. is_owner s (get t k)) whole.indexed.of_solids ∙ ap (is_owner s) (get-table_of (λ (cell : FaceCell). cell.solid) arena.faces k) ∙ go (row_at arena.faces k) ∙ sym (ap (λ o. is_some o && nat_eq (unwrap_or o no_face).solid s) (get-table_of face_row arena.faces k)) where
-    go : (o : Option FaceCell) → is_owner s (map_row (λ (cell : FaceCell). cell.solid) o) ≡ is_some (map_row face_row o) && nat_eq (unwrap_or (map_row face_row o) no_face).solid s
-    go None = refl
-    go (Some cell) = refl
+  face_test s k = ap (λ t. is_owner s (get t k)) whole.indexed.of_solids ∙ ap (is_owner s) (get-table_of (λ (cell : FaceCell). cell.solid) arena.faces k) ∙ owner_is_solid (row_at arena.faces k) ∙ sym (ap (λ o. is_some o && nat_eq (unwrap_or o no_face).solid s) (get-table_of face_row arena.faces k)) where
+    owner_is_solid : (o : Option FaceCell) → is_owner s (map_row (λ (cell : FaceCell). cell.solid) o) ≡ is_some (map_row face_row o) && nat_eq (unwrap_or (map_row face_row o) no_face).solid s
+    owner_is_solid None = refl
+    owner_is_solid (Some cell) = refl
 
-  pub next_face : (s n : ℕ) (r : Option ℕ) → IsNextItem ss.owner_of s n r → IsNextFace M s n r
+  pub next_face : (s n : ℕ) (r : Option ℕ) → IsNextItem ss.owner_of s n r → IsNextFace model s n r
   next_face s n None h = λ k l. sym (face_test s k) ∙ h k l
   next_face s n (Some m) h = (h.0, sym (face_test s m) ∙ h.1, λ k l less. sym (face_test s k) ∙ h.2 k l less)
 
-  pub ring_test : (f k : ℕ) → is_owner f (get fs.owner_of k) && not (nat_eq (outer M f) k) ≡ is_ring_of M f k
+  pub ring_test : (f k : ℕ) → is_owner f (get fs.owner_of k) && not (nat_eq (outer model f) k) ≡ is_ring_of model f k
   unfolding face_of
   ring_test f k =
-      ap (λ t. is_owner f (get t k) && not (nat_eq (outer M f) k)) whole.indexed.of_faces
-      ∙ ap (λ o. is_owner f o && not (nat_eq (outer M f) k)) (get-table_of (λ (cell : LoopCell). cell.face) arena.loops k)
-      ∙ go (row_at arena.loops k) ∙ sym (ap (λ o. is_some o && nat_eq (unwrap_or o no_loop).face f && not (nat_eq (outer M f) k)) (get-table_of (loop_row arena.spots) arena.loops k))
+      ap (λ t. is_owner f (get t k) && not (nat_eq (outer model f) k)) whole.indexed.of_faces
+      ∙ ap (λ o. is_owner f o && not (nat_eq (outer model f) k)) (get-table_of (λ (cell : LoopCell). cell.face) arena.loops k)
+      ∙ owner_is_face (row_at arena.loops k) ∙ sym (ap (λ o. is_some o && nat_eq (unwrap_or o no_loop).face f && not (nat_eq (outer model f) k)) (get-table_of (loop_row arena.spots) arena.loops k))
     where
-      go : (o : Option LoopCell) → is_owner f (map_row (λ (cell : LoopCell). cell.face) o) && not (nat_eq (outer M f) k) ≡ is_some (map_row (loop_row arena.spots) o) && nat_eq (unwrap_or (map_row (loop_row arena.spots) o) no_loop).face f && not (nat_eq (outer M f) k)
-      go None = refl
-      go (Some cell) = refl
+      owner_is_face : (o : Option LoopCell) → is_owner f (map_row (λ (cell : LoopCell). cell.face) o) && not (nat_eq (outer model f) k) ≡ is_some (map_row (loop_row arena.spots) o) && nat_eq (unwrap_or (map_row (loop_row arena.spots) o) no_loop).face f && not (nat_eq (outer model f) k)
+      owner_is_face None = refl
+      owner_is_face (Some cell) = refl
 
-  not_ring : (f k : ℕ) → is_owner f (get fs.owner_of k) ≡ false → is_ring_of M f k ≡ false
-  not_ring f k h = sym (ring_test f k) ∙ ap (λ b. b && not (nat_eq (outer M f) k)) h
+  not_ring : (f k : ℕ) → is_owner f (get fs.owner_of k) ≡ false → is_ring_of model f k ≡ false
+  not_ring f k h = sym (ring_test f k) ∙ ap (λ b. b && not (nat_eq (outer model f) k)) h
 
-  no_outer_ring : (f k : ℕ) → k ≡ outer M f → is_ring_of M f k ≡ false
-  no_outer_ring f k e = sym (ring_test f k) ∙ ap (λ b. is_owner f (get fs.owner_of k) && not b) (eq-eqb (outer M f) k (sym e)) ∙ and_false (is_owner f (get fs.owner_of k))
+  no_outer_ring : (f k : ℕ) → k ≡ outer model f → is_ring_of model f k ≡ false
+  no_outer_ring f k e = sym (ring_test f k) ∙ ap (λ b. is_owner f (get fs.owner_of k) && not b) (eq-eqb (outer model f) k (sym e)) ∙ and_false (is_owner f (get fs.owner_of k))
 
   -- the next loop of a face is its next ring, where it isn't the outer loop
-  pub next_ring : (f n : ℕ) (r : Option ℕ) → r ≢ Some (outer M f) → IsNextItem fs.owner_of f n r → IsNextRing M f n r
+  pub next_ring : (f n : ℕ) (r : Option ℕ) → r ≢ Some (outer model f) → IsNextItem fs.owner_of f n r → IsNextRing model f n r
   next_ring f n None other h = λ k l. not_ring f k (h k l)
   next_ring f n (Some m) other h =
-      let apart : outer M f ≢ m = λ e. other (ap Some (sym e)) in
-      (h.0, sym (ring_test f m) ∙ ap (λ b. b && not (nat_eq (outer M f) m)) h.1 ∙ ap not (ne_eqb (outer M f) m apart), λ k l less. not_ring f k (h.2 k l less))
+      let apart : outer model f ≢ m = λ e. other (ap Some (sym e)) in
+      (h.0, sym (ring_test f m) ∙ ap (λ b. b && not (nat_eq (outer model f) m)) h.1 ∙ ap not (ne_eqb (outer model f) m apart), λ k l less. not_ring f k (h.2 k l less))
 
   -- where it is the outer loop, the ring comes after that
-  pub ring_past_outer : (f n : ℕ) (r : Option ℕ) → IsNextItem fs.owner_of f n (Some (outer M f)) → IsNextItem fs.owner_of f (outer M f) r → IsNextRing M f n r
-  ring_past_outer f n r first second = go r second where
-    between : (k : ℕ) → n < k → (outer M f < k → is_owner f (get fs.owner_of k) ≡ false) → is_ring_of M f k ≡ false
-    between k l past = elim (eqb_tells k (outer M f)) [
+  pub ring_past_outer : (f n : ℕ) (r : Option ℕ) → IsNextItem fs.owner_of f n (Some (outer model f)) → IsNextItem fs.owner_of f (outer model f) r → IsNextRing model f n r
+  ring_past_outer f n r first second = ring_follows r second where
+    between : (k : ℕ) → n < k → (outer model f < k → is_owner f (get fs.owner_of k) ≡ false) → is_ring_of model f k ≡ false
+    between k l past = elim (eqb_tells k (outer model f)) [
       | inl e ↦ no_outer_ring f k e.1
-      | inr e ↦ elim (leb_tells k (outer M f)) [
+      | inr e ↦ elim (leb_tells k (outer model f)) [
         | inl b ↦ not_ring f k (first.2 k l (omega (arith, b.1, e.1)))
         | inr b ↦ not_ring f k (past b.1)
       ]
     ]
 
-    go : (r : Option ℕ) → IsNextItem fs.owner_of f (outer M f) r → IsNextRing M f n r
-    go None h = λ k l. between k l (h k)
-    go (Some m) h =
+    ring_follows : (r : Option ℕ) → IsNextItem fs.owner_of f (outer model f) r → IsNextRing model f n r
+    ring_follows None h = λ k l. between k l (h k)
+    ring_follows (Some m) h =
         let up = h.0 in
         let low = first.0 in
-        let apart : outer M f ≢ m = omega arith in
-        (omega arith, sym (ring_test f m) ∙ ap (λ b. b && not (nat_eq (outer M f) m)) h.1 ∙ ap not (ne_eqb (outer M f) m apart), λ k l less. between k l (λ past. h.2 k past less))
+        let apart : outer model f ≢ m = omega arith in
+        (omega arith, sym (ring_test f m) ∙ ap (λ b. b && not (nat_eq (outer model f) m)) h.1 ∙ ap not (ne_eqb (outer model f) m apart), λ k l less. between k l (λ past. h.2 k past less))
 
   -- the two, by the test whether the next loop is the outer one
-  pub next_ring_told : (f n out : ℕ) → out ≡ outer M f → (next : Option ℕ) → option_eq nat_eq next (Some out) ≡ false → IsNextItem fs.owner_of f n next → IsNextRing M f n next
-  next_ring_told f n out e next told h = next_ring f n next (λ is. true≢false (sym (same_option next (outer M f) is) ∙ ap (λ k. option_eq nat_eq next (Some k)) (sym e) ∙ told)) h where
+  pub next_ring_told : (f n out : ℕ) → out ≡ outer model f → (next : Option ℕ) → option_eq nat_eq next (Some out) ≡ false → IsNextItem fs.owner_of f n next → IsNextRing model f n next
+  next_ring_told f n out e next told h = next_ring f n next (λ is. true≢false (sym (same_option next (outer model f) is) ∙ ap (λ k. option_eq nat_eq next (Some k)) (sym e) ∙ told)) h where
     same_option : (x : Option ℕ) (y : ℕ) → x ≡ Some y → option_eq nat_eq x (Some y) ≡ true
     same_option None y is = cc
     same_option (Some z) y is = eq-eqb z y (cc)
 
-  pub ring_past_told : (f n out : ℕ) → out ≡ outer M f → (next : Option ℕ) → option_eq nat_eq next (Some out) ≡ true → IsNextItem fs.owner_of f n next → (r : Option ℕ) → IsNextItem fs.owner_of f out r → IsNextRing M f n r
+  pub ring_past_told : (f n out : ℕ) → out ≡ outer model f → (next : Option ℕ) → option_eq nat_eq next (Some out) ≡ true → IsNextItem fs.owner_of f n next → (r : Option ℕ) → IsNextItem fs.owner_of f out r → IsNextRing model f n r
   ring_past_told f n out e next told first r second = ring_past_outer f n r (subst (IsNextItem fs.owner_of f n) (told_option next out told ∙ ap Some e) first) (subst (λ k. IsNextItem fs.owner_of f k r) e second) where
     told_option : (x : Option ℕ) (y : ℕ) → option_eq nat_eq x (Some y) ≡ true → x ≡ Some y
     told_option None y is = absurd (true≢false (sym is))
@@ -93,24 +93,24 @@ module _ (arena : ArenaRows) (ss fs : Owners) (whole : IsWhole arena ss fs) wher
   nil_or_one (n ∷ k ∷ ns) e m i = absurd (omega (arith, e))
 
   -- the one face of a solid
-  one_face : (s m : ℕ) → length (faces_of M s) ≡ 1 → is_face_of M s m ≡ true → only_item (faces_of M s) ≡ Some m
+  one_face : (s m : ℕ) → length (faces_of model s) ≡ 1 → is_face_of model s m ≡ true → only_item (faces_of model s) ≡ Some m
   unfolding solid_of
-  one_face s m e is = nil_or_one (faces_of M s) e m (omega (arith, count-all_where (λ _ (row : FaceRow). nat_eq row.solid s) M.faces m, passing (get M.faces m) is)) where
+  one_face s m e is = nil_or_one (faces_of model s) e m (omega (arith, count-all_where (λ _ (row : FaceRow). nat_eq row.solid s) model.faces m, passing (get model.faces m) is)) where
     passing : (o : Option FaceRow) → is_some o && nat_eq (unwrap_or o no_face).solid s ≡ true → passes (λ _ (row : FaceRow). nat_eq row.solid s) m o ≡ 1
     passing None h = absurd (true≢false (sym h))
     passing (Some row) h = ap {B = ℕ} (λ b. cond b 1 0) h
 
-  not_one_face : (s : ℕ) → length (faces_of M s) ≢ 1 → only_item (faces_of M s) ≡ None
-  not_one_face s ne = go (faces_of M s) ne where
-    go : (ns : List ℕ) → length ns ≢ 1 → only_item ns ≡ None
-    go [] h = refl
-    go (n ∷ []) h = absurd (h (omega arith))
-    go (n ∷ k ∷ ns) h = refl
+  not_one_face : (s : ℕ) → length (faces_of model s) ≢ 1 → only_item (faces_of model s) ≡ None
+  not_one_face s ne = no_only_item (faces_of model s) ne where
+    no_only_item : (ns : List ℕ) → length ns ≢ 1 → only_item ns ≡ None
+    no_only_item [] h = refl
+    no_only_item (n ∷ []) h = absurd (h (omega arith))
+    no_only_item (n ∷ k ∷ ns) h = refl
 
   -- a solid that has a face has one above 0
-  some_face : (s : ℕ) → row_at arena.faces 0 ≡ None → length (faces_of M s) ≡ 1 → IsNextFace M s 0 None → ⊥
+  some_face : (s : ℕ) → row_at arena.faces 0 ≡ None → length (faces_of model s) ≡ 1 → IsNextFace model s 0 None → ⊥
   unfolding solid_of
-  some_face s zero e none = no_one (faces_of M s) e (λ q. omega (arith, count-all_where (λ _ (row : FaceRow). nat_eq row.solid s) M.faces q, passing q)) where
+  some_face s zero e none = no_one (faces_of model s) e (λ q. omega (arith, count-all_where (λ _ (row : FaceRow). nat_eq row.solid s) model.faces q, passing q)) where
     no_one : (ns : List ℕ) → length ns ≡ 1 → ((q : ℕ) → count q ns ≡ 0) → ⊥
     no_one [] e h = omega (arith, e)
     no_one (n ∷ ns) e h = omega (arith, h n, tick_same n)
@@ -119,21 +119,21 @@ module _ (arena : ArenaRows) (ss fs : Owners) (whole : IsWhole arena ss fs) wher
     fails q None h = refl
     fails q (Some row) h = ap {B = ℕ} (λ b. cond b 1 0) h
 
-    passing : (q : ℕ) → passes (λ _ (row : FaceRow). nat_eq row.solid s) q (get M.faces q) ≡ 0
+    passing : (q : ℕ) → passes (λ _ (row : FaceRow). nat_eq row.solid s) q (get model.faces q) ≡ 0
     passing q = elim (eqb_tells q 0) [
-      | inl p ↦ ap (λ k. passes (λ _ (row : FaceRow). nat_eq row.solid s) q (get M.faces k)) p.1 ∙ ap (passes (λ _ (row : FaceRow). nat_eq row.solid s) q) (get-table_of face_row arena.faces 0 ∙ ap (map_row face_row) zero)
-      | inr p ↦ fails q (get M.faces q) (none q (omega (arith, p.1)))
+      | inl p ↦ ap (λ k. passes (λ _ (row : FaceRow). nat_eq row.solid s) q (get model.faces k)) p.1 ∙ ap (passes (λ _ (row : FaceRow). nat_eq row.solid s) q) (get-table_of face_row arena.faces 0 ∙ ap (map_row face_row) zero)
+      | inr p ↦ fails q (get model.faces q) (none q (omega (arith, p.1)))
     ]
 
   -- the only face of a solid, by its count and the next one above 0
-  faces_counted : (s : ℕ) → length (owned s ss.owner_of) ≡ length (faces_of M s)
+  faces_counted : (s : ℕ) → length (owned s ss.owner_of) ≡ length (faces_of model s)
   faces_counted s = ap (λ t. length (owned s t)) whole.indexed.of_solids ∙ face_count_is arena.faces s
 
-  pub only_told : (s : ℕ) → row_at arena.faces 0 ≡ None → length (owned s ss.owner_of) ≡ 1 → (r : Option ℕ) → IsNextItem ss.owner_of s 0 r → r ≡ only_item (faces_of M s)
-  only_told s zero one r next = go r (next_face s 0 r next) where
-    go : (r : Option ℕ) → IsNextFace M s 0 r → r ≡ only_item (faces_of M s)
-    go None h = absurd (some_face s zero (sym (faces_counted s) ∙ one) h)
-    go (Some m) h = sym (one_face s m (sym (faces_counted s) ∙ one) h.1)
+  pub only_told : (s : ℕ) → row_at arena.faces 0 ≡ None → length (owned s ss.owner_of) ≡ 1 → (r : Option ℕ) → IsNextItem ss.owner_of s 0 r → r ≡ only_item (faces_of model s)
+  only_told s zero one r next = told_is_only r (next_face s 0 r next) where
+    told_is_only : (r : Option ℕ) → IsNextFace model s 0 r → r ≡ only_item (faces_of model s)
+    told_is_only None h = absurd (some_face s zero (sym (faces_counted s) ∙ one) h)
+    told_is_only (Some m) h = sym (one_face s m (sym (faces_counted s) ∙ one) h.1)
 
-  pub none_told : (s : ℕ) → length (owned s ss.owner_of) ≢ 1 → None ≡ only_item (faces_of M s)
+  pub none_told : (s : ℕ) → length (owned s ss.owner_of) ≢ 1 → None ≡ only_item (faces_of model s)
   none_told s ne = sym (not_one_face s (λ e. ne (faces_counted s ∙ e)))

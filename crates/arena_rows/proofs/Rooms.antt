@@ -39,26 +39,26 @@ kinds_kept s t solids faces loops edges vertices Kind.Edge = edges
 kinds_kept s t solids faces loops edges vertices Kind.Vertex = vertices
 
 module _ (arena : ArenaRows) (tied : RowsAreTied arena) where
-  abbrev S : Store
-  S = store_of arena
+  abbrev store : Store
+  store = store_of arena
 
   module _ (new : List (Option Bool)) (same : (q : ℕ) → row_at new q ≡ row_at arena.solids q) (grows : length arena.solids ≤ length new) (limit : length new ≤ 1000001) where
-    pub grown_solids : HasGrown S (store_of (record arena { solids = new }))
+    pub grown_solids : HasGrown store (store_of (record arena { solids = new }))
     grown_solids = record {
-      model = λ i. record S.model { solids = table_of-same solid_row solid_row arena.solids new (λ q. ap (map_row solid_row) (same q)) i };
+      model = λ i. record store.model { solids = table_of-same solid_row solid_row arena.solids new (λ q. ap (map_row solid_row) (same q)) i };
       loose = refl;
-      kept = kinds_kept S (store_of (record arena { solids = new })) (λ n. within_more n (length arena.solids) (length new) grows) (λ n h. h) (λ n h. h) (λ n h. h) (λ n h. h);
+      kept = kinds_kept store (store_of (record arena { solids = new })) (λ n. within_more n (length arena.solids) (length new) grows) (λ n h. h) (λ n h. h) (λ n h. h) (λ n h. h);
     }
 
   module _ (new : List (Option FaceCell)) (same : (q : ℕ) → row_at new q ≡ row_at arena.faces q) (grows : length arena.faces ≤ length new) (limit : length new ≤ 1000001) where
     pub more_faces : RowsAreTied (record arena { faces = new })
     more_faces = tied_faces arena tied new (fits-same arena.faces new tied.faces_fit same limit)
 
-    pub grown_faces : HasGrown S (store_of (record arena { faces = new }))
+    pub grown_faces : HasGrown store (store_of (record arena { faces = new }))
     grown_faces = record {
-      model = λ i. record S.model { faces = table_of-same face_row face_row arena.faces new (λ q. ap (map_row face_row) (same q)) i };
+      model = λ i. record store.model { faces = table_of-same face_row face_row arena.faces new (λ q. ap (map_row face_row) (same q)) i };
       loose = refl;
-      kept = kinds_kept S (store_of (record arena { faces = new })) (λ n h. h) (λ n. within_more n (length arena.faces) (length new) grows) (λ n h. h) (λ n h. h) (λ n h. h);
+      kept = kinds_kept store (store_of (record arena { faces = new })) (λ n h. h) (λ n. within_more n (length arena.faces) (length new) grows) (λ n h. h) (λ n h. h) (λ n h. h);
     }
 
   module _ (new : List (Option LoopCell)) (same : (q : ℕ) → row_at new q ≡ row_at arena.loops q) (grows : length arena.loops ≤ length new) (limit : length new ≤ 1000001) where
@@ -71,22 +71,22 @@ module _ (arena : ArenaRows) (tied : RowsAreTied arena) where
     pub more_loops : RowsAreTied (record arena { loops = new })
     more_loops = tied_loops arena tied new (fits-same arena.loops new tied.loops_fit same limit) loops_same_rows
 
-    pub grown_loops : HasGrown S (store_of (record arena { loops = new }))
+    pub grown_loops : HasGrown store (store_of (record arena { loops = new }))
     grown_loops = record {
-      model = λ i. record S.model { loops = table_of-same (loop_row arena.spots) (loop_row arena.spots) arena.loops new (λ q. ap (map_row (loop_row arena.spots)) (same q)) i };
+      model = λ i. record store.model { loops = table_of-same (loop_row arena.spots) (loop_row arena.spots) arena.loops new (λ q. ap (map_row (loop_row arena.spots)) (same q)) i };
       loose = refl;
-      kept = kinds_kept S (store_of (record arena { loops = new })) (λ n h. h) (λ n h. h) (λ n. within_more n (length arena.loops) (length new) grows) (λ n h. h) (λ n h. h);
+      kept = kinds_kept store (store_of (record arena { loops = new })) (λ n h. h) (λ n h. h) (λ n. within_more n (length arena.loops) (length new) grows) (λ n h. h) (λ n h. h);
     }
 
   module _ (new : List (Option Point)) (same : (q : ℕ) → row_at new q ≡ row_at arena.vertices q) (grows : length arena.vertices ≤ length new) (limit : length new ≤ 1000001) where
     pub more_vertices : RowsAreTied (record arena { vertices = new })
     more_vertices = tied_vertices arena tied new (fits-same arena.vertices new tied.vertices_fit same limit) (λ v p at. tied.points v p (sym (same v) ∙ at))
 
-    pub grown_vertices : HasGrown S (store_of (record arena { vertices = new }))
+    pub grown_vertices : HasGrown store (store_of (record arena { vertices = new }))
     grown_vertices = record {
-      model = λ i. record S.model { vertices = table_of-same (λ p. p) (λ p. p) arena.vertices new (λ q. ap (map_row (λ p. p)) (same q)) i };
+      model = λ i. record store.model { vertices = table_of-same (λ p. p) (λ p. p) arena.vertices new (λ q. ap (map_row (λ p. p)) (same q)) i };
       loose = refl;
-      kept = kinds_kept S (store_of (record arena { vertices = new })) (λ n h. h) (λ n h. h) (λ n h. h) (λ n h. h) (λ n. within_more n (length arena.vertices) (length new) grows);
+      kept = kinds_kept store (store_of (record arena { vertices = new })) (λ n h. h) (λ n h. h) (λ n h. h) (λ n h. h) (λ n. within_more n (length arena.vertices) (length new) grows);
     }
 
   module _ (sp' : Spots) (known' : ℕ → Bool) (spots : sp' ≡ arena.spots) (keeps : (c : ℕ) → arena.known c ≡ true → known' c ≡ true) where
@@ -101,11 +101,11 @@ module _ (arena : ArenaRows) (tied : RowsAreTied arena) where
         edge_has_room known' e ∙ and_from (nat_le e 1000000) _ (and_first (nat_le e 1000000) _ r)
         (and_from (nat_lt 0 e) _ (and_first (nat_lt 0 e) _ rest) (and_from (known' (plus e)) _ (keeps (plus e) (and_first (arena.known (plus e)) _ keys)) (keeps (minus e) (and_second (arena.known (plus e)) _ keys))))
 
-    pub grown_edges : HasGrown S (store_of (record arena { spots = sp'; known = known' }))
+    pub grown_edges : HasGrown store (store_of (record arena { spots = sp'; known = known' }))
     grown_edges = record {
       model = λ i. (store_of (record arena { spots = spots i; known = known' })).model;
       loose = λ i. (store_of (record arena { spots = spots i; known = known' })).loose;
-      kept = kinds_kept S (store_of (record arena { spots = sp'; known = known' })) (λ n h. h) (λ n h. h) (λ n h. h) room_kept (λ n h. h);
+      kept = kinds_kept store (store_of (record arena { spots = sp'; known = known' })) (λ n h. h) (λ n h. h) (λ n h. h) room_kept (λ n h. h);
     }
 
 pub edges_ok : {E : Type 0} (known : ℕ → Bool) (r : Result (Unit {0}) E) (e : ℕ) → 1 ≤ e → e ≤ 1000000 → OnOk r ((known (plus e) ≡ true) × (known (minus e) ≡ true)) → OnOk r (is_some (get (tabulate (edge_room known) edges_end) e) ≡ true)

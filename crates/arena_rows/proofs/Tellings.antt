@@ -84,9 +84,9 @@ same_loop sp loops R are a c k j n e =
     subst (IsIn c) (sym (ring_same sp R s.entry a h.0 s.item)) i
 
 module _ (arena : ArenaRows) where
-  abbrev S : Store
-  S = store_of arena
+  abbrev store : Store
+  store = store_of arena
 
-  pub store_is : (new : Spots) (rows : List (Option LoopCell)) (t : Table LoopRow) (u : Table (List ℕ)) → length rows ≡ length arena.loops → tabulate (edge_row new) codes ≡ S.model.edges → table_of (loop_row new) rows ≡ t → tabulate (loose_row new) codes ≡ u →
-      store_of (record arena { spots = new; loops = rows }) ≡ record S { model = record S.model { loops = t }; loose = u }
-  store_is new rows t u len e f g = λ i. record S { model = record S.model { edges = e i; loops = f i }; loose = g i; room = record S.room { loops = len i - 1 } }
+  pub store_is : (new : Spots) (rows : List (Option LoopCell)) (t : Table LoopRow) (u : Table (List ℕ)) → length rows ≡ length arena.loops → tabulate (edge_row new) codes ≡ store.model.edges → table_of (loop_row new) rows ≡ t → tabulate (loose_row new) codes ≡ u →
+      store_of (record arena { spots = new; loops = rows }) ≡ record store { model = record store.model { loops = t }; loose = u }
+  store_is new rows t u len e f g = λ i. record store { model = record store.model { edges = e i; loops = f i }; loose = g i; room = record store.room { loops = len i - 1 } }

@@ -22,10 +22,10 @@ module _ {X : Type 0} where
     is_some-map (Some x) = refl
 
     below_or : (rows : List (Option X)) (q : ℕ) → cond (nat_lt q (length rows)) (map_row f (row_at rows q)) None ≡ map_row f (row_at rows q)
-    below_or rows q = go (nat_lt q (length rows)) refl where
-      go : (b : Bool) → nat_lt q (length rows) ≡ b → cond b (map_row f (row_at rows q)) None ≡ map_row f (row_at rows q)
-      go true e = refl
-      go false e = let p : length rows ≤ q = grind (arith, nat_tests) in sym (ap (map_row f) (row_past rows q p))
+    below_or rows q = row_bounded (nat_lt q (length rows)) refl where
+      row_bounded : (b : Bool) → nat_lt q (length rows) ≡ b → cond b (map_row f (row_at rows q)) None ≡ map_row f (row_at rows q)
+      row_bounded true e = refl
+      row_bounded false e = let p : length rows ≤ q = grind (arith, nat_tests) in sym (ap (map_row f) (row_past rows q p))
 
     pub get-table_of : (rows : List (Option X)) (q : ℕ) → get (table_of f rows) q ≡ map_row f (row_at rows q)
     get-table_of rows q = get-tabulate (λ k. map_row f (row_at rows k)) (length rows) q ∙ below_or rows q

@@ -18,32 +18,32 @@ pub row_here : {X : Type 0} (rows new : List (Option X)) (n : ℕ) (x : Option X
 row_here rows new n x is = is n ∙ ap (λ b. cond b x (row_at rows n)) (eq-eqb n n refl)
 
 module _ (arena : ArenaRows) (tied : RowsAreTied arena) where
-  abbrev S : Store
-  S = store_of arena
+  abbrev store : Store
+  store = store_of arena
 
   pub tied_solids : (new : List (Option Bool)) → Fits new → RowsAreTied (record arena { solids = new })
   tied_solids new fits = record { rings = tied.rings; no_edge = tied.no_edge; loops_tied = tied.loops_tied; solids_fit = fits; faces_fit = tied.faces_fit; loops_fit = tied.loops_fit; vertices_fit = tied.vertices_fit; points = tied.points }
 
-  pub store_solids : (new : List (Option Bool)) (t : Table (Unit {0})) → length new ≡ length arena.solids → table_of solid_row new ≡ t → store_of (record arena { solids = new }) ≡ record S { model = record S.model { solids = t } }
-  store_solids new t len e = λ i. record S { model = record S.model { solids = e i }; room = record S.room { solids = len i - 1 } }
+  pub store_solids : (new : List (Option Bool)) (t : Table (Unit {0})) → length new ≡ length arena.solids → table_of solid_row new ≡ t → store_of (record arena { solids = new }) ≡ record store { model = record store.model { solids = t } }
+  store_solids new t len e = λ i. record store { model = record store.model { solids = e i }; room = record store.room { solids = len i - 1 } }
 
   pub tied_faces : (new : List (Option FaceCell)) → Fits new → RowsAreTied (record arena { faces = new })
   tied_faces new fits = record { rings = tied.rings; no_edge = tied.no_edge; loops_tied = tied.loops_tied; solids_fit = tied.solids_fit; faces_fit = fits; loops_fit = tied.loops_fit; vertices_fit = tied.vertices_fit; points = tied.points }
 
-  pub store_faces : (new : List (Option FaceCell)) (t : Table FaceRow) → length new ≡ length arena.faces → table_of face_row new ≡ t → store_of (record arena { faces = new }) ≡ record S { model = record S.model { faces = t } }
-  store_faces new t len e = λ i. record S { model = record S.model { faces = e i }; room = record S.room { faces = len i - 1 } }
+  pub store_faces : (new : List (Option FaceCell)) (t : Table FaceRow) → length new ≡ length arena.faces → table_of face_row new ≡ t → store_of (record arena { faces = new }) ≡ record store { model = record store.model { faces = t } }
+  store_faces new t len e = λ i. record store { model = record store.model { faces = e i }; room = record store.room { faces = len i - 1 } }
 
   pub tied_vertices : (new : List (Option Point)) → Fits new → ((v : ℕ) (p : Point) → row_at new v ≡ Some p → IsInRange p) → RowsAreTied (record arena { vertices = new })
   tied_vertices new fits points = record { rings = tied.rings; no_edge = tied.no_edge; loops_tied = tied.loops_tied; solids_fit = tied.solids_fit; faces_fit = tied.faces_fit; loops_fit = tied.loops_fit; vertices_fit = fits; points = points }
 
-  pub store_vertices : (new : List (Option Point)) (t : Table Point) → length new ≡ length arena.vertices → table_of (λ p. p) new ≡ t → store_of (record arena { vertices = new }) ≡ record S { model = record S.model { vertices = t } }
-  store_vertices new t len e = λ i. record S { model = record S.model { vertices = e i }; room = record S.room { vertices = len i - 1 } }
+  pub store_vertices : (new : List (Option Point)) (t : Table Point) → length new ≡ length arena.vertices → table_of (λ p. p) new ≡ t → store_of (record arena { vertices = new }) ≡ record store { model = record store.model { vertices = t } }
+  store_vertices new t len e = λ i. record store { model = record store.model { vertices = e i }; room = record store.room { vertices = len i - 1 } }
 
   pub tied_loops : (new : List (Option LoopCell)) → Fits new → AreLoops arena.spots new → RowsAreTied (record arena { loops = new })
   tied_loops new fits are = record { rings = tied.rings; no_edge = tied.no_edge; loops_tied = are; solids_fit = tied.solids_fit; faces_fit = tied.faces_fit; loops_fit = fits; vertices_fit = tied.vertices_fit; points = tied.points }
 
-  pub store_loops : (new : List (Option LoopCell)) (t : Table LoopRow) → length new ≡ length arena.loops → table_of (loop_row arena.spots) new ≡ t → store_of (record arena { loops = new }) ≡ record S { model = record S.model { loops = t } }
-  store_loops new t len e = λ i. record S { model = record S.model { loops = e i }; room = record S.room { loops = len i - 1 } }
+  pub store_loops : (new : List (Option LoopCell)) (t : Table LoopRow) → length new ≡ length arena.loops → table_of (loop_row arena.spots) new ≡ t → store_of (record arena { loops = new }) ≡ record store { model = record store.model { loops = t } }
+  store_loops new t len e = λ i. record store { model = record store.model { loops = e i }; room = record store.room { loops = len i - 1 } }
 
 -- points stay in range
 pub points_write : (rows new : List (Option Point)) (n : ℕ) (x : Option Point) → ((v : ℕ) (p : Point) → row_at rows v ≡ Some p → IsInRange p) → ((p : Point) → x ≡ Some p → IsInRange p) → ((q : ℕ) → row_at new q ≡ cond (nat_eq q n) x (row_at rows q)) → (v : ℕ) (p : Point) → row_at new v ≡ Some p → IsInRange p

@@ -16,24 +16,24 @@ use Rattle.std.proofs.boxed.Box.TheLaws as laws
 use Rattle.raw_ring.specs.contracts.node.Node.{the_row as R}
 use Rattle.raw_ring.proofs.node.Node.TheLaws.{the_row_laws as L}
 
-abbrev pub B : RattleType
-B = box.the_row R Z ghosts
+abbrev pub node_box : RattleType
+node_box = box.the_row R Z ghosts
 
 -- a type as it is passed for a parameter, and its laws
 abbrev pub passed : RattleType → RattleType
 passed X = arg (raw (layout X)) no X
 
-abbrev pub Rp : RattleType
-Rp = passed R
+abbrev pub passed_node : RattleType
+passed_node = passed R
 
-abbrev pub Zp : RattleType
-Zp = passed Z
+abbrev pub passed_heap : RattleType
+passed_heap = passed Z
 
-pub Lp : Laws Rp
-Lp = arg_laws (raw (layout R)) no R L refl
+pub passed_node_laws : Laws passed_node
+passed_node_laws = arg_laws (raw (layout R)) no R L refl
 
-pub LZp : Laws Zp
-LZp = arg_laws (raw (layout Z)) no Z LZ refl
+pub passed_heap_laws : Laws passed_heap
+passed_heap_laws = arg_laws (raw (layout Z)) no Z LZ refl
 
 -- the drop of a type that has none
 abbrev pub no_drop : RattleType → Dict
@@ -44,4 +44,4 @@ heap = record { row = Z; laws = LZ; g = ghosts; d = dict; drops = no_drop Z }
 
 -- the box as a handle, so that `handle_tells` says how its value is stored
 abbrev pub boxed : Al
-boxed = record { row = B; laws = laws.the_row_laws R Z ghosts L LZ; g = record { dealloc_token = λ b τ p. ftrue }; d = dict; drops = no_drop B }
+boxed = record { row = node_box; laws = laws.the_row_laws R Z ghosts L LZ; g = record { dealloc_token = λ b τ p. ftrue }; d = dict; drops = no_drop node_box }

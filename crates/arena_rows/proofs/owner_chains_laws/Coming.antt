@@ -24,11 +24,11 @@ pub record Comes (heads heads' : List (Option Head)) (links links' : List (Optio
   pub head_len : length heads' ≡ length heads
 
 module _ (heads heads' : List (Option Head)) (links links' : List (Option Link)) (n : ℕ) (new : Link) (c : Comes heads heads' links links' n new) where
-  abbrev o : ℕ
-  o = new.owner
+  abbrev owner : ℕ
+  owner = new.owner
 
   abbrev lead : Lead
-  lead = record { n = n; o = o; a = new.previous; x = n; b = new.next; y = n; row = Some new; head = gained n new (head_at heads o) }
+  lead = record { item = n; owner = owner; below = new.previous; on_to = n; above = new.next; back_to = n; row = Some new; head = gained n new (head_at heads owner) }
 
   led : IsLed heads heads' links links' lead
   unfolding linked_in
@@ -40,44 +40,44 @@ module _ (heads heads' : List (Option Head)) (links links' : List (Option Link))
     head_rows = c.head_rows;
     head_len = c.head_len;
     first = refl;
-    of_a = λ some. (c.below.found some).1;
-    of_b = λ some. (c.next.found some).1;
-    others = λ w ne. ne_eqb o w (λ e. ne (sym e)) ∙ sym (ap (is_of w) c.free);
+    of_below = λ some. (c.below.found some).1;
+    of_above = λ some. (c.next.found some).1;
+    others = λ w ne. ne_eqb owner w (λ e. ne (sym e)) ∙ sym (ap (is_of w) c.free);
   }
 
-  table_is : owners_of links' ≡ put (owners_of links) n o
-  table_is = owners_of-put links links' n o (owners_now heads heads' links links' lead led)
+  table_is : owners_of links' ≡ put (owners_of links) n owner
+  table_is = owners_of-put links links' n owner (owners_now heads heads' links links' lead led)
 
-  item_here : items links' o n ≡ true
-  item_here = ap (is_of o) (row_now heads heads' links links' lead led) ∙ eq-eqb o o refl
+  item_here : items links' owner n ≡ true
+  item_here = ap (is_of owner) (row_now heads heads' links links' lead led) ∙ eq-eqb owner owner refl
 
-  place : IsPlace (items links o) n new.previous new.next
+  place : IsPlace (items links owner) n new.previous new.next
   place = record {
     some = c.some;
-    zero = ap (is_of o) c.are.no_zero;
-    free = ap (is_of o) c.free;
+    zero = ap (is_of owner) c.are.no_zero;
+    free = ap (is_of owner) c.free;
     below = c.below;
-    above = between (items links o) n new.previous new.next c.some (ap (is_of o) c.free) c.below c.next;
+    above = between (items links owner) n new.previous new.next c.some (ap (is_of owner) c.free) c.below c.next;
     next = c.next;
   }
 
   free_row : get (owners_of links) n ≡ None
   free_row = owner_at links n ∙ ap owner_in c.free
 
-  kept : (k : ℕ) → k ≢ n → items links' o k ≡ items links o k
-  kept = same heads heads' links links' lead led o
+  kept : (k : ℕ) → k ≢ n → items links' owner k ≡ items links owner k
+  kept = same heads heads' links links' lead led owner
 
   pub comes : AreChained heads' links'
   comes = still_chained heads heads' links links' lead led (record {
-    on = above_previous (items links o) (items links' o) n new.previous new.next place item_here kept;
-    nexts = above_other (items links o) (items links' o) n new.previous new.next place item_here kept;
-    back = below_next (items links o) (items links' o) n new.previous new.next place item_here kept;
-    previous = below_other (items links o) (items links' o) n new.previous new.next place item_here kept;
-    row = (above_new (items links o) (items links' o) n new.previous new.next place item_here kept, below_new (items links o) (items links' o) n new.previous new.next place item_here kept, c.reached);
+    leads_on = above_previous (items links owner) (items links' owner) n new.previous new.next place item_here kept;
+    nexts = above_other (items links owner) (items links' owner) n new.previous new.next place item_here kept;
+    back = below_next (items links owner) (items links' owner) n new.previous new.next place item_here kept;
+    previous = below_other (items links owner) (items links' owner) n new.previous new.next place item_here kept;
+    row = (above_new (items links owner) (items links' owner) n new.previous new.next place item_here kept, below_new (items links owner) (items links' owner) n new.previous new.next place item_here kept, c.reached);
     finger = λ some. item_here;
-    count = ap (λ k. k + 1) (c.are.counts o) ∙ sym (owned-put (owners_of links) n o free_row) ∙ ap (λ t. length (owned o t)) (sym table_is);
-    counts = λ w ne. sym (owned-put_other (owners_of links) n o free_row w ne) ∙ ap (λ t. length (owned w t)) (sym table_is);
+    count = ap (λ k. k + 1) (c.are.counts owner) ∙ sym (owned-put (owners_of links) n owner free_row) ∙ ap (λ t. length (owned owner t)) (sym table_is);
+    counts = λ w ne. sym (owned-put_other (owners_of links) n owner free_row w ne) ∙ ap (λ t. length (owned w t)) (sym table_is);
   })
 
-  pub put_is : view_of heads' links' ≡ owners.put (view_of heads links) n o
+  pub put_is : view_of heads' links' ≡ owners.put (view_of heads links) n owner
   put_is = λ i. record { owner_of = table_is i; owners_end = c.head_len i; items_end = c.len i }

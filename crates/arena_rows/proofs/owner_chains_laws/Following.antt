@@ -19,10 +19,10 @@ pub record IsItem (links : List (Option Link)) (o n : ℕ) : Type 0 where
   pub owner : link.owner ≡ o
 
 pub item_row : (links : List (Option Link)) (o n : ℕ) → items links o n ≡ true → IsItem links o n
-item_row links o n h = go (link_at links n) (λ i. link_at links n) h where
-  go : (row : Option Link) → link_at links n ≡ row → is_of o row ≡ true → IsItem links o n
-  go None e h = absurd (true≢false (sym h))
-  go (Some link) e h = record { link = link; here = e; owner = owner_of_row o link h }
+item_row links o n h = row_is_item (link_at links n) (λ i. link_at links n) h where
+  row_is_item : (row : Option Link) → link_at links n ≡ row → is_of o row ≡ true → IsItem links o n
+  row_is_item None e h = absurd (true≢false (sym h))
+  row_is_item (Some link) e h = record { link = link; here = e; owner = owner_of_row o link h }
 
 pub item_there : (links : List (Option Link)) (o n : ℕ) → items links o n ≡ true → is_some (link_at links n) ≡ true
 item_there links o n h = let row = item_row links o n h in ap is_some row.here

@@ -31,19 +31,19 @@ no_items heads links are o none k there =
     let some = counted heads links k row.link are row.here in omega (arith, none, some, ap (λ w. (head_at heads w).count) row.owner)
 
 module _ (heads heads' : List (Option Head)) (links links' : List (Option Link)) (n : ℕ) (old : Link) (c : Goes heads heads' links links' n old) where
-  abbrev o : ℕ
-  o = old.owner
+  abbrev owner : ℕ
+  owner = old.owner
 
   abbrev lead : Lead
-  lead = record { n = n; o = o; a = old.previous; x = old.next; b = old.next; y = old.previous; row = None; head = lost old (head_at heads o) }
+  lead = record { item = n; owner = owner; below = old.previous; on_to = old.next; above = old.next; back_to = old.previous; row = None; head = lost old (head_at heads owner) }
 
   some : n ≢ 0
   some e = let z = sym c.there ∙ ap (link_at links) e ∙ c.are.no_zero in cc
 
-  below : IsBelow (items links o) n old.previous
+  below : IsBelow (items links owner) n old.previous
   below = c.are.previous n old c.there
 
-  above : IsAbove (items links o) n old.next
+  above : IsAbove (items links owner) n old.next
   above = c.are.nexts n old c.there
 
   led : IsLed heads heads' links links' lead
@@ -56,48 +56,48 @@ module _ (heads heads' : List (Option Head)) (links links' : List (Option Link))
     head_rows = c.head_rows;
     head_len = c.head_len;
     first = refl;
-    of_a = λ up. (below.found up).1;
-    of_b = λ up. (above.found up).1;
-    others = λ w ne. sym (ap (is_of w) c.there ∙ ne_eqb o w (λ e. ne (sym e)));
+    of_below = λ up. (below.found up).1;
+    of_above = λ up. (above.found up).1;
+    others = λ w ne. sym (ap (is_of w) c.there ∙ ne_eqb owner w (λ e. ne (sym e)));
   }
 
   table_is : owners_of links' ≡ remove (owners_of links) n
   table_is = owners_of-remove links links' n (owners_now heads heads' links links' lead led)
 
-  item_gone : items links' o n ≡ false
-  item_gone = ap (is_of o) (row_now heads heads' links links' lead led)
+  item_gone : items links' owner n ≡ false
+  item_gone = ap (is_of owner) (row_now heads heads' links links' lead led)
 
-  item_there : items links o n ≡ true
-  item_there = ap (is_of o) c.there ∙ eq-eqb o o refl
+  item_there : items links owner n ≡ true
+  item_there = ap (is_of owner) c.there ∙ eq-eqb owner owner refl
 
-  kept : (k : ℕ) → k ≢ n → items links' o k ≡ items links o k
-  kept = same heads heads' links links' lead led o
+  kept : (k : ℕ) → k ≢ n → items links' owner k ≡ items links owner k
+  kept = same heads heads' links links' lead led owner
 
-  finger_here : (lost old (head_at heads o)).finger ≢ 0 → items links' o (lost old (head_at heads o)).finger ≡ true
+  finger_here : (lost old (head_at heads owner)).finger ≢ 0 → items links' owner (lost old (head_at heads owner)).finger ≡ true
   finger_here up = elim (eqb_tells old.previous 0) [
     | inl e ↦
         let f = ap (λ b. cond b old.next old.previous) e.0 in
         let a = above.found (λ z. up (f ∙ z)) in
-        ap (items links' o) f ∙ kept old.next (omega (arith, a.0)) ∙ a.1
+        ap (items links' owner) f ∙ kept old.next (omega (arith, a.0)) ∙ a.1
     | inr e ↦
         let f = ap (λ b. cond b old.next old.previous) e.0 in
         let b = below.found e.1 in
-        ap (items links' o) f ∙ kept old.previous (omega (arith, b.0)) ∙ b.1
+        ap (items links' owner) f ∙ kept old.previous (omega (arith, b.0)) ∙ b.1
   ]
 
   pub goes : AreChained heads' links'
   goes = still_chained heads heads' links links' lead led (record {
-    on = above_joined (items links o) (items links' o) n old.previous old.next some below above item_there item_gone kept;
-    nexts = λ q k _. above_left (items links o) (items links' o) n old.previous old.next some below above item_there item_gone kept q k;
-    back = below_joined (items links o) (items links' o) n old.previous old.next some below above item_there item_gone kept;
-    previous = λ q k _. below_left (items links o) (items links' o) n old.previous old.next some below above item_there item_gone kept q k;
+    leads_on = above_joined (items links owner) (items links' owner) n old.previous old.next some below above item_there item_gone kept;
+    nexts = λ q k _. above_left (items links owner) (items links' owner) n old.previous old.next some below above item_there item_gone kept q k;
+    back = below_joined (items links owner) (items links' owner) n old.previous old.next some below above item_there item_gone kept;
+    previous = λ q k _. below_left (items links owner) (items links' owner) n old.previous old.next some below above item_there item_gone kept q k;
     row = tt;
     finger = finger_here;
     count =
         let one = counted heads links n old c.are c.there in
-        let less : (head_at heads o).count - 1 ≡ length (owned o (remove (owners_of links) n)) = omega (arith, one) in
-        less ∙ ap (λ t. length (owned o t)) (sym table_is);
-    counts = λ w ne. owned-remove_other (owners_of links) n o (owner_at links n ∙ ap owner_in c.there) w ne ∙ ap (λ t. length (owned w t)) (sym table_is);
+        let less : (head_at heads owner).count - 1 ≡ length (owned owner (remove (owners_of links) n)) = omega (arith, one) in
+        less ∙ ap (λ t. length (owned owner t)) (sym table_is);
+    counts = λ w ne. owned-remove_other (owners_of links) n owner (owner_at links n ∙ ap owner_in c.there) w ne ∙ ap (λ t. length (owned w t)) (sym table_is);
   })
 
   pub take_is : view_of heads' links' ≡ owners.take (view_of heads links) n

@@ -12,7 +12,7 @@ pub record IsRelinked (a x b y q : ℕ) (row : Option Link) (now : Link) : Type 
   pub link : Link
   pub was : row ≡ Some link
   pub owner : now.owner ≡ link.owner
-  pub on : q ≡ a → now.next ≡ x
+  pub leads_on : q ≡ a → now.next ≡ x
   pub next : q ≢ a → now.next ≡ link.next
   pub back : q ≡ b → now.previous ≡ y
   pub previous : q ≢ b → now.previous ≡ link.previous
@@ -44,7 +44,7 @@ module _ (a x b y q : ℕ) where
         link = link;
         was = refl;
         owner = ap (λ l. l.owner) s;
-        on = λ h. ap (λ l. l.next) s ∙ ap (λ t. cond t x link.next) (eq-eqb q a h);
+        leads_on = λ h. ap (λ l. l.next) s ∙ ap (λ t. cond t x link.next) (eq-eqb q a h);
         next = λ h. ap (λ l. l.next) s ∙ ap (λ t. cond t x link.next) (ne_eqb q a h);
         back = λ h. ap (λ l. l.previous) s ∙ ap (λ t. cond t y link.previous) (eq-eqb q b h);
         previous = λ h. ap (λ l. l.previous) s ∙ ap (λ t. cond t y link.previous) (ne_eqb q b h);

@@ -53,12 +53,12 @@ module _ (item item' : ℕ → Bool) (n p q : ℕ) (place : IsPlace item n p q) 
   was : (k : ℕ) → k ≢ n → item' k ≡ true → item k ≡ true
   was k ne h = sym (same k ne) ∙ h
 
-  is : (k : ℕ) → item k ≡ true → item' k ≡ true
-  is k h = same k (apart_by item n k place.free h) ∙ h
+  still_item : (k : ℕ) → item k ≡ true → item' k ≡ true
+  still_item k h = same k (apart_by item n k place.free h) ∙ h
 
   pub above_new : IsAbove item' n q
   above_new = record {
-    found = λ h. ((place.above.found h).0, is q (place.above.found h).1);
+    found = λ h. ((place.above.found h).0, still_item q (place.above.found h).1);
     least = λ k l h. let ne : k ≢ n = omega arith in place.above.least k l (was k ne h);
   }
 
@@ -77,7 +77,7 @@ module _ (item item' : ℕ → Bool) (n p q : ℕ) (place : IsPlace item n p q) 
   -- the item above any other one, or above 0
   pub above_other : (k m : ℕ) → k ≢ n → k ≢ p → (k ≢ 0 → item k ≡ true) → IsAbove item k m → IsAbove item' k m
   above_other k m ne np there a = record {
-    found = λ h. ((a.found h).0, is m (a.found h).1);
+    found = λ h. ((a.found h).0, still_item m (a.found h).1);
     least = λ j l h. elim (eqb_tells j n) [
       | inl e ↦
           let up : p ≢ 0 = lower j e.1 l in
@@ -96,7 +96,7 @@ module _ (item item' : ℕ → Bool) (n p q : ℕ) (place : IsPlace item n p q) 
 
   pub below_new : IsBelow item' n p
   below_new = record {
-    found = λ h. ((place.below.found h).0, is p (place.below.found h).1);
+    found = λ h. ((place.below.found h).0, still_item p (place.below.found h).1);
     greatest = λ k l h. let ne : k ≢ n = omega arith in place.below.greatest k l (was k ne h);
   }
 
@@ -112,7 +112,7 @@ module _ (item item' : ℕ → Bool) (n p q : ℕ) (place : IsPlace item n p q) 
   -- the item below any other one
   pub below_other : (k m : ℕ) → k ≢ n → k ≢ q → item k ≡ true → IsBelow item k m → IsBelow item' k m
   below_other k m ne nq there a = record {
-    found = λ h. ((a.found h).0, is m (a.found h).1);
+    found = λ h. ((a.found h).0, still_item m (a.found h).1);
     greatest = λ j l h. elim (eqb_tells j n) [
       | inl e ↦
           let up = place.above.least k (omega (arith, e.1, l)) there in

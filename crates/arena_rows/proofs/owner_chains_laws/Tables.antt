@@ -33,10 +33,10 @@ module _ (links : List (Option Link)) where
   row_there q h = has-row (λ (link : Link). link.owner) links q (ap (λ t. is_some (get t q)) (sym owners_are) ∙ h)
 
   pub row_free : (q : ℕ) → get (owners_of links) q ≡ None → link_at links q ≡ None
-  row_free q h = go (link_at links q) (sym (owner_at q) ∙ h) where
-    go : (row : Option Link) → owner_in row ≡ None → row ≡ None
-    go None e = refl
-    go (Some link) e = cc
+  row_free q h = no_owner_no_row (link_at links q) (sym (owner_at q) ∙ h) where
+    no_owner_no_row : (row : Option Link) → owner_in row ≡ None → row ≡ None
+    no_owner_no_row None e = refl
+    no_owner_no_row (Some link) e = cc
 
   pub item_at : (o q : ℕ) → is_owner o (get (owners_of links) q) ≡ items links o q
   item_at o q = ap (is_owner o) (owner_at q) ∙ sym (is_of-owner_in o (link_at links q))

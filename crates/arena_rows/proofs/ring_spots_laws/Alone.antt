@@ -26,9 +26,9 @@ next_cut sp a b h e ne = next-spliced sp a b b h
 
 -- one code gets a label
 pub labelled_one : (m new : RingMap) (c l : ℕ) → ring (spot m) c ≡ c ∷ [] → new ≡ set_label m c l → spot new ≡ labelled (spot m) l (ring (spot m) c)
-labelled_one m new c l alone is = λ i q. (known_step m new c l is q ∙ at q ∙ ap (λ hs. labelled (spot m) l hs q) (sym alone)) i where
-  at : (q : ℕ) → cond (nat_eq q c) (map_spot (λ s. record s { label = l }) (spot m q)) (spot m q) ≡ labelled (spot m) l (c ∷ []) q
-  at q = elim (eqb_tells q c) [
+labelled_one m new c l alone is = λ i q. (known_step m new c l is q ∙ labelled_at q ∙ ap (λ hs. labelled (spot m) l hs q) (sym alone)) i where
+  labelled_at : (q : ℕ) → cond (nat_eq q c) (map_spot (λ s. record s { label = l }) (spot m q)) (spot m q) ≡ labelled (spot m) l (c ∷ []) q
+  labelled_at q = elim (eqb_tells q c) [
     | inl p ↦ ap (λ b. cond b (map_spot (λ s. record s { label = l }) (spot m q)) (spot m q)) (p.0 ∙ sym (is_in-yes q (c ∷ []) (subst (λ z. IsIn z (c ∷ [])) (sym p.1) (IsIn_head c []))))
     | inr p ↦ ap (λ b. cond b (map_spot (λ s. record s { label = l }) (spot m q)) (spot m q)) (p.0 ∙ sym (is_in-no q (c ∷ []) (omega (arith, tick_other q c p.1))))
   ]
@@ -58,37 +58,37 @@ module _ (sp : Spots) (known : ℕ → Bool) (rows : List (Option Label)) (a b :
 
   -- a code of the ring of a owns the label, so the ring of b takes the one that b owns
   module _ (h_in : IsIn (holder rows (label sp b)) (ring sp a)) where
-    abbrev h : ℕ
-    h = holder rows (label sp b)
+    abbrev holder_b : ℕ
+    holder_b = holder rows (label sp b)
 
     shared_there : has_label rows (label sp b) ≡ true
     shared_there = S.table.labels_there b S.b_there
 
-    owned : own rows h ≡ label sp b
+    owned : own rows holder_b ≡ label sp b
     owned = S.table.owners.owned (label sp b) shared_there
 
-    T : ShareLabel sp known rows b h
-    T = shared_at h h_in
+    shared_with_holder : ShareLabel sp known rows b holder_b
+    shared_with_holder = shared_at holder_b h_in
 
-    label_h : label sp h ≡ label sp b
-    label_h = T.one
+    label_holder : label sp holder_b ≡ label sp b
+    label_holder = shared_with_holder.one
 
-    own_is : (q : ℕ) → own rows q ≡ cond (nat_eq q h) (label sp h) (cond (nat_eq q (holder rows (label sp h))) (own rows h) (own rows q))
-    own_is q = elim (eqb_tells q h) [
-      | inl p ↦ ap (own rows) p.1 ∙ owned ∙ sym label_h ∙ sym (ap (λ t. cond t (label sp h) (cond (nat_eq q (holder rows (label sp h))) (own rows h) (own rows q))) p.0)
-      | inr p ↦ sym (ap (λ t. cond t (label sp h) (cond (nat_eq q (holder rows (label sp h))) (own rows h) (own rows q))) p.0
-          ∙ ap (λ t. cond t (own rows h) (own rows q)) (ne_eqb q (holder rows (label sp h)) (λ e. p.1 (e ∙ ap (holder rows) label_h))))
+    own_is : (q : ℕ) → own rows q ≡ cond (nat_eq q holder_b) (label sp holder_b) (cond (nat_eq q (holder rows (label sp holder_b))) (own rows holder_b) (own rows q))
+    own_is q = elim (eqb_tells q holder_b) [
+      | inl p ↦ ap (own rows) p.1 ∙ owned ∙ sym label_holder ∙ sym (ap (λ t. cond t (label sp holder_b) (cond (nat_eq q (holder rows (label sp holder_b))) (own rows holder_b) (own rows q))) p.0)
+      | inr p ↦ sym (ap (λ t. cond t (label sp holder_b) (cond (nat_eq q (holder rows (label sp holder_b))) (own rows holder_b) (own rows q))) p.0
+          ∙ ap (λ t. cond t (own rows holder_b) (own rows q)) (ne_eqb q (holder rows (label sp holder_b)) (λ e. p.1 (e ∙ ap (holder rows) label_holder))))
     ]
 
-    holder_is : (q : ℕ) → holder rows q ≡ cond (nat_eq q (label sp h)) h (cond (nat_eq q (own rows h)) (holder rows (label sp h)) (holder rows q))
-    holder_is q = elim (eqb_tells q (label sp h)) [
-      | inl p ↦ ap (holder rows) (p.1 ∙ label_h) ∙ sym (ap (λ t. cond t h (cond (nat_eq q (own rows h)) (holder rows (label sp h)) (holder rows q))) p.0)
-      | inr p ↦ sym (ap (λ t. cond t h (cond (nat_eq q (own rows h)) (holder rows (label sp h)) (holder rows q))) p.0
-          ∙ ap (λ t. cond t (holder rows (label sp h)) (holder rows q)) (ne_eqb q (own rows h) (λ e. p.1 (e ∙ owned ∙ sym label_h))))
+    holder_is : (q : ℕ) → holder rows q ≡ cond (nat_eq q (label sp holder_b)) holder_b (cond (nat_eq q (own rows holder_b)) (holder rows (label sp holder_b)) (holder rows q))
+    holder_is q = elim (eqb_tells q (label sp holder_b)) [
+      | inl p ↦ ap (holder rows) (p.1 ∙ label_holder) ∙ sym (ap (λ t. cond t holder_b (cond (nat_eq q (own rows holder_b)) (holder rows (label sp holder_b)) (holder rows q))) p.0)
+      | inr p ↦ sym (ap (λ t. cond t holder_b (cond (nat_eq q (own rows holder_b)) (holder rows (label sp holder_b)) (holder rows q))) p.0
+          ∙ ap (λ t. cond t (holder rows (label sp holder_b)) (holder rows q)) (ne_eqb q (own rows holder_b) (λ e. p.1 (e ∙ owned ∙ sym label_holder))))
     ]
 
     pub labelled_kept : (l : ℕ) → l ≡ own rows b → (b_known : has_label rows b ≡ true) → AreLabelled (labelled sp l (ring sp b)) known rows
-    labelled_kept l e b_known = labelled-apart sp known rows b h T (labelled sp l (ring sp b)) rows (S.table.owners.holder_there (label sp b) shared_there) b_known refl own_is holder_is (ap (λ n. labelled sp n (ring sp b)) e) known refl
+    labelled_kept l e b_known = labelled-apart sp known rows b holder_b shared_with_holder (labelled sp l (ring sp b)) rows (S.table.owners.holder_there (label sp b) shared_there) b_known refl own_is holder_is (ap (λ n. labelled sp n (ring sp b)) e) known refl
 
   module _ (alone : ring sp b ≡ b ∷ []) where
     -- b doesn't own the label that it shares, so it takes the one that it owns
@@ -124,12 +124,12 @@ labelled_beside sp known rows a b S new known' l is same e a_known missed =
 
 -- two labels one after the other
 labelled_again : (sp : Spots) (rows rows' : List (Option Label)) (f l : ℕ) (hs : List ℕ) → loop_at rows' ≡ loop_at rows → labelled (in_loops rows' (labelled sp f hs)) l hs ≡ labelled (in_loops rows sp) l hs
-labelled_again sp rows rows' f l hs loops = λ i q. go (is_in q hs) (sp q) i where
-  go : (t : Bool) (o : Option Spot) → cond t (map_spot (λ s. record s { label = l }) (map_spot (with_loop rows') (cond t (map_spot (λ s. record s { label = f }) o) o))) (map_spot (with_loop rows') (cond t (map_spot (λ s. record s { label = f }) o) o))
+labelled_again sp rows rows' f l hs loops = λ i q. last_label_stays (is_in q hs) (sp q) i where
+  last_label_stays : (t : Bool) (o : Option Spot) → cond t (map_spot (λ s. record s { label = l }) (map_spot (with_loop rows') (cond t (map_spot (λ s. record s { label = f }) o) o))) (map_spot (with_loop rows') (cond t (map_spot (λ s. record s { label = f }) o) o))
       ≡ cond t (map_spot (λ s. record s { label = l }) (map_spot (with_loop rows) o)) (map_spot (with_loop rows) o)
-  go true None = refl
-  go true (Some s) = refl
-  go false o = ap (λ (g : ℕ → ℕ). map_spot (λ s. record s { label = g s.label }) o) loops
+  last_label_stays true None = refl
+  last_label_stays true (Some s) = refl
+  last_label_stays false o = ap (λ (g : ℕ → ℕ). map_spot (λ s. record s { label = g s.label }) o) loops
 
 -- the code that was cut off has a label that stands for loop l
 module _ (cutted : Spots) (known : ℕ → Bool) (rows rows' : List (Option Label)) (b free : ℕ) (R : AreRings cutted) (b_there : live cutted b ≡ true) (whole : AreLabelled (labelled cutted free (ring cutted b)) known rows') where

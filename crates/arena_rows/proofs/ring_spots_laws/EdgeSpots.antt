@@ -26,10 +26,10 @@ module _ (sp : Spots) (R : AreRings sp) where
     m_rings = AreRings-set_tail sp R h v
 
     tail_here : (x : ℕ) → live sp x ≡ true → x ≡ h → tail_at moved x ≡ v
-    tail_here x b e = ap (λ t. or_zero (of_spot (λ s. s.tail) (cond t (map_spot (λ s. record s { tail = v }) (sp x)) (sp x)))) (eq-eqb x h e) ∙ go (sp x) b where
-      go : (o : Option Spot) → is_some o ≡ true → or_zero (of_spot (λ s. s.tail) (map_spot (λ s. record s { tail = v }) o)) ≡ v
-      go None n = absurd (true≢false (sym n))
-      go (Some s) n = refl
+    tail_here x b e = ap (λ t. or_zero (of_spot (λ s. s.tail) (cond t (map_spot (λ s. record s { tail = v }) (sp x)) (sp x)))) (eq-eqb x h e) ∙ tail_written (sp x) b where
+      tail_written : (o : Option Spot) → is_some o ≡ true → or_zero (of_spot (λ s. s.tail) (map_spot (λ s. record s { tail = v }) o)) ≡ v
+      tail_written None n = absurd (true≢false (sym n))
+      tail_written (Some s) n = refl
 
     spot_there : (x : ℕ) → x ≢ h → moved x ≡ sp x
     spot_there x n = ap (λ t. cond t (map_spot (λ s. record s { tail = v }) (sp x)) (sp x)) (ne_eqb x h n)

@@ -79,31 +79,31 @@ module _ (sp : Spots) (known : ℕ → Bool) (rows : List (Option Label)) (A : A
     abbrev wide : Spots
     wide = woken (woken sp (plus e) u) (minus e) v
 
-    abbrev x : ℕ
-    x = own rows (plus e)
+    abbrev own_plus : ℕ
+    own_plus = own rows (plus e)
 
-    abbrev y : ℕ
-    y = own rows (minus e)
+    abbrev own_minus : ℕ
+    own_minus = own rows (minus e)
 
     abbrev now : Spots
-    now = woken_as (woken_as sp (plus e) u x) (minus e) v y
+    now = woken_as (woken_as sp (plus e) u own_plus) (minus e) v own_minus
 
     now_alike : (q : ℕ) → but_label (now q) ≡ but_label (wide q)
-    now_alike q = go (nat_eq q (minus e)) (nat_eq q (plus e)) where
-      go : (b d : Bool) → but_label (cond b (Some (record { next = minus e; tail = v; label = y })) (cond d (Some (record { next = plus e; tail = u; label = x })) (sp q))) ≡ but_label (cond b (Some (ring_of_one (minus e) v)) (cond d (Some (ring_of_one (plus e) u)) (sp q)))
-      go true d = refl
-      go false true = refl
-      go false false = refl
+    now_alike q = blank-woken (nat_eq q (minus e)) (nat_eq q (plus e)) where
+      blank-woken : (b d : Bool) → but_label (cond b (Some (record { next = minus e; tail = v; label = own_minus })) (cond d (Some (record { next = plus e; tail = u; label = own_plus })) (sp q))) ≡ but_label (cond b (Some (ring_of_one (minus e) v)) (cond d (Some (ring_of_one (plus e) u)) (sp q)))
+      blank-woken true d = refl
+      blank-woken false true = refl
+      blank-woken false false = refl
 
-    now_minus : now (minus e) ≡ Some (record { next = minus e; tail = v; label = y })
-    now_minus = ap (λ b. cond b (Some (record { next = minus e; tail = v; label = y })) (woken_as sp (plus e) u x (minus e))) (eq-eqb (minus e) (minus e) refl)
+    now_minus : now (minus e) ≡ Some (record { next = minus e; tail = v; label = own_minus })
+    now_minus = ap (λ b. cond b (Some (record { next = minus e; tail = v; label = own_minus })) (woken_as sp (plus e) u own_plus (minus e))) (eq-eqb (minus e) (minus e) refl)
 
-    now_plus : now (plus e) ≡ Some (record { next = plus e; tail = u; label = x })
-    now_plus = ap (λ b. cond b (Some (record { next = minus e; tail = v; label = y })) (woken_as sp (plus e) u x (plus e))) (ne_eqb (plus e) (minus e) (λ q. omega arith))
-        ∙ ap (λ b. cond b (Some (record { next = plus e; tail = u; label = x })) (sp (plus e))) (eq-eqb (plus e) (plus e) refl)
+    now_plus : now (plus e) ≡ Some (record { next = plus e; tail = u; label = own_plus })
+    now_plus = ap (λ b. cond b (Some (record { next = minus e; tail = v; label = own_minus })) (woken_as sp (plus e) u own_plus (plus e))) (ne_eqb (plus e) (minus e) (λ q. omega arith))
+        ∙ ap (λ b. cond b (Some (record { next = plus e; tail = u; label = own_plus })) (sp (plus e))) (eq-eqb (plus e) (plus e) refl)
 
     now_other : (q : ℕ) → q ≢ plus e → q ≢ minus e → now q ≡ sp q
-    now_other q n m = ap (λ b. cond b (Some (record { next = minus e; tail = v; label = y })) (woken_as sp (plus e) u x q)) (ne_eqb q (minus e) m) ∙ ap (λ b. cond b (Some (record { next = plus e; tail = u; label = x })) (sp q)) (ne_eqb q (plus e) n)
+    now_other q n m = ap (λ b. cond b (Some (record { next = minus e; tail = v; label = own_minus })) (woken_as sp (plus e) u own_plus q)) (ne_eqb q (minus e) m) ∙ ap (λ b. cond b (Some (record { next = plus e; tail = u; label = own_plus })) (sp q)) (ne_eqb q (plus e) n)
 
     not_plus : (q : ℕ) → live sp q ≡ true → q ≢ plus e
     not_plus q a e = true≢false (sym (ap (live sp) (sym e) ∙ a) ∙ dead_plus)
@@ -114,14 +114,14 @@ module _ (sp : Spots) (known : ℕ → Bool) (rows : List (Option Label)) (A : A
     now_label : (q : ℕ) → live sp q ≡ true → label now q ≡ label sp q
     now_label q a = ap (λ o. or_zero (of_spot (λ s. s.label) o)) (now_other q (not_plus q a) (not_minus q a))
 
-    label_plus : label now (plus e) ≡ x
+    label_plus : label now (plus e) ≡ own_plus
     label_plus = ap (λ o. or_zero (of_spot (λ s. s.label) o)) now_plus
 
-    label_minus : label now (minus e) ≡ y
+    label_minus : label now (minus e) ≡ own_minus
     label_minus = ap (λ o. or_zero (of_spot (λ s. s.label) o)) now_minus
 
-    W : AreRings wide
-    W = w_rings sp A.table.rings e u v limit dead_plus dead_minus
+    wide_rings : AreRings wide
+    wide_rings = w_rings sp A.table.rings e u v limit dead_plus dead_minus
 
     cases : (q : ℕ) → live wide q ≡ true → (q ≡ plus e) ⊎ ((q ≡ minus e) ⊎ (live sp q ≡ true))
     cases = w_cases sp A.table.rings e u v limit dead_plus dead_minus
@@ -136,7 +136,7 @@ module _ (sp : Spots) (known : ℕ → Bool) (rows : List (Option Label)) (A : A
     ]
 
     now_rings : AreRings now
-    now_rings = AreRings-alike wide now now_alike W one_label
+    now_rings = AreRings-alike wide now now_alike wide_rings one_label
 
     rings_are : (c : ℕ) → ring now c ≡ ring wide c
     rings_are c = ring-alike wide now now_alike c
@@ -155,8 +155,8 @@ module _ (sp : Spots) (known : ℕ → Bool) (rows : List (Option Label)) (A : A
         | inr (inr b) ↦ subst (λ n. has_label rows n ≡ true) (sym (now_label c b)) (A.table.labels_there c b)
       ]);
       held = λ c a. elim (cases_now c a) [
-        | inl p ↦ holds c x a (ap (label now) p ∙ label_plus) (A.table.owners.held (plus e) plus_known ∙ sym p)
-        | inr (inl p) ↦ holds c y a (ap (label now) p ∙ label_minus) (A.table.owners.held (minus e) minus_known ∙ sym p)
+        | inl p ↦ holds c own_plus a (ap (label now) p ∙ label_plus) (A.table.owners.held (plus e) plus_known ∙ sym p)
+        | inr (inl p) ↦ holds c own_minus a (ap (label now) p ∙ label_minus) (A.table.owners.held (minus e) minus_known ∙ sym p)
         | inr (inr b) ↦ subst (λ hs. IsIn (holder rows (label now c)) hs) (sym (rings_are c ∙ (old_ring sp A.table.rings e u v limit dead_plus dead_minus c b).0)) (subst (λ n. IsIn (holder rows n) (ring sp c)) (sym (now_label c b)) (A.held c b))
       ];
     }
@@ -168,22 +168,22 @@ module _ (sp : Spots) (known : ℕ → Bool) (rows : List (Option Label)) (A : A
         true≢false (sym (ap (live sp) (sym h) ∙ (A.table.rings.rings q a).awake (holder rows (label sp q)) (A.held q a)) ∙ dead)
 
     module _ (new : Spots) (known' : ℕ → Bool) (rows' : List (Option Label)) (is : new ≡ now) (same : known' ≡ known) (own_same : own rows' ≡ own rows) (holders : holder rows' ≡ holder rows) (there : has_label rows' ≡ has_label rows)
-        (loops : (q : ℕ) → loop_at rows' q ≡ cond (nat_eq q y) 0 (cond (nat_eq q x) 0 (loop_at rows q))) where
+        (loops : (q : ℕ) → loop_at rows' q ≡ cond (nat_eq q own_minus) 0 (cond (nat_eq q own_plus) 0 (loop_at rows q))) where
       pub labelled-woken : AreLabelled new known' rows'
       labelled-woken = subst (λ k. AreLabelled new k rows') (sym same) (subst (λ s. AreLabelled s known rows') (sym is) (labelled_alike now known rows rows' now_labelled own_same holders there))
 
-      loop_y : loop_at rows' y ≡ 0
-      loop_y = loops y ∙ ap (λ b. cond b 0 (cond (nat_eq y x) 0 (loop_at rows y))) (eq-eqb y y refl)
+      loop_minus : loop_at rows' own_minus ≡ 0
+      loop_minus = loops own_minus ∙ ap (λ b. cond b 0 (cond (nat_eq own_minus own_plus) 0 (loop_at rows own_minus))) (eq-eqb own_minus own_minus refl)
 
-      loop_x : loop_at rows' x ≡ 0
-      loop_x = loops x ∙ elim (cases_eq x y) [
-        | inl p ↦ ap (λ b. cond b 0 (cond (nat_eq x x) 0 (loop_at rows x))) (eq-eqb x y p)
-        | inr n ↦ ap (λ b. cond b 0 (cond (nat_eq x x) 0 (loop_at rows x))) (ne_eqb x y n) ∙ ap (λ b. cond b 0 (loop_at rows x)) (eq-eqb x x refl)
+      loop_plus : loop_at rows' own_plus ≡ 0
+      loop_plus = loops own_plus ∙ elim (cases_eq own_plus own_minus) [
+        | inl p ↦ ap (λ b. cond b 0 (cond (nat_eq own_plus own_plus) 0 (loop_at rows own_plus))) (eq-eqb own_plus own_minus p)
+        | inr n ↦ ap (λ b. cond b 0 (cond (nat_eq own_plus own_plus) 0 (loop_at rows own_plus))) (ne_eqb own_plus own_minus n) ∙ ap (λ b. cond b 0 (loop_at rows own_plus)) (eq-eqb own_plus own_plus refl)
       ]
 
       loop_else : (q : ℕ) → live sp q ≡ true → loop_at rows' (label sp q) ≡ loop_at rows (label sp q)
-      loop_else q a = loops (label sp q) ∙ ap (λ b. cond b 0 (cond (nat_eq (label sp q) x) 0 (loop_at rows (label sp q)))) (ne_eqb (label sp q) y (not_own (minus e) q minus_known dead_minus a))
-          ∙ ap (λ b. cond b 0 (loop_at rows (label sp q))) (ne_eqb (label sp q) x (not_own (plus e) q plus_known dead_plus a))
+      loop_else q a = loops (label sp q) ∙ ap (λ b. cond b 0 (cond (nat_eq (label sp q) own_plus) 0 (loop_at rows (label sp q)))) (ne_eqb (label sp q) own_minus (not_own (minus e) q minus_known dead_minus a))
+          ∙ ap (λ b. cond b 0 (loop_at rows (label sp q))) (ne_eqb (label sp q) own_plus (not_own (plus e) q plus_known dead_plus a))
 
       pub loops-woken : in_loops rows' new ≡ woken (woken (in_loops rows sp) (plus e) u) (minus e) v
       loops-woken = ap (in_loops rows') is ∙ (λ i q. each q i) where
@@ -193,10 +193,10 @@ module _ (sp : Spots) (known : ℕ → Bool) (rows : List (Option Label)) (A : A
 
         each : (q : ℕ) → in_loops rows' now q ≡ woken (woken (in_loops rows sp) (plus e) u) (minus e) v q
         each q = elim (cases_eq q (minus e)) [
-          | inl p ↦ ap (in_loops rows' now) p ∙ ap (map_spot (with_loop rows')) now_minus ∙ ap (λ n. Some (record { next = minus e; tail = v; label = n })) loop_y
+          | inl p ↦ ap (in_loops rows' now) p ∙ ap (map_spot (with_loop rows')) now_minus ∙ ap (λ n. Some (record { next = minus e; tail = v; label = n })) loop_minus
               ∙ sym (ap (λ b. cond b (Some (ring_of_one (minus e) v)) (woken (in_loops rows sp) (plus e) u q)) (eq-eqb q (minus e) p))
           | inr m ↦ elim (cases_eq q (plus e)) [
-            | inl p ↦ ap (in_loops rows' now) p ∙ ap (map_spot (with_loop rows')) now_plus ∙ ap (λ n. Some (record { next = plus e; tail = u; label = n })) loop_x
+            | inl p ↦ ap (in_loops rows' now) p ∙ ap (map_spot (with_loop rows')) now_plus ∙ ap (λ n. Some (record { next = plus e; tail = u; label = n })) loop_plus
                 ∙ sym (ap (λ b. cond b (Some (ring_of_one (minus e) v)) (woken (in_loops rows sp) (plus e) u q)) (ne_eqb q (minus e) m) ∙ ap (λ b. cond b (Some (ring_of_one (plus e) u)) (in_loops rows sp q)) (eq-eqb q (plus e) p))
             | inr n ↦ ap (map_spot (with_loop rows')) (now_other q n m)
                 ∙ tell (sp q) (λ s at. ap (loop_at rows') (sym (ap (λ o. or_zero (of_spot (λ s. s.label) o)) at)) ∙ loop_else q (ap is_some at) ∙ ap (loop_at rows) (ap (λ o. or_zero (of_spot (λ s. s.label) o)) at))

@@ -93,36 +93,36 @@ module _ (sp : Spots) (known : ℕ → Bool) (rows : List (Option Label)) (A : A
     b_apart : count b (ring sp a) ≡ 0
     b_apart = elim (IsIn_or_not b (ring sp a)) [ inl i ↦ absurd (other ((A.table.rings.rings a a_there).one_label b i)) | inr n ↦ n ]
 
-    abbrev lb : ℕ
-    lb = label sp b
+    abbrev label_b : ℕ
+    label_b = label sp b
 
     abbrev like_b : Spots
-    like_b = labelled sp lb (ring sp a)
+    like_b = labelled sp label_b (ring sp a)
 
     like_b_rings : (q : ℕ) → ring like_b q ≡ ring sp q
-    like_b_rings q = ring-labelled sp A.table.rings a lb a_there q
+    like_b_rings q = ring-labelled sp A.table.rings a label_b a_there q
 
-    like_b_b : label like_b b ≡ lb
-    like_b_b = label-labelled_out sp lb (ring sp a) b b_apart
+    like_b_b : label like_b b ≡ label_b
+    like_b_b = label-labelled_out sp label_b (ring sp a) b b_apart
 
-    like_b_a : label like_b a ≡ lb
-    like_b_a = label-labelled_in sp lb (ring sp a) a (A.table.rings.rings a a_there).item a_there
+    like_b_a : label like_b a ≡ label_b
+    like_b_a = label-labelled_in sp label_b (ring sp a) a (A.table.rings.rings a a_there).item a_there
 
     shared : ShareLabel like_b known rows a b
     shared = record {
-      table = table_kept sp like_b known rows A.table (AreRings-labelled sp A.table.rings a lb a_there) (λ c h. let k = sym (live-labelled sp lb (ring sp a) c) ∙ h in elim (IsIn_or_not c (ring sp a)) [
-        | inl i ↦ subst (λ n. has_label rows n ≡ true) (sym (label-labelled_in sp lb (ring sp a) c i k)) (A.table.labels_there b b_there)
-        | inr n ↦ subst (λ n. has_label rows n ≡ true) (sym (label-labelled_out sp lb (ring sp a) c n)) (A.table.labels_there c k)
+      table = table_kept sp like_b known rows A.table (AreRings-labelled sp A.table.rings a label_b a_there) (λ c h. let k = sym (live-labelled sp label_b (ring sp a) c) ∙ h in elim (IsIn_or_not c (ring sp a)) [
+        | inl i ↦ subst (λ n. has_label rows n ≡ true) (sym (label-labelled_in sp label_b (ring sp a) c i k)) (A.table.labels_there b b_there)
+        | inr n ↦ subst (λ n. has_label rows n ≡ true) (sym (label-labelled_out sp label_b (ring sp a) c n)) (A.table.labels_there c k)
       ]);
-      a_there = live-labelled sp lb (ring sp a) a ∙ a_there;
-      b_there = live-labelled sp lb (ring sp a) b ∙ b_there;
+      a_there = live-labelled sp label_b (ring sp a) a ∙ a_there;
+      b_there = live-labelled sp label_b (ring sp a) b ∙ b_there;
       apart = ap (count b) (like_b_rings a) ∙ b_apart;
       one = like_b_b ∙ sym like_b_a;
       held = inr (subst (λ hs. IsIn (holder rows (label like_b a)) hs) (sym (like_b_rings b)) (subst (λ n. IsIn (holder rows n) (ring sp b)) (sym like_b_a) (A.held b b_there)));
       others = λ c h n m.
-          let k = sym (live-labelled sp lb (ring sp a) c) ∙ h in
+          let k = sym (live-labelled sp label_b (ring sp a) c) ∙ h in
           let out : count c (ring sp a) ≡ 0 = sym (ap (count c) (like_b_rings a)) ∙ n in
-          subst (λ hs. IsIn (holder rows (label like_b c)) hs) (sym (like_b_rings c)) (subst (λ l. IsIn (holder rows l) (ring sp c)) (sym (label-labelled_out sp lb (ring sp a) c out)) (A.held c k));
+          subst (λ hs. IsIn (holder rows (label like_b c)) hs) (sym (like_b_rings c)) (subst (λ l. IsIn (holder rows l) (ring sp c)) (sym (label-labelled_out sp label_b (ring sp a) c out)) (A.held c k));
     }
 
     -- that of b
@@ -130,7 +130,7 @@ module _ (sp : Spots) (known : ℕ → Bool) (rows : List (Option Label)) (A : A
     share-label new known' is same = subst (λ k. ShareLabel new k rows a b) (sym same) (subst (λ s. ShareLabel s known rows a b) (sym is) shared)
 
     relabelled-share : (new : Spots) → new ≡ labelled sp (label sp b) (ring sp a) → IsRelabelled sp new a b
-    relabelled-share new is = subst (λ s. IsRelabelled sp s a b) (sym is) (record { same = blank-labelled sp lb (ring sp a); others = λ q h n m. label-labelled_out sp lb (ring sp a) q n })
+    relabelled-share new is = subst (λ s. IsRelabelled sp s a b) (sym is) (record { same = blank-labelled sp label_b (ring sp a); others = λ q h n m. label-labelled_out sp label_b (ring sp a) q n })
 
 -- which of the two comes first is the same
 pub share_turned : (sp : Spots) (known : ℕ → Bool) (rows : List (Option Label)) (a b : ℕ) → ShareLabel sp known rows a b → ShareLabel sp known rows b a
@@ -160,80 +160,80 @@ module _ (sp : Spots) (known : ℕ → Bool) (rows : List (Option Label)) (A : A
   relabelled-one new (inr is) = relabelled_turned sp new b a (relabelled-share sp known rows A b a b_there a_there (λ e. other (sym e)) new is)
 
 module _ (sp : Spots) (known : ℕ → Bool) (rows : List (Option Label)) (a b : ℕ) (S : ShareLabel sp known rows a b) where
-  abbrev x : ℕ
-  x = label sp b
+  abbrev shared_label : ℕ
+  shared_label = label sp b
 
-  whose : (c : ℕ) → live sp c ≡ true → IsIn (holder rows x) (ring sp c) → IsIn c (ring sp a) ⊎ IsIn c (ring sp b)
+  whose : (c : ℕ) → live sp c ≡ true → IsIn (holder rows shared_label) (ring sp c) → IsIn c (ring sp a) ⊎ IsIn c (ring sp b)
   whose c h i = elim S.held [
-    | inl j ↦ inl (shared_item sp S.table.rings a c (holder rows x) S.a_there h (subst (λ n. IsIn (holder rows n) (ring sp a)) (sym S.one) j) i)
-    | inr j ↦ inr (shared_item sp S.table.rings b c (holder rows x) S.b_there h (subst (λ n. IsIn (holder rows n) (ring sp b)) (sym S.one) j) i)
+    | inl j ↦ inl (shared_item sp S.table.rings a c (holder rows shared_label) S.a_there h (subst (λ n. IsIn (holder rows n) (ring sp a)) (sym S.one) j) i)
+    | inr j ↦ inr (shared_item sp S.table.rings b c (holder rows shared_label) S.b_there h (subst (λ n. IsIn (holder rows n) (ring sp b)) (sym S.one) j) i)
   ]
 
   -- once b owns the label, a owns the one that it owned before, which wasn't that one
-  pub own_kept : (rows' : List (Option Label)) → ((q : ℕ) → own rows' q ≡ cond (nat_eq q b) x (cond (nat_eq q (holder rows x)) (own rows b) (own rows q))) → own rows a ≢ x → own rows' a ≡ own rows a
+  pub own_kept : (rows' : List (Option Label)) → ((q : ℕ) → own rows' q ≡ cond (nat_eq q b) shared_label (cond (nat_eq q (holder rows shared_label)) (own rows b) (own rows q))) → own rows a ≢ shared_label → own rows' a ≡ own rows a
   own_kept rows' own_is ne =
       let not_b : a ≢ b = λ e. let i : IsIn b (ring sp a) = subst (λ z. IsIn z (ring sp a)) e (S.table.rings.rings a S.a_there).item in absurd (omega (arith, i, S.apart)) in
-      own_is a ∙ ap (λ t. cond t x (cond (nat_eq a (holder rows x)) (own rows b) (own rows a))) (ne_eqb a b not_b)
-      ∙ ap (λ t. cond t (own rows b) (own rows a)) (ne_eqb a (holder rows x) (λ e. ne (ap (own rows) e ∙ S.table.owners.owned x (S.table.labels_there b S.b_there))))
+      own_is a ∙ ap (λ t. cond t shared_label (cond (nat_eq a (holder rows shared_label)) (own rows b) (own rows a))) (ne_eqb a b not_b)
+      ∙ ap (λ t. cond t (own rows b) (own rows a)) (ne_eqb a (holder rows shared_label) (λ e. ne (ap (own rows) e ∙ S.table.owners.owned shared_label (S.table.labels_there b S.b_there))))
 
   pub relabelled_part : (new : Spots) (l : ℕ) → new ≡ labelled sp l (ring sp a) → IsRelabelled sp new a b
   relabelled_part new l is = subst (λ s. IsRelabelled sp s a b) (sym is) (record { same = blank-labelled sp l (ring sp a); others = λ q h n m. label-labelled_out sp l (ring sp a) q n })
 
   -- the ring of b keeps the label, which b owns now, and the ring of a gets the label that a owns
   module _ (new : Spots) (rows' : List (Option Label)) (b_known : has_label rows b ≡ true) (a_known : has_label rows a ≡ true) (there : has_label rows' ≡ has_label rows)
-      (own_is : (q : ℕ) → own rows' q ≡ cond (nat_eq q b) x (cond (nat_eq q (holder rows x)) (own rows b) (own rows q)))
-      (holder_is : (q : ℕ) → holder rows' q ≡ cond (nat_eq q x) b (cond (nat_eq q (own rows b)) (holder rows x) (holder rows q)))
+      (own_is : (q : ℕ) → own rows' q ≡ cond (nat_eq q b) shared_label (cond (nat_eq q (holder rows shared_label)) (own rows b) (own rows q)))
+      (holder_is : (q : ℕ) → holder rows' q ≡ cond (nat_eq q shared_label) b (cond (nat_eq q (own rows b)) (holder rows shared_label) (holder rows q)))
       (is : new ≡ labelled sp (own rows' a) (ring sp a)) where
-    abbrev y : ℕ
-    y = own rows' a
+    abbrev own_a : ℕ
+    own_a = own rows' a
 
     owners' : AreOwned (own rows') (holder rows') (has_label rows)
-    owners' = handed_over (own rows) (holder rows) (has_label rows) S.table.owners (own rows') (holder rows') b x b_known (S.table.labels_there b S.b_there) own_is holder_is
+    owners' = handed_over (own rows) (holder rows) (has_label rows) S.table.owners (own rows') (holder rows') b shared_label b_known (S.table.labels_there b S.b_there) own_is holder_is
 
-    holder_of_x : holder rows' x ≡ b
-    holder_of_x = holder_x (own rows) (holder rows) (has_label rows) S.table.owners (own rows') (holder rows') b x b_known (S.table.labels_there b S.b_there) own_is holder_is
+    holder_of_x : holder rows' shared_label ≡ b
+    holder_of_x = holder_x (own rows) (holder rows) (has_label rows) S.table.owners (own rows') (holder rows') b shared_label b_known (S.table.labels_there b S.b_there) own_is holder_is
 
     abbrev now : Spots
-    now = labelled sp y (ring sp a)
+    now = labelled sp own_a (ring sp a)
 
     rings_are : (c : ℕ) → ring now c ≡ ring sp c
-    rings_are c = ring-labelled sp S.table.rings a y S.a_there c
+    rings_are c = ring-labelled sp S.table.rings a own_a S.a_there c
 
     live_are : (c : ℕ) → live now c ≡ live sp c
-    live_are c = live-labelled sp y (ring sp a) c
+    live_are c = live-labelled sp own_a (ring sp a) c
 
     holds : (c n : ℕ) → label now c ≡ n → IsIn (holder rows' n) (ring sp c) → IsIn (holder rows' (label now c)) (ring now c)
     holds c n e i = subst (λ hs. IsIn (holder rows' (label now c)) hs) (sym (rings_are c)) (subst (λ w. IsIn (holder rows' w) (ring sp c)) (sym e) i)
 
     held_in_a : (c : ℕ) → live sp c ≡ true → IsIn c (ring sp a) → IsIn (holder rows' (label now c)) (ring now c)
-    held_in_a c h i = holds c y (label-labelled_in sp y (ring sp a) c i h)
+    held_in_a c h i = holds c own_a (label-labelled_in sp own_a (ring sp a) c i h)
         (subst (λ w. IsIn w (ring sp c)) (sym (owners'.held a a_known)) (subst (IsIn a) (sym (ring_same sp S.table.rings a c S.a_there i)) (S.table.rings.rings a S.a_there).item))
 
     held_in_b : (c : ℕ) → live sp c ≡ true → count c (ring sp a) ≡ 0 → IsIn c (ring sp b) → IsIn (holder rows' (label now c)) (ring now c)
-    held_in_b c h n i = holds c x (label-labelled_out sp y (ring sp a) c n ∙ (S.table.rings.rings b S.b_there).one_label c i)
+    held_in_b c h n i = holds c shared_label (label-labelled_out sp own_a (ring sp a) c n ∙ (S.table.rings.rings b S.b_there).one_label c i)
         (subst (λ w. IsIn w (ring sp c)) (sym holder_of_x) (subst (IsIn b) (sym (ring_same sp S.table.rings b c S.b_there i)) (S.table.rings.rings b S.b_there).item))
 
     -- elsewhere each label has the holder that it had
     held_else : (c : ℕ) → live sp c ≡ true → count c (ring sp a) ≡ 0 → count c (ring sp b) ≡ 0 → IsIn (holder rows' (label now c)) (ring now c)
     held_else c h n m =
         let i : IsIn (holder rows (label sp c)) (ring sp c) = S.others c h n m in
-        let not_x : label sp c ≢ x = λ e. elim (whose c h (subst (λ w. IsIn (holder rows w) (ring sp c)) e i)) [ inl j ↦ absurd (omega arith) | inr j ↦ absurd (omega arith) ] in
+        let not_x : label sp c ≢ shared_label = λ e. elim (whose c h (subst (λ w. IsIn (holder rows w) (ring sp c)) e i)) [ inl j ↦ absurd (omega arith) | inr j ↦ absurd (omega arith) ] in
         let not_own : label sp c ≢ own rows b = λ e.
         let k : IsIn b (ring sp c) = subst (λ w. IsIn w (ring sp c)) (ap (holder rows) e ∙ S.table.owners.held b b_known) i in
         let j : IsIn c (ring sp b) = shared_item sp S.table.rings b c b S.b_there h (S.table.rings.rings b S.b_there).item k in
         absurd (omega arith) in
-        holds c (label sp c) (label-labelled_out sp y (ring sp a) c n)
-        (subst (λ w. IsIn w (ring sp c)) (sym (holder_other (own rows) (holder rows) (has_label rows) S.table.owners (own rows') (holder rows') b x b_known (S.table.labels_there b S.b_there) own_is holder_is (label sp c) not_x not_own)) i)
+        holds c (label sp c) (label-labelled_out sp own_a (ring sp a) c n)
+        (subst (λ w. IsIn w (ring sp c)) (sym (holder_other (own rows) (holder rows) (has_label rows) S.table.owners (own rows') (holder rows') b shared_label b_known (S.table.labels_there b S.b_there) own_is holder_is (label sp c) not_x not_own)) i)
 
     now_labelled : AreLabelled now known rows'
     now_labelled = record {
       table = record {
-        rings = AreRings-labelled sp S.table.rings a y S.a_there;
+        rings = AreRings-labelled sp S.table.rings a own_a S.a_there;
         owners = subst (λ t. AreOwned (own rows') (holder rows') t) (sym there) owners';
         codes_there = λ c k. ap (λ t. t c) there ∙ S.table.codes_there c k;
         labels_there = λ c h. let k = sym (live_are c) ∙ h in elim (IsIn_or_not c (ring sp a)) [
-          | inl i ↦ subst (λ n. has_label rows' n ≡ true) (sym (label-labelled_in sp y (ring sp a) c i k)) (ap (λ t. t y) there ∙ owners'.own_there a a_known)
-          | inr n ↦ subst (λ n. has_label rows' n ≡ true) (sym (label-labelled_out sp y (ring sp a) c n)) (ap (λ t. t (label sp c)) there ∙ S.table.labels_there c k)
+          | inl i ↦ subst (λ n. has_label rows' n ≡ true) (sym (label-labelled_in sp own_a (ring sp a) c i k)) (ap (λ t. t own_a) there ∙ owners'.own_there a a_known)
+          | inr n ↦ subst (λ n. has_label rows' n ≡ true) (sym (label-labelled_out sp own_a (ring sp a) c n)) (ap (λ t. t (label sp c)) there ∙ S.table.labels_there c k)
         ];
       };
       held = λ c h. let k = sym (live_are c) ∙ h in elim (IsIn_or_not c (ring sp a)) [

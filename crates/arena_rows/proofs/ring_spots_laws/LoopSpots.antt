@@ -35,16 +35,16 @@ blank-next None = refl
 blank-next (Some s) = refl
 
 pub blank-labelled : (sp : Spots) (l : ℕ) (hs : List ℕ) (q : ℕ) → but_label (labelled sp l hs q) ≡ but_label (sp q)
-blank-labelled sp l hs q = either but_label (is_in q hs) _ _ _ (go (sp q)) refl where
-  go : (o : Option Spot) → but_label (map_spot (λ s. record s { label = l }) o) ≡ but_label o
-  go None = refl
-  go (Some s) = refl
+blank-labelled sp l hs q = either but_label (is_in q hs) _ _ _ (blank-label (sp q)) refl where
+  blank-label : (o : Option Spot) → but_label (map_spot (λ s. record s { label = l }) o) ≡ but_label o
+  blank-label None = refl
+  blank-label (Some s) = refl
 
 pub blank-loops : (rows : List (Option Label)) (sp : Spots) (q : ℕ) → but_label (in_loops rows sp q) ≡ but_label (sp q)
-blank-loops rows sp q = go (sp q) where
-  go : (o : Option Spot) → but_label (map_spot (with_loop rows) o) ≡ but_label o
-  go None = refl
-  go (Some s) = refl
+blank-loops rows sp q = blank-with_loop (sp q) where
+  blank-with_loop : (o : Option Spot) → but_label (map_spot (with_loop rows) o) ≡ but_label o
+  blank-with_loop None = refl
+  blank-with_loop (Some s) = refl
 
 -- spots that differ in labels alone
 module _ (sp new : Spots) (same : (q : ℕ) → but_label (new q) ≡ but_label (sp q)) where
@@ -76,29 +76,29 @@ module _ (rows : List (Option Label)) (sp : Spots) where
   ring-loops = ring-alike sp (in_loops rows sp) (blank-loops rows sp)
 
   pub label-loops : (q : ℕ) → live sp q ≡ true → label (in_loops rows sp) q ≡ loop_at rows (label sp q)
-  label-loops q a = go (sp q) a where
-    go : (o : Option Spot) → is_some o ≡ true → or_zero (of_spot (λ s. s.label) (map_spot (with_loop rows) o)) ≡ loop_at rows (or_zero (of_spot (λ s. s.label) o))
-    go None e = absurd (true≢false (sym e))
-    go (Some s) e = refl
+  label-loops q a = label-with_loop (sp q) a where
+    label-with_loop : (o : Option Spot) → is_some o ≡ true → or_zero (of_spot (λ s. s.label) (map_spot (with_loop rows) o)) ≡ loop_at rows (or_zero (of_spot (λ s. s.label) o))
+    label-with_loop None e = absurd (true≢false (sym e))
+    label-with_loop (Some s) e = refl
 
   pub loops-set_tail : (h v : ℕ) → in_loops rows (set_tail sp h v) ≡ set_tail (in_loops rows sp) h v
-  loops-set_tail h v = λ i q. go (nat_eq q h) (sp q) i where
-    go : (b : Bool) (o : Option Spot) → map_spot (with_loop rows) (cond b (map_spot (λ s. record s { tail = v }) o) o) ≡ cond b (map_spot (λ s. record s { tail = v }) (map_spot (with_loop rows) o)) (map_spot (with_loop rows) o)
-    go true None = refl
-    go true (Some s) = refl
-    go false o = refl
+  loops-set_tail h v = λ i q. with_loop-tail (nat_eq q h) (sp q) i where
+    with_loop-tail : (b : Bool) (o : Option Spot) → map_spot (with_loop rows) (cond b (map_spot (λ s. record s { tail = v }) o) o) ≡ cond b (map_spot (λ s. record s { tail = v }) (map_spot (with_loop rows) o)) (map_spot (with_loop rows) o)
+    with_loop-tail true None = refl
+    with_loop-tail true (Some s) = refl
+    with_loop-tail false o = refl
 
   pub loops-asleep : (c : ℕ) → in_loops rows (asleep sp c) ≡ asleep (in_loops rows sp) c
-  loops-asleep c = λ i q. go (nat_eq q c) (sp q) i where
-    go : (b : Bool) (o : Option Spot) → map_spot (with_loop rows) (cond b None o) ≡ cond b None (map_spot (with_loop rows) o)
-    go true o = refl
-    go false o = refl
+  loops-asleep c = λ i q. with_loop-none (nat_eq q c) (sp q) i where
+    with_loop-none : (b : Bool) (o : Option Spot) → map_spot (with_loop rows) (cond b None o) ≡ cond b None (map_spot (with_loop rows) o)
+    with_loop-none true o = refl
+    with_loop-none false o = refl
 
   pub loops-spliced : (a b : ℕ) → in_loops rows (spliced sp a b) ≡ spliced (in_loops rows sp) a b
-  loops-spliced a b = (λ i q. go (splice (next sp) a b q) (sp q) i) ∙ ap (λ (f : ℕ → ℕ). with_links (in_loops rows sp) (splice f a b)) (λ i q. sym (next-loops q) i) where
-    go : (n : ℕ) (o : Option Spot) → map_spot (with_loop rows) (map_spot (λ s. record s { next = n }) o) ≡ map_spot (λ s. record s { next = n }) (map_spot (with_loop rows) o)
-    go n None = refl
-    go n (Some s) = refl
+  loops-spliced a b = (λ i q. with_loop-next (splice (next sp) a b q) (sp q) i) ∙ ap (λ (f : ℕ → ℕ). with_links (in_loops rows sp) (splice f a b)) (λ i q. sym (next-loops q) i) where
+    with_loop-next : (n : ℕ) (o : Option Spot) → map_spot (with_loop rows) (map_spot (λ s. record s { next = n }) o) ≡ map_spot (λ s. record s { next = n }) (map_spot (with_loop rows) o)
+    with_loop-next n None = refl
+    with_loop-next n (Some s) = refl
 
 -- the loops where labels change: the items of hs stand in loop l now, and the others where they stood
 pub loops-labelled : (sp new : Spots) (rows rows' : List (Option Label)) (l : ℕ) (hs : List ℕ) → ((q : ℕ) → but_label (new q) ≡ but_label (sp q)) → ((q : ℕ) → live sp q ≡ true → IsIn q hs → loop_at rows' (label new q) ≡ l) →
@@ -127,13 +127,13 @@ module _ (rows : List (Option Label)) (m : RingMap) where
   get-loops q = get-from_entries nat_cmp_total (map_rows (λ _ o. map_spot (with_loop rows) o) (rows_of m)).rows q ∙ get-map_rows (λ _ o. map_spot (with_loop rows) o) (rows_of m) q ∙ ap (option_map (map_spot (with_loop rows))) (sym (get-entries m q))
 
   pub spot-loops : spot (map_in_loops rows m) ≡ in_loops rows (spot m)
-  spot-loops = λ i q. (ap awake (get-loops q) ∙ go (get m q)) i where
-    go : (o : Option (Option Spot)) → awake (option_map (map_spot (with_loop rows)) o) ≡ map_spot (with_loop rows) (awake o)
-    go None = refl
-    go (Some o) = refl
+  spot-loops = λ i q. (ap awake (get-loops q) ∙ awake-mapped (get m q)) i where
+    awake-mapped : (o : Option (Option Spot)) → awake (option_map (map_spot (with_loop rows)) o) ≡ map_spot (with_loop rows) (awake o)
+    awake-mapped None = refl
+    awake-mapped (Some o) = refl
 
   pub known-loops : contains_key (map_in_loops rows m) ≡ contains_key m
-  known-loops = λ i q. (ap is_some (get-loops q) ∙ go (get m q)) i where
-    go : (o : Option (Option Spot)) → is_some (option_map (map_spot (with_loop rows)) o) ≡ is_some o
-    go None = refl
-    go (Some o) = refl
+  known-loops = λ i q. (ap is_some (get-loops q) ∙ is_some-mapped (get m q)) i where
+    is_some-mapped : (o : Option (Option Spot)) → is_some (option_map (map_spot (with_loop rows)) o) ≡ is_some o
+    is_some-mapped None = refl
+    is_some-mapped (Some o) = refl

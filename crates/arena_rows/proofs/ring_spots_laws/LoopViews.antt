@@ -11,11 +11,11 @@ use Rattle.arena_rows.proofs.ring_spots_laws.LoopSpots.{same_spots, blank-labell
 use Rattle.arena_rows.proofs.ring_spots_laws.LabelLaws.{share-cut}
 
 labelled-spliced : (sp : Spots) (l : ℕ) (hs : List ℕ) (a b : ℕ) → labelled (spliced sp a b) l hs ≡ spliced (labelled sp l hs) a b
-labelled-spliced sp l hs a b = (λ i q. go (is_in q hs) (splice (next sp) a b q) (sp q) i) ∙ ap (λ (f : ℕ → ℕ). with_links (labelled sp l hs) (splice f a b)) (λ i q. sym (next-labelled sp l hs q) i) where
-  go : (t : Bool) (n : ℕ) (o : Option Spot) → cond t (map_spot (λ s. record s { label = l }) (map_spot (λ s. record s { next = n }) o)) (map_spot (λ s. record s { next = n }) o) ≡ map_spot (λ s. record s { next = n }) (cond t (map_spot (λ s. record s { label = l }) o) o)
-  go true n None = refl
-  go true n (Some s) = refl
-  go false n o = refl
+labelled-spliced sp l hs a b = (λ i q. label_beside_next (is_in q hs) (splice (next sp) a b q) (sp q) i) ∙ ap (λ (f : ℕ → ℕ). with_links (labelled sp l hs) (splice f a b)) (λ i q. sym (next-labelled sp l hs q) i) where
+  label_beside_next : (t : Bool) (n : ℕ) (o : Option Spot) → cond t (map_spot (λ s. record s { label = l }) (map_spot (λ s. record s { next = n }) o)) (map_spot (λ s. record s { next = n }) o) ≡ map_spot (λ s. record s { next = n }) (cond t (map_spot (λ s. record s { label = l }) o) o)
+  label_beside_next true n None = refl
+  label_beside_next true n (Some s) = refl
+  label_beside_next false n o = refl
 
 module _ (sp now : Spots) (rows rows' : List (Option Label)) (a b kept : ℕ) (r : IsRelabelled sp now a b) (loops : loop_at rows' ≡ loop_at rows) (at_a : (q : ℕ) → live sp q ≡ true → IsIn q (ring sp a) → loop_at rows (label sp q) ≡ kept) where
   rings_are : (q : ℕ) → ring now q ≡ ring sp q

@@ -30,30 +30,30 @@ known_kept m c v k q = known-insert m c v q ∙ elim (eqb_tells q c) [
 ]
 
 pub live_known : (m : RingMap) (c : ℕ) → is_some (spot m c) ≡ true → contains_key m c ≡ true
-live_known m c e = go (get m c) e where
-  go : (o : Option (Option Spot)) → is_some (awake o) ≡ true → is_some o ≡ true
-  go None e = e
-  go (Some o) e = refl
+live_known m c e = awake_known (get m c) e where
+  awake_known : (o : Option (Option Spot)) → is_some (awake o) ≡ true → is_some o ≡ true
+  awake_known None e = e
+  awake_known (Some o) e = refl
 
 module _ (m : RingMap) (c : ℕ) (f : Spot → Spot) where
   -- f of what stands at a live code
   pub spot-with : (q : ℕ) → spot (with_spot m c f) q ≡ cond (nat_eq q c) (map_spot f (spot m q)) (spot m q)
-  spot-with q = go (spot m c) refl where
-    go : (o : Option Spot) → spot m c ≡ o → spot (put_spot m c f o) q ≡ cond (nat_eq q c) (map_spot f (spot m q)) (spot m q)
-    go None e = elim (eqb_tells q c) [
+  spot-with q = spot-put_spot (spot m c) refl where
+    spot-put_spot : (o : Option Spot) → spot m c ≡ o → spot (put_spot m c f o) q ≡ cond (nat_eq q c) (map_spot f (spot m q)) (spot m q)
+    spot-put_spot None e = elim (eqb_tells q c) [
       | inl p ↦ ap (spot m) p.1 ∙ e ∙ sym (ap (λ b. cond b (map_spot f (spot m q)) (spot m q)) p.0 ∙ ap (map_spot f) (ap (spot m) p.1 ∙ e))
       | inr p ↦ sym (ap (λ b. cond b (map_spot f (spot m q)) (spot m q)) p.0)
     ]
-    go (Some s) e = spot-insert m c (Some (f s)) q ∙ elim (eqb_tells q c) [
+    spot-put_spot (Some s) e = spot-insert m c (Some (f s)) q ∙ elim (eqb_tells q c) [
       | inl p ↦ ap (λ b. cond b (Some (f s)) (spot m q)) p.0 ∙ sym (ap (λ b. cond b (map_spot f (spot m q)) (spot m q)) p.0 ∙ ap (map_spot f) (ap (spot m) p.1 ∙ e))
       | inr p ↦ ap (λ b. cond b (Some (f s)) (spot m q)) p.0 ∙ sym (ap (λ b. cond b (map_spot f (spot m q)) (spot m q)) p.0)
     ]
 
   pub known-with : (q : ℕ) → contains_key (with_spot m c f) q ≡ contains_key m q
-  known-with q = go (spot m c) refl where
-    go : (o : Option Spot) → spot m c ≡ o → contains_key (put_spot m c f o) q ≡ contains_key m q
-    go None e = refl
-    go (Some s) e = known_kept m c (Some (f s)) (live_known m c (ap is_some e)) q
+  known-with q = known-put_spot (spot m c) refl where
+    known-put_spot : (o : Option Spot) → spot m c ≡ o → contains_key (put_spot m c f o) q ≡ contains_key m q
+    known-put_spot None e = refl
+    known-put_spot (Some s) e = known_kept m c (Some (f s)) (live_known m c (ap is_some e)) q
 
 same_next : (o : Option Spot) → map_spot (λ s. record s { next = or_zero (of_spot (λ s. s.next) o) }) o ≡ o
 same_next None = refl
@@ -104,41 +104,41 @@ known-empty q = ap is_some (map.get-empty nat_cmp q)
 
 -- a code made known
 pub spot-room : (m : RingMap) (c : ℕ) → spot (with_room m c) ≡ spot m
-spot-room m c = λ i q. go (contains_key m c) refl q i where
+spot-room m c = λ i q. spot_stays (contains_key m c) refl q i where
   dead : contains_key m c ≡ false → spot m c ≡ None
-  dead k = sub (get m c) k where
-    sub : (o : Option (Option Spot)) → is_some o ≡ false → awake o ≡ None
-    sub None e = refl
-    sub (Some o) e = absurd (true≢false e)
+  dead k = unknown_dead (get m c) k where
+    unknown_dead : (o : Option (Option Spot)) → is_some o ≡ false → awake o ≡ None
+    unknown_dead None e = refl
+    unknown_dead (Some o) e = absurd (true≢false e)
 
-  go : (b : Bool) → contains_key m c ≡ b → (q : ℕ) → spot (cond b m (insert m c None)) q ≡ spot m q
-  go true e q = refl
-  go false e q = spot-insert m c None q ∙ elim (eqb_tells q c) [
+  spot_stays : (b : Bool) → contains_key m c ≡ b → (q : ℕ) → spot (cond b m (insert m c None)) q ≡ spot m q
+  spot_stays true e q = refl
+  spot_stays false e q = spot-insert m c None q ∙ elim (eqb_tells q c) [
     | inl p ↦ ap (λ b. cond b None (spot m q)) p.0 ∙ sym (ap (spot m) p.1 ∙ dead e)
     | inr p ↦ ap (λ b. cond b None (spot m q)) p.0
   ]
 
 pub known-room : (m : RingMap) (c q : ℕ) → contains_key m q ≡ true → contains_key (with_room m c) q ≡ true
-known-room m c q k = go (contains_key m c) where
-  yes : (b : Bool) → cond b true true ≡ true
-  yes true = refl
-  yes false = refl
+known-room m c q k = known_stays (contains_key m c) where
+  true_anyway : (b : Bool) → cond b true true ≡ true
+  true_anyway true = refl
+  true_anyway false = refl
 
-  go : (b : Bool) → contains_key (cond b m (insert m c None)) q ≡ true
-  go true = k
-  go false = known-insert m c None q ∙ ap (cond (nat_eq q c) true) k ∙ yes (nat_eq q c)
+  known_stays : (b : Bool) → contains_key (cond b m (insert m c None)) q ≡ true
+  known_stays true = k
+  known_stays false = known-insert m c None q ∙ ap (cond (nat_eq q c) true) k ∙ true_anyway (nat_eq q c)
 
 pub known-room_other : (m : RingMap) (c q : ℕ) → q ≢ c → contains_key (with_room m c) q ≡ contains_key m q
-known-room_other m c q ne = go (contains_key m c) where
-  go : (b : Bool) → contains_key (cond b m (insert m c None)) q ≡ contains_key m q
-  go true = refl
-  go false = known-insert m c None q ∙ ap (λ b. cond b true (contains_key m q)) (ne_eqb q c ne)
+known-room_other m c q ne = others_known (contains_key m c) where
+  others_known : (b : Bool) → contains_key (cond b m (insert m c None)) q ≡ contains_key m q
+  others_known true = refl
+  others_known false = known-insert m c None q ∙ ap (λ b. cond b true (contains_key m q)) (ne_eqb q c ne)
 
 pub known_now : (m : RingMap) (c : ℕ) → contains_key (with_room m c) c ≡ true
-known_now m c = go (contains_key m c) refl where
-  go : (b : Bool) → contains_key m c ≡ b → contains_key (cond b m (insert m c None)) c ≡ true
-  go true e = e
-  go false e = known-insert m c None c ∙ ap (λ b. cond b true (contains_key m c)) (eq-eqb c c refl)
+known_now m c = code_known (contains_key m c) refl where
+  code_known : (b : Bool) → contains_key m c ≡ b → contains_key (cond b m (insert m c None)) c ≡ true
+  code_known true e = e
+  code_known false e = known-insert m c None c ∙ ap (λ b. cond b true (contains_key m c)) (eq-eqb c c refl)
 
 -- after a call of `room`, whatever it answers
 pub room_spots : {E : Type 0} (m new : RingMap) (c : ℕ) (r : Result (Unit {0}) E) → OnOk r (new ≡ with_room m c) → OnErr r (new ≡ m) → spot new ≡ spot m
@@ -159,7 +159,7 @@ room_ok m new c (Err e) ok = tt
 
 -- a live code's successor
 pub next_some : (m : RingMap) (c : ℕ) → is_some (spot m c) ≡ true → next_of m c ≡ Some (next (spot m) c)
-next_some m c a = go (spot m c) a where
-  go : (o : Option Spot) → is_some o ≡ true → of_spot (λ s. s.next) o ≡ Some (or_zero (of_spot (λ s. s.next) o))
-  go None e = absurd (true≢false (sym e))
-  go (Some s) e = refl
+next_some m c a = next_told (spot m c) a where
+  next_told : (o : Option Spot) → is_some o ≡ true → of_spot (λ s. s.next) o ≡ Some (or_zero (of_spot (λ s. s.next) o))
+  next_told None e = absurd (true≢false (sym e))
+  next_told (Some s) e = refl

@@ -46,10 +46,10 @@ module _ (rows : List (Option Label)) (m : RingMap) where
   seen_tail q = ap (λ (s : Spots). of_spot (λ (t : Spot). t.tail) (s q)) (spot-loops rows m) ∙ same_tails (spot m q)
 
   pub seen_label_of : (q l : ℕ) → live (spot m) q ≡ true → l ≡ loop_at rows (label (spot m) q) → label_of (map_in_loops rows m) q ≡ Some l
-  seen_label_of q l a e = ap (λ (s : Spots). of_spot (λ (t : Spot). t.label) (s q)) (spot-loops rows m) ∙ go (spot m q) a e where
-    go : (o : Option Spot) → is_some o ≡ true → l ≡ loop_at rows (or_zero (of_spot (λ s. s.label) o)) → of_spot (λ s. s.label) (map_spot (with_loop rows) o) ≡ Some l
-    go None h e = absurd (true≢false (sym h))
-    go (Some s) h e = ap Some (sym e)
+  seen_label_of q l a e = ap (λ (s : Spots). of_spot (λ (t : Spot). t.label) (s q)) (spot-loops rows m) ∙ label-with_loop (spot m q) a e where
+    label-with_loop : (o : Option Spot) → is_some o ≡ true → l ≡ loop_at rows (or_zero (of_spot (λ s. s.label) o)) → of_spot (λ s. s.label) (map_spot (with_loop rows) o) ≡ Some l
+    label-with_loop None h e = absurd (true≢false (sym h))
+    label-with_loop (Some s) h e = ap Some (sym e)
 
   pub seen_permutation : IsPermutation m → IsPermutation (map_in_loops rows m)
   seen_permutation P = record {

@@ -33,16 +33,16 @@ some_both None o h k = absurd (true≢false (sym h))
 
 module _ (sp : Spots) (R : AreRings sp) where
   none_far : (e : ℕ) → codes ≤ e → edge_row sp e ≡ None
-  none_far e h = go (sp (plus e)) refl where
-    go : (o : Option Spot) → sp (plus e) ≡ o → both_tails o (sp (minus e)) ≡ None
-    go None q = refl
-    go (Some s) q = let b = R.bound (plus e) (ap is_some q) in absurd (omega arith)
+  none_far e h = no_far_edge (sp (plus e)) refl where
+    no_far_edge : (o : Option Spot) → sp (plus e) ≡ o → both_tails o (sp (minus e)) ≡ None
+    no_far_edge None q = refl
+    no_far_edge (Some s) q = let b = R.bound (plus e) (ap is_some q) in absurd (omega arith)
 
   pub edges_at : (e : ℕ) → get (tabulate (edge_row sp) codes) e ≡ edge_row sp e
-  edges_at e = get-tabulate (edge_row sp) codes e ∙ go (nat_lt e codes) refl where
-    go : (b : Bool) → nat_lt e codes ≡ b → cond b (edge_row sp e) None ≡ edge_row sp e
-    go true q = refl
-    go false q = let p : codes ≤ e = grind (arith, nat_tests) in sym (none_far e p)
+  edges_at e = get-tabulate (edge_row sp) codes e ∙ edge_row_bounded (nat_lt e codes) refl where
+    edge_row_bounded : (b : Bool) → nat_lt e codes ≡ b → cond b (edge_row sp e) None ≡ edge_row sp e
+    edge_row_bounded true q = refl
+    edge_row_bounded false q = let p : codes ≤ e = grind (arith, nat_tests) in sym (none_far e p)
 
   pub edge_live : (e : ℕ) → is_some (get (tabulate (edge_row sp) codes) e) ≡ true → (live sp (plus e) ≡ true) × (live sp (minus e) ≡ true)
   edge_live e h = both_some (sp (plus e)) (sp (minus e)) (sym (ap is_some (edges_at e)) ∙ h)
@@ -60,16 +60,16 @@ module _ (sp : Spots) (R : AreRings sp) where
   row_live h a = let both = both_live h a in some_both (sp (plus (edge_of h))) (sp (minus (edge_of h))) both.0 both.1
 
   loose_far : (k : ℕ) → codes ≤ k → loose_row sp k ≡ None
-  loose_far k h = go (live sp k) refl where
-    go : (b : Bool) → live sp k ≡ b → cond (b && (nat_eq (label sp k) 0 && nat_eq (head_or 0 (ring sp k)) k)) (Some (ring sp k)) None ≡ None
-    go true q = let b = R.bound k q in absurd (omega arith)
-    go false q = refl
+  loose_far k h = no_far_ring (live sp k) refl where
+    no_far_ring : (b : Bool) → live sp k ≡ b → cond (b && (nat_eq (label sp k) 0 && nat_eq (head_or 0 (ring sp k)) k)) (Some (ring sp k)) None ≡ None
+    no_far_ring true q = let b = R.bound k q in absurd (omega arith)
+    no_far_ring false q = refl
 
   pub loose_at : (k : ℕ) → get (tabulate (loose_row sp) codes) k ≡ loose_row sp k
-  loose_at k = get-tabulate (loose_row sp) codes k ∙ go (nat_lt k codes) refl where
-    go : (b : Bool) → nat_lt k codes ≡ b → cond b (loose_row sp k) None ≡ loose_row sp k
-    go true q = refl
-    go false q = let p : codes ≤ k = grind (arith, nat_tests) in sym (loose_far k p)
+  loose_at k = get-tabulate (loose_row sp) codes k ∙ loose_row_bounded (nat_lt k codes) refl where
+    loose_row_bounded : (b : Bool) → nat_lt k codes ≡ b → cond b (loose_row sp k) None ≡ loose_row sp k
+    loose_row_bounded true q = refl
+    loose_row_bounded false q = let p : codes ≤ k = grind (arith, nat_tests) in sym (loose_far k p)
 
   pub head_in : (h : ℕ) → live sp h ≡ true → IsIn (head_or 0 (ring sp h)) (ring sp h)
   head_in h a =
@@ -81,11 +81,11 @@ module _ (sp : Spots) (R : AreRings sp) where
       (ap (λ b. b && (nat_eq (label sp k) 0 && nat_eq (head_or 0 (ring sp k)) k)) a ∙ ap (λ b. b && nat_eq (head_or 0 (ring sp k)) k) (eq-eqb (label sp k) 0 z) ∙ eq-eqb (head_or 0 (ring sp k)) k e)
 
   pub loose_row_means : (k : ℕ) (hs : List ℕ) → loose_row sp k ≡ Some hs → (live sp k ≡ true) × (label sp k ≡ 0) × (head_or 0 (ring sp k) ≡ k) × (ring sp k ≡ hs)
-  loose_row_means k hs is = go (live sp k && (nat_eq (label sp k) 0 && nat_eq (head_or 0 (ring sp k)) k)) refl is where
-    go : (b : Bool) → live sp k && (nat_eq (label sp k) 0 && nat_eq (head_or 0 (ring sp k)) k) ≡ b → cond b (Some (ring sp k)) None ≡ Some hs → (live sp k ≡ true) × (label sp k ≡ 0) × (head_or 0 (ring sp k) ≡ k) × (ring sp k ≡ hs)
-    go true e s = let r = and_second (live sp k) _ e in
+  loose_row_means k hs is = test_means (live sp k && (nat_eq (label sp k) 0 && nat_eq (head_or 0 (ring sp k)) k)) refl is where
+    test_means : (b : Bool) → live sp k && (nat_eq (label sp k) 0 && nat_eq (head_or 0 (ring sp k)) k) ≡ b → cond b (Some (ring sp k)) None ≡ Some hs → (live sp k ≡ true) × (label sp k ≡ 0) × (head_or 0 (ring sp k) ≡ k) × (ring sp k ≡ hs)
+    test_means true e s = let r = and_second (live sp k) _ e in
         (and_first (live sp k) _ e, eqb-true _ _ (and_first (nat_eq (label sp k) 0) _ r), eqb-true _ _ (and_second (nat_eq (label sp k) 0) _ r), same_Some _ _ s)
-    go false e s = cc
+    test_means false e s = cc
 
   -- the loose ring of a live code that is in no loop
   module _ (h : ℕ) (a : live sp h ≡ true) (z : label sp h ≡ 0) where
@@ -139,30 +139,30 @@ tails-spliced sp a b q = tails-next _ (sp q)
 -- ---- loose rings
 
 pub loose_none : (sp : Spots) (k : ℕ) → label sp k ≢ 0 → loose_row sp k ≡ None
-loose_none sp k n = ap (λ b. cond (live sp k && (b && nat_eq (head_or 0 (ring sp k)) k)) (Some (ring sp k)) None) (ne_eqb (label sp k) 0 n) ∙ go (live sp k) where
-  go : (b : Bool) → cond (b && false) (Some (ring sp k)) None ≡ None
-  go true = refl
-  go false = refl
+loose_none sp k n = ap (λ b. cond (live sp k && (b && nat_eq (head_or 0 (ring sp k)) k)) (Some (ring sp k)) None) (ne_eqb (label sp k) 0 n) ∙ none_unless_loose (live sp k) where
+  none_unless_loose : (b : Bool) → cond (b && false) (Some (ring sp k)) None ≡ None
+  none_unless_loose true = refl
+  none_unless_loose false = refl
 
 pub loose_dead : (sp : Spots) (k : ℕ) → live sp k ≡ false → loose_row sp k ≡ None
 loose_dead sp k n = ap (λ b. cond (b && (nat_eq (label sp k) 0 && nat_eq (head_or 0 (ring sp k)) k)) (Some (ring sp k)) None) n
 
 pub loose_later : (sp : Spots) (k : ℕ) → head_or 0 (ring sp k) ≢ k → loose_row sp k ≡ None
-loose_later sp k n = ap (λ b. cond (live sp k && (nat_eq (label sp k) 0 && b)) (Some (ring sp k)) None) (ne_eqb (head_or 0 (ring sp k)) k n) ∙ go (live sp k) (nat_eq (label sp k) 0) where
-  go : (b d : Bool) → cond (b && (d && false)) (Some (ring sp k)) None ≡ None
-  go true true = refl
-  go true false = refl
-  go false d = refl
+loose_later sp k n = ap (λ b. cond (live sp k && (nat_eq (label sp k) 0 && b)) (Some (ring sp k)) None) (ne_eqb (head_or 0 (ring sp k)) k n) ∙ none_unless_first (live sp k) (nat_eq (label sp k) 0) where
+  none_unless_first : (b d : Bool) → cond (b && (d && false)) (Some (ring sp k)) None ≡ None
+  none_unless_first true true = refl
+  none_unless_first true false = refl
+  none_unless_first false d = refl
 
 pub loose_alike : (sp new : Spots) (k : ℕ) → live new k ≡ live sp k → label new k ≡ label sp k → ring new k ≡ ring sp k → loose_row new k ≡ loose_row sp k
 loose_alike sp new k a l r = λ i. cond (a i && (nat_eq (l i) 0 && nat_eq (head_or 0 (r i)) k)) (Some (r i)) None
 
 -- or the code is dead still
 pub loose_kept : (sp new : Spots) (k : ℕ) → live new k ≡ live sp k → (live sp k ≡ true → (label new k ≡ label sp k) × (ring new k ≡ ring sp k)) → loose_row new k ≡ loose_row sp k
-loose_kept sp new k a same = go (live sp k) refl where
-  go : (b : Bool) → live sp k ≡ b → loose_row new k ≡ loose_row sp k
-  go true h = let e = same h in loose_alike sp new k a e.0 e.1
-  go false h = loose_dead new k (a ∙ h) ∙ sym (loose_dead sp k h)
+loose_kept sp new k a same = row_kept (live sp k) refl where
+  row_kept : (b : Bool) → live sp k ≡ b → loose_row new k ≡ loose_row sp k
+  row_kept true h = let e = same h in loose_alike sp new k a e.0 e.1
+  row_kept false h = loose_dead new k (a ∙ h) ∙ sym (loose_dead sp k h)
 
 pub loose_same : (sp new : Spots) → ((k : ℕ) → loose_row new k ≡ loose_row sp k) → tabulate (loose_row new) codes ≡ tabulate (loose_row sp) codes
 loose_same sp new e = ap (λ (f : ℕ → Option (List ℕ)). tabulate f codes) (λ i k. e k i)
@@ -171,13 +171,13 @@ loose_same sp new e = ap (λ (f : ℕ → Option (List ℕ)). tabulate f codes) 
 pub loose_put : (sp new : Spots) → AreRings sp → (N : AreRings new) → (c : ℕ) (hs : List ℕ) → (a : live new c ≡ true) → (z : label new c ≡ 0) → ring new c ≡ hs → ((k : ℕ) → IsIn k hs → loose_row sp k ≡ None) → ((k : ℕ) → count k hs ≡ 0 → loose_row new k ≡ loose_row sp k) →
     tabulate (loose_row new) codes ≡ put (tabulate (loose_row sp) codes) (head_or 0 hs) hs
 loose_put sp new R N c hs a z e inside outside =
-    same_table (tabulate (loose_row new) codes) (put (tabulate (loose_row sp) codes) (head_or 0 hs) hs) (λ k. loose_at new N k ∙ go k ∙ sym (get-put (tabulate (loose_row sp) codes) (head_or 0 hs) hs k ∙ ap (cond (nat_eq k (head_or 0 hs)) (Some hs)) (loose_at sp R k)))
+    same_table (tabulate (loose_row new) codes) (put (tabulate (loose_row sp) codes) (head_or 0 hs) hs) (λ k. loose_at new N k ∙ row_put k ∙ sym (get-put (tabulate (loose_row sp) codes) (head_or 0 hs) hs k ∙ ap (cond (nat_eq k (head_or 0 hs)) (Some hs)) (loose_at sp R k)))
   where
     front : loose_row new (head_or 0 hs) ≡ Some hs
     front = subst (λ w. loose_row new (head_or 0 w) ≡ Some w) e (front_row new N c a z)
 
-    go : (k : ℕ) → loose_row new k ≡ cond (nat_eq k (head_or 0 hs)) (Some hs) (loose_row sp k)
-    go k = elim (eqb_tells k (head_or 0 hs)) [
+    row_put : (k : ℕ) → loose_row new k ≡ cond (nat_eq k (head_or 0 hs)) (Some hs) (loose_row sp k)
+    row_put k = elim (eqb_tells k (head_or 0 hs)) [
       | inl p ↦ ap (loose_row new) p.1 ∙ front ∙ sym (ap (λ b. cond b (Some hs) (loose_row sp k)) p.0)
       | inr p ↦ elim (IsIn_or_not k hs) [
         | inl i ↦
@@ -190,9 +190,9 @@ loose_put sp new R N c hs a z e inside outside =
 -- the ring of c was loose, and its items are in none now
 pub loose_removed : (sp new : Spots) → (R : AreRings sp) → AreRings new → (c : ℕ) → (a : live sp c ≡ true) → ((k : ℕ) → IsIn k (ring sp c) → loose_row new k ≡ None) → ((k : ℕ) → count k (ring sp c) ≡ 0 → loose_row new k ≡ loose_row sp k) →
     tabulate (loose_row new) codes ≡ remove (tabulate (loose_row sp) codes) (head_or 0 (ring sp c))
-loose_removed sp new R N c a inside outside = same_table (tabulate (loose_row new) codes) (remove (tabulate (loose_row sp) codes) (head_or 0 (ring sp c))) (λ k. loose_at new N k ∙ go k ∙ sym (get-remove (tabulate (loose_row sp) codes) (head_or 0 (ring sp c)) k ∙ ap (cond (nat_eq k (head_or 0 (ring sp c))) None) (loose_at sp R k))) where
-  go : (k : ℕ) → loose_row new k ≡ cond (nat_eq k (head_or 0 (ring sp c))) None (loose_row sp k)
-  go k = elim (eqb_tells k (head_or 0 (ring sp c))) [
+loose_removed sp new R N c a inside outside = same_table (tabulate (loose_row new) codes) (remove (tabulate (loose_row sp) codes) (head_or 0 (ring sp c))) (λ k. loose_at new N k ∙ row_removed k ∙ sym (get-remove (tabulate (loose_row sp) codes) (head_or 0 (ring sp c)) k ∙ ap (cond (nat_eq k (head_or 0 (ring sp c))) None) (loose_at sp R k))) where
+  row_removed : (k : ℕ) → loose_row new k ≡ cond (nat_eq k (head_or 0 (ring sp c))) None (loose_row sp k)
+  row_removed k = elim (eqb_tells k (head_or 0 (ring sp c))) [
     | inl p ↦ inside k (subst (λ z. IsIn z (ring sp c)) (sym p.1) (head_in sp R c a)) ∙ sym (ap (λ b. cond b None (loose_row sp k)) p.0)
     | inr p ↦ elim (IsIn_or_not k (ring sp c)) [
       | inl i ↦ inside k i ∙ sym (ap (λ b. cond b None (loose_row sp k)) p.0 ∙ loose_later sp k (λ q. p.1 (sym q ∙ ap (head_or 0) (ring_same sp R c k a i))))
@@ -210,10 +210,10 @@ edges_end_is = refl
 
 pub edge_below : (h : HalfEdge) → code h < codes → h.edge ≤ 1000000
 unfolding code
-edge_below h below = go h.first below where
-  go : (b : Bool) → cond b (2 * h.edge) (2 * h.edge + 1) < codes → h.edge ≤ 1000000
-  go true l = omega (arith, codes_are)
-  go false l = omega (arith, codes_are)
+edge_below h below = code_bounds_edge h.first below where
+  code_bounds_edge : (b : Bool) → cond b (2 * h.edge) (2 * h.edge + 1) < codes → h.edge ≤ 1000000
+  code_bounds_edge true l = omega (arith, codes_are)
+  code_bounds_edge false l = omega (arith, codes_are)
 
 some_some : (o p : Option Spot) → is_some p ≡ true → is_some (both_tails o p) ≡ is_some o
 some_some (Some s) (Some t) h = refl
@@ -221,19 +221,19 @@ some_some (Some s) None h = absurd (true≢false (sym h))
 some_some None p h = refl
 
 pub edge_has : (sp : Spots) → AreRings sp → (e : ℕ) → is_some (get (tabulate (edge_row sp) codes) e) ≡ nat_le e 1000000 && live sp (plus e)
-edge_has sp R e = ap is_some (edges_at sp R e) ∙ go (live sp (plus e)) refl where
+edge_has sp R e = ap is_some (edges_at sp R e) ∙ row_where_live (live sp (plus e)) refl where
   none_there : (o p : Option Spot) → is_some o ≡ false → is_some (both_tails o p) ≡ false
   none_there (Some s) p h = absurd (true≢false h)
   none_there None p h = refl
 
-  go : (b : Bool) → live sp (plus e) ≡ b → is_some (edge_row sp e) ≡ nat_le e 1000000 && b
-  go true h =
+  row_where_live : (b : Bool) → live sp (plus e) ≡ b → is_some (edge_row sp e) ≡ nat_le e 1000000 && b
+  row_where_live true h =
       let m : live sp (minus e) ≡ true = sym (ap (live sp) (mate_plus e)) ∙ R.mates (plus e) h in
       let below = R.bound (plus e) h in
       let l : e ≤ 1000000 = omega (arith, codes_are, below) in
       let t : nat_le e 1000000 ≡ true = grind (arith, nat_tests) in
       some_some (sp (plus e)) (sp (minus e)) m ∙ h ∙ sym (ap (λ b. b && true) t)
-  go false h = none_there (sp (plus e)) (sp (minus e)) h ∙ sym (and_false (nat_le e 1000000))
+  row_where_live false h = none_there (sp (plus e)) (sp (minus e)) h ∙ sym (and_false (nat_le e 1000000))
 
 within_both : (e : ℕ) → nat_lt e edges_end ≡ nat_le e 1000000
 within_both e = ap (nat_lt e) edges_end_is ∙ grind (arith, nat_tests)
@@ -250,7 +250,7 @@ pub edge_has_room : (known : ℕ → Bool) (e : ℕ) → is_some (get (tabulate 
 edge_has_room known e = ap is_some (get-tabulate (edge_room known) edges_end e) ∙ ap (λ b. is_some (cond b (edge_room known e) None)) (within_both e) ∙ tt_some (nat_le e 1000000) (nat_lt 0 e && (known (plus e) && known (minus e)))
 
 pub nothing : {X : Type 0} (f : ℕ → Option X) (n : ℕ) → ((q : ℕ) → f q ≡ None) → tabulate f n ≡ empty
-nothing f n none = same_table (tabulate f n) empty (λ q. get-tabulate f n q ∙ go (nat_lt q n) q ∙ sym (get-empty q)) where
-  go : (b : Bool) (q : ℕ) → cond b (f q) None ≡ None
-  go true q = none q
-  go false q = refl
+nothing f n none = same_table (tabulate f n) empty (λ q. get-tabulate f n q ∙ none_in_bounds (nat_lt q n) q ∙ sym (get-empty q)) where
+  none_in_bounds : (b : Bool) (q : ℕ) → cond b (f q) None ≡ None
+  none_in_bounds true q = none q
+  none_in_bounds false q = refl

@@ -14,8 +14,8 @@ pub round-init : goal.round-init
 round-init c = let sp = spot c.args.rings.now in record {
   round_a = c.walk-p.ensures.rings;
   round_b = c.walk-q.ensures.rings;
-  p = subst (λ (h : ℕ). live sp h ≡ true) (sym c.walk-p.ensures.code) c.requires.a;
-  q = subst (λ (h : ℕ). live sp h ≡ true) (sym c.walk-q.ensures.code) c.requires.b;
+  live_a = subst (λ (h : ℕ). live sp h ≡ true) (sym c.walk-p.ensures.code) c.requires.a;
+  live_b = subst (λ (h : ℕ). live sp h ≡ true) (sym c.walk-q.ensures.code) c.requires.b;
   from_a = subst (λ (h : ℕ). Counted sp c.args.a h 0 (codes - 0)) (sym c.walk-p.ensures.code) (counted_none sp c.requires.rings c.args.a (codes - 0) c.requires.a (omega arith));
   from_b = subst (λ (h : ℕ). Counted sp c.args.b h 0 (codes - 0)) (sym c.walk-q.ensures.code) (counted_none sp c.requires.rings c.args.b (codes - 0) c.requires.b (omega arith));
 }
@@ -44,8 +44,8 @@ pub round-preserved : goal.round-preserved
 round-preserved c = let sp = spot c.args.rings.now in record {
   round_a = c.step.ensures.rings ∙ c.round.invariant.round_a;
   round_b = c.step-in-round.ensures.rings ∙ c.round.invariant.round_b;
-  p = subst (λ (m : RingMap). live (spot m) c.step.new.self.code ≡ true) c.round.invariant.round_a (c.step.ensures.permutation.live _ _ c.step.ensures.next);
-  q = subst (λ (m : RingMap). live (spot m) c.step-in-round.new.self.code ≡ true) c.round.invariant.round_b (c.step-in-round.ensures.permutation.live _ _ c.step-in-round.ensures.next);
+  live_a = subst (λ (m : RingMap). live (spot m) c.step.new.self.code ≡ true) c.round.invariant.round_a (c.step.ensures.permutation.live _ _ c.step.ensures.next);
+  live_b = subst (λ (m : RingMap). live (spot m) c.step-in-round.new.self.code ≡ true) c.round.invariant.round_b (c.step-in-round.ensures.permutation.live _ _ c.step-in-round.ensures.next);
   from_a = counted_more sp c.args.a c.round.p.code c.step.new.self.code c.round.counter (codes - c.round.counter) (codes - (c.round.counter + 1)) (omega (arith, codes_are)) c.round.invariant.from_a (stepped _ _ _ _ _ c.round.invariant.round_a c.step.ensures.next refl) (λ e. c.if-step-a.false (c.step.ensures.code ∙ e));
   from_b = counted_more sp c.args.b c.round.q.code c.step-in-round.new.self.code c.round.counter (codes - c.round.counter) (codes - (c.round.counter + 1)) (omega (arith, codes_are)) c.round.invariant.from_b (stepped _ _ _ _ _ c.round.invariant.round_b c.step-in-round.ensures.next refl) (λ e. c.if-step-b.false (c.step-in-round.ensures.code ∙ e));
 }
