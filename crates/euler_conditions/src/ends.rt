@@ -1,5 +1,5 @@
 //! The tests of kev: the least parallel edge of an edge, and whether its kept end is bare.
-ghost use Rattle.std.specs.Prelude.{◌≡◌, true, cond};
+ghost use Rattle.std.specs.Prelude.{◌≡◌, ◌/◌, true, cond, nat_eq};
 ghost use Rattle.euler_operators.specs.Common.{code, edge_of, has_half, kept_end_bare, parallel};
 ghost use Rattle.halfedge_arena.specs.Store.{has_number};
 ghost use Rattle.euler_conditions.specs.Ready.{IsReady};
@@ -20,15 +20,6 @@ pub(crate) fn kept_end_bare(arena: &Arena, h: HalfEdge) -> bool
     halves::same(halves::next(arena, mate), h) && !halves::same(halves::next(arena, h), mate)
 }
 
-/// Whether the half-edge of the code `other` leads to the vertex `far`, by another edge than that of `code`. Few lead there, so the edge is
-/// asked for last.
-fn leads_to(arena: &Arena, code: u32, far: u32, other: u32) -> bool
-    requires { has_half arena.now.model other ≡ true }
-    ensures { result ≡ leads_to arena.now.model code far other }
-{
-    tail_of_code(arena, mate_code(other)) == far && other / 2 != code / 2
-}
-
 /// The lesser of two edges, where 0 is none.
 fn lesser(least: u32, edge: u32) -> u32
     ensures { result ≡ lesser least edge }
@@ -36,13 +27,26 @@ fn lesser(least: u32, edge: u32) -> u32
     if least == 0 { edge } else { least.min(edge) }
 }
 
+/// The lesser of `least` and the edge of the half-edge of `other`, or `least` where that is the edge of `code`. Few half-edges lead to the
+/// vertex that is looked for, so it is asked for apart from the walk.
+#[inline(never)]
+fn met(code: u32, least: u32, other: u32) -> u32
+    ensures { result ≡ cond (nat_eq (other / 2) (code / 2)) least (lesser least (other / 2)) }
+{
+    if other / 2 == code / 2 {
+        least
+    } else {
+        lesser(least, other / 2)
+    }
+}
+
 /// The lesser of `least` and the edge of the half-edge of `other`, where that leads to `far` by another edge than `code`, and else `least`.
 fn seen(arena: &Arena, code: u32, far: u32, least: u32, other: u32) -> u32
     requires { has_half arena.now.model other ≡ true }
     ensures { result ≡ cond (leads_to arena.now.model code far other) (lesser least (edge_of other)) least }
 {
-    if leads_to(arena, code, far, other) {
-        lesser(least, other / 2)
+    if tail_of_code(arena, mate_code(other)) == far {
+        met(code, least, other)
     } else {
         least
     }

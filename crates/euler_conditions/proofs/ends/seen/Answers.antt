@@ -1,6 +1,18 @@
-use Rattle.std.proofs.Common.{sym, ◌∙◌}
-use Rattle.euler_conditions.proofs.Known.{found_then}
+use Rattle.std.proofs.Common.{ap, ◌∙◌}
+use Rattle.euler_operators.specs.Common.{has_half, tail}
+use Rattle.euler_operators.proofs.Common.{mate_there}
+use Rattle.euler_conditions.proofs.Known.{found_then, found_else}
 use Rattle.euler_conditions.proofs.ends.seen.Goals as goal
 
-pub returns-then-leads_to : goal.returns-then-leads_to
-returns-then-leads_to c = found_then c.args.arena.now.model c.args.code c.args.far c.args.other c.args.least c.lesser.result (sym c.leads_to.ensures ∙ c.if-leads_to.true) c.lesser.ensures
+pub tail_of_code-requires : goal.tail_of_code-requires
+tail_of_code-requires c = let M = c.args.arena.now.model in ap (has_half M) c.mate_code.ensures ∙ mate_there M c.args.other c.requires
+
+pub returns-then-tail_of_code-far : goal.returns-then-tail_of_code-far
+returns-then-tail_of_code-far c =
+    let M = c.args.arena.now.model in
+    found_then M c.args.code c.args.other c.args.far c.args.least c.met.result c.tail_of_code.result (c.tail_of_code.ensures ∙ ap (tail M) c.mate_code.ensures) c.if-tail_of_code-far.true c.met.ensures
+
+pub returns-else-tail_of_code-far : goal.returns-else-tail_of_code-far
+returns-else-tail_of_code-far c =
+    let M = c.args.arena.now.model in
+    found_else M c.args.code c.args.other c.args.far c.args.least c.tail_of_code.result (c.tail_of_code.ensures ∙ ap (tail M) c.mate_code.ensures) c.if-tail_of_code-far.false
