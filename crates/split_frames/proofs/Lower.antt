@@ -1,14 +1,13 @@
 -- A face that straddles the plane keeps its number below it: of each pair of places between which it is drawn the second goes down, and the
 -- half-edge that starts there stays in the face.
-use Rattle.std.proofs.Common.{◌≡◌, ◌≢◌, ℕ, suc, ◌+◌, Bool, true, false, cond, ◌&&◌, ◌||◌, nat_eq, nat_lt, None, List, [], ◌∷◌, ◌++◌, length, fold, map, refl, sym, ap, subst, ◌∙◌, true≢false, inl, inr, arith}
+use Rattle.std.proofs.Common.{◌≡◌, ◌≢◌, ℕ, ◌+◌, Bool, true, false, cond, ◌&&◌, ◌||◌, nat_eq, nat_lt, None, List, [], ◌∷◌, ◌++◌, length, fold, map, refl, sym, ap, subst, ◌∙◌, true≢false, inl, inr, arith}
 use Rattle.std.proofs.lemmas.Bool.Decides.{eqb_tells, nat_tests}
 use Rattle.euler_operators.specs.Common.{IsIn, Plane, count, are_opposite, is_above, is_below, is_on, mate, Model, after, content, face_of, has_rings, items_of, loop_of, outer, point_of, tail, Sound, Has, HasHalf, face_at}
 use Rattle.euler_operators.proofs.Common.{cycle_there, loop_there, mate_there, same_outer, tick_other, tick_same}
 use Rattle.euler_laws.proofs.Common.{back_of, half_after, loop_after}
 use Rattle.euler_laws.proofs.faces.RingIn as moving
-use Rattle.shapes.specs.Common.{AreLeft, Drawing, FacePairs, all_drawn, all_joined, all_pairs, corners, drawn_between, drawn_pairs, finish, next_drawn, reaches_above, reaches_below, ring_free, rings_above, some_above, split_refusal, start, straddling_faces, straddling_pairs, stuck_at, undrawn, vertices_on, with_crossings, with_drawings, with_rings}
+use Rattle.shapes.specs.Common.{Drawing, FacePairs, all_drawn, all_joined, all_pairs, corners, drawn_between, drawn_pairs, finish, next_drawn, reaches_above, reaches_below, ring_free, rings_above, some_above, split_refusal, start, straddling_faces, straddling_pairs, stuck_at, undrawn, vertices_on, with_crossings, with_drawings, with_rings}
 use Rattle.split_drawing_laws.specs.crossings.Laws.{CanBegin}
-use Rattle.split_drawing_laws.specs.drawings.DrawnIn.{needed_for_pairs}
 use Rattle.split_drawing_laws.specs.drawings.Pairs.{AllFit, FacesFit, Fits, pairs_in}
 use Rattle.split_drawing_laws.specs.drawings.Passing.{Drawable, Ready}
 use Rattle.split_drawing_laws.specs.half_sides.HalfSides.{side_of}
@@ -17,13 +16,11 @@ use Rattle.split_drawing_laws.proofs.crossings.Premises.{any_passes, face_facts,
 use Rattle.split_drawing_laws.proofs.crossings.Whole.{crossings_keep, crossings_sound}
 use Rattle.split_drawing_laws.proofs.drawings.Counted.{faces_are}
 use Rattle.split_drawing_laws.proofs.drawings.Drawn.{CanDraw, face_drawn}
-use Rattle.split_drawing_laws.proofs.drawings.Faces.{begun_joining, drawn_is, fitting_on, going, going_on, joins, last, newer_face}
-use Rattle.split_drawing_laws.proofs.drawings.Pairs.{joined_drawn, none_joined, pair_can}
-use Rattle.split_drawing_laws.proofs.drawings.Passes.{can_now, draws_keep, edge_fits, face_fits, joins_keep, loop_fits, room_as}
+use Rattle.split_drawing_laws.proofs.drawings.Faces.{begun_joining, can_alone, drawn_is, fitting_on, going, going_on, joins, last, newer_face}
+use Rattle.split_drawing_laws.proofs.drawings.Passes.{can_now, draws_keep, joins_keep}
 use Rattle.split_drawing_laws.proofs.drawings.Rings.{face_else, place_is, ring_goes, ring_stays, rings_apart, rings_are, rings_keep}
-use Rattle.split_drawing_laws.proofs.drawings.Stays.{draw_beside, draw_stays}
+use Rattle.split_drawing_laws.proofs.drawings.Stays.{draw_beside, draw_stays, start_stays}
 use Rattle.split_drawing_laws.proofs.drawings.Whole.{drawable, drawable_on, next_is, ready}
-use Rattle.split_drawing_laws.proofs.drawn_volumes.Bounds.{start_still}
 use Rattle.split_drawing_laws.proofs.face_sides.Begun.{pairs_of, sided_first}
 use Rattle.split_drawing_laws.proofs.face_sides.Beside.{k_stays, old_loop_face, outer_kept}
 use Rattle.split_drawing_laws.proofs.face_sides.OneFace.{AllPairsOf, Stage, Untouched, loop_back, stage_on}
@@ -92,7 +89,7 @@ module _ (Low : ℕ → Type 0) (p : Plane) (f : ℕ) (q : ℕ × ℕ) (qs : Lis
   joined_low = let s = (joins p f (q ∷ qs) d n w).state.joined in record {
     half = q.1;
     low = low.0;
-    there = s.stays.halves q.1 w.fit.0.k_there;
+    there = s.drawn.stays.halves q.1 w.fit.0.k_there;
     face = s.faces q.1 w.fit.0.k_there ∙ w.fit.0.k_face;
   }
 
@@ -129,12 +126,8 @@ module _ (Low : ℕ → Type 0) (p : Plane) (f : ℕ) (q : ℕ × ℕ) (d : Draw
     outer_is : outer Y f ≡ outer X f
     face : face_of Y (outer X f) ≡ f
 
-  room_one : AreLeft d.taken (needed_for_pairs (suc n))
-  room_one = room_as d.taken (length (q ∷ []) + n) (suc n) (omega arith) w.room
-
   can : CanDraw X q.0 q.1 (d.taken.edge + 1) (d.taken.face + 1) (d.taken.loop + 1)
-  can = pair_can X X f q (d.taken.edge + 1) (d.taken.face + 1) (d.taken.loop + 1) w.sound (joined_drawn X X f (none_joined X f w.sound)) w.fit.0 w.alone (w.fresh.edges (d.taken.edge + 1) (omega arith)) (w.fresh.faces (d.taken.face + 1) (omega arith))
-      (w.fresh.loops (d.taken.loop + 1) (omega arith)) (edge_fits d.taken n room_one) (face_fits d.taken n room_one) (loop_fits d.taken n room_one)
+  can = can_alone p f q d n w
 
   stands_drawn : Stands E.model
   stands_drawn = let K = face_drawn X q.0 q.1 (d.taken.edge + 1) (d.taken.face + 1) (d.taken.loop + 1) in subst (λ x. Stands x.model) (sym (drawn_is p f q d n w)) (record {
@@ -304,7 +297,7 @@ module _ (M : Model) (s : ℕ) (p : Plane) (t : ℕ) (sound : Sound M) (accepted
     item = subst (λ l. IsIn (after D h) (items_of (content D l))) (loop_after D D_sound h now) (cycle_there D D_sound (after D h) (half_after D D_sound h now))
 
     end_is : finish D h ≡ finish C h
-    end_is = start_still C D C_sound (drawn_stays M s p t sound accepted) (mate h) (mate_there C h has)
+    end_is = start_stays C D (drawn_stays M s p t sound accepted) (mate h) (mate_there C h has)
 
     end_in : IsIn (tail D (mate h)) (corners D (face_at D h))
     end_in = subst (λ v. IsIn v (corners D (face_at D h))) (D_sound.ends_meet h now) (tail_in_face D (after D h) (loop_of D h) (loop_there D D_sound h now) item)

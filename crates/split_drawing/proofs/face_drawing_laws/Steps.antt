@@ -3,19 +3,20 @@ use Rattle.std.proofs.Common.{◌≡◌, ℕ, ◌+◌, ◌≤◌, true, false, L
 use Rattle.euler_operators.specs.Common.{Model, HasHalf, first_false, effect}
 use Rattle.shapes.specs.Common.{Drawing, in_one_loop, join_next, draw_next, stuck_at, join_pair, draw_pair}
 use Rattle.split_drawing_laws.proofs.drawings.Runs.{Leads}
-use Rattle.split_drawing_laws.proofs.drawings.Pairs.{pair_leads, pair_draws}
+use Rattle.split_drawing_laws.proofs.drawings.Pairs.{pair_leads}
+use Rattle.split_drawing_laws.proofs.drawings.Drawn.{draw_accepted}
 use Rattle.split_drawing_laws.specs.drawings.Passing.{Joining, Going}
-use Rattle.split_drawing_laws.proofs.drawings.Passes.{join_next_one, join_next_two, join_one, draw_next_one, draw_next_two, draw_one, cut_off, room_here, edge_free, edge_fits_now, edge_open, face_open, loop_open, edge_fits, face_fits, loop_fits}
+use Rattle.split_drawing_laws.proofs.drawings.Passes.{join_next_one, join_next_two, join_one, draw_next_one, draw_next_two, draw_one, can_now, edge_free, edge_fits_now}
 use Rattle.split_drawing.specs.face_drawing.Passes.{CanJoin, CanDraw}
 
 -- ---- the first pass
 
 module _ (f : ℕ) (d : Drawing) (q : ℕ × ℕ) (qs : List (ℕ × ℕ)) (w : CanJoin f d (q ∷ qs)) where
   pub join_up : HasHalf d.model q.0
-  join_up = w.joining.joined.stays.halves q.0 w.fit.0.u_there
+  join_up = w.joining.joined.drawn.stays.halves q.0 w.fit.0.u_there
 
   pub join_down : HasHalf d.model q.1
-  join_down = w.joining.joined.stays.halves q.1 w.fit.0.k_there
+  join_down = w.joining.joined.drawn.stays.halves q.1 w.fit.0.k_there
 
   pub join_left : d.taken.edge + 1 ≤ 1000000
   join_left = omega (arith, w.joining.room.edges)
@@ -83,15 +84,8 @@ module _ (f : ℕ) (d : Drawing) (q : ℕ × ℕ) (qs : List (ℕ × ℕ)) (w : 
 
   -- another cuts a new face off
   module _ (e : in_one_loop d.model q ≡ true) where
-    draws : Leads d.model (cut_off d q).model (draw_pair d.taken q ∷ [])
-    draws =
-        let room = room_here w.before f w.sound d q qs 0 w.fit.0 w.going in
-        pair_draws w.before d.model f q (d.taken.edge + 1) (d.taken.face + 1) (d.taken.loop + 1) w.sound w.going.drawn w.fit.0 e
-        (edge_open w.before f w.sound d q qs 0 w.fit.0 w.going) (face_open w.before f w.sound d q qs 0 w.fit.0 w.going) (loop_open w.before f w.sound d q qs 0 w.fit.0 w.going)
-        (edge_fits d.taken _ room) (face_fits d.taken _ room) (loop_fits d.taken _ room)
-
     pub draw_goes : first_false d.model (draw_pair d.taken q) ≡ None
-    draw_goes = draws.accepted.0
+    draw_goes = draw_accepted d.model q.0 q.1 (d.taken.edge + 1) (d.taken.face + 1) (d.taken.loop + 1) (can_now w.before f w.sound d q qs 0 w.fit.0 w.going e)
 
     module _ (K : Model) (is : K ≡ effect d.model (draw_pair d.taken q)) where
       abbrev Y : Drawing

@@ -1,5 +1,5 @@
 -- All edges of a solid that cross a plane cut: from the first conditions of a split to the model.
-use Rattle.std.proofs.Common.{◌≡◌, ℕ, Bool, true, false, nat_eq, [], None, is_some, unwrap_or, refl, sym, ap, ◌∙◌, arith, inl, inr, cond, ◌&&◌, ◌||◌, subst, filter, eqb-true}
+use Rattle.std.proofs.Common.{◌≡◌, ℕ, Bool, true, false, nat_eq, [], None, is_some, unwrap_or, refl, sym, ap, ◌∙◌, arith, inl, inr, cond, ◌&&◌, ◌||◌, subst, eqb-true}
 use Rattle.std.proofs.lemmas.Bool.{false_from_ne_true, and_parts}
 use Rattle.euler_operators.specs.Common.{Plane, are_opposite, height, is_on, cut_between, count, IsIn, plus, minus, edge_of, Model, tail, loop_of, face_of, solid_of, no_face, after, before, point_of, Sound, Has, HasHalf, first_refusal, face_at, lists}
 use Rattle.euler_operators.specs.Table as table
@@ -159,16 +159,16 @@ module _ (M : Model) (s : ℕ) (p : Plane) (t : ℕ) (sound : Sound M) (accepted
   in_crossing e there of_s c = IsIn-filter (λ x. crosses M p (plus x)) e (edges_of M s) (edge_listed M s e there of_s) c
 
   of_plus : (e : ℕ) → Has M.edges e → solid_of M (face_at M (plus e)) ≡ s → is_place M p (plus e) ≡ true → AtPlace M N p (plus e)
-  of_plus e there of_s place = go (crosses M p (plus e)) refl where
-    go : (b : Bool) → crosses M p (plus e) ≡ b → AtPlace M N p (plus e)
-    go true c = at_plus e (in_crossing e there of_s c)
-    go false c = at_corner (plus e) (plus_there M e there) (on_when (plus e) place c) (stays_plus e there c)
+  of_plus e there of_s place = cut_or_corner (crosses M p (plus e)) refl where
+    cut_or_corner : (b : Bool) → crosses M p (plus e) ≡ b → AtPlace M N p (plus e)
+    cut_or_corner true c = at_plus e (in_crossing e there of_s c)
+    cut_or_corner false c = at_corner (plus e) (plus_there M e there) (on_when (plus e) place c) (stays_plus e there c)
 
   of_minus : (e : ℕ) → Has M.edges e → solid_of M (face_at M (plus e)) ≡ s → is_place M p (minus e) ≡ true → AtPlace M N p (minus e)
-  of_minus e there of_s place = go (crosses M p (minus e)) refl where
-    go : (b : Bool) → crosses M p (minus e) ≡ b → AtPlace M N p (minus e)
-    go true c = at_minus e (in_crossing e there of_s (turned e true c))
-    go false c = at_corner (minus e) (minus_there M e there) (on_when (minus e) place c) (start_minus e there)
+  of_minus e there of_s place = cut_or_corner (crosses M p (minus e)) refl where
+    cut_or_corner : (b : Bool) → crosses M p (minus e) ≡ b → AtPlace M N p (minus e)
+    cut_or_corner true c = at_minus e (in_crossing e there of_s (turned e true c))
+    cut_or_corner false c = at_corner (minus e) (minus_there M e there) (on_when (minus e) place c) (start_minus e there)
 
   -- a place of a face that straddles
   place_is : (f h : ℕ) → IsIn f (straddling_faces M p s) → IsIn h (boundary M f) → is_place M p h ≡ true → AtPlace M N p h
@@ -183,8 +183,9 @@ module _ (M : Model) (s : ℕ) (p : Plane) (t : ℕ) (sound : Sound M) (accepted
             (ap (is_place M p) (sym e.0) ∙ place))
       ]
 
-  pub at_place : (f h : ℕ) → lists (straddling_faces M p s) f ≡ true → lists (places M p f) h ≡ true → AtPlace M (with_crossings M s p).model p h
+  pub place_starts : (f h : ℕ) → IsIn f (straddling_faces M p s) → IsIn h (places M p f) → AtPlace M (with_crossings M s p).model p h
   unfolding places
-  at_place f h i j =
-      let k : IsIn h (filter (is_place M p) (boundary M f)) = IsIn-from_listed h (places M p f) j in
-      place_is f h (IsIn-from_listed f (straddling_faces M p s) i) (omega (arith, k, count-filter (is_place M p) h (boundary M f))) (filter_passes (is_place M p) h (boundary M f) k)
+  place_starts f h i j = place_is f h i (omega (arith, j, count-filter (is_place M p) h (boundary M f))) (filter_passes (is_place M p) h (boundary M f) j)
+
+  pub at_place : (f h : ℕ) → lists (straddling_faces M p s) f ≡ true → lists (places M p f) h ≡ true → AtPlace M (with_crossings M s p).model p h
+  at_place f h i j = place_starts f h (IsIn-from_listed f (straddling_faces M p s) i) (IsIn-from_listed h (places M p f) j)

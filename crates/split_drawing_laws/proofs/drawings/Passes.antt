@@ -1,30 +1,28 @@
 -- The two passes over the pairs of a face.
-use Rattle.std.proofs.Common.{◌≡◌, ◌≢◌, ℕ, suc, ◌+◌, ◌<◌, Bool, true, false, cond, List, [], ◌∷◌, ◌++◌, length, None, refl, sym, ap, subst, arith, IsTrue, fold}
+use Rattle.std.proofs.Common.{◌≡◌, ◌≢◌, ℕ, suc, ◌+◌, ◌<◌, Bool, true, false, cond, List, [], ◌∷◌, ◌++◌, length, None, refl, sym, ap, ◌∙◌, subst, arith, IsTrue, fold, eqb-true, length-append}
 use Rattle.euler_operators.specs.Table as table
-use Rattle.euler_operators.specs.Common.{Model, is_number, Sound, face_at, effect}
+use Rattle.euler_operators.specs.Common.{Model, loop_of, is_number, Sound, face_at, effect}
 use Rattle.shapes.proofs.Common.{number_fits}
-use Rattle.shapes.specs.Common.{AreLeft, Taken, Drawing, in_one_loop, join_next, draw_next, stuck_at, join_pair, draw_pair}
+use Rattle.shapes.specs.Common.{Taken, Drawing, in_one_loop, join_next, draw_next, stuck_at, join_pair, draw_pair}
 use Rattle.split_drawing_laws.specs.drawings.DrawingOps.{join_ops, draw_ops}
-use Rattle.split_drawing_laws.specs.drawings.DrawnIn.{needed_for_pairs}
-use Rattle.split_drawing_laws.specs.drawings.Pairs.{Fits, AllFit}
+use Rattle.split_drawing_laws.specs.drawings.DrawnIn.{AreLeftForPairs}
+use Rattle.split_drawing_laws.specs.drawings.Pairs.{Fits, AllOf, AllFit}
 use Rattle.split_drawing_laws.specs.drawings.Passing.{Joining, Going}
 use Rattle.split_drawing_laws.proofs.drawings.Drawn.{CanDraw, CanJoin, face_drawn, loops_joined}
-use Rattle.split_drawing_laws.proofs.drawings.Pairs.{pair_leads, joined_either, pair_can, pair_joined, pair_fresh, pair_draws, pair_drawn, drawn_fresh}
+use Rattle.split_drawing_laws.proofs.drawings.Stays.{draw_free}
+use Rattle.split_drawing_laws.proofs.drawings.Pairs.{pair_leads, joined_either, pair_joined, pair_fresh, draw_leads, pair_drawn}
 use Rattle.split_drawing_laws.proofs.drawings.Runs.{Leads, leads_none, leads_on}
 
-length_last : (qs : List (ℕ × ℕ)) (q : ℕ × ℕ) → length (qs ++ q ∷ []) ≡ length qs + 1
-length_last [] q = refl
-length_last (r ∷ qs) q = let s : length (qs ++ q ∷ []) ≡ length qs + 1 = length_last qs q in omega (arith, s)
+-- so is the list with one more, where that is so too
+pub all_of_last : {X : Type 0} (P : X → Type 0) (xs : List X) (x : X) → AllOf P xs → P x → AllOf P (xs ++ x ∷ [])
+all_of_last P [] x all last = (last, tt)
+all_of_last P (y ∷ xs) x all last = (all.0, all_of_last P xs x all.1 last)
 
-all_fit_last : (M : Model) (f : ℕ) (qs : List (ℕ × ℕ)) (q : ℕ × ℕ) → AllFit M f qs → Fits M f q → AllFit M f (qs ++ q ∷ [])
-all_fit_last M f [] q a b = (b, tt)
-all_fit_last M f (r ∷ qs) q a b = (a.0, all_fit_last M f qs q a.1 b)
-
-pub room_as : (c : Taken) (a b : ℕ) → a ≡ b → AreLeft c (needed_for_pairs a) → AreLeft c (needed_for_pairs b)
-room_as c a b e = subst (λ n. AreLeft c (needed_for_pairs n)) e
+pub room_as : (c : Taken) (a b : ℕ) → a ≡ b → AreLeftForPairs c a → AreLeftForPairs c b
+room_as c a b e = subst (AreLeftForPairs c) e
 
 -- the next edge, face and loop
-module _ (c : Taken) (n : ℕ) (room : AreLeft c (needed_for_pairs (suc n))) where
+module _ (c : Taken) (n : ℕ) (room : AreLeftForPairs c (suc n)) where
   pub edge_fits : IsTrue (is_number (c.edge + 1))
   edge_fits = number_fits (c.edge + 1) (omega arith) (omega (arith, room.edges))
 
@@ -34,10 +32,10 @@ module _ (c : Taken) (n : ℕ) (room : AreLeft c (needed_for_pairs (suc n))) whe
   pub loop_fits : IsTrue (is_number (c.loop + 1))
   loop_fits = number_fits (c.loop + 1) (omega arith) (omega (arith, room.loops))
 
-  room_joined : AreLeft (record c { edge = c.edge + 1 }) (needed_for_pairs n)
+  room_joined : AreLeftForPairs (record c { edge = c.edge + 1 }) n
   room_joined = record { faces = omega (arith, room.faces); loops = omega (arith, room.loops); edges = omega (arith, room.edges); vertices = room.vertices }
 
-  room_drawn : AreLeft (record c { face = c.face + 1; loop = c.loop + 1; edge = c.edge + 1 }) (needed_for_pairs n)
+  room_drawn : AreLeftForPairs (record c { face = c.face + 1; loop = c.loop + 1; edge = c.edge + 1 }) n
   room_drawn = record { faces = omega (arith, room.faces); loops = omega (arith, room.loops); edges = omega (arith, room.edges); vertices = room.vertices }
 
 next_above : (a : ℕ) → a < a + 1
@@ -58,11 +56,19 @@ module _ (M : Model) (f : ℕ) (d : Drawing) (q : ℕ × ℕ) (qs : List (ℕ ×
   abbrev Next : Drawing → Type 0
   Next x = Leads d.model x.model (cond (in_one_loop d.model q) [] (join_pair d.model q (d.taken.edge + 1) ∷ [])) × Joining M f x qs n
 
-  room_now : AreLeft d.taken (needed_for_pairs (suc (length d.left + length qs + n)))
+  room_now : AreLeftForPairs d.taken (suc (length d.left + length qs + n))
   room_now = room_as d.taken (length d.left + length (q ∷ qs) + n) (suc (length d.left + length qs + n)) (omega arith) w.room
 
   kept : in_one_loop d.model q ≡ true → Next (join_next d q)
-  kept e = grind (arith, join_next_one, leads_none, room_as, length_last, all_fit_last)
+  kept e = subst Next (sym (join_next_one d q e)) (
+    subst (Leads d.model d.model) (sym (ap (λ b. cond b [] (join_pair d.model q (d.taken.edge + 1) ∷ [])) e)) (leads_none d.model),
+    record {
+      joined = w.joined;
+      fresh = w.fresh;
+      room = room_as d.taken (length d.left + length (q ∷ qs) + n) (length (d.left ++ q ∷ []) + length qs + n) (omega (arith, length-append d.left (q ∷ []))) w.room;
+      pairs = all_of_last (Fits M f) d.left q w.pairs fits;
+    },
+  )
 
   pub edge_free : table.get d.model.edges (d.taken.edge + 1) ≡ None
   edge_free = w.fresh.edges (d.taken.edge + 1) (next_above d.taken.edge)
@@ -72,7 +78,7 @@ module _ (M : Model) (f : ℕ) (d : Drawing) (q : ℕ × ℕ) (qs : List (ℕ ×
 
   pub either_now : in_one_loop d.model q ≡ false → (P : Model → Type 0) →
       ((c k : ℕ) → CanJoin d.model c k (d.taken.edge + 1) → face_at d.model c ≡ f → face_at d.model k ≡ f → P (loops_joined d.model c k (d.taken.edge + 1))) → P (effect d.model (join_pair d.model q (d.taken.edge + 1)))
-  either_now e = joined_either M d.model f q (d.taken.edge + 1) w.joined fits e edge_free edge_fits_now
+  either_now e P = joined_either M d.model f q (d.taken.edge + 1) w.joined fits e edge_free edge_fits_now (λ op. P (effect d.model op))
 
   made : in_one_loop d.model q ≡ false → Next (join_next d q)
   made e = subst Next (sym (join_next_two d q e)) (
@@ -110,10 +116,10 @@ pub joins_keep : (M : Model) (f : ℕ) (P : Drawing → List (ℕ × ℕ) → Ty
     P (record d { model = effect d.model (join_pair d.model q (d.taken.edge + 1)); taken = record d.taken { edge = d.taken.edge + 1 } }) qs) →
     (d : Drawing) (qs : List (ℕ × ℕ)) (n : ℕ) → AllFit M f qs → Joining M f d qs n → P d qs → P (fold join_next d qs) []
 joins_keep M f P stays joins d [] n fit w a = a
-joins_keep M f P stays joins d (q ∷ qs) n fit w a = joins_keep M f P stays joins (join_next d q) qs n fit.1 (join_one M f d q qs n fit.0 w).1 (go (in_one_loop d.model q) refl) where
-  go : (b : Bool) → in_one_loop d.model q ≡ b → P (join_next d q) qs
-  go true e = subst (λ x. P x qs) (sym (join_next_one d q e)) (stays d q qs n fit.0 w e a)
-  go false e = subst (λ x. P x qs) (sym (join_next_two d q e)) (joins d q qs n fit.0 w e a)
+joins_keep M f P stays joins d (q ∷ qs) n fit w a = joins_keep M f P stays joins (join_next d q) qs n fit.1 (join_one M f d q qs n fit.0 w).1 (left_or_joined (in_one_loop d.model q) refl) where
+  left_or_joined : (b : Bool) → in_one_loop d.model q ≡ b → P (join_next d q) qs
+  left_or_joined true e = subst (λ x. P x qs) (sym (join_next_one d q e)) (stays d q qs n fit.0 w e a)
+  left_or_joined false e = subst (λ x. P x qs) (sym (join_next_two d q e)) (joins d q qs n fit.0 w e a)
 
 -- ---- second pass
 
@@ -136,36 +142,35 @@ module _ (M : Model) (f : ℕ) (sound : Sound M) (d : Drawing) (q : ℕ × ℕ) 
   abbrev After : Drawing → Type 0
   After x = Leads d.model x.model (cond (in_one_loop d.model q) (draw_pair d.taken q ∷ []) []) × Going M f x qs n
 
-  pub room_here : AreLeft d.taken (needed_for_pairs (suc (length qs + n)))
+  room_here : AreLeftForPairs d.taken (suc (length qs + n))
   room_here = room_as d.taken (length (q ∷ qs) + n) (suc (length qs + n)) (omega arith) w.room
 
   left_out : in_one_loop d.model q ≡ false → After (draw_next f d q)
   left_out e = grind (arith, draw_next_two, leads_none)
 
-  pub edge_open : table.get d.model.edges (d.taken.edge + 1) ≡ None
-  edge_open = w.fresh.edges (d.taken.edge + 1) (next_above d.taken.edge)
-
-  pub face_open : table.get d.model.faces (d.taken.face + 1) ≡ None
-  face_open = w.fresh.faces (d.taken.face + 1) (next_above d.taken.face)
-
-  pub loop_open : table.get d.model.loops (d.taken.loop + 1) ≡ None
-  loop_open = w.fresh.loops (d.taken.loop + 1) (next_above d.taken.loop)
-
   pub can_now : in_one_loop d.model q ≡ true → CanDraw d.model q.0 q.1 (d.taken.edge + 1) (d.taken.face + 1) (d.taken.loop + 1)
-  can_now e = pair_can M d.model f q (d.taken.edge + 1) (d.taken.face + 1) (d.taken.loop + 1) sound w.drawn fits e edge_open face_open loop_open
-      (edge_fits d.taken (length qs + n) room_here) (face_fits d.taken (length qs + n) room_here) (loop_fits d.taken (length qs + n) room_here)
+  can_now e = record {
+    sound = w.drawn.sound;
+    u_there = w.drawn.stays.halves q.0 fits.u_there;
+    k_there = w.drawn.stays.halves q.1 fits.k_there;
+    one_loop = eqb-true (loop_of d.model q.0) (loop_of d.model q.1) e;
+    apart = λ s. fits.apart (sym (w.drawn.stays.tails q.0 fits.u_there) ∙ s ∙ w.drawn.stays.tails q.1 fits.k_there);
+    edge_free = w.fresh.edges (d.taken.edge + 1) (next_above d.taken.edge);
+    face_free = w.fresh.faces (d.taken.face + 1) (next_above d.taken.face);
+    loop_free = w.fresh.loops (d.taken.loop + 1) (next_above d.taken.loop);
+    edge_fits = edge_fits d.taken (length qs + n) room_here;
+    face_fits = face_fits d.taken (length qs + n) room_here;
+    loop_fits = loop_fits d.taken (length qs + n) room_here;
+  }
 
   cut : in_one_loop d.model q ≡ true → After (draw_next f d q)
   cut e = subst After (sym (draw_next_one f d q e)) (
     subst (Leads d.model (cut_off d q).model) (sym (ap (λ b. cond b (draw_pair d.taken q ∷ []) []) e))
-        (pair_draws M d.model f q (d.taken.edge + 1) (d.taken.face + 1) (d.taken.loop + 1) sound w.drawn fits e edge_open face_open loop_open
-        (edge_fits d.taken (length qs + n) room_here) (face_fits d.taken (length qs + n) room_here) (loop_fits d.taken (length qs + n) room_here)),
+        (draw_leads d.model q.0 q.1 (d.taken.edge + 1) (d.taken.face + 1) (d.taken.loop + 1) (can_now e)),
     record {
-      drawn = pair_drawn M d.model f q (d.taken.edge + 1) (d.taken.face + 1) (d.taken.loop + 1) sound w.drawn fits e edge_open face_open loop_open
-          (edge_fits d.taken (length qs + n) room_here) (face_fits d.taken (length qs + n) room_here) (loop_fits d.taken (length qs + n) room_here);
-      fresh = drawn_fresh M d.model f q (d.taken.edge + 1) (d.taken.face + 1) (d.taken.loop + 1) sound w.drawn fits e edge_open face_open loop_open
-          (edge_fits d.taken (length qs + n) room_here) (face_fits d.taken (length qs + n) room_here) (loop_fits d.taken (length qs + n) room_here)
-          d.taken (next_above d.taken.edge) (next_above d.taken.face) (next_above d.taken.loop) w.fresh;
+      drawn = pair_drawn M d.model f q (d.taken.edge + 1) (d.taken.face + 1) (d.taken.loop + 1) sound w.drawn fits (can_now e);
+      fresh = draw_free d.model q.0 q.1 (d.taken.edge + 1) (d.taken.face + 1) (d.taken.loop + 1) (can_now e) d.taken
+          (next_above d.taken.face) (next_above d.taken.loop) (next_above d.taken.edge) w.fresh;
       room = room_drawn d.taken (length qs + n) room_here;
     },
   )
@@ -197,7 +202,7 @@ pub draws_keep : (M : Model) (f : ℕ) (P : Drawing → List (ℕ × ℕ) → Ty
     ((d : Drawing) (q : ℕ × ℕ) (qs : List (ℕ × ℕ)) (n : ℕ) → Fits M f q → Going M f d (q ∷ qs) n → in_one_loop d.model q ≡ true → P d (q ∷ qs) → P (cut_off d q) qs) →
     (d : Drawing) (qs : List (ℕ × ℕ)) (n : ℕ) → AllFit M f qs → Going M f d qs n → P d qs → P (fold (draw_next f) d qs) []
 draws_keep M f P sound stays draws d [] n fit w a = a
-draws_keep M f P sound stays draws d (q ∷ qs) n fit w a = draws_keep M f P sound stays draws (draw_next f d q) qs n fit.1 (draw_one M f sound d q qs n fit.0 w).1 (go (in_one_loop d.model q) refl) where
-  go : (b : Bool) → in_one_loop d.model q ≡ b → P (draw_next f d q) qs
-  go true e = subst (λ x. P x qs) (sym (draw_next_one f d q e)) (draws d q qs n fit.0 w e a)
-  go false e = subst (λ x. P x qs) (sym (draw_next_two f d q e)) (stays d q qs n fit.0 w e a)
+draws_keep M f P sound stays draws d (q ∷ qs) n fit w a = draws_keep M f P sound stays draws (draw_next f d q) qs n fit.1 (draw_one M f sound d q qs n fit.0 w).1 (drawn_or_stuck (in_one_loop d.model q) refl) where
+  drawn_or_stuck : (b : Bool) → in_one_loop d.model q ≡ b → P (draw_next f d q) qs
+  drawn_or_stuck true e = subst (λ x. P x qs) (sym (draw_next_one f d q e)) (draws d q qs n fit.0 w e a)
+  drawn_or_stuck false e = subst (λ x. P x qs) (sym (draw_next_two f d q e)) (stays d q qs n fit.0 w e a)

@@ -8,8 +8,9 @@ use Rattle.euler_operators.specs.Table as table
 use Rattle.euler_operators.specs.declared.Op.TheVariants.{RingIn}
 use Rattle.euler_laws.proofs.Common.{taken, SameWalks, listed_passes, all_where-rises, listed-from_in, RingGoes, ring_in_accepted, sound-ring_in, counted_once}
 use Rattle.euler_laws.proofs.faces.RingIn as moved
-use Rattle.shapes.specs.Common.{AreFree, Taken, with_rings}
-use Rattle.split_drawing_laws.specs.drawings.DrawnIn.{Stays, DrawnIn}
+use Rattle.shapes.specs.Common.{Taken, with_rings}
+use Rattle.shapes.proofs.Common.{none_above}
+use Rattle.split_drawing_laws.specs.drawings.DrawnIn.{Stays, DrawnIn, AreFreeForPairs}
 use Rattle.split_drawing_laws.specs.drawings.DrawingOps.{ring_ops}
 use Rattle.split_drawing_laws.proofs.drawings.Runs.{Leads, leads_none, leads_one, leads_on}
 use Rattle.split_drawing_laws.proofs.drawings.Stays.{stays_on}
@@ -106,12 +107,12 @@ module _ (M N : Model) (f l k : ℕ) (drawn : DrawnIn M N f) (ring : RingOf N f 
   unfolding after
   moved_after h there = ap (λ xs. successor xs h) (ap (λ q. items_of (content (ring_in N l k) q)) (place_is N l k drawn.sound ring_goes h there) ∙ ap items_of ((same_walks N l k drawn.sound ring_goes).contents (loop_of N h)))
 
-  pub moved_fresh : (c : Taken) → AreFree N c → AreFree (ring_in N l k) c
+  pub moved_fresh : (c : Taken) → AreFreeForPairs N c → AreFreeForPairs (ring_in N l k) c
   moved_fresh c w = record {
     faces = λ q above. ap (λ t. table.get t q) (ring_faces N l k drawn.sound ring_goes) ∙ w.faces q above;
     loops = λ q above. no_row _ ((same_walks N l k drawn.sound ring_goes).loops q ∙ taken _ (w.loops q above));
     edges = λ q above. ap (λ t. table.get t q) (same_walks N l k drawn.sound ring_goes).edges ∙ w.edges q above;
-    vertices = λ q above. ap (λ t. table.get t q) (same_walks N l k drawn.sound ring_goes).vertices ∙ w.vertices q above;
+    vertices = none_above (ring_in N l k).vertices;
   }
 
 -- ---- some rings
@@ -119,7 +120,7 @@ module _ (M N : Model) (f l k : ℕ) (drawn : DrawnIn M N f) (ring : RingOf N f 
 pub record Moved (M N : Model) (f k : ℕ) (ls : List ℕ) (c : Taken) : Type 0 where
   pub leads : Leads N (with_rings N ls k) (ring_ops ls k)
   pub drawn : DrawnIn M (with_rings N ls k) f
-  pub fresh : AreFree (with_rings N ls k) c
+  pub fresh : AreFreeForPairs (with_rings N ls k) c
 
 pub rings_on : (N : Model) (l k : ℕ) (ls : List ℕ) → with_rings (ring_in N l k) ls k ≡ with_rings N (l ∷ ls) k
 unfolding effect
@@ -138,7 +139,7 @@ rings_keep M f k P each N (l ∷ ls) drawn are d newer w =
     (moved_newer M N f l k drawn ring newer)
     (each N l drawn ring newer w))
 
-pub rings_move : (M N : Model) (f k : ℕ) (ls : List ℕ) (c : Taken) → DrawnIn M N f → AreRings N f ls → IsApart ls → Newer M N f k → AreFree N c → Moved M N f k ls c
+pub rings_move : (M N : Model) (f k : ℕ) (ls : List ℕ) (c : Taken) → DrawnIn M N f → AreRings N f ls → IsApart ls → Newer M N f k → AreFreeForPairs N c → Moved M N f k ls c
 rings_move M N f k [] c drawn are d newer fresh = record { leads = leads_none N; drawn = drawn; fresh = fresh }
 rings_move M N f k (l ∷ ls) c drawn are d newer fresh =
     let ring : RingOf N f l = are l (omega (arith, tick_same l)) in
@@ -154,7 +155,7 @@ rings_move M N f k (l ∷ ls) c drawn are d newer fresh =
       leads = subst (λ X. Leads N X (RingIn l k ∷ ring_ops ls k)) e
           (leads_on N K (with_rings K ls k) (RingIn l k ∷ []) (ring_ops ls k) (leads_one N K (RingIn l k) (move_accepted M N f l k drawn ring newer) (move_made M N f l k drawn ring newer)) r.leads);
       drawn = subst (λ X. DrawnIn M X f) e r.drawn;
-      fresh = subst (λ X. AreFree X c) e r.fresh;
+      fresh = subst (λ X. AreFreeForPairs X c) e r.fresh;
     }
 
 -- ---- the rings of a face, and those of them that pass a test

@@ -1,11 +1,13 @@
 -- What stays as an edge is drawn, as two loops are joined, and as a ring is moved.
 use Rattle.std.proofs.Common.{◌≡◌, ◌≢◌, ℕ, ◌+◌, ◌≤◌, ◌<◌, List, ◌∷◌, ◌++◌, Some, None, is_some, unwrap_or, refl, sym, ap, ◌∙◌, subst, arith, ◌⊎◌, inl, inr}
 use Rattle.std.proofs.lemmas.Bool.Decides.{eqb_tells}
-use Rattle.euler_operators.specs.Common.{count, IsIn, rotate_to, mef_old, mef_new, mekr_ring, edge_of, is_first, plus, minus, Model, cycle, no_edge, items_of, holds, tail, tail_in, loop_of, content, face_of, solid_of, cycle_of, Sound, Has, HasHalf, face_at, effect, mef, mekr}
-use Rattle.euler_operators.proofs.Common.{count-append, IsIn_or_not, count-canonical, count-rotate_to, plus_row, minus_row, content_row, face_row, tail_row, in-holds, cycle_there, same_content, same_face, loop_there, row_elsewhere, get-put_here, get-put_other, get-remove_here, get-remove_other}
+use Rattle.euler_operators.specs.Common.{count, IsIn, rotate_to, mef_old, mef_new, mekr_ring, edge_of, is_first, plus, minus, Model, cycle, no_edge, items_of, holds, tail, tail_in, loop_of, content, face_of, solid_of, cycle_of, point_of, no_point, Sound, Has, HasHalf, face_at, effect, mef, mekr}
+use Rattle.euler_operators.proofs.Common.{count-append, IsIn_or_not, count-canonical, count-rotate_to, plus_row, minus_row, plus_there, minus_there, content_row, face_row, tail_row, in-holds, cycle_there, same_content, same_face, loop_there, row_elsewhere, get-put_here, get-put_other, get-remove_here, get-remove_other}
 use Rattle.euler_operators.specs.Table as table
 use Rattle.euler_laws.proofs.Common.{count-halves, half_face, count-mef_old, count-mef_new}
-use Rattle.split_drawing_laws.specs.drawings.DrawnIn.{Stays}
+use Rattle.shapes.specs.Common.{Taken, start}
+use Rattle.shapes.proofs.Common.{none_above}
+use Rattle.split_drawing_laws.specs.drawings.DrawnIn.{Stays, AreFreeForPairs}
 use Rattle.split_drawing_laws.proofs.drawings.Drawn.{CanDraw, draw_rows, draw_sound, CanJoin, join_rows, join_sound, face_drawn_new, face_drawn_else, loops_joined_faces, face_drawn, loops_joined}
 
 -- a half-edge stands where the content says so
@@ -20,6 +22,15 @@ kept_place M N sound new x there e =
 
 pub stays_on : (M N K : Model) → Stays M N → Stays N K → Stays M K
 stays_on M N K a b = grind arith
+
+-- points stay, and half-edges start at theirs
+module _ (M N : Model) (stays : Stays M N) where
+  pub point_stays : (v : ℕ) → point_of N v ≡ point_of M v
+  unfolding point_of
+  point_stays v = ap (λ t. unwrap_or (table.get t v) no_point) stays.vertices
+
+  pub start_stays : (h : ℕ) → HasHalf M h → start N h ≡ start M h
+  start_stays h there = ap (point_of N) (stays.tails h there) ∙ point_stays (tail M h)
 
 past : (a b : ℕ) → a < b → b ≢ a
 past a b less s = absurd (omega arith)
@@ -37,6 +48,9 @@ module _ (M N : Model) (e a b : ℕ) (is : N.edges ≡ table.put M.edges e (reco
   new_row : table.get N.edges e ≡ Some (record { plus_tail = a; minus_tail = b })
   new_row = ap (λ t. table.get t e) is ∙ get-put_here M.edges e _
 
+  pub new_halves : HasHalf N (plus e) × HasHalf N (minus e)
+  new_halves = (plus_there N e (ap is_some new_row), minus_there N e (ap is_some new_row))
+
   new_tails : (tail N (plus e) ≡ a) × (tail N (minus e) ≡ b)
   new_tails = (
     tail_row N (plus e) _ (ap (table.get N.edges) (plus_row e).0 ∙ new_row) ∙ ap (tail_in (record { plus_tail = a; minus_tail = b })) (plus_row e).1,
@@ -52,11 +66,11 @@ module _ (M : Model) (u k e f l : ℕ) (can : CanDraw M u k e f l) where
   new_sound : Sound (face_drawn M u k e f l)
   new_sound = draw_sound M u k e f l can
 
-  pub r_l : loop_of M u ≢ l
-  r_l = row_elsewhere M.loops (loop_of M u) l (loop_there M can.sound u can.u_there) can.loop_free
+  old_loop_apart : loop_of M u ≢ l
+  old_loop_apart = row_elsewhere M.loops (loop_of M u) l (loop_there M can.sound u can.u_there) can.loop_free
 
   pub row_old : table.get (face_drawn M u k e f l).loops (loop_of M u) ≡ Some (record { face = face_at M u; content = cycle (mef_old (plus e) u k (cycle_of M u)) })
-  row_old = ap (λ X. table.get X.loops (loop_of M u)) (draw_rows M u k e f l can) ∙ get-put_other _ l _ (loop_of M u) r_l ∙ get-put_here M.loops (loop_of M u) _
+  row_old = ap (λ X. table.get X.loops (loop_of M u)) (draw_rows M u k e f l can) ∙ get-put_other _ l _ (loop_of M u) old_loop_apart ∙ get-put_here M.loops (loop_of M u) _
 
   pub row_new : table.get (face_drawn M u k e f l).loops l ≡ Some (record { face = f; content = cycle (mef_new (minus e) u k (cycle_of M u)) })
   row_new = ap (λ X. table.get X.loops l) (draw_rows M u k e f l can) ∙ get-put_here _ l _
@@ -99,15 +113,16 @@ module _ (M : Model) (u k e f l : ℕ) (can : CanDraw M u k e f l) where
   pub draw_has : Has (face_drawn M u k e f l).faces f
   draw_has = ap is_some (face_drawn_new M u k e f l)
 
-  -- higher numbers stay free
-  pub draw_free : (q : ℕ) → (f < q → table.get M.faces q ≡ None → table.get (face_drawn M u k e f l).faces q ≡ None)
-      × (l < q → table.get M.loops q ≡ None → table.get (face_drawn M u k e f l).loops q ≡ None)
-      × (e < q → table.get M.edges q ≡ None → table.get (face_drawn M u k e f l).edges q ≡ None)
-  draw_free q = (
-    (λ above none. face_drawn_else M u k e f l q (λ s. past f q above s) ∙ none),
-    (λ above none. row_else q (λ s. row_elsewhere M.loops (loop_of M u) q (loop_there M can.sound u can.u_there) none (sym s)) (λ s. past l q above s) ∙ none),
-    (λ above none. ap (λ t. table.get t q) edges_are ∙ get-put_other M.edges e _ q (λ s. past e q above s) ∙ none),
-  )
+  -- the numbers above the new ones stay free
+  pub draw_free : (c : Taken) → c.face < f → c.loop < l → c.edge < e → AreFreeForPairs M c → AreFreeForPairs (face_drawn M u k e f l) (record c { face = f; loop = l; edge = e })
+  draw_free c next_face next_loop next_edge w = record {
+    faces = λ q above. face_drawn_else M u k e f l q (past f q above) ∙ w.faces q (omega (arith, next_face, above));
+    loops = λ q above.
+        let none = w.loops q (omega (arith, next_loop, above)) in
+        row_else q (λ s. row_elsewhere M.loops (loop_of M u) q (loop_there M can.sound u can.u_there) none (sym s)) (past l q above) ∙ none;
+    edges = λ q above. ap (λ t. table.get t q) edges_are ∙ get-put_other M.edges e _ q (past e q above) ∙ w.edges q (omega (arith, next_edge, above));
+    vertices = none_above (face_drawn M u k e f l).vertices;
+  }
 
 -- ---- two loops joined
 
@@ -163,8 +178,11 @@ module _ (M : Model) (c d e : ℕ) (can : CanJoin M c d e) where
     ]
   ]
 
-  -- higher numbers stay free
-  pub join_free : (q : ℕ) → (table.get M.faces q ≡ None → table.get (loops_joined M c d e).faces q ≡ None)
-      × (table.get M.loops q ≡ None → table.get (loops_joined M c d e).loops q ≡ None)
-      × (e < q → table.get M.edges q ≡ None → table.get (loops_joined M c d e).edges q ≡ None)
-  join_free q = grind (arith, loops_joined_faces, row_free, joined_edges, get-put_other, past)
+  -- the numbers above the new edge stay free
+  pub join_free : (t : Taken) → t.edge < e → AreFreeForPairs M t → AreFreeForPairs (loops_joined M c d e) (record t { edge = e })
+  join_free t next_edge w = record {
+    faces = λ q above. ap (λ x. table.get x q) (loops_joined_faces M c d e) ∙ w.faces q above;
+    loops = λ q above. row_free q (w.loops q above);
+    edges = λ q above. ap (λ x. table.get x q) joined_edges ∙ get-put_other M.edges e _ q (past e q above) ∙ w.edges q (omega (arith, next_edge, above));
+    vertices = none_above (loops_joined M c d e).vertices;
+  }

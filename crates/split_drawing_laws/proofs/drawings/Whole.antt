@@ -4,9 +4,9 @@ use Rattle.euler_operators.specs.Common.{Plane, count, tick, Model, loop_of, Sou
 use Rattle.euler_operators.proofs.Common.{tick_same}
 use Rattle.euler_operators.specs.declared.Op.{Op}
 use Rattle.euler_laws.specs.Laws.{AreAccepted, effects}
-use Rattle.shapes.specs.Common.{AreFree, AreLeft, Growing, Drawing, FacePairs, drawn_between, next_drawn, faces_drawn, undrawn}
+use Rattle.shapes.specs.Common.{Growing, Drawing, FacePairs, drawn_between, next_drawn, faces_drawn, undrawn}
 use Rattle.split_drawing_laws.specs.drawings.DrawingOps.{face_ops, ops_from, drawing_ops}
-use Rattle.split_drawing_laws.specs.drawings.DrawnIn.{Stays, DrawnIn, needed_for_pairs}
+use Rattle.split_drawing_laws.specs.drawings.DrawnIn.{Stays, DrawnIn, AreFreeForPairs, AreLeftForPairs}
 use Rattle.split_drawing_laws.specs.drawings.Pairs.{AllFit, LoneInOneLoop, FacesFit, pairs_in}
 use Rattle.split_drawing_laws.specs.drawings.Laws.{CanBeDrawn}
 use Rattle.split_drawing_laws.proofs.drawings.Passes.{room_as}
@@ -42,8 +42,8 @@ pub record AllGone (d D : Drawing) (ops : List Op) (n : ℕ) : Type 0 where
   pub leads : Leads d.model D.model ops
   pub sound : Sound D.model
   pub stays : Stays d.model D.model
-  pub fresh : AreFree D.model D.taken
-  pub room : AreLeft D.taken (needed_for_pairs n)
+  pub fresh : AreFreeForPairs D.model D.taken
+  pub room : AreLeftForPairs D.taken n
 
 -- one face more
 module _ (p : Plane) (d : Drawing) (f : FacePairs) (fs : List FacePairs) (n : ℕ) (w : Drawable d (f ∷ fs) n) where
@@ -105,5 +105,5 @@ module _ (p : Plane) (g : Growing) (fs : List FacePairs) (can : CanBeDrawn g fs)
   pub drawing_stays : Stays g.model (faces_drawn p (undrawn g) fs).model
   drawing_stays = all.stays
 
-  pub drawing_fresh : AreFree (faces_drawn p (undrawn g) fs).model (faces_drawn p (undrawn g) fs).taken
+  pub drawing_fresh : AreFreeForPairs (faces_drawn p (undrawn g) fs).model (faces_drawn p (undrawn g) fs).taken
   drawing_fresh = all.fresh

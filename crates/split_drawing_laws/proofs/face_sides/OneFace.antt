@@ -1,21 +1,21 @@
 -- Faces drawn one after the other: what stays beside each, and that it and the faces that are cut off it lie each on one side.
-use Rattle.std.proofs.Common.{◌≡◌, ℕ, ◌+◌, List, [], ◌∷◌, ◌++◌, ◌∙◌, ◌≢◌, suc, Bool, true, false, cond, nat_eq, nat_lt, ◌&&◌, length, None, is_some, refl, sym, ap, subst, arith, inl, inr, fold, map}
+use Rattle.std.proofs.Common.{◌≡◌, ℕ, ◌+◌, List, [], ◌∷◌, ◌∙◌, ◌≢◌, Bool, true, false, cond, nat_eq, nat_lt, ◌&&◌, length, is_some, refl, sym, ap, subst, arith, inl, inr, fold, map}
 use Rattle.std.proofs.lemmas.Bool.Decides.{nat_tests, eqb_tells}
 use Rattle.std.proofs.lemmas.Bool.{false_from_ne_true}
 use Rattle.euler_operators.specs.Common.{Model, holds, content, loop_of, face_of, outer, solid_of, Sound, HasHalf, Has, face_at, lists, has_rings, Plane, count, IsIn}
 use Rattle.euler_operators.specs.Table as table
 use Rattle.euler_operators.proofs.Common.{same_content, same_face, same_outer, loop_there, same_solid, row_elsewhere, no_row, tick_same, tick_other}
 use Rattle.euler_laws.proofs.Common.{no_rings_means}
-use Rattle.shapes.specs.Common.{AreLeft, Drawing, join_next, draw_next, stuck_at, all_joined, ring_free, all_drawn, rings_above, with_rings, rings_shared, drawn_between, FacePairs, next_drawn, vertices_on, some_above}
-use Rattle.split_drawing_laws.specs.drawings.DrawnIn.{Stays, DrawnIn, needed_for_pairs}
-use Rattle.split_drawing_laws.specs.drawings.Pairs.{AllFit, pairs_in}
+use Rattle.shapes.specs.Common.{Drawing, join_next, draw_next, stuck_at, all_joined, ring_free, all_drawn, rings_above, with_rings, rings_shared, drawn_between, FacePairs, next_drawn, vertices_on, some_above}
+use Rattle.split_drawing_laws.specs.drawings.DrawnIn.{Stays, DrawnIn}
+use Rattle.split_drawing_laws.specs.drawings.Pairs.{AllOf, AllFit, pairs_in}
 use Rattle.split_drawing_laws.specs.drawings.Passing.{Joining, Going, Ready, Drawable}
-use Rattle.split_drawing_laws.proofs.drawings.Pairs.{was_free, none_joined, joined_drawn, pair_can}
-use Rattle.split_drawing_laws.proofs.drawings.Passes.{either_now, joins_keep, cut_off, face_open, can_now, draws_keep, stuck_now, edge_fits, face_fits, loop_fits, room_as}
+use Rattle.split_drawing_laws.proofs.drawings.Pairs.{was_free}
+use Rattle.split_drawing_laws.proofs.drawings.Passes.{all_of_last, either_now, joins_keep, cut_off, can_now, draws_keep, stuck_now}
 use Rattle.split_drawing_laws.proofs.drawings.Stays.{draw_stays, stays_on, row_else}
 use Rattle.split_drawing_laws.proofs.drawings.Drawn.{loops_joined_faces, CanDraw, face_drawn_else, face_drawn, ring_rows}
 use Rattle.split_drawing_laws.proofs.face_sides.Beside.{Alone, draw_alone, Beside, ComesOf, joined_beside, drawn_beside, Lone, nothing_beside, never_free, given_has, given_else, given_face}
-use Rattle.split_drawing_laws.proofs.drawings.Faces.{drawn_is, face_goes, begun_joining, joins, going}
+use Rattle.split_drawing_laws.proofs.drawings.Faces.{drawn_is, can_alone, face_goes, begun_joining, joins, going}
 use Rattle.split_drawing_laws.proofs.loop_sides.SidesWhole.{draws_go_on, not_stuck}
 use Rattle.split_drawing_laws.proofs.half_sides.PlaceEnds.{AllUp}
 use Rattle.split_drawing_laws.proofs.face_sides.Shared.{above_stays, HeldOn, LiesOnSide, Cut, old_lies, new_lies}
@@ -23,12 +23,7 @@ use Rattle.split_drawing_laws.proofs.drawings.Whole.{ready, drawable_on, next_is
 
 -- the half-edges of pairs are in B
 abbrev pub AllOld : Model → List (ℕ × ℕ) → Type 0
-AllOld B [] = Unit {0}
-AllOld B (q ∷ qs) = (HasHalf B q.0 × HasHalf B q.1) × AllOld B qs
-
-all_old_last : (B : Model) (qs : List (ℕ × ℕ)) (q : ℕ × ℕ) → AllOld B qs → HasHalf B q.0 × HasHalf B q.1 → AllOld B (qs ++ q ∷ [])
-all_old_last B [] q a w = (w, tt)
-all_old_last B (r ∷ qs) q a w = (a.0, all_old_last B qs q a.1 w)
+AllOld B = AllOf (λ q. HasHalf B q.0 × HasHalf B q.1)
 
 module _ (B M : Model) (f : ℕ) where
   -- ---- first pass
@@ -41,7 +36,7 @@ module _ (B M : Model) (f : ℕ) where
 
   pub joins_beside : (d : Drawing) (qs : List (ℕ × ℕ)) (n : ℕ) → AllFit M f qs → AllOld B qs → Joining M f d qs n → Joined d → Joined (fold join_next d qs)
   joins_beside d qs n fit in_b w a = (joins_keep M f (λ x rs. Joined x × AllOld B rs)
-      (λ d q qs n fits w e a. (record { beside = a.0.beside; faces = a.0.faces; old = all_old_last B d.left q a.0.old a.1.0 }, a.1.1))
+      (λ d q qs n fits w e a. (record { beside = a.0.beside; faces = a.0.faces; old = all_of_last (λ q. HasHalf B q.0 × HasHalf B q.1) d.left q a.0.old a.1.0 }, a.1.1))
       (λ d q qs n fits w e a.
       let r = either_now M f d q qs n fits w e (λ X. Beside M X f × (X.faces ≡ M.faces))
       (λ c k can at to. (joined_beside M d.model f c k (d.taken.edge + 1) can at a.0.beside, loops_joined_faces d.model c k (d.taken.edge + 1) ∙ a.0.faces)) in
@@ -62,7 +57,7 @@ module _ (B M : Model) (f : ℕ) where
         let can = can_now M f sound d q qs n fits w e in
         let drawn : ComesOf M f (face_at d.model q.0) = w.drawn.within q.0 fits.u_there fits.u_face in (
           record {
-            beside = grind (arith, drawn_beside, was_free, face_open);
+            beside = drawn_beside d.model q.0 q.1 (d.taken.edge + 1) (d.taken.face + 1) (d.taken.loop + 1) can M f drawn (was_free M d.model w.drawn.stays (d.taken.face + 1) can.face_free) a.0.beside;
             stays = stays_on B d.model (cut_off d q).model a.0.stays (draw_stays d.model q.0 q.1 (d.taken.edge + 1) (d.taken.face + 1) (d.taken.loop + 1) can);
             alone = draw_alone d.model q.0 q.1 (d.taken.edge + 1) (d.taken.face + 1) (d.taken.loop + 1) can B M f a.0.stays a.1.0.0 a.1.0.1 drawn a.0.alone;
           },
@@ -123,15 +118,8 @@ module _ (B : Model) (side : ℕ → Bool) (p : Plane) (f : ℕ) (q : ℕ × ℕ
   shared_is : (drawn_between p f (q ∷ []) d).model ≡ with_rings K (rings_above K p f) g
   shared_is = ap (λ x. (rings_shared p f (q ∷ []) x).model) (drawn_is p f q d n w)
 
-  room_one : AreLeft d.taken (needed_for_pairs (suc n))
-  room_one = room_as d.taken (length (q ∷ []) + n) (suc n) (omega arith) w.room
-
-  g_free : table.get X.faces g ≡ None
-  g_free = w.fresh.faces g (omega arith)
-
   can : CanDraw X q.0 q.1 e g l
-  can = pair_can X X f q e g l w.sound (joined_drawn X X f (none_joined X f w.sound)) w.fit.0 w.alone (w.fresh.edges e (omega arith)) g_free (w.fresh.loops l (omega arith))
-      (edge_fits d.taken n room_one) (face_fits d.taken n room_one) (loop_fits d.taken n room_one)
+  can = can_alone p f q d n w
 
   outer_is : outer X f ≡ loop_of X q.0
   outer_is = same_outer B X f untouched.row ∙ sym (pairs.single q refl)
@@ -171,7 +159,7 @@ module _ (B : Model) (side : ℕ → Bool) (p : Plane) (f : ℕ) (q : ℕ × ℕ
   W_sound = subst Sound shared_is (face_goes p f (q ∷ []) d n w).drawn.sound
 
   K_beside : Beside X K f
-  K_beside = drawn_beside X q.0 q.1 e g l can X f (inl w.fit.0.u_face) g_free (nothing_beside X f)
+  K_beside = drawn_beside X q.0 q.1 e g l can X f (inl w.fit.0.u_face) can.face_free (nothing_beside X f)
 
   faces_are : W.faces ≡ K.faces
   faces_are = ap (λ N. N.faces) (ring_rows K (rings_above K p f) g)
@@ -179,11 +167,11 @@ module _ (B : Model) (side : ℕ → Bool) (p : Plane) (f : ℕ) (q : ℕ × ℕ
   W_beside : Beside X W f
   W_beside = record {
     faces = λ h there. ap (λ t. table.get t h) faces_are ∙ K_beside.faces h there;
-    loops = λ r there ne old. go r there ne old (lists (rings_above K p f) r) refl;
+    loops = λ r there ne old. given_or_not r there ne old (lists (rings_above K p f) r) refl;
   } where
-    go : (r : ℕ) → Has W.loops r → face_of W r ≢ f → Has X.faces (face_of W r) → (b : Bool) → lists (rings_above K p f) r ≡ b → table.get W.loops r ≡ table.get X.loops r
-    go r there ne old true i = absurd (never_free X.faces (face_of W r) old (ap (table.get X.faces) (given_face K (rings_above K p f) g r i (sym (given_has K (rings_above K p f) g r) ∙ there)) ∙ g_free))
-    go r there ne old false i =
+    given_or_not : (r : ℕ) → Has W.loops r → face_of W r ≢ f → Has X.faces (face_of W r) → (b : Bool) → lists (rings_above K p f) r ≡ b → table.get W.loops r ≡ table.get X.loops r
+    given_or_not r there ne old true i = absurd (never_free X.faces (face_of W r) old (ap (table.get X.faces) (given_face K (rings_above K p f) g r i (sym (given_has K (rings_above K p f) g r) ∙ there)) ∙ can.face_free))
+    given_or_not r there ne old false i =
         let row : table.get W.loops r ≡ table.get K.loops r = given_else K (rings_above K p f) g r i in
         let face : face_of W r ≡ face_of K r = same_face K W r row in
         row ∙ K_beside.loops r (ap is_some (sym row) ∙ there) (λ s. ne (face ∙ s)) (subst (Has X.faces) face old)
@@ -234,10 +222,10 @@ module _ (B : Model) (side : ℕ → Bool) (p : Plane) (f : ℕ) (q r : ℕ × �
   joined = joins_beside B d.model f (record d { left = [] }) ps n w.fit old (begun_joining p f ps d n w) (record { beside = nothing_beside d.model f; faces = refl; old = tt })
 
   state_sound : Sound J.model
-  state_sound = (joins p f ps d n w).state.joined.sound
+  state_sound = (joins p f ps d n w).state.joined.drawn.sound
 
   q_there : HasHalf J.model q.0
-  q_there = (joins p f ps d n w).state.joined.stays.halves q.0 w.fit.0.u_there
+  q_there = (joins p f ps d n w).state.joined.drawn.stays.halves q.0 w.fit.0.u_there
 
   q_face : face_at J.model q.0 ≡ f
   q_face = (joins p f ps d n w).state.joined.faces q.0 w.fit.0.u_there ∙ w.fit.0.u_face
@@ -255,7 +243,7 @@ module _ (B : Model) (side : ℕ → Bool) (p : Plane) (f : ℕ) (q r : ℕ × �
 
   parting : Parting B d.model f w.sound D
   parting = draws_part B d.model f w.sound J J.left n (joins p f ps d n w).state.pairs joined.old (going p f ps d n w)
-      (record { beside = joined.beside; stays = stays_on B d.model J.model stays (joins p f ps d n w).state.joined.stays; alone = begun_alone })
+      (record { beside = joined.beside; stays = stays_on B d.model J.model stays (joins p f ps d n w).state.joined.drawn.stays; alone = begun_alone })
 
   D_sided : (h : ℕ) → Has D.model.faces h → ComesOf d.model f h → IsSided B D.model side h
   D_sided h there drawn =
@@ -288,8 +276,7 @@ pub record Stage (B X : Model) (side : ℕ → Bool) (s : ℕ) (all rest : List 
 
 -- the pairs of each of some faces are such pairs
 abbrev pub AllPairsOf : Model → (ℕ → Bool) → Plane → List FacePairs → Type 0
-AllPairsOf B side p [] = Unit {0}
-AllPairsOf B side p (q ∷ qs) = PairsOf B side p q.face q.pairs × AllPairsOf B side p qs
+AllPairsOf B side p = AllOf (λ q. PairsOf B side p q.face q.pairs)
 
 module _ (B : Model) (side : ℕ → Bool) (s : ℕ) (all : List ℕ) (p : Plane) (sound : Sound B) where
   module _ (d : Drawing) (q : FacePairs) (qs : List FacePairs) (n : ℕ) (w : Drawable d (q ∷ qs) n) (some : q.face ≢ 0) (of_all : IsIn q.face all) (pairs : PairsOf B side p q.face q.pairs)
@@ -337,11 +324,11 @@ module _ (B : Model) (side : ℕ → Bool) (s : ℕ) (all : List ℕ) (p : Plane
     done_then : (g : ℕ) → Has Y.faces g → solid_of Y g ≡ s → count g fs ≡ 0 → IsSided B Y side g
     done_then g there of_s z = elim (eqb_tells g f) [
       | inl e ↦ face.sided g there (inl e.1)
-      | inr ne ↦ go (table.has Z.faces g) refl ne.1
+      | inr ne ↦ old_or_new (table.has Z.faces g) refl ne.1
     ] where
-      go : (b : Bool) → table.has Z.faces g ≡ b → g ≢ f → IsSided B Y side g
-      go false e ne = face.sided g there (inr (no_row (table.get Z.faces g) e))
-      go true e ne =
+      old_or_new : (b : Bool) → table.has Z.faces g ≡ b → g ≢ f → IsSided B Y side g
+      old_or_new false e ne = face.sided g there (inr (no_row (table.get Z.faces g) e))
+      old_or_new true e ne =
           let was = a.done g e (sym (same_solid Z Y g (face.beside.faces g e)) ∙ of_s) (omega (arith, z, tick_other g f ne)) in
           (was.0, lies_still g was.0 ne e was.1)
 

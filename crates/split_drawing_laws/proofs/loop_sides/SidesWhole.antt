@@ -1,10 +1,10 @@
 -- The sides of half-edges through the two passes over the pairs of a face.
-use Rattle.std.proofs.Common.{◌≡◌, ◌≢◌, ℕ, ◌+◌, Bool, true, false, cond, List, [], ◌∷◌, ◌++◌, None, IsTrue, refl, sym, ap, subst, arith, ◌⊎◌, inl, inr, nat_eq, nat_lt, ◌&&◌, length, ◌∙◌, fold, map, eqb-true}
+use Rattle.std.proofs.Common.{◌≡◌, ◌≢◌, ℕ, ◌+◌, Bool, true, false, cond, List, [], ◌∷◌, ◌++◌, None, IsTrue, refl, sym, ap, subst, arith, ◌⊎◌, inl, inr, nat_eq, nat_lt, ◌&&◌, length, ◌∙◌, fold, map, eqb-true, append_assoc, append-nil}
 use Rattle.std.proofs.lemmas.Bool.Decides.{eqb_tells}
-use Rattle.euler_operators.specs.Common.{Plane, count, tick, IsIn, Model, loop_of, is_number, is_ring_of, content, Sound, HasHalf, face_at, has_rings, effect}
+use Rattle.euler_operators.specs.Common.{Plane, count, tick, IsIn, Model, loop_of, is_number, is_ring_of, Sound, HasHalf, face_at, has_rings, effect}
 use Rattle.euler_operators.specs.Table as table
 use Rattle.euler_operators.proofs.Common.{count-append, tick_same}
-use Rattle.shapes.specs.Common.{Drawing, in_one_loop, join_next, draw_next, stuck_at, all_joined, ring_free, all_drawn, rings_above, with_rings, drawn_between, FacePairs, next_drawn, faces_drawn, undrawn, vertices_on, start, some_above, Growing, join_edge, join_pair}
+use Rattle.shapes.specs.Common.{Drawing, in_one_loop, join_next, draw_next, stuck_at, all_joined, ring_free, all_drawn, rings_above, with_rings, drawn_between, FacePairs, next_drawn, faces_drawn, undrawn, start, Growing, join_edge, join_pair}
 use Rattle.split_drawing_laws.specs.drawings.Pairs.{Fits, AllFit}
 use Rattle.split_drawing_laws.specs.loop_sides.Parted.{Parted, ends, Crosses, AllCross, Open, LiesOn, FacesCross, all_ends}
 use Rattle.split_drawing_laws.specs.drawings.DrawnIn.{JoinedIn}
@@ -12,27 +12,15 @@ use Rattle.split_drawing_laws.specs.drawings.Passing.{Joining, Going, Ready, Dra
 use Rattle.split_drawing_laws.specs.drawings.Laws.{CanBeDrawn}
 use Rattle.split_drawing_laws.specs.loop_sides.Laws.{TakeSides}
 use Rattle.split_drawing_laws.proofs.drawings.Pairs.{can_back, can_on}
-use Rattle.split_drawing_laws.proofs.drawings.Passes.{edge_free, edge_fits_now, joins_keep, can_now, stuck_now, draws_keep, cut_off}
+use Rattle.split_drawing_laws.proofs.drawings.Passes.{all_of_last, edge_free, edge_fits_now, joins_keep, can_now, stuck_now, draws_keep, cut_off}
 use Rattle.split_drawing_laws.proofs.loop_sides.Parting.{Opposed, parted_drawn, parted_joined, parted_moved, corners_on_one_side}
-use Rattle.split_drawing_laws.proofs.drawings.Rings.{rings_keep, rings_are, rings_apart}
-use Rattle.split_drawing_laws.proofs.drawings.Faces.{going_on, fitting_on, joins, going, last, newer_face, begun_joining}
+use Rattle.split_drawing_laws.proofs.drawings.Rings.{rings_keep}
+use Rattle.split_drawing_laws.proofs.drawings.Faces.{fitting, going_free, are_rings, above_apart, last, newer_face, begun_joining}
 use Rattle.split_drawing_laws.proofs.drawings.Whole.{ready, drawable_on, next_is, drawable, drawing_sound}
 
 count-ends : (x : ℕ) (as_ bs : List (ℕ × ℕ)) → count x (ends (as_ ++ bs)) ≡ count x (ends as_) + count x (ends bs)
 count-ends x [] bs = omega arith
 count-ends x (q ∷ qs) bs = let s : count x (ends (qs ++ bs)) ≡ count x (ends qs) + count x (ends bs) = count-ends x qs bs in omega (arith, s)
-
-append_last : (ls : List (ℕ × ℕ)) (q : ℕ × ℕ) (qs : List (ℕ × ℕ)) → (ls ++ q ∷ []) ++ qs ≡ ls ++ q ∷ qs
-append_last [] q qs = refl
-append_last (l ∷ ls) q qs = ap (λ xs. l ∷ xs) (append_last ls q qs)
-
-pub append_none : (ls : List (ℕ × ℕ)) → ls ++ [] ≡ ls
-append_none [] = refl
-append_none (l ∷ ls) = ap (λ xs. l ∷ xs) (append_none ls)
-
-all_cross_last : (B : Model) (p : Plane) (first : ℕ → Bool) (qs : List (ℕ × ℕ)) (q : ℕ × ℕ) → AllCross B p first qs → Crosses B p first q → AllCross B p first (qs ++ q ∷ [])
-all_cross_last B p first [] q a w = (w, tt)
-all_cross_last B p first (r ∷ qs) q a w = (a.0, all_cross_last B p first qs q a.1 w)
 
 fewer : (B : Model) (places rest : List ℕ) (c d : ℕ) → ((x : ℕ) → count x places ≡ count x rest + tick x c + tick x d) → Open B places → Open B rest
 fewer B places rest c d closed o = grind arith
@@ -51,10 +39,10 @@ module _ (B : Model) (p : Plane) (first : ℕ → Bool) (S : ℕ → Type 0) (ot
   -- a pair in different loops
   pair_parted : (N : Model) (q : ℕ × ℕ) (e : ℕ) (places rest : List ℕ) → JoinedIn M N f → Fits M f q → in_one_loop N q ≡ false → table.get N.edges e ≡ None → IsTrue (is_number e) →
       Crosses B p first q → Open B places → ((x : ℕ) → count x places ≡ count x rest + tick x q.0 + tick x q.1) → Parted B N p first S places → Parted B (effect N (join_pair N q e)) p first S rest
-  pair_parted N q e places rest joined fits two free efits cross open_now closed w = go (is_ring_of N (face_at N q.0) (loop_of N q.0)) refl where
-    go : (b : Bool) → is_ring_of N (face_at N q.0) (loop_of N q.0) ≡ b → Parted B (effect N (cond b (join_edge q.1 q.0 e) (join_edge q.0 q.1 e))) p first S rest
-    go true r = parted_joined B N p first S q.1 q.0 e places rest (can_back M N f q e joined fits two free efits r) (opposed B p first q places rest cross open_now closed).1 w
-    go false r = parted_joined B N p first S q.0 q.1 e places rest (can_on M N f q e joined fits two free efits r) (opposed B p first q places rest cross open_now closed).0 w
+  pair_parted N q e places rest joined fits two free efits cross open_now closed w = parted_by_ring (is_ring_of N (face_at N q.0) (loop_of N q.0)) refl where
+    parted_by_ring : (b : Bool) → is_ring_of N (face_at N q.0) (loop_of N q.0) ≡ b → Parted B (effect N (cond b (join_edge q.1 q.0 e) (join_edge q.0 q.1 e))) p first S rest
+    parted_by_ring true r = parted_joined B N p first S q.1 q.0 e places rest (can_back M N f q e joined fits two free efits r) (opposed B p first q places rest cross open_now closed).1 w
+    parted_by_ring false r = parted_joined B N p first S q.0 q.1 e places rest (can_on M N f q e joined fits two free efits r) (opposed B p first q places rest cross open_now closed).0 w
 
   -- ---- first pass
 
@@ -65,9 +53,9 @@ module _ (B : Model) (p : Plane) (first : ℕ → Bool) (S : ℕ → Type 0) (ot
   joins_part d qs n fit w cross a = (joins_keep M f (λ x rs. AtJoin x rs × AllCross B p first rs)
       (λ d q qs n fits w e a. (
         (
-          all_cross_last B p first d.left q a.0.0 a.1.0,
-          subst (λ ps. Open B (now ps)) (sym (append_last d.left q qs)) a.0.1,
-          subst (λ ps. Parted B d.model p first S (now ps)) (sym (append_last d.left q qs)) a.0.2,
+          all_of_last (Crosses B p first) d.left q a.0.0 a.1.0,
+          subst (λ ps. Open B (now ps)) (sym (append_assoc d.left (q ∷ []) qs)) a.0.1,
+          subst (λ ps. Parted B d.model p first S (now ps)) (sym (append_assoc d.left (q ∷ []) qs)) a.0.2,
         ),
         a.1.1,
       ))
@@ -124,28 +112,26 @@ module _ (B : Model) (p : Plane) (first : ℕ → Bool) (S : ℕ → Type 0) (ot
   Left x = AllCross B p first x.left × AtDraw B p first S others d.model f x x.left
 
   at_left : Left (ring_free f qs (all_joined qs d))
-  at_left = go stops (at_joined.0, (subst (λ ps. Open B (ends ps ++ others)) (append_none J.left) at_joined.1, subst (λ ps. Parted B J.model p first S (ends ps ++ others)) (append_none J.left) at_joined.2)) where
-    go : (b : Bool) → Left J → Left (cond b (stuck_at f J) J)
-    go true a = a
-    go false a = a
+  at_left = left_or_stuck stops (at_joined.0, (subst (λ ps. Open B (ends ps ++ others)) (append-nil J.left) at_joined.1, subst (λ ps. Parted B J.model p first S (ends ps ++ others)) (append-nil J.left) at_joined.2)) where
+    left_or_stuck : (b : Bool) → Left J → Left (cond b (stuck_at f J) J)
+    left_or_stuck true a = a
+    left_or_stuck false a = a
 
   at_drawn : L.stuck ≡ 0 → AtDraw B p first S others d.model f L []
-  at_drawn free = draws_part B p first S others d.model f R R.left n w.sound some (fitting_on d.model f f stops J (joins p f qs d n w).state.pairs) (going_on d.model f n stops J (going p f qs d n w)) at_left.0 free at_left.1
+  at_drawn free = draws_part B p first S others d.model f R R.left n w.sound some (fitting p f qs d n w) (going_free p f qs d n w) at_left.0 free at_left.1
 
   pub face_parted : (drawn_between p f qs d).stuck ≡ 0 → Open B others × Parted B (drawn_between p f qs d).model p first S others
-  face_parted free = go (nat_eq (length qs) 1) refl free where
-    go : (b : Bool) → nat_eq (length qs) 1 ≡ b → (cond b (record L { model = with_rings L.model (rings_above L.model p f) L.taken.face }) L).stuck ≡ 0 →
+  face_parted free = shared_or_not (nat_eq (length qs) 1) refl free where
+    shared_or_not : (b : Bool) → nat_eq (length qs) 1 ≡ b → (cond b (record L { model = with_rings L.model (rings_above L.model p f) L.taken.face }) L).stuck ≡ 0 →
         Open B others × Parted B (cond b (record L { model = with_rings L.model (rings_above L.model p f) L.taken.face }) L).model p first S others
-    go true e free =
+    shared_or_not true e free =
         let a = at_drawn free in (
           a.0,
           rings_keep d.model f L.taken.face (λ X. Parted B X p first S others) (λ N l. parted_moved d.model B N p first S f l L.taken.face others)
               L.model (rings_above L.model p f) (last p f qs d n w).drawn
-              (rings_are L.model f (λ l. some_above L.model p (vertices_on L.model (content L.model l))))
-              (rings_apart L.model f (λ l. some_above L.model p (vertices_on L.model (content L.model l))))
-              (newer_face p f qs d n w (eqb-true (length qs) 1 e)) a.1,
+              (are_rings p f qs d n w) (above_apart p f qs d n w) (newer_face p f qs d n w (eqb-true (length qs) 1 e)) a.1,
         )
-    go false e free = at_drawn free
+    shared_or_not false e free = at_drawn free
 
 -- ---- the sides of half-edges once all faces are drawn: each loop lies on one closed side
 

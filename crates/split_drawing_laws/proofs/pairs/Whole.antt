@@ -1,14 +1,15 @@
 -- The numbers taken once the edges are cut, and those that are left.
 use Rattle.std.specs.List.{list_all}
-use Rattle.std.proofs.Common.{◌≡◌, ℕ, ◌+◌, List, [], ◌∷◌, length, refl, sym, ap, ◌∙◌, subst, arith, ◌≢◌, ◌*◌, true, false, not, nat_eq, ◌&&◌}
+use Rattle.std.proofs.Common.{◌≡◌, ℕ, ◌+◌, ◌<◌, List, [], ◌∷◌, length, refl, sym, ap, ◌∙◌, subst, arith, ◌≢◌, ◌*◌, true, false, not, nat_eq, ◌&&◌}
 use Rattle.std.proofs.lemmas.List.{length-map}
 use Rattle.euler_operators.specs.Common.{Plane, Model, tail, loop_of, face_of, outer, point_of, rings_of, IsIn, IsApart, Sound, face_at, lists}
+use Rattle.euler_operators.specs.Table as table
 use Rattle.euler_operators.proofs.Common.{tick_same, not_or_fails, count-filter}
 use Rattle.euler_laws.specs.Laws.{AreAccepted, effects}
-use Rattle.euler_laws.proofs.Common.{AreAccepted-append, effects-append, listed-from_in, IsIn-from_listed}
-use Rattle.shapes.specs.Common.{AreLeft, AreFree, Taken, Growing, growing, taken_in, straddling_faces, crossing_edges, is_place, places, loop_is_cut, is_cut_often, sorted, sorted_pairs, place_pairs, next_cut, all_cut, with_crossings, straddling_pairs, from_place, drawn_pairs, all_pairs, with_drawings, loops_of, boundary}
-use Rattle.shapes.proofs.Common.{different_items, loops_of_apart, count-sorted, length-sorted}
-use Rattle.split_drawing_laws.specs.drawings.DrawnIn.{needed_for_pairs}
+use Rattle.euler_laws.proofs.Common.{AreAccepted-append, effects-append, IsIn-from_listed}
+use Rattle.shapes.specs.Common.{AreLeft, AreFree, FacePairs, Taken, Growing, growing, undrawn, taken_in, straddling_faces, crossing_edges, is_place, places, loop_is_cut, is_cut_often, sorted, sorted_pairs, place_pairs, next_cut, all_cut, with_crossings, straddling_pairs, from_place, drawn_pairs, all_pairs, with_drawings, loops_of, boundary}
+use Rattle.shapes.proofs.Common.{none_above, different_items, loops_of_apart, count-sorted, length-sorted}
+use Rattle.split_drawing_laws.specs.drawings.DrawnIn.{AreLeftForPairs}
 use Rattle.split_drawing_laws.specs.drawings.Pairs.{pairs_in, Fits, AllFit, LoneInOneLoop, FacesFit}
 use Rattle.split_drawing_laws.specs.crossings.AtPlace.{AtPlace}
 use Rattle.split_drawing_laws.specs.crossings.CrossingOps.{crossing_ops}
@@ -17,18 +18,18 @@ use Rattle.split_drawing_laws.specs.drawings.DrawingOps.{drawing_ops}
 use Rattle.split_drawing_laws.specs.drawings.Laws.{CanBeDrawn}
 use Rattle.split_drawing_laws.specs.pairs.Laws.{rewriting_ops}
 use Rattle.split_drawing_laws.proofs.drawings.Counted.{pairs_counted, fresh_taken, straddling_apart, faces_are}
-use Rattle.split_drawing_laws.proofs.crossings.Whole.{at_place, item_face, can_cut, crossings_accepted, crossings_made, crossings_sound, crossings_counted, crossings_keep}
+use Rattle.split_drawing_laws.proofs.crossings.Whole.{place_starts, item_face, can_cut, crossings_accepted, crossings_made, crossings_sound, crossings_counted, crossings_keep}
 use Rattle.split_drawing_laws.proofs.crossings.Premises.{Cuttable, needed_for_rewritings, face_facts}
-use Rattle.split_drawing_laws.proofs.drawings.Whole.{drawing_accepted, drawing_made, drawing_sound}
+use Rattle.split_drawing_laws.proofs.drawings.Whole.{drawing_accepted, drawing_made, drawing_sound, drawing_stays, drawing_fresh}
+use Rattle.split_drawing_laws.proofs.loop_sides.SidesWhole.{faces_go_on}
 use Rattle.split_drawing_laws.proofs.pairs.Sorted.{sorted_apart, all_paired, between, drawn, all_fit, lone_in_loop, points_apart}
 use Rattle.split_drawing_laws.proofs.pairs.LoopPlaces.{places_even, two_outer, IsEven}
 
--- an edge and a vertex for each edge that is cut
+-- an edge for each edge that is cut, and neither a face nor a loop
 pub record Grown (c d : Taken) (n : ℕ) : Type 0 where
   pub faces : d.face ≡ c.face
   pub loops : d.loop ≡ c.loop
   pub edges : d.edge ≡ c.edge + n
-  pub vertices : d.vertex ≡ c.vertex + n
 
 module _ (p : Plane) where
   next_taken : (g : Growing) (e : ℕ) → (next_cut p g e).taken ≡ record g.taken { edge = g.taken.edge + 1; vertex = g.taken.vertex + 1 }
@@ -36,12 +37,12 @@ module _ (p : Plane) where
   next_taken g e = refl
 
   all_grown : (g : Growing) (es : List ℕ) → Grown g.taken (all_cut p g es).taken (length es)
-  all_grown g [] = record { faces = refl; loops = refl; edges = omega arith; vertices = omega arith }
+  all_grown g [] = record { faces = refl; loops = refl; edges = omega arith }
   all_grown g (e ∷ es) = grind (arith, next_taken, all_grown (next_cut p g e) es)
 
   module _ (M : Model) (s : ℕ) where
     -- room for the pairs that a split counts
-    pub pairs_room : AreLeft (taken_in M) (needed_for_rewritings M s p) → AreLeft (with_crossings M s p).taken (needed_for_pairs (pairs_in (straddling_pairs M s p)))
+    pub pairs_room : AreLeft (taken_in M) (needed_for_rewritings M s p) → AreLeftForPairs (with_crossings M s p).taken (pairs_in (straddling_pairs M s p))
     unfolding with_crossings
     pairs_room left = grind (arith, all_grown (growing M) (crossing_edges M p s), pairs_counted)
 
@@ -50,7 +51,7 @@ module _ (p : Plane) where
 -- ---- the half-edges of a face
 
 module _ (M : Model) (sound : Sound M) (f : ℕ) where
-  places_in : (p : Plane) (x : ℕ) → IsIn x (places M p f) → IsIn x (boundary M f)
+  pub places_in : (p : Plane) (x : ℕ) → IsIn x (places M p f) → IsIn x (boundary M f)
   unfolding places
   places_in p x i = omega (arith, i, count-filter (is_place M p) x (boundary M f))
 
@@ -72,17 +73,17 @@ module _ (M : Model) (s : ℕ) (p : Plane) (t : ℕ) (sound : Sound M) (begins :
   -- ---- one face
 
   module _ (f : ℕ) (i : IsIn f (straddling_faces M p s)) where
-    at : (h : ℕ) → IsIn h (places M p f) → AtPlace M N p h
-    at h j = at_place M s p t sound begins f h (listed-from_in f (straddling_faces M p s) i) (listed-from_in h (places M p f) j)
+    pub place_now : (h : ℕ) → IsIn h (places M p f) → AtPlace M N p h
+    place_now h j = place_starts M s p t sound begins f h i j
 
     pub place_face : (h : ℕ) → IsIn h (places M p f) → face_at N (from_place N p h) ≡ f
-    place_face h j = ap (face_of N) (at h j).loop ∙ (crossings_keep M s p t sound begins).face (loop_of M h) ∙ item_face M sound f (face_facts M s p f i).0 h (places_in M sound f p h j)
+    place_face h j = ap (face_of N) (place_now h j).loop ∙ (crossings_keep M s p t sound begins).face (loop_of M h) ∙ item_face M sound f (face_facts M s p f i).0 h (places_in M sound f p h j)
 
     starts_apart : (x y : ℕ) → IsIn x (places M p f) → IsIn y (places M p f) → x ≢ y → tail N (from_place N p x) ≢ tail N (from_place N p y)
-    starts_apart x y j k ne e = points_apart M p f (premises.uncrossed f i) x y j k ne (sym (at x j).starts ∙ ap (point_of N) e ∙ (at y k).starts)
+    starts_apart x y j k ne e = points_apart M p f (premises.uncrossed f i) x y j k ne (sym (place_now x j).starts ∙ ap (point_of N) e ∙ (place_now y k).starts)
 
     two_fit : (x y : ℕ) → IsIn x (places M p f) → IsIn y (places M p f) → x ≢ y → Fits N f (between M N p (x, y))
-    two_fit x y j k ne = grind (arith, at, place_face, starts_apart)
+    two_fit x y j k ne = grind (arith, place_now, place_face, starts_apart)
 
     from_sorted : (x : ℕ) → IsIn x (sorted M p (places M p f)) → IsIn x (places M p f)
     from_sorted x j = omega (arith, j, count-sorted M p x (places M p f))
@@ -103,7 +104,7 @@ module _ (M : Model) (s : ℕ) (p : Plane) (t : ℕ) (sound : Sound M) (begins :
     paired = grind (arith, length-sorted, all_paired, even, length-map)
 
     outer_only : length (sorted M p (places M p f)) ≡ 2 → (x : ℕ) → IsIn x (sorted M p (places M p f)) → loop_of N (from_place N p x) ≡ outer M f
-    outer_only two x j = (at x (from_sorted x j)).loop
+    outer_only two x j = (place_now x (from_sorted x j)).loop
         ∙ two_outer M sound p f (premises.untouched f i) (outer_cut M p f (premises.not_often f i)) (sym (length-sorted M p (places M p f)) ∙ two) x (from_sorted x j)
 
     lone_pair : LoneInOneLoop N (drawn_pairs M N p f)
@@ -118,10 +119,13 @@ module _ (M : Model) (s : ℕ) (p : Plane) (t : ℕ) (sound : Sound M) (begins :
   faces_fit [] within = tt
   faces_fit (f ∷ fs) within = grind (arith, tick_same, pairs_fit, lone_pair, faces_fit fs (λ g j. within g (omega (arith, j))))
 
+  crossings_free : AreFree N (with_crossings M s p).taken
+  crossings_free = subst (AreFree N) (sym (crossings_counted M s p t sound begins)) (fresh_taken N)
+
   pub can_be_drawn : CanBeDrawn (with_crossings M s p) (straddling_pairs M s p)
   can_be_drawn = record {
     sound = crossings_sound M s p t sound begins;
-    fresh = subst (AreFree N) (sym (crossings_counted M s p t sound begins)) (fresh_taken N);
+    fresh = record { faces = crossings_free.faces; loops = crossings_free.loops; edges = crossings_free.edges; vertices = none_above N.vertices };
     room = pairs_room p M s premises.left;
     fit = faces_fit (straddling_faces M p s) (λ f i. i);
     apart = subst IsApart (sym (faces_are M N p (straddling_faces M p s))) (straddling_apart M p s);
@@ -141,3 +145,17 @@ module _ (M : Model) (s : ℕ) (p : Plane) (t : ℕ) (sound : Sound M) (begins :
   pub rewritings_sound : Sound (with_drawings M s p).model
   unfolding with_drawings
   rewritings_sound = drawing_sound p (with_crossings M s p) (straddling_pairs M s p) can_be_drawn
+
+  -- the numbers above those taken then are free
+  pub rewritings_free : AreFree (with_drawings M s p).model (with_drawings M s p).taken
+  unfolding with_drawings
+  rewritings_free =
+      let g : Growing = with_crossings M s p in
+      let fs : List FacePairs = straddling_pairs M s p in
+      let w = drawing_fresh p g fs can_be_drawn in
+      record {
+        faces = w.faces;
+        loops = w.loops;
+        edges = w.edges;
+        vertices = λ q above. ap (λ t. table.get t q) (drawing_stays p g fs can_be_drawn).vertices ∙ crossings_free.vertices q (subst (λ n. n < q) (faces_go_on p (undrawn g) fs).vertex above);
+      }

@@ -2,16 +2,16 @@
 use Rattle.std.specs.Prelude.{◌≡◌, List, map}
 use Rattle.euler_operators.specs.Common.{Plane, IsApart, Sound}
 use Rattle.euler_laws.specs.Laws.{effects, AreAccepted}
-use Rattle.shapes.specs.Common.{AreFree, AreLeft, Growing, FacePairs, faces_drawn, undrawn}
+use Rattle.shapes.specs.Common.{Growing, FacePairs, faces_drawn, undrawn}
 use Rattle.split_drawing_laws.specs.drawings.DrawingOps.{drawing_ops}
-use Rattle.split_drawing_laws.specs.drawings.DrawnIn.{Stays, needed_for_pairs}
+use Rattle.split_drawing_laws.specs.drawings.DrawnIn.{Stays, AreFreeForPairs, AreLeftForPairs}
 use Rattle.split_drawing_laws.specs.drawings.Pairs.{FacesFit, pairs_in}
 
 -- in the model with its edges cut, that of g, the faces fs can be drawn between their pairs
 pub record CanBeDrawn (g : Growing) (fs : List FacePairs) : Type 0 where
   pub sound : Sound g.model
-  pub fresh : AreFree g.model g.taken
-  pub room : AreLeft g.taken (needed_for_pairs (pairs_in fs))
+  pub fresh : AreFreeForPairs g.model g.taken
+  pub room : AreLeftForPairs g.taken (pairs_in fs)
   pub fit : FacesFit g.model fs
   pub apart : IsApart (map (λ f. f.face) fs)
 

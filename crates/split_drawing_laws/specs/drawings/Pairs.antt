@@ -11,9 +11,13 @@ pub record Fits (M : Model) (f : ℕ) (q : ℕ × ℕ) : Type 0 where
   pub k_face : face_at M q.1 ≡ f
   pub apart : tail M q.0 ≢ tail M q.1
 
+-- each of a list is so
+abbrev pub AllOf : {X : Type 0} → (X → Type 0) → List X → Type 0
+AllOf P [] = Unit {0}
+AllOf P (x ∷ xs) = P x × AllOf P xs
+
 abbrev pub AllFit : Model → ℕ → List (ℕ × ℕ) → Type 0
-AllFit M f [] = Unit {0}
-AllFit M f (q ∷ qs) = Fits M f q × AllFit M f qs
+AllFit M f = AllOf (Fits M f)
 
 -- a pair that is the only one stands in one loop
 abbrev pub LoneInOneLoop : Model → List (ℕ × ℕ) → Type 0
@@ -23,8 +27,7 @@ LoneInOneLoop M (q ∷ r ∷ qs) = Unit {0}
 
 -- so it is with the pairs of each of some faces
 abbrev pub FacesFit : Model → List FacePairs → Type 0
-FacesFit M [] = Unit {0}
-FacesFit M (f ∷ fs) = (AllFit M f.face f.pairs × LoneInOneLoop M f.pairs) × FacesFit M fs
+FacesFit M = AllOf (λ f. AllFit M f.face f.pairs × LoneInOneLoop M f.pairs)
 
 -- how many pairs some faces have
 abbrev pub pairs_in : List FacePairs → ℕ

@@ -3,6 +3,7 @@ use Rattle.std.specs.Prelude.{◌≡◌, ◌≢◌, ℕ, Bool, true, false, not,
 use Rattle.euler_operators.specs.Common.{Point, Plane, is_above, is_below, is_on, count, IsIn, IsApart, Model, after, HasHalf}
 use Rattle.shapes.specs.Common.{start, FacePairs}
 use Rattle.split_drawing_laws.specs.drawings.DrawnIn.{Stays}
+use Rattle.split_drawing_laws.specs.drawings.Pairs.{AllOf}
 
 -- going on from x the side stays, but where one comes to an open place it changes
 pub record Sided (Old : ℕ → Type 0) (next : ℕ → ℕ) (side : ℕ → Bool) (places : List ℕ) : Type 0 where
@@ -38,8 +39,7 @@ pub record Crosses (B : Model) (p : Plane) (first : ℕ → Bool) (q : ℕ × �
   pub sides : first q.0 ≡ not (first q.1)
 
 abbrev pub AllCross : Model → Plane → (ℕ → Bool) → List (ℕ × ℕ) → Type 0
-AllCross B p first [] = Unit {0}
-AllCross B p first (q ∷ qs) = Crosses B p first q × AllCross B p first qs
+AllCross B p first = AllOf (Crosses B p first)
 
 -- the open places are half-edges, each once
 pub record Open (B : Model) (places : List ℕ) : Type 0 where
@@ -48,8 +48,7 @@ pub record Open (B : Model) (places : List ℕ) : Type 0 where
 
 -- so it is with the pairs of each of some faces, and the half-edges of all their pairs
 abbrev pub FacesCross : Model → Plane → (ℕ → Bool) → List FacePairs → Type 0
-FacesCross B p first [] = Unit {0}
-FacesCross B p first (f ∷ fs) = AllCross B p first f.pairs × FacesCross B p first fs
+FacesCross B p first = AllOf (λ f. AllCross B p first f.pairs)
 
 abbrev pub all_ends : List FacePairs → List ℕ
 all_ends [] = []

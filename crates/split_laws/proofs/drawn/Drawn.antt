@@ -7,14 +7,14 @@ use Rattle.euler_operators.specs.Table as table
 use Rattle.euler_operators.proofs.Common.{count-filter, IsIn-filter, filter_passes, no_row, zero_first_where, first_fails, IsIn_or_not, in-holds, cycle_there, plus_there, minus_there, loop_there}
 use Rattle.euler_laws.proofs.Common.{all_hold, none_refuses, all_hold-front, all_hold-back, no_zero, all_where-rises, IsIn-from_listed, listed-from_in, halves_of_edge, loop_after, half_face, loop_row, not_lone_cycle}
 use Rattle.shapes.proofs.Common.{none_found, zero_found, numbers_are_left, none_is_lone, face_of_loop}
-use Rattle.shapes.specs.Common.{AreFree, AreLeft, least_lone, loops_of, corners, found, reaches_above, reaches_below, face_is_above, faces_above, straddles, crossing_edges, with_crossings, Drawing, straddling_pairs, with_drawings, below_halves, section_ends, least_branched, section_cycles, has_stray_hole, first_conditions, later_conditions, section_conditions, split_conditions, split_refusal, normal}
+use Rattle.shapes.specs.Common.{AreLeft, least_lone, loops_of, corners, found, reaches_above, reaches_below, face_is_above, faces_above, straddles, crossing_edges, with_crossings, Drawing, straddling_pairs, with_drawings, below_halves, section_ends, least_branched, section_cycles, has_stray_hole, first_conditions, later_conditions, section_conditions, split_conditions, split_refusal, normal}
 use Rattle.split_drawing_laws.specs.crossings.Laws.{CanBegin}
 use Rattle.split_drawing_laws.proofs.crossings.Whole.{crossings_keep, crossings_cut, crossings_sound, same_solid, not_cut}
 use Rattle.split_drawing_laws.proofs.crossings.Premises.{solid_facts, any_passes, tail_in_face, in_solid}
-use Rattle.split_drawing_laws.proofs.pairs.Whole.{can_be_drawn, rewritings_sound}
+use Rattle.split_drawing_laws.proofs.pairs.Whole.{can_be_drawn, rewritings_sound, rewritings_free}
 use Rattle.split_drawing_laws.specs.drawings.DrawnIn.{Stays}
 use Rattle.split_drawing_laws.specs.drawings.Laws.{CanBeDrawn}
-use Rattle.split_drawing_laws.proofs.drawings.Whole.{drawing_stays, drawing_fresh}
+use Rattle.split_drawing_laws.proofs.drawings.Whole.{drawing_stays}
 use Rattle.split_opening_laws.specs.cycles.SectionCycles.{IsUnbranched}
 use Rattle.split_opening_laws.proofs.cycles.RisingLists.{filter_rises}
 use Rattle.split_opening_laws.specs.sections.Capped.{HasCaps}
@@ -107,10 +107,6 @@ module _ (M : Model) (s : ℕ) (p : Plane) (t : ℕ) (sound : Sound M) (accepted
   unfolding with_drawings
   drawn_keeps = drawing_keeps p (with_crossings M s p) (straddling_pairs M s p) can
 
-  are_free : AreFree D d.taken
-  unfolding with_drawings
-  are_free = drawing_fresh p (with_crossings M s p) (straddling_pairs M s p) can
-
   pub t_free : table.get (with_drawings M s p).model.solids t ≡ None
   unfolding first_conditions
   t_free = ap (λ u. table.get u t) (drawn_keeps.solids ∙ (crossings_keep M s p t sound begins).solids)
@@ -123,7 +119,7 @@ module _ (M : Model) (s : ℕ) (p : Plane) (t : ℕ) (sound : Sound M) (accepted
   -- the solid can be opened along its section
   pub can_open_all : CanBeOpenedInTurn (faces_above (with_drawings M s p).model p s) s (record { model = (with_drawings M s p).model; taken = (with_drawings M s p).taken; caps = [] })
       (section_cycles (with_drawings M s p).model (below_halves (with_drawings M s p).model (faces_above (with_drawings M s p).model p s) s))
-  can_open_all = can_be_opened D above s d.taken drawn_sound are_free (λ f l. (above_facts f l).1) (λ f l. (above_facts f l).0) unbranched left
+  can_open_all = can_be_opened D above s d.taken drawn_sound (rewritings_free M s p t sound begins) (λ f l. (above_facts f l).1) (λ f l. (above_facts f l).0) unbranched left
 
   -- and has no caps yet
   pub no_caps : HasCaps (faces_above (with_drawings M s p).model p s) s (record { model = (with_drawings M s p).model; taken = (with_drawings M s p).taken; caps = [] })
