@@ -74,10 +74,10 @@ put_between m y xs apart there free =
 
 -- two rewritings after one another are a third, where they agree row by row
 maps_agree : {X : Type 0} (f g h : ℕ → X → X) (t : Table X) → ((q : ℕ) (x : X) → table.get t q ≡ Some x → g q (f q x) ≡ h q x) → table.map_rows g (table.map_rows f t) ≡ table.map_rows h t
-maps_agree {X = X} f g h t agree = same_table _ _ (λ q. get-map_rows g (table.map_rows f t) q ∙ ap (option_map (g q)) (get-map_rows f t q) ∙ go q (table.get t q) (agree q) ∙ sym (get-map_rows h t q)) where
-  go : (q : ℕ) (o : Option X) → ((x : X) → o ≡ Some x → g q (f q x) ≡ h q x) → option_map (g q) (option_map (f q) o) ≡ option_map (h q) o
-  go q None agree = refl
-  go q (Some x) agree = ap Some (agree x refl)
+maps_agree {X = X} f g h t agree = same_table _ _ (λ q. get-map_rows g (table.map_rows f t) q ∙ ap (option_map (g q)) (get-map_rows f t q) ∙ row_agrees q (table.get t q) (agree q) ∙ sym (get-map_rows h t q)) where
+  row_agrees : (q : ℕ) (o : Option X) → ((x : X) → o ≡ Some x → g q (f q x) ≡ h q x) → option_map (g q) (option_map (f q) o) ≡ option_map (h q) o
+  row_agrees q None agree = refl
+  row_agrees q (Some x) agree = ap Some (agree x refl)
 
 some_rows : {X : Type 0} (e : ℕ) (es : List (ℕ × X)) → is_some (find nat_cmp e es) ≡ true → (n : ℕ) × (2 * length es ≡ suc (suc n))
 some_rows e [] there = absurd (true≢false (sym there))
@@ -162,10 +162,10 @@ module _ (M : Model) (e k v : ℕ) (q : Point) (goes : CanCut M e k) where
 
   -- a loop that holds neither stays
   stays : (n : ℕ) (row : LoopRow) → table.get M.loops n ≡ Some row → count (plus e) (items_of row.content) ≡ 0 → count (minus e) (items_of row.content) ≡ 0 → rewritten (flat_map (doubled e k)) row.content ≡ row.content
-  stays n row at a b = go row.content (content_row M n row at) a b where
-    go : (c : LoopContent) → content M n ≡ c → count (plus e) (items_of c) ≡ 0 → count (minus e) (items_of c) ≡ 0 → rewritten (flat_map (doubled e k)) c ≡ c
-    go (lone w) is a b = refl
-    go (cycle hs) is a b = ap (λ t. cycle (canonical t)) (doubled_none e k hs a b) ∙ ap cycle ((goes.sound.cycles n hs (ap is_some at) is).from_least)
+  stays n row at a b = content_stays row.content (content_row M n row at) a b where
+    content_stays : (c : LoopContent) → content M n ≡ c → count (plus e) (items_of c) ≡ 0 → count (minus e) (items_of c) ≡ 0 → rewritten (flat_map (doubled e k)) c ≡ c
+    content_stays (lone w) is a b = refl
+    content_stays (cycle hs) is a b = ap (λ t. cycle (canonical t)) (doubled_none e k hs a b) ∙ ap cycle ((goes.sound.cycles n hs (ap is_some at) is).from_least)
 
   other_rows : (n : ℕ) (row : LoopRow) → n ≢ l → n ≢ m → table.get M.loops n ≡ Some row → second n (first n row) ≡ both n row
   other_rows n row a b at =

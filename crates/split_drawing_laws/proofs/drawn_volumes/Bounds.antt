@@ -2,9 +2,9 @@
 use Rattle.std.proofs.Common.{◌≡◌, ◌≢◌, ℕ, true, ◌&&◌, List, [], ◌∷◌, Some, is_some, unwrap_or, refl, sym, ap, ◌∙◌, subst, arith, inl, inr, ◌⊎◌, ◌+◌, ◌++◌, true≢false}
 use Rattle.std.proofs.lemmas.Bool.{and_parts}
 use Rattle.std.proofs.lemmas.Bool.Decides.{eqb_tells}
-use Rattle.euler_operators.specs.Common.{Plane, moved, cross, is_on, count, IsIn, SameItems, tick, mate, plus, minus, Model, LoopContent, lone, cycle, no_point, items_of, tail, content, outer, point_of, loop_of, face_of, EdgeRow, no_face, solid_of, cycle_of, Sound, Has, HasHalf, face_at, Point, rotate_to}
+use Rattle.euler_operators.specs.Common.{Plane, moved, cross, is_on, count, IsIn, SameItems, tick, mate, plus, minus, Model, LoopContent, lone, cycle, items_of, tail, content, outer, point_of, loop_of, face_of, no_face, solid_of, cycle_of, Sound, Has, HasHalf, face_at, Point, rotate_to}
 use Rattle.euler_operators.specs.Table as table
-use Rattle.euler_operators.proofs.Common.{IsIn_or_not, tick_same, tick_other, count-append, cycle_there, loop_there, lone_there, item_there, item_loop, never_lone, mate_there, content_row, face_row, same_content, same_face, same_outer, IsIn_rest, all_mapped, IsIn_head, count-canonical, plus_row, minus_row, mate_plus, plus_other, get-put_here, row_elsewhere, moved_twice, none_moved}
+use Rattle.euler_operators.proofs.Common.{IsIn_or_not, tick_same, tick_other, count-append, cycle_there, loop_there, lone_there, item_there, item_loop, never_lone, mate_there, content_row, face_row, same_content, same_face, same_outer, IsIn_rest, all_mapped, IsIn_head, count-canonical, mate_plus, plus_other, row_elsewhere, moved_twice, none_moved}
 use Rattle.euler_laws.proofs.Common.{listed-from_in, count-mef_old, count-mef_new, half_face}
 use Rattle.shapes.specs.Common.{start, finish, loops_of, boundary, vertices_on, corners, area, anchor, first_vertex, normal}
 use Rattle.shapes.proofs.Common.{are_on, face_of_loop, AreHalves, different_items, loops_of_apart, area-append, area_same, halves_cancel}
@@ -13,7 +13,7 @@ use Rattle.split_drawing_laws.proofs.crossings.Premises.{loop_in_face, item_in_f
 use Rattle.split_drawing_laws.proofs.crossings.Whole.{item_face}
 use Rattle.split_drawing_laws.proofs.cut_volumes.Told.{loop_on, loops_on, item_on}
 use Rattle.split_drawing_laws.proofs.drawings.Drawn.{CanDraw, draw_sound, face_drawn_new, face_drawn_else, CanJoin, join_sound, loops_joined_faces, face_drawn, loops_joined}
-use Rattle.split_drawing_laws.proofs.drawings.Stays.{stands_at, row_old, row_new, row_else, edges_are, draw_stays, draw_tails, draw_beside, draw_within, row_joined, row_other, row_gone, joined_edges, join_stays, join_tails, join_faces}
+use Rattle.split_drawing_laws.proofs.drawings.Stays.{new_halves, point_stays, start_stays, stands_at, row_old, row_new, row_else, edges_are, draw_stays, draw_tails, draw_beside, draw_within, row_joined, row_other, row_gone, joined_edges, join_stays, join_tails, join_faces}
 use Rattle.split_drawing_laws.proofs.loop_sides.Parting.{none_new, halves_drawn, halves_joined}
 
 -- the half-edges and the lone vertices of face f lie on the plane
@@ -69,27 +69,20 @@ module _ (N : Model) (sound : Sound N) where
 -- ---- half-edges that stay
 
 module _ (N K : Model) (sound : Sound N) (stays : Stays N K) where
-  pub point_still : (v : ℕ) → point_of K v ≡ point_of N v
-  unfolding point_of
-  point_still v = ap (λ t. unwrap_or (table.get t v) no_point) stays.vertices
-
-  pub start_still : (h : ℕ) → HasHalf N h → start K h ≡ start N h
-  start_still h there = ap (point_of K) (stays.tails h there) ∙ point_still (tail N h)
-
   finish_still : (h : ℕ) → HasHalf N h → finish K h ≡ finish N h
-  finish_still h there = start_still (mate h) (mate_there N h there)
+  finish_still h there = start_stays N K stays (mate h) (mate_there N h there)
 
   pub area_still : (hs : List ℕ) → ((h : ℕ) → IsIn h hs → HasHalf N h) → area K hs ≡ area N hs
   area_still [] there = refl
-  area_still (h ∷ hs) there = λ i. moved (cross (start_still h (there h (IsIn_head h hs)) i) (finish_still h (there h (IsIn_head h hs)) i)) (area_still hs (λ x j. there x (IsIn_rest x h hs j)) i)
+  area_still (h ∷ hs) there = λ i. moved (cross (start_stays N K stays h (there h (IsIn_head h hs)) i) (finish_still h (there h (IsIn_head h hs)) i)) (area_still hs (λ x j. there x (IsIn_rest x h hs j)) i)
 
   -- a face keeps its anchor with its outer loop
   pub anchor_still : (f : ℕ) → Has N.faces f → outer K f ≡ outer N f → content K (outer N f) ≡ content N (outer N f) → anchor K f ≡ anchor N f
   anchor_still f there o c = ap (λ q. point_of K (first_vertex K (content K q))) o ∙ ap (λ x. point_of K (first_vertex K x)) c ∙ first_still (content N (outer N f)) refl where
     first_still : (x : LoopContent) → content N (outer N f) ≡ x → point_of K (first_vertex K x) ≡ point_of N (first_vertex N x)
-    first_still (lone v) is = point_still v
+    first_still (lone v) is = point_stays N K stays v
     first_still (cycle []) is = absurd ((sound.cycles (outer N f) [] (sound.outers_there f there).0 is).some_item refl)
-    first_still (cycle (h ∷ hs)) is = start_still h (item_there N sound (outer N f) h (subst (λ x. IsIn h (items_of x)) (sym is) (IsIn_head h hs)))
+    first_still (cycle (h ∷ hs)) is = start_stays N K stays h (item_there N sound (outer N f) h (subst (λ x. IsIn h (items_of x)) (sym is) (IsIn_head h hs)))
 
 -- ---- a model with one edge more: its half-edges, and faces that keep theirs
 
@@ -99,17 +92,6 @@ half_there N h = grind arith
 pub normal_is : (N : Model) (f : ℕ) → normal N f ≡ area N (boundary N f)
 unfolding normal
 normal_is N f = refl
-
--- K has edge e more
-module _ (N K : Model) (e : ℕ) (row : EdgeRow) (is : K.edges ≡ table.put N.edges e row) where
-  row_now : table.get K.edges e ≡ Some row
-  row_now = ap (λ t. table.get t e) is ∙ get-put_here N.edges e row
-
-  pub plus_there : HasHalf K (plus e)
-  plus_there = ap is_some (ap (table.get K.edges) (plus_row e).0 ∙ row_now)
-
-  pub minus_there : HasHalf K (minus e)
-  minus_there = ap is_some (ap (table.get K.edges) (minus_row e).0 ∙ row_now)
 
 -- ---- faces that keep their half-edges
 
@@ -197,10 +179,10 @@ module _ (N : Model) (u k e g l : ℕ) (can : CanDraw N u k e g l) where
   face_then h there = grind (arith, draw_within, draw_beside)
 
   plus_start : start K (plus e) ≡ start N u
-  plus_start = ap (point_of K) (draw_tails N u k e g l can).0 ∙ point_still N K can.sound stays (tail N u)
+  plus_start = ap (point_of K) (draw_tails N u k e g l can).0 ∙ point_stays N K stays (tail N u)
 
   minus_start : start K (minus e) ≡ start N k
-  minus_start = ap (point_of K) (draw_tails N u k e g l can).1 ∙ point_still N K can.sound stays (tail N k)
+  minus_start = ap (point_of K) (draw_tails N u k e g l can).1 ∙ point_stays N K stays (tail N k)
 
   cases : (h : ℕ) → HasHalf K h → HasHalf N h ⊎ ((h ≡ plus e) ⊎ (h ≡ minus e))
   cases = halves_drawn N u k e g l can
@@ -215,7 +197,7 @@ module _ (N : Model) (u k e g l : ℕ) (can : CanDraw N u k e g l) where
   lone_on : (t : Plane) (q v : ℕ) → content K q ≡ lone v → OnFace N t (face_of K q) → is_on t (point_of K v) ≡ true
   lone_on t q v is w =
       let row = lone_row q v is in
-      ap (is_on t) (point_still N K can.sound stays v) ∙ w.lones q v (sym (same_face N K q row)) (sym (same_content N K q row) ∙ is)
+      ap (is_on t) (point_stays N K stays v) ∙ w.lones q v (sym (same_face N K q row)) (sym (same_content N K q row) ∙ is)
 
   -- ---- planes
 
@@ -223,7 +205,7 @@ module _ (N : Model) (u k e g l : ℕ) (can : CanDraw N u k e g l) where
   pub old_on : (t : Plane) (f : ℕ) → Has N.faces f → OnFace N t f → OnFace (face_drawn N u k e g l) t f
   old_on t f there w = record {
     halves = λ h now at. elim (cases h now) [
-      | inl was ↦ ap (is_on t) (start_still N K can.sound stays h was) ∙ elim (face_then h was) [
+      | inl was ↦ ap (is_on t) (start_stays N K stays h was) ∙ elim (face_then h was) [
         | inl same ↦ w.halves h was (sym same ∙ at)
         | inr new ↦ absurd (not_new f there (sym at ∙ new.1))
       ]
@@ -239,7 +221,7 @@ module _ (N : Model) (u k e g l : ℕ) (can : CanDraw N u k e g l) where
   pub new_on : (t : Plane) → OnFace N t (face_at N u) → OnFace (face_drawn N u k e g l) t g
   new_on t w = record {
     halves = λ h now at. elim (cases h now) [
-      | inl was ↦ ap (is_on t) (start_still N K can.sound stays h was) ∙ elim (face_then h was) [
+      | inl was ↦ ap (is_on t) (start_stays N K stays h was) ∙ elim (face_then h was) [
         | inl same ↦ absurd (not_new (face_at N h) (half_face N can.sound h was) (sym same ∙ at))
         | inr new ↦ w.halves h was new.0
       ]
@@ -277,9 +259,9 @@ module _ (N : Model) (u k e g l : ℕ) (can : CanDraw N u k e g l) where
 
   both : SameItems (boundary K F ++ boundary K g) (plus e ∷ minus e ∷ boundary N F)
   both h = count-append h (boundary K F) (boundary K g) ∙ two_halves h e (count h (boundary K F) + count h (boundary K g)) (boundary N F)
-      (λ is. let now : HasHalf K h = subst (HasHalf K) (sym is) (plus_there N K e _ (edges_are N u k e g l can)) in
+      (λ is. let now : HasHalf K h = subst (HasHalf K) (sym is) (new_halves N K e _ _ (edges_are N u k e g l can) can.edge_free).0 in
       (omega (arith, bound_one K K_sound F h now (ap (face_at K) is ∙ plus_face), bound_none K K_sound g h g_now (λ t s. not_new F F_there (sym plus_face ∙ sym (ap (face_at K) is) ∙ s))), bound_none N can.sound F h F_there (λ t s. (none_new N e h can.edge_free t).0 is)))
-      (λ is. let now : HasHalf K h = subst (HasHalf K) (sym is) (minus_there N K e _ (edges_are N u k e g l can)) in
+      (λ is. let now : HasHalf K h = subst (HasHalf K) (sym is) (new_halves N K e _ _ (edges_are N u k e g l can) can.edge_free).1 in
       (omega (arith, bound_none K K_sound F h F_now (λ t s. not_new F F_there (sym s ∙ ap (face_at K) is ∙ minus_face)), bound_one K K_sound g h now (ap (face_at K) is ∙ minus_face)), bound_none N can.sound F h F_there (λ t s. (none_new N e h can.edge_free t).1 is)))
       (λ a b. elim (half_there N h) [
         | inl was ↦ old_counts h was
@@ -334,10 +316,10 @@ module _ (N : Model) (c d e : ℕ) (can : CanJoin N c d e) where
   minus_joins = at_joined (minus e) (let o : tick (minus e) (plus e) ≡ 0 = tick_other (minus e) (plus e) (λ s. absurd (omega (arith, s))) in omega (arith, tick_same (minus e), o))
 
   plus_goes : start J (plus e) ≡ start N c
-  plus_goes = ap (point_of J) (join_tails N c d e can).0 ∙ point_still N J can.sound keeps (tail N c)
+  plus_goes = ap (point_of J) (join_tails N c d e can).0 ∙ point_stays N J keeps (tail N c)
 
   minus_goes : start J (minus e) ≡ start N d
-  minus_goes = ap (point_of J) (join_tails N c d e can).1 ∙ point_still N J can.sound keeps (tail N d)
+  minus_goes = ap (point_of J) (join_tails N c d e can).1 ∙ point_stays N J keeps (tail N d)
 
   joined_cases : (h : ℕ) → HasHalf J h → HasHalf N h ⊎ ((h ≡ plus e) ⊎ (h ≡ minus e))
   joined_cases = halves_joined N c d e can
@@ -351,7 +333,7 @@ module _ (N : Model) (c d e : ℕ) (can : CanJoin N c d e) where
   pub joined_on : (t : Plane) (f : ℕ) → OnFace N t f → OnFace (loops_joined N c d e) t f
   joined_on t f w = record {
     halves = λ h now at. elim (joined_cases h now) [
-      | inl was ↦ ap (is_on t) (start_still N J can.sound keeps h was) ∙ w.halves h was (sym (join_faces N c d e can h was) ∙ at)
+      | inl was ↦ ap (is_on t) (start_stays N J keeps h was) ∙ w.halves h was (sym (join_faces N c d e can h was) ∙ at)
       | inr new ↦ elim new [
         | inl is ↦ ap (is_on t) (ap (start J) is ∙ plus_goes) ∙ w.halves c can.c_there (sym plus_joins ∙ sym (ap (face_at J) is) ∙ at)
         | inr is ↦ ap (is_on t) (ap (start J) is ∙ minus_goes) ∙ w.halves d can.d_there (sym can.one_face ∙ sym minus_joins ∙ sym (ap (face_at J) is) ∙ at)
@@ -359,7 +341,7 @@ module _ (N : Model) (c d e : ℕ) (can : CanJoin N c d e) where
     ];
     lones = λ q v at is.
         let row = lone_joins q v is in
-        ap (is_on t) (point_still N J can.sound keeps v) ∙ w.lones q v (sym (same_face N J q row) ∙ at) (sym (same_content N J q row) ∙ is);
+        ap (is_on t) (point_stays N J keeps v) ∙ w.lones q v (sym (same_face N J q row) ∙ at) (sym (same_content N J q row) ∙ is);
   }
 
   -- ---- normals
@@ -370,8 +352,8 @@ module _ (N : Model) (c d e : ℕ) (can : CanJoin N c d e) where
 
     normal_here : f ≡ G → normal J f ≡ normal N f
     normal_here at = normal_is J f ∙ area_same J (boundary J f) (plus e ∷ minus e ∷ boundary N f) (λ h. two_halves h e (count h (boundary J f)) (boundary N f)
-        (λ is. (bound_one J J_sound f h (subst (HasHalf J) (sym is) (plus_there N J e _ (joined_edges N c d e can))) (ap (face_at J) is ∙ plus_joins ∙ sym at), bound_none N can.sound f h there (λ t s. (none_new N e h can.edge_free t).0 is)))
-        (λ is. (bound_one J J_sound f h (subst (HasHalf J) (sym is) (minus_there N J e _ (joined_edges N c d e can))) (ap (face_at J) is ∙ minus_joins ∙ sym at), bound_none N can.sound f h there (λ t s. (none_new N e h can.edge_free t).1 is)))
+        (λ is. (bound_one J J_sound f h (subst (HasHalf J) (sym is) (new_halves N J e _ _ (joined_edges N c d e can) can.edge_free).0) (ap (face_at J) is ∙ plus_joins ∙ sym at), bound_none N can.sound f h there (λ t s. (none_new N e h can.edge_free t).0 is)))
+        (λ is. (bound_one J J_sound f h (subst (HasHalf J) (sym is) (new_halves N J e _ _ (joined_edges N c d e can) can.edge_free).1) (ap (face_at J) is ∙ minus_joins ∙ sym at), bound_none N can.sound f h there (λ t s. (none_new N e h can.edge_free t).1 is)))
         (λ a b. elim (half_there N h) [
           | inl was ↦ one_count N J can.sound J_sound keeps f there h was (join_faces N c d e can h was)
           | inr not_was ↦ no_count N J can.sound J_sound keeps f there h not_was (λ t s. elim (joined_cases h t) [ inl was ↦ not_was was | inr new ↦ elim new [ inl is ↦ a is | inr is ↦ b is ] ])

@@ -165,12 +165,12 @@ module _ (B : Model) (s : ℕ) where
     origin = origin_then;
   } where
     origin_then : (g : ℕ) → Has Y.faces g → solid_of Y g ≡ s → Comes B Y s g
-    origin_then g there of_s = go (table.has X.faces g) refl where
-      go : (b : Bool) → table.has X.faces g ≡ b → Comes B Y s g
-      go true e =
+    origin_then g there of_s = old_or_new (table.has X.faces g) refl where
+      old_or_new : (b : Bool) → table.has X.faces g ≡ b → Comes B Y s g
+      old_or_new true e =
           let c : Comes B X s g = a.origin g e (sym (w.old_solid g e) ∙ of_s) in
           record { face = c.face; there = c.there; solid = c.solid; own = c.own; on = λ t on. w.olds g e t (c.on t on) }
-      go false e =
+      old_or_new false e =
           let c : Comes B X s f = a.origin f f_there f_solid in
           let none : table.get X.faces g ≡ None = no_row (table.get X.faces g) e in
           record { face = c.face; there = c.there; solid = c.solid; own = λ was. absurd (never_free X.faces g (a.there g was) none); on = λ t on. w.news g there none t (c.on t on) }

@@ -7,7 +7,8 @@ use Rattle.euler_laws.proofs.faces.RingIn as moving
 use Rattle.euler_laws.proofs.Common.{RingGoes, half_face}
 use Rattle.shapes.specs.Common.{boundary, normal, anchor, six_volume}
 use Rattle.shapes.proofs.Common.{area-append, area_same, total, volume_of, unchanged, total_same, anchor_on, told_anywhere}
-use Rattle.split_drawing_laws.proofs.drawn_volumes.Bounds.{OnFace, anchor_still, bound_one, bound_none, point_still, start_still, half_there, area_after, one_count, no_count, normal_kept, normal_is, face_on}
+use Rattle.split_drawing_laws.proofs.drawn_volumes.Bounds.{OnFace, anchor_still, bound_one, bound_none, half_there, area_after, one_count, no_count, normal_kept, normal_is, face_on}
+use Rattle.split_drawing_laws.proofs.drawings.Stays.{point_stays, start_stays}
 use Rattle.split_drawing_laws.proofs.drawings.Rings.{ring_sound, same_walks, ring_stays, ring_back, place_is, face_else, face_kept, ring_faces}
 use Rattle.std.proofs.lemmas.Int.{ints}
 use Rattle.euler_operators.specs.Table as table
@@ -38,11 +39,11 @@ module _ (N : Model) (f l k : ℕ) (can : CanMove N f l k) where
   -- a face lies on its planes, and k on those of both
   now_on : (t : Plane) (g : ℕ) → OnFace N t g → (g ≡ k → OnFace N t f) → OnFace X t g
   now_on t g w too = record {
-    halves = λ h now at. let was = ring_back N l k can.sound can.goes h now in ap (is_on t) (start_still N X can.sound (ring_stays N l k can.sound can.goes) h was) ∙ elim (eqb_tells (loop_of N h) l) [
+    halves = λ h now at. let was = ring_back N l k can.sound can.goes h now in ap (is_on t) (start_stays N X (ring_stays N l k can.sound can.goes) h was) ∙ elim (eqb_tells (loop_of N h) l) [
       | inl s ↦ (too (sym at ∙ (gone h was s.1).1)).halves h was (gone h was s.1).0
       | inr s ↦ w.halves h was (sym (face_kept N l k can.sound can.goes h was s.1) ∙ at)
     ];
-    lones = λ q v at is. ap (is_on t) (point_still N X can.sound (ring_stays N l k can.sound can.goes) v) ∙ elim (eqb_tells q l) [
+    lones = λ q v at is. ap (is_on t) (point_stays N X (ring_stays N l k can.sound can.goes) v) ∙ elim (eqb_tells q l) [
       | inl s ↦ (too (sym at ∙ ap (face_of X) s.1 ∙ moving.face_l N can.sound l k can.goes)).lones q v (ap (face_of N) s.1 ∙ can.face) (sym ((same_walks N l k can.sound can.goes).contents q) ∙ is)
       | inr s ↦ w.lones q v (sym (face_else N l k can.sound can.goes q s.1) ∙ at) (sym ((same_walks N l k can.sound can.goes).contents q) ∙ is)
     ];

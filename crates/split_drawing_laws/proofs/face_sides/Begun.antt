@@ -159,10 +159,10 @@ module _ (M : Model) (s : ℕ) (p : Plane) (t : ℕ) (sound : Sound M) (begins :
           record { held = some_half; on = side_own h some_half.at ∙ (λ k. low k || end k) }
 
       ring_side : HeldOn N N side r (some_above N p (vertices_on N (content N r)))
-      ring_side = go (some_above N p (vertices_on N (content N r))) refl where
-        go : (b : Bool) → some_above N p (vertices_on N (content N r)) ≡ b → HeldOn N N side r b
-        go true e = held_above e
-        go false e = held_below e
+      ring_side = above_or_below (some_above N p (vertices_on N (content N r))) refl where
+        above_or_below : (b : Bool) → some_above N p (vertices_on N (content N r)) ≡ b → HeldOn N N side r b
+        above_or_below true e = held_above e
+        above_or_below false e = held_below e
 
     -- a cut place of the outer loop
     abbrev outer_items : List ℕ
@@ -244,17 +244,17 @@ module _ (M : Model) (s : ℕ) (p : Plane) (t : ℕ) (sound : Sound M) (begins :
     -- ---- the half-edges of the solid
 
     own_before : (h : ℕ) → HasHalf N h → solid_of D (face_at D h) ≡ s → solid_of N (face_at N h) ≡ s
-    own_before h there of_s = go (lists fs (face_at N h)) refl where
-      go : (b : Bool) → lists fs (face_at N h) ≡ b → solid_of N (face_at N h) ≡ s
-      go true e = same_solid M s p t sound begins (face_at N h) ∙ (face_facts M s p (face_at N h) (IsIn-from_listed (face_at N h) fs e)).1
-      go false e = sym (solid_same N D (face_at N h) (stage.rows (face_at N h) (half_face N new_sound h there))) ∙ ap (solid_of D) (sym (stage.kept h there (none_counted (face_at N h) fs e))) ∙ of_s
+    own_before h there of_s = straddling_or_not (lists fs (face_at N h)) refl where
+      straddling_or_not : (b : Bool) → lists fs (face_at N h) ≡ b → solid_of N (face_at N h) ≡ s
+      straddling_or_not true e = same_solid M s p t sound begins (face_at N h) ∙ (face_facts M s p (face_at N h) (IsIn-from_listed (face_at N h) fs e)).1
+      straddling_or_not false e = sym (solid_same N D (face_at N h) (stage.rows (face_at N h) (half_face N new_sound h there))) ∙ ap (solid_of D) (sym (stage.kept h there (none_counted (face_at N h) fs e))) ∙ of_s
 
     is_own_then : (h : ℕ) → solid_of D (face_at D h) ≡ s → is_own M s p h ≡ true
     unfolding is_own
-    is_own_then h of_s = go (has_half N h) refl where
-      go : (b : Bool) → has_half N h ≡ b → (not (has_half N h) || nat_eq (solid_of N (face_at N h)) s) ≡ true
-      go false e = ap (λ b. not b || nat_eq (solid_of N (face_at N h)) s) e
-      go true e = ap (λ b. not b || nat_eq (solid_of N (face_at N h)) s) e ∙ eq-eqb (solid_of N (face_at N h)) s (own_before h e of_s)
+    is_own_then h of_s = there_or_not (has_half N h) refl where
+      there_or_not : (b : Bool) → has_half N h ≡ b → (not (has_half N h) || nat_eq (solid_of N (face_at N h)) s) ≡ true
+      there_or_not false e = ap (λ b. not b || nat_eq (solid_of N (face_at N h)) s) e
+      there_or_not true e = ap (λ b. not b || nat_eq (solid_of N (face_at N h)) s) e ∙ eq-eqb (solid_of N (face_at N h)) s (own_before h e of_s)
 
     pub loops_are_sided : (x y : ℕ) → HasHalf D x → HasHalf D y → loop_of D x ≡ loop_of D y → solid_of D (face_at D x) ≡ s → (b : Bool) × LiesOn p b (start D x) × LiesOn p b (start D y)
     loops_are_sided x y xt yt same of_s = loops_on_one_side p (with_crossings M s p) (straddling_pairs M s p) side (is_own M s p) can sides ends x y xt yt same

@@ -1,9 +1,9 @@
 -- What is told of corners stays while edges are drawn.
 use Rattle.std.specs.List.{list_any}
-use Rattle.std.proofs.Common.{◌≡◌, ℕ, Bool, true, false, ◌||◌, List, [], ◌∷◌, unwrap_or, refl, sym, ap, ◌∙◌, arith, true≢false, ◌≢◌, nat_eq, is_some, subst, inl, inr, map, ne_eqb, eq-eqb}
+use Rattle.std.proofs.Common.{◌≡◌, ℕ, Bool, true, false, ◌||◌, List, [], ◌∷◌, refl, sym, ap, ◌∙◌, arith, true≢false, ◌≢◌, nat_eq, is_some, subst, inl, inr, map, ne_eqb, eq-eqb}
 use Rattle.std.proofs.lemmas.Bool.Decides.{eqb_tells}
 use Rattle.std.proofs.lemmas.Bool.{false_from_ne_true}
-use Rattle.euler_operators.specs.Common.{Plane, is_above, IsIn, Model, LoopContent, lone, cycle, items_of, content, tail, point_of, no_point, holds, loop_of, face_of, outer, rings_of, Sound, HasHalf, Has, StandsIn, face_at, lists}
+use Rattle.euler_operators.specs.Common.{Plane, is_above, IsIn, Model, LoopContent, lone, cycle, items_of, content, tail, holds, loop_of, face_of, outer, rings_of, Sound, HasHalf, Has, StandsIn, face_at, lists}
 use Rattle.euler_operators.specs.Table as table
 use Rattle.euler_operators.proofs.Common.{tick_same, in-holds, same_face, IsIn-filter, filter_passes}
 use Rattle.euler_laws.proofs.Common.{test_ring, IsIn-from_listed, listed-from_in}
@@ -12,17 +12,17 @@ use Rattle.shapes.proofs.Common.{ring_listed}
 use Rattle.split_drawing_laws.specs.drawings.DrawnIn.{Stays}
 use Rattle.split_drawing_laws.proofs.drawings.Drawn.{CanDraw, draw_sound, face_drawn}
 use Rattle.split_drawing_laws.proofs.drawings.Rings.{RingOf, rings_are}
-use Rattle.split_drawing_laws.proofs.drawings.Stays.{row_else, draw_beside}
+use Rattle.split_drawing_laws.proofs.drawings.Stays.{point_stays, row_else, draw_beside}
 use Rattle.split_drawing_laws.proofs.face_sides.Beside.{HoldsOld, u_goes, k_stays, outer_kept, old_loop_face, new_loop_face, never_free, given_content, given_has, given_else, given_face}
 
 -- ---- tests of lists
 
 pub any_from : (t : ℕ → Bool) (xs : List ℕ) → list_any t xs ≡ true → (x : ℕ) × IsIn x xs × (t x ≡ true)
 any_from t [] e = absurd (true≢false (sym e))
-any_from t (x ∷ xs) e = go (t x) refl e (any_from t xs) where
-  go : (b : Bool) → t x ≡ b → (b || list_any t xs) ≡ true → (list_any t xs ≡ true → (y : ℕ) × IsIn y xs × (t y ≡ true)) → (y : ℕ) × IsIn y (x ∷ xs) × (t y ≡ true)
-  go true a e more = (x, omega (arith, tick_same x), a)
-  go false a e more = let r = more e in (r.0, omega (arith, r.1), r.2)
+any_from t (x ∷ xs) e = first_or_later (t x) refl e (any_from t xs) where
+  first_or_later : (b : Bool) → t x ≡ b → (b || list_any t xs) ≡ true → (list_any t xs ≡ true → (y : ℕ) × IsIn y xs × (t y ≡ true)) → (y : ℕ) × IsIn y (x ∷ xs) × (t y ≡ true)
+  first_or_later true a e more = (x, omega (arith, tick_same x), a)
+  first_or_later false a e more = let r = more e in (r.0, omega (arith, r.1), r.2)
 
 pub none_from : (t : ℕ → Bool) (xs : List ℕ) → ((x : ℕ) → IsIn x xs → t x ≡ false) → list_any t xs ≡ false
 none_from t [] none = refl
@@ -40,9 +40,8 @@ module _ (B K : Model) (stays : Stays B K) (p : Plane) where
   vertices_stay (cycle hs) old = tails_stay hs old
 
   any_above : (vs : List ℕ) → some_above K p vs ≡ some_above B p vs
-  unfolding point_of
   any_above [] = refl
-  any_above (v ∷ vs) = λ i. is_above p (ap (λ t. unwrap_or (table.get t v) no_point) stays.vertices i) || any_above vs i
+  any_above (v ∷ vs) = λ i. is_above p (point_stays B K stays v i) || any_above vs i
 
   -- a loop whose content stays keeps its corners where they were
   pub above_stays : (r : ℕ) → Sound B → content K r ≡ content B r → some_above K p (vertices_on K (content K r)) ≡ some_above B p (vertices_on B (content B r))
@@ -156,7 +155,7 @@ module _ (B N : Model) (side : ℕ → Bool) (p : Plane) (f u k e g l : ℕ) (c 
 
     -- the old face lies below
     pub old_lies : LiesOnSide B W side f false
-    old_lies q there face = still_held q false (go (lists ls q) refl) where
+    old_lies q there face = still_held q false (given_or_below (lists ls q) refl) where
       below : face_of K q ≡ f → lists ls q ≡ false → HeldOn B K side q false
       below at e = elim (eqb_tells q (loop_of N u)) [
         | inl a ↦ subst (λ z. HeldOn B K side z false) (sym a.1) first_held
@@ -165,13 +164,13 @@ module _ (B N : Model) (side : ℕ → Bool) (p : Plane) (f u k e g l : ℕ) (c 
             subst (HeldOn B K side q) (passes_not q (was_loop q there) at inner e) (ring_held q (was_loop q there) at inner)
       ]
 
-      go : (b : Bool) → lists ls q ≡ b → HeldOn B K side q false
-      go true e = absurd (f_other (sym face ∙ given_face K ls g q e (was_loop q there)))
-      go false e = below (sym (same_face K W q (given_else K ls g q e)) ∙ face) e
+      given_or_below : (b : Bool) → lists ls q ≡ b → HeldOn B K side q false
+      given_or_below true e = absurd (f_other (sym face ∙ given_face K ls g q e (was_loop q there)))
+      given_or_below false e = below (sym (same_face K W q (given_else K ls g q e)) ∙ face) e
 
     -- and the new one above
     pub new_lies : LiesOnSide B W side g true
-    new_lies q there face = still_held q true (go (lists ls q) refl) where
+    new_lies q there face = still_held q true (given_or_above (lists ls q) refl) where
       cut_off : face_of K q ≡ g → HeldOn B K side q true
       cut_off at = elim (eqb_tells q l) [
         | inl a ↦ subst (λ z. HeldOn B K side z true) (sym a.1) second_held
@@ -183,6 +182,6 @@ module _ (B N : Model) (side : ℕ → Bool) (p : Plane) (f u k e g l : ℕ) (c 
         ]
       ]
 
-      go : (b : Bool) → lists ls q ≡ b → HeldOn B K side q true
-      go true e = let r = ring_of q e in subst (HeldOn B K side q) (passes q e) (ring_held q r.there r.face r.inner)
-      go false e = cut_off (sym (same_face K W q (given_else K ls g q e)) ∙ face)
+      given_or_above : (b : Bool) → lists ls q ≡ b → HeldOn B K side q true
+      given_or_above true e = let r = ring_of q e in subst (HeldOn B K side q) (passes q e) (ring_held q r.there r.face r.inner)
+      given_or_above false e = cut_off (sym (same_face K W q (given_else K ls g q e)) ∙ face)

@@ -4,19 +4,19 @@ use Rattle.std.proofs.Common.{◌≡◌, ℕ, ◌≤◌, List, [], ◌∷◌, ap
 use Rattle.std.proofs.lemmas.Bool.Decides.{eqb_tells}
 use Rattle.std.proofs.lemmas.Bool.{and_parts, false_from_ne_true}
 use Rattle.euler_operators.specs.Common.{Plane, count, IsIn, IsApart, tick, Model, solid_of, after, tail, loop_of, face_of, point_of, faces_of, height, is_on, cut_between, are_opposite, is_above, is_below, edge_of, plus, minus, Sound, Has, HasHalf, face_at, differ, lists}
-use Rattle.euler_operators.proofs.Common.{count-append, tick_same, tick_other, IsIn_or_not, plus_row, mate_plus, mate_minus, IsIn-map, IsApart-images, count-filter, filter_passes, IsIn-filter, from_map, level_on, cycle_there, loop_there}
+use Rattle.euler_operators.proofs.Common.{count-append, tick_same, tick_other, IsIn_or_not, plus_row, mate_plus, mate_minus, IsIn-map, IsApart-images, filter_passes, IsIn-filter, from_map, level_on, cycle_there, loop_there}
 use Rattle.euler_laws.proofs.Common.{halves_of_edge, back_of, half_after, loop_after, half_face, listed-from_in, IsIn-from_listed}
 use Rattle.shapes.specs.Common.{drawn_pairs, all_pairs, from_place, straddling_pairs, start, finish, boundary, corners, edges_of, crosses, reaches_above, straddling_faces, crossing_edges, straddles, reaches_below, is_place, place_point, places, goes_up, is_crossed, is_up_and_down, in_pairs, sorted, sorted_pairs, place_pairs, with_crossings}
+use Rattle.split_drawing_laws.specs.drawings.Pairs.{AllOf}
 use Rattle.split_drawing_laws.specs.loop_sides.Parted.{ends, all_ends, Crosses, AllCross, LiesOn, FacesCross}
-use Rattle.split_drawing_laws.specs.crossings.AtPlace.{AtPlace}
 use Rattle.split_drawing_laws.specs.crossings.Laws.{CanBegin}
 use Rattle.split_drawing_laws.specs.half_sides.HalfSides.{half_is_above, side_of, is_own}
-use Rattle.split_drawing_laws.proofs.crossings.Whole.{at_place, item_there, item_face, turned, in_crossing, on_when, can_cut, crossings_sound, same_solid, none_crosses}
+use Rattle.split_drawing_laws.proofs.crossings.Whole.{item_there, item_face, turned, in_crossing, on_when, can_cut, crossings_sound, same_solid, none_crosses}
 use Rattle.split_drawing_laws.proofs.crossings.Premises.{edge_facts, crossing_here, crossing_point, one_point, face_facts, any_passes, tail_in_face, faces_not_zero, in_solid, edge_listed}
 use Rattle.shapes.proofs.Common.{count-sorted}
 use Rattle.split_drawing_laws.proofs.pairs.Sorted.{between, drawn, points_apart, all_places_drawn, sorted_apart}
 use Rattle.split_drawing_laws.proofs.pairs.LoopPlaces.{places_even, none_passes}
-use Rattle.split_drawing_laws.proofs.pairs.Whole.{places_apart, place_face}
+use Rattle.split_drawing_laws.proofs.pairs.Whole.{places_in, places_apart, place_now, place_face}
 use Rattle.split_drawing_laws.proofs.half_sides.Starts.{side_ahead, TurnAt, turn_at, side_kept, side_changed, starts_above, starts_below, crosses_back, comes_from}
 use Rattle.euler_operators.specs.Table as table
 use Rattle.split_drawing_laws.proofs.drawings.Counted.{straddling_apart, faces_are}
@@ -57,8 +57,7 @@ module _ (M N : Model) (p : Plane) where
 
 -- of each pair the first is above and the second below
 abbrev pub AllUp : (ℕ → Bool) → List (ℕ × ℕ) → Type 0
-AllUp side [] = Unit {0}
-AllUp side (q ∷ qs) = ((side q.0 ≡ true) × (side q.1 ≡ false)) × AllUp side qs
+AllUp side = AllOf (λ q. (side q.0 ≡ true) × (side q.1 ≡ false))
 
 module _ (M : Model) (s : ℕ) (p : Plane) (t : ℕ) (sound : Sound M) (begins : CanBegin M s p t) where
   abbrev N : Model
@@ -73,29 +72,22 @@ module _ (M : Model) (s : ℕ) (p : Plane) (t : ℕ) (sound : Sound M) (begins :
   side_within h i = ap (λ b. cond b (half_is_above N p h) (reaches_above M p (face_at N h))) (listed-from_in (face_at N h) fs i)
 
   module _ (f : ℕ) (i : IsIn f (straddling_faces M p s)) where
-    at : (h : ℕ) → IsIn h (places M p f) → AtPlace M N p h
-    at h j = at_place M s p t sound begins f h (listed-from_in f fs i) (listed-from_in h (places M p f) j)
-
-    in_face : (h : ℕ) → IsIn h (places M p f) → IsIn h (boundary M f)
-    unfolding places
-    in_face h j = omega (arith, j, count-filter (is_place M p) h (boundary M f))
-
     place_half : (h : ℕ) → IsIn h (places M p f) → face_at M h ≡ f
-    place_half h j = item_face M sound f (face_facts M s p f i).0 h (in_face h j)
+    place_half h j = item_face M sound f (face_facts M s p f i).0 h (places_in M sound f p h j)
 
     pub place_there : (h : ℕ) → IsIn h (places M p f) → HasHalf N (from_place N p h)
-    place_there h j = (at h j).there
+    place_there h j = (place_now M s p t sound begins f i h j).there
 
     -- no two places lead to one half-edge
     pub place_once : (a b : ℕ) → IsIn a (places M p f) → IsIn b (places M p f) → from_place N p a ≡ from_place N p b → a ≡ b
     place_once a b j k e = elim (eqb_tells a b) [
       | inl same ↦ same.1
-      | inr other ↦ absurd (points_apart M p f ((can_cut M s p t sound begins).uncrossed f i) a b j k other.1 (sym (at a j).starts ∙ ap (start N) e ∙ (at b k).starts))
+      | inr other ↦ absurd (points_apart M p f ((can_cut M s p t sound begins).uncrossed f i) a b j k other.1 (sym (place_now M s p t sound begins f i a j).starts ∙ ap (start N) e ∙ (place_now M s p t sound begins f i b k).starts))
     ]
 
     edge_in : (h : ℕ) → IsIn h (places M p f) → crosses M p h ≡ true → IsIn (edge_of h) (crossing_edges M p s)
     edge_in h j c =
-        let there : Has M.edges (edge_of h) = item_there M sound f (face_facts M s p f i).0 h (in_face h j) in
+        let there : Has M.edges (edge_of h) = item_there M sound f (face_facts M s p f i).0 h (places_in M sound f p h j) in
         let of_s : solid_of M (face_at M h) ≡ s = ap (solid_of M) (place_half h j) ∙ (face_facts M s p f i).1 in
         elim (halves_of_edge h) [
           | inl e ↦ in_crossing M s p t sound begins (edge_of h) there (ap (λ x. solid_of M (face_at M x)) (sym e.0) ∙ of_s) (ap (crosses M p) (sym e.0) ∙ c)
@@ -108,15 +100,15 @@ module _ (M : Model) (s : ℕ) (p : Plane) (t : ℕ) (sound : Sound M) (begins :
 
     point_on : (h : ℕ) → IsIn h (places M p f) → is_on p (place_point M p h) ≡ true
     unfolding place_point places
-    point_on h j = go (crosses M p h) refl where
-      go : (b : Bool) → crosses M p h ≡ b → is_on p (place_point M p h) ≡ true
-      go true c = level_on (height p (place_point M p h)) (cut_level h (edge_in h j c))
-      go false c =
+    point_on h j = cut_or_corner (crosses M p h) refl where
+      cut_or_corner : (b : Bool) → crosses M p h ≡ b → is_on p (place_point M p h) ≡ true
+      cut_or_corner true c = level_on (height p (place_point M p h)) (cut_level h (edge_in h j c))
+      cut_or_corner false c =
           let on : is_on p (start M h) ≡ true = on_when M s p t sound begins h (filter_passes (is_place M p) h (boundary M f) j) c in
           ap (is_on p) (ap (λ b. cond b (start M h) (cut_between p (start M h) (finish M h))) on) ∙ on
 
     pub place_on : (h : ℕ) → IsIn h (places M p f) → is_on p (start N (from_place N p h)) ≡ true
-    place_on h j = ap (is_on p) (at h j).starts ∙ point_on h j
+    place_on h j = ap (is_on p) (place_now M s p t sound begins f i h j).starts ∙ point_on h j
 
     -- from there one goes where the loop went from the place
     finish_is : (h : ℕ) → IsIn h (places M p f) → finish N (from_place N p h) ≡ finish M h
@@ -230,20 +222,20 @@ module _ (M : Model) (s : ℕ) (p : Plane) (t : ℕ) (sound : Sound M) (begins :
 
   -- a corner of a face that doesn't straddle lies on its side
   corner_lies : (g : ℕ) → HasHalf M g → solid_of M (face_at M g) ≡ s → lists fs (face_at M g) ≡ false → LiesOn p (reaches_above M p (face_at M g)) (start M g)
-  corner_lies g there of_s beside = go (reaches_above M p f) refl where
-    f : ℕ
-    f = face_at M g
+  corner_lies g there of_s beside = above_or_below (reaches_above M p face) refl where
+    face : ℕ
+    face = face_at M g
 
-    corner : IsIn (tail M g) (corners M f)
+    corner : IsIn (tail M g) (corners M face)
     corner = tail_in_face M g (loop_of M g) (loop_there M sound g there) (cycle_there M sound g there)
 
-    of_solid : IsIn f (faces_of M s)
-    of_solid = in_solid M f s (half_face M sound g there) of_s
+    of_solid : IsIn face (faces_of M s)
+    of_solid = in_solid M face s (half_face M sound g there) of_s
 
-    go : (b : Bool) → reaches_above M p f ≡ b → LiesOn p b (start M g)
-    go true up = false_from_ne_true (is_below p (start M g)) (λ a. true≢false (sym (listed-from_in f fs (IsIn-filter (straddles M p) f (faces_of M s) of_solid
-        (both_ways f up (any_passes (λ v. is_below p (point_of M v)) (tail M g) (corners M f) corner a)))) ∙ beside))
-    go false none = none_passes (λ v. is_above p (point_of M v)) (tail M g) (corners M f) none corner
+    above_or_below : (b : Bool) → reaches_above M p face ≡ b → LiesOn p b (start M g)
+    above_or_below true up = false_from_ne_true (is_below p (start M g)) (λ a. true≢false (sym (listed-from_in face fs (IsIn-filter (straddles M p) face (faces_of M s) of_solid
+        (both_ways face up (any_passes (λ v. is_below p (point_of M v)) (tail M g) (corners M face) corner a)))) ∙ beside))
+    above_or_below false none = none_passes (λ v. is_above p (point_of M v)) (tail M g) (corners M face) none corner
 
   lies_beside : (h : ℕ) → HasHalf N h → solid_of N (face_at N h) ≡ s → lists fs (face_at N h) ≡ false → LiesOn p (side h) (start N h)
   lies_beside h there of_s beside = elim (comes_from M s p t sound begins h there) [
@@ -252,20 +244,20 @@ module _ (M : Model) (s : ℕ) (p : Plane) (t : ℕ) (sound : Sound M) (begins :
   ]
 
   lies_within : (h : ℕ) → HasHalf N h → solid_of N (face_at N h) ≡ s → IsIn (face_at N h) fs → LiesOn p (side h) (start N h)
-  lies_within h there of_s i = subst (λ b. LiesOn p b (start N h)) (sym (side_within h i)) (go (half_is_above N p h) refl) where
-    go : (b : Bool) → half_is_above N p h ≡ b → LiesOn p b (start N h)
-    go true e = starts_above (height p (start N h)) (height p (finish N h)) (stays_aside h there of_s) e
-    go false e = starts_below (height p (start N h)) (height p (finish N h)) e
+  lies_within h there of_s i = subst (λ b. LiesOn p b (start N h)) (sym (side_within h i)) (ahead_or_behind (half_is_above N p h) refl) where
+    ahead_or_behind : (b : Bool) → half_is_above N p h ≡ b → LiesOn p b (start N h)
+    ahead_or_behind true e = starts_above (height p (start N h)) (height p (finish N h)) (stays_aside h there of_s) e
+    ahead_or_behind false e = starts_below (height p (start N h)) (height p (finish N h)) e
 
   own_solid : (h : ℕ) → HasHalf N h → is_own M s p h ≡ true → solid_of N (face_at N h) ≡ s
   unfolding is_own
   own_solid h there own = grind (arith, eqb-true)
 
   lies : (h : ℕ) → HasHalf N h → is_own M s p h ≡ true → LiesOn p (side h) (start N h)
-  lies h there own = go (lists fs (face_at N h)) refl where
-    go : (b : Bool) → lists fs (face_at N h) ≡ b → LiesOn p (side h) (start N h)
-    go true e = lies_within h there (own_solid h there own) (IsIn-from_listed (face_at N h) fs e)
-    go false e = lies_beside h there (own_solid h there own) e
+  lies h there own = straddling_or_not (lists fs (face_at N h)) refl where
+    straddling_or_not : (b : Bool) → lists fs (face_at N h) ≡ b → LiesOn p (side h) (start N h)
+    straddling_or_not true e = lies_within h there (own_solid h there own) (IsIn-from_listed (face_at N h) fs e)
+    straddling_or_not false e = lies_beside h there (own_solid h there own) e
 
   -- ---- what follows a half-edge
 
@@ -317,12 +309,12 @@ module _ (M : Model) (s : ℕ) (p : Plane) (t : ℕ) (sound : Sound M) (begins :
           ((λ z. absurd (omega (arith, z, in_ends))), (λ j. changes))
 
     goes : Goes x
-    goes = go (lists fs (face_at N (after N x))) (is_on p (start N (after N x))) refl refl where
-      go : (a b : Bool) → lists fs (face_at N (after N x)) ≡ a → is_on p (start N (after N x)) ≡ b → Goes x
-      go false b e f = never_place x (λ i. true≢false (sym (listed-from_in (face_at N (after N x)) fs (place_facts (after N x) i).1) ∙ e))
+    goes = place_or_not (lists fs (face_at N (after N x))) (is_on p (start N (after N x))) refl refl where
+      place_or_not : (a b : Bool) → lists fs (face_at N (after N x)) ≡ a → is_on p (start N (after N x)) ≡ b → Goes x
+      place_or_not false b e f = never_place x (λ i. true≢false (sym (listed-from_in (face_at N (after N x)) fs (place_facts (after N x) i).1) ∙ e))
           (side_beside (after N x) e ∙ ap (reaches_above M p) one_face ∙ sym (side_beside x (ap (lists fs) (sym one_face) ∙ e)))
-      go true true e f = goes_on (IsIn-from_listed (face_at N (after N x)) fs e) f
-      go true false e f = goes_off (IsIn-from_listed (face_at N (after N x)) fs e) f
+      place_or_not true true e f = goes_on (IsIn-from_listed (face_at N (after N x)) fs e) f
+      place_or_not true false e f = goes_off (IsIn-from_listed (face_at N (after N x)) fs e) f
 
   -- ---- all
 

@@ -9,17 +9,17 @@ use Rattle.euler_operators.proofs.Common.{splice_at, splice_at_other, splice_els
 
 module _ (next : ℕ → ℕ) (h m c d : ℕ) where
   pub mev_at_h : h ≢ m → c ≢ d → after_mev next h m c d h ≡ c
-  mev_at_h hm cd = rw (ne_eqb h m hm, eq-eqb h h refl, ne_eqb c d cd) refl
+  mev_at_h new_apart places_apart = rw (ne_eqb h m new_apart, eq-eqb h h refl, ne_eqb c d places_apart) refl
 
   mev_at_m : after_mev next h m c d m ≡ d
   mev_at_m = rw (eq-eqb m m refl) refl
 
   module _ (x : ℕ) (xh : x ≢ h) (xm : x ≢ m) where
     mev_at_c : h ≢ d → next x ≡ c → after_mev next h m c d x ≡ h
-    mev_at_c hd e = rw (ne_eqb x m xm, ne_eqb x h xh, eq-eqb (next x) c e, ne_eqb h d hd) refl
+    mev_at_c new_not_d e = rw (ne_eqb x m xm, ne_eqb x h xh, eq-eqb (next x) c e, ne_eqb h d new_not_d) refl
 
     pub mev_at_d : c ≢ d → next x ≡ d → after_mev next h m c d x ≡ m
-    mev_at_d cd e = rw (ne_eqb x m xm, ne_eqb x h xh, ne_eqb (next x) c (λ s. cd (sym s ∙ e)), eq-eqb (next x) d e) refl
+    mev_at_d places_apart e = rw (ne_eqb x m xm, ne_eqb x h xh, ne_eqb (next x) c (λ s. places_apart (sym s ∙ e)), eq-eqb (next x) d e) refl
 
     pub mev_else : next x ≢ c → next x ≢ d → after_mev next h m c d x ≡ next x
     mev_else a b = rw (ne_eqb x m xm, ne_eqb x h xh, ne_eqb (next x) c a, ne_eqb (next x) d b) refl
@@ -34,15 +34,15 @@ pub side_h : (h m c d : ℕ) (side : ℕ → Bool) → with_sides h m c d side h
 side_h h m c d side = ap (λ b. cond b (side d) (cond (h == m) (side c) (side h))) (eq-eqb h h refl)
 
 pub side_m : (h m c d : ℕ) (side : ℕ → Bool) → h ≢ m → with_sides h m c d side m ≡ side c
-side_m h m c d side hm = ap (λ b. cond b (side d) (cond (m == m) (side c) (side m))) (ne_eqb m h (λ s. hm (sym s))) ∙ ap (λ b. cond b (side c) (side m)) (eq-eqb m m refl)
+side_m h m c d side new_apart = ap (λ b. cond b (side d) (cond (m == m) (side c) (side m))) (ne_eqb m h (λ s. new_apart (sym s))) ∙ ap (λ b. cond b (side c) (side m)) (eq-eqb m m refl)
 
 pub side_old : (h m c d : ℕ) (side : ℕ → Bool) (x : ℕ) → x ≢ h → x ≢ m → with_sides h m c d side x ≡ side x
 side_old h m c d side x a b = ap (λ t. cond t (side d) (cond (x == m) (side c) (side x))) (ne_eqb x h a) ∙ ap (λ t. cond t (side c) (side x)) (ne_eqb x m b)
 
 -- what is asked of the old items, and of the two open places c and d, on different sides
 pub record Closing (Old : ℕ → Type 0) (next : ℕ → ℕ) (side : ℕ → Bool) (h m c d : ℕ) (before then_open : List ℕ) : Type 0 where
-  pub hm : h ≢ m
-  pub cd : c ≢ d
+  pub new_apart : h ≢ m
+  pub places_apart : c ≢ d
   pub fresh : (x : ℕ) → Old x → (x ≢ h) × (x ≢ m)
   pub goes_on : (x : ℕ) → Old x → Old (next x)
   pub c_old : Old c
@@ -54,8 +54,8 @@ pub record Closing (Old : ℕ → Type 0) (next : ℕ → ℕ) (side : ℕ → B
 
 module _ (Old New : ℕ → Type 0) (next : ℕ → ℕ) (side : ℕ → Bool) (h m c d : ℕ) (before then_open : List ℕ)
     (w : Closing Old next side h m c d before then_open) (s : Sided Old next side before) (cases : (x : ℕ) → New x → Old x ⊎ ((x ≡ h) ⊎ (x ≡ m))) where
-  hd : h ≢ d
-  hd e = (w.fresh d w.d_old).0 (sym e)
+  new_not_d : h ≢ d
+  new_not_d e = (w.fresh d w.d_old).0 (sym e)
 
   abbrev F : ℕ → ℕ
   F = after_mef next h m c d
@@ -78,15 +78,15 @@ module _ (Old New : ℕ → Type 0) (next : ℕ → ℕ) (side : ℕ → Bool) (
   -- where one comes then from an old item
   at_c : (x : ℕ) → Old x → next x ≡ c → (side' (F x) ≡ side' x) × (count (F x) then_open ≡ 0)
   at_c x o e =
-      let g : F x ≡ h = as_mev x o ∙ mev_at_c next h m c d x (w.fresh x o).0 (w.fresh x o).1 hd e in
+      let g : F x ≡ h = as_mev x o ∙ mev_at_c next h m c d x (w.fresh x o).0 (w.fresh x o).1 new_not_d e in
       let t : side c ≡ not (side x) = ap side (sym e) ∙ s.across x o (subst (λ y. IsIn y before) (sym e) (omega (arith, w.closed c, tick_same c))) in
       (ap side' g ∙ side_h h m c d side ∙ grind arith ∙ sym (old_side x o), ap (λ y. count y then_open) g ∙ not_open h w.none_new.0)
 
   at_d : (x : ℕ) → Old x → next x ≡ d → (side' (F x) ≡ side' x) × (count (F x) then_open ≡ 0)
   at_d x o e =
-      let g : F x ≡ m = as_mev x o ∙ mev_at_d next h m c d x (w.fresh x o).0 (w.fresh x o).1 w.cd e in
+      let g : F x ≡ m = as_mev x o ∙ mev_at_d next h m c d x (w.fresh x o).0 (w.fresh x o).1 w.places_apart e in
       let t : side d ≡ not (side x) = ap side (sym e) ∙ s.across x o (subst (λ y. IsIn y before) (sym e) (omega (arith, w.closed d, tick_same d))) in
-      (ap side' g ∙ side_m h m c d side w.hm ∙ sym (grind arith) ∙ sym (old_side x o), ap (λ y. count y then_open) g ∙ not_open m w.none_new.1)
+      (ap side' g ∙ side_m h m c d side w.new_apart ∙ sym (grind arith) ∙ sym (old_side x o), ap (λ y. count y then_open) g ∙ not_open m w.none_new.1)
 
   at_h : (side' (F h) ≡ side' h) × (count (F h) then_open ≡ 0)
   at_h =
@@ -95,8 +95,8 @@ module _ (Old New : ℕ → Type 0) (next : ℕ → ℕ) (side : ℕ → Bool) (
 
   at_m : (side' (F m) ≡ side' m) × (count (F m) then_open ≡ 0)
   at_m =
-      let g : F m ≡ c = splice_at_other (after_mev next h m c d) h m ∙ mev_at_h next h m c d w.hm w.cd in
-      (ap side' g ∙ old_side c w.c_old ∙ sym (side_m h m c d side w.hm), ap (λ y. count y then_open) g ∙ c_closed)
+      let g : F m ≡ c = splice_at_other (after_mev next h m c d) h m ∙ mev_at_h next h m c d w.new_apart w.places_apart in
+      (ap side' g ∙ old_side c w.c_old ∙ sym (side_m h m c d side w.new_apart), ap (λ y. count y then_open) g ∙ c_closed)
 
   abbrev Goes : ℕ → Type 0
   Goes x = (count (F x) then_open ≡ 0 → side' (F x) ≡ side' x) × (IsIn (F x) then_open → side' (F x) ≡ not (side' x))

@@ -1,8 +1,8 @@
 -- What follows what in a model, once an edge is drawn or loops are joined.
-use Rattle.std.proofs.Common.{◌≡◌, ◌≢◌, ℕ, ◌++◌, None, is_some, sym, ap, ◌∙◌, subst, arith, ◌⊎◌, inl, inr, true≢false, ◌+◌, Bool, true, false, not, List, [], ◌∷◌, unwrap_or, ℤ, pos, refl, int_lt, int_eq}
+use Rattle.std.proofs.Common.{◌≡◌, ◌≢◌, ℕ, ◌++◌, None, is_some, sym, ap, ◌∙◌, subst, arith, ◌⊎◌, inl, inr, true≢false, ◌+◌, Bool, true, false, not, List, [], ◌∷◌, ℤ, pos, refl, int_lt, int_eq}
 use Rattle.std.proofs.lemmas.Bool.Decides.{eqb_tells}
 use Rattle.std.proofs.lemmas.Int.{ints}
-use Rattle.euler_operators.specs.Common.{count, IsIn, IsApart, tick, head_or, IsRing, IsPath, mef_old, mef_new, mekr_ring, after_mef, edge_of, plus, minus, Model, items_of, loop_of, content, cycle_of, after, tail, point_of, no_point, Sound, Has, HasHalf, Point, Plane, height, is_on, ring_in}
+use Rattle.euler_operators.specs.Common.{count, IsIn, IsApart, tick, head_or, IsRing, IsPath, mef_old, mef_new, mekr_ring, after_mef, edge_of, plus, minus, Model, items_of, loop_of, content, cycle_of, after, tail, point_of, Sound, Has, HasHalf, Point, Plane, height, is_on, ring_in}
 use Rattle.euler_operators.specs.Table as table
 use Rattle.euler_operators.proofs.Common.{count-append, IsIn_or_not, tick_same, tick_other, next_is_successor, IsRing-mef, IsRing-mekr, IsRing-led_over_other, IsRing-splice_other, plus_row, minus_row, same_edge, mate_plus, plus_other, content_row, in-holds, cycle_there, cycle_sound, same_content, loop_there, row_elsewhere, get-put_other}
 use Rattle.euler_laws.proofs.Common.{light, none_free, half_after}
@@ -10,7 +10,7 @@ use Rattle.shapes.specs.Common.{start}
 use Rattle.split_drawing_laws.specs.drawings.DrawnIn.{Stays, DrawnIn}
 use Rattle.split_drawing_laws.specs.loop_sides.Parted.{Sided, LiesOn, Parted}
 use Rattle.split_drawing_laws.proofs.drawings.Drawn.{CanDraw, draw_sound, CanJoin, join_sound, face_drawn, loops_joined}
-use Rattle.split_drawing_laws.proofs.drawings.Stays.{row_old, row_new, row_else, edges_are, row_joined, row_gone, row_other, joined_edges, draw_stays, join_stays, draw_tails, join_tails, stays_on}
+use Rattle.split_drawing_laws.proofs.drawings.Stays.{row_old, row_new, row_else, edges_are, row_joined, row_gone, row_other, joined_edges, draw_stays, join_stays, draw_tails, join_tails, stays_on, start_stays}
 use Rattle.split_drawing_laws.proofs.drawings.Rings.{RingOf, Newer, ring_goes, ring_stays, ring_back, moved_after}
 use Rattle.split_drawing_laws.proofs.loop_sides.Follows.{Closing, sides_close, with_sides, side_old}
 
@@ -128,10 +128,6 @@ on_both p q e false = not_above (height p q) e where
   not_above : (n : ℤ) → int_eq n (pos 0) ≡ true → int_lt (pos 0) n ≡ false
   not_above n z = grind (arith, ints)
 
-same_start : (B N : Model) (h : ℕ) → Stays B N → HasHalf B h → start N h ≡ start B h
-unfolding point_of
-same_start B N h stays there = (λ i. unwrap_or (table.get (stays.vertices i) (stays.tails h there i)) no_point)
-
 -- what is asked of the two open places c and d that are closed: `places` are open before and `rest` after
 pub record Opposed (B : Model) (p : Plane) (first : ℕ → Bool) (c d : ℕ) (places rest : List ℕ) : Type 0 where
   pub c_there : HasHalf B c
@@ -156,8 +152,8 @@ module _ (B N K : Model) (p : Plane) (first : ℕ → Bool) (OfSolid : ℕ → T
 
   closing : Closing (HasHalf N) (after N) w.side (plus e) (minus e) c d places rest
   closing = record {
-    hm = plus_other e;
-    cd = o.apart;
+    new_apart = plus_other e;
+    places_apart = o.apart;
     fresh = λ x there. none_new N e x free there;
     goes_on = half_after N sound;
     c_old = w.stays.halves c o.c_there;
@@ -176,13 +172,13 @@ module _ (B N K : Model) (p : Plane) (first : ℕ → Bool) (OfSolid : ℕ → T
 
   -- a new half-edge starts where c or d does, on the plane
   on_plane : (x y : ℕ) → HasHalf B y → tail K x ≡ tail N y → is_on p (start B y) ≡ true → is_on p (start K x) ≡ true
-  on_plane x y there same on = ap (is_on p) (ap (point_of K) (same ∙ w.stays.tails y there ∙ sym (to_now.tails y there)) ∙ same_start B K y to_now there) ∙ on
+  on_plane x y there same on = ap (is_on p) (ap (point_of K) (same ∙ w.stays.tails y there ∙ sym (to_now.tails y there)) ∙ start_stays B K to_now y there) ∙ on
 
   level_now : (h : ℕ) → HasHalf K h → OfSolid h → LiesOn p (with_sides (plus e) (minus e) c d w.side h) (start K h)
   level_now h there mine = elim (cases h there) [
     | inl old ↦
         let f = none_new N e h free old in
-        let s : start K h ≡ start N h = same_start N K h stays old in
+        let s : start K h ≡ start N h = start_stays N K stays h old in
         subst (λ b. LiesOn p b (start K h)) (sym (side_old (plus e) (minus e) c d w.side h f.0 f.1)) (subst (LiesOn p (w.side h)) (sym s) (w.level h old mine))
     | inr new ↦ grind (arith, on_both, on_plane, with_sides)
   ]
@@ -227,7 +223,7 @@ module _ (M B N : Model) (p : Plane) (first : ℕ → Bool) (OfSolid : ℕ → T
       along = λ x there z. ap w.side (leads_same x there) ∙ w.sided.along x (old_half x there) (ap (λ y. count y places) (sym (leads_same x there)) ∙ z);
       across = λ x there i. ap w.side (leads_same x there) ∙ w.sided.across x (old_half x there) (subst (λ y. IsIn y places) (leads_same x there) i);
     };
-    level = λ h there mine. subst (LiesOn p (w.side h)) (sym (same_start N (ring_in N l k) h (ring_stays N l k drawn.sound (ring_goes M N f l k drawn ring newer)) (old_half h there))) (w.level h (old_half h there) mine);
+    level = λ h there mine. subst (LiesOn p (w.side h)) (sym (start_stays N (ring_in N l k) (ring_stays N l k drawn.sound (ring_goes M N f l k drawn ring newer)) h (old_half h there))) (w.level h (old_half h there) mine);
   }
 
 -- ---- no place is open
