@@ -1,7 +1,7 @@
 -- Edges cut one after the other.
-use Rattle.std.proofs.Common.{◌≡◌, ◌≢◌, ℕ, ◌+◌, ◌≤◌, ◌<◌, true, false, pos, List, [], ◌∷◌, length, None, is_some, unwrap_or, IsTrue, refl, sym, ap, ◌∙◌, subst, arith, ◌⊎◌, inl, inr}
+use Rattle.std.proofs.Common.{◌≡◌, ◌≢◌, ℕ, ◌+◌, ◌≤◌, ◌<◌, true, false, pos, List, [], ◌∷◌, length, is_some, unwrap_or, refl, sym, ap, ◌∙◌, subst, arith, ◌⊎◌, inl, inr}
 use Rattle.std.proofs.lemmas.Bool.Decides.{eqb_tells}
-use Rattle.euler_operators.specs.Common.{Point, Plane, IsInRange, height, cut_between, count, tick, IsIn, mate, edge_of, plus, minus, Model, tail, loop_of, point_of, no_point, is_number, Sound, Has, HasHalf}
+use Rattle.euler_operators.specs.Common.{Point, Plane, IsInRange, height, cut_between, count, tick, IsIn, mate, edge_of, plus, minus, Model, tail, loop_of, point_of, no_point, Sound, Has, HasHalf}
 use Rattle.euler_operators.proofs.Common.{tick_same, tick_other, plus_row, minus_row, edge_of-mate, mate_plus, plus_there, minus_there, plus_edge, level_first, level_second}
 use Rattle.euler_operators.specs.Table as table
 use Rattle.euler_laws.specs.Laws.{AreAccepted, effects}
@@ -55,15 +55,11 @@ module _ (M N : Model) (p : Plane) (ds : List ℕ) (sound : Sound M) (a : AreCut
   pub same_finish : finish N (plus e) ≡ finish M (plus e)
   same_finish = ap (start N) (mate_plus e) ∙ kept_start M N sound a.kept (minus e) (minus_there M e c.there) (a.minus_tails e c.there) ∙ sym (ap (start M) (mate_plus e))
 
--- one edge more
-module _ (M N : Model) (p : Plane) (ds : List ℕ) (sound : Sound M) (a : AreCut M N p ds) (e k v : ℕ) (c : Crossing M p e) (uncut : count e ds ≡ 0)
-    (edge_free : table.get N.edges k ≡ None) (vertex_free : table.get N.vertices v ≡ None) (edge_fits : IsTrue (is_number k)) (vertex_fits : IsTrue (is_number v)) where
   same_cut : cut_at N p e ≡ cut_at M p e
-  same_cut = λ i. cut_between p (same_start M N p ds sound a e c uncut i) (same_finish M N p ds sound a e c uncut i)
+  same_cut = λ i. cut_between p (same_start i) (same_finish i)
 
-  pub goes : CutGoes N e k v (cut_at N p e)
-  goes = grind (arith, kept_edge M N a.kept e c.there, plus_there, minus_there, same_cut)
-
+-- one edge more
+module _ (M N : Model) (p : Plane) (ds : List ℕ) (sound : Sound M) (a : AreCut M N p ds) (e k v : ℕ) (c : Crossing M p e) (uncut : count e ds ≡ 0) (goes : CutGoes N e k v (cut_at N p e)) where
   abbrev K : Model
   K = edge_cut N e k v (cut_at N p e)
 
@@ -74,7 +70,7 @@ module _ (M N : Model) (p : Plane) (ds : List ℕ) (sound : Sound M) (a : AreCut
   start_other h there ne = kept_start N K a.sound keeps h there (tail_other N e k v (cut_at N p e) goes h there ne)
 
   new_start : (h : ℕ) → tail K h ≡ v → start K h ≡ cut_at M p e
-  new_start h is = ap (point_of K) is ∙ point_new N e k v (cut_at N p e) goes ∙ same_cut
+  new_start h is = ap (point_of K) is ∙ point_new N e k v (cut_at N p e) goes ∙ same_cut M N p ds sound a e c uncut
 
   new_level : (h : ℕ) → tail K h ≡ v → height p (start K h) ≡ pos 0
   new_level h is = ap (height p) (new_start h is) ∙ c.level
@@ -149,20 +145,17 @@ module _ (M : Model) (p : Plane) (sound : Sound M) (g : Growing) (ds : List ℕ)
   pub uncut_now : count e ds ≡ 0
   uncut_now = omega (arith, w.apart e, tick_same e)
 
-  edge_free_now : table.get g.model.edges (g.taken.edge + 1) ≡ None
-  edge_free_now = none_above g.model.edges (g.taken.edge + 1) edge_above
-
-  vertex_free_now : table.get g.model.vertices (g.taken.vertex + 1) ≡ None
-  vertex_free_now = none_above g.model.vertices (g.taken.vertex + 1) vertex_above
-
-  edge_fits_now : IsTrue (is_number (g.taken.edge + 1))
-  edge_fits_now = number_fits (g.taken.edge + 1) (omega arith) (omega (arith, w.left.edges))
-
-  vertex_fits_now : IsTrue (is_number (g.taken.vertex + 1))
-  vertex_fits_now = number_fits (g.taken.vertex + 1) (omega arith) (omega (arith, w.left.vertices))
+  loops_apart : loop_of g.model (plus e) ≢ loop_of g.model (minus e)
+  loops_apart s = crossing_now.apart (sym (w.cut.kept.loop (plus e) (plus_there M e crossing_now.there)) ∙ s ∙ w.cut.kept.loop (minus e) (minus_there M e crossing_now.there))
 
   pub goes_now : CutGoes g.model e (g.taken.edge + 1) (g.taken.vertex + 1) (cut_at g.model p e)
-  goes_now = goes M g.model p ds sound w.cut e (g.taken.edge + 1) (g.taken.vertex + 1) crossing_now uncut_now edge_free_now vertex_free_now edge_fits_now vertex_fits_now
+  goes_now = record {
+    can = record { sound = w.cut.sound; there = kept_edge M g.model w.cut.kept e crossing_now.there; apart = loops_apart; edge_free = none_above g.model.edges (g.taken.edge + 1) edge_above };
+    vertex_free = none_above g.model.vertices (g.taken.vertex + 1) vertex_above;
+    edge_fits = number_fits (g.taken.edge + 1) (omega arith) (omega (arith, w.left.edges));
+    vertex_fits = number_fits (g.taken.vertex + 1) (omega arith) (omega (arith, w.left.vertices));
+    point_fits = subst IsInRange (sym (same_cut M g.model p ds sound w.cut e crossing_now uncut_now)) crossing_now.fits;
+  }
 
   pub next_model : (next_cut p g e).model ≡ edge_cut g.model e (g.taken.edge + 1) (g.taken.vertex + 1) (cut_at g.model p e)
   unfolding next_cut
@@ -174,7 +167,7 @@ module _ (M : Model) (p : Plane) (sound : Sound M) (g : Growing) (ds : List ℕ)
 
   pub going_on : Going M p (next_cut p g e) (e ∷ ds) rs
   going_on = record {
-    cut = grind (arith, next_model, cut_more, crossing_now, uncut_now, edge_free_now, vertex_free_now, edge_fits_now, vertex_fits_now);
+    cut = subst (λ X. AreCut M X p (e ∷ ds)) (sym next_model) (cut_more M g.model p ds sound w.cut e (g.taken.edge + 1) (g.taken.vertex + 1) crossing_now uncut_now goes_now);
     counted = next_taken ∙ (λ i. record (w.counted i) { edge = g.taken.edge + 1; vertex = g.taken.vertex + 1 })
         ∙ sym (taken_then g.model e (g.taken.edge + 1) (g.taken.vertex + 1) (cut_at g.model p e) goes_now.can edge_above vertex_above)
         ∙ ap taken_in (sym next_model);

@@ -1,12 +1,12 @@
 -- What is asked of a drawing: fresh numbers, how many pairs there are, and that no face is drawn twice.
 use Rattle.std.proofs.Common.{◌≡◌, ℕ, ◌+◌, ◌/◌, nat_eq, List, [], ◌∷◌, length, refl, ap, arith, map}
 use Rattle.std.proofs.lemmas.List.{length-map}
-use Rattle.euler_operators.specs.Common.{Plane, IsApart, Model, faces_of}
-use Rattle.euler_operators.proofs.Common.{count-filter}
+use Rattle.euler_operators.specs.Common.{Plane, IsIn, IsApart, Model, faces_of}
+use Rattle.euler_operators.proofs.Common.{count-filter, tick_same}
 use Rattle.euler_laws.proofs.Common.{all_where-rises, counted_once}
 use Rattle.shapes.proofs.Common.{none_above, length-sorted, length-in_pairs}
-use Rattle.shapes.specs.Common.{AreFree, taken_in, straddles, straddling_faces, places, sorted_pairs, place_pairs, pair_count, drawn_pairs, all_pairs}
-use Rattle.split_drawing_laws.specs.drawings.Pairs.{pairs_in}
+use Rattle.shapes.specs.Common.{AreFree, FacePairs, taken_in, straddles, straddling_faces, places, sorted_pairs, place_pairs, pair_count, drawn_pairs, all_pairs}
+use Rattle.split_drawing_laws.specs.drawings.Pairs.{AllOf, pairs_in}
 
 -- above the greatest numbers in use all are free
 pub fresh_taken : (M : Model) → AreFree M (taken_in M)
@@ -20,6 +20,11 @@ straddling_apart M p s x = omega (arith, count-filter (straddles M p) x (faces_o
 pairs_of : (M N : Model) (p : Plane) (f : ℕ) → length (drawn_pairs M N p f) ≡ length (places M p f) / 2
 unfolding drawn_pairs place_pairs sorted_pairs
 pairs_of M N p f = grind (arith, length-map, length-in_pairs, length-sorted)
+
+-- what holds of the pairs of each of some faces
+pub of_all_pairs : (P : FacePairs → Type 0) (M N : Model) (p : Plane) (fs : List ℕ) → ((f : ℕ) → IsIn f fs → P (record { face = f; pairs = drawn_pairs M N p f })) → AllOf P (all_pairs M N p fs)
+of_all_pairs P M N p [] each = tt
+of_all_pairs P M N p (f ∷ fs) each = (each f (omega (arith, tick_same f)), of_all_pairs P M N p fs (λ g i. each g (omega (arith, i))))
 
 -- faces stay when they get their pairs
 pub faces_are : (M N : Model) (p : Plane) (fs : List ℕ) → map (λ f. f.face) (all_pairs M N p fs) ≡ fs

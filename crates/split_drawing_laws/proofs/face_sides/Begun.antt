@@ -11,15 +11,15 @@ use Rattle.shapes.specs.Common.{start, finish, least_lone, boundary, vertices_on
 use Rattle.split_drawing_laws.specs.crossings.Kept.{Kept}
 use Rattle.split_drawing_laws.specs.crossings.Laws.{CanBegin}
 use Rattle.split_drawing_laws.proofs.crossings.Premises.{item_in_face, face_facts, in_solid, faces_not_zero, loop_in_face, solid_facts}
-use Rattle.split_drawing_laws.proofs.crossings.Whole.{at_place, can_cut, crossings_keep, crossings_sound, same_solid}
+use Rattle.split_drawing_laws.proofs.crossings.Whole.{can_cut, crossings_keep, crossings_sound, same_solid}
 use Rattle.split_drawing_laws.proofs.pairs.LoopPlaces.{none_passes}
-use Rattle.split_drawing_laws.proofs.pairs.Whole.{can_be_drawn, outer_cut}
-use Rattle.split_drawing_laws.specs.drawings.Pairs.{AllFit, LoneInOneLoop, FacesFit}
+use Rattle.split_drawing_laws.proofs.pairs.Whole.{place_now, pairs_fit, lone_pair, can_be_drawn, outer_cut}
+use Rattle.split_drawing_laws.specs.drawings.Pairs.{AllFit, LoneInOneLoop}
 use Rattle.split_drawing_laws.specs.loop_sides.Parted.{ends, LiesOn, Parted}
 use Rattle.split_drawing_laws.specs.half_sides.HalfSides.{half_is_above, side_of, is_own}
 use Rattle.split_drawing_laws.proofs.half_sides.PlaceEnds.{side_within, place_in_ends, pairs_up, side_beside, take_sides}
 use Rattle.split_drawing_laws.proofs.face_sides.Beside.{HoldsOld}
-use Rattle.split_drawing_laws.proofs.face_sides.OneFace.{IsSided, PairsOf, AllOld, Stage, AllPairsOf, all_done}
+use Rattle.split_drawing_laws.proofs.face_sides.OneFace.{IsSided, PairsOf, AllOld, Stage, all_done}
 use Rattle.split_drawing_laws.proofs.face_sides.Shared.{any_from, HeldOn, none_from}
 use Rattle.split_drawing_laws.specs.drawings.Laws.{CanBeDrawn}
 use Rattle.split_drawing_laws.proofs.drawings.Whole.{drawable, drawing_sound}
@@ -29,19 +29,12 @@ use Rattle.split_drawing_laws.proofs.loop_sides.SidesWhole.{all_drawn_parted, lo
 use Rattle.split_drawing_laws.specs.face_sides.Lone.{NoLoopIsLone}
 use Rattle.split_drawing_laws.specs.face_sides.Laws.{IsDrawn}
 use Rattle.split_drawing_laws.proofs.drawn_volumes.Bounds.{loop_facts}
-use Rattle.split_drawing_laws.proofs.drawings.Counted.{faces_are}
+use Rattle.split_drawing_laws.proofs.drawings.Counted.{of_all_pairs, faces_are}
 
 -- the half-edges of pairs that fit are there
 fits_old : (N : Model) (f : ℕ) (qs : List (ℕ × ℕ)) → AllFit N f qs → AllOld N qs
 fits_old N f [] w = tt
 fits_old N f (q ∷ qs) w = ((w.0.u_there, w.0.k_there), fits_old N f qs w.1)
-
-face_fits : (M N : Model) (p : Plane) (f : ℕ) (gs : List ℕ) → FacesFit N (all_pairs M N p gs) → IsIn f gs → AllFit N f (drawn_pairs M N p f) × LoneInOneLoop N (drawn_pairs M N p f)
-face_fits M N p f [] w i = absurd (omega (arith, i))
-face_fits M N p f (g ∷ gs) w i = elim (eqb_tells f g) [
-  | inl e ↦ subst (λ h. AllFit N h (drawn_pairs M N p h) × LoneInOneLoop N (drawn_pairs M N p h)) (sym e.1) w.0
-  | inr e ↦ face_fits M N p f gs w.1 (omega (arith, i, tick_other f g e.1))
-]
 
 -- ---- from the first conditions of a split to the sides of its loops and faces
 
@@ -182,14 +175,11 @@ module _ (M : Model) (s : ℕ) (p : Plane) (t : ℕ) (sound : Sound M) (begins :
     x_place = IsIn-filter (is_place M p) x (boundary M f) (subst (λ g. IsIn x (boundary M g)) outer_facts.1 (item_in_face M x (outer M f) outer_facts.0 outer_place.1)) outer_place.2
 
     x_loop : loop_of N (from_place N p x) ≡ outer N f
-    x_loop = (at_place M s p t sound begins f x (listed-from_in f fs i) (listed-from_in x (places M p f) x_place)).loop ∙ sound.one_loop x (outer M f) (in-holds x (content M (outer M f)) outer_place.1)
+    x_loop = (place_now M s p t sound begins f i x x_place).loop ∙ sound.one_loop x (outer M f) (in-holds x (content M (outer M f)) outer_place.1)
         ∙ sym (same_outer M N f (ap (λ u. table.get u f) keep.faces))
 
     x_end : IsIn (from_place N p x) (ends (drawn_pairs M N p f))
     x_end = place_in_ends M s p t sound begins f i x x_place
-
-    fits : AllFit N f (drawn_pairs M N p f) × LoneInOneLoop N (drawn_pairs M N p f)
-    fits = face_fits M N p f fs (can_be_drawn M s p t sound begins).fit i
 
     single_outer : (q : ℕ × ℕ) → drawn_pairs M N p f ≡ q ∷ [] → loop_of N q.0 ≡ outer N f
     single_outer q e = elim (eqb_tells (from_place N p x) q.0) [
@@ -197,13 +187,13 @@ module _ (M : Model) (s : ℕ) (p : Plane) (t : ℕ) (sound : Sound M) (begins :
       | inr a ↦
           let two : IsIn (from_place N p x) (q.0 ∷ q.1 ∷ []) = subst (λ qs. IsIn (from_place N p x) (ends qs)) e x_end in
           let one : from_place N p x ≡ q.1 = IsIn_one q.1 (from_place N p x) (omega (arith, two, tick_other (from_place N p x) q.0 a.1)) in
-          eqb-true (loop_of N q.0) (loop_of N q.1) (subst (LoneInOneLoop N) e fits.1) ∙ ap (loop_of N) (sym one) ∙ x_loop
+          eqb-true (loop_of N q.0) (loop_of N q.1) (subst (LoneInOneLoop N) e (lone_pair M s p t sound begins f i)) ∙ ap (loop_of N) (sym one) ∙ x_loop
     ]
 
     pub pairs_of : PairsOf N (side_of M s p) p f (drawn_pairs M N p f)
     pairs_of = record {
       some_pair = λ e. absurd (let j : IsIn (from_place N p x) [] = subst (λ qs. IsIn (from_place N p x) (ends qs)) e x_end in omega (arith, j));
-      old = fits_old N f (drawn_pairs M N p f) fits.0;
+      old = fits_old N f (drawn_pairs M N p f) (pairs_fit M s p t sound begins f i);
       ups = pairs_up M s p t sound begins f i;
       single = single_outer;
       rings = ring_side;
@@ -230,15 +220,11 @@ module _ (M : Model) (s : ℕ) (p : Plane) (t : ℕ) (sound : Sound M) (begins :
     straddling_there : (f : ℕ) → IsIn f fs → Has N.faces f
     straddling_there f i = subst (λ u. Has u f) (sym (crossings_keep M s p t sound begins).faces) (face_facts M s p f i).0
 
-    pairs_here : (gs : List ℕ) → ((f : ℕ) → IsIn f gs → IsIn f fs) → AllPairsOf N side p (all_pairs M N p gs)
-    pairs_here [] within = tt
-    pairs_here (g ∷ gs) within = (pairs_of g (within g (omega (arith, tick_same g))), pairs_here gs (λ f i. within f (omega (arith, i))))
-
     face_in : (f : ℕ) → IsIn f (map (λ q. q.face) (all_pairs M N p fs)) → IsIn f fs
     face_in f i = subst (IsIn f) (faces_are M N p fs) i
 
     stage : Stage N D side s fs []
-    stage = all_done N side s fs p new_sound (undrawn (with_crossings M s p)) (straddling_pairs M s p) 0 (drawable (with_crossings M s p) (straddling_pairs M s p) can) (λ f i. faces_not_zero M sound s p f (face_in f i)) face_in (pairs_here fs (λ f i. i)) ends
+    stage = all_done N side s fs p new_sound (undrawn (with_crossings M s p)) (straddling_pairs M s p) 0 (drawable (with_crossings M s p) (straddling_pairs M s p) can) (λ f i. faces_not_zero M sound s p f (face_in f i)) face_in (of_all_pairs (λ q. PairsOf N side p q.face q.pairs) M N p fs pairs_of) ends
         (subst (Stage N N side s fs) (sym (faces_are M N p fs)) (grind (arith, sided_first, straddling_there)))
 
     -- ---- the half-edges of the solid

@@ -19,7 +19,7 @@ use Rattle.split_drawing_laws.proofs.pairs.LoopPlaces.{places_even, none_passes}
 use Rattle.split_drawing_laws.proofs.pairs.Whole.{places_in, places_apart, place_now, place_face}
 use Rattle.split_drawing_laws.proofs.half_sides.Starts.{side_ahead, TurnAt, turn_at, side_kept, side_changed, starts_above, starts_below, crosses_back, comes_from}
 use Rattle.euler_operators.specs.Table as table
-use Rattle.split_drawing_laws.proofs.drawings.Counted.{straddling_apart, faces_are}
+use Rattle.split_drawing_laws.proofs.drawings.Counted.{of_all_pairs, straddling_apart, faces_are}
 use Rattle.split_drawing_laws.specs.loop_sides.Laws.{TakeSides}
 use Rattle.split_drawing_laws.proofs.loop_sides.Parting.{on_both}
 
@@ -318,9 +318,8 @@ module _ (M : Model) (s : ℕ) (p : Plane) (t : ℕ) (sound : Sound M) (begins :
 
   -- ---- all
 
-  faces_cross : (gs : List ℕ) → ((f : ℕ) → IsIn f gs → IsIn f fs) → FacesCross N p side (all_pairs M N p gs)
-  faces_cross [] within = tt
-  faces_cross (g ∷ gs) within = (pairs_cross g (within g (omega (arith, tick_same g))), faces_cross gs (λ f i. within f (omega (arith, i))))
+  faces_cross : FacesCross N p side (all_pairs M N p fs)
+  faces_cross = of_all_pairs (λ f. AllCross N p side f.pairs) M N p fs pairs_cross
 
   one_place_face : (f g y : ℕ) → IsIn f fs → IsIn g fs → IsIn y (ends (drawn_pairs M N p f)) → IsIn y (ends (drawn_pairs M N p g)) → f ≡ g
   one_place_face f g y i j a b =

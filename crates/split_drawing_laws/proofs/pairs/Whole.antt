@@ -4,20 +4,20 @@ use Rattle.std.proofs.Common.{◌≡◌, ℕ, ◌+◌, ◌<◌, List, [], ◌∷
 use Rattle.std.proofs.lemmas.List.{length-map}
 use Rattle.euler_operators.specs.Common.{Plane, Model, tail, loop_of, face_of, outer, point_of, rings_of, IsIn, IsApart, Sound, face_at, lists}
 use Rattle.euler_operators.specs.Table as table
-use Rattle.euler_operators.proofs.Common.{tick_same, not_or_fails, count-filter}
+use Rattle.euler_operators.proofs.Common.{not_or_fails, count-filter}
 use Rattle.euler_laws.specs.Laws.{AreAccepted, effects}
 use Rattle.euler_laws.proofs.Common.{AreAccepted-append, effects-append, IsIn-from_listed}
-use Rattle.shapes.specs.Common.{AreLeft, AreFree, FacePairs, Taken, Growing, growing, undrawn, taken_in, straddling_faces, crossing_edges, is_place, places, loop_is_cut, is_cut_often, sorted, sorted_pairs, place_pairs, next_cut, all_cut, with_crossings, straddling_pairs, from_place, drawn_pairs, all_pairs, with_drawings, loops_of, boundary}
+use Rattle.shapes.specs.Common.{AreLeft, AreFree, FacePairs, Taken, Growing, growing, undrawn, taken_in, straddling_faces, crossing_edges, is_place, places, loop_is_cut, is_cut_often, sorted, sorted_pairs, place_pairs, next_cut, all_cut, with_crossings, straddling_pairs, from_place, drawn_pairs, with_drawings, loops_of, boundary}
 use Rattle.shapes.proofs.Common.{none_above, different_items, loops_of_apart, count-sorted, length-sorted}
 use Rattle.split_drawing_laws.specs.drawings.DrawnIn.{AreLeftForPairs}
-use Rattle.split_drawing_laws.specs.drawings.Pairs.{pairs_in, Fits, AllFit, LoneInOneLoop, FacesFit}
+use Rattle.split_drawing_laws.specs.drawings.Pairs.{pairs_in, Fits, AllFit, LoneInOneLoop}
 use Rattle.split_drawing_laws.specs.crossings.AtPlace.{AtPlace}
 use Rattle.split_drawing_laws.specs.crossings.CrossingOps.{crossing_ops}
 use Rattle.split_drawing_laws.specs.crossings.Laws.{CanBegin}
 use Rattle.split_drawing_laws.specs.drawings.DrawingOps.{drawing_ops}
 use Rattle.split_drawing_laws.specs.drawings.Laws.{CanBeDrawn}
 use Rattle.split_drawing_laws.specs.pairs.Laws.{rewriting_ops}
-use Rattle.split_drawing_laws.proofs.drawings.Counted.{pairs_counted, fresh_taken, straddling_apart, faces_are}
+use Rattle.split_drawing_laws.proofs.drawings.Counted.{pairs_counted, of_all_pairs, fresh_taken, straddling_apart, faces_are}
 use Rattle.split_drawing_laws.proofs.crossings.Whole.{place_starts, item_face, can_cut, crossings_accepted, crossings_made, crossings_sound, crossings_counted, crossings_keep}
 use Rattle.split_drawing_laws.proofs.crossings.Premises.{Cuttable, needed_for_rewritings, face_facts}
 use Rattle.split_drawing_laws.proofs.drawings.Whole.{drawing_accepted, drawing_made, drawing_sound, drawing_stays, drawing_fresh}
@@ -92,7 +92,7 @@ module _ (M : Model) (s : ℕ) (p : Plane) (t : ℕ) (sound : Sound M) (begins :
     unfolding drawn_pairs place_pairs sorted_pairs
     pairs_are = refl
 
-    pairs_fit : AllFit N f (drawn_pairs M N p f)
+    pub pairs_fit : AllFit N f (drawn_pairs M N p f)
     pairs_fit = subst (AllFit N f) (sym pairs_are)
         (all_fit M N p f (sorted M p (places M p f)) (sorted_apart M p (places M p f) (places_apart M sound f p)) (λ x y j k. two_fit x y (from_sorted x j) (from_sorted y k)))
 
@@ -107,17 +107,13 @@ module _ (M : Model) (s : ℕ) (p : Plane) (t : ℕ) (sound : Sound M) (begins :
     outer_only two x j = (place_now x (from_sorted x j)).loop
         ∙ two_outer M sound p f (premises.untouched f i) (outer_cut M p f (premises.not_often f i)) (sym (length-sorted M p (places M p f)) ∙ two) x (from_sorted x j)
 
-    lone_pair : LoneInOneLoop N (drawn_pairs M N p f)
+    pub lone_pair : LoneInOneLoop N (drawn_pairs M N p f)
     lone_pair = subst (LoneInOneLoop N) (sym pairs_are) (lone_in_loop M N p (outer M f) (sorted M p (places M p f)) even outer_only)
 
   pub pair_up : (f : ℕ) → lists (straddling_faces M p s) f ≡ true → length (places M p f) ≡ 2 * length (place_pairs M p f)
   pair_up f l = paired f (IsIn-from_listed f (straddling_faces M p s) l)
 
   -- ---- all faces
-
-  faces_fit : (fs : List ℕ) → ((f : ℕ) → IsIn f fs → IsIn f (straddling_faces M p s)) → FacesFit N (all_pairs M N p fs)
-  faces_fit [] within = tt
-  faces_fit (f ∷ fs) within = grind (arith, tick_same, pairs_fit, lone_pair, faces_fit fs (λ g j. within g (omega (arith, j))))
 
   crossings_free : AreFree N (with_crossings M s p).taken
   crossings_free = subst (AreFree N) (sym (crossings_counted M s p t sound begins)) (fresh_taken N)
@@ -127,7 +123,7 @@ module _ (M : Model) (s : ℕ) (p : Plane) (t : ℕ) (sound : Sound M) (begins :
     sound = crossings_sound M s p t sound begins;
     fresh = record { faces = crossings_free.faces; loops = crossings_free.loops; edges = crossings_free.edges; vertices = none_above N.vertices };
     room = pairs_room p M s premises.left;
-    fit = faces_fit (straddling_faces M p s) (λ f i. i);
+    fit = of_all_pairs (λ f. AllFit N f.face f.pairs × LoneInOneLoop N f.pairs) M N p (straddling_faces M p s) (λ f i. (pairs_fit f i, lone_pair f i));
     apart = subst IsApart (sym (faces_are M N p (straddling_faces M p s))) (straddling_apart M p s);
   }
 
