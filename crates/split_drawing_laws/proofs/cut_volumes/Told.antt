@@ -1,7 +1,7 @@
 -- The faces of a solid, and sums over them.
-use Rattle.std.specs.List.{list_all}
-use Rattle.std.proofs.Common.{◌≡◌, ◌≢◌, ℕ, ◌≤◌, ℤ, ◌+ℤ◌, nat_eq, List, [], ◌∷◌, sym, ap, ◌∙◌, arith, inl, inr, Bool, true, ◌&&◌, ◌++◌, refl, subst, neg_ℤ, not, unwrap_or}
+use Rattle.std.proofs.Common.{◌≡◌, ◌≢◌, ℕ, ◌≤◌, ℤ, ◌+ℤ◌, nat_eq, List, [], ◌∷◌, sym, ap, ◌∙◌, arith, inl, inr, true, ◌&&◌, refl, subst, neg_ℤ, not, unwrap_or}
 use Rattle.std.proofs.lemmas.Int.{ints}
+use Rattle.std.proofs.lemmas.List.Folds.{list_all-append}
 use Rattle.std.proofs.lemmas.Bool.Decides.{eqb_tells}
 use Rattle.std.proofs.lemmas.Bool.{and_parts}
 use Rattle.euler_operators.specs.Common.{count, tick, IsIn, Model, solid_of, faces_of, LoopContent, items_of, content, point_of, is_ring_of, rings_of, after, no_face, Has, Sound, Plane, is_on, origin, dot, same_point, direction, lists, strictly_rises}
@@ -50,13 +50,6 @@ changed_one w z k x e (f ∷ fs) each one = elim (eqb_tells f k) [
 
 -- ---- corners on a plane, loop by loop and item by item; rings that are the same
 
--- ---- lists
-
-module _ (p : ℕ → Bool) where
-  pub both_pass : (xs ys : List ℕ) → list_all p xs ≡ true → list_all p ys ≡ true → list_all p (xs ++ ys) ≡ true
-  both_pass [] ys a b = b
-  both_pass (x ∷ xs) ys a b = let s = and_parts (p x) (list_all p xs) a in λ i. s.0 i && both_pass xs ys s.1 b i
-
 -- ---- loops
 
 module _ (M : Model) (r : Plane) where
@@ -70,7 +63,7 @@ module _ (M : Model) (r : Plane) where
 
   pub loops_on : (ls : List ℕ) → ((l : ℕ) → IsIn l ls → are_on M r (vertices_on M (content M l)) ≡ true) → are_on M r (vertices_in M ls) ≡ true
   loops_on [] each = refl
-  loops_on (l ∷ ls) each = both_pass (λ v. is_on r (point_of M v)) (vertices_on M (content M l)) (vertices_in M ls) (each l (IsIn_head l ls)) (loops_on ls (λ k j. each k (IsIn_rest k l ls j)))
+  loops_on (l ∷ ls) each = list_all-append (λ v. is_on r (point_of M v)) (vertices_on M (content M l)) (vertices_in M ls) ∙ (λ i. each l (IsIn_head l ls) i && loops_on ls (λ k j. each k (IsIn_rest k l ls j)) i)
 
   -- an item starts at a corner
   pub item_on : (c : LoopContent) (h : ℕ) → are_on M r (vertices_on M c) ≡ true → IsIn h (items_of c) → is_on r (start M h) ≡ true

@@ -66,6 +66,9 @@ module _ (M : Model) (u k e f l : ℕ) (can : CanDraw M u k e f l) where
   new_sound : Sound (face_drawn M u k e f l)
   new_sound = draw_sound M u k e f l can
 
+  pub second_in : IsIn k (cycle_of M u)
+  second_in = subst (λ q. IsIn k (items_of (content M q))) (sym can.one_loop) (cycle_there M can.sound k can.k_there)
+
   old_loop_apart : loop_of M u ≢ l
   old_loop_apart = row_elsewhere M.loops (loop_of M u) l (loop_there M can.sound u can.u_there) can.loop_free
 

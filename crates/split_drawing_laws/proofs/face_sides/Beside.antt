@@ -2,13 +2,13 @@
 use Rattle.std.proofs.Common.{◌≡◌, ◌≢◌, ℕ, true, false, cond, List, [], ◌∷◌, Option, Some, None, is_some, refl, sym, ap, ◌∙◌, subst, arith, ◌⊎◌, inl, inr, true≢false, ◌++◌, fold, option_map}
 use Rattle.std.proofs.lemmas.Bool.Decides.{eqb_tells}
 use Rattle.euler_operators.specs.Table as table
-use Rattle.euler_operators.specs.Common.{Table, get-map_rows, Model, LoopRow, loop_of, face_of, content, items_of, tail, outer, cycle_of, Has, HasHalf, face_at, lists, loop_to_face, IsIn, rotate_to, upto, onward, mef_old, mef_new, plus, minus}
+use Rattle.euler_operators.specs.Common.{Table, get-map_rows, Model, LoopRow, loop_of, face_of, content, tail, outer, cycle_of, Has, HasHalf, face_at, lists, loop_to_face, IsIn, rotate_to, upto, onward, mef_old, mef_new, plus, minus}
 use Rattle.euler_operators.proofs.Common.{face_row, same_face, content_row, cycle_there, outer_row, same_outer, loop_there, count-append, tick_same, from_is, rotate_to_is, count-rotate_to, count-canonical, row_elsewhere}
 use Rattle.euler_laws.proofs.Common.{content_either, half_face}
 use Rattle.shapes.specs.Common.{with_rings}
 use Rattle.split_drawing_laws.specs.drawings.DrawnIn.{Stays}
 use Rattle.split_drawing_laws.proofs.drawings.Drawn.{CanDraw, CanJoin, face_drawn_else, loops_joined_faces, draw_sound, ring_rows, face_drawn_new, face_drawn, loops_joined}
-use Rattle.split_drawing_laws.proofs.drawings.Stays.{row_old, row_new, row_else, row_joined, row_gone, row_other, stands_at, draw_beside}
+use Rattle.split_drawing_laws.proofs.drawings.Stays.{second_in, row_old, row_new, row_else, row_joined, row_gone, row_other, stands_at, draw_beside}
 
 -- N is M with edges drawn in face f: the faces of M keep their rows, and their loops theirs, but for those of f
 pub record Beside (M N : Model) (f : ℕ) : Type 0 where
@@ -137,12 +137,9 @@ module _ (N : Model) (u k e g l : ℕ) (can : CanDraw N u k e g l) where
   u_goes = stands_at K (draw_sound N u k e g l can) u l (mef_new (minus e) u k (cycle_of N u)) (content_row K l _ (row_new N u k e g l can))
       (omega (arith, in_upto u k (cycle_of N u) (λ s. can.apart (ap (tail N) s)) (cycle_there N can.sound u can.u_there), count-canonical u (upto u k (cycle_of N u) ++ minus e ∷ []), count-append u (upto u k (cycle_of N u)) (minus e ∷ [])))
 
-  k_in : IsIn k (cycle_of N u)
-  k_in = subst (λ q. IsIn k (items_of (content N q))) (sym can.one_loop) (cycle_there N can.sound k can.k_there)
-
   pub k_stays : loop_of (face_drawn N u k e g l) k ≡ loop_of N u
   k_stays = stands_at K (draw_sound N u k e g l can) k (loop_of N u) (mef_old (plus e) u k (cycle_of N u)) (content_row K (loop_of N u) _ (row_old N u k e g l can))
-      (omega (arith, in_onward u k (cycle_of N u) k_in, count-canonical k (plus e ∷ onward u k (cycle_of N u))))
+      (omega (arith, in_onward u k (cycle_of N u) (second_in N u k e g l can), count-canonical k (plus e ∷ onward u k (cycle_of N u))))
 
   -- a face of N keeps its outer loop
   pub outer_kept : (h : ℕ) → Has N.faces h → outer (face_drawn N u k e g l) h ≡ outer N h

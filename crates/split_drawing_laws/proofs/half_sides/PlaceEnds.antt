@@ -6,7 +6,7 @@ use Rattle.std.proofs.lemmas.Bool.{and_parts, false_from_ne_true}
 use Rattle.euler_operators.specs.Common.{Plane, count, IsIn, IsApart, tick, Model, solid_of, after, tail, loop_of, face_of, point_of, faces_of, height, is_on, cut_between, are_opposite, is_above, is_below, edge_of, plus, minus, Sound, Has, HasHalf, face_at, differ, lists}
 use Rattle.euler_operators.proofs.Common.{count-append, tick_same, tick_other, IsIn_or_not, plus_row, mate_plus, mate_minus, IsIn-map, IsApart-images, filter_passes, IsIn-filter, from_map, level_on, cycle_there, loop_there}
 use Rattle.euler_laws.proofs.Common.{halves_of_edge, back_of, half_after, loop_after, half_face, listed-from_in, IsIn-from_listed}
-use Rattle.shapes.specs.Common.{drawn_pairs, all_pairs, from_place, straddling_pairs, start, finish, boundary, corners, edges_of, crosses, reaches_above, straddling_faces, crossing_edges, straddles, reaches_below, is_place, place_point, places, goes_up, is_crossed, is_up_and_down, in_pairs, sorted, sorted_pairs, place_pairs, with_crossings}
+use Rattle.shapes.specs.Common.{drawn_pairs, all_pairs, from_place, straddling_pairs, start, finish, boundary, corners, edges_of, crosses, reaches_above, straddling_faces, crossing_edges, straddles, reaches_below, is_place, place_point, places, goes_up, is_crossed, is_up_and_down, in_pairs, up_first, sorted, sorted_pairs, place_pairs, with_crossings}
 use Rattle.split_drawing_laws.specs.drawings.Pairs.{AllOf}
 use Rattle.split_drawing_laws.specs.loop_sides.Parted.{ends, all_ends, Crosses, AllCross, LiesOn, FacesCross}
 use Rattle.split_drawing_laws.specs.crossings.Laws.{CanBegin}
@@ -130,45 +130,36 @@ module _ (M : Model) (s : ℕ) (p : Plane) (t : ℕ) (sound : Sound M) (begins :
     differing : (a b : Bool) → differ a b ≡ true → (a ≡ not b) × (b ≡ not a)
     differing a b e = grind (arith, true≢false)
 
-    all_cross : (hs : List ℕ) → ((x : ℕ) → IsIn x hs → IsIn x (places M p f)) → IsApart hs → list_all (is_up_and_down M p) (in_pairs hs) ≡ true → AllCross N p (side_of M s p) (drawn M N p hs)
-    all_cross [] within apart e = tt
-    all_cross (h ∷ []) within apart e = tt
-    all_cross (h ∷ k ∷ ks) within apart e =
-        let j : IsIn h (places M p f) = within h (omega (arith, tick_same h)) in
-        let l : IsIn k (places M p f) = within k (omega (arith, tick_same k)) in
-        let ne : h ≢ k = λ z. omega (arith, apart h, tick_same h, ap (tick h) z) in
-        let b = and_parts (is_up_and_down M p (h, k)) (list_all (is_up_and_down M p) (in_pairs ks)) e in
-        let d = differing (goes_up M p h) (goes_up M p k) b.0 in (
-          either_cross (goes_up M p h) h k (two_cross h k j l ne d.0) (two_cross k h l j (λ z. ne (sym z)) d.1),
-          all_cross ks (λ x i. within x (omega (arith, i))) (λ x. omega (arith, apart x)) b.1,
-        )
-
     all_up_and_down : list_all (is_up_and_down M p) (sorted_pairs M p f) ≡ true
     unfolding is_crossed
     all_up_and_down = grind (arith, can_cut)
 
+    -- what holds of each two such places, the one that goes up first, holds of all pairs
+    module _ (P : ℕ × ℕ → Type 0)
+        (each : (h k : ℕ) → IsIn h (places M p f) → IsIn k (places M p f) → h ≢ k → (goes_up M p h ≡ not (goes_up M p k)) × (goes_up M p k ≡ not (goes_up M p h)) → P (between M N p (up_first M p (h, k)))) where
+      of_sorted : (hs : List ℕ) → ((x : ℕ) → IsIn x hs → IsIn x (places M p f)) → IsApart hs → list_all (is_up_and_down M p) (in_pairs hs) ≡ true → AllOf P (drawn M N p hs)
+      of_sorted [] within apart e = tt
+      of_sorted (h ∷ []) within apart e = tt
+      of_sorted (h ∷ k ∷ ks) within apart e =
+          let b = and_parts (is_up_and_down M p (h, k)) (list_all (is_up_and_down M p) (in_pairs ks)) e in (
+            each h k (within h (omega (arith, tick_same h))) (within k (omega (arith, tick_same k))) (λ z. omega (arith, apart h, tick_same h, ap (tick h) z)) (differing (goes_up M p h) (goes_up M p k) b.0),
+            of_sorted ks (λ x i. within x (omega (arith, i))) (λ x. omega (arith, apart x)) b.1,
+          )
+
+      of_drawn : AllOf P (drawn_pairs M N p f)
+      unfolding drawn_pairs place_pairs sorted_pairs
+      of_drawn = of_sorted (sorted M p (places M p f)) (λ x j. omega (arith, j, count-sorted M p x (places M p f))) (sorted_apart M p (places M p f) (places_apart M sound f p)) all_up_and_down
+
     pub pairs_cross : AllCross N p (side_of M s p) (drawn_pairs M N p f)
-    unfolding drawn_pairs place_pairs sorted_pairs
-    pairs_cross = all_cross (sorted M p (places M p f)) (λ x j. omega (arith, j, count-sorted M p x (places M p f))) (sorted_apart M p (places M p f) (places_apart M sound f p)) all_up_and_down
+    pairs_cross = of_drawn (Crosses N p (side_of M s p)) (λ h k j l ne d. either_cross (goes_up M p h) h k (two_cross h k j l ne d.0) (two_cross k h l j (λ z. ne (sym z)) d.1))
 
-    -- ---- the up place stands first
-
+    -- the up place stands first
     either_up : (c : Bool) (a b : ℕ) → IsIn a (places M p f) → IsIn b (places M p f) → goes_up M p a ≡ c → goes_up M p b ≡ not c →
         (side_of M s p (between M N p (cond c (a, b) (b, a))).0 ≡ true) × (side_of M s p (between M N p (cond c (a, b) (b, a))).1 ≡ false)
     either_up c a b e f g t = grind (arith, side_within, place_face, side_ahead, place_on, finish_is)
 
-    all_up : (hs : List ℕ) → ((x : ℕ) → IsIn x hs → IsIn x (places M p f)) → list_all (is_up_and_down M p) (in_pairs hs) ≡ true → AllUp (side_of M s p) (drawn M N p hs)
-    all_up [] within e = tt
-    all_up (h ∷ []) within e = tt
-    all_up (h ∷ k ∷ ks) within e =
-        let b = and_parts (is_up_and_down M p (h, k)) (list_all (is_up_and_down M p) (in_pairs ks)) e in (
-          either_up (goes_up M p h) h k (within h (omega (arith, tick_same h))) (within k (omega (arith, tick_same k))) refl (differing (goes_up M p h) (goes_up M p k) b.0).1,
-          all_up ks (λ x i. within x (omega (arith, i))) b.1,
-        )
-
     pub pairs_up : AllUp (side_of M s p) (drawn_pairs M N p f)
-    unfolding drawn_pairs place_pairs sorted_pairs
-    pairs_up = all_up (sorted M p (places M p f)) (λ x j. omega (arith, j, count-sorted M p x (places M p f))) all_up_and_down
+    pairs_up = of_drawn (λ q. (side_of M s p q.0 ≡ true) × (side_of M s p q.1 ≡ false)) (λ h k j l ne d. either_up (goes_up M p h) h k j l refl d.1)
 
     -- ---- the half-edges of the pairs
 

@@ -10,7 +10,7 @@ use Rattle.shapes.specs.Common.{start}
 use Rattle.split_drawing_laws.specs.drawings.DrawnIn.{Stays, DrawnIn}
 use Rattle.split_drawing_laws.specs.loop_sides.Parted.{Sided, LiesOn, Parted}
 use Rattle.split_drawing_laws.proofs.drawings.Drawn.{CanDraw, draw_sound, CanJoin, join_sound, face_drawn, loops_joined}
-use Rattle.split_drawing_laws.proofs.drawings.Stays.{row_old, row_new, row_else, edges_are, row_joined, row_gone, row_other, joined_edges, draw_stays, join_stays, draw_tails, join_tails, stays_on, start_stays}
+use Rattle.split_drawing_laws.proofs.drawings.Stays.{second_in, row_old, row_new, row_else, edges_are, row_joined, row_gone, row_other, joined_edges, draw_stays, join_stays, draw_tails, join_tails, stays_on, start_stays}
 use Rattle.split_drawing_laws.proofs.drawings.Rings.{RingOf, Newer, ring_goes, ring_stays, ring_back, moved_after}
 use Rattle.split_drawing_laws.proofs.loop_sides.Follows.{Closing, sides_close, with_sides, side_old}
 
@@ -59,13 +59,10 @@ module _ (M : Model) (u k e f l : ℕ) (can : CanDraw M u k e f l) where
   abbrev K : Model
   K = face_drawn M u k e f l
 
-  k_in : IsIn k (cycle_of M u)
-  k_in = subst (λ q. IsIn k (items_of (content M q))) (sym can.one_loop) (cycle_there M can.sound k can.k_there)
-
   two_rings : IsRing (after_mef (after M) (plus e) (minus e) u k) (mef_old (plus e) u k (cycle_of M u)) × IsRing (after_mef (after M) (plus e) (minus e) u k) (mef_new (minus e) u k (cycle_of M u))
   two_rings = IsRing-mef (plus e) (minus e) u k (cycle_of M u) (cycle_sound M can.sound u can.u_there).apart (plus_other e)
       (plus_in_no_loop M e u k can.sound can.edge_free (loop_of M u)) (minus_in_no_loop M e u k can.sound can.edge_free (loop_of M u))
-      (after M) (cycle_there M can.sound u can.u_there) k_in (ring_of M e u k can.sound can.edge_free (loop_of M u))
+      (after M) (cycle_there M can.sound u can.u_there) (second_in M u k e f l can) (ring_of M e u k can.sound can.edge_free (loop_of M u))
 
   rings_drawn : (q : ℕ) → Has (face_drawn M u k e f l).loops q → IsRing (after_mef (after M) (plus e) (minus e) u k) (items_of (content (face_drawn M u k e f l) q))
   rings_drawn q there = elim (eqb_tells q (loop_of M u)) [
