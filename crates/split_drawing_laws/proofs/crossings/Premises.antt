@@ -20,16 +20,16 @@ pub picked_none : (p : ℕ → Bool) (ns : List ℕ) → ((x : ℕ) → IsIn x n
 picked_none p [] none = refl
 picked_none p (n ∷ ns) none = ap (λ b. cond b (n ∷ filter p ns) (filter p ns)) (none n (here n n ns refl)) ∙ picked_none p ns (λ x i. none x (omega (arith, i)))
 
+or_second : (a b : Bool) → b ≡ true → (a || b) ≡ true
+or_second a b e = grind arith
+
 -- one that passes
 pub any_passes : (p : ℕ → Bool) (x : ℕ) (ns : List ℕ) → IsIn x ns → p x ≡ true → list_any p ns ≡ true
 any_passes p x [] i e = absurd (omega arith)
 any_passes p x (n ∷ ns) i e = elim (eqb_tells x n) [
   | inl s ↦ ap (λ b. b || list_any p ns) (ap p (sym s.1) ∙ e)
-  | inr s ↦ later (p n) (any_passes p x ns (omega (arith, i, tick_other x n s.1)) e)
-] where
-  later : (b : Bool) → list_any p ns ≡ true → (b || list_any p ns) ≡ true
-  later true f = refl
-  later false f = f
+  | inr s ↦ or_second (p n) (list_any p ns) (any_passes p x ns (omega (arith, i, tick_other x n s.1)) e)
+]
 
 -- ---- the faces of a solid, and those of them that straddle
 
@@ -74,24 +74,17 @@ module _ (M : Model) where
 
 -- ---- two places of a face with equal points
 
-meets_first : (M : Model) (p : Plane) (x y : ℕ) (hs : List ℕ) → same_point (place_point M p x) (place_point M p y) ≡ true → IsIn y hs → list_any (λ k. same_point (place_point M p x) (place_point M p k)) hs ≡ true
-meets_first M p x y hs e i = any_passes (λ k. same_point (place_point M p x) (place_point M p k)) y hs i e
-
 pub two_meet : (M : Model) (p : Plane) (x y : ℕ) (hs : List ℕ) → x ≢ y → place_point M p x ≡ place_point M p y → IsIn x hs → IsIn y hs → some_meet M p hs ≡ true
 two_meet M p x y [] ne e i j = absurd (omega (arith, i))
 two_meet M p x y (h ∷ hs) ne e i j = elim (eqb_tells x h) [
-  | inl s ↦ ap (λ b. b || some_meet M p hs) (meets_first M p h y hs (same_as (place_point M p h) (place_point M p y) (ap (place_point M p) (sym s.1) ∙ e)) (rest y h hs (λ t. ne (s.1 ∙ sym t)) j))
+  | inl s ↦ ap (λ b. b || some_meet M p hs) (any_passes (λ k. same_point (place_point M p h) (place_point M p k)) y hs (rest y h hs (λ t. ne (s.1 ∙ sym t)) j) (same_as (place_point M p h) (place_point M p y) (ap (place_point M p) (sym s.1) ∙ e)))
   | inr s ↦ elim (eqb_tells y h) [
-    | inl t ↦ ap (λ b. b || some_meet M p hs) (meets_first M p h x hs (same_as (place_point M p h) (place_point M p x) (ap (place_point M p) (sym t.1) ∙ sym e)) (rest x h hs s.1 i))
-    | inr t ↦ later (list_any (λ k. same_point (place_point M p h) (place_point M p k)) hs) (two_meet M p x y hs ne e (rest x h hs s.1 i) (rest y h hs t.1 j))
+    | inl t ↦ ap (λ b. b || some_meet M p hs) (any_passes (λ k. same_point (place_point M p h) (place_point M p k)) x hs (rest x h hs s.1 i) (same_as (place_point M p h) (place_point M p x) (ap (place_point M p) (sym t.1) ∙ sym e)))
+    | inr t ↦ or_second (list_any (λ k. same_point (place_point M p h) (place_point M p k)) hs) (some_meet M p hs) (two_meet M p x y hs ne e (rest x h hs s.1 i) (rest y h hs t.1 j))
   ]
 ] where
   rest : (a b : ℕ) (ns : List ℕ) → a ≢ b → IsIn a (b ∷ ns) → IsIn a ns
   rest a b ns n i = omega (arith, i, tick_other a b n)
-
-  later : (b : Bool) → some_meet M p hs ≡ true → (b || some_meet M p hs) ≡ true
-  later true f = refl
-  later false f = f
 
 pub crossing_is_place : (M : Model) (p : Plane) (h : ℕ) → crosses M p h ≡ true → is_place M p h ≡ true
 unfolding is_place

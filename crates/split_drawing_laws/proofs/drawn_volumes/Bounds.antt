@@ -201,35 +201,27 @@ module _ (N : Model) (u k e g l : ℕ) (can : CanDraw N u k e g l) where
 
   -- ---- planes
 
+  -- a half-edge starts where one of N did, of its face or of the one that its face is cut off
+  comes : (h : ℕ) → HasHalf K h → (z : ℕ) × HasHalf N z × (start K h ≡ start N z) × ((face_at K h ≡ face_at N z) ⊎ ((face_at N z ≡ F) × (face_at K h ≡ g)))
+  comes h now = elim (cases h now) [
+    | inl was ↦ (h, was, start_stays N K stays h was, face_then h was)
+    | inr new ↦ elim new [
+      | inl is ↦ (u, can.u_there, ap (start K) is ∙ plus_start, inl (ap (face_at K) is ∙ plus_face))
+      | inr is ↦ (k, can.k_there, ap (start K) is ∙ minus_start, inr (ap (face_of N) (sym can.one_loop), ap (face_at K) is ∙ minus_face))
+    ]
+  ]
+
   -- a face of N lies on its planes
   pub old_on : (t : Plane) (f : ℕ) → Has N.faces f → OnFace N t f → OnFace (face_drawn N u k e g l) t f
   old_on t f there w = record {
-    halves = λ h now at. elim (cases h now) [
-      | inl was ↦ ap (is_on t) (start_stays N K stays h was) ∙ elim (face_then h was) [
-        | inl same ↦ w.halves h was (sym same ∙ at)
-        | inr new ↦ absurd (not_new f there (sym at ∙ new.1))
-      ]
-      | inr new ↦ elim new [
-        | inl is ↦ ap (is_on t) (ap (start K) is ∙ plus_start) ∙ w.halves u can.u_there (sym plus_face ∙ sym (ap (face_at K) is) ∙ at)
-        | inr is ↦ absurd (not_new f there (sym at ∙ ap (face_at K) is ∙ minus_face))
-      ]
-    ];
+    halves = λ h now at. let z = comes h now in ap (is_on t) z.2 ∙ elim z.3 [ inl same ↦ w.halves z.0 z.1 (sym same ∙ at) | inr new ↦ absurd (not_new f there (sym at ∙ new.1)) ];
     lones = λ q v at is. lone_on t q v is (subst (OnFace N t) (sym at) w);
   }
 
   -- and the new one on those of the face that it is cut off
   pub new_on : (t : Plane) → OnFace N t (face_at N u) → OnFace (face_drawn N u k e g l) t g
   new_on t w = record {
-    halves = λ h now at. elim (cases h now) [
-      | inl was ↦ ap (is_on t) (start_stays N K stays h was) ∙ elim (face_then h was) [
-        | inl same ↦ absurd (not_new (face_at N h) (half_face N can.sound h was) (sym same ∙ at))
-        | inr new ↦ w.halves h was new.0
-      ]
-      | inr new ↦ elim new [
-        | inl is ↦ absurd (not_new F F_there (sym plus_face ∙ sym (ap (face_at K) is) ∙ at))
-        | inr is ↦ ap (is_on t) (ap (start K) is ∙ minus_start) ∙ w.halves k can.k_there (ap (face_of N) (sym can.one_loop))
-      ]
-    ];
+    halves = λ h now at. let z = comes h now in ap (is_on t) z.2 ∙ elim z.3 [ inl same ↦ absurd (not_new (face_at N z.0) (half_face N can.sound z.0 z.1) (sym same ∙ at)) | inr new ↦ w.halves z.0 z.1 new.0 ];
     lones = λ q v at is.
         let row = lone_row q v is in
         absurd (not_new (face_of N q) (can.sound.loops_of_faces q (ap is_some (sym row) ∙ lone_there K q v is)) (sym (same_face N K q row) ∙ at));
