@@ -1,11 +1,11 @@
 -- One edge cut: the operator that does it, and what stays.
 use Rattle.std.proofs.Common.{◌≡◌, ◌≢◌, ℕ, ◌≤◌, true, List, [], ◌∷◌, Some, None, is_some, unwrap_or, IsTrue, refl, sym, ap, ◌∙◌, arith, inl, inr, true≢false, ◌<◌, flat_map}
 use Rattle.std.proofs.lemmas.Bool.Decides.{eqb_tells}
-use Rattle.euler_operators.specs.Common.{Point, IsInRange, count, IsIn, rotate_to, canonical, At, edge_of, is_first, plus, minus, half, Model, LoopContent, EdgeRow, items_of, holds, tail, tail_in, loop_of, content, after, point_of, no_point, is_number, Sound, Has, HasHalf, first_false, Table}
+use Rattle.euler_operators.specs.Common.{Point, IsInRange, count, IsIn, rotate_to, canonical, At, edge_of, is_first, plus, minus, half, Model, LoopContent, items_of, holds, tail, tail_in, loop_of, content, after, point_of, no_point, is_number, Sound, Has, HasHalf, first_false, Table}
 use Rattle.euler_operators.specs.Table as table
 use Rattle.euler_operators.specs.declared.Op.{Op}
 use Rattle.euler_operators.specs.declared.Op.TheVariants.{Mev}
-use Rattle.euler_operators.proofs.Common.{count-append, tick_same, tick_other, count-canonical, plus_row, minus_row, code-half, mate_minus, in-holds, holds_in, tail_row, plus_there, minus_there, get-put_here, get-put_other, greatest-map, put_turned}
+use Rattle.euler_operators.proofs.Common.{count-append, tick_same, tick_other, count-canonical, plus_row, code-half, mate_minus, in-holds, holds_in, plus_tail_row, minus_tail_row, plus_there, minus_there, get-put_here, get-put_other, greatest-map, put_turned}
 use Rattle.euler_laws.proofs.Common.{Rewritten, content-new, face-same, loop-same, MevGoes, mev_accepted, effect_keeps_sound}
 use Rattle.shapes.specs.Common.{rewritten, rewritten_row, taken_in}
 use Rattle.shapes.proofs.Common.{greatest-put_last, greatest_is, greatest_used, free_above, at_most_greatest}
@@ -95,17 +95,11 @@ module _ (M : Model) (e k v : ℕ) (q : Point) (goes : CutGoes M e k v q) where
 
   -- ---- where half-edges start then
 
-  row_tail : (x : ℕ) (r : EdgeRow) → table.get (edge_cut M e k v q).edges x ≡ Some r → (tail (edge_cut M e k v q) (plus x) ≡ r.plus_tail) × (tail (edge_cut M e k v q) (minus x) ≡ r.minus_tail)
-  row_tail x r at = (
-    tail_row (edge_cut M e k v q) (plus x) r (ap (table.get (edge_cut M e k v q).edges) (plus_row x).0 ∙ at) ∙ ap (tail_in r) (plus_row x).1,
-    tail_row (edge_cut M e k v q) (minus x) r (ap (table.get (edge_cut M e k v q).edges) (minus_row x).0 ∙ at) ∙ ap (tail_in r) (minus_row x).1,
-  )
-
   pub tail_old : (tail (edge_cut M e k v q) (plus e) ≡ v) × (tail (edge_cut M e k v q) (minus e) ≡ tail M (minus e))
-  tail_old = row_tail e _ edge_old
+  tail_old = (plus_tail_row (edge_cut M e k v q) e _ edge_old, minus_tail_row (edge_cut M e k v q) e _ edge_old)
 
   pub tail_new : (tail (edge_cut M e k v q) (plus k) ≡ tail M (plus e)) × (tail (edge_cut M e k v q) (minus k) ≡ v)
-  tail_new = row_tail k _ edge_new
+  tail_new = (plus_tail_row (edge_cut M e k v q) k _ edge_new, minus_tail_row (edge_cut M e k v q) k _ edge_new)
 
   pub tail_other : (h : ℕ) → HasHalf M h → edge_of h ≢ e → tail (edge_cut M e k v q) h ≡ tail M h
   unfolding tail

@@ -2,7 +2,7 @@
 use Rattle.std.proofs.Common.{◌≡◌, ◌≢◌, ℕ, ◌+◌, ◌≤◌, ◌<◌, List, ◌∷◌, ◌++◌, Some, None, is_some, unwrap_or, refl, sym, ap, ◌∙◌, subst, arith, ◌⊎◌, inl, inr}
 use Rattle.std.proofs.lemmas.Bool.Decides.{eqb_tells}
 use Rattle.euler_operators.specs.Common.{count, IsIn, rotate_to, mef_old, mef_new, mekr_ring, edge_of, is_first, plus, minus, Model, cycle, no_edge, items_of, holds, tail, tail_in, loop_of, content, face_of, solid_of, cycle_of, point_of, no_point, Sound, Has, HasHalf, face_at, effect, mef, mekr}
-use Rattle.euler_operators.proofs.Common.{count-append, IsIn_or_not, count-canonical, count-rotate_to, plus_row, minus_row, plus_there, minus_there, content_row, face_row, tail_row, in-holds, cycle_there, same_content, same_face, loop_there, row_elsewhere, get-put_here, get-put_other, get-remove_here, get-remove_other}
+use Rattle.euler_operators.proofs.Common.{count-append, IsIn_or_not, count-canonical, count-rotate_to, plus_there, minus_there, content_row, face_row, plus_tail_row, minus_tail_row, in-holds, cycle_there, same_content, same_face, loop_there, row_elsewhere, get-put_here, get-put_other, get-remove_here, get-remove_other}
 use Rattle.euler_operators.specs.Table as table
 use Rattle.euler_laws.proofs.Common.{count-halves, half_face, count-mef_old, count-mef_new}
 use Rattle.shapes.specs.Common.{Taken, start}
@@ -52,10 +52,7 @@ module _ (M N : Model) (e a b : ℕ) (is : N.edges ≡ table.put M.edges e (reco
   new_halves = (plus_there N e (ap is_some new_row), minus_there N e (ap is_some new_row))
 
   new_tails : (tail N (plus e) ≡ a) × (tail N (minus e) ≡ b)
-  new_tails = (
-    tail_row N (plus e) _ (ap (table.get N.edges) (plus_row e).0 ∙ new_row) ∙ ap (tail_in (record { plus_tail = a; minus_tail = b })) (plus_row e).1,
-    tail_row N (minus e) _ (ap (table.get N.edges) (minus_row e).0 ∙ new_row) ∙ ap (tail_in (record { plus_tail = a; minus_tail = b })) (minus_row e).1,
-  )
+  new_tails = (plus_tail_row N e _ new_row, minus_tail_row N e _ new_row)
 
 -- ---- an edge drawn
 

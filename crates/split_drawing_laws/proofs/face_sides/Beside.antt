@@ -22,6 +22,10 @@ ComesOf M f g = (g ≡ f) ⊎ (table.get M.faces g ≡ None)
 pub nothing_beside : (M : Model) (f : ℕ) → Beside M M f
 nothing_beside M f = record { faces = λ g there. refl; loops = λ q there ne old. refl }
 
+-- a loop that keeps its row where it didn't change before
+pub loop_beside : (M N K : Model) (f q : ℕ) → Beside M N f → table.get K.loops q ≡ table.get N.loops q → Has K.loops q → face_of K q ≢ f → Has M.faces (face_of K q) → table.get K.loops q ≡ table.get M.loops q
+loop_beside M N K f q w same there ne old = let face = same_face N K q same in same ∙ w.loops q (ap is_some (sym same) ∙ there) (λ s. ne (face ∙ s)) (subst (Has M.faces) face old)
+
 pub never_free : {X : Type 0} (t : Table X) (n : ℕ) → Has t n → table.get t n ≡ None → ⊥
 never_free t n there free = true≢false (sym there ∙ ap is_some free)
 
@@ -38,10 +42,7 @@ module _ (M N : Model) (f c d e : ℕ) (can : CanJoin N c d e) (at : face_at N c
       | inl a ↦ absurd (ne (ap (face_of J) a.1 ∙ face_row J (loop_of N c) _ (row_joined N c d e can) ∙ at))
       | inr a ↦ elim (eqb_tells q (loop_of N d)) [
         | inl b ↦ absurd (never_free J.loops (loop_of N d) (subst (Has J.loops) b.1 there) (row_gone N c d e can))
-        | inr b ↦
-            let same : table.get J.loops q ≡ table.get N.loops q = row_other N c d e can q a.1 b.1 in
-            let face : face_of J q ≡ face_of N q = same_face N J q same in
-            same ∙ w.loops q (ap is_some (sym same) ∙ there) (λ s. ne (face ∙ s)) (subst (Has M.faces) face old)
+        | inr b ↦ loop_beside M N J f q w (row_other N c d e can q a.1 b.1) there ne old
       ]
     ];
   }
@@ -124,10 +125,7 @@ module _ (N : Model) (u k e g l : ℕ) (can : CanDraw N u k e g l) where
         | inl a ↦ absurd (not_drawn (face_of K q) ne old (sym (ap (face_of K) a.1 ∙ old_loop_face)))
         | inr a ↦ elim (eqb_tells q l) [
           | inl b ↦ absurd (never_free M.faces (face_of K q) old (ap (table.get M.faces) (ap (face_of K) b.1 ∙ new_loop_face) ∙ new))
-          | inr b ↦
-              let same : table.get K.loops q ≡ table.get N.loops q = row_else N u k e g l can q a.1 b.1 in
-              let face : face_of K q ≡ face_of N q = same_face N K q same in
-              same ∙ w.loops q (ap is_some (sym same) ∙ there) (λ s. ne (face ∙ s)) (subst (Has M.faces) face old)
+          | inr b ↦ loop_beside M N K f q w (row_else N u k e g l can q a.1 b.1) there ne old
         ]
       ];
     }

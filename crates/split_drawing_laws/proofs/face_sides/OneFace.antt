@@ -14,7 +14,7 @@ use Rattle.split_drawing_laws.proofs.drawings.Pairs.{was_free}
 use Rattle.split_drawing_laws.proofs.drawings.Passes.{all_of_last, either_now, joins_keep, cut_off, can_now, draws_keep, stuck_now}
 use Rattle.split_drawing_laws.proofs.drawings.Stays.{draw_stays, stays_on, row_else}
 use Rattle.split_drawing_laws.proofs.drawings.Drawn.{loops_joined_faces, CanDraw, face_drawn_else, face_drawn, ring_rows}
-use Rattle.split_drawing_laws.proofs.face_sides.Beside.{Alone, draw_alone, Beside, ComesOf, joined_beside, drawn_beside, Lone, nothing_beside, never_free, given_has, given_else, given_face}
+use Rattle.split_drawing_laws.proofs.face_sides.Beside.{Alone, draw_alone, Beside, ComesOf, joined_beside, drawn_beside, loop_beside, Lone, nothing_beside, never_free, given_has, given_else, given_face}
 use Rattle.split_drawing_laws.proofs.drawings.Faces.{drawn_is, can_alone, face_goes, begun_joining, joins, going}
 use Rattle.split_drawing_laws.proofs.loop_sides.SidesWhole.{draws_go_on, not_stuck}
 use Rattle.split_drawing_laws.proofs.half_sides.PlaceEnds.{AllUp}
@@ -171,10 +171,7 @@ module _ (B : Model) (side : ℕ → Bool) (p : Plane) (f : ℕ) (q : ℕ × ℕ
   } where
     given_or_not : (r : ℕ) → Has W.loops r → face_of W r ≢ f → Has X.faces (face_of W r) → (b : Bool) → lists (rings_above K p f) r ≡ b → table.get W.loops r ≡ table.get X.loops r
     given_or_not r there ne old true i = absurd (never_free X.faces (face_of W r) old (ap (table.get X.faces) (given_face K (rings_above K p f) g r i (sym (given_has K (rings_above K p f) g r) ∙ there)) ∙ can.face_free))
-    given_or_not r there ne old false i =
-        let row : table.get W.loops r ≡ table.get K.loops r = given_else K (rings_above K p f) g r i in
-        let face : face_of W r ≡ face_of K r = same_face K W r row in
-        row ∙ K_beside.loops r (ap is_some (sym row) ∙ there) (λ s. ne (face ∙ s)) (subst (Has X.faces) face old)
+    given_or_not r there ne old false i = loop_beside X K W f r K_beside (given_else K (rings_above K p f) g r i) there ne old
 
   W_sided : (h : ℕ) → Has W.faces h → ComesOf X f h → IsSided B W side h
   W_sided h there drawn = elim drawn [
