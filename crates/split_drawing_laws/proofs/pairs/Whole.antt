@@ -22,7 +22,7 @@ use Rattle.split_drawing_laws.proofs.crossings.Whole.{place_starts, item_face, c
 use Rattle.split_drawing_laws.proofs.crossings.Premises.{Cuttable, needed_for_rewritings, face_facts}
 use Rattle.split_drawing_laws.proofs.drawings.Whole.{drawing_accepted, drawing_made, drawing_sound, drawing_stays, drawing_fresh}
 use Rattle.split_drawing_laws.proofs.loop_sides.SidesWhole.{faces_go_on}
-use Rattle.split_drawing_laws.proofs.pairs.Sorted.{sorted_apart, all_paired, between, drawn, all_fit, lone_in_loop, points_apart}
+use Rattle.split_drawing_laws.proofs.pairs.Sorted.{sorted_apart, all_paired, between, all_fit, lone_in_loop, points_apart}
 use Rattle.split_drawing_laws.proofs.pairs.LoopPlaces.{places_even, two_outer, IsEven}
 
 -- an edge for each edge that is cut, and neither a face nor a loop
@@ -88,13 +88,9 @@ module _ (M : Model) (s : ℕ) (p : Plane) (t : ℕ) (sound : Sound M) (begins :
     from_sorted : (x : ℕ) → IsIn x (sorted M p (places M p f)) → IsIn x (places M p f)
     from_sorted x j = omega (arith, j, count-sorted M p x (places M p f))
 
-    pairs_are : drawn_pairs M N p f ≡ drawn M N p (sorted M p (places M p f))
-    unfolding drawn_pairs place_pairs sorted_pairs
-    pairs_are = refl
-
     pub pairs_fit : AllFit N f (drawn_pairs M N p f)
-    pairs_fit = subst (AllFit N f) (sym pairs_are)
-        (all_fit M N p f (sorted M p (places M p f)) (sorted_apart M p (places M p f) (places_apart M sound f p)) (λ x y j k. two_fit x y (from_sorted x j) (from_sorted y k)))
+    unfolding drawn_pairs place_pairs sorted_pairs
+    pairs_fit = all_fit M N p f (sorted M p (places M p f)) (sorted_apart M p (places M p f) (places_apart M sound f p)) (λ x y j k. two_fit x y (from_sorted x j) (from_sorted y k))
 
     even : IsEven (length (sorted M p (places M p f)))
     even = subst IsEven (sym (length-sorted M p (places M p f))) (places_even M sound p f (premises.untouched f i))
@@ -108,7 +104,8 @@ module _ (M : Model) (s : ℕ) (p : Plane) (t : ℕ) (sound : Sound M) (begins :
         ∙ two_outer M sound p f (premises.untouched f i) (outer_cut M p f (premises.not_often f i)) (sym (length-sorted M p (places M p f)) ∙ two) x (from_sorted x j)
 
     pub lone_pair : LoneInOneLoop N (drawn_pairs M N p f)
-    lone_pair = subst (LoneInOneLoop N) (sym pairs_are) (lone_in_loop M N p (outer M f) (sorted M p (places M p f)) even outer_only)
+    unfolding drawn_pairs place_pairs sorted_pairs
+    lone_pair = lone_in_loop M N p (outer M f) (sorted M p (places M p f)) even outer_only
 
   pub pair_up : (f : ℕ) → lists (straddling_faces M p s) f ≡ true → length (places M p f) ≡ 2 * length (place_pairs M p f)
   pair_up f l = paired f (IsIn-from_listed f (straddling_faces M p s) l)
