@@ -159,7 +159,7 @@ module _ (N : Model) (u k e g l : ℕ) (can : CanDraw N u k e g l) where
   unfolding solid_of
   solid_new = ap (λ o. (unwrap_or o no_face).solid) face_new
 
-  F_there : Has N.faces F
+  pub F_there : Has N.faces (face_at N u)
   F_there = half_face N can.sound u can.u_there
 
   pub not_new : (f : ℕ) → Has N.faces f → f ≢ g
@@ -229,10 +229,10 @@ module _ (N : Model) (u k e g l : ℕ) (can : CanDraw N u k e g l) where
 
   -- ---- normals
 
-  F_now : Has K.faces F
+  pub F_now : Has (face_drawn N u k e g l).faces (face_at N u)
   F_now = stays.faces F F_there
 
-  g_now : Has K.faces g
+  pub g_now : Has (face_drawn N u k e g l).faces g
   g_now = ap is_some face_new
 
   -- a half-edge that was there bounds one of the two if it bounded F

@@ -1,10 +1,10 @@
 -- A ring given to another face; and each solid keeps its six volumes where an edge is drawn, two loops are joined or a ring is moved.
-use Rattle.std.proofs.Common.{◌≡◌, ◌≢◌, ℕ, ◌++◌, sym, ap, ◌∙◌, arith, inl, inr, ℤ, ◌+ℤ◌, ◌-ℤ◌, true, not, cond, nat_eq, ◌&&◌, ◌∷◌, is_some, refl, subst, ne_eqb, eq-eqb}
+use Rattle.std.proofs.Common.{◌≡◌, ◌≢◌, ℕ, ◌++◌, sym, ap, ◌∙◌, arith, inl, inr, ℤ, ◌+ℤ◌, ◌-ℤ◌, true, not, cond, nat_eq, ◌&&◌, ◌∷◌, refl, subst, ne_eqb, eq-eqb}
 use Rattle.std.proofs.lemmas.Bool.Decides.{eqb_tells}
 use Rattle.euler_operators.specs.Common.{Plane, moved, is_on, origin, dot, same_point, direction, count, SameItems, Model, loop_of, face_of, outer, solid_of, faces_of, Sound, Has, HasHalf, face_at, ring_in, Point}
 use Rattle.euler_operators.proofs.Common.{count-append, tick_same, tick_other, dot_sum}
 use Rattle.euler_laws.proofs.faces.RingIn as moving
-use Rattle.euler_laws.proofs.Common.{RingGoes, half_face}
+use Rattle.euler_laws.proofs.Common.{RingGoes}
 use Rattle.shapes.specs.Common.{boundary, normal, anchor, six_volume}
 use Rattle.shapes.proofs.Common.{area-append, area_same, total, volume_of, unchanged, total_same, anchor_on, told_anywhere}
 use Rattle.split_drawing_laws.proofs.drawn_volumes.Bounds.{OnFace, anchor_still, bound_one, bound_none, half_there, area_after, one_count, no_count, normal_kept, normal_is, face_on}
@@ -115,24 +115,12 @@ module _ (N : Model) (u k e g l : ℕ) (can : CanDraw N u k e g l) (r : Plane) (
   abbrev F : ℕ
   F = face_at N u
 
-  F_there : Has N.faces F
-  F_there = half_face N can.sound u can.u_there
-
-  new_sound : Sound K
-  new_sound = draws.K_sound N u k e g l can
-
-  F_now : Has K.faces F
-  F_now = ap is_some (draws.face_else N u k e g l can F (draws.not_new N u k e g l can F F_there)) ∙ F_there
-
-  g_now : Has K.faces g
-  g_now = ap is_some (draws.face_new N u k e g l can)
-
   split : volume_of N F ≡ volume_of K F +ℤ volume_of K g
   split =
       let p : Point = anchor N F in
-      let on : is_on r p ≡ true = anchor_lies N can.sound r some F F_there w in
+      let on : is_on r p ≡ true = anchor_lies N can.sound r some F (draws.F_there N u k e g l can) w in
       ap (dot p) (sym (draws.normals_sum N u k e g l can)) ∙ dot_sum p (normal K F) (normal K g)
-      ∙ sym (λ i. told_from K new_sound r some F p F_now (draws.old_on N u k e g l can r F F_there w) on i +ℤ told_from K new_sound r some g p g_now (draws.new_on N u k e g l can r w) on i)
+      ∙ sym (λ i. told_from K (draws.K_sound N u k e g l can) r some F p (draws.F_now N u k e g l can) (draws.old_on N u k e g l can r F (draws.F_there N u k e g l can) w) on i +ℤ told_from K (draws.K_sound N u k e g l can) r some g p (draws.g_now N u k e g l can) (draws.new_on N u k e g l can r w) on i)
 
   else_told : (f : ℕ) → Has N.faces f → f ≢ F → volume_of N f ≡ volume_of K f
   else_told f there ne = sym (λ i. dot (draws.anchor_else N u k e g l can f there ne i) (draws.normal_else N u k e g l can f there ne i))
@@ -140,28 +128,25 @@ module _ (N : Model) (u k e g l : ℕ) (can : CanDraw N u k e g l) (r : Plane) (
   g_was : (v : ℕ) → count g (faces_of N v) ≡ 0
   g_was v = counted_out N g v (λ there _. draws.not_new N u k e g l can g there refl)
 
-  g_solid : solid_of K g ≡ solid_of N F
-  g_solid = draws.solid_new N u k e g l can
-
   else_count : (v f : ℕ) → f ≢ g → count f (faces_of K v) ≡ count f (faces_of N v)
   else_count v f ne = same_count N K v f (draws.face_else N u k e g l can f ne)
 
   with_new : (v : ℕ) → solid_of N F ≡ v → SameItems (faces_of K v) (g ∷ faces_of N v)
   with_new v at f = elim (eqb_tells f g) [
-    | inl s ↦ grind (arith, tick_same, counted_in, g_now, g_solid, g_was)
+    | inl s ↦ grind (arith, tick_same, counted_in, draws.g_now N u k e g l can, draws.solid_new N u k e g l can, g_was)
     | inr s ↦ omega (arith, tick_other f g s.1, else_count v f s.1)
   ]
 
   without : (v : ℕ) → solid_of N F ≢ v → SameItems (faces_of K v) (faces_of N v)
   without v not_at f = elim (eqb_tells f g) [
-    | inl s ↦ ap (λ x. count x (faces_of K v)) s.1 ∙ counted_out K g v (λ there at. not_at (sym g_solid ∙ at)) ∙ sym (ap (λ x. count x (faces_of N v)) s.1 ∙ g_was v)
+    | inl s ↦ ap (λ x. count x (faces_of K v)) s.1 ∙ counted_out K g v (λ there at. not_at (sym (draws.solid_new N u k e g l can) ∙ at)) ∙ sym (ap (λ x. count x (faces_of N v)) s.1 ∙ g_was v)
     | inr s ↦ else_count v f s.1
   ]
 
   pub draw_volumes : (v : ℕ) → six_volume (face_drawn N u k e g l) v ≡ six_volume N v
   draw_volumes v = six_is K v ∙ elim (eqb_tells (solid_of N F) v) [
     | inl at ↦ total_same (volume_of K) (faces_of K v) (g ∷ faces_of N v) (with_new v at.1) ∙ omega (arith, ints)
-        ∙ sym (changed_one (volume_of N) (volume_of K) F (volume_of K g) split (faces_of N v) (λ f i ne. else_told f (solid_facts N v f i).0 ne) (counted_in N F v F_there at.1))
+        ∙ sym (changed_one (volume_of N) (volume_of K) F (volume_of K g) split (faces_of N v) (λ f i ne. else_told f (solid_facts N v f i).0 ne) (counted_in N F v (draws.F_there N u k e g l can) at.1))
     | inr ne ↦ total_same (volume_of K) (faces_of K v) (faces_of N v) (without v ne.1)
         ∙ sym (unchanged (volume_of N) (volume_of K) (faces_of N v) (λ f i. else_told f (solid_facts N v f i).0 (λ s. ne.1 (ap (solid_of N) (sym s) ∙ (solid_facts N v f i).1))))
   ] ∙ sym (six_is N v)
