@@ -21,23 +21,6 @@ all_of_last P (y ∷ xs) x all last = (all.0, all_of_last P xs x all.1 last)
 pub room_as : (c : Taken) (a b : ℕ) → a ≡ b → AreLeftForPairs c a → AreLeftForPairs c b
 room_as c a b e = subst (AreLeftForPairs c) e
 
--- the next edge, face and loop
-module _ (c : Taken) (n : ℕ) (room : AreLeftForPairs c (suc n)) where
-  pub edge_fits : IsTrue (is_number (c.edge + 1))
-  edge_fits = number_fits (c.edge + 1) (omega arith) (omega (arith, room.edges))
-
-  pub face_fits : IsTrue (is_number (c.face + 1))
-  face_fits = number_fits (c.face + 1) (omega arith) (omega (arith, room.faces))
-
-  pub loop_fits : IsTrue (is_number (c.loop + 1))
-  loop_fits = number_fits (c.loop + 1) (omega arith) (omega (arith, room.loops))
-
-  room_joined : AreLeftForPairs (record c { edge = c.edge + 1 }) n
-  room_joined = record { faces = omega (arith, room.faces); loops = omega (arith, room.loops); edges = omega (arith, room.edges); vertices = room.vertices }
-
-  room_drawn : AreLeftForPairs (record c { face = c.face + 1; loop = c.loop + 1; edge = c.edge + 1 }) n
-  room_drawn = record { faces = omega (arith, room.faces); loops = omega (arith, room.loops); edges = omega (arith, room.edges); vertices = room.vertices }
-
 next_above : (a : ℕ) → a < a + 1
 next_above a = omega arith
 
@@ -74,7 +57,7 @@ module _ (M : Model) (f : ℕ) (d : Drawing) (q : ℕ × ℕ) (qs : List (ℕ ×
   edge_free = w.fresh.edges (d.taken.edge + 1) (next_above d.taken.edge)
 
   pub edge_fits_now : IsTrue (is_number (d.taken.edge + 1))
-  edge_fits_now = edge_fits d.taken (length d.left + length qs + n) room_now
+  edge_fits_now = number_fits (d.taken.edge + 1) (omega arith) (omega (arith, room_now.edges))
 
   pub either_now : in_one_loop d.model q ≡ false → (P : Model → Type 0) →
       ((c k : ℕ) → CanJoin d.model c k (d.taken.edge + 1) → face_at d.model c ≡ f → face_at d.model k ≡ f → P (loops_joined d.model c k (d.taken.edge + 1))) → P (effect d.model (join_pair d.model q (d.taken.edge + 1)))
@@ -87,7 +70,7 @@ module _ (M : Model) (f : ℕ) (d : Drawing) (q : ℕ × ℕ) (qs : List (ℕ ×
     record {
       joined = pair_joined M d.model f q (d.taken.edge + 1) w.joined fits e edge_free edge_fits_now;
       fresh = pair_fresh M d.model f q (d.taken.edge + 1) w.joined fits e edge_free edge_fits_now d.taken (next_above d.taken.edge) w.fresh;
-      room = room_joined d.taken (length d.left + length qs + n) room_now;
+      room = record { faces = omega (arith, room_now.faces); loops = omega (arith, room_now.loops); edges = omega (arith, room_now.edges); vertices = room_now.vertices };
       pairs = w.pairs;
     },
   )
@@ -158,9 +141,9 @@ module _ (M : Model) (f : ℕ) (sound : Sound M) (d : Drawing) (q : ℕ × ℕ) 
     edge_free = w.fresh.edges (d.taken.edge + 1) (next_above d.taken.edge);
     face_free = w.fresh.faces (d.taken.face + 1) (next_above d.taken.face);
     loop_free = w.fresh.loops (d.taken.loop + 1) (next_above d.taken.loop);
-    edge_fits = edge_fits d.taken (length qs + n) room_here;
-    face_fits = face_fits d.taken (length qs + n) room_here;
-    loop_fits = loop_fits d.taken (length qs + n) room_here;
+    edge_fits = number_fits (d.taken.edge + 1) (omega arith) (omega (arith, room_here.edges));
+    face_fits = number_fits (d.taken.face + 1) (omega arith) (omega (arith, room_here.faces));
+    loop_fits = number_fits (d.taken.loop + 1) (omega arith) (omega (arith, room_here.loops));
   }
 
   cut : in_one_loop d.model q ≡ true → After (draw_next f d q)
@@ -171,7 +154,7 @@ module _ (M : Model) (f : ℕ) (sound : Sound M) (d : Drawing) (q : ℕ × ℕ) 
       drawn = pair_drawn M d.model f q (d.taken.edge + 1) (d.taken.face + 1) (d.taken.loop + 1) sound w.drawn fits (can_now e);
       fresh = draw_free d.model q.0 q.1 (d.taken.edge + 1) (d.taken.face + 1) (d.taken.loop + 1) (can_now e) d.taken
           (next_above d.taken.face) (next_above d.taken.loop) (next_above d.taken.edge) w.fresh;
-      room = room_drawn d.taken (length qs + n) room_here;
+      room = record { faces = omega (arith, room_here.faces); loops = omega (arith, room_here.loops); edges = omega (arith, room_here.edges); vertices = room_here.vertices };
     },
   )
 
