@@ -13,7 +13,7 @@ use Rattle.split_drawing_laws.proofs.drawings.Stays.{draw_free}
 use Rattle.split_drawing_laws.proofs.drawings.Pairs.{pair_leads, joined_either, pair_joined, pair_fresh, draw_leads, pair_drawn}
 use Rattle.split_drawing_laws.proofs.drawings.Runs.{Leads, leads_none, leads_on}
 
--- so is the list with one more, where that is so too
+-- and of each of the list with one more, of which it holds too
 pub all_of_last : {X : Type 0} (P : X → Type 0) (xs : List X) (x : X) → AllOf P xs → P x → AllOf P (xs ++ x ∷ [])
 all_of_last P [] x all last = (last, tt)
 all_of_last P (y ∷ xs) x all last = (all.0, all_of_last P xs x all.1 last)

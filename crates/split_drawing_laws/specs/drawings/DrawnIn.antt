@@ -18,7 +18,7 @@ pub record DrawnIn (M N : Model) (f : ℕ) : Type 0 where
   pub beside : (h : ℕ) → HasHalf M h → face_at M h ≢ f → (loop_of N h ≡ loop_of M h) × (face_at N h ≡ face_at M h)
   pub within : (h : ℕ) → HasHalf M h → face_at M h ≡ f → (face_at N h ≡ f) ⊎ (table.get M.faces (face_at N h) ≡ None)
 
--- so it is where loops of f are joined, and each half-edge keeps its face
+-- N is M with loops of face f joined: such a model, in which each half-edge keeps its face
 pub record JoinedIn (M N : Model) (f : ℕ) : Type 0 where
   pub drawn : DrawnIn M N f
   pub faces : (h : ℕ) → HasHalf M h → face_at N h ≡ face_at M h

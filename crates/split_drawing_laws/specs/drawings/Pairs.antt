@@ -11,7 +11,7 @@ pub record Fits (M : Model) (f : ℕ) (q : ℕ × ℕ) : Type 0 where
   pub k_face : face_at M q.1 ≡ f
   pub apart : tail M q.0 ≢ tail M q.1
 
--- each of a list is so
+-- P holds of each of a list
 abbrev pub AllOf : {X : Type 0} → (X → Type 0) → List X → Type 0
 AllOf P [] = Unit {0}
 AllOf P (x ∷ xs) = P x × AllOf P xs
