@@ -1,3 +1,4 @@
 pub mod Accepted
 pub mod Undone
 pub mod Worked
+pub mod EdgeDivided

@@ -19,7 +19,7 @@ use Rattle.euler_operators.specs.Table as table
 use Rattle.block_machining.specs.Machines.{blank, bossed, lengthened, merged, paired, parted, score, spur, stacked, triangular}
 
 -- opens the definitions that the machines compute by
-unfoldable computed : ℕ
+unfoldable pub computed : ℕ
 unfolding mate code half edge_of is_first rotate_to canonical rest holds after before table.empty table.get table.put table.remove table.map_rows table.first_where table.all_where table.greatest empty_model content tail loop_of face_of solid_of outer arc conditions first_false has_rings effect inverse mvfs kvfs_at mev_lone mev_at kev mef kef kemr mekr kfmrh mfkrh ring_in ring_out take_outer merge part point_of loops_of boundary corners taken_in lamina_conditions lamina_model prism_conditions with_side raised prism_model block_conditions block_model normal plane_of is_flat six_volume straddles face_is_above is_place place_point places is_touched is_cut_often is_crossed sorted_pairs place_pairs next_cut with_crossings drawn_pairs join_next draw_next next_drawn with_drawings below_halves section_cycles is_hole opened_along next_opened first_conditions section_conditions split_conditions split_model
 computed = 0
 
@@ -124,7 +124,7 @@ unfolding computed blank
 score_there = refl
 
 -- one of two numbers
-one_of_two : (a b k : ℕ) → lists (a ∷ b ∷ []) k ≡ true → (k ≡ a) ⊎ (k ≡ b)
+pub one_of_two : (a b k : ℕ) → lists (a ∷ b ∷ []) k ≡ true → (k ≡ a) ⊎ (k ≡ b)
 one_of_two a b k e = grind (arith, eqb_tells a k, eqb_tells b k)
 
 -- the plane z = 2

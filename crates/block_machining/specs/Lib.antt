@@ -6,3 +6,4 @@ pub mod Meeting
 pub mod Machines
 pub mod Wedge
 pub mod Halving
+pub mod Dividing

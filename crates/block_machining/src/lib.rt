@@ -4,8 +4,8 @@
 //! What the functions say of volumes, sides and undo is proved from the contracts of the calls and the laws beside them; what no law
 //! tells, as the volume of each part of the longer block, is computed on the plain machine.
 //!
-//! `machining` has the commands of the workbench with what a program wants of them, `blocks`, `bosses`, `halves` and `wedges` what is
-//! made with these, `lists` a list of calls that is made in one.
+//! `machining` has the commands of the workbench with what a program wants of them, `blocks`, `bosses`, `dividing`, `halves` and
+//! `wedges` what is made with these, `lists` a list of calls that is made in one.
 //!
 //! # What is proved
 //!
@@ -26,10 +26,13 @@
 //! with what each counts and one cap each, and four commands to undo. Of a block of any sizes cut across x each part measures and
 //! counts as a block. With a smaller block joined to its top it has 156, and 276 once the top, a face with a ring then, is raised
 //! round that. A wedge, a triangle swept up, has 72, and its faces are known by their numbers and their corners. A list of four calls
-//! in one is told what the plain machine may tell, and leads to a machine that may come of them, which is consistent.
+//! in one is told what the plain machine may tell, and leads to a machine that may come of them, which is consistent. With an edge
+//! divided at a point of it the block has a vertex and an edge more; its volume, the planes and the areas of its faces, and the
+//! corners of those that don't meet there are as before, also once the edge is joined again by an operator of its own.
 
 mod blocks;
 mod bosses;
+mod dividing;
 mod halves;
 mod lists;
 mod machining;
@@ -37,6 +40,7 @@ mod wedges;
 
 pub use blocks::{machined, parted, scored, spurred, taken_back, underlaid};
 pub use bosses::pocketed;
+pub use dividing::{divided, rejoined};
 pub use halves::halved;
 pub use lists::made;
 pub use machining::known;
