@@ -3,7 +3,8 @@
 //! `block_machining`, which makes the blocks. No command in it is refused: the only error is that memory is.
 
 use block_machining::{
-    halved, known, machined, made, parted, pocketed, scored, spurred, taken_back, underlaid, wedge,
+    divided, halved, known, machined, made, parted, pocketed, rejoined, scored, spurred,
+    taken_back, underlaid, wedge,
 };
 use call_lists::Told;
 use euler_operators::Point;
@@ -35,6 +36,19 @@ fn tell_score(rt: &HostRuntime) -> Result<(), AllocError> {
     let volume = known(&session, 1) / 6;
     prove!(volume == 24);
     let _ = println!(rt; "with an edge across its top: a volume of {volume}");
+    Ok(())
+}
+
+/// Says how large the block is with an edge divided, and with that joined again.
+fn tell_division(rt: &HostRuntime) -> Result<(), AllocError> {
+    let parts = divided(rt.alloc())?;
+    let session = rejoined(rt.alloc())?;
+    let (there, again) = (known(&parts, 1) / 6, known(&session, 1) / 6);
+    let commands = session.depth();
+    prove!(there == 24 && again == 24 && commands == 3);
+    let _ = println!(rt;
+        "an edge divided, and joined again: volumes of {there} and {again}, {commands} commands to undo"
+    );
     Ok(())
 }
 
@@ -115,6 +129,7 @@ fn main(rt: HostRuntime) -> ExitCode {
     let told = tell_block(&rt)
         .and_then(|()| tell_spur(&rt))
         .and_then(|()| tell_score(&rt))
+        .and_then(|()| tell_division(&rt))
         .and_then(|()| tell_lamina(&rt))
         .and_then(|()| tell_pocket(&rt))
         .and_then(|()| tell_wedge(&rt))
