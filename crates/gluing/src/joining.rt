@@ -105,7 +105,7 @@ fn close_item(
 ///
 /// Once the seam is open it holds the items that aren't glued yet and, back along them, their partners: the partner of the first
 /// one comes before it.
-fn join(draft: &mut Draft, f: u32, other: u32) -> Result<(), AllocError>
+fn take_steps(draft: &mut Draft, f: u32, other: u32) -> Result<(), AllocError>
     requires { glue_refusal draft.old.model f other ≡ None }
     ensures model { OnOk result (draft.new.model ≡ glue_model draft.old.model f other) }
     ensures further { IsFurther draft.old draft.new }
@@ -125,6 +125,20 @@ fn join(draft: &mut Draft, f: u32, other: u32) -> Result<(), AllocError>
         close_item(draft, partner, next, spare)?;
         item = next;
     }
+}
+
+/// How many steps a glue of two faces with four corners takes.
+const USUAL_STEPS: usize = 14;
+
+/// Takes the steps of a glue that isn't refused, with the memory to list as many as most glues take at once. On `AllocError` some may be
+/// taken.
+fn join(draft: &mut Draft, f: u32, other: u32) -> Result<(), AllocError>
+    requires { glue_refusal draft.old.model f other ≡ None }
+    ensures model { OnOk result (draft.new.model ≡ glue_model draft.old.model f other) }
+    ensures further { IsFurther draft.old draft.new }
+{
+    draft.reserve(USUAL_STEPS)?;
+    take_steps(draft, f, other)
 }
 
 /// Glues the other face of the draft's model to face f, where that isn't refused. On `AllocError` the draft is as it was.

@@ -2,7 +2,7 @@ use Rattle.std.proofs.Common.{length}
 use Rattle.euler_operators.specs.Common.{code, cycle_of}
 use Rattle.undo_journal.specs.Journal.{IsFurther}
 use Rattle.gluing.proofs.Joined.{Joining}
-use Rattle.gluing.proofs.joining.join.Given as goal
+use Rattle.gluing.proofs.joining.take_steps.Given as goal
 
 abbrev pub invariant-items : goal.invariant-items
 invariant-items l = record {
