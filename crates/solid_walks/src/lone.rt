@@ -20,11 +20,26 @@ fn lone_loop(arena: &Arena, l: u32) -> Option<u32>
     if is_lone(arena, l) { Some(l) } else { None }
 }
 
-/// The least lone loop of face f, which is there, if there is one. It looks at each of its loops once, and at no other.
-pub fn least_lone_of_face(arena: &Arena, f: u32) -> Option<u32>
+/// The least lone loop of face f, which is there, if there is one. It looks at each of its loops once, and at no other. It stands
+/// apart, so that a face with no ring is looked at in place.
+#[inline(never)]
+fn least_lone_of_loops(arena: &Arena, f: u32) -> Option<u32>
     requires ready { IsReady arena.now }
     requires there { has_number arena.now Kind.Face f ≡ true }
     ensures { result ≡ least_lone arena.now.model (f ∷ []) }
 {
     loops_of(arena, f).fold(None, |least, l| lesser(least, lone_loop(arena, l)))
+}
+
+/// The least lone loop of face f, which is there, if there is one. It looks at each of its loops once, and at no other.
+#[inline(always)]
+pub fn least_lone_of_face(arena: &Arena, f: u32) -> Option<u32>
+    requires ready { IsReady arena.now }
+    requires there { has_number arena.now Kind.Face f ≡ true }
+    ensures { result ≡ least_lone arena.now.model (f ∷ []) }
+{
+    if arena.ring_count(f) > 0 {
+        return least_lone_of_loops(arena, f);
+    }
+    lone_loop(arena, arena.outer(f))
 }

@@ -1,5 +1,5 @@
 -- The least lone loop of a face, of some faces, of two solids.
-use Rattle.std.proofs.Common.{◌≡◌, ℕ, Bool, true, false, not, ◌&&◌, ◌||◌, nat_eq, List, [], ◌∷◌, Option, Some, None, is_some, unwrap_or, refl, sym, ap, ◌∙◌, arith, inl, inr}
+use Rattle.std.proofs.Common.{◌≡◌, ℕ, Bool, true, false, not, ◌&&◌, ◌||◌, nat_eq, List, [], ◌∷◌, Option, Some, None, is_some, unwrap_or, refl, sym, ap, ◌∙◌, arith, inl, inr, length}
 use Rattle.std.proofs.lemmas.Bool.Decides.{nat_tests, eqb_tells}
 use Rattle.euler_operators.specs.Common.{get, has, all_where, Model, LoopRow, no_loop, face_of, outer, content, rings_of, faces_of, Sound, Has, lists, is_lone}
 use Rattle.euler_operators.proofs.Common.{one_or_more}
@@ -7,8 +7,8 @@ use Rattle.shapes.specs.Common.{loops_of, least_lone, faces_of_both}
 use Rattle.solid_walks.proofs.face_walks_laws.Above.{member, AllAbove, all_above_members}
 use Rattle.solid_walks.proofs.face_walks_laws.TableWalks.{passes, member_passing}
 use Rattle.solid_walks.proofs.face_walks_laws.RingWalks.{member_rings}
-use Rattle.solid_walks.specs.Least.{lesser, least_such}
-use Rattle.solid_walks.proofs.lone_laws.Searches.{IsLeast, one_least, least_same, least_either, least_listed, least_row}
+use Rattle.solid_walks.specs.Least.{lesser, least_such, only}
+use Rattle.solid_walks.proofs.lone_laws.Searches.{IsLeast, one_least, least_same, least_either, least_listed, least_row, lesser_none}
 use Rattle.solid_walks.proofs.face_walks_laws.FaceWalks.{lists_member, member_both}
 
 last_true : (a b c : Bool) → c ≡ true → a && b && c ≡ a && b
@@ -87,6 +87,14 @@ module _ (M : Model) where
         (λ k. ap (λ b. lone_at k && b) (member_loops f k here) ∙ one_listed (lone_at k) (has M.loops k) (nat_eq f (face_of M k)))
         (lone_of (loops_of M f)) (least_listed lone_at (loops_of M f)))
         (found_least (f ∷ []))
+
+    -- that of a face with no ring is its outer loop, if that is lone
+    pub ringless_lone : (f : ℕ) → Has M.faces f → length (rings_of M f) ≡ 0 → only (lone_at (outer M f)) (outer M f) ≡ least_lone M (f ∷ [])
+    unfolding loops_of
+    ringless_lone f here e = sym (lesser_none (only (lone_at (outer M f)) (outer M f))) ∙ sym (ap (λ rs. lone_of (outer M f ∷ rs)) (none_left (rings_of M f) e)) ∙ face_lone f here where
+      none_left : (rs : List ℕ) → length rs ≡ 0 → rs ≡ []
+      none_left [] e = refl
+      none_left (r ∷ rs) e = absurd (omega (arith, e))
 
     -- that of one face more is the lesser of two
     pub least_more : (f : ℕ) (fs : List ℕ) → least_lone M (f ∷ fs) ≡ lesser (least_lone M (f ∷ [])) (least_lone M fs)

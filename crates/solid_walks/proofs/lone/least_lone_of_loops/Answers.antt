@@ -7,7 +7,7 @@ use Rattle.solid_walks.proofs.face_walks_laws.FaceWalks.{loop_in}
 use Rattle.solid_walks.proofs.face_walks_laws.Yielded.{serves_folding}
 use Rattle.solid_walks.proofs.lone_laws.Searches.{fold_lesser}
 use Rattle.solid_walks.proofs.lone_laws.LoneLoops.{lone_at, lone_of, face_lone}
-use Rattle.solid_walks.proofs.lone.least_lone_of_face.Goals as goal
+use Rattle.solid_walks.proofs.lone.least_lone_of_loops.Goals as goal
 
 pub returns : goal.returns
 returns c =
