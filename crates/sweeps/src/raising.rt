@@ -54,6 +54,7 @@ fn loop_items(alloc: Global, arena: &Arena, l: u32) -> Result<Vec<HalfEdge>, All
 }
 
 /// Raises an item, the one at this place of its loop: a new edge rises from its start to the moved point.
+#[inline(always)]
 fn raise_item(
     draft: &mut Draft,
     taken: &Counters,
