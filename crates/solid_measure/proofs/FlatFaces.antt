@@ -1,7 +1,7 @@
 -- Whether all corners of a face lie on a plane: loop by loop, half-edge by half-edge.
-use Rattle.std.proofs.Common.{◌≡◌, ℕ, Bool, true, false, ◌&&◌, List, [], ◌∷◌, ◌++◌, map, not, refl, sym, ap, ◌∙◌, true≢false}
+use Rattle.std.proofs.Common.{◌≡◌, ℕ, Bool, true, false, ◌&&◌, List, [], ◌∷◌, ◌++◌, map, not, length, arith, refl, sym, ap, ◌∙◌, true≢false}
 use Rattle.std.specs.List.{list_all}
-use Rattle.euler_operators.specs.Common.{Plane, is_on, same_point, direction, origin, IsRotation, Content, HalfEdge, Model, LoopContent, lone, cycle, items_of, content, tail, point_of}
+use Rattle.euler_operators.specs.Common.{Plane, is_on, same_point, direction, origin, IsRotation, Content, HalfEdge, Model, LoopContent, lone, cycle, items_of, content, tail, point_of, outer, rings_of, IsIn}
 use Rattle.solid_walks.specs.Store.{Tells}
 use Rattle.shapes.specs.Common.{vertices_on, vertices_in, loops_of, corners}
 use Rattle.solid_measure.specs.Measure.{plane_of, is_flat}
@@ -34,6 +34,30 @@ module _ (P : ℕ → Bool) where
   pub all_corners : (M : Model) (f : ℕ) → list_all (λ l. list_all P (vertices_on M (content M l))) (loops_of M f) ≡ list_all P (corners M f)
   unfolding corners
   all_corners M f = all_vertices M (loops_of M f)
+
+  -- the outer loop and the rings apart
+  pub all_parts : (M : Model) (f : ℕ) → (list_all P (vertices_on M (content M (outer M f))) && list_all (λ l. list_all P (vertices_on M (content M l))) (rings_of M f)) ≡ list_all P (corners M f)
+  unfolding loops_of
+  all_parts M f = all_corners M f
+
+-- a ring is one of the loops
+pub ring_in : (M : Model) (f l : ℕ) → IsIn l (rings_of M f) → IsIn l (loops_of M f)
+unfolding loops_of
+ring_in M f l i = omega (arith, i)
+
+-- one test before another
+pub first_fails : (a b : Bool) → {r : Bool} → r ≡ a → r ≡ false → false ≡ (a && b)
+first_fails true b e n = absurd (true≢false (sym e ∙ n))
+first_fails false b e n = refl
+
+pub first_passes : (a b : Bool) → {r : Bool} → r ≡ a → r ≡ true → b ≡ (a && b)
+first_passes true b e n = refl
+first_passes false b e n = absurd (true≢false (sym n ∙ e))
+
+-- where there is no ring, each of them passes
+pub none_fails : (Q : ℕ → Bool) (ls : List ℕ) → length ls ≡ 0 → list_all Q ls ≡ true
+none_fails Q [] e = refl
+none_fails Q (l ∷ ls) e = absurd (omega (arith, e))
 
 -- the vertices on a loop that isn't lone
 pub ring_vertices : (M : Model) (s : Plane) (c : LoopContent) (h : HalfEdge) → Tells c (Content.Ring h) → list_all (λ v. is_on s (point_of M v)) (map (tail M) (items_of c)) ≡ list_all (λ v. is_on s (point_of M v)) (vertices_on M c)

@@ -1,17 +1,18 @@
 //! Normals and planes of faces that are there.
-ghost use Rattle.std.specs.Prelude.{◌≡◌, true, not};
+ghost use Rattle.std.specs.Prelude.{◌≡◌, true, not, Some};
 ghost use Rattle.std.specs.List.{list_all};
-ghost use Rattle.euler_operators.specs.Common.{IsInRange, IsPlane, IsVectorWithin, IsWithin, direction, dot, is_on, moved, origin, same_point, content, items_of, outer, point_of};
+ghost use Rattle.euler_operators.specs.Common.{IsInRange, IsPlane, IsVectorWithin, IsWithin, direction, dot, is_on, moved, origin, same_point, content, items_of, outer, point_of, rings_of};
 ghost use Rattle.solid_walks.specs.Store.{has_number};
 ghost use Rattle.solid_walks.specs.Ready.{IsReady};
-ghost use Rattle.shapes.specs.Common.{corners};
+ghost use Rattle.shapes.specs.Common.{corners, vertices_on};
 ghost use Rattle.solid_measure.specs.Measure.{anchor, area, area_limit, is_flat, normal, plane_of, read};
+ghost use Rattle.solid_measure.specs.Short.{IsShortOf};
 
 use crate::Vector;
-use crate::loops::{loop_added, loop_lies_on, walk_round};
-use crate::short::short_plane;
+use crate::loops::{loop_added, loop_lies_on, short_loop_lies_on, walk_round};
+use crate::short::{ShortPlane, short_plane};
 use euler_operators::{Content, Kind, Plane, Point, dot};
-use solid_walks::{Arena, loops_of, start_of_code};
+use solid_walks::{Arena, loops_of, rings_of, start_of_code};
 
 /// Where a face lies: the sum of the cross products over the half-edges of its loops, and the point of its first corner.
 #[derive(Drop)]
@@ -22,6 +23,7 @@ pub(crate) struct Frame {
 
 /// The cross products over the half-edges of the face's outer loop, and the point of its first corner: where the first item of that
 /// loop starts, or where it is lone.
+#[inline(always)]
 fn outer_frame(arena: &Arena, f: u32) -> Frame
     requires ready { IsReady arena.now }
     requires there { has_number arena.now Kind.Face f ≡ true }
@@ -47,6 +49,7 @@ fn outer_frame(arena: &Arena, f: u32) -> Frame
 }
 
 /// The vector, which is the sum over the face's outer loop, plus the cross products over the half-edges of its rings.
+#[inline(always)]
 fn rings_added(arena: &Arena, vector: Vector, f: u32) -> Vector
     requires ready { IsReady arena.now }
     requires there { has_number arena.now Kind.Face f ≡ true }
@@ -65,6 +68,7 @@ fn rings_added(arena: &Arena, vector: Vector, f: u32) -> Vector
 
 /// The face's normal, the sum of the cross products over the half-edges of its loops, and the point of its first corner: where the
 /// first item of its outer loop starts, or where that loop is lone.
+#[inline(always)]
 pub(crate) fn frame_of(arena: &Arena, f: u32) -> Frame
     requires ready { IsReady arena.now }
     requires there { has_number arena.now Kind.Face f ≡ true }
@@ -81,6 +85,7 @@ pub(crate) fn frame_of(arena: &Arena, f: u32) -> Frame
 }
 
 /// The plane through the face's anchor, across its normal.
+#[inline(always)]
 pub(crate) fn plane_of(arena: &Arena, f: u32) -> Plane
     requires ready { IsReady arena.now }
     requires there { has_number arena.now Kind.Face f ≡ true }
@@ -97,6 +102,47 @@ pub(crate) fn plane_of(arena: &Arena, f: u32) -> Plane
     }
 }
 
+/// Whether each vertex on the loops of the face lies on the plane. `short` is the same plane in 64 bits, where that serves.
+#[inline(never)]
+fn loops_lie_on(arena: &Arena, plane: Plane, short: Option<ShortPlane>, f: u32) -> bool
+    requires ready { IsReady arena.now }
+    requires there { has_number arena.now Kind.Face f ≡ true }
+    requires plane { IsPlane plane }
+    requires short { IsShortOf plane short }
+    ensures { result ≡ list_all (λ v. is_on plane (point_of arena.now.model v)) (corners arena.now.model f) }
+{
+    loops_of(arena, f).all(|l| loop_lies_on(arena, plane, short, l))
+}
+
+/// Whether each vertex on the rings of the face lies on the plane, which `short` is in 64 bits.
+#[inline(never)]
+fn rings_lie_on(arena: &Arena, plane: Plane, short: ShortPlane, f: u32) -> bool
+    requires ready { IsReady arena.now }
+    requires there { has_number arena.now Kind.Face f ≡ true }
+    requires plane { IsPlane plane }
+    requires short { IsShortOf plane (Some short) }
+    ensures { result ≡ list_all (λ l. list_all (λ v. is_on plane (point_of arena.now.model v)) (vertices_on arena.now.model (content arena.now.model l))) (rings_of arena.now.model f) }
+{
+    rings_of(arena, f).all(|l| loop_lies_on(arena, plane, Some(short), l))
+}
+
+/// Whether each vertex on the loops of the face lies on the plane, which `short` is in 64 bits. A face with no ring is one walk.
+fn short_face_lies_on(arena: &Arena, plane: Plane, short: ShortPlane, f: u32) -> bool
+    requires ready { IsReady arena.now }
+    requires there { has_number arena.now Kind.Face f ≡ true }
+    requires plane { IsPlane plane }
+    requires short { IsShortOf plane (Some short) }
+    ensures { result ≡ list_all (λ v. is_on plane (point_of arena.now.model v)) (corners arena.now.model f) }
+{
+    if !short_loop_lies_on(arena, plane, short, arena.outer(f)) {
+        return false;
+    }
+    if arena.ring_count(f) > 0 {
+        return rings_lie_on(arena, plane, short, f);
+    }
+    true
+}
+
 /// Whether each vertex on the loops of the face lies on the plane.
 fn face_lies_on(arena: &Arena, plane: Plane, f: u32) -> bool
     requires ready { IsReady arena.now }
@@ -104,8 +150,10 @@ fn face_lies_on(arena: &Arena, plane: Plane, f: u32) -> bool
     requires plane { IsPlane plane }
     ensures { result ≡ list_all (λ v. is_on plane (point_of arena.now.model v)) (corners arena.now.model f) }
 {
-    let short = short_plane(plane);
-    loops_of(arena, f).all(|l| loop_lies_on(arena, plane, short, l))
+    match short_plane(plane) {
+        Some(short) => short_face_lies_on(arena, plane, short, f),
+        None => loops_lie_on(arena, plane, None, f),
+    }
 }
 
 /// Whether one of the plane's first three numbers isn't zero.

@@ -1,5 +1,5 @@
 //! Walks round the loops of a face.
-ghost use Rattle.std.specs.Prelude.{◌≡◌, true, map};
+ghost use Rattle.std.specs.Prelude.{◌≡◌, true, map, Some};
 ghost use Rattle.std.specs.List.{list_all};
 ghost use Rattle.euler_operators.specs.Common.{IsInRange, IsPlane, IsVectorWithin, normal_limit, moved, cross, is_on, IsIn, head_or, code, items_of, content, cycle_of, has_half, point_of, tail};
 ghost use Rattle.solid_walks.specs.Store.{has_number};
@@ -47,6 +47,7 @@ pub(crate) struct Round {
 
 /// Walks once round loop l, in which `first` stands: the vector plus the cross products over its half-edges, and its first item. Each
 /// point is looked up once, since a half-edge ends where the next one starts.
+#[inline(always)]
 pub(crate) fn walk_round(arena: &Arena, vector: Vector, l: u32, first: HalfEdge) -> Round
     requires ready { IsReady arena.now }
     requires vector { IsVectorWithin area_limit (read vector) }
@@ -89,6 +90,7 @@ pub(crate) fn walk_round(arena: &Arena, vector: Vector, l: u32, first: HalfEdge)
 }
 
 /// The vector plus the cross products over the half-edges of the loop.
+#[inline(never)]
 pub(crate) fn loop_added(arena: &Arena, vector: Vector, l: u32) -> Vector
     requires ready { IsReady arena.now }
     requires there { has_number arena.now Kind.Loop l ≡ true }
@@ -114,6 +116,7 @@ fn is_on(plane: Plane, p: Point) -> bool
 }
 
 /// Whether the point lies on the plane. `short` is the same plane in 64 bits, where that serves.
+#[inline(always)]
 fn lies_on(plane: Plane, short: Option<ShortPlane>, p: Point) -> bool
     requires plane { IsPlane plane }
     requires short { IsShortOf plane short }
@@ -148,5 +151,32 @@ pub(crate) fn loop_lies_on(arena: &Arena, plane: Plane, short: Option<ShortPlane
     match arena.content(l) {
         Content::Lone(v) => lies_on(plane, short, arena.point(v)),
         Content::Ring(first) => ring_lies_on(arena, plane, short, first),
+    }
+}
+
+/// Whether each half-edge of the loop in which `first` stands starts on the plane, which `short` is in 64 bits.
+#[inline(always)]
+fn short_ring_lies_on(arena: &Arena, plane: Plane, short: ShortPlane, first: HalfEdge) -> bool
+    requires ready { IsReady arena.now }
+    requires plane { IsPlane plane }
+    requires short { IsShortOf plane (Some short) }
+    requires there { has_half arena.now.model (code first) ≡ true }
+    ensures { result ≡ list_all (λ v. is_on plane (point_of arena.now.model v)) (map (tail arena.now.model) (cycle_of arena.now.model (code first))) }
+{
+    items_round(arena, first).all(|h| lies_on(plane, Some(short), start(arena, h)))
+}
+
+/// Whether each vertex on the loop lies on the plane, which `short` is in 64 bits.
+#[inline(always)]
+pub(crate) fn short_loop_lies_on(arena: &Arena, plane: Plane, short: ShortPlane, l: u32) -> bool
+    requires ready { IsReady arena.now }
+    requires there { has_number arena.now Kind.Loop l ≡ true }
+    requires plane { IsPlane plane }
+    requires short { IsShortOf plane (Some short) }
+    ensures { result ≡ list_all (λ v. is_on plane (point_of arena.now.model v)) (vertices_on arena.now.model (content arena.now.model l)) }
+{
+    match arena.content(l) {
+        Content::Lone(v) => lies_on(plane, Some(short), arena.point(v)),
+        Content::Ring(first) => short_ring_lies_on(arena, plane, short, first),
     }
 }

@@ -7,7 +7,7 @@ use Rattle.shapes.specs.Common.{loops_of, vertices_on}
 use Rattle.solid_walks.proofs.face_walks_laws.FaceWalks.{loop_in}
 use Rattle.solid_walks.proofs.face_walks_laws.Yielded.{serves_listed}
 use Rattle.solid_measure.proofs.FlatFaces.{all_corners}
-use Rattle.solid_measure.proofs.faces.face_lies_on.Goals as goal
+use Rattle.solid_measure.proofs.faces.loops_lie_on.Goals as goal
 
 pub returns : goal.returns
 returns c =

@@ -1,0 +1,20 @@
+use Rattle.std.proofs.Common.{◌∙◌, ap, map}
+use Rattle.std.specs.List.{list_all}
+use Rattle.euler_operators.specs.Common.{is_on, code, content, point_of, tail}
+use Rattle.solid_walks.proofs.Known.{filled}
+use Rattle.solid_walks.proofs.Borders.{ring_has}
+use Rattle.solid_walks.proofs.face_walks_laws.CycleWalks.{item_of}
+use Rattle.solid_measure.proofs.FlatFaces.{ring_vertices}
+use Rattle.solid_measure.proofs.loops.short_loop_lies_on.Goals as goal
+
+pub content-requires-clause-filled : goal.content-requires-clause-filled
+content-requires-clause-filled c = filled c.args.arena.now.model c.requires.ready.sound c.args.l c.requires.there
+
+pub short_ring_lies_on-requires-clause-there : goal.short_ring_lies_on-requires-clause-there
+short_ring_lies_on-requires-clause-there c = let M = c.args.arena.now.model in (item_of M c.requires.ready.sound c.args.l (code c.in-Ring.first) (ring_has (content M c.args.l) c.in-Ring.first c.in-Ring.ensures)).0
+
+pub returns-in-Ring : goal.returns-in-Ring
+returns-in-Ring c =
+    let M = c.args.arena.now.model in let p = c.args.plane in
+    let same = (item_of M c.requires.ready.sound c.args.l (code c.in-Ring.first) (ring_has (content M c.args.l) c.in-Ring.first c.in-Ring.ensures)).1 in
+    c.short_ring_lies_on.ensures ∙ ap (λ hs. list_all (λ v. is_on p (point_of M v)) (map (tail M) hs)) same ∙ ring_vertices M p (content M c.args.l) c.in-Ring.first c.in-Ring.ensures
