@@ -8,13 +8,14 @@ ghost use Rattle.undo_journal.specs.Sessions.{RecordsHaveRoom, AllHaveRoom};
 ghost use Rattle.undo_journal.specs.Histories.{Follows, IsConsistent};
 ghost use Rattle.euler_operators.specs.declared.Refusal.{Refusal};
 
-use crate::record::{OpList, PLACES, Record};
-use crate::session::{Failure, Session};
+use crate::record::{OpList, PLACES, Record, Spare, no_spare};
+use crate::session::{Failure, Session, reuse_ahead};
 use crate::steps::{place_for_one, replay_back, step, take_back};
 use euler_operators::Op;
 use low_euler::{Arena, check};
 use std::alloc::{AllocError, Global};
 use std::marker::Model;
+use std::mem::replace;
 
 /// A session whose arena is being changed step by step. It has to be spent, by `commit` or by `abandon`.
 ///
@@ -26,6 +27,7 @@ pub struct Draft {
     place: usize,
     forward: Vec<Op>,
     back: Vec<Op>,
+    spare: Box<Spare, Global>,
 }
 
 impl Model for Draft {
@@ -47,6 +49,7 @@ impl Model for Draft {
 impl Draft {
     /// Opens a draft of a command, in which the session's model is changed. Where memory is refused the session comes back as
     /// it was.
+    #[inline(always)]
     pub fn open(session: Session) -> Result<Draft, (Session, AllocError)>
         ensures ok { IfOk result (λ draft. draft ≡ new_draft session) }
         ensures err { IfErr result (λ e. e.0 ≡ session) }
@@ -60,14 +63,22 @@ impl Draft {
             arena,
             records,
             place,
+            mut spare,
         } = session;
+        let Spare {
+            mut forward,
+            mut back,
+        } = replace(&mut *spare, no_spare(alloc));
+        forward.clear();
+        back.clear();
         Ok(Draft {
             alloc,
             arena,
             records,
             place,
-            forward: Vec::new(alloc),
-            back: Vec::new(alloc),
+            forward,
+            back,
+            spare,
         })
     }
 
@@ -152,6 +163,7 @@ impl Draft {
     }
 
     /// Makes the steps one command, also where there was none. It drops the models ahead. It takes no memory.
+    #[inline(always)]
     pub fn commit(self) -> Session
         ensures { result ≡ after_commit self }
     {
@@ -162,8 +174,9 @@ impl Draft {
             place,
             forward,
             back,
+            mut spare,
         } = self;
-        records.truncate(place);
+        reuse_ahead(alloc, &mut records, place, &mut *spare);
         let record = Record {
             forward: OpList::many(forward),
             back: OpList::turned(back),
@@ -174,6 +187,7 @@ impl Draft {
             arena,
             records,
             place: place + 1,
+            spare,
         }
     }
 
@@ -188,6 +202,7 @@ impl Draft {
             place,
             forward,
             back,
+            spare,
         } = self;
         replay_back(&mut *arena, back.as_slice());
         Session {
@@ -195,6 +210,7 @@ impl Draft {
             arena,
             records,
             place,
+            spare,
         }
     }
 }

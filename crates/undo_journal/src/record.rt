@@ -7,6 +7,7 @@ ghost use Rattle.undo_journal.specs.Sessions.{AllHaveRoom, all_after};
 use crate::steps::{replay_all, replay_back};
 use euler_operators::Op;
 use low_euler::{Arena, replay};
+use std::alloc::Global;
 use std::marker::Model;
 
 /// How many records get their places at a time. A list of more than a few hundred is a block of its own to the system, which makes it
@@ -105,4 +106,51 @@ impl OpList {
 pub struct Record {
     pub forward: OpList,
     pub back: OpList,
+}
+
+/// How many places each of two spare lists has at most: longer ones are given back.
+const SPARE_PLACES: usize = 32;
+
+/// Two empty lists for the steps of the next draft, so that it takes no memory for as many as were listed there before.
+#[derive(Drop)]
+pub(crate) struct Spare {
+    pub(crate) forward: Vec<Op>,
+    pub(crate) back: Vec<Op>,
+}
+
+/// No places.
+pub(crate) fn no_spare(alloc: Global) -> Spare {
+    Spare {
+        forward: Vec::new(alloc),
+        back: Vec::new(alloc),
+    }
+}
+
+/// The vector of a list of several operators.
+fn vector_of(list: OpList) -> Option<Vec<Op>> {
+    match list.ops {
+        Ops::Many { ops, .. } => Some(ops),
+        Ops::One(_) => None,
+    }
+}
+
+/// A vector emptied, where it has few places; else an empty one with none.
+fn emptied(alloc: Global, mut ops: Vec<Op>) -> Vec<Op> {
+    if ops.capacity() > SPARE_PLACES {
+        return Vec::new(alloc);
+    }
+    ops.clear();
+    ops
+}
+
+/// The lists of a record that is dropped, where it has two of several operators.
+pub(crate) fn spare_of(alloc: Global, record: Record) -> Spare {
+    let Record { forward, back } = record;
+    match (vector_of(forward), vector_of(back)) {
+        (Some(forward), Some(back)) => Spare {
+            forward: emptied(alloc, forward),
+            back: emptied(alloc, back),
+        },
+        _ => no_spare(alloc),
+    }
 }

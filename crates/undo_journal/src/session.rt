@@ -10,7 +10,7 @@ ghost use Rattle.euler_laws.specs.Laws.{effects, AreAccepted};
 ghost use Rattle.euler_operators.specs.Common.{verdict};
 ghost use Rattle.euler_operators.specs.declared.Refusal.{Refusal};
 
-use crate::record::{OpList, PLACES, Record};
+use crate::record::{OpList, PLACES, Record, Spare, no_spare, spare_of};
 use crate::steps::place_for_one;
 use euler_operators::{Op, Refusal, Why};
 use low_euler::{Arena, advance, check};
@@ -29,6 +29,21 @@ fn drop_ahead(records: &mut Vec<Record>, place: usize)
     records.truncate(place);
 }
 
+/// Drops the records from a place on, and keeps the lists of the first of them. It takes no memory.
+pub(crate) fn reuse_ahead(alloc: Global, records: &mut Vec<Record>, place: usize, spare: &mut Spare)
+    ensures items { records.new.items ≡ take place records.old.items }
+    ensures capacity { vec_capacity records.new ≡ vec_capacity records.old }
+    ensures len { vec_len records.new ≤ vec_len records.old }
+{
+    if records.len() <= place {
+        return;
+    }
+    records.truncate(place + 1);
+    if let Some(record) = records.pop() {
+        *spare = spare_of(alloc, record);
+    }
+}
+
 /// Why a command did nothing: a condition that is false, or memory that was refused.
 #[derive(Debug, Drop)]
 pub enum Failure {
@@ -43,6 +58,8 @@ pub struct Session {
     pub(crate) records: Vec<Record>,
     pub(crate) arena: Box<Arena, Global>,
     pub(crate) place: usize,
+    /// Lists for the steps of the next draft.
+    pub(crate) spare: Box<Spare, Global>,
 }
 
 impl Model for Session {
@@ -69,6 +86,7 @@ impl Session {
             arena: Box::new(alloc, Arena::new(alloc))?,
             records: Vec::with_capacity(alloc, 1)?,
             place: 0,
+            spare: Box::new(alloc, no_spare(alloc))?,
         })
     }
 

@@ -9,7 +9,7 @@ use Rattle.undo_journal.proofs.draft.Draft.commit.Goals as goal
 abbrev records : (c : goal.After-push_reserved) → c.push_reserved.new.self.items ≡ take c.self.inside.place c.self.inside.records.items ++ command_of c.self.inside.forward.items c.self.inside.back.items ∷ []
 records c =
     c.push_reserved.ensures.items
-    ∙ ap (λ (rs : List Record). rs ++ record { forward = c.many.result; back = c.turned.result } ∷ []) c.truncate.ensures.items
+    ∙ ap (λ (rs : List Record). rs ++ record { forward = c.many.result; back = c.turned.result } ∷ []) c.reuse_ahead.ensures.items
     ∙ ap (λ (ops : List Op). take c.self.inside.place c.self.inside.records.items ++ record { forward = ops; back = c.turned.result } ∷ []) c.many.ensures
     ∙ ap (λ (ops : List Op). take c.self.inside.place c.self.inside.records.items ++ record { forward = c.self.inside.forward.items; back = ops } ∷ []) c.turned.ensures
 
