@@ -4,8 +4,9 @@ pub use Rattle.shapes.proofs.fresh.Rows.{all_where-put_last, at_most_greatest, f
 pub use Rattle.shapes.proofs.fresh.Tests.{first_refusal-append, first_refusal-refused, left_numbers_hold, none_found, none_is_lone, none_such, number_fits, numbers_are_left, zero_found}
 pub use Rattle.shapes.proofs.glue.Facing.{Facing, side}
 pub use Rattle.shapes.proofs.glue.Points.{same_is, same_lists}
-pub use Rattle.shapes.proofs.glue.Renamings.{renamed_cases, renamed_last, renamed_more, renamed_not, replaced, row_unrenamed, tail_renamed, without_first, without_gone, without_more, without_there}
+pub use Rattle.shapes.proofs.glue.Renamings.{map_stays, none_replaced, renamed_cases, renamed_last, renamed_more, renamed_not, replaced, row_unrenamed, tail_renamed, without_first, without_gone, without_more, without_there}
 pub use Rattle.shapes.proofs.glue.Swapped.{map_agree, map_removed, row_stays, row_turns}
+pub use Rattle.shapes.proofs.measures.Agreeing.{AgreeOn, IsReplaced, area_kept, areas_kept, content_stays, corner_kept, loops_agree, normal_agrees, replaced_area, replaced_start, rings_agree, rising_one, volume_stays, volume_told}
 pub use Rattle.shapes.proofs.measures.FlatFaces.{anchor_on, are_on, corner_told, face_told, flat_closed, list_parts, loops_flat, plane_told, some_direction, told_alike, told_anywhere}
 pub use Rattle.shapes.proofs.measures.Paths.{IsClosed, IsPathTo, begins, loop_closed}
 pub use Rattle.shapes.proofs.measures.Products.{cross_moved, cross_nothing, no_product}

@@ -2,3 +2,4 @@ pub mod Products
 pub mod Paths
 pub mod Sums
 pub mod FlatFaces
+pub mod Agreeing

@@ -103,10 +103,10 @@ found_greatest e (f ∷ es) = either (eq_by_cmp nat_cmp (greatest_in (f ∷ es))
 -- the greatest number is in use, where it isn't 0
 pub greatest_used : {X : Type 0} (t : Table X) → table.greatest t ≢ 0 → table.has t (table.greatest t) ≡ true
 unfolding table.get table.greatest
-greatest_used {X = X} t some = go t.rows some where
-  go : (es : List (ℕ × X)) → greatest_in es ≢ 0 → is_some (find nat_cmp (greatest_in es) es) ≡ true
-  go [] some = absurd (some refl)
-  go (e ∷ es) some = found_greatest e es
+greatest_used {X = X} t some = greatest_found t.rows some where
+  greatest_found : (es : List (ℕ × X)) → greatest_in es ≢ 0 → is_some (find nat_cmp (greatest_in es) es) ≡ true
+  greatest_found [] some = absurd (some refl)
+  greatest_found (e ∷ es) some = found_greatest e es
 
 -- a number in use, or 0, that no number in use passes is the greatest
 pub greatest_is : {X : Type 0} (t : Table X) (n : ℕ) → (n ≢ 0 → table.has t n ≡ true) → ((k : ℕ) → n < k → table.has t k ≡ false) → table.greatest t ≡ n

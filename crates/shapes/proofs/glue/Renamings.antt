@@ -2,9 +2,9 @@
 use Rattle.std.proofs.Common.{◌≡◌, ◌≢◌, ℕ, ◌+◌, Bool, true, false, cond, nat_eq, List, [], ◌∷◌, ◌++◌, Option, Some, None, is_some, unwrap_or, refl, sym, ap, ◌∙◌, subst, arith, true≢false, ◌⊎◌, inl, inr, map, option_map, ne_eqb}
 use Rattle.std.proofs.lemmas.Bool.Decides.{nat_tests, eqb_tells}
 use Rattle.std.proofs.lemmas.List.{map-append}
-use Rattle.euler_operators.specs.Common.{count, IsIn, IsApart, canonical, rest, Table, tables, Model, LoopContent, LoopRow, EdgeRow, lone, cycle, content, tail_in, no_edge, Sound}
+use Rattle.euler_operators.specs.Common.{count, IsIn, IsApart, canonical, rest, Table, tables, Model, LoopContent, LoopRow, EdgeRow, lone, cycle, items_of, tail_in, no_edge, IsCycle, Sound}
 use Rattle.euler_operators.specs.Items.{before, after}
-use Rattle.euler_operators.proofs.Common.{count-append, tick_same, tick_other, split_at, count-before, canonical-rotates, rest_same, rest_parts, canonical_same, nat_eq_turned, nat_eq_itself, remove_turned, get-remove_other, content_row}
+use Rattle.euler_operators.proofs.Common.{count-append, tick_same, tick_other, split_at, count-before, canonical-rotates, rest_same, rest_parts, canonical_same, nat_eq_turned, nat_eq_itself, remove_turned, get-remove_other, content_row, IsIn_head, IsIn_rest}
 use Rattle.euler_operators.specs.Table as table
 use Rattle.shapes.specs.Common.{rewritten, rewritten_row, renamed, without_rows, renamed_tails, paired}
 
@@ -121,16 +121,18 @@ replaced_ring m h xs apart i out =
 
 -- ---- rows renamed
 
-none_renamed : (cs : List ℕ) → map (renamed []) cs ≡ cs
-none_renamed [] = refl
-none_renamed (c ∷ cs) = ap (λ t. c ∷ t) (none_renamed cs)
+pub map_stays : (swap : ℕ → ℕ) (xs : List ℕ) → ((x : ℕ) → IsIn x xs → swap x ≡ x) → map swap xs ≡ xs
+map_stays swap [] same = refl
+map_stays swap (x ∷ xs) same = λ i. same x (IsIn_head x xs) i ∷ map_stays swap xs (λ y j. same y (IsIn_rest y x xs j)) i
 
--- a loop whose items no pair renames stays as it is
+-- a loop in which nothing is renamed stays
+pub none_replaced : (swap : ℕ → ℕ) (c : LoopContent) → ((hs : List ℕ) → c ≡ cycle hs → IsCycle hs) → ((h : ℕ) → IsIn h (items_of c) → swap h ≡ h) → rewritten (map swap) c ≡ c
+none_replaced swap (lone v) good same = refl
+none_replaced swap (cycle hs) good same = ap (λ xs. cycle (canonical xs)) (map_stays swap hs same) ∙ ap cycle (good hs refl).from_least
+
+-- so does one whose items no pair renames
 pub row_unrenamed : (M : Model) → Sound M → (q : ℕ) (row : LoopRow) → table.get M.loops q ≡ Some row → rewritten_row (map (renamed [])) q row ≡ row
-row_unrenamed M sound q row at = ap (λ x. record { face = row.face; content = x }) (go row.content (content_row M q row at)) where
-  go : (x : LoopContent) → content M q ≡ x → rewritten (map (renamed [])) x ≡ x
-  go (lone v) e = refl
-  go (cycle cs) e = ap cycle (ap canonical (none_renamed cs) ∙ (sound.cycles q cs (ap is_some at) e).from_least)
+row_unrenamed M sound q row at = ap (λ x. record { face = row.face; content = x }) (none_replaced (renamed []) row.content (λ hs is. sound.cycles q hs (ap is_some at) (content_row M q row at ∙ is)) (λ h i. refl))
 
 -- the tail of a half-edge is renamed with its row
 pub tail_renamed : (ps : List (ℕ × ℕ)) (o : Option EdgeRow) (e : ℕ) (b : Bool) → is_some o ≡ true →

@@ -46,10 +46,10 @@ module _ (old new : ℕ → ℕ) (m h : ℕ) (more : (u : ℕ) → new u ≡ rep
 -- ---- tables
 
 pub map_agree : {X : Type 0} (f g : ℕ → X → X) (t : Table X) → ((q : ℕ) (x : X) → f q x ≡ g q x) → table.map_rows f t ≡ table.map_rows g t
-map_agree {X = X} f g t e = same_table _ _ (λ q. get-map_rows f t q ∙ on q (table.get t q) ∙ sym (get-map_rows g t q)) where
-  on : (q : ℕ) (o : Option X) → option_map (f q) o ≡ option_map (g q) o
-  on q None = refl
-  on q (Some x) = ap Some (e q x)
+map_agree {X = X} f g t e = same_table _ _ (λ q. get-map_rows f t q ∙ rows_agree q (table.get t q) ∙ sym (get-map_rows g t q)) where
+  rows_agree : (q : ℕ) (o : Option X) → option_map (f q) o ≡ option_map (g q) o
+  rows_agree q None = refl
+  rows_agree q (Some x) = ap Some (e q x)
 
 pub map_removed : {X : Type 0} (f : ℕ → X → X) (t : Table X) (n : ℕ) → table.map_rows f (table.remove t n) ≡ table.remove (table.map_rows f t) n
 map_removed f t n = same_table _ _ (λ q. grind (arith, nat_tests, tables))

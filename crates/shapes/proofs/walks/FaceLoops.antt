@@ -75,14 +75,14 @@ module _ (M : Model) (sound : Sound M) where
     rings_rise = all_where-rises (λ l row. nat_eq row.face f && not (nat_eq (outer M f) l)) M.loops
 
     not_outer : lists (rings_of M f) (outer M f) ≡ false
-    not_outer = go (lists (rings_of M f) (outer M f)) refl where
+    not_outer = never_listed (lists (rings_of M f) (outer M f)) refl where
       no_ring : (a : Bool) → (a && not (nat_eq (outer M f) (outer M f))) ≡ true → ⊥
       no_ring true e = let s : nat_eq (outer M f) (outer M f) ≡ true = grind (arith, nat_tests) in true≢false (sym e ∙ ap not s)
       no_ring false e = true≢false (sym e)
 
-      go : (b : Bool) → lists (rings_of M f) (outer M f) ≡ b → b ≡ false
-      go true e = absurd (no_ring (table.has M.loops (outer M f) && nat_eq (face_of M (outer M f)) f) (listed_ring (outer M f) e))
-      go false e = refl
+      never_listed : (b : Bool) → lists (rings_of M f) (outer M f) ≡ b → b ≡ false
+      never_listed true e = absurd (no_ring (table.has M.loops (outer M f) && nat_eq (face_of M (outer M f)) f) (listed_ring (outer M f) e))
+      never_listed false e = refl
 
     pub loops_apart : (n : ℕ) → IsApart (loops_to M f n)
     loops_apart n x = elim (eqb_tells x (outer M f)) [
