@@ -25,13 +25,13 @@ passed p k None = 0
 passed p k (Some x) = one_if (p k x)
 
 count_listed : (q : ℕ) (ns : List ℕ) → strictly_rises ns ≡ true → count q ns ≡ one_if (lists ns q)
-count_listed q ns up = go (lists ns q) refl where
+count_listed q ns up = listed_once (lists ns q) refl where
   once : (n : ℕ) → n ≤ 1 → 1 ≤ n → n ≡ 1
   once n l m = omega arith
 
-  go : (b : Bool) → lists ns q ≡ b → count q ns ≡ one_if b
-  go true e = once (count q ns) (counted_once q ns up) (IsIn-from_listed q ns e)
-  go false e = none_counted q ns e
+  listed_once : (b : Bool) → lists ns q ≡ b → count q ns ≡ one_if b
+  listed_once true e = once (count q ns) (counted_once q ns up) (IsIn-from_listed q ns e)
+  listed_once false e = none_counted q ns e
 
 pub count_where : {X : Type 0} (p : ℕ → X → Bool) (t : Table X) (k : ℕ) → count k (table.all_where p t) ≡ passed p k (table.get t k)
 count_where {X = X} p t k = grind (arith, count_listed, all_where-rises, listed_passes, listed_as)

@@ -1,13 +1,12 @@
 -- The glued solid: its other faces measure what they did, and the two that go added nothing together.
-use Rattle.std.proofs.Common.{◌≡◌, ◌≢◌, ℕ, true, false, cond, not, nat_eq, ◌&&◌, Bool, List, [], ◌∷◌, Option, Some, None, unwrap_or, refl, sym, ap, ◌∙◌, arith, inl, inr, ◌+◌, ℤ, pos, ◌+ℤ◌, neg_ℤ, ◌++◌, map, is_some, true≢false, ◌⊎◌, option_map, ne_eqb, eq-eqb, eqb-true}
+use Rattle.std.proofs.Common.{◌≡◌, ◌≢◌, ℕ, true, false, cond, nat_eq, Bool, List, [], ◌∷◌, Option, Some, None, unwrap_or, refl, sym, ap, subst, ◌∙◌, arith, inl, inr, ◌+◌, ℤ, pos, ◌+ℤ◌, neg_ℤ, ◌++◌, map, is_some, true≢false, ◌⊎◌, option_map, ne_eqb, eq-eqb, eqb-true}
 use Rattle.std.proofs.lemmas.Bool.Decides.{nat_tests, eqb_tells}
-use Rattle.euler_operators.specs.Common.{dot, count, IsIn, head_or, SameItems, canonical, successor, Table, tables, get-map_rows, Model, LoopContent, lone, cycle, FaceRow, LoopRow, no_face, no_loop, items_of, tail, content, face_of, outer, solid_of, point_of, rings_of, faces_of, after, cycle_of, holds, Has, StandsIn, lists, faces_to_solid, mate}
-use Rattle.euler_operators.proofs.Common.{tick_same, tick_other, count-append, count-canonical, canonical_nil, IsIn_head, from_map, in-holds, face_row, IsIn_first, IsIn_some_head, IsIn_successor, moved_none, none_added}
+use Rattle.euler_operators.specs.Common.{dot, count, IsIn, head_or, SameItems, successor, Table, tables, get-map_rows, Model, lone, cycle, FaceRow, LoopRow, no_face, no_loop, items_of, tail, content, face_of, outer, solid_of, point_of, rings_of, faces_of, after, cycle_of, Has, StandsIn, lists, faces_to_solid, mate}
+use Rattle.euler_operators.proofs.Common.{tick_same, tick_other, count-append, canonical_nil, IsIn_head, in-holds, face_row, item_loop, IsIn_some_head, IsIn_successor, moved_none, none_added}
 use Rattle.euler_operators.specs.Table as table
-use Rattle.euler_laws.proofs.Common.{first_listed, rest_listed, listed_front, listed_passes, listed_as, face_there, solid_either, mapped_some}
-use Rattle.shapes.specs.Common.{start, items_in, loops_of, boundary, corners, vertices_on, finish, rewritten, rewritten_row, area, normal, anchor, first_vertex, is_flat, volume_in, six_volume, negated}
-use Rattle.shapes.proofs.Common.{face_of_loop, area-append, corner_told, area_same, area_renamed, area_opposed, dot_back, renamed_not}
-use Rattle.sweeps_laws.proofs.Loops.{same_loops}
+use Rattle.euler_laws.proofs.Common.{listed-from_in, listed_passes, listed_as, face_there, solid_either, mapped_some, loop_row}
+use Rattle.shapes.specs.Common.{start, items_in, loops_of, boundary, corners, finish, rewritten, rewritten_row, area, normal, anchor, first_vertex, is_flat, volume_in, six_volume, negated}
+use Rattle.shapes.proofs.Common.{AgreeOn, IsReplaced, face_of_loop, area-append, corner_told, area_same, area_opposed, dot_back, normal_agrees, renamed_not, replaced_area, rings_agree, tail_in, volume_stays, volume_told}
 use Rattle.gluing_laws.proofs.Listed.{one_if, passed, same_search, volume_of, count_where, volume_append, volume_same, same_volumes}
 use Rattle.gluing_laws.proofs.Seams as seams
 use Rattle.gluing_laws.proofs.Seams.{Seamed, Glued, Stays, side}
@@ -15,21 +14,10 @@ use Rattle.std.proofs.lemmas.Int.{ints}
 
 -- ---- corners
 
-listed_map : (a : ℕ → ℕ) (x : ℕ) (xs : List ℕ) → IsIn x xs → lists (map a xs) (a x) ≡ true
-listed_map a x [] i = absurd (omega (arith, i))
-listed_map a x (y ∷ ys) i = elim (eqb_tells x y) [
-  | inl e ↦ ap (λ k. lists (a y ∷ map a ys) (a k)) e.1 ∙ first_listed (a y) (map a ys)
-  | inr e ↦ rest_listed (a y) (a x) (map a ys) (listed_map a x ys (omega (arith, i, tick_other x y e.1)))
-]
-
--- the items of a face's outer loop start at corners
-pub corner_at : (M : Model) (k : ℕ) (cs : List ℕ) (y : ℕ) → content M (outer M k) ≡ cycle cs → IsIn y cs → lists (corners M k) (tail M y) ≡ true
+-- the items of a flat face's outer loop start at corners, and so tell what the anchor does
+item_told : (M : Model) (k y : ℕ) → is_flat M k ≡ true → IsIn y (items_of (content M (outer M k))) → dot (start M y) (normal M k) ≡ dot (anchor M k) (normal M k)
 unfolding corners loops_of
-corner_at M k cs y is i = listed_front (vertices_on M (content M (outer M k))) _ (tail M y) (ap (λ c. lists (vertices_on M c) (tail M y)) is ∙ listed_map (tail M) y cs i)
-
--- and so tell what the anchor does
-pub item_told : (M : Model) (k : ℕ) (cs : List ℕ) (y : ℕ) → is_flat M k ≡ true → content M (outer M k) ≡ cycle cs → IsIn y cs → dot (start M y) (normal M k) ≡ dot (anchor M k) (normal M k)
-item_told M k cs y flat is i = corner_told M k (tail M y) flat (corner_at M k cs y is i)
+item_told M k y flat i = corner_told M k (tail M y) flat (listed-from_in (tail M y) (corners M k) (tail_in M y (outer M k) (loops_of M k) (IsIn_head (outer M k) (rings_of M k)) i))
 
 -- ---- the six volumes of the glued solid: both faces go, and together they added nothing
 
@@ -69,8 +57,8 @@ module _ {M N : Model} {f g : ℕ} {partner_of : ℕ → ℕ} {hs gs : List ℕ}
   row_in : (l : ℕ) → table.get N.loops l ≡ option_map (rewritten_row (map swap) l) (table.get kept l)
   row_in l = ap (λ t. table.get t l) n.loops ∙ get-map_rows (rewritten_row (map swap)) kept l
 
-  loop_row : (l : ℕ) → l ≢ outer M f → l ≢ outer M g → table.get N.loops l ≡ option_map (rewritten_row (map swap) l) (table.get M.loops l)
-  loop_row l a b = row_in l ∙ ap (option_map (rewritten_row (map swap) l)) (grind (arith, nat_tests, tables))
+  row_else : (l : ℕ) → l ≢ outer M f → l ≢ outer M g → table.get N.loops l ≡ option_map (rewritten_row (map swap) l) (table.get M.loops l)
+  row_else l a b = row_in l ∙ ap (option_map (rewritten_row (map swap) l)) (grind (arith, nat_tests, tables))
 
   content_in : (l : ℕ) (o : Option LoopRow) → (unwrap_or (option_map (rewritten_row (map swap) l) o) no_loop).content ≡ rewritten (map swap) (unwrap_or o no_loop).content
   content_in l None = ap cycle (sym canonical_nil)
@@ -78,22 +66,28 @@ module _ {M N : Model} {f g : ℕ} {partner_of : ℕ → ℕ} {hs gs : List ℕ}
 
   pub content_is : (l : ℕ) → l ≢ outer M f → l ≢ outer M g → content N l ≡ rewritten (map swap) (content M l)
   unfolding content
-  content_is l a b = ap (λ o. (unwrap_or o no_loop).content) (loop_row l a b) ∙ content_in l (table.get M.loops l)
-
-  content_area : (c : LoopContent) → ((y : ℕ) → IsIn y (items_of c) → StaysHere (swap y) y) → area N (items_of (rewritten (map swap) c)) ≡ area M (items_of c)
-  content_area (lone v) e = refl
-  content_area (cycle cs) e = area_same N (canonical (map swap cs)) (map swap cs) (λ x. count-canonical x (map swap cs)) ∙ area_renamed M N swap cs e
+  content_is l a b = ap (λ o. (unwrap_or o no_loop).content) (row_else l a b) ∙ content_in l (table.get M.loops l)
 
   pub each_swapped : (l : ℕ) → l ≢ outer M g → (y : ℕ) → IsIn y (items_of (content M l)) → StaysHere (swap y) y
   each_swapped l b y i =
       let s : StandsIn M y l = in-holds y (content M l) i in
       seams.swapped w n y (w.sound.only_edges y l s) (λ e. b (sym (w.sound.one_loop y l s) ∙ e))
 
-  loop_area : (l : ℕ) → l ≢ outer M f → l ≢ outer M g → area N (items_of (content N l)) ≡ area M (items_of (content M l))
-  loop_area l a b = ap (λ c. area N (items_of c)) (content_is l a b) ∙ content_area (content M l) (each_swapped l b)
+  replaced : (l : ℕ) → Has M.loops l → l ≢ outer M f → l ≢ outer M g → IsReplaced M N swap l
+  replaced l there a b = record {
+    content_is = content_is l a b;
+    good = λ hs is. w.sound.cycles l hs there is;
+    halves = each_swapped l b;
+    lones = λ v is. seams.point_kept w n v (λ h i e. w.sound.lone_is_no_tail l (partner_of h) (seams.half_g w (partner_of h) (seams.partner_in w h i)) (is ∙ ap lone (sym e)));
+  }
 
-  loops_area : (ls : List ℕ) → ((l : ℕ) → lists ls l ≡ true → (l ≢ outer M f) × (l ≢ outer M g)) → area N (items_in N ls) ≡ area M (items_in M ls)
-  loops_area ls e = same_loops M N ls (λ l i. let p = e l i in loop_area l p.0 p.1)
+  -- a loop that is there was there, and is none of the two that went
+  was_there : (l : ℕ) → Has N.loops l → (l ≢ outer M f) × (l ≢ outer M g) × Has M.loops l
+  was_there l there =
+      let none : table.get kept l ≡ None → ⊥ = λ e. true≢false (sym there ∙ ap is_some (row_in l ∙ ap (option_map (rewritten_row (map swap) l)) e)) in
+      let a : l ≢ outer M f = λ e. none (grind (arith, nat_tests, tables)) in
+      let b : l ≢ outer M g = λ e. none (grind (arith, nat_tests, tables)) in
+      (a, b, sym (mapped_some (rewritten_row (map swap) l) (table.get M.loops l)) ∙ ap is_some (sym (row_else l a b)) ∙ there)
 
   -- ---- faces
 
@@ -123,71 +117,35 @@ module _ {M N : Model} {f g : ℕ} {partner_of : ℕ → ℕ} {hs gs : List ℕ}
     unfolding outer
     outer_is = ap (λ o. (unwrap_or o no_face).outer) (other_face k not_f not_g) ∙ outer_in k (table.get M.faces k)
 
-    abbrev ring_before : ℕ → LoopRow → Bool
-    ring_before l row = nat_eq row.face k && not (nat_eq (outer M k) l)
-
-    abbrev ring_after : ℕ → LoopRow → Bool
-    ring_after l row = nat_eq row.face k && not (nat_eq (outer N k) l)
-
-    same_row : (l : ℕ) (o : Option LoopRow) → passed ring_after l (option_map (rewritten_row (map swap) l) o) ≡ passed ring_before l o
-    same_row l None = refl
-    same_row l (Some row) = ap (λ o. one_if (nat_eq row.face k && not (nat_eq o l))) outer_is
-
-    none_passes : (l : ℕ) → face_of M l ≢ k → passed ring_before l (table.get M.loops l) ≡ 0
-    none_passes l ne = go (table.get M.loops l) refl where
-      go : (o : Option LoopRow) → table.get M.loops l ≡ o → passed ring_before l o ≡ 0
-      go None e = refl
-      go (Some row) e = ap (λ b. one_if (b && not (nat_eq (outer M k) l))) (ne_eqb row.face k (λ s. ne (face_row M l row e ∙ s)))
-
-    loop_gone : (l : ℕ) → table.get kept l ≡ None → face_of M l ≢ k → passed ring_after l (table.get N.loops l) ≡ passed ring_before l (table.get M.loops l)
-    loop_gone l e ne = ap (passed ring_after l) (row_in l ∙ ap (option_map (rewritten_row (map swap) l)) e) ∙ sym (none_passes l ne)
-
-    pub rings_are : rings_of N k ≡ rings_of M k
-    rings_are = same_search ring_after ring_before N.loops M.loops (λ l. elim (eqb_tells l (outer M f)) [
-      | inl e ↦ loop_gone l (grind (arith, nat_tests, tables)) (λ s. not_f (sym s ∙ ap (face_of M) e.1 ∙ seams.face_f w))
-      | inr a ↦ elim (eqb_tells l (outer M g)) [
-        | inl e ↦ loop_gone l (grind (arith, nat_tests, tables)) (λ s. not_g (sym s ∙ ap (face_of M) e.1 ∙ seams.face_g w))
-        | inr b ↦ ap (passed ring_after l) (loop_row l a.1 b.1) ∙ same_row l (table.get M.loops l)
-      ]
-    ])
-
     pub own : face_of M (outer M k) ≡ k
     own = (w.sound.outers_there k there).1
 
     pub loop_else : (l : ℕ) → face_of M l ≡ k → (l ≢ outer M f) × (l ≢ outer M g)
     loop_else l of = grind (arith, seams.face_f w, seams.face_g w)
 
+    outer_replaced : IsReplaced M N swap (outer M k)
+    outer_replaced = let e = loop_else (outer M k) own in replaced (outer M k) (w.sound.outers_there k there).0 e.0 e.1
+
+    row_now : (l : ℕ) → Has M.loops l → l ≢ outer M f → l ≢ outer M g → table.get N.loops l ≡ Some (rewritten_row (map swap) l (record { face = face_of M l; content = content M l }))
+    row_now l was a b = row_else l a b ∙ ap (option_map (rewritten_row (map swap) l)) (loop_row M l was)
+
+    agree : AgreeOn M N k
+    agree = record {
+      outer_is = outer_is;
+      stay = λ l was of. let e = loop_else l of in let now = row_now l was e.0 e.1 in (ap is_some now, face_row N l _ now ∙ of);
+      back = λ l has of. let e = was_there l has in (e.2, sym (face_row N l _ (row_now l e.2 e.0 e.1)) ∙ of);
+      areas = λ l i. let of = face_of_loop M w.sound k l there i in let e = loop_else l of.1 in replaced_area (replaced l of.0 e.0 e.1);
+    }
+
+    pub rings_are : rings_of N k ≡ rings_of M k
+    rings_are = rings_agree agree
+
     pub normal_is : normal N k ≡ normal M k
-    unfolding normal boundary loops_of
-    normal_is = ap (λ ls. area N (items_in N ls)) (λ i. outer_is i ∷ rings_are i)
-        ∙ loops_area (loops_of M k) (λ l i. loop_else l (face_of_loop M w.sound k l there i).1)
-
-    -- ---- anchors
-
-    anchor_in : (c : LoopContent) → c ≢ cycle [] → content M (outer M k) ≡ c → is_flat M k ≡ true → dot (point_of N (first_vertex N (rewritten (map swap) c))) (normal M k) ≡ dot (anchor M k) (normal M k)
-    anchor_in (lone v) ne is flat =
-        ap (λ p. dot p (normal M k)) (seams.point_kept w n v (λ h i e. w.sound.lone_is_no_tail (outer M k) (partner_of h) (seams.half_g w (partner_of h) (seams.partner_in w h i)) (is ∙ ap lone (sym e)))
-        ∙ sym (ap (λ c. point_of M (first_vertex M c)) is))
-    anchor_in (cycle []) ne is flat = absurd (ne refl)
-    anchor_in (cycle (c ∷ cs)) ne is flat =
-        let zs : List ℕ = canonical (map swap (c ∷ cs)) in
-        let some : IsIn (swap c) zs = omega (arith, count-canonical (swap c) (map swap (c ∷ cs)), tick_same (swap c)) in
-        let first : IsIn (head_or 0 zs) (map swap (c ∷ cs)) = omega (arith, IsIn_first zs (swap c) some, count-canonical (head_or 0 zs) (map swap (c ∷ cs))) in
-        let y = from_map swap (head_or 0 zs) (c ∷ cs) first in
-        ap (λ p. dot p (normal M k)) (ap (start N) y.2 ∙ (each_swapped (outer M k) (loop_else (outer M k) own).1 y.0 (ap_in y.0 (c ∷ cs) is y.1)).0)
-        ∙ item_told M k (c ∷ cs) y.0 flat is y.1 where
-          ap_in : (y : ℕ) (cs : List ℕ) → content M (outer M k) ≡ cycle cs → IsIn y cs → IsIn y (items_of (content M (outer M k)))
-          ap_in y cs is i = omega (arith, i, ap (λ c. count y (items_of c)) is)
-
-    anchor_told : is_flat M k ≡ true → dot (anchor N k) (normal M k) ≡ dot (anchor M k) (normal M k)
-    anchor_told flat =
-        let l = outer M k in
-        ap (λ c. dot (point_of N (first_vertex N c)) (normal M k)) (ap (content N) outer_is ∙ content_is l (loop_else l own).0 (loop_else l own).1)
-        ∙ anchor_in (content M l) (λ e. (w.sound.cycles l [] (w.sound.outers_there k there).0 e).some_item refl) refl flat
+    normal_is = normal_agrees agree
 
     -- the face adds what it did
     pub volume_is : is_flat M k ≡ true → volume_of N k ≡ volume_of M k
-    volume_is flat = ap (dot (anchor N k)) normal_is ∙ anchor_told flat
+    volume_is flat = volume_told agree outer_replaced (λ h i. item_told M k h flat i)
 
   abbrev s : ℕ
   s = solid_of M f
@@ -207,7 +165,7 @@ module _ {M N : Model} {f g : ℕ} {partner_of : ℕ → ℕ} {hs gs : List ℕ}
       let cycle_is : cycle_of M h ≡ hs = ap (λ l. items_of (content M l)) (seams.loop_f w h i) ∙ ap items_of w.first in
       let next : after M h ≡ successor hs h = ap (λ q. successor q h) cycle_is in
       ap (λ v. dot (point_of M v) (normal M f)) (sym (w.sound.ends_meet h (seams.half_f w h i)) ∙ ap (tail M) next)
-      ∙ item_told M f hs (successor hs h) (w.flat f w.f_there (inl refl)) w.first (IsIn_successor h hs i)
+      ∙ item_told M f (successor hs h) (w.flat f w.f_there (inl refl)) (subst (λ c. IsIn (successor hs h) (items_of c)) (sym w.first) (IsIn_successor h hs i))
 
   some_of_g : gs ≢ []
   some_of_g = (w.sound.cycles (outer M g) gs (w.sound.outers_there g w.g_there).0 w.second).some_item
@@ -305,56 +263,25 @@ module _ {M N : Model} {f g : ℕ} {partner_of : ℕ → ℕ} {hs gs : List ℕ}
     ])
 
     module _ (k : ℕ) (there : Has M.faces k) (is_of : solid_of M k ≡ u) where
-      abbrev l : ℕ
-      l = outer M k
-
       not_f : k ≢ f
       not_f e = not_s (sym is_of ∙ ap (solid_of M) e)
 
       not_g : k ≢ g
       not_g e = not_t (sym is_of ∙ ap (solid_of M) e)
 
-      own_loop : face_of M l ≡ k
-      own_loop = (w.sound.outers_there k there).1
-
-      stands : (cs : List ℕ) (y : ℕ) → content M l ≡ cycle cs → IsIn y cs → StandsIn M y l
-      stands cs y is i = ap (λ c. holds y c) is ∙ in-holds y (cycle cs) i
-
-      side_is : (cs : List ℕ) (y : ℕ) → content M l ≡ cycle cs → IsIn y cs → side w y ≡ u
-      side_is cs y is i = ap (λ q. solid_of M (face_of M q)) (w.sound.one_loop y l (stands cs y is i)) ∙ ap (solid_of M) own_loop ∙ is_of
+      side_is : (y : ℕ) → IsIn y (items_of (content M (outer M k))) → side w y ≡ u
+      side_is y i = ap (solid_of M) (ap (face_of M) (item_loop M w.sound (outer M k) y i) ∙ own k there not_f not_g) ∙ is_of
 
       -- nothing there is replaced
-      swap_not : (cs : List ℕ) (y : ℕ) → content M l ≡ cycle cs → IsIn y cs → swap y ≡ y
-      swap_not cs y is i = renamed_not (λ h. mate (partner_of h)) (λ h. h) hs y (λ h j e.
+      nothing_replaced : (y : ℕ) → IsIn y (items_of (content M (outer M k))) → swap y ≡ y
+      nothing_replaced y i = renamed_not (λ h. mate (partner_of h)) (λ h. h) hs y (λ h j e.
           let p = seams.partner_in w h j in
-          not_t (sym (side_is cs y is i) ∙ ap (side w) (sym e) ∙ seams.side_mate w (partner_of h) (seams.half_g w (partner_of h) p) ∙ seams.side_g w (partner_of h) p))
+          not_t (sym (side_is y i) ∙ ap (side w) (sym e) ∙ seams.side_mate w (partner_of h) (seams.half_g w (partner_of h) p) ∙ seams.side_g w (partner_of h) p))
 
-      all_stay : (cs xs : List ℕ) → content M l ≡ cycle cs → ((x : ℕ) → IsIn x xs → IsIn x cs) → map swap xs ≡ xs
-      all_stay cs [] is within = refl
-      all_stay cs (x ∷ xs) is within = λ i. swap_not cs x is (within x (IsIn_head x xs)) i ∷ all_stay cs xs is (λ y j. within y (omega (arith, j))) i
-
-      anchor_stays : (c : LoopContent) → c ≢ cycle [] → content M l ≡ c → point_of N (first_vertex N (rewritten (map swap) c)) ≡ point_of M (first_vertex M c)
-      anchor_stays (lone v) ne is = seams.point_kept w n v (λ h i e. w.sound.lone_is_no_tail l (partner_of h) (seams.half_g w (partner_of h) (seams.partner_in w h i)) (is ∙ ap lone (sym e)))
-      anchor_stays (cycle []) ne is = absurd (ne refl)
-      anchor_stays (cycle (c ∷ cs)) ne is =
-          let i : IsIn c (c ∷ cs) = IsIn_head c cs in
-          let s : StandsIn M c l = stands (c ∷ cs) c is i in
-          let least : canonical (c ∷ cs) ≡ c ∷ cs = (w.sound.cycles l (c ∷ cs) (w.sound.outers_there k there).0 is).from_least in
-          ap (λ xs. point_of N (tail N (head_or 0 (canonical xs)))) (all_stay (c ∷ cs) (c ∷ cs) is (λ x j. j))
-          ∙ ap (λ xs. point_of N (tail N (head_or 0 xs))) least
-          ∙ ap (start N) (sym (swap_not (c ∷ cs) c is i))
-          ∙ (seams.swapped w n c (w.sound.only_edges c l s) (λ e. (loop_else k there not_f not_g l own_loop).1 (sym (w.sound.one_loop c l s) ∙ e))).0
-
-      anchor_is : anchor N k ≡ anchor M k
-      anchor_is =
-          let a = loop_else k there not_f not_g l own_loop in
-          ap (λ c. point_of N (first_vertex N c)) (ap (content N) (outer_is k there not_f not_g) ∙ content_is l a.0 a.1)
-          ∙ anchor_stays (content M l) (λ e. (w.sound.cycles l [] (w.sound.outers_there k there).0 e).some_item refl) refl
-
-      pub volume_stays : volume_of N k ≡ volume_of M k
-      volume_stays = λ i. dot (anchor_is i) (normal_is k there not_f not_g i)
+      pub volume_kept : volume_of N k ≡ volume_of M k
+      volume_kept = volume_stays (agree k there not_f not_g) (outer_replaced k there not_f not_g) nothing_replaced
 
     pub others_stay : six_volume N u ≡ six_volume M u
     unfolding six_volume
     others_stay = ap (volume_in N) faces_are
-        ∙ same_volumes M N (faces_of M u) (λ k i. grind (arith, listed_passes, volume_stays, eqb-true, listed_as, face_there))
+        ∙ same_volumes M N (faces_of M u) (λ k i. grind (arith, listed_passes, volume_kept, eqb-true, listed_as, face_there))

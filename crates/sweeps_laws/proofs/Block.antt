@@ -41,12 +41,12 @@ module _ (M : Model) (s : ℕ) (p : Point) (dx dy dz : ℤ) (sound : Sound M) (e
   rises : prism_refusal L ((taken_in M).face + 1) (vector (pos 0) (pos 0) dz) ≡ None
   rises = subst (λ X. prism_refusal X ((taken_in M).face + 1) (vector (pos 0) (pos 0) dz) ≡ None) made (bases_rise M s p dx dy dz sound e)
 
-  of : solid_of L ((taken_in M).face + 1) ≡ s
-  of = solid_one M (taken_in M) s (base_of p dx dy)
+  base_solid : solid_of L ((taken_in M).face + 1) ≡ s
+  base_solid = solid_one M (taken_in M) s (base_of p dx dy)
 
 -- six times the product of its sizes
 pub block_volume : BlockMeasures
-block_volume M s p dx dy dz sound e = grind (arith, second_corner, third_corner, fourth_corner, sound_bounded, of, block_is, base_sound, rises, no_faces, solid_free, rectangle_flat, none_add, base, sweep_adds, base_normal, base_volume, rectangle_raised)
+block_volume M s p dx dy dz sound e = grind (arith, second_corner, third_corner, fourth_corner, sound_bounded, base_solid, block_is, base_sound, rises, no_faces, solid_free, rectangle_flat, none_add, base, sweep_adds, base_normal, base_volume, rectangle_raised)
 
 -- a lamina has three points or more, and its solid is new
 lamina_new : (M : Model) (s : ℕ) (ps : List Point) → lamina_refusal M s ps ≡ None → (length ps ≡ suc (suc (suc (length ps - 3)))) × (table.has M.solids s ≡ false)
@@ -73,5 +73,5 @@ lamina_keeps_others M s ps u sound e ne = ap (λ x. six_volume x u) (lamina_is M
 pub block_keeps_others : BlockKeepsOthers
 block_keeps_others M s p dx dy dz u sound e ne =
     ap (λ x. six_volume x u) (block_is M s p dx dy dz)
-    ∙ sweep_keeps_others (L M s p dx dy dz sound e) ((taken_in M).face + 1) (vector (pos 0) (pos 0) dz) u (base_sound M s p dx dy dz sound e) (rises M s p dx dy dz sound e) (λ o. ne (o ∙ of M s p dx dy dz sound e))
+    ∙ sweep_keeps_others (L M s p dx dy dz sound e) ((taken_in M).face + 1) (vector (pos 0) (pos 0) dz) u (base_sound M s p dx dy dz sound e) (rises M s p dx dy dz sound e) (λ o. ne (o ∙ base_solid M s p dx dy dz sound e))
     ∙ lamina_keeps M (taken_in M) s (base_of p dx dy) (some_points M s (base_of p dx dy) (blocks_have_bases M s p dx dy dz e)) (sound_bounded M sound) u ne

@@ -6,9 +6,9 @@ use Rattle.euler_operators.specs.Table as table
 use Rattle.euler_operators.proofs.Common.{solid_row, face_row, outer_row, point_row, same_content, same_outer, add_none, add_assoc, total_to, same_total, area_at, sides_volume, nat_eq_itself, none_but, less_still, all_where_none, first_where_zero, get-put_here, get-put_other}
 use Rattle.euler_laws.proofs.Common.{listed_passes, all_where-rises, passes_listed, face_there, same_tail, same_point}
 use Rattle.shapes.specs.Common.{Taken, numbers_after, area, normal, volume_in, six_volume, anchor, first_vertex, least_lone, items_in, lamina_at, with_path, with_points, with_ring}
-use Rattle.shapes.proofs.Common.{at_most_greatest, get-put_cases, all_where-put_last, greatest-put_last, volume_of, same_volumes}
+use Rattle.shapes.proofs.Common.{at_most_greatest, get-put_cases, all_where-put_last, area_kept, areas_kept, greatest-put_last, volume_of, same_volumes}
 use Rattle.sweeps_laws.proofs.swept.Filled.{filled, filled_search, filled_none}
-use Rattle.sweeps_laws.proofs.Loops.{area_sum, volume_last, same_area, same_loops, side_is, faces_kept, faces_moved, from_at, to_at, normal_is, first_kept, loops_within}
+use Rattle.sweeps_laws.proofs.Loops.{area_sum, volume_last, side_is, faces_kept, faces_moved, from_at, to_at, normal_is, first_kept, loops_within}
 use Rattle.sweeps_laws.proofs.swept.Sides.{side_face, faces_grown, Keeps, start_kept, finish_kept}
 use Rattle.sweeps_laws.proofs.swept.Lifted.{Bounded, IsPathOf, swept}
 
@@ -219,11 +219,11 @@ module _ (M : Model) (c : Taken) (s : ℕ) (ps : List Point) where
 
       loop_kept : (q : ℕ) → q ≤ c.loop → area drawn (items_of (content drawn q)) ≡ area M (items_of (content M q))
       loop_kept q l = ap (λ x. area drawn (items_of x)) (same_content M drawn q (loop_old q l))
-          ∙ same_area M drawn (items_of (content M q)) (λ h i. (start_kept keeps_drawn b.tails h (b.items h q i), finish_kept keeps_drawn b.tails h (b.items h q i)))
+          ∙ area_kept M drawn (items_of (content M q)) (λ h i. (start_kept keeps_drawn b.tails h (b.items h q i), finish_kept keeps_drawn b.tails h (b.items h q i)))
 
       normal_kept : (k : ℕ) → k ≤ c.face → normal drawn k ≡ normal M k
       normal_kept k l = normal_is drawn k ∙ (λ t. area drawn (items_in drawn (outer_old k l t ∷ rings_old k l t)))
-          ∙ same_loops M drawn (outer M k ∷ rings_of M k) (λ q i. loop_kept q (loops_within M c b k q i)) ∙ sym (normal_is M k)
+          ∙ areas_kept M drawn (outer M k ∷ rings_of M k) (λ q i. loop_kept q (loops_within M c b k q i)) ∙ sym (normal_is M k)
 
       anchor_kept : (k : ℕ) → k ≤ c.face → anchor drawn k ≡ anchor M k
       anchor_kept k l = ap (λ q. point_of drawn (first_vertex drawn (content drawn q))) (outer_old k l)

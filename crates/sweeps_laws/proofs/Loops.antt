@@ -3,8 +3,8 @@ use Rattle.std.proofs.Common.{◌≡◌, ℕ, ◌+ℤ◌, true, List, [], ◌∷
 use Rattle.euler_operators.specs.Common.{moved, cross, dot, IsIn, head_or, Model, items_of, content, LoopContent, lone, cycle, tail, outer, point_of, rings_of, lists, strictly_rises, Point, edge_of, plus}
 use Rattle.euler_laws.proofs.Common.{first_listed, rest_listed, listed_cases, listed_passes, rises_on, rises_apart}
 use Rattle.shapes.specs.Common.{start, finish, items_in, loops_of, boundary, area, volume_in, normal, anchor, first_vertex, Taken, top_edge, top_items}
-use Rattle.shapes.proofs.Common.{area-append, area_push, volume_of, volume_append, same_volumes, at_most_greatest}
-use Rattle.euler_operators.proofs.Common.{add_none, dot_moved, add_assoc, sum_to, sum_first, moved_at, area_at, moved_ring, side_area, side_volume, Linked, IsIn_rest, IsIn_head, mate_plus, mate_minus}
+use Rattle.shapes.proofs.Common.{area_kept, area_push, areas_kept, volume_of, volume_append, same_volumes, at_most_greatest}
+use Rattle.euler_operators.proofs.Common.{add_none, dot_moved, add_assoc, sum_to, sum_first, moved_at, area_at, moved_ring, side_area, side_volume, Linked, IsIn_head, mate_plus, mate_minus}
 use Rattle.std.proofs.lemmas.Bool.Decides.{eqb_tells}
 use Rattle.std.proofs.lemmas.Int.{ints}
 use Rattle.sweeps_laws.proofs.swept.Numbers.{next_cases}
@@ -20,19 +20,6 @@ module _ (M : Model) where
 
   pub volume_last : (ks : List ℕ) (k : ℕ) → volume_in M (ks ++ k ∷ []) ≡ volume_in M ks +ℤ volume_of M k
   volume_last ks k = volume_append M ks (k ∷ []) ∙ ap (λ v. volume_in M ks +ℤ v) (add_none (volume_of M k))
-
-module _ (M N : Model) where
-  -- half-edges that start and end where they did have the area that they had
-  pub same_area : (hs : List ℕ) → ((h : ℕ) → IsIn h hs → (start N h ≡ start M h) × (finish N h ≡ finish M h)) → area N hs ≡ area M hs
-  same_area [] e = refl
-  same_area (h ∷ hs) e = let p = e h (IsIn_head h hs) in λ i. moved (cross (p.0 i) (p.1 i)) (same_area hs (λ g s. e g (IsIn_rest g h hs s)) i)
-
-  -- so have loops, where each has
-  pub same_loops : (ls : List ℕ) → ((q : ℕ) → lists ls q ≡ true → area N (items_of (content N q)) ≡ area M (items_of (content M q))) → area N (items_in N ls) ≡ area M (items_in M ls)
-  same_loops [] e = refl
-  same_loops (q ∷ ls) e = area-append N (items_of (content N q)) (items_in N ls)
-      ∙ (λ i. moved (e q (first_listed q ls) i) (same_loops ls (λ k l. e k (rest_listed q k ls l)) i))
-      ∙ sym (area-append M (items_of (content M q)) (items_in M ls))
 
 -- ---- one loop of a face swept: areas, anchors and volumes of the faces after
 
@@ -112,11 +99,11 @@ module _ {M : Model} {c : Taken} (s : ℕ) (d : Point) {hs : List ℕ} {f l : �
     | inl e ↦ subst (λ k. area after (items_of (content after k)) ≡ area M (items_of (content M k))) (sym e.1)
         (ap (λ x. area after (items_of x)) (content_here M c s d hs f l b r) ∙ area_lifted ∙ sym (ap (λ x. area M (items_of x)) r.content))
     | inr e ↦ ap (λ x. area after (items_of x)) (content_old M c s d hs f l b r q e.1 m)
-        ∙ same_area M after (items_of (content M q)) (λ h i. (start_kept (keeps_swept M c s d hs f l) b.tails h (b.items h q i), finish_kept (keeps_swept M c s d hs f l) b.tails h (b.items h q i)))
+        ∙ area_kept M after (items_of (content M q)) (λ h i. (start_kept (keeps_swept M c s d hs f l) b.tails h (b.items h q i), finish_kept (keeps_swept M c s d hs f l) b.tails h (b.items h q i)))
   ]
 
   pub loops_area : (ls : List ℕ) → ((q : ℕ) → lists ls q ≡ true → q ≤ c.loop) → area after (items_in after ls) ≡ area M (items_in M ls)
-  loops_area ls m = same_loops M after ls (λ q i. loop_area q (m q i))
+  loops_area ls m = areas_kept M after ls (λ q i. loop_area q (m q i))
 
   -- each face that was there keeps its normal
   pub normal_kept : (k : ℕ) → k ≤ c.face → normal after k ≡ normal M k

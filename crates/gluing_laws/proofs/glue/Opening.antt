@@ -2,7 +2,7 @@
 use Rattle.std.proofs.Common.{◌≡◌, ◌≢◌, ℕ, true, false, cond, nat_eq, Bool, List, [], ◌∷◌, ◌++◌, Option, Some, None, is_some, refl, sym, ap, ◌∙◌, subst, arith, true≢false, map, reverse, ne_eqb, eq-eqb}
 use Rattle.std.proofs.lemmas.Bool.Decides.{nat_tests}
 use Rattle.std.proofs.lemmas.List.{map-append, reverse-append}
-use Rattle.euler_operators.specs.Common.{count, IsIn, IsApart, canonical, rest, successor, without, mate, edge_of, half, plus, minus, Table, tables, same_table, At, Model, FaceRow, LoopRow, EdgeRow, cycle, items_of, tail, tail_in, content, face_of, solid_of, outer, is_number, Sound, HasHalf, first_false, effect, merge, kfmrh, mekr, kev, faces_to_solid, loop_to_face, moved_tail, edge_row}
+use Rattle.euler_operators.specs.Common.{count, IsIn, IsApart, canonical, rest, successor, without, mate, edge_of, half, plus, minus, Table, tables, same_table, At, Model, FaceRow, LoopRow, EdgeRow, cycle, items_of, tail, tail_in, face_of, solid_of, outer, is_number, Sound, HasHalf, first_false, effect, merge, kfmrh, mekr, kev, faces_to_solid, loop_to_face, moved_tail, edge_row}
 use Rattle.euler_operators.specs.Items.{before, after}
 use Rattle.euler_operators.proofs.Common.{count-append, tick_same, before_at, after_at, canonical_same, count-canonical, canonical-rotates, IsApart-canonical, successor_inner, successor_same, rest_canonical, code-half, plus_row, minus_row, edge_of-mate, mate_plus, map-put, map_same, map_one, remove-put, get-put_here, get-put_other, get-remove_other, same_outer, content_row, face_row, tail_row, in-holds, holds-none, not_held, same_head}
 use Rattle.euler_operators.specs.Table as table
@@ -293,16 +293,16 @@ module _ (M : Model) (f g : ℕ) (partner_of : ℕ → ℕ) (h : ℕ) (mid : Lis
   kept = table.remove (table.remove M.loops l) r
 
   kept_there : (q : ℕ) (row : LoopRow) → table.get kept q ≡ Some row → table.get M.loops q ≡ Some row
-  kept_there q row at = from (table.get M.loops q) (is q) at where
-    is : (q : ℕ) → table.get kept q ≡ cond (nat_eq q r) None (cond (nat_eq q l) None (table.get M.loops q))
-    is q = grind (arith, nat_tests, tables)
+  kept_there q row at = from (table.get M.loops q) (kept_row q) at where
+    kept_row : (q : ℕ) → table.get kept q ≡ cond (nat_eq q r) None (cond (nat_eq q l) None (table.get M.loops q))
+    kept_row q = grind (arith, nat_tests, tables)
 
     from : (o : Option LoopRow) → table.get kept q ≡ cond (nat_eq q r) None (cond (nat_eq q l) None o) → table.get kept q ≡ Some row → o ≡ Some row
-    from o e a = go (nat_eq q r) (nat_eq q l) (sym e ∙ a) where
-      go : (b c : Bool) → cond b None (cond c None o) ≡ Some row → o ≡ Some row
-      go true c z = absurd (true≢false (sym (ap is_some z)))
-      go false true z = absurd (true≢false (sym (ap is_some z)))
-      go false false z = z
+    from o e a = still_there (nat_eq q r) (nat_eq q l) (sym e ∙ a) where
+      still_there : (b c : Bool) → cond b None (cond c None o) ≡ Some row → o ≡ Some row
+      still_there true c z = absurd (true≢false (sym (ap is_some z)))
+      still_there false true z = absurd (true≢false (sym (ap is_some z)))
+      still_there false false z = z
 
   loops_then : C.loops ≡ X.loops
   unfolding glued_part

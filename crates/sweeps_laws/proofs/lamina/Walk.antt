@@ -15,12 +15,12 @@ none_far : (i : ℕ) (ps : List Point) → first_far i ps ≡ None → (k : ℕ)
 none_far i [] e k l = absurd (omega (arith, l))
 none_far i (p ∷ ps) e k l =
     elim (is_in_range p) as (λ b. is_in_range p ≡ b → cond b (first_far (i + 1) ps) (Some (i + 1)) ≡ None → is_in_range (get_or (p ∷ ps) k no_point) ≡ true) [
-      | true ↦ λ t e. at k (λ m. none_far (i + 1) ps e m) t l
+      | true ↦ λ t e. near_at k (λ m. none_far (i + 1) ps e m) t l
       | false ↦ λ t e. absurd (true≢false (ap is_some e))
     ] refl e where
-      at : (k : ℕ) → ((m : ℕ) → m < length ps → is_in_range (get_or ps m no_point) ≡ true) → is_in_range p ≡ true → k < length (p ∷ ps) → is_in_range (get_or (p ∷ ps) k no_point) ≡ true
-      at zero rest t l = t
-      at (suc m) rest t l = rest m (omega (arith, l))
+      near_at : (k : ℕ) → ((m : ℕ) → m < length ps → is_in_range (get_or ps m no_point) ≡ true) → is_in_range p ≡ true → k < length (p ∷ ps) → is_in_range (get_or (p ∷ ps) k no_point) ≡ true
+      near_at zero rest t l = t
+      near_at (suc m) rest t l = rest m (omega (arith, l))
 
 -- what the conditions say
 pub lamina_goes : (M : Model) (s : ℕ) (ps : List Point) → Sound M → lamina_refusal M s ps ≡ None → Goes M (taken_in M) s ps (length ps)
