@@ -2,10 +2,11 @@
 use Rattle.std.proofs.Common.{◌≡◌, ◌<◌, ◌≤◌, ℕ, suc, ◌+◌, Bool, false, cond, pos, List, [], ◌∷◌, ◌++◌, length, map, unwrap_or, refl, sym, ap, ◌∙◌, arith, filter, flat_map, int_lt, append_assoc, append-nil}
 use Rattle.std.proofs.lemmas.List.{length-map, map-append}
 use Rattle.std.proofs.lemmas.Grind.{flat_map-append}
-use Rattle.euler_operators.specs.Common.{Plane, dot, direction, cross, moved, count, IsIn, mate, Model, tail, point_of, no_point, Sound, Has, HasHalf}
+use Rattle.euler_operators.specs.Common.{Plane, dot, direction, count, IsIn, mate, Model, tail, point_of, no_point, Sound, Has, HasHalf}
 use Rattle.euler_operators.specs.Table as table
-use Rattle.euler_operators.proofs.Common.{tick_same, count-append, tick_other, mate-mate, in_use_within, mate_there}
-use Rattle.shapes.specs.Common.{AreFree, start, finish, Taken, area, is_hole, has_stray_hole, Caps, Opening, opened_along, next_opened, all_opened}
+use Rattle.euler_operators.proofs.Common.{count-append, tick_other, in_use_within, mate_there}
+use Rattle.shapes.specs.Common.{AreFree, start, Taken, negated, is_hole, has_stray_hole, Caps, Opening, opened_along, next_opened, all_opened}
+use Rattle.shapes.proofs.Common.{area_kept, area_mates}
 use Rattle.split_opening_laws.specs.cycles.SectionCycles.{IsSectionCycle, AreSectionCycles}
 use Rattle.split_opening_laws.specs.sections.InTurn.{CanBeOpenedInTurn}
 use Rattle.split_opening_laws.specs.sections.Capped.{cap_faces}
@@ -41,16 +42,9 @@ module _ (M : Model) (above : List ℕ) (s : ℕ) (c : Taken) (bs : List ℕ) (s
     ends_still : (d : ℕ) → IsIn d ds → start N (mate d) ≡ start M (mate d)
     ends_still d i = start_still (mate d) (mate_there M d (w.halves d i).there) (end_same M above s c bs sound free first ds w elsewhere d i)
 
-    area_still : (hs : List ℕ) → ((d : ℕ) → IsIn d hs → IsIn d ds) → area N (map mate hs) ≡ area M (map mate hs)
-    area_still [] within = refl
-    area_still (d ∷ hs) within =
-        let i : IsIn d ds = within d (omega (arith, tick_same d)) in
-        let back : finish N (mate d) ≡ finish M (mate d) = ap (start N) (mate-mate d) ∙ begins_still d i ∙ sym (ap (start M) (mate-mate d)) in
-        λ k. moved (cross (ends_still d i k) (back k)) (area_still hs (λ e j. within e (omega (arith, j))) k)
-
     hole_still : (p : Plane) → is_hole N p ds ≡ is_hole M p ds
     unfolding is_hole
-    hole_still p = ap (λ a. int_lt (dot a (direction p)) (pos 0)) (area_still ds (λ d i. i))
+    hole_still p = ap (λ a. int_lt (dot a (direction p)) (pos 0)) (area_mates N ds ∙ ap negated (area_kept M N ds (λ d i. (begins_still d i, ends_still d i))) ∙ sym (area_mates M ds))
 
   holes_still : (p : Plane) (cs : List (List ℕ)) → AreSectionCycles M above s cs → ((d : ℕ) → IsIn d (flat_map (λ bs. bs) cs) → count (tail M d) (map (tail M) bs) ≡ 0) → map (is_hole N p) cs ≡ map (is_hole M p) cs
   holes_still p [] w e = refl

@@ -211,10 +211,10 @@ all_close N s us o (k ∷ ks) w =
 -- where not all caps are those of holes, some are not
 pub some_other : (ks : List Caps) → length (filter (λ k. k.hole) ks) < length ks → list_any (λ k. not k.hole) ks ≡ true
 some_other [] l = absurd (omega (arith, l))
-some_other (k ∷ ks) l = go k.hole (some_other ks) l where
-  go : (b : Bool) → (length (filter (λ k. k.hole) ks) < length ks → list_any (λ k. not k.hole) ks ≡ true) → length (cond b (k ∷ filter (λ k. k.hole) ks) (filter (λ k. k.hole) ks)) < suc (length ks) → not b || list_any (λ k. not k.hole) ks ≡ true
-  go true later l = later (omega (arith, l))
-  go false later l = refl
+some_other (k ∷ ks) l = either_cap k.hole (some_other ks) l where
+  either_cap : (b : Bool) → (length (filter (λ k. k.hole) ks) < length ks → list_any (λ k. not k.hole) ks ≡ true) → length (cond b (k ∷ filter (λ k. k.hole) ks) (filter (λ k. k.hole) ks)) < suc (length ks) → not b || list_any (λ k. not k.hole) ks ≡ true
+  either_cap true later l = later (omega (arith, l))
+  either_cap false later l = refl
 
 -- what is said of some caps says one thing of each
 pub record IsOfEach (All : List Caps → Type 0) (One : Caps → Type 0) : Type 0 where
@@ -229,10 +229,10 @@ module _ (All : List Caps → Type 0) (One : Caps → Type 0) (each : IsOfEach A
 
   pub outer_each : (ks : List Caps) → All ks → list_any (λ k. not k.hole) ks ≡ true → One (outer_caps ks)
   outer_each [] a e = absurd (true≢false (sym e))
-  outer_each (k ∷ ks) a e = go k.hole (outer_each ks (each.others k ks a)) e where
-    go : (b : Bool) → (list_any (λ k. not k.hole) ks ≡ true → One (outer_caps ks)) → not b || list_any (λ k. not k.hole) ks ≡ true → One (cond b (outer_caps ks) k)
-    go true r e = r e
-    go false r e = each.one k ks a
+  outer_each (k ∷ ks) a e = either_cap k.hole (outer_each ks (each.others k ks a)) e where
+    either_cap : (b : Bool) → (list_any (λ k. not k.hole) ks ≡ true → One (outer_caps ks)) → not b || list_any (λ k. not k.hole) ks ≡ true → One (cond b (outer_caps ks) k)
+    either_cap true r e = r e
+    either_cap false r e = each.one k ks a
 
   pub each_at : (ks : List Caps) (i : ℕ) → i < length ks → All ks → One (get_or ks i no_caps)
   each_at [] i l a = absurd (omega (arith, l))
@@ -258,11 +258,11 @@ holes_counted x (k ∷ ks) = grind (arith, holes_counted x ks)
 
 pub outer_counted : (x : ℕ) (ks : List Caps) → list_any (λ k. not k.hole) ks ≡ true → count x (cap_faces (outer_caps ks ∷ filter (λ k. k.hole) ks)) ≤ count x (cap_faces ks)
 outer_counted x [] e = absurd (true≢false (sym e))
-outer_counted x (k ∷ ks) e = go k.hole (outer_counted x ks) e where
-  go : (b : Bool) → (list_any (λ k. not k.hole) ks ≡ true → count x (cap_faces (outer_caps ks ∷ filter (λ k. k.hole) ks)) ≤ count x (cap_faces ks)) → not b || list_any (λ k. not k.hole) ks ≡ true →
+outer_counted x (k ∷ ks) e = either_cap k.hole (outer_counted x ks) e where
+  either_cap : (b : Bool) → (list_any (λ k. not k.hole) ks ≡ true → count x (cap_faces (outer_caps ks ∷ filter (λ k. k.hole) ks)) ≤ count x (cap_faces ks)) → not b || list_any (λ k. not k.hole) ks ≡ true →
       count x (cap_faces (cond b (outer_caps ks) k ∷ cond b (k ∷ filter (λ k. k.hole) ks) (filter (λ k. k.hole) ks))) ≤ count x (cap_faces (k ∷ ks))
-  go true r e = omega (arith, r e)
-  go false r e = omega (arith, holes_counted x ks)
+  either_cap true r e = omega (arith, r e)
+  either_cap false r e = omega (arith, holes_counted x ks)
 
 -- where some caps are no hole's, those of the holes can become rings
 pub can_close : (N : Model) (s : ℕ) (us : List ℕ) (ks : List Caps) → CanPart N s us → ArePlain N s ks → IsApart (cap_faces ks) → AreLevel us ks → length (filter (λ k. k.hole) ks) < length ks →

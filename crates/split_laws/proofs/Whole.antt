@@ -131,13 +131,13 @@ module _ (N K : Model) (s : ℕ) (us : List ℕ) (all : List Caps) (ops : List O
     rest_others : (x : ℕ) → count x (cap_faces (others_of ks)) ≤ count x (cap_faces (others_of all))
     rest_others x = omega (arith, more (not k.hole) x (others_of ks), others x)
 
-    go : (b : Bool) → count k.upper (cap_faces (cond b (k ∷ holes_of ks) (holes_of ks))) ≤ count k.upper (cap_faces (holes_of all)) →
+    hole_or_other : (b : Bool) → count k.upper (cap_faces (cond b (k ∷ holes_of ks) (holes_of ks))) ≤ count k.upper (cap_faces (holes_of all)) →
         count k.upper (cap_faces (cond (not b) (k ∷ others_of ks) (others_of ks))) ≤ count k.upper (cap_faces (others_of all)) → table.has K.faces k.upper ≡ not b
-    go true l m = hole_gone k.upper (omega (arith, l, tick_same k.upper))
-    go false l m = other_there k.upper (omega (arith, m, tick_same k.upper)) w.1.there
+    hole_or_other true l m = hole_gone k.upper (omega (arith, l, tick_same k.upper))
+    hole_or_other false l m = other_there k.upper (omega (arith, m, tick_same k.upper)) w.1.there
 
     first : table.has K.faces k.upper ≡ not k.hole
-    first = go k.hole (holes k.upper) (others k.upper)
+    first = hole_or_other k.hole (holes k.upper) (others k.upper)
 
 -- the faces above and the caps above of the outer cycles
 pub left_are : (N K : Model) (s : ℕ) (us above : List ℕ) (ks : List Caps) (ops : List Op) → AreClosed N K s us ops (filter (λ k. k.hole) ks) → ArePlain N s ks → IsApart (cap_faces ks) → ((f : ℕ) → IsIn f above → Has K.faces f) →
@@ -205,12 +205,12 @@ module _ (d : Drawing) (above : List ℕ) (s : ℕ) (p : Plane)
   never_across x there f g = absurd (omega (arith, opened.between.only x there f g))
 
   whole : (x : ℕ) → HasHalf X.model x → lists us (face_at X.model x) ≡ lists us (face_at X.model (mate x))
-  whole x there = go (lists us (face_at X.model x)) (lists us (face_at X.model (mate x))) refl refl where
-    go : (a b : Bool) → lists us (face_at X.model x) ≡ a → lists us (face_at X.model (mate x)) ≡ b → lists us (face_at X.model x) ≡ lists us (face_at X.model (mate x))
-    go true true e f = e ∙ sym f
-    go false false e f = e ∙ sym f
-    go false true e f = absurd (never_across x there e f)
-    go true false e f = absurd (never_across (mate x) (mate_there X.model x there) f (ap (λ y. lists us (face_at X.model y)) (mate-mate x) ∙ e))
+  whole x there = listed_alike (lists us (face_at X.model x)) (lists us (face_at X.model (mate x))) refl refl where
+    listed_alike : (a b : Bool) → lists us (face_at X.model x) ≡ a → lists us (face_at X.model (mate x)) ≡ b → lists us (face_at X.model x) ≡ lists us (face_at X.model (mate x))
+    listed_alike true true e f = e ∙ sym f
+    listed_alike false false e f = e ∙ sym f
+    listed_alike false true e f = absurd (never_across x there e f)
+    listed_alike true false e f = absurd (never_across (mate x) (mate_there X.model x there) f (ap (λ y. lists us (face_at X.model y)) (mate-mate x) ∙ e))
 
   can_part : CanPart X.model s us
   can_part = record { sound = opened.sound; of_solid = λ f l there. opened.upper_of_solid f l; whole = whole }

@@ -1,15 +1,16 @@
 -- The two caps that close a solid once it is opened along a cycle on a plane: they lie along the plane, and have opposite normals.
-use Rattle.std.proofs.Common.{◌≡◌, ℕ, zero, suc, ◌+◌, ◌≤◌, ◌<◌, true, not, List, [], ◌∷◌, length, Some, unwrap_or, refl, sym, ap, ◌∙◌, arith, inl, inr, ◌++◌, map, reverse, get_or}
+use Rattle.std.proofs.Common.{◌≡◌, ℕ, zero, suc, ◌+◌, ◌≤◌, ◌<◌, true, not, List, [], ◌∷◌, length, Some, unwrap_or, refl, sym, ap, ◌∙◌, arith, inl, inr, map, reverse, get_or}
 use Rattle.std.specs.List.{list_all}
 use Rattle.std.proofs.lemmas.Bool.Decides.{eqb_tells}
 use Rattle.std.proofs.lemmas.Bool.{and_parts}
-use Rattle.euler_operators.specs.Common.{Point, Plane, origin, moved, cross, same_point, direction, is_on, count, IsIn, head_or, canonical, mate, minus, Model, cycle, no_face, tail, content, outer, point_of, rings_of, items_of}
-use Rattle.euler_operators.proofs.Common.{tick_other, from_map, count-reverse, count-canonical, IsIn_head, content_row, mate_there, get-put_here, get-put_other, none_moved, IsIn_rest, IsIn_some_head, IsIn-map}
+use Rattle.euler_operators.specs.Common.{Point, Plane, origin, moved, cross, same_point, direction, is_on, count, IsIn, head_or, canonical, mate, minus, Model, cycle, no_face, tail, content, outer, point_of, rings_of}
+use Rattle.euler_operators.proofs.Common.{tick_other, from_map, count-reverse, count-canonical, IsIn_head, content_row, mate_there, get-put_here, get-put_other, none_moved, IsIn_some_head, IsIn-map}
 use Rattle.euler_operators.specs.Table as table
-use Rattle.shapes.specs.Common.{start, finish, items_in, Taken, numbers_after, next_place, area, normal, anchor, first_vertex, is_plane_of, negated, opened_along}
+use Rattle.shapes.specs.Common.{start, finish, Taken, numbers_after, next_place, area, normal, anchor, first_vertex, is_plane_of, negated, opened_along}
 use Rattle.shapes.proofs.Common.{flat_closed, IsPathTo, IsClosed, cross_moved, cross_nothing, none_left, area_same, area_mates}
 use Rattle.split_opening_laws.specs.strips.Opened.{CanBeOpened}
 use Rattle.split_opening_laws.proofs.strips.Cycle.{next_cases, next_within, half_in, mate_start, place_of}
+pub use Rattle.shapes.proofs.measures.Agreeing.{area_kept}
 pub use Rattle.split_opening_laws.proofs.sections.InTurn.{lower_row, loop_kinds}
 use Rattle.split_opening_laws.proofs.sections.InTurn.{plain_alone, plain_lower, plain_upper}
 use Rattle.split_opening_laws.proofs.sections.OpenedRows.{loops_are, upper_row}
@@ -69,31 +70,6 @@ back_area M N k (h ∷ hs) e = let q = e 0 (omega arith) in λ i. moved (cross (
       let r = e (suc j) (omega (arith, l)) in
       let n : k + 1 + suc j ≡ k + suc (suc j) = omega arith in
       (ap (λ x. start N (minus x)) n ∙ r.0, ap (λ x. finish N (minus x)) n ∙ r.1)
-
-pub area_kept : (M N : Model) (hs : List ℕ) → ((h : ℕ) → IsIn h hs → (start N h ≡ start M h) × (finish N h ≡ finish M h)) → area N hs ≡ area M hs
-area_kept M N [] e = refl
-area_kept M N (h ∷ hs) e = let q = e h (IsIn_head h hs) in λ i. moved (cross (q.0 i) (q.1 i)) (area_kept M N hs (λ x j. e x (IsIn_rest x h hs j)) i)
-
--- ---- two models with the same loops, tails and points
-
-pub record SamePlaces (M N : Model) : Type 0 where
-  pub contents : (l : ℕ) → content N l ≡ content M l
-  pub tails : (h : ℕ) → tail N h ≡ tail M h
-  pub points : (v : ℕ) → point_of N v ≡ point_of M v
-
-module _ (M N : Model) (same : SamePlaces M N) where
-  pub same_start : (h : ℕ) → start N h ≡ start M h
-  same_start h = same.points (tail N h) ∙ ap (point_of M) (same.tails h)
-
-  items_same : (ls : List ℕ) → items_in N ls ≡ items_in M ls
-  items_same [] = refl
-  items_same (l ∷ ls) = λ i. items_of (same.contents l i) ++ items_same ls i
-
-  pub same_area : (ls : List ℕ) → area N (items_in N ls) ≡ area M (items_in M ls)
-  same_area ls = ap (area N) (items_same ls) ∙ area_kept M N (items_in M ls) (λ h i. (same_start h, same_start (mate h)))
-
-  pub same_anchor : (k : ℕ) → outer N k ≡ outer M k → anchor N k ≡ anchor M k
-  same_anchor k e = ap (λ c. point_of N (first_vertex N c)) (same.contents (outer N k) ∙ ap (content M) e) ∙ grind (arith, same_start)
 
 -- ---- vectors and planes
 

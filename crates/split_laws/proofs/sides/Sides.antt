@@ -22,7 +22,7 @@ use Rattle.split_laws.proofs.volumes.Taken.{CanTake}
 use Rattle.split_laws.proofs.volumes.Closed.{closing_carries}
 use Rattle.split_laws.proofs.volumes.Split as split
 use Rattle.std.specs.List.{list_any}
-use Rattle.shapes.proofs.Common.{face_of_loop}
+use Rattle.shapes.proofs.Common.{face_of_loop, replaced_start}
 use Rattle.split_opening_laws.proofs.cycles.Meets.{count_filter}
 use Rattle.split_drawing_laws.specs.face_sides.Lone.{NoLoopIsLone}
 use Rattle.split_drawing_laws.proofs.crossings.Premises.{tail_in_face, solid_facts}
@@ -68,7 +68,7 @@ module _ (M : Model) (above : List ℕ) (s : ℕ) (c : Taken) (bs : List ℕ) (w
                 (along_on N p (c.face + 1) (lower_along M above s c bs w p on) h (subst (λ k. IsIn h (items_of (content N k))) (q.0 ∙ sym (outer_lower M above s c bs w)) i.item))
             | inr q ↦
                 let rewritten = is_rewritten M above s c bs w in
-                let y = kept.started M N new rewritten l q.0 h i.item in
+                let y = replaced_start (kept.replaced M N new rewritten l q.0) h i.item in
                 let face : face_of N l ≡ face_of M l = kept.face_is M N new rewritten l q.0 in
                 let there : Has M.faces (face_of M l) = w.sound.loops_of_faces l q.0 in
                 let old : face_of M l ≢ upper = λ e. true≢false (sym there ∙ ap is_some (ap (table.get M.faces) e ∙ w.free.faces upper (omega arith))) in
@@ -88,7 +88,7 @@ module _ (M : Model) (above : List ℕ) (s : ℕ) (c : Taken) (bs : List ℕ) (w
           | inr q ↦
               let rewritten = is_rewritten M above s c bs w in
               let there : Has M.faces (face_of M l) = w.sound.loops_of_faces l q.0 in
-              none l v (still_lone new (content M l) v (sym (kept.content_is M N new rewritten l q.0) ∙ at)) there
+              none l v (still_lone new (content M l) v (sym (kept.replaced M N new rewritten l q.0).content_is ∙ at)) there
               (sym (kept.solid_is M N new rewritten (face_of M l) there) ∙ ap (solid_of N) (sym (kept.face_is M N new rewritten l q.0)) ∙ of_u)
         ]
       ]
@@ -220,9 +220,9 @@ module _ (M : Model) (p : Plane) (s : ℕ) where
   not_below f n e = grind arith
 
   pub begun_sided : Sound M → ((f : ℕ) → lists (faces_of M s) f ≡ true → straddles M p f ≡ false) → AreSided M p s (faces_above M p s)
-  begun_sided sound none l h i = go (face_is_above M p (face_of M l)) refl where
-    of : lists (faces_of M s) (face_of M l) ≡ true
-    of = passes_listed _ M.faces (face_of M l) _ (face_there M (face_of M l) i.face_there) (eq-eqb (solid_of M (face_of M l)) s i.of_solid)
+  begun_sided sound none l h i = on_its_side (face_is_above M p (face_of M l)) refl where
+    face_listed : lists (faces_of M s) (face_of M l) ≡ true
+    face_listed = passes_listed _ M.faces (face_of M l) _ (face_there M (face_of M l) i.face_there) (eq-eqb (solid_of M (face_of M l)) s i.of_solid)
 
     corner : IsIn (tail M h) (corners M (face_of M l))
     corner = tail_in_face M h l i.loop_there i.item
@@ -231,10 +231,10 @@ module _ (M : Model) (p : Plane) (s : ℕ) where
     unlisted true e q = absurd (true≢false (sym (filter_passes (face_is_above M p) (face_of M l) (faces_of M s) (IsIn-from_listed (face_of M l) (faces_above M p s) e)) ∙ q))
     unlisted false e q = refl
 
-    go : (b : Bool) → face_is_above M p (face_of M l) ≡ b → IsOnSide p (lists (faces_above M p s) (face_of M l)) (start M h)
-    go true e = subst (λ b. IsOnSide p b (start M h)) (sym (listed-from_in (face_of M l) (faces_above M p s) (omega (arith, count_filter (face_is_above M p) (face_of M l) (faces_of M s) e, IsIn-from_listed (face_of M l) (faces_of M s) of))))
-        (none_passes (λ v. is_below p (point_of M v)) (tail M h) (corners M (face_of M l)) (not_below (face_of M l) (none (face_of M l) of) e) corner)
-    go false e = subst (λ b. IsOnSide p b (start M h)) (sym (unlisted (lists (faces_above M p s) (face_of M l)) refl e))
+    on_its_side : (b : Bool) → face_is_above M p (face_of M l) ≡ b → IsOnSide p (lists (faces_above M p s) (face_of M l)) (start M h)
+    on_its_side true e = subst (λ b. IsOnSide p b (start M h)) (sym (listed-from_in (face_of M l) (faces_above M p s) (omega (arith, count_filter (face_is_above M p) (face_of M l) (faces_of M s) e, IsIn-from_listed (face_of M l) (faces_of M s) face_listed))))
+        (none_passes (λ v. is_below p (point_of M v)) (tail M h) (corners M (face_of M l)) (not_below (face_of M l) (none (face_of M l) face_listed) e) corner)
+    on_its_side false e = subst (λ b. IsOnSide p b (start M h)) (sym (unlisted (lists (faces_above M p s) (face_of M l)) refl e))
         (none_passes (λ v. is_above p (point_of M v)) (tail M h) (corners M (face_of M l)) (not_above (face_of M l) e) corner)
 
 -- ---- from the half-edges of a solid to its vertices

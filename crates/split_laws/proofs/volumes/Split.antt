@@ -1,18 +1,18 @@
 -- The six volumes of a solid some of whose faces go to a new solid.
 use Rattle.std.specs.List.{list_any}
 use Rattle.std.proofs.Common.{◌≡◌, ◌≢◌, ℕ, ◌+◌, ◌+ℤ◌, Bool, true, false, cond, not, nat_eq, ◌&&◌, List, [], ◌∷◌, ◌++◌, Option, Some, None, is_some, unwrap_or, refl, sym, ap, ◌∙◌, arith, ◌<◌, length, subst, true≢false, ◌⊎◌, inl, inr, ◌≤◌, option_map, map, filter, ne_eqb, eq-eqb, append-nil}
-use Rattle.euler_operators.specs.Common.{dot, SameItems, count, get-map_rows, Model, FaceRow, no_face, tail, content, outer, point_of, faces_of, solid_of, lists, strictly_rises, part, faces_to_solid, Plane, Has}
+use Rattle.euler_operators.specs.Common.{dot, SameItems, count, get-map_rows, Model, FaceRow, no_face, items_of, mate, tail, content, outer, point_of, faces_of, solid_of, lists, strictly_rises, part, faces_to_solid, Plane, Has}
 use Rattle.euler_operators.specs.Table as table
 use Rattle.euler_operators.proofs.Common.{count-append, IsIn_or_not, solid_row, get-put_here, get-put_other}
 use Rattle.euler_laws.proofs.Common.{solid_either}
-use Rattle.shapes.specs.Common.{start, items_in, loops_of, boundary, area, normal, six_volume, Drawing, is_hole, below_halves, section_cycles, has_stray_hole, Caps, Opening, holes_closed, opened_at, split_drawn}
+use Rattle.shapes.specs.Common.{start, items_in, loops_of, boundary, area, first_vertex, normal, six_volume, Drawing, is_hole, below_halves, section_cycles, has_stray_hole, Caps, Opening, holes_closed, opened_at, split_drawn}
+use Rattle.shapes.proofs.Common.{area_kept, areas_kept, corner_kept}
 use Rattle.gluing_laws.proofs.Listed.{one_if, passed, count_where, same_search, volume_of, volume_append, volume_same, same_volumes}
 use Rattle.split_opening_laws.specs.sections.InTurn.{upper_faces, CanBeOpenedInTurn}
 use Rattle.split_opening_laws.specs.sections.Capped.{cap_faces, HasCaps}
 use Rattle.split_laws.specs.volumes.Laws.{CanBeParted, CanBeSplit}
 use Rattle.split_laws.specs.volumes.Closing.{CanClose}
 use Rattle.split_laws.specs.SplitOps.{hole_ops}
-use Rattle.split_laws.proofs.opened.Caps.{SamePlaces, same_start, same_area, same_anchor}
 use Rattle.split_laws.proofs.volumes.Closed.{closing_keeps}
 use Rattle.split_laws.proofs.opened.InTurn.{some_way, openings_keep, openings_lie}
 use Rattle.split_laws.proofs.Flags.{flags_are, one_outer, solids_still}
@@ -31,12 +31,15 @@ module _ (M : Model) (s t : ℕ) (fs : List ℕ) where
   abbrev N : Model
   N = part M s t fs
 
-  abbrev pub go : ℕ → FaceRow → FaceRow
-  go = faces_to_solid (λ f _. lists fs f) t
+  abbrev pub to_new : ℕ → FaceRow → FaceRow
+  to_new = faces_to_solid (λ f _. lists fs f) t
 
-  pub row_is : (k : ℕ) → table.get N.faces k ≡ option_map (go k) (table.get M.faces k)
+  abbrev pub go : ℕ → FaceRow → FaceRow
+  go = to_new
+
+  pub row_is : (k : ℕ) → table.get N.faces k ≡ option_map (to_new k) (table.get M.faces k)
   unfolding part
-  row_is k = get-map_rows go M.faces k
+  row_is k = get-map_rows to_new M.faces k
 
   -- ---- loops and points stay
 
@@ -44,12 +47,13 @@ module _ (M : Model) (s t : ℕ) (fs : List ℕ) where
   unfolding part content
   content_same l = refl
 
-  places : SamePlaces M N
-  unfolding part tail point_of
-  places = record { contents = content_same; tails = λ h. refl; points = λ v. refl }
-
   pub start_same : (h : ℕ) → start N h ≡ start M h
-  start_same = same_start M N places
+  unfolding part tail point_of
+  start_same h = refl
+
+  point_same : (v : ℕ) → point_of N v ≡ point_of M v
+  unfolding part point_of
+  point_same v = refl
 
   -- ---- so each face adds what it did
 
@@ -57,7 +61,7 @@ module _ (M : Model) (s t : ℕ) (fs : List ℕ) where
   outer_either true row = refl
   outer_either false row = refl
 
-  outer_in : (k : ℕ) (o : Option FaceRow) → (unwrap_or (option_map (go k) o) no_face).outer ≡ (unwrap_or o no_face).outer
+  outer_in : (k : ℕ) (o : Option FaceRow) → (unwrap_or (option_map (to_new k) o) no_face).outer ≡ (unwrap_or o no_face).outer
   outer_in k None = refl
   outer_in k (Some row) = outer_either (lists fs k) row
 
@@ -71,10 +75,10 @@ module _ (M : Model) (s t : ℕ) (fs : List ℕ) where
 
   pub normal_same : (k : ℕ) → normal N k ≡ normal M k
   unfolding normal boundary
-  normal_same k = ap (λ ls. area N (items_in N ls)) (loops_same k) ∙ same_area M N places (loops_of M k)
+  normal_same k = ap (λ ls. area N (items_in N ls)) (loops_same k) ∙ areas_kept M N (loops_of M k) (λ l i. ap (λ c. area N (items_of c)) (content_same l) ∙ area_kept M N (items_of (content M l)) (λ h j. (start_same h, start_same (mate h))))
 
   volume_kept : (k : ℕ) → volume_of N k ≡ volume_of M k
-  volume_kept k = λ i. dot (same_anchor M N places k (outer_same k) i) (normal_same k i)
+  volume_kept k = λ i. dot ((ap (λ c. point_of N (first_vertex N c)) (content_same (outer N k) ∙ ap (content M) (outer_same k)) ∙ corner_kept M N (content M (outer M k)) start_same point_same) i) (normal_same k i)
 
   -- ---- which faces go
 
@@ -82,10 +86,10 @@ module _ (M : Model) (s t : ℕ) (fs : List ℕ) where
     abbrev of : ℕ → ℕ → FaceRow → Bool
     of u k row = nat_eq row.solid u
 
-    shared_row : (k : ℕ) (o : Option FaceRow) → table.get M.faces k ≡ o → passed (of s) k (option_map (go k) o) + passed (of t) k (option_map (go k) o) ≡ passed (of s) k o
+    shared_row : (k : ℕ) (o : Option FaceRow) → table.get M.faces k ≡ o → passed (of s) k (option_map (to_new k) o) + passed (of t) k (option_map (to_new k) o) ≡ passed (of s) k o
     shared_row k o e = grind (arith, one_if, solid_either, one_of_two, solid_row)
 
-    other_row : (u : ℕ) → u ≢ s → u ≢ t → (k : ℕ) (o : Option FaceRow) → table.get M.faces k ≡ o → passed (of u) k (option_map (go k) o) ≡ passed (of u) k o
+    other_row : (u : ℕ) → u ≢ s → u ≢ t → (k : ℕ) (o : Option FaceRow) → table.get M.faces k ≡ o → passed (of u) k (option_map (to_new k) o) ≡ passed (of u) k o
     other_row u e f k o g = grind (arith, one_if, solid_either, of_another, solid_row)
 
     both_faces : SameItems (faces_of M s) (faces_of N s ++ faces_of N t)
@@ -109,10 +113,10 @@ part_keeps M s t fs u w not_s not_t = keeps M s t fs w u not_s not_t
 
 closable_of : (M : Model) (p : Plane) (cs : List (List ℕ)) (ks : List Caps) → map (λ k. k.hole) ks ≡ map (is_hole M p) cs → has_stray_hole M p cs ≡ false →
     (list_any (λ k. not k.hole) ks ≡ true) ⊎ (filter (λ k. k.hole) ks ≡ [])
-closable_of M p cs ks same e = go (filter (λ k. k.hole) ks) refl where
-  go : (hs : List Caps) → filter (λ k. k.hole) ks ≡ hs → (list_any (λ k. not k.hole) ks ≡ true) ⊎ (filter (λ k. k.hole) ks ≡ [])
-  go [] is = inr is
-  go (h ∷ hs) is = inl (some_other ks (omega (arith, one_outer M p cs ks same e (subst (λ xs. 0 < length xs) (sym is) (omega arith)))))
+closable_of M p cs ks same e = any_closable (filter (λ k. k.hole) ks) refl where
+  any_closable : (hs : List Caps) → filter (λ k. k.hole) ks ≡ hs → (list_any (λ k. not k.hole) ks ≡ true) ⊎ (filter (λ k. k.hole) ks ≡ [])
+  any_closable [] is = inr is
+  any_closable (h ∷ hs) is = inl (some_other ks (omega (arith, one_outer M p cs ks same e (subst (λ xs. 0 < length xs) (sym is) (omega arith)))))
 
 -- ---- the parts
 

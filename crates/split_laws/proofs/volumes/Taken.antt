@@ -1,17 +1,17 @@
 -- A cap that becomes a ring of another cap on the same plane: their normals add up, and so do what they add to the six volumes.
 use Rattle.std.proofs.Common.{◌≡◌, ◌≢◌, ℕ, ◌+◌, ℤ, ◌+ℤ◌, Bool, cond, not, nat_eq, ◌&&◌, List, [], ◌∷◌, ◌++◌, Option, Some, None, is_some, refl, sym, ap, ◌∙◌, arith, true≢false, inl, inr, option_map, ne_eqb, eq-eqb}
 use Rattle.std.proofs.lemmas.Bool.Decides.{eqb_tells}
-use Rattle.euler_operators.specs.Common.{Plane, origin, moved, dot, cross, direction, is_on, count, tick, IsIn, SameItems, get-map_rows, Model, FaceRow, LoopRow, items_of, tail, content, face_of, outer, solid_of, point_of, rings_of, faces_of, Has, kfmrh, loop_to_face}
+use Rattle.euler_operators.specs.Common.{Plane, origin, moved, dot, cross, direction, is_on, count, tick, IsIn, mate, SameItems, get-map_rows, Model, FaceRow, LoopRow, items_of, tail, content, face_of, outer, solid_of, point_of, rings_of, faces_of, Has, kfmrh, loop_to_face}
 use Rattle.euler_operators.specs.Items.{before, after}
 use Rattle.euler_operators.proofs.Common.{count-append, tick_same, tick_other, split_at, face_row, dot_turned, dot_moved, none_moved, add_exchanged, add_assoc, count_taken}
 use Rattle.euler_operators.specs.Table as table
 use Rattle.euler_laws.proofs.Common.{no_items, face_there, FaceSet, row_here, row_other, outer_other, solid_other, LoopMoves, face_moved, face_kept, walks_same}
-use Rattle.shapes.specs.Common.{start, items_in, loops_of, boundary, area, normal, volume_in, six_volume}
-use Rattle.shapes.proofs.Common.{area-append, told_alike, cross_moved, area_same, items_joined}
-use Rattle.gluing_laws.proofs.Listed.{one_if, passed, count_where, same_search, volume_of, volume_same}
+use Rattle.shapes.specs.Common.{start, items_in, loops_of, boundary, anchor, area, first_vertex, normal, volume_in, six_volume}
+use Rattle.shapes.proofs.Common.{AgreeOn, area-append, area_kept, areas_kept, corner_kept, told_alike, cross_moved, area_same, items_joined, normal_agrees, rings_agree}
+use Rattle.gluing_laws.proofs.Listed.{one_if, passed, count_where, volume_of, volume_same}
 use Rattle.gluing_laws.proofs.Measures.{only_loop}
 use Rattle.split_laws.specs.opened.Told.{LiesAlong, OutersAreOwn}
-use Rattle.split_laws.proofs.opened.Caps.{anchor_along, SamePlaces, same_start, same_area, same_anchor}
+use Rattle.split_laws.proofs.opened.Caps.{anchor_along}
 
 -- ---- lists of loops, and of faces
 
@@ -99,12 +99,16 @@ module _ (M : Model) (p : Plane) (f g : ℕ) (w : CanTake M p f g) where
   pub face_taken : (l : ℕ) → Has M.loops l → l ≡ outer M g → face_of N l ≡ f
   face_taken l there e = ap (face_of N) e ∙ face_moved moves
 
-  places : SamePlaces M N
-  unfolding kfmrh tail point_of
-  places = record { contents = content_same; tails = λ h. refl; points = λ v. refl }
-
   pub start_same : (h : ℕ) → start N h ≡ start M h
-  start_same = same_start M N places
+  unfolding kfmrh tail point_of
+  start_same h = refl
+
+  point_same : (v : ℕ) → point_of N v ≡ point_of M v
+  unfolding kfmrh point_of
+  point_same v = refl
+
+  loop_area : (l : ℕ) → area N (items_of (content N l)) ≡ area M (items_of (content M l))
+  loop_area l = ap (λ c. area N (items_of c)) (content_same l) ∙ area_kept M N (items_of (content M l)) (λ h i. (start_same h, start_same (mate h)))
 
   pub outer_same : (k : ℕ) → k ≢ g → outer N k ≡ outer M k
   outer_same = outer_other taken_faces
@@ -112,7 +116,26 @@ module _ (M : Model) (p : Plane) (f g : ℕ) (w : CanTake M p f g) where
   pub solid_same : (k : ℕ) → k ≢ g → solid_of N k ≡ solid_of M k
   solid_same = solid_other taken_faces
 
-  -- ---- rings
+  -- ---- faces that are neither keep their loops
+
+  agree : (k : ℕ) → k ≢ f → k ≢ g → AgreeOn M N k
+  agree k not_f not_g = record {
+    outer_is = outer_same k not_g;
+    stay = λ l was of. (loop_there l ∙ was, face_else l was (λ e. not_g (sym of ∙ ap (face_of M) e ∙ (w.outers g w.g_there).1)) ∙ of);
+    back = λ l has of. let was = sym (loop_there l) ∙ has in elim (eqb_tells l (outer M g)) [
+      | inl e ↦ absurd (not_f (sym of ∙ face_taken l was e.1))
+      | inr e ↦ (was, sym (face_else l was e.1) ∙ of)
+    ];
+    areas = λ l i. loop_area l;
+  }
+
+  pub rings_same : (k : ℕ) → k ≢ f → k ≢ g → rings_of N k ≡ rings_of M k
+  rings_same k not_f not_g = rings_agree (agree k not_f not_g)
+
+  pub normal_same : (k : ℕ) → k ≢ f → k ≢ g → normal N k ≡ normal M k
+  normal_same k not_f not_g = normal_agrees (agree k not_f not_g)
+
+  -- ---- the rings of f
 
   abbrev ring_before : ℕ → ℕ → LoopRow → Bool
   ring_before k l row = nat_eq row.face k && not (nat_eq (outer M k) l)
@@ -126,16 +149,6 @@ module _ (M : Model) (p : Plane) (f g : ℕ) (w : CanTake M p f g) where
   else_ring : (k l : ℕ) (row : LoopRow) → k ≢ g → l ≢ outer M g → passed (ring_after k) l (Some (loop_to_face (outer M g) f l row)) ≡ passed (ring_before k) l (Some row)
   else_ring k l row ne away = ap (λ b. one_if (ring_after k l (cond b (record row { face = f }) row))) (ne_eqb l (outer M g) away) ∙ ap (λ o. one_if (nat_eq row.face k && not (nat_eq o l))) (outer_same k ne)
 
-  same_ring : (k : ℕ) → k ≢ f → k ≢ g → (l : ℕ) (o : Option LoopRow) → table.get M.loops l ≡ o → passed (ring_after k) l (option_map (loop_to_face (outer M g) f l) o) ≡ passed (ring_before k) l o
-  same_ring k not_f not_g l None e = refl
-  same_ring k not_f not_g l (Some row) e = elim (eqb_tells l (outer M g)) [
-    | inl q ↦ grind (arith, one_if, ne_eqb, row_of_g)
-    | inr q ↦ else_ring k l row not_g q.1
-  ]
-
-  pub rings_same : (k : ℕ) → k ≢ f → k ≢ g → rings_of N k ≡ rings_of M k
-  rings_same k not_f not_g = same_search (ring_after k) (ring_before k) N.loops M.loops (λ l. ap (passed (ring_after k) l) (row_is l) ∙ same_ring k not_f not_g l (table.get M.loops l) refl)
-
   not_outer_f : outer M f ≢ outer M g
   not_outer_f e = w.apart (sym (w.outers f w.f_there).1 ∙ ap (face_of M) e ∙ (w.outers g w.g_there).1)
 
@@ -147,16 +160,12 @@ module _ (M : Model) (p : Plane) (f g : ℕ) (w : CanTake M p f g) where
 
   -- ---- normals
 
-  pub normal_same : (k : ℕ) → k ≢ f → k ≢ g → normal N k ≡ normal M k
-  unfolding normal boundary loops_of
-  normal_same k not_f not_g = (λ i. area N (items_in N (outer_same k not_g i ∷ rings_same k not_f not_g i))) ∙ same_area M N places (outer M k ∷ rings_of M k)
-
   normal_g : normal M g ≡ area M (items_of (content M (outer M g)))
   normal_g = only_loop M g w.g_along.items w.alone w.g_along.outer_is ∙ sym (ap (λ c. area M (items_of c)) w.g_along.outer_is)
 
   pub normal_f : normal N f ≡ moved (normal M g) (normal M f)
   unfolding normal boundary loops_of
-  normal_f = (λ i. area N (items_in N (outer_same f w.apart i ∷ rings_of N f))) ∙ same_area M N places (outer M f ∷ rings_of N f)
+  normal_f = (λ i. area N (items_in N (outer_same f w.apart i ∷ rings_of N f))) ∙ areas_kept M N (outer M f ∷ rings_of N f) (λ l i. loop_area l)
       ∙ area_same M (items_in M (outer M f ∷ rings_of N f)) (items_in M (outer M g ∷ outer M f ∷ rings_of M f))
       (same_loops M (outer M f ∷ rings_of N f) (outer M g ∷ outer M f ∷ rings_of M f) (λ x. omega (arith, rings_more x)))
       ∙ area-append M (items_of (content M (outer M g))) (items_in M (outer M f ∷ rings_of M f))
@@ -164,11 +173,14 @@ module _ (M : Model) (p : Plane) (f g : ℕ) (w : CanTake M p f g) where
 
   -- ---- volumes
 
+  anchor_same : (k : ℕ) → k ≢ g → anchor N k ≡ anchor M k
+  anchor_same k ne = ap (λ c. point_of N (first_vertex N c)) (content_same (outer N k) ∙ ap (content M) (outer_same k ne)) ∙ corner_kept M N (content M (outer M k)) start_same point_same
+
   pub volume_other : (k : ℕ) → k ≢ f → k ≢ g → volume_of N k ≡ volume_of M k
-  volume_other k not_f not_g = λ i. dot (same_anchor M N places k (outer_same k not_g) i) (normal_same k not_f not_g i)
+  volume_other k not_f not_g = λ i. dot (anchor_same k not_g i) (normal_same k not_f not_g i)
 
   volume_f : volume_of N f ≡ volume_of M g +ℤ volume_of M f
-  volume_f = grind (arith, places, outer_same, normal_f, dot_turned, dot_moved, told_alike, anchor_along)
+  volume_f = grind (arith, anchor_same, normal_f, dot_turned, dot_moved, told_alike, anchor_along)
 
   abbrev of : ℕ → ℕ → FaceRow → Bool
   of u k row = nat_eq row.solid u

@@ -293,13 +293,13 @@ module _ (M : Model) (above : List ℕ) (s : ℕ) (c : Taken) (bs : List ℕ) (w
     rise_stays : nat_lt 0 (count (plus (copy_riser c bs j)) moved) ≡ false
     rise_stays = stays (plus (copy_riser c bs j)) (raised.strip_side M above s c bs w i sound j (plus (copy_riser c bs j)) (omega arith) (raised.rise_in M above s c bs w i sound j less)) (other (plus (copy_riser c bs j)) (plus_row (copy_riser c bs j)).0)
 
-    at : next_place m (place_before m j) ≡ j
-    at = next-before m j (omega arith)
+    place_next : next_place m (place_before m j) ≡ j
+    place_next = next-before m j (omega arith)
 
     fall_stays : nat_lt 0 (count (minus (copy_riser c bs j)) moved) ≡ false
     fall_stays = stays (minus (copy_riser c bs j))
         (raised.strip_side M above s c bs w i sound (place_before m j) (minus (copy_riser c bs j)) (before_below m j (omega arith))
-        (subst (λ q. IsIn (minus (copy_riser c bs q)) (raised_items c bs i (place_before m j))) at (raised.fall_in M above s c bs w i sound (place_before m j) (subst (λ q. q < i) (sym at) less))))
+        (subst (λ q. IsIn (minus (copy_riser c bs q)) (raised_items c bs i (place_before m j))) place_next (raised.fall_in M above s c bs w i sound (place_before m j) (subst (λ q. q < i) (sym place_next) less))))
         (other (minus (copy_riser c bs j)) (minus_row (copy_riser c bs j)).0)
 
   pub edges_next : table.put (table.map_rows (with_tails moved y) N.edges) (edge_of (plus u)) (edge_row (plus u) (tail N g) y) ≡ (copies_raised M above s c bs (suc i)).edges

@@ -56,9 +56,9 @@ module _ (M : Model) (above : List ℕ) where
   -- ---- those of some edges
 
   flat_passes : (x : ℕ) (es : List ℕ) → is_below x ≡ true → count x (flat_map (below_half M above) es) ≡ count (edge_of x) es
-  flat_passes x es t = count_flat (below_half M above) x es ∙ total_same (λ e. count x (below_half M above e)) (λ e. tick e (edge_of x)) es (λ e i. at e) ∙ total_ticks (edge_of x) es where
-    at : (e : ℕ) → count x (below_half M above e) ≡ tick e (edge_of x)
-    at e = elim (eqb_tells (edge_of x) e) [
+  flat_passes x es t = count_flat (below_half M above) x es ∙ total_same (λ e. count x (below_half M above e)) (λ e. tick e (edge_of x)) es (λ e i. half_counted e) ∙ total_ticks (edge_of x) es where
+    half_counted : (e : ℕ) → count x (below_half M above e) ≡ tick e (edge_of x)
+    half_counted e = elim (eqb_tells (edge_of x) e) [
       | inl s ↦ ap (λ n. count x (below_half M above n)) (sym s.1) ∙ own_edge x ∙ ap bit t ∙ sym (ap (λ n. tick n (edge_of x)) (sym s.1) ∙ tick_same (edge_of x))
       | inr s ↦ other_edge x e s.1 ∙ sym (tick_other e (edge_of x) (λ q. s.1 (sym q)))
     ]

@@ -17,10 +17,10 @@ use Rattle.split_opening_laws.proofs.cycles.Orbits.{around, around_is, around_ri
 -- where a number of the list passes, the first one that does is found
 first_found : (p : ℕ → Bool) (ns : List ℕ) (n : ℕ) → IsIn n ns → p n ≡ true → IsIn (unwrap_or (first_such p ns) 0) ns × (p (unwrap_or (first_such p ns) 0) ≡ true)
 first_found p [] n i t = absurd (omega arith)
-first_found p (m ∷ ms) n i t = go (p m) refl (λ j. first_found p ms n j t) where
-  go : (b : Bool) → p m ≡ b → (IsIn n ms → IsIn (unwrap_or (first_such p ms) 0) ms × (p (unwrap_or (first_such p ms) 0) ≡ true)) → IsIn (unwrap_or (cond b (Some m) (first_such p ms)) 0) (m ∷ ms) × (p (unwrap_or (cond b (Some m) (first_such p ms)) 0) ≡ true)
-  go true e later = (omega (arith, tick_same m), e)
-  go false e later = elim (eqb_tells n m) [
+first_found p (m ∷ ms) n i t = first_or_later (p m) refl (λ j. first_found p ms n j t) where
+  first_or_later : (b : Bool) → p m ≡ b → (IsIn n ms → IsIn (unwrap_or (first_such p ms) 0) ms × (p (unwrap_or (first_such p ms) 0) ≡ true)) → IsIn (unwrap_or (cond b (Some m) (first_such p ms)) 0) (m ∷ ms) × (p (unwrap_or (cond b (Some m) (first_such p ms)) 0) ≡ true)
+  first_or_later true e later = (omega (arith, tick_same m), e)
+  first_or_later false e later = elim (eqb_tells n m) [
     | inl s ↦ absurd (true≢false (sym t ∙ ap p s.1 ∙ e))
     | inr s ↦ let r = later (omega (arith, i, tick_other n m s.1)) in (omega (arith, r.0), r.1)
   ]
@@ -154,7 +154,7 @@ module _ (M : Model) (above : List ℕ) (s : ℕ) (sound : Sound M) (faces : Are
         later (inr z) more j = omega (arith, z, j)
 
     crossing : (h c : ℕ) → HasHalf M h → IsIn c (b ∷ others) → tail M h ≡ tail M c → lists above (face_at M h) ≢ lists above (face_at M (mate h)) → IsIn h (b ∷ others) ⊎ IsIn (mate h) (b ∷ others)
-    crossing h c t j e ne = go (lists above (face_at M h)) refl (lists above (face_at M (mate h))) refl where
+    crossing h c t j e ne = sides_differ (lists above (face_at M h)) refl (lists above (face_at M (mate h))) refl where
       starts : IsIn h halves → h ≡ c
       starts k = known_by (tail M) halves (starts_apart) h c k (within c j) e
 
@@ -162,11 +162,11 @@ module _ (M : Model) (above : List ℕ) (s : ℕ) (sound : Sound M) (faces : Are
       finishes k a l n = known_by (λ x. tail M (mate x)) halves (finishes_apart) (mate h) a k (within a l)
           (ap (tail M) (mate-mate h) ∙ e ∙ ap (tail M) (sym n) ∙ next_starts a (within a l))
 
-      go : (x : Bool) → lists above (face_at M h) ≡ x → (y : Bool) → lists above (face_at M (mate h)) ≡ y → IsIn h (b ∷ others) ⊎ IsIn (mate h) (b ∷ others)
-      go true p true q = absurd (ne (p ∙ sym q))
-      go false p false q = absurd (ne (p ∙ sym q))
-      go false p true q = inl (subst (λ x. IsIn x (b ∷ others)) (sym (starts (is_half M above s sound faces h t p q))) j)
-      go true p false q =
+      sides_differ : (x : Bool) → lists above (face_at M h) ≡ x → (y : Bool) → lists above (face_at M (mate h)) ≡ y → IsIn h (b ∷ others) ⊎ IsIn (mate h) (b ∷ others)
+      sides_differ true p true q = absurd (ne (p ∙ sym q))
+      sides_differ false p false q = absurd (ne (p ∙ sym q))
+      sides_differ false p true q = inl (subst (λ x. IsIn x (b ∷ others)) (sym (starts (is_half M above s sound faces h t p q))) j)
+      sides_differ true p false q =
           let r = back c j in
           inr (subst (λ x. IsIn x (b ∷ others)) (sym (finishes (is_half M above s sound faces (mate h) (mate_there M h t) q (ap (λ x. lists above (face_at M x)) (mate-mate h) ∙ p)) r.0 r.1 r.2)) r.1)
 

@@ -166,13 +166,13 @@ module _ (M : Model) (above : List ℕ) (s : ℕ) (c : Taken) (bs : List ℕ) wh
 
     -- it starts where it did, or at a copy
     pub tail_cases : (h : ℕ) → HasHalf M h → (tail opened h ≡ tail M h) ⊎ (c.vertex < tail opened h)
-    tail_cases h there = go (lists above (face_at M h) && not (lists mates h)) (tail_is h there) where
-      go : (b : Bool) → tail opened h ≡ cond b (renamed copies (tail M h)) (tail M h) → (tail opened h ≡ tail M h) ⊎ (c.vertex < tail opened h)
-      go true e = elim (renamed_one (map (tail M) bs) (numbers_after c.vertex m) (tail M h)) [
+    tail_cases h there = either_tail (lists above (face_at M h) && not (lists mates h)) (tail_is h there) where
+      either_tail : (b : Bool) → tail opened h ≡ cond b (renamed copies (tail M h)) (tail M h) → (tail opened h ≡ tail M h) ⊎ (c.vertex < tail opened h)
+      either_tail true e = elim (renamed_one (map (tail M) bs) (numbers_after c.vertex m) (tail M h)) [
         | inl k ↦ inl (e ∙ k)
         | inr i ↦ inr (subst (λ n. c.vertex < n) (sym e) (in_numbers c.vertex m (renamed copies (tail M h)) i).0)
       ]
-      go false e = inl e
+      either_tail false e = inl e
 
     -- where no half of the cycle starts, it starts where it did
     pub tail_kept : (h : ℕ) → HasHalf M h → count (tail M h) (map (tail M) bs) ≡ 0 → tail opened h ≡ tail M h
