@@ -186,12 +186,12 @@ module _ {M N : Model} {h : ℕ} (sound : Sound M) (less : OneLess M N h) where
           | inr d ↦ elim d [ inl a ↦ alone_there M sound h less.there a.2 x o.0 o.1 (sym s ∙ a.1) | inr a ↦ bare_w a.2 x o.0 o.1 (sym s ∙ a.1) ]
         ]
 
-    on : (v : ℕ) → Has M.vertices v → Has N.vertices v
-    on v there = subst (λ y. Has y v) (sym old.vertices) there
+    vertex_stays : (v : ℕ) → Has M.vertices v → Has N.vertices v
+    vertex_stays v there = subst (λ y. Has y v) (sym old.vertices) there
 
     pub vertices_hold-less : VerticesHold N
     vertices_hold-less = record {
-      tails_there = λ x there. let o = half_cases less x there in subst (Has N.vertices) (sym (tail_old less x o.1)) (on _ (sound.tails_there x o.0));
+      tails_there = λ x there. let o = half_cases less x there in subst (Has N.vertices) (sym (tail_old less x o.1)) (vertex_stays _ (sound.tails_there x o.0));
       ends_differ = grind (arith, half_cases less, sound.ends_differ, tail_old less, mate_edge_apart);
       lone_or_tail = λ v there. elim (sound.lone_or_tail v (subst (λ y. Has y v) old.vertices there)) [
         | inl a ↦ inl (a.0, old.lone_on a.0 v a.1)
@@ -199,7 +199,7 @@ module _ {M N : Model} {h : ℕ} (sound : Sound M) (less : OneLess M N h) where
       ];
       lone_is_no_tail = lone_is_no_tail-less;
       one_lone = one_lone-less;
-      lone_at_vertex = λ p v a. on v (elim (old.lone_back p v a) [
+      lone_at_vertex = λ p v a. vertex_stays v (elim (old.lone_back p v a) [
         | inl o ↦ sound.lone_at_vertex p v o
         | inr d ↦ elim d [ inl o ↦ subst (Has M.vertices) (sym o.1) (sound.tails_there h less.there) | inr o ↦ subst (Has M.vertices) (sym o.1) (sound.tails_there m m_there) ]
       ]);

@@ -157,10 +157,10 @@ module _ {M N : Model} {l f : ℕ} (moves : LoopMoves M N l f) where
 -- a loop that goes to another face, and home again
 pub loop_home : (M : Model) (l f g : ℕ) → face_of M l ≡ g → map_rows (loop_to_face l g) (map_rows (loop_to_face l f) M.loops) ≡ M.loops
 loop_home M l f g e = map_twice (loop_to_face l g) (loop_to_face l f) M.loops
-    ∙ map_same _ M.loops (λ q row at. go row (nat_eq q l) (λ t. sym (face_row M q row at) ∙ ap (face_of M) (eqb-true q l t) ∙ e)) where
-      go : (row : LoopRow) (b : Bool) → (b ≡ true → row.face ≡ g) → cond b (record (cond b (record row { face = f }) row) { face = g }) (cond b (record row { face = f }) row) ≡ row
-      go row true h = λ i. record { face = sym (h refl) i; content = row.content }
-      go row false h = refl
+    ∙ map_same _ M.loops (λ q row at. row_home row (nat_eq q l) (λ t. sym (face_row M q row at) ∙ ap (face_of M) (eqb-true q l t) ∙ e)) where
+      row_home : (row : LoopRow) (b : Bool) → (b ≡ true → row.face ≡ g) → cond b (record (cond b (record row { face = f }) row) { face = g }) (cond b (record row { face = f }) row) ≡ row
+      row_home row true h = λ i. record { face = sym (h refl) i; content = row.content }
+      row_home row false h = refl
 
 -- ---- a face gets another outer loop
 
@@ -194,7 +194,7 @@ module _ {M N : Model} {p l : ℕ} (set : OuterSet M N p l) where
 -- and its old one back
 pub outer_home : (M : Model) (p l o : ℕ) → outer M p ≡ o → map_rows (face_to_outer p o) (map_rows (face_to_outer p l) M.faces) ≡ M.faces
 outer_home M p l o e = map_twice (face_to_outer p o) (face_to_outer p l) M.faces
-    ∙ map_same _ M.faces (λ q row at. go row (nat_eq q p) (λ t. sym (outer_row M q row at) ∙ ap (outer M) (eqb-true q p t) ∙ e)) where
-      go : (row : FaceRow) (b : Bool) → (b ≡ true → row.outer ≡ o) → cond b (record (cond b (record row { outer = l }) row) { outer = o }) (cond b (record row { outer = l }) row) ≡ row
-      go row true h = λ i. record { solid = row.solid; outer = sym (h refl) i }
-      go row false h = refl
+    ∙ map_same _ M.faces (λ q row at. row_home row (nat_eq q p) (λ t. sym (outer_row M q row at) ∙ ap (outer M) (eqb-true q p t) ∙ e)) where
+      row_home : (row : FaceRow) (b : Bool) → (b ≡ true → row.outer ≡ o) → cond b (record (cond b (record row { outer = l }) row) { outer = o }) (cond b (record row { outer = l }) row) ≡ row
+      row_home row true h = λ i. record { solid = row.solid; outer = sym (h refl) i }
+      row_home row false h = refl
