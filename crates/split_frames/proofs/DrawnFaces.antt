@@ -86,13 +86,13 @@ module _ (B : Model) (fs : List ℕ) (was : (f : ℕ) → IsIn f fs → Has B.fa
   spread_on X Y f i sound drawn w a = record {
     there = λ g has. w.there g (a.there g has);
     olds = λ g has t on. w.olds g (a.there g has) t (a.olds g has t on);
-    news = λ g has none. go g has none (table.has X.faces g) refl;
+    news = λ g has none. new_comes g has none (table.has X.faces g) refl;
     old_halves = λ h has. drawn.stays.halves h (a.old_halves h has);
     halves = λ h has. moved_on X Y f sound drawn w a h has;
   } where
-    go : (g : ℕ) → Has Y.faces g → table.get B.faces g ≡ None → (b : Bool) → table.has X.faces g ≡ b → Comes B Y fs g
-    go g has none true e = let c = a.news g e none in record { face = c.face; listed = c.listed; on = λ t on. w.olds g e t (c.on t on) }
-    go g has none false e = record { face = f; listed = i; on = λ t on. w.news g has (no_row (table.get X.faces g) e) t (a.olds f (was f i).0 t on) }
+    new_comes : (g : ℕ) → Has Y.faces g → table.get B.faces g ≡ None → (b : Bool) → table.has X.faces g ≡ b → Comes B Y fs g
+    new_comes g has none true e = let c = a.news g e none in record { face = c.face; listed = c.listed; on = λ t on. w.olds g e t (c.on t on) }
+    new_comes g has none false e = record { face = f; listed = i; on = λ t on. w.news g has (no_row (table.get X.faces g) e) t (a.olds f (was f i).0 t on) }
 
   all_spread : (p : Plane) (d : Drawing) (qs : List FacePairs) (n : ℕ) → Drawable d qs n → ((f : ℕ) → IsIn f (map (λ q. q.face) qs) → IsIn f fs) → Spread B d.model fs → Spread B (fold (next_drawn p) d qs).model fs
   all_spread p d [] n w inside a = a

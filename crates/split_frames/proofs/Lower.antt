@@ -94,10 +94,10 @@ module _ (Low : ℕ → Type 0) (p : Plane) (f : ℕ) (q : ℕ × ℕ) (qs : Lis
   }
 
   free_low : LowIn Low (ring_free f (q ∷ qs) (all_joined (q ∷ qs) d)).model f × AllLow Low (ring_free f (q ∷ qs) (all_joined (q ∷ qs) d)).left
-  free_low = go stops where
-    go : (b : Bool) → LowIn Low (cond b (stuck_at f J) J).model f × AllLow Low (cond b (stuck_at f J) J).left
-    go true = (joined_low, left_low)
-    go false = (joined_low, left_low)
+  free_low = either_way stops where
+    either_way : (b : Bool) → LowIn Low (cond b (stuck_at f J) J).model f × AllLow Low (cond b (stuck_at f J) J).left
+    either_way true = (joined_low, left_low)
+    either_way false = (joined_low, left_low)
 
   drawn_low : LowIn Low L.model f
   drawn_low = (draws_keep d.model f (λ x rs. LowIn Low x.model f × AllLow Low rs) w.sound (λ x r rs m fits v e a. (a.0, a.1.1))
@@ -105,10 +105,10 @@ module _ (Low : ℕ → Type 0) (p : Plane) (f : ℕ) (q : ℕ × ℕ) (qs : Lis
       R R.left n (fitting_on d.model f f stops J (joins p f (q ∷ qs) d n w).state.pairs) (going_on d.model f n stops J (going p f (q ∷ qs) d n w)) free_low).0
 
   many_low : nat_eq (length (q ∷ qs)) 1 ≡ false → LowIn Low (drawn_between p f (q ∷ qs) d).model f
-  many_low e = go (nat_eq (length (q ∷ qs)) 1) e where
-    go : (b : Bool) → b ≡ false → LowIn Low (cond b (record L { model = with_rings L.model (rings_above L.model p f) L.taken.face }) L).model f
-    go true e = absurd (true≢false e)
-    go false e = drawn_low
+  many_low e = not_one (nat_eq (length (q ∷ qs)) 1) e where
+    not_one : (b : Bool) → b ≡ false → LowIn Low (cond b (record L { model = with_rings L.model (rings_above L.model p f) L.taken.face }) L).model f
+    not_one true e = absurd (true≢false e)
+    not_one false e = drawn_low
 
 -- ---- a face drawn between one pair, of its outer loop: the rings above go to the new face
 

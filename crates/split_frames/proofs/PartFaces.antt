@@ -4,12 +4,12 @@ use Rattle.std.proofs.Common.{◌≡◌, ◌≢◌, ℕ, ◌+◌, ◌≤◌, Boo
 use Rattle.std.proofs.lemmas.Bool.{false_from_ne_true}
 use Rattle.std.proofs.lemmas.Grind.{flat_map-append}
 use Rattle.std.proofs.lemmas.List.{map-append}
-use Rattle.euler_operators.specs.Common.{Plane, Point, direction, dot, is_above, is_below, count, head_or, IsIn, canonical, edge_of, mate, plus, Model, FaceRow, LoopContent, content, cycle, face_of, faces_of, items_of, lone, outer, point_of, rings_of, solid_of, tail, Sound, Has, face_at, lists, kfmrh, part}
+use Rattle.euler_operators.specs.Common.{Plane, Point, direction, dot, is_above, is_below, count, head_or, IsIn, edge_of, mate, plus, Model, FaceRow, LoopContent, content, cycle, face_of, faces_of, items_of, lone, outer, point_of, rings_of, solid_of, tail, Sound, Has, face_at, lists, kfmrh, part}
 use Rattle.euler_operators.specs.Table as table
-use Rattle.euler_operators.proofs.Common.{IsIn_or_not, count-append, tick_other, tick_same, from_map, IsIn-filter, IsIn_rest, filter_passes, IsIn_head, item_loop, item_there, number_real, outer_row, solid_row, in_use_within}
+use Rattle.euler_operators.proofs.Common.{IsIn_or_not, count-append, tick_other, tick_same, from_map, IsIn-filter, IsIn_rest, filter_passes, IsIn_head, item_loop, number_real, outer_row, solid_row, in_use_within}
 use Rattle.euler_laws.proofs.Common.{IsIn-from_listed, listed-from_in, face_there, solid_either, same_point, same_tail}
-use Rattle.shapes.specs.Common.{corners, loops_of, start, vertices_in, vertices_on, Taken, numbers_after, rewritten, is_flat, normal, face_is_above, faces_above, straddles, Drawing, with_drawings, below_halves, section_cycles, Caps, Opening, holes_closed, opened_along, outer_caps, opened_at, split_refusal}
-use Rattle.shapes.proofs.Common.{face_of_loop}
+use Rattle.shapes.specs.Common.{corners, loops_of, start, vertices_in, vertices_on, Taken, numbers_after, is_flat, normal, face_is_above, faces_above, straddles, Drawing, with_drawings, below_halves, section_cycles, Caps, Opening, holes_closed, opened_along, outer_caps, opened_at, split_refusal}
+use Rattle.shapes.proofs.Common.{IsReplaced, content_stays, face_of_loop, loops_agree}
 use Rattle.split_drawing_laws.proofs.crossings.Premises.{in_solid}
 use Rattle.split_drawing_laws.proofs.cut_volumes.CutWhole.{all_flat}
 use Rattle.split_opening_laws.specs.sections.Capped.{cap_faces}
@@ -40,26 +40,21 @@ use Rattle.split_frames.proofs.PartedWithin.{kill_keeps, part_keeps}
 use Rattle.split_frames.proofs.Uncut.{uncut_stands, uncut_turned}
 use Rattle.split_frames.proofs.Whole.{after_is, after_sound}
 
--- where half-edges start where they did, the points along them are those that they were
+-- ---- where its half-edges start where they did, a loop has the points that it had
+
 points_along : (M N : Model) (hs : List ℕ) → ((h : ℕ) → IsIn h hs → start N h ≡ start M h) → map (point_of N) (map (tail N) hs) ≡ map (point_of M) (map (tail M) hs)
 points_along M N [] same = refl
 points_along M N (h ∷ hs) same = λ i. same h (IsIn_head h hs) i ∷ points_along M N hs (λ y j. same y (IsIn_rest y h hs j)) i
 
--- ---- where edges, points and a loop stay, so do the points of its corners
+points_on : (M N : Model) (c : LoopContent) → ((h : ℕ) → IsIn h (items_of c) → start N h ≡ start M h) → ((v : ℕ) → c ≡ lone v → point_of N v ≡ point_of M v) → map (point_of N) (vertices_on N c) ≡ map (point_of M) (vertices_on M c)
+points_on M N (lone v) starts points = λ i. points v refl i ∷ []
+points_on M N (cycle hs) starts points = points_along M N hs starts
 
-module _ (M N : Model) (l : ℕ) (points : N.vertices ≡ M.vertices) (edges : N.edges ≡ M.edges) (same : content N l ≡ content M l) where
-  point : (v : ℕ) → point_of N v ≡ point_of M v
-  point v = same_point M N v (ap (λ t. table.get t v) points)
-
-  starts : (h : ℕ) → start N h ≡ start M h
-  starts h = ap (point_of N) (same_tail M N h (ap (λ t. table.get t (edge_of h)) edges)) ∙ point (tail M h)
-
-  on : (c : LoopContent) → map (point_of N) (vertices_on N c) ≡ map (point_of M) (vertices_on M c)
-  on (lone v) = λ i. point v i ∷ []
-  on (cycle hs) = points_along M N hs (λ h i. starts h)
-
-  same_points : loop_points N l ≡ loop_points M l
-  same_points = ap (λ c. map (point_of N) (vertices_on N c)) same ∙ on (content M l)
+same_points : (M N : Model) (l : ℕ) → N.vertices ≡ M.vertices → N.edges ≡ M.edges → content N l ≡ content M l → loop_points N l ≡ loop_points M l
+same_points M N l vertices edges same =
+    let point : (v : ℕ) → point_of N v ≡ point_of M v = λ v. same_point M N v (ap (λ t. table.get t v) vertices) in
+    ap (λ c. map (point_of N) (vertices_on N c)) same
+    ∙ points_on M N (content M l) (λ h i. ap (point_of N) (same_tail M N h (ap (λ t. table.get t (edge_of h)) edges)) ∙ point (tail M h)) (λ v is. point v)
 
 -- ---- the solid opened along its section
 
@@ -68,29 +63,16 @@ module _ (M N : Model) (swap : ℕ → ℕ) (w : Rewritten M N swap) (k : ℕ) (
   unfolding loops_of
   opened_turned = record {
     there = ap is_some (w.faces k there) ∙ there;
-    loops = λ i. kept.outer_is M N swap w k there i ∷ kept.rings_are M N swap w k there i;
-    points = λ l i. let has = (face_of_loop M w.sound k l there (listed-from_in l (loops_of M k) i)).0 in
-        subst (λ c. AreTurned (loop_points M l) (map (point_of N) (vertices_on N c))) (sym (kept.content_is M N swap w l has))
-        (rewritten_turned M N swap (content M l) (λ y j. (w.stays y (item_there M w.sound l y j)).0) (λ v e. w.points v (w.sound.lone_at_vertex l v e)));
+    loops = loops_agree (kept.agree M N swap w k there);
+    points = λ l i. let r = kept.replaced M N swap w l (face_of_loop M w.sound k l there (listed-from_in l (loops_of M k) i)).0 in
+        subst (λ c. AreTurned (loop_points M l) (map (point_of N) (vertices_on N c))) (sym r.content_is) (rewritten_turned M N swap (content M l) (λ y j. (r.halves y j).0) r.lones);
     normal = kept.normal_is M N swap w k there;
   }
 
 -- a loop in which nothing is replaced has the points that it had
-module _ (M N : Model) (swap : ℕ → ℕ) (w : Rewritten M N swap) (l : ℕ) (has : Has M.loops l) (same : (y : ℕ) → IsIn y (items_of (content M l)) → swap y ≡ y) where
-  all_same : (hs : List ℕ) → ((y : ℕ) → IsIn y hs → swap y ≡ y) → map swap hs ≡ hs
-  all_same [] each = refl
-  all_same (h ∷ hs) each = λ i. each h (IsIn_head h hs) i ∷ all_same hs (λ y j. each y (IsIn_rest y h hs j)) i
-
-  on_content : (c : LoopContent) → content M l ≡ c → map (point_of N) (vertices_on N (rewritten (map swap) c)) ≡ map (point_of M) (vertices_on M c)
-  on_content (lone v) is = ap (λ q. q ∷ []) (w.points v (w.sound.lone_at_vertex l v is))
-  on_content (cycle hs) is =
-      let inside : (y : ℕ) → IsIn y hs → IsIn y (items_of (content M l)) = λ y j. subst (λ c. IsIn y (items_of c)) (sym is) j in
-      ap (λ xs. map (point_of N) (map (tail N) (canonical xs))) (all_same hs (λ y j. same y (inside y j)))
-      ∙ ap (λ xs. map (point_of N) (map (tail N) xs)) (w.sound.cycles l hs has is).from_least
-      ∙ points_along M N hs (λ y j. ap (start N) (sym (same y (inside y j))) ∙ (w.stays y (item_there M w.sound l y (inside y j))).0)
-
-  exact_points : loop_points N l ≡ loop_points M l
-  exact_points = ap (λ c. map (point_of N) (vertices_on N c)) (kept.content_is M N swap w l has) ∙ on_content (content M l) refl
+exact_points : (M N : Model) (swap : ℕ → ℕ) (l : ℕ) → IsReplaced M N swap l → ((y : ℕ) → IsIn y (items_of (content M l)) → swap y ≡ y) → loop_points N l ≡ loop_points M l
+exact_points M N swap l r same = ap (λ c. map (point_of N) (vertices_on N c)) (content_stays r same)
+    ∙ points_on M N (content M l) (λ y i. ap (start N) (sym (same y i)) ∙ (r.halves y i).0) r.lones
 
 -- each loop of face k has the corner points that it had, in their order
 abbrev IsExact : Model → Model → ℕ → Type 0
@@ -100,7 +82,7 @@ IsExact D N k = (l : ℕ) → IsIn l (loops_of D k) → loop_points N l ≡ loop
 record IsLeft (D : Model) (above : List ℕ) (s k : ℕ) (o : Opening) : Type 0 where
   turned : IsTurned D o.model k
   exact : lists above k ≡ false → IsExact D o.model k
-  of : solid_of o.model k ≡ s
+  of_solid : solid_of o.model k ≡ s
   no_cap : count k (cap_faces o.caps) ≡ 0
 
 -- the half-edges that are replaced are of faces above
@@ -118,7 +100,7 @@ module _ (M : Model) (above : List ℕ) (s : ℕ) (c : Taken) (bs : List ℕ) (w
   ]
 
   opened_exact : loop_points (opened_along M above s c bs) l ≡ loop_points M l
-  opened_exact = exact_points M (opened_along M above s c bs) (swap M above s c bs w) (is_rewritten M above s c bs w) l own.0
+  opened_exact = exact_points M (opened_along M above s c bs) (swap M above s c bs w) l (kept.replaced M (opened_along M above s c bs) (swap M above s c bs w) (is_rewritten M above s c bs w) l own.0)
       (λ y j. renamed_not (map mate bs) (map plus (numbers_after c.edge (length bs))) y (no_mate y j))
 
 opened_left : (D : Model) (above : List ℕ) (s k : ℕ) (p : Plane) (o : Opening) (bs : List ℕ) (cs : List (List ℕ)) → CanBeOpenedInTurn above s o (bs ∷ cs) → IsLeft D above s k o →
@@ -131,7 +113,7 @@ opened_left D above s k p o bs cs w a =
     record {
       turned = turned_on D o.model N k a.turned (opened_turned o.model N (swap o.model above s o.taken bs can) r k a.turned.there);
       exact = λ off l i. opened_exact o.model above s o.taken bs can k a.turned.there off l (subst (IsIn l) (sym a.turned.loops) i) ∙ a.exact off l i;
-      of = kept.solid_is o.model N (swap o.model above s o.taken bs can) r k a.turned.there ∙ a.of;
+      of_solid = kept.solid_is o.model N (swap o.model above s o.taken bs can) r k a.turned.there ∙ a.of_solid;
       no_cap = omega (
         arith,
         a.no_cap,
@@ -164,10 +146,10 @@ not_in k x xs z e = absurd (omega (arith, z, ap (λ y. count k (y ∷ xs)) (sym 
 
 outer_other : (k : ℕ) (ks : List Caps) → k ≢ 0 → count k (cap_faces ks) ≡ 0 → (k ≢ (outer_caps ks).lower) × (k ≢ (outer_caps ks).upper)
 outer_other k [] ne z = (ne, ne)
-outer_other k (c ∷ cs) ne z = go c.hole (outer_other k cs ne (omega (arith, z))) where
-  go : (b : Bool) → (k ≢ (outer_caps cs).lower) × (k ≢ (outer_caps cs).upper) → (k ≢ (cond b (outer_caps cs) c).lower) × (k ≢ (cond b (outer_caps cs) c).upper)
-  go true r = r
-  go false r = (not_in k c.lower (c.upper ∷ cap_faces cs) z, not_in k c.upper (cap_faces cs) (omega (arith, z)))
+outer_other k (c ∷ cs) ne z = either_cap c.hole (outer_other k cs ne (omega (arith, z))) where
+  either_cap : (b : Bool) → (k ≢ (outer_caps cs).lower) × (k ≢ (outer_caps cs).upper) → (k ≢ (cond b (outer_caps cs) c).lower) × (k ≢ (cond b (outer_caps cs) c).upper)
+  either_cap true r = r
+  either_cap false r = (not_in k c.lower (c.upper ∷ cap_faces cs) z, not_in k c.upper (cap_faces cs) (omega (arith, z)))
 
 closing_other : (k : ℕ) (o : Caps) (hs : List Caps) → k ≢ o.lower → k ≢ o.upper → count k (cap_faces hs) ≡ 0 → IsOther k (closing o hs)
 closing_other k o [] low up z = tt
@@ -184,7 +166,7 @@ module _ (K : Model) (s t : ℕ) (us : List ℕ) (k : ℕ) (there : Has K.faces 
   P = part K s t us
 
   row : table.get P.faces k ≡ Some (cond (lists us k) (record { solid = t; outer = outer K k }) (record { solid = solid_of K k; outer = outer K k }))
-  row = split.row_is K s t us k ∙ ap (option_map (split.go K s t us k)) (face_there K k there)
+  row = split.row_is K s t us k ∙ ap (option_map (split.to_new K s t us k)) (face_there K k there)
 
   parted_solid : solid_of P k ≡ cond (lists us k) t (solid_of K k)
   parted_solid = solid_row P k _ row ∙ solid_either (lists us k) (record { solid = solid_of K k; outer = outer K k }) t
@@ -249,7 +231,7 @@ module _ (M : Model) (s : ℕ) (p : Plane) (t : ℕ) (sound : Sound M) (accepted
 
   opened : IsLeft d.model above s k X
   opened = openings_carry above s p (λ x ds. IsLeft d.model above s k x) (λ x bs ds w a. opened_left d.model above s k p x bs ds w a) (record { model = d.model; taken = d.taken; caps = [] })
-      (section_cycles d.model (below_halves d.model above s)) can.opens (record { turned = record { there = there; loops = refl; points = λ l i. not_turned _ _ refl; normal = refl }; exact = λ off l i. refl; of = of; no_cap = refl })
+      (section_cycles d.model (below_halves d.model above s)) can.opens (record { turned = record { there = there; loops = refl; points = λ l i. not_turned _ _ refl; normal = refl }; exact = λ off l i. refl; of_solid = of; no_cap = refl })
 
   real : k ≢ 0
   real = number_real k ((drawn_sound M s p t sound accepted).faces_fit k there)
@@ -268,14 +250,14 @@ module _ (M : Model) (s : ℕ) (p : Plane) (t : ℕ) (sound : Sound M) (accepted
         λ off l i. let keeps = kill_keeps A q.0 q.1 in same_points A (kfmrh A q.0 q.1) l keeps.0 keeps.1 (taken.content_same A p q.0 q.1 w l) ∙ a.3 off l i,
       ))
       (split.closes d above s p t can)
-      (closing_other k (outer_caps X.caps) (filter (λ c. c.hole) X.caps) other.0 other.1 (omega (arith, holes_counted k X.caps, opened.no_cap)), opened.turned, opened.of, opened.exact)
+      (closing_other k (outer_caps X.caps) (filter (λ c. c.hole) X.caps) other.0 other.1 (omega (arith, holes_counted k X.caps, opened.no_cap)), opened.turned, opened.of_solid, opened.exact)
 
   -- it is one of the upper faces where it is above
   side : lists us k ≡ face_is_above d.model p k
-  side = go (face_is_above d.model p k) refl where
-    go : (b : Bool) → face_is_above d.model p k ≡ b → lists us k ≡ b
-    go true e = listed-from_in k us (omega (arith, count-append k above (map (λ c. c.upper) X.caps), IsIn-filter (face_is_above d.model p) k (faces_of d.model s) (in_solid d.model k s there of) e))
-    go false e = false_from_ne_true (lists us k) (λ l. true≢false (sym (filter_passes (face_is_above d.model p) k (faces_of d.model s)
+  side = listed_above (face_is_above d.model p k) refl where
+    listed_above : (b : Bool) → face_is_above d.model p k ≡ b → lists us k ≡ b
+    listed_above true e = listed-from_in k us (omega (arith, count-append k above (map (λ c. c.upper) X.caps), IsIn-filter (face_is_above d.model p) k (faces_of d.model s) (in_solid d.model k s there of) e))
+    listed_above false e = false_from_ne_true (lists us k) (λ l. true≢false (sym (filter_passes (face_is_above d.model p) k (faces_of d.model s)
         (omega (arith, IsIn-from_listed k us l, count-append k above (map (λ c. c.upper) X.caps), uppers_counted k X.caps, opened.no_cap))) ∙ e))
 
   pub part_turned : IsTurned (with_drawings M s p).model (part K s t us) k

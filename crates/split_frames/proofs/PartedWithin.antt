@@ -2,14 +2,14 @@
 use Rattle.std.proofs.Common.{◌≡◌, ◌≢◌, ℕ, ◌+◌, Bool, true, false, cond, not, ◌&&◌, List, [], ◌∷◌, length, map, Some, None, is_some, refl, sym, ap, subst, ◌∙◌, ◌⊎◌, inl, inr, filter, fold, option_map}
 use Rattle.std.proofs.lemmas.Bool.{eqb-false, false_from_ne_true}
 use Rattle.std.proofs.lemmas.Bool.Decides.{eqb_tells}
-use Rattle.euler_operators.specs.Common.{Plane, count, IsIn, canonical, edge_of, mate, minus, plus, get-map_rows, Model, LoopContent, content, cycle, face_of, holds, lone, solid_of, tail, Sound, Has, HasHalf, face_at, first_false, lists, effect, kfmrh, part}
+use Rattle.euler_operators.specs.Common.{Plane, count, IsIn, edge_of, mate, minus, plus, get-map_rows, items_of, Model, content, face_of, solid_of, tail, Sound, Has, HasHalf, face_at, first_false, lists, effect, kfmrh, part}
 use Rattle.euler_operators.specs.declared.Op.TheVariants.{Kfmrh}
 use Rattle.euler_operators.specs.Table as table
-use Rattle.euler_operators.proofs.Common.{mate_plus, IsIn_or_not, from_map, IsIn_rest, face_row, in-holds, number_real, plus_there, same_solid, solid_row, IsIn_head, in_use_within, row_some}
+use Rattle.euler_operators.proofs.Common.{mate_plus, IsIn_or_not, from_map, item_loop, face_row, number_real, plus_there, same_solid, solid_row, in_use_within, row_some}
 use Rattle.euler_laws.specs.Laws.{AreAccepted}
 use Rattle.euler_laws.proofs.Common.{kfmrh_goes, listed_front, loop_row as row_of}
-use Rattle.shapes.proofs.Common.{get-put_cases}
-use Rattle.shapes.specs.Common.{Taken, numbers_after, renamed, rewritten, Caps, Opening, all_opened, both_lists, hole_closed, holes_closed, no_caps, opened_along, opened_row, opened_tail, outer_caps}
+use Rattle.shapes.proofs.Common.{get-put_cases, none_replaced}
+use Rattle.shapes.specs.Common.{Taken, numbers_after, renamed, Caps, Opening, all_opened, both_lists, hole_closed, holes_closed, no_caps, opened_along, opened_row, opened_tail, outer_caps}
 use Rattle.split_opening_laws.specs.sections.Capped.{ArePlain}
 use Rattle.split_opening_laws.specs.sections.InTurn.{CanBeOpenedInTurn}
 use Rattle.split_opening_laws.specs.strips.Opened.{CanBeOpened}
@@ -68,19 +68,12 @@ module _ (M : Model) (above : List ℕ) (s : ℕ) (c : Taken) (bs : List ℕ) (w
   -- ---- loops
 
   module _ (l : ℕ) (there : Has M.loops l) (ne : solid_of_loop M l ≢ s) where
-    swaps_none : (hs : List ℕ) → ((h : ℕ) → IsIn h hs → solid_of_half M h ≢ s) → map swap hs ≡ hs
-    swaps_none [] other = refl
-    swaps_none (h ∷ hs) other = λ i. renamed_not mates rims h (no_mate h (other h (IsIn_head h hs))) i ∷ swaps_none hs (λ x j. other x (IsIn_rest x h hs j)) i
-
-    content_stays : (x : LoopContent) → content M l ≡ x → rewritten (map swap) x ≡ x
-    content_stays (lone v) is = refl
-    content_stays (cycle hs) is =
-        ap (λ xs. cycle (canonical xs)) (swaps_none hs (λ h i e. ne (ap (solid_of_loop M) (sym (w.sound.one_loop h l (ap (holds h) is ∙ in-holds h (cycle hs) i))) ∙ e)))
-        ∙ ap cycle (w.sound.cycles l hs there is).from_least
+    none_swapped : (h : ℕ) → IsIn h (items_of (content M l)) → swap h ≡ h
+    none_swapped h i = renamed_not mates rims h (no_mate h (λ e. ne (ap (solid_of_loop M) (sym (item_loop M w.sound l h i)) ∙ e)))
 
     loop_left : table.get N.loops l ≡ table.get M.loops l
     loop_left = let row = row_of M l there in
-        loop_row M above s c bs w.sound w.free l _ row ∙ ap (λ x. Some (record { face = face_of M l; content = x })) (content_stays (content M l) refl) ∙ sym row
+        loop_row M above s c bs w.sound w.free l _ row ∙ ap (λ x. Some (record { face = face_of M l; content = x })) (none_replaced swap (content M l) (λ hs is. w.sound.cycles l hs there is) none_swapped) ∙ sym row
 
   loop_back : (l : ℕ) → Has N.loops l → solid_of_loop N l ≢ s → table.get N.loops l ≡ table.get M.loops l
   loop_back l there ne =
@@ -142,8 +135,8 @@ kfmrh_is M f g = refl
 
 -- a cap becomes a ring of a face that was of the solid
 one_closed : (s : ℕ) (M N : Model) (f g : ℕ) → Within s M N → solid_of M f ≡ s → first_false N (Kfmrh f g) ≡ None → Within s M (kfmrh N f g)
-one_closed s M N f g w of go =
-    let goes = kfmrh_goes N f g go in
+one_closed s M N f g w of accepted =
+    let goes = kfmrh_goes N f g accepted in
     let now : solid_of N f ≡ s = elim (eqb_tells (solid_of N f) s) [
       | inl e ↦ e.1
       | inr e ↦ absurd (e.1 (same_solid M N f (w.faces_back f goes.f_there e.0).0 ∙ of))
@@ -151,32 +144,32 @@ one_closed s M N f g w of go =
     within_on s M N (kfmrh N f g) w (kill_within N w.after f g s goes now)
 
 closing_within : (s : ℕ) (M N : Model) (o : Caps) (hs : List Caps) → Within s M N → solid_of M o.lower ≡ s → solid_of M o.upper ≡ s → AreAccepted N (closing_ops o hs) → Within s M (fold (hole_closed o) N hs)
-closing_within s M N o [] w low up go = w
-closing_within s M N o (k ∷ ks) w low up go =
+closing_within s M N o [] w low up accepted = w
+closing_within s M N o (k ∷ ks) w low up accepted =
     let A = kfmrh N o.lower k.lower in
-    let first : Within s M A = one_closed s M N o.lower k.lower w low go.0 in
-    let then : AreAccepted A (Kfmrh o.upper k.upper ∷ closing_ops o ks) = subst (λ X. AreAccepted X (Kfmrh o.upper k.upper ∷ closing_ops o ks)) (kfmrh_is N o.lower k.lower) go.1 in
+    let first : Within s M A = one_closed s M N o.lower k.lower w low accepted.0 in
+    let then : AreAccepted A (Kfmrh o.upper k.upper ∷ closing_ops o ks) = subst (λ X. AreAccepted X (Kfmrh o.upper k.upper ∷ closing_ops o ks)) (kfmrh_is N o.lower k.lower) accepted.1 in
     let second : Within s M (kfmrh A o.upper k.upper) = one_closed s M A o.upper k.upper first up then.0 in
     closing_within s M (kfmrh A o.upper k.upper) o ks second low up (subst (λ X. AreAccepted X (closing_ops o ks)) (kfmrh_is A o.upper k.upper) then.1)
 
 -- the outer cycle's caps are of the solid, or there are none
 outer_of : (M : Model) (s : ℕ) (ks : List Caps) → ArePlain M s ks → (outer_caps ks ≡ no_caps) ⊎ ((solid_of M (outer_caps ks).lower ≡ s) × (solid_of M (outer_caps ks).upper ≡ s))
 outer_of M s [] w = inl refl
-outer_of M s (k ∷ ks) w = go k.hole (outer_of M s ks w.2) where
-  go : (b : Bool) → (outer_caps ks ≡ no_caps) ⊎ ((solid_of M (outer_caps ks).lower ≡ s) × (solid_of M (outer_caps ks).upper ≡ s)) →
+outer_of M s (k ∷ ks) w = either_cap k.hole (outer_of M s ks w.2) where
+  either_cap : (b : Bool) → (outer_caps ks ≡ no_caps) ⊎ ((solid_of M (outer_caps ks).lower ≡ s) × (solid_of M (outer_caps ks).upper ≡ s)) →
       (cond b (outer_caps ks) k ≡ no_caps) ⊎ ((solid_of M (cond b (outer_caps ks) k).lower ≡ s) × (solid_of M (cond b (outer_caps ks) k).upper ≡ s))
-  go true r = r
-  go false r = inr (w.0.of_solid, w.1.of_solid)
+  either_cap true r = r
+  either_cap false r = inr (w.0.of_solid, w.1.of_solid)
 
 -- without an outer cycle nothing is closed
 none_closed : (s : ℕ) (M : Model) (hs : List Caps) → Sound M → AreAccepted M (closing_ops no_caps hs) → Within s M (fold (hole_closed no_caps) M hs)
-none_closed s M [] sound go = agree_none M (is_of s) sound
-none_closed s M (k ∷ ks) sound go = absurd (number_real 0 (sound.faces_fit 0 (kfmrh_goes M 0 k.lower go.0).f_there) refl)
+none_closed s M [] sound accepted = agree_none M (is_of s) sound
+none_closed s M (k ∷ ks) sound accepted = absurd (number_real 0 (sound.faces_fit 0 (kfmrh_goes M 0 k.lower accepted.0).f_there) refl)
 
 pub holes_within : (M : Model) (s : ℕ) (ks : List Caps) → Sound M → ArePlain M s ks → AreAccepted M (closing_ops (outer_caps ks) (filter (λ k. k.hole) ks)) → Within s M (holes_closed M ks)
-holes_within M s ks sound plain go = let hs = filter (λ k. k.hole) ks in elim (outer_of M s ks plain) [
-  | inl e ↦ subst (λ o. Within s M (fold (hole_closed o) M hs)) (sym e) (none_closed s M hs sound (subst (λ o. AreAccepted M (closing_ops o hs)) e go))
-  | inr e ↦ closing_within s M M (outer_caps ks) hs (agree_none M (is_of s) sound) e.0 e.1 go
+holes_within M s ks sound plain accepted = let hs = filter (λ k. k.hole) ks in elim (outer_of M s ks plain) [
+  | inl e ↦ subst (λ o. Within s M (fold (hole_closed o) M hs)) (sym e) (none_closed s M hs sound (subst (λ o. AreAccepted M (closing_ops o hs)) e accepted))
+  | inr e ↦ closing_within s M M (outer_caps ks) hs (agree_none M (is_of s) sound) e.0 e.1 accepted
 ]
 
 -- ---- no vertex moves, once the solid is opened

@@ -1,12 +1,12 @@
 -- The faces of the two parts of a split: those of the solid, pieces of those that straddle the plane, and caps.
-use Rattle.std.proofs.Common.{◌≡◌, ◌⊎◌, ℕ, ◌+◌, Bool, true, false, cond, not, pos, int_lt, ◌≢◌, ◌&&◌, ◌||◌, List, [], ◌∷◌, ◌++◌, length, Option, Some, None, is_some, option_map, refl, sym, ap, subst, ◌∙◌, arith, inl, inr, true≢false}
+use Rattle.std.proofs.Common.{◌≡◌, ◌⊎◌, ℕ, ◌+◌, Bool, true, false, cond, not, pos, int_lt, ◌≢◌, ◌&&◌, ◌||◌, List, [], ◌∷◌, ◌++◌, length, None, is_some, refl, sym, ap, subst, ◌∙◌, arith, inl, inr, true≢false}
 use Rattle.std.proofs.lemmas.Bool.{and_parts}
 use Rattle.std.proofs.lemmas.Bool.Decides.{eqb_tells}
 use Rattle.std.proofs.lemmas.Grind.{flat_map-append}
-use Rattle.euler_operators.specs.Common.{Plane, IsIn, count, direction, dot, face_at, origin, same_point, FaceRow, Model, solid_of, faces_of, Sound, Has, kfmrh, part}
+use Rattle.euler_operators.specs.Common.{Plane, IsIn, count, direction, dot, face_at, origin, same_point, Model, solid_of, faces_of, Sound, Has, kfmrh, part}
 use Rattle.euler_operators.specs.Table as table
 use Rattle.euler_operators.proofs.Common.{IsIn-filter, count-append, get-remove_here, get-remove_other, no_row, row_some, same_solid, tick_same}
-use Rattle.euler_laws.proofs.Common.{half_face, listed-from_in}
+use Rattle.euler_laws.proofs.Common.{half_face, listed-from_in, mapped_some}
 use Rattle.shapes.specs.Common.{corners, normal, is_plane_of, plane_of, reaches_above, reaches_below, straddles, faces_above, straddling_faces, Drawing, with_drawings, below_halves, section_cycles, Caps, Opening, holes_closed, opened_along, opened_at, face_is_above}
 use Rattle.shapes.proofs.Common.{are_on, face_listed, get-put_cases}
 use Rattle.split_drawing_laws.proofs.drawn_volumes.DrawWhole.{drawn_lies}
@@ -73,10 +73,7 @@ killed_had A f g k there = elim (eqb_tells k g) [
 ]
 
 parted_had : (K : Model) (s t : ℕ) (us : List ℕ) (k : ℕ) → Has (part K s t us).faces k → Has K.faces k
-parted_had K s t us k there = go (table.get K.faces k) (sym (ap is_some (split.row_is K s t us k)) ∙ there) where
-  go : (o : Option FaceRow) → is_some (option_map (split.go K s t us k) o) ≡ true → is_some o ≡ true
-  go None e = e
-  go (Some row) e = refl
+parted_had K s t us k there = sym (mapped_some (split.to_new K s t us k) (table.get K.faces k)) ∙ ap is_some (sym (split.row_is K s t us k)) ∙ there
 
 -- what reaches below and doesn't straddle isn't above
 not_above : (a b c : Bool) → b ≡ true → (a && b) ≡ false → (a || (not b && c)) ≡ false
@@ -113,10 +110,10 @@ module _ (before after : Machine) (s : ℕ) (p : Plane) (t : ℕ) (sound : Sound
 
   -- a face of the drawn solid goes to one of the parts, and stays on its planes
   part_either : (k : ℕ) → Has d.model.faces k → solid_of d.model k ≡ s → IsOfEither N s t k
-  part_either k there of = go (face_is_above d.model p k) (part_of M s p t sound made.0 k there of) where
-    go : (b : Bool) → solid_of N k ≡ cond b t s → IsOfEither N s t k
-    go true e = inr e
-    go false e = inl e
+  part_either k there of = of_either (face_is_above d.model p k) (part_of M s p t sound made.0 k there of) where
+    of_either : (b : Bool) → solid_of N k ≡ cond b t s → IsOfEither N s t k
+    of_either true e = inr e
+    of_either false e = inl e
 
   part_lies : (k : ℕ) (r : Plane) → Has d.model.faces k → solid_of d.model k ≡ s → is_plane_of d.model r (corners d.model k) ≡ true → is_plane_of N r (corners N k) ≡ true
   part_lies k r there of on =

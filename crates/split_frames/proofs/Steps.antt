@@ -5,7 +5,7 @@ use Rattle.std.proofs.lemmas.Bool.{eqb-false, false_from_ne_true}
 use Rattle.euler_operators.specs.Common.{edge_of, plus, Model, FaceRow, LoopRow, face_of, loop_of, outer, solid_of, content, Sound, Has, HasHalf, face_at, lists, faces_to_solid, kfmrh, loop_to_face, part, ring_in, Table}
 use Rattle.euler_operators.specs.Table as table
 use Rattle.euler_operators.proofs.Common.{plus_row, same_edge, face_row, loop_there, same_solid, solid_row, get-put_other, get-remove_here, get-remove_other}
-use Rattle.euler_laws.proofs.Common.{KillGoes, kill_face_l, kill_solid, sound-kfmrh, face_there, solid_either, loop_row}
+use Rattle.euler_laws.proofs.Common.{KillGoes, kill_face_l, kill_solid, sound-kfmrh, face_there, mapped_some, solid_either, loop_row}
 use Rattle.split_drawing_laws.proofs.drawings.Drawn.{CanDraw, CanJoin, draw_sound, face_drawn_else, face_drawn_new, join_sound, loops_joined_faces, face_drawn, loops_joined}
 use Rattle.split_drawing_laws.proofs.drawings.Stays.{edges_are, joined_edges, row_else, row_gone, row_joined, row_other}
 use Rattle.split_drawing_laws.proofs.face_sides.Beside.{never_free, new_loop_face, old_loop_face}
@@ -94,10 +94,10 @@ module _ (N : Model) (c d e s : ℕ) (can : CanJoin N c d e) (of : solid_of_half
 
 -- another loop keeps its row
 pub loop_else : (t : Table LoopRow) (l k q : ℕ) → q ≢ l → table.get (table.map_rows (loop_to_face l k) t) q ≡ table.get t q
-loop_else t l k q ne = table.get-map_rows (loop_to_face l k) t q ∙ go (table.get t q) where
-  go : (o : Option LoopRow) → option_map (loop_to_face l k q) o ≡ o
-  go None = refl
-  go (Some row) = ap (λ b. Some (cond b (record row { face = k }) row)) (ne_eqb q l ne)
+loop_else t l k q ne = table.get-map_rows (loop_to_face l k) t q ∙ row_stays (table.get t q) where
+  row_stays : (o : Option LoopRow) → option_map (loop_to_face l k q) o ≡ o
+  row_stays None = refl
+  row_stays (Some row) = ap (λ b. Some (cond b (record row { face = k }) row)) (ne_eqb q l ne)
 
 -- the ring's face is the other then
 pub ring_face : (N : Model) (l k : ℕ) → Has N.loops l → face_of (ring_in N l k) l ≡ k
@@ -174,16 +174,13 @@ module _ (N : Model) (s t : ℕ) (fs : List ℕ) (sound : Sound N) (after : Soun
   part_row q = table.get-map_rows (faces_to_solid (λ f _. lists fs f) t) N.faces q
 
   part_had : (q : ℕ) → Has P.faces q → Has N.faces q
-  part_had q there = go (table.get N.faces q) (sym (ap is_some (part_row q)) ∙ there) where
-    go : (o : Option FaceRow) → is_some (option_map (faces_to_solid (λ f _. lists fs f) t q) o) ≡ true → is_some o ≡ true
-    go None e = e
-    go (Some row) e = refl
+  part_had q there = sym (mapped_some (faces_to_solid (λ f _. lists fs f) t q) (table.get N.faces q)) ∙ ap is_some (sym (part_row q)) ∙ there
 
   part_kept : (q : ℕ) → lists fs q ≡ false → table.get P.faces q ≡ table.get N.faces q
-  part_kept q e = part_row q ∙ go (table.get N.faces q) where
-    go : (o : Option FaceRow) → option_map (faces_to_solid (λ f _. lists fs f) t q) o ≡ o
-    go None = refl
-    go (Some row) = ap (λ b. Some (cond b (record row { solid = t }) row)) e
+  part_kept q e = part_row q ∙ row_stays (table.get N.faces q) where
+    row_stays : (o : Option FaceRow) → option_map (faces_to_solid (λ f _. lists fs f) t q) o ≡ o
+    row_stays None = refl
+    row_stays (Some row) = ap (λ b. Some (cond b (record row { solid = t }) row)) e
 
   part_solid : (q : ℕ) → Has N.faces q → lists fs q ≡ true → solid_of P q ≡ t
   part_solid q there e = solid_row P q _ (part_row q ∙ ap (option_map (faces_to_solid (λ f _. lists fs f) t q)) (face_there N q there))
