@@ -11,8 +11,7 @@ use Rattle.shapes.proofs.Common.{greatest-put_last}
 use Rattle.sweeps_laws.specs.lamina.Path.{out}
 use Rattle.sweeps_laws.proofs.lamina.Lists.{plus_halves, minus_halves}
 use Rattle.sweeps_laws.proofs.lamina.Walk.{lamina_is_sound}
-use Rattle.sweeps_laws.proofs.swept.Lifted.{Bounded}
-use Rattle.sweeps_laws.proofs.FromSound.{sound_bounded}
+use Rattle.sweeps_laws.proofs.swept.Bounds.{HasFree, taken_free}
 use Rattle.sweeps_laws.proofs.LaminaRows as rows
 use Rattle.sweeps_laws.proofs.LaminaVolumes.{earlier, back_from_first}
 use Rattle.undo_journal.specs.Machine.{held}
@@ -23,7 +22,7 @@ use Rattle.sweeps_laws.proofs.Block.{lamina_is}
 
 -- ---- a lamina of the points a, b and others
 
-module _ (M : Model) (c : Taken) (s : ℕ) (a b : Point) (rest : List Point) (bounded : Bounded M c) where
+module _ (M : Model) (c : Taken) (s : ℕ) (a b : Point) (rest : List Point) (has_free : HasFree M c) where
   abbrev ps : List Point
   ps = a ∷ b ∷ rest
 
@@ -65,14 +64,14 @@ module _ (M : Model) (c : Taken) (s : ℕ) (a b : Point) (rest : List Point) (bo
     one =
         let out_is = outer_row drawn (c.face + 1) (rows.first_face M c s ps) (rows.face_one M c s ps) in
         let is = content_row drawn (c.loop + 1) (rows.first_loop M c s ps) (rows.loop_one M c s ps) in
-        let told = points_are drawn (c.face + 1) (c.loop + 1) halves (rows.rings_one M c s ps bounded) out_is is ∙ ap (map (start drawn)) (plus_halves c.edge (length ps))
+        let told = points_are drawn (c.face + 1) (c.loop + 1) halves (rows.rings_one M c s ps has_free) out_is is ∙ ap (map (start drawn)) (plus_halves c.edge (length ps))
         ∙ out_starts (suc (suc (length rest))) (omega arith) ∙ take_whole ps in
         record {
           there = ap is_some (rows.face_one M c s ps);
           solid = solid_row drawn (c.face + 1) (rows.first_face M c s ps) (rows.face_one M c s ps);
-          plain = rows.rings_one M c s ps bounded;
+          plain = rows.rings_one M c s ps has_free;
           points = told;
-          plane = plane_is drawn (c.face + 1) (c.loop + 1) halves (rows.rings_one M c s ps bounded) out_is is sound (ap is_some (rows.loop_one M c s ps)) (omega arith) ps told;
+          plane = plane_is drawn (c.face + 1) (c.loop + 1) halves (rows.rings_one M c s ps has_free) out_is is sound (ap is_some (rows.loop_one M c s ps)) (omega arith) ps told;
         }
 
     back_is : halves_back ≡ minus (c.edge + 1) ∷ minus (c.edge + suc (suc (length rest))) ∷ earlier c.edge (length rest)
@@ -82,14 +81,14 @@ module _ (M : Model) (c : Taken) (s : ℕ) (a b : Point) (rest : List Point) (bo
     two =
         let out_is = outer_row drawn (c.face + 2) (rows.second_face M c s ps) (rows.face_two M c s ps) in
         let is = content_row drawn (c.loop + 2) (rows.second_loop M c s ps) (rows.loop_two M c s ps) in
-        let told = points_are drawn (c.face + 2) (c.loop + 2) halves_back (rows.rings_two M c s ps bounded) out_is is ∙ ap (map (start drawn)) back_is
+        let told = points_are drawn (c.face + 2) (c.loop + 2) halves_back (rows.rings_two M c s ps has_free) out_is is ∙ ap (map (start drawn)) back_is
         ∙ (λ t. minus_at 0 (omega arith) t ∷ minus_last t ∷ (earlier_starts (length rest) (omega arith) ∙ ap reverse (take_whole rest)) t) in
         record {
           there = ap is_some (rows.face_two M c s ps);
           solid = solid_row drawn (c.face + 2) (rows.second_face M c s ps) (rows.face_two M c s ps);
-          plain = rows.rings_two M c s ps bounded;
+          plain = rows.rings_two M c s ps has_free;
           points = told;
-          plane = plane_is drawn (c.face + 2) (c.loop + 2) halves_back (rows.rings_two M c s ps bounded) out_is is sound (ap is_some (rows.loop_two M c s ps)) (subst (λ hs. 0 < length hs) (sym back_is) (omega arith)) (turned_back ps) told;
+          plane = plane_is drawn (c.face + 2) (c.loop + 2) halves_back (rows.rings_two M c s ps has_free) out_is is sound (ap is_some (rows.loop_two M c s ps)) (subst (λ hs. 0 < length hs) (sym back_is) (omega arith)) (turned_back ps) told;
         }
 
 pub greatest_drawn : (M : Model) (c : Taken) (s : ℕ) (ps : List Point) → table.greatest M.faces ≤ c.face → table.greatest (lamina_at M c s ps).faces ≡ c.face + 2
@@ -101,7 +100,7 @@ unfolding lamina_conditions
 many_points M s ps e = grind (arith, nat_tests, all_hold)
 
 -- of any list of three points or more
-two_faces : (M : Model) (s : ℕ) (ps : List Point) → 3 ≤ length ps → Bounded M (taken_in M) → Sound (lamina_at M (taken_in M) s ps) →
+two_faces : (M : Model) (s : ℕ) (ps : List Point) → 3 ≤ length ps → HasFree M (taken_in M) → Sound (lamina_at M (taken_in M) s ps) →
     IsFaceOf (lamina_at M (taken_in M) s ps) ((taken_in M).face + 1) s ps × IsFaceOf (lamina_at M (taken_in M) s ps) ((taken_in M).face + 2) s (turned_back ps)
 two_faces M s [] many b sound = absurd (omega arith)
 two_faces M s (p ∷ []) many b sound = absurd (omega arith)
@@ -110,7 +109,7 @@ two_faces M s (p ∷ q ∷ ps) many b sound = (one M (taken_in M) s p q ps b sou
 pub lamina_faces : (M : Model) (s : ℕ) (ps : List Point) → Sound M → lamina_refusal M s ps ≡ None →
     IsFaceOf (lamina_model M s ps) ((taken_in M).face + 1) s ps × IsFaceOf (lamina_model M s ps) ((taken_in M).face + 2) s (turned_back ps)
 lamina_faces M s ps sound goes = subst (λ N. IsFaceOf N ((taken_in M).face + 1) s ps × IsFaceOf N ((taken_in M).face + 2) s (turned_back ps)) (sym (lamina_is M s ps))
-    (two_faces M s ps (many_points M s ps goes) (sound_bounded M sound) (subst Sound (lamina_is M s ps) (lamina_is_sound M s ps sound goes)))
+    (two_faces M s ps (many_points M s ps goes) (taken_free M sound) (subst Sound (lamina_is M s ps) (lamina_is_sound M s ps sound goes)))
 
 pub lamina_has_two_faces : LaminaHasTwoFaces
 lamina_has_two_faces before after s ps sound made =

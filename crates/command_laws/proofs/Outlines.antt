@@ -4,7 +4,7 @@ use Rattle.euler_operators.specs.Common.{Point, origin, moved, cross, IsIn, head
 use Rattle.euler_operators.specs.Table as table
 use Rattle.euler_operators.proofs.Common.{item_there, content_row, face_row, IsIn_rest, IsIn_head}
 use Rattle.sweeps_laws.proofs.swept.Lifted.{IsPathOf}
-use Rattle.sweeps_laws.proofs.FromSound.{sound_path}
+use Rattle.sweeps_laws.proofs.Whole.{sound_path}
 use Rattle.euler_laws.proofs.Common.{loop_sound, IsLoop}
 use Rattle.shapes.specs.Common.{start, finish, loops_of, boundary, corners, area, normal, anchor, first_vertex, plane_through, plane_of}
 use Rattle.command_laws.specs.NewFaces.{corner_points, nth, area_to, plane_round}

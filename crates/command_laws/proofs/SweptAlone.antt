@@ -12,14 +12,14 @@ use Rattle.command_laws.specs.Framed.{SweepKeepsOwners, SweepKeepsLoops, SweepKe
 use Rattle.command_laws.proofs.Kept.{prism_keeps, prism_kept, sweep_keeps_faces}
 use Rattle.command_laws.proofs.OnFaces.{vertex_there}
 use Rattle.command_laws.proofs.Standing.{stands}
-use Rattle.command_laws.proofs.SweptLoops.{later_all, sweep_ready}
+use Rattle.command_laws.proofs.SweptLoops.{later_whole, sweep_ready}
 
 -- ---- the prism
 
 module _ (M : Model) (f : ℕ) (d : Point) where
   pub prism_keeps_loops : Sound M → prism_refusal M f d ≡ None → (l : ℕ) → Has M.loops l → face_of M l ≢ f → table.get (prism_model M f d).loops l ≡ table.get M.loops l
   unfolding prism_model taken_in
-  prism_keeps_loops sound goes l there ne = (later_all f (solid_of M f) d (loops_of M f) (growing M) (sweep_ready M f d sound goes)).loops l (at_most_greatest M.loops l there) (elim (IsIn_or_not l (loops_of M f)) [
+  prism_keeps_loops sound goes l there ne = (later_whole f (solid_of M f) d (loops_of M f) (growing M) (sweep_ready M f d sound goes)).loops l (at_most_greatest M.loops l there) (elim (IsIn_or_not l (loops_of M f)) [
     | inl i ↦ absurd (ne (face_row M l _ ((begins M f d sound goes).rows l i)))
     | inr z ↦ z
   ])
@@ -36,7 +36,7 @@ module _ (M : Model) (f : ℕ) (d : Point) (sound : Sound M) (goes : prism_refus
   -- no loop more is of a face that was there
   pub prism_keeps_rings : (k : ℕ) → Has M.faces k → rings_of (prism_model M f d) k ≡ rings_of M k
   unfolding prism_model taken_in
-  prism_keeps_rings k there = (later_all f (solid_of M f) d (loops_of M f) (growing M) (sweep_ready M f d sound goes)).rings k (at_most_greatest M.faces k there)
+  prism_keeps_rings k there = (later_whole f (solid_of M f) d (loops_of M f) (growing M) (sweep_ready M f d sound goes)).rings k (at_most_greatest M.faces k there)
 
   pub prism_keeps_shapes : KeepsShapes (AllBut f) M (prism_model M f d)
   prism_keeps_shapes k there ne =

@@ -11,13 +11,14 @@ use Rattle.euler_laws.proofs.Common.{loop_row}
 use Rattle.sweeps_laws.proofs.prism.Accepted.{face_there, prism_sound}
 use Rattle.sweeps_laws.proofs.swept.Numbers.{next_within}
 use Rattle.sweeps_laws.proofs.swept.Lifted.{IsPathOf, within, loop_here}
-use Rattle.sweeps_laws.proofs.swept.Kept.{counted}
+use Rattle.sweeps_laws.specs.prism.SweepOps.{taken_after}
+use Rattle.sweeps_laws.proofs.swept.Bounds.{item_within, taken_free}
 use Rattle.undo_journal.specs.Machine.{held}
 use Rattle.command_laws.specs.NewFaces.{corner_points, nth, all_moved, side_over, last_face, IsFaceOf}
 use Rattle.command_laws.specs.RingedFaces.{loop_points, corner_count, IsFarFace, RingedFaceIsFar, RingedSidesStand, SweepTakesFaces}
 use Rattle.command_laws.proofs.Outlines.{nth_start, as_many, same_starts, ring_path}
 use Rattle.command_laws.proofs.MovedAreas.{moved_many, nth_moved, area_kept}
-use Rattle.command_laws.proofs.SweptLoops.{Ready, Later, items, swept_once, next, raised_is, after_ready, later_all, ready_all, from_append, taken_all, sweep_ready, face_counted}
+use Rattle.command_laws.proofs.SweptLoops.{Ready, Later, items, swept_once, next, raised_is, after_ready, later_all, later_whole, ready_all, from_append, taken_all, sweep_ready, face_counted}
 use Rattle.command_laws.proofs.SweptSides.{along_cycle, ring_is, ring_moved, items_taken, loop_low, side_stands}
 
 module _ (M : Model) (f : ℕ) (d : Point) (sound : Sound M) (goes : prism_refusal M f d ≡ None) where
@@ -34,11 +35,11 @@ module _ (M : Model) (f : ℕ) (d : Point) (sound : Sound M) (goes : prism_refus
   pub Z_sound : Sound Z
   Z_sound = subst Sound prism_is (prism_sound M f d sound goes)
 
-  begun : Ready f (solid_of M f) (growing M) (loops_of M f)
+  begun : Ready f (solid_of M f) d (growing M) (loops_of M f)
   begun = sweep_ready M f d sound goes
 
   pub whole : Later M Z (taken_in M) (loops_of M f)
-  whole = later_all f s d (loops_of M f) (growing M) begun
+  whole = later_whole f s d (loops_of M f) (growing M) begun
 
   -- ---- at loop l, once the loops ls are swept
 
@@ -46,36 +47,26 @@ module _ (M : Model) (f : ℕ) (d : Point) (sound : Sound M) (goes : prism_refus
     abbrev g : Growing
     g = prism_from f d (growing M) ls
 
-    all_ready : Ready f (solid_of M f) (growing M) (ls ++ l ∷ rs)
-    all_ready = subst (Ready f s (growing M)) parts begun
+    all_ready : Ready f (solid_of M f) d (growing M) (ls ++ l ∷ rs)
+    all_ready = subst (Ready f s d (growing M)) parts begun
 
-    pub now : Ready f (solid_of M f) g (l ∷ rs)
+    pub now : Ready f (solid_of M f) d g (l ∷ rs)
     now = ready_all f s d ls (l ∷ rs) (growing M) all_ready
 
-    before_ready : (ms ns : List ℕ) → Ready f (solid_of M f) (growing M) (ms ++ ns) → Ready f (solid_of M f) (growing M) ms
-    before_ready ms ns w = record {
-      bounded = w.bounded;
-      there = w.there;
-      solid = w.solid;
-      paths = λ q i. w.paths q (omega (arith, i, count-append q ms ns));
-      apart = λ x. omega (arith, w.apart x, count-append x ms ns);
-      last = w.last;
-    }
-
     earlier : Later M g.model (taken_in M) ls
-    earlier = later_all f s d ls (growing M) (before_ready ls (l ∷ rs) all_ready)
+    earlier = later_all f s d ls (l ∷ rs) (growing M) all_ready
 
     pub l_path : IsPathOf M f l (items_of (content M l))
-    l_path = all_ready.paths l (omega (arith, count-append l ls (l ∷ rs), tick_same l))
+    l_path = ring_path M sound f l (items_of (content M l)) (all_ready.going.rows l (omega (arith, count-append l ls (l ∷ rs), tick_same l)))
 
     l_low : l ≤ (taken_in M).loop
-    l_low = within M (taken_in M) s d (items_of (content M l)) f l all_ready.bounded l_path
+    l_low = within M (taken_in M) s d (items_of (content M l)) f l (taken_free M sound) l_path
 
     l_once : count l ls ≡ 0
-    l_once = omega (arith, all_ready.apart l, count-append l ls (l ∷ rs), tick_same l)
+    l_once = omega (arith, all_ready.going.apart l, count-append l ls (l ∷ rs), tick_same l)
 
     l_not_later : count l rs ≡ 0
-    l_not_later = omega (arith, all_ready.apart l, count-append l ls (l ∷ rs), tick_same l)
+    l_not_later = omega (arith, all_ready.going.apart l, count-append l ls (l ∷ rs), tick_same l)
 
     same_loop : content g.model l ≡ content M l
     same_loop = same_content M g.model l (earlier.loops l l_low l_once)
@@ -89,13 +80,13 @@ module _ (M : Model) (f : ℕ) (d : Point) (sound : Sound M) (goes : prism_refus
     -- its points are those that it had
     points_then : map (start g.model) hs ≡ loop_points M l
     points_then = ap (map (start g.model)) same_items
-        ∙ same_starts M g.model (items_of (content M l)) (λ h i. earlier.starts h (all_ready.bounded.items h l i)) ∙ sym (along_cycle M l (items_of (content M l)) l_path.content)
+        ∙ same_starts M g.model (items_of (content M l)) (λ h i. earlier.starts h (item_within (taken_free M sound) h l i)) ∙ sym (along_cycle M l (items_of (content M l)) l_path.content)
 
     next_is : prism_from f d (growing M) (loops_of M f) ≡ prism_from f d (next d now) rs
     next_is = ap (prism_from f d (growing M)) parts ∙ from_append f s d ls (l ∷ rs) (growing M) ∙ ap (λ x. prism_from f d x rs) (raised_is d now)
 
-    rest : Later (swept_once d now) Z (counted g.taken (length hs)) rs
-    rest = subst (λ x. Later (swept_once d now) x.model (counted g.taken (length hs)) rs) (sym next_is) (later_all f s d rs (next d now) (after_ready d now))
+    rest : Later (swept_once d now) Z (taken_after g.taken (length hs)) rs
+    rest = subst (λ x. Later (swept_once d now) x.model (taken_after g.taken (length hs)) rs) (sym next_is) (later_whole f s d rs (next d now) (after_ready d now))
 
     abbrev tops : List ℕ
     tops = top_items g.taken.edge (length hs) (length hs)
@@ -133,7 +124,7 @@ module _ (M : Model) (f : ℕ) (d : Point) (sound : Sound M) (goes : prism_refus
         let at : i < length hs = subst (λ n. i < n) (sym many) m in
         let j = next_place (length hs) i in
         subst (λ n. IsFaceOf Z (n + 1 + i) s (side_over d (nth ps i) (nth ps (next_place (length ps) i))))
-        (taken_all f s d M ls (growing M) (before_ready ls (l ∷ rs) all_ready) (λ q k. refl) ∙ ap (λ n. n + corner_count M ls) (face_counted M))
+        (taken_all f s d M ls (l ∷ rs) (growing M) all_ready (λ q k. refl) ∙ ap (λ n. n + corner_count M ls) (face_counted M))
         (subst (λ n. IsFaceOf Z (g.taken.face + 1 + i) s (side_over d (nth ps i) (nth ps (next_place n i)))) many
         (subst (λ xs. IsFaceOf Z (g.taken.face + 1 + i) s (side_over d (nth xs i) (nth xs j))) points_then
         (subst (λ p. IsFaceOf Z (g.taken.face + 1 + i) s (side_over d p (nth (map (start g.model) hs) j))) (sym (nth_start g.model hs i at))
@@ -183,7 +174,7 @@ module _ (M : Model) (f : ℕ) (d : Point) (sound : Sound M) (goes : prism_refus
       let ls = ahead l (loops_of M f) in
       let rs = behind l (loops_of M f) in
       let parts = split_at l (loops_of M f) outer_in in
-      let p = begun.paths l outer_in in
+      let p = ring_path M sound f l (items_of (content M l)) (begun.going.rows l outer_in) in
       ap (λ q. point_of Z (first_vertex Z (content Z q))) (same_outer M Z f same_row)
       ∙ first_of Z l _ (loop_then ls rs l parts) (tops_some ls rs l parts)
       ∙ ap (λ ps. nth ps 0) (each_moved l outer_in) ∙ nth_moved d (loop_points M l) 0 (points_some ls rs l parts)
@@ -209,8 +200,10 @@ module _ (M : Model) (f : ℕ) (d : Point) (sound : Sound M) (goes : prism_refus
 
   all_counted : table.greatest Z.faces ≡ table.greatest M.faces + length (corners M f)
   unfolding corners
-  all_counted = (ready_all f s d (loops_of M f) [] (growing M) (subst (Ready f s (growing M)) (sym (append-nil (loops_of M f))) begun)).last
-      ∙ taken_all f s d M (loops_of M f) (growing M) begun (λ q i. refl) ∙ ap (λ n. n + length (vertices_in M (loops_of M f))) (face_counted M)
+  all_counted =
+      let all : Ready f (solid_of M f) d (growing M) (loops_of M f ++ []) = subst (Ready f s d (growing M)) (sym (append-nil (loops_of M f))) begun in
+      (ready_all f s d (loops_of M f) [] (growing M) all).last
+      ∙ taken_all f s d M (loops_of M f) [] (growing M) all (λ q i. refl) ∙ ap (λ n. n + length (vertices_in M (loops_of M f))) (face_counted M)
 
 -- as many faces more as the face has corners
 pub model_counted : (M : Model) (f : ℕ) (d : Point) → Sound M → prism_refusal M f d ≡ None → table.greatest (prism_model M f d).faces ≡ table.greatest M.faces + length (corner_points M f)

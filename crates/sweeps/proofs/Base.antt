@@ -8,7 +8,7 @@ use Rattle.shapes.proofs.Common.{greatest-put_last}
 use Rattle.shapes.specs.Common.{Taken, taken_in, numbers_after, lamina_at, with_path, prism_refusal, prism_model}
 use Rattle.sweeps_laws.specs.prism.SweepOps.{loop_ops, taken_after}
 use Rattle.sweeps_laws.specs.prism.Ready.{Ready}
-use Rattle.sweeps_laws.proofs.FromSound.{sound_bounded}
+use Rattle.sweeps_laws.proofs.swept.Bounds.{taken_free}
 use Rattle.sweeps_laws.proofs.LaminaRows as rows
 use Rattle.sweeps_laws.proofs.lamina.Steps.{greatest-with_path, greatest-with_points}
 use Rattle.sweeps.specs.Raising.{CanRise, with_lamina}
@@ -67,7 +67,7 @@ module _ (M : Model) (sound : Sound M) (s : ℕ) (a b g h : Point) where
     loop_is = sym outer_is ∙ ap (λ X. outer X (c.face + 1)) (sym is)
 
     rings_are : [] ≡ rings_of N (c.face + 1)
-    rings_are = sym (rows.rings_one M c s (a ∷ b ∷ g ∷ h ∷ []) (sound_bounded M sound)) ∙ ap (λ X. rings_of X (c.face + 1)) (sym is)
+    rings_are = sym (rows.rings_one M c s (a ∷ b ∷ g ∷ h ∷ []) (taken_free M sound)) ∙ ap (λ X. rings_of X (c.face + 1)) (sym is)
 
     held : items_of (content N (c.loop + 1)) ≡ hs
     held = ap (λ X. items_of (content X (c.loop + 1))) is ∙ items_are ∙ sym holds

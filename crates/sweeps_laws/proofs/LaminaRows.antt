@@ -8,19 +8,20 @@ use Rattle.euler_laws.proofs.Common.{listed_passes, all_where-rises, passes_list
 use Rattle.shapes.specs.Common.{Taken, numbers_after, area, normal, volume_in, six_volume, anchor, first_vertex, least_lone, items_in, lamina_at, with_path, with_points, with_ring}
 use Rattle.shapes.proofs.Common.{at_most_greatest, get-put_cases, all_where-put_last, area_kept, areas_kept, greatest-put_last, volume_of, same_volumes}
 use Rattle.sweeps_laws.proofs.swept.Filled.{filled, filled_search, filled_none}
-use Rattle.sweeps_laws.proofs.Loops.{area_sum, volume_last, side_is, faces_kept, faces_moved, from_at, to_at, normal_is, first_kept, loops_within}
+use Rattle.sweeps_laws.proofs.Loops.{area_sum, volume_last, side_is, faces_kept, faces_moved, from_at, to_at, normal_is, first_kept, face_loop_within}
 use Rattle.sweeps_laws.proofs.swept.Sides.{side_face, faces_grown, Keeps, start_kept, finish_kept}
-use Rattle.sweeps_laws.proofs.swept.Lifted.{Bounded, IsPathOf, swept}
+use Rattle.sweeps_laws.proofs.swept.Lifted.{IsPathOf, swept}
+use Rattle.sweeps_laws.proofs.swept.Bounds.{HasFree, faces_within, item_within, lone_within, loop_face_within, loops_within, outer_within, tail_within}
 
 pub six_volume_is : (M : Model) (s : ℕ) → six_volume M s ≡ volume_in M (faces_of M s)
 unfolding six_volume
 six_volume_is M s = refl
 
 -- a face of solid u
-pub face_within : (M : Model) (c : Taken) → Bounded M c → (u k : ℕ) → lists (faces_of M u) k ≡ true → (k ≤ c.face) × Has M.faces k × (solid_of M k ≡ u)
-face_within M c b u k i = let p = listed_passes (λ _ row. nat_eq row.solid u) M.faces k i in (grind (arith, at_most_greatest M.faces k (ap is_some p.1), b.faces), ap is_some p.1, solid_row M k p.0 p.1 ∙ eqb-true p.0.solid u p.2)
+pub face_within : (M : Model) (c : Taken) → HasFree M c → (u k : ℕ) → lists (faces_of M u) k ≡ true → (k ≤ c.face) × Has M.faces k × (solid_of M k ≡ u)
+face_within M c b u k i = let p = listed_passes (λ _ row. nat_eq row.solid u) M.faces k i in (grind (arith, at_most_greatest M.faces k (ap is_some p.1), faces_within b), ap is_some p.1, solid_row M k p.0 p.1 ∙ eqb-true p.0.solid u p.2)
 
-module _ {M : Model} {c : Taken} (s : ℕ) (d : Point) {hs : List ℕ} {f l : ℕ} (b : Bounded M c) (r : IsPathOf M f l hs) where
+module _ {M : Model} {c : Taken} (s : ℕ) (d : Point) {hs : List ℕ} {f l : ℕ} (b : HasFree M c) (r : IsPathOf M f l hs) where
   abbrev after : Model
   after = swept M c s d hs f l
 
@@ -30,7 +31,7 @@ module _ {M : Model} {c : Taken} (s : ℕ) (d : Point) {hs : List ℕ} {f l : �
   -- the sides come after the faces that were there
   sides_after : (n : ℕ) → volume_in after (table.all_where of_solid (filled M.faces c.face (side_face M c s d hs) n)) ≡ volume_in after (faces_of M s) +ℤ total_to (λ i. volume_of after (c.face + 1 + i)) n
   sides_after zero = sym (add_none (volume_in after (faces_of M s)))
-  sides_after (suc n) = ap (volume_in after) (filled_search M.faces c.face (side_face M c s d hs) b.faces of_solid n
+  sides_after (suc n) = ap (volume_in after) (filled_search M.faces c.face (side_face M c s d hs) (faces_within b) of_solid n
       ∙ ap (λ t. table.all_where of_solid (filled M.faces c.face (side_face M c s d hs) n) ++ cond t ((c.face + 1 + n) ∷ []) []) (nat_eq_itself s))
       ∙ volume_last after (table.all_where of_solid (filled M.faces c.face (side_face M c s d hs) n)) (c.face + 1 + n)
       ∙ ap (λ v. v +ℤ volume_of after (c.face + 1 + n)) (sides_after n)
@@ -44,7 +45,7 @@ module _ {M : Model} {c : Taken} (s : ℕ) (d : Point) {hs : List ℕ} {f l : �
   volume_after = six_volume_is after s ∙ ap (λ t. volume_in after (table.all_where of_solid t)) (faces_grown M c s d hs (length hs)) ∙ sides_after (length hs) ∙ ap (λ v. volume_in after (faces_of M s) +ℤ v) sides_add
 
   other_outer : (k : ℕ) → Has M.faces k → k ≢ f → outer M k ≢ l
-  other_outer k there ne e = ne (sym (b.own k there) ∙ ap (face_of M) e ∙ r.of_face)
+  other_outer k there ne e = ne (sym ((b.sound.outers_there k there).1) ∙ ap (face_of M) e ∙ r.of_face)
 
   -- a ring swept
   pub ring_adds : outer M f ≢ l → six_volume after s ≡ six_volume M s +ℤ pos 2 *ℤ dot (area M hs) d
@@ -65,7 +66,7 @@ module _ {M : Model} {c : Taken} (s : ℕ) (d : Point) {hs : List ℕ} {f l : �
   others_kept u ne of = six_volume_is after u ∙ ap (volume_in after) faces_same ∙ faces_kept s d b r (faces_of M u) each ∙ sym (six_volume_is M u) where
     faces_same : faces_of after u ≡ faces_of M u
     faces_same = ap (table.all_where (λ _ row. nat_eq row.solid u)) (faces_grown M c s d hs (length hs))
-        ∙ filled_none M.faces c.face (side_face M c s d hs) b.faces (λ _ row. nat_eq row.solid u) (length hs) (λ i. ne_eqb s u (λ e. ne (sym e)))
+        ∙ filled_none M.faces c.face (side_face M c s d hs) (faces_within b) (λ _ row. nat_eq row.solid u) (length hs) (λ i. ne_eqb s u (λ e. ne (sym e)))
 
     each : (k : ℕ) → lists (faces_of M u) k ≡ true → (k ≤ c.face) × (outer M k ≢ l)
     each k i = let p = face_within M c b u k i in (p.0, other_outer k p.1 (λ e. ne (sym p.2 ∙ ap (solid_of M) e ∙ of)))
@@ -160,10 +161,16 @@ module _ (M : Model) (c : Taken) (s : ℕ) (ps : List Point) where
   pub point_at : (i : ℕ) → i < length ps → point_of drawn (c.vertex + suc i) ≡ get_or ps i no_point
   point_at i l = point_row drawn (c.vertex + suc i) (get_or ps i no_point) (points_new M.vertices c.vertex ps (length ps) i l)
 
-  module _ (bounded : Bounded M c) where
+  module _ (has_free : HasFree M c) where
     -- a loop is one of the two new ones, or was there
     loop_cases : (q : ℕ) (y : LoopRow) → table.get drawn.loops q ≡ Some y → ((q ≡ c.loop + 2) × (y ≡ second_loop)) ⊎ (((q ≡ c.loop + 1) × (y ≡ first_loop)) ⊎ (y.face ≤ c.face))
-    loop_cases q y at = grind (arith, get-put_cases, face_row)
+    loop_cases q y at = elim (get-put_cases (table.put M.loops (c.loop + 1) first_loop) (c.loop + 2) second_loop q y at) [
+      | inl p ↦ inl p
+      | inr p ↦ elim (get-put_cases M.loops (c.loop + 1) first_loop q y p.1) [
+        | inl r ↦ inr (inl r)
+        | inr r ↦ inr (inr (subst (λ f. f ≤ c.face) (face_row M q y r.1) (loop_face_within has_free q)))
+      ]
+    ]
 
     pub rings_one : rings_of drawn (c.face + 1) ≡ []
     rings_one = all_where_none (λ q row. nat_eq row.face (c.face + 1) && not (nat_eq (outer drawn (c.face + 1)) q)) drawn.loops (λ q y at. none_but y.face (c.face + 1) (outer drawn (c.face + 1)) q (λ e. elim (loop_cases q y at) [
@@ -185,10 +192,10 @@ module _ (M : Model) (c : Taken) (s : ℕ) (ps : List Point) where
 
     -- a search of the faces, and of the loops
     pub faces_found : (p : ℕ → FaceRow → Bool) → table.all_where p drawn.faces ≡ (table.all_where p M.faces ++ cond (p (c.face + 1) first_face) ((c.face + 1) ∷ []) []) ++ cond (p (c.face + 2) second_face) ((c.face + 2) ∷ []) []
-    faces_found p = grind (arith, all_where-put_last, greatest-put_last)
+    faces_found p = grind (arith, all_where-put_last, greatest-put_last, faces_within has_free)
 
     pub loops_found : (p : ℕ → LoopRow → Bool) → table.all_where p drawn.loops ≡ (table.all_where p M.loops ++ cond (p (c.loop + 1) first_loop) ((c.loop + 1) ∷ []) []) ++ cond (p (c.loop + 2) second_loop) ((c.loop + 2) ∷ []) []
-    loops_found p = grind (arith, all_where-put_last, greatest-put_last)
+    loops_found p = grind (arith, all_where-put_last, greatest-put_last, loops_within has_free)
 
     -- the faces of a solid that was not there
     pub faces_are : faces_of M s ≡ [] → faces_of drawn s ≡ (c.face + 1) ∷ (c.face + 2) ∷ []
@@ -209,26 +216,30 @@ module _ (M : Model) (c : Taken) (s : ℕ) (ps : List Point) where
     outer_old : (k : ℕ) → k ≤ c.face → outer drawn k ≡ outer M k
     outer_old k l = same_outer M drawn k (face_old k l)
 
-    module _ (b : Bounded M c) where
+    module _ (b : HasFree M c) where
       -- where neither new row passes
       none_found : (xs : List ℕ) (m n : ℕ) (p q : Bool) → p ≡ false → q ≡ false → (xs ++ cond p (m ∷ []) []) ++ cond q (n ∷ []) [] ≡ xs
       none_found xs m n p q e f = (λ i. (xs ++ cond (e i) (m ∷ []) []) ++ cond (f i) (n ∷ []) []) ∙ append-nil (xs ++ []) ∙ append-nil xs
 
       rings_old : (k : ℕ) → k ≤ c.face → rings_of drawn k ≡ rings_of M k
-      rings_old k l = grind (arith, nat_tests, outer_old, loops_found, none_found)
+      rings_old k l = ap (λ o. table.all_where (λ q row. nat_eq row.face k && not (nat_eq o q)) drawn.loops) (outer_old k l)
+          ∙ loops_found b (λ q row. nat_eq row.face k && not (nat_eq (outer M k) q))
+          ∙ none_found (rings_of M k) (c.loop + 1) (c.loop + 2) _ _ (new_passes (c.face + 1) k (omega (arith, l)) _) (new_passes (c.face + 2) k (omega (arith, l)) _) where
+            new_passes : (g k : ℕ) → k < g → (t : Bool) → (nat_eq g k && t) ≡ false
+            new_passes g k less t = ap (λ b. b && t) (ne_eqb g k (λ e. absurd (omega (arith, less, e))))
 
       loop_kept : (q : ℕ) → q ≤ c.loop → area drawn (items_of (content drawn q)) ≡ area M (items_of (content M q))
       loop_kept q l = ap (λ x. area drawn (items_of x)) (same_content M drawn q (loop_old q l))
-          ∙ area_kept M drawn (items_of (content M q)) (λ h i. (start_kept keeps_drawn b.tails h (b.items h q i), finish_kept keeps_drawn b.tails h (b.items h q i)))
+          ∙ area_kept M drawn (items_of (content M q)) (λ h i. (start_kept keeps_drawn (tail_within b) h (item_within b h q i), finish_kept keeps_drawn (tail_within b) h (item_within b h q i)))
 
       normal_kept : (k : ℕ) → k ≤ c.face → normal drawn k ≡ normal M k
       normal_kept k l = normal_is drawn k ∙ (λ t. area drawn (items_in drawn (outer_old k l t ∷ rings_old k l t)))
-          ∙ areas_kept M drawn (outer M k ∷ rings_of M k) (λ q i. loop_kept q (loops_within M c b k q i)) ∙ sym (normal_is M k)
+          ∙ areas_kept M drawn (outer M k ∷ rings_of M k) (λ q i. loop_kept q (face_loop_within M c b k q i)) ∙ sym (normal_is M k)
 
       anchor_kept : (k : ℕ) → k ≤ c.face → anchor drawn k ≡ anchor M k
       anchor_kept k l = ap (λ q. point_of drawn (first_vertex drawn (content drawn q))) (outer_old k l)
-          ∙ ap (λ x. point_of drawn (first_vertex drawn x)) (same_content M drawn (outer M k) (loop_old (outer M k) (b.outers k)))
-          ∙ first_kept M drawn c.edge c.vertex keeps_drawn b.tails (content M (outer M k)) (λ h i. b.items h (outer M k) i) (λ w e. b.lones (outer M k) w e)
+          ∙ ap (λ x. point_of drawn (first_vertex drawn x)) (same_content M drawn (outer M k) (loop_old (outer M k) (outer_within b k)))
+          ∙ first_kept M drawn c.edge c.vertex keeps_drawn (tail_within b) (content M (outer M k)) (λ h i. item_within b h (outer M k) i) (λ w e. lone_within b (outer M k) w e)
 
       -- every other solid keeps its six volumes
       pub lamina_keeps : (u : ℕ) → u ≢ s → six_volume drawn u ≡ six_volume M u

@@ -10,7 +10,7 @@ use Rattle.shapes.proofs.Common.{dot_back, area_same, area_back, corner_told}
 use Rattle.sweeps_laws.specs.lamina.Path.{out, back}
 use Rattle.sweeps_laws.proofs.lamina.Lists.{out_first, plus_halves, minus_halves, back_apart, first_moved, canonical_first}
 use Rattle.sweeps_laws.proofs.LaminaRows as rows
-use Rattle.sweeps_laws.proofs.swept.Lifted.{Bounded}
+use Rattle.sweeps_laws.proofs.swept.Bounds.{HasFree}
 use Rattle.sweeps_laws.proofs.Loops.{normal_is}
 use Rattle.sweeps_laws.proofs.LaminaRows.{six_volume_is}
 
@@ -50,7 +50,7 @@ no_difference m n e = omega (arith, ints)
 
 -- ---- n points, k + 3 of them
 
-module _ {M : Model} {c : Taken} (s : ℕ) (ps : List Point) (k : ℕ) (many : length ps ≡ suc (suc (suc k))) (b : Bounded M c) where
+module _ {M : Model} {c : Taken} (s : ℕ) (ps : List Point) (k : ℕ) (many : length ps ≡ suc (suc (suc k))) (b : HasFree M c) where
   abbrev drawn : Model
   drawn = rows.drawn M c s ps
 
@@ -165,17 +165,17 @@ module _ (M : Model) (c : Taken) (s : ℕ) (a b g h : Point) where
   minus_ends : (e : ℕ) (p : Point) → start base (plus e) ≡ p → finish base (minus e) ≡ p
   minus_ends e p i = ap (start base) (mate_minus e) ∙ i
 
-  module _ (bounded : Bounded M c) where
+  module _ (has_free : HasFree M c) where
     pub base_normal : normal base (c.face + 1) ≡ ring_area a b g h
-    base_normal = normal_one s four 1 refl bounded ∙ ap (area base) (plus_halves c.edge 4)
+    base_normal = normal_one s four 1 refl has_free ∙ ap (area base) (plus_halves c.edge 4)
         ∙ (λ i. moved (cross (out_starts 0 (omega arith) i) (plus_ends (c.edge + 1) b (back_starts 0 (omega arith)) i)) (moved (cross (out_starts 1 (omega arith) i) (plus_ends (c.edge + 2) g (back_starts 1 (omega arith)) i))
         (moved (cross (out_starts 2 (omega arith) i) (plus_ends (c.edge + 3) h (back_starts 2 (omega arith)) i)) (moved (cross (last_starts i) (plus_ends (c.edge + 4) a last_ends i)) origin))))
 
     back_normal : normal base (c.face + 2) ≡ ring_area b a h g
-    back_normal = normal_back s four 1 refl bounded ∙ ap (area base) (ap canonical (minus_halves c.edge 4) ∙ back_from_first c.edge 3)
+    back_normal = normal_back s four 1 refl has_free ∙ ap (area base) (ap canonical (minus_halves c.edge 4) ∙ back_from_first c.edge 3)
         ∙ (λ i. moved (cross (back_starts 0 (omega arith) i) (minus_ends (c.edge + 1) a (out_starts 0 (omega arith)) i)) (moved (cross (last_ends i) (minus_ends (c.edge + 4) h last_starts i))
         (moved (cross (back_starts 2 (omega arith) i) (minus_ends (c.edge + 3) g (out_starts 2 (omega arith)) i)) (moved (cross (back_starts 1 (omega arith) i) (minus_ends (c.edge + 2) b (out_starts 1 (omega arith)) i)) origin))))
 
     -- the six volumes of a solid that was not there
     pub base_volume : faces_of M s ≡ [] → six_volume base s ≡ dot a (ring_area a b g h) +ℤ (dot b (ring_area b a h g) +ℤ pos 0)
-    base_volume none = faces_volume s four 1 refl bounded none ∙ (λ i. dot a (base_normal i) +ℤ (dot b (back_normal i) +ℤ pos 0))
+    base_volume none = faces_volume s four 1 refl has_free none ∙ (λ i. dot a (base_normal i) +ℤ (dot b (back_normal i) +ℤ pos 0))

@@ -2,8 +2,7 @@ pub mod lamina
 pub mod prism
 pub mod swept
 pub mod Loops
-mod Whole
-pub mod FromSound
+pub mod Whole
 pub mod LaminaRows
 pub mod LaminaVolumes
 pub mod Block

@@ -8,8 +8,9 @@ use Rattle.euler_operators.proofs.Common.{add_none, dot_moved, add_assoc, sum_to
 use Rattle.std.proofs.lemmas.Bool.Decides.{eqb_tells}
 use Rattle.std.proofs.lemmas.Int.{ints}
 use Rattle.sweeps_laws.proofs.swept.Numbers.{next_cases}
+use Rattle.sweeps_laws.proofs.swept.Bounds.{HasFree, item_within, lone_within, loops_within, outer_within, tail_within}
 use Rattle.sweeps_laws.proofs.swept.Sides.{Keeps, start_kept, finish_kept}
-use Rattle.sweeps_laws.proofs.swept.Lifted.{Bounded, IsPathOf, swept, keeps_swept, outer_new, content_here, content_old, content_new, outer_old, rings_old, rings_new, from_point, to_point, riser_start, riser_finish, top_start, top_finish, next_start, next_finish, item_start, item_finish}
+use Rattle.sweeps_laws.proofs.swept.Lifted.{IsPathOf, swept, keeps_swept, outer_new, content_here, content_old, content_new, outer_old, rings_old, rings_new, from_point, to_point, riser_start, riser_finish, top_start, top_finish, next_start, next_finish, item_start, item_finish}
 use Rattle.sweeps_laws.proofs.prism.Loops.{tops_head}
 
 module _ (M : Model) where
@@ -46,10 +47,10 @@ first_kept M N e v keeps bounded (cycle []) a b = start_kept keeps bounded 0 (om
 first_kept M N e v keeps bounded (cycle (h ∷ hs)) a b = start_kept keeps bounded h (a h (IsIn_head h hs))
 
 -- the loops of a face
-pub loops_within : (M : Model) (c : Taken) → Bounded M c → (k q : ℕ) → lists (outer M k ∷ rings_of M k) q ≡ true → q ≤ c.loop
-loops_within M c b k q i = elim (listed_cases (outer M k) q (rings_of M k) i) [
-  | inl e ↦ subst (λ x. x ≤ c.loop) (sym e) (b.outers k)
-  | inr i ↦ let p = listed_passes (λ l row. nat_eq row.face k && not (nat_eq (outer M k) l)) M.loops q i in grind (arith, at_most_greatest M.loops q (ap is_some p.1), b.loops)
+pub face_loop_within : (M : Model) (c : Taken) → HasFree M c → (k q : ℕ) → lists (outer M k ∷ rings_of M k) q ≡ true → q ≤ c.loop
+face_loop_within M c b k q i = elim (listed_cases (outer M k) q (rings_of M k) i) [
+  | inl e ↦ subst (λ x. x ≤ c.loop) (sym e) (outer_within b k)
+  | inr i ↦ let p = listed_passes (λ l row. nat_eq row.face k && not (nat_eq (outer M k) l)) M.loops q i in grind (arith, at_most_greatest M.loops q (ap is_some p.1), loops_within b)
 ]
 
 -- a closed path of n steps keeps its area where it is moved
@@ -57,7 +58,7 @@ pub ring_moved : (p q : ℕ → Point) (d : Point) (n : ℕ) → 0 < n → Linke
 ring_moved p q d zero l e c = absurd (omega arith)
 ring_moved p q d (suc n) l e c = moved_ring p q d n e (c n refl)
 
-module _ {M : Model} {c : Taken} (s : ℕ) (d : Point) {hs : List ℕ} {f l : ℕ} (b : Bounded M c) (r : IsPathOf M f l hs) where
+module _ {M : Model} {c : Taken} (s : ℕ) (d : Point) {hs : List ℕ} {f l : ℕ} (b : HasFree M c) (r : IsPathOf M f l hs) where
   abbrev after : Model
   after = swept M c s d hs f l
 
@@ -90,16 +91,19 @@ module _ {M : Model} {c : Taken} (s : ℕ) (d : Point) {hs : List ℕ} {f l : �
   path_closed : (m : ℕ) → suc m ≡ length hs → to_at m ≡ from_at 0
   path_closed m e = r.linked m (omega (arith, e)) ∙ ap from_at (elim (next_cases (length hs) m) [ inl p ↦ p.1 | inr p ↦ absurd (p.0 (omega (arith, e))) ])
 
+  linked : (i : ℕ) → suc i < length hs → to_at i ≡ from_at (suc i)
+  linked i m = elim (next_cases (length hs) i) [ inl p ↦ absurd (omega (arith, m, p.0)) | inr p ↦ r.linked i (omega (arith, m)) ∙ ap from_at (p.1 ∙ omega arith) ]
+
   pub area_lifted : area after (top_items c.edge (length hs) (length hs)) ≡ area M hs
   area_lifted = tops_area (length hs) (omega arith)
-      ∙ ring_moved from_at to_at d (length hs) r.some_item (λ i m. grind (arith, next_cases)) path_closed ∙ sym (area_sum M hs)
+      ∙ ring_moved from_at to_at d (length hs) r.some_item linked path_closed ∙ sym (area_sum M hs)
 
   pub loop_area : (q : ℕ) → q ≤ c.loop → area after (items_of (content after q)) ≡ area M (items_of (content M q))
   loop_area q m = elim (eqb_tells q l) [
     | inl e ↦ subst (λ k. area after (items_of (content after k)) ≡ area M (items_of (content M k))) (sym e.1)
         (ap (λ x. area after (items_of x)) (content_here M c s d hs f l b r) ∙ area_lifted ∙ sym (ap (λ x. area M (items_of x)) r.content))
     | inr e ↦ ap (λ x. area after (items_of x)) (content_old M c s d hs f l b r q e.1 m)
-        ∙ area_kept M after (items_of (content M q)) (λ h i. (start_kept (keeps_swept M c s d hs f l) b.tails h (b.items h q i), finish_kept (keeps_swept M c s d hs f l) b.tails h (b.items h q i)))
+        ∙ area_kept M after (items_of (content M q)) (λ h i. (start_kept (keeps_swept M c s d hs f l) (tail_within b) h (item_within b h q i), finish_kept (keeps_swept M c s d hs f l) (tail_within b) h (item_within b h q i)))
   ]
 
   pub loops_area : (ls : List ℕ) → ((q : ℕ) → lists ls q ≡ true → q ≤ c.loop) → area after (items_in after ls) ≡ area M (items_in M ls)
@@ -108,13 +112,13 @@ module _ {M : Model} {c : Taken} (s : ℕ) (d : Point) {hs : List ℕ} {f l : �
   -- each face that was there keeps its normal
   pub normal_kept : (k : ℕ) → k ≤ c.face → normal after k ≡ normal M k
   normal_kept k m = normal_is after k ∙ (λ t. area after (items_in after (outer_old M c s d hs f l b r k m t ∷ rings_old M c s d hs f l b r k m t)))
-      ∙ loops_area (outer M k ∷ rings_of M k) (loops_within M c b k) ∙ sym (normal_is M k)
+      ∙ loops_area (outer M k ∷ rings_of M k) (face_loop_within M c b k) ∙ sym (normal_is M k)
 
   -- and its anchor, where its outer loop isn't the swept one
   anchor_kept : (k : ℕ) → k ≤ c.face → outer M k ≢ l → anchor after k ≡ anchor M k
   anchor_kept k m ne = ap (λ q. point_of after (first_vertex after (content after q))) (outer_old M c s d hs f l b r k m)
-      ∙ ap (λ x. point_of after (first_vertex after x)) (content_old M c s d hs f l b r (outer M k) ne (b.outers k))
-      ∙ first_kept M after c.edge c.vertex (keeps_swept M c s d hs f l) b.tails (content M (outer M k)) (λ h i. b.items h (outer M k) i) (λ w e. b.lones (outer M k) w e)
+      ∙ ap (λ x. point_of after (first_vertex after x)) (content_old M c s d hs f l b r (outer M k) ne (outer_within b k))
+      ∙ first_kept M after c.edge c.vertex (keeps_swept M c s d hs f l) (tail_within b) (content M (outer M k)) (λ h i. item_within b h (outer M k) i) (λ w e. lone_within b (outer M k) w e)
 
   -- the anchor of the face whose outer loop is swept moves along
   anchor_moved : (k : ℕ) → k ≤ c.face → outer M k ≡ l → anchor after k ≡ moved (anchor M k) d

@@ -1,5 +1,5 @@
 pub mod Filled
 pub mod Numbers
 pub mod Sides
+pub mod Bounds
 pub mod Lifted
-pub mod Kept

@@ -12,8 +12,7 @@ use Rattle.shapes.specs.Common.{AreLeft, corners, loops_of, vertices_in, vertice
 use Rattle.sweeps_laws.specs.lamina.Laws.{BlocksHaveBases, BasesRise}
 use Rattle.sweeps_laws.specs.prism.Ready.{needed_for_sides}
 use Rattle.sweeps_laws.proofs.lamina.Lists.{plus_halves}
-use Rattle.sweeps_laws.proofs.swept.Lifted.{Bounded}
-use Rattle.sweeps_laws.proofs.FromSound.{sound_bounded}
+use Rattle.sweeps_laws.proofs.swept.Bounds.{HasFree, taken_free}
 use Rattle.sweeps_laws.proofs.LaminaRows as rows
 pub use Rattle.sweeps_laws.proofs.LaminaRows.{one_or_two, low_not_one}
 use Rattle.sweeps_laws.proofs.lamina.Steps.{greatest-with_path, greatest-with_points}
@@ -142,8 +141,8 @@ module _ (M : Model) (sound : Sound M) (c : Taken) (is : c ≡ taken_in M) (s : 
   abbrev base : Model
   base = rows.drawn M c s ps
 
-  bounded : Bounded M c
-  bounded = subst (Bounded M) (sym is) (sound_bounded M sound)
+  has_free : HasFree M c
+  has_free = subst (HasFree M) (sym is) (taken_free M sound)
 
   -- its vertices and their points
   on_path : (i : ℕ) → i < 3 → tail base (plus (c.edge + suc i)) ≡ c.vertex + suc i
@@ -154,7 +153,7 @@ module _ (M : Model) (sound : Sound M) (c : Taken) (is : c ≡ taken_in M) (s : 
 
   corners_are : corners base (c.face + 1) ≡ base_vertices
   unfolding corners loops_of
-  corners_are = ap (λ rs. vertices_in base (outer base (c.face + 1) ∷ rs)) (rows.rings_one M c s ps bounded)
+  corners_are = ap (λ rs. vertices_in base (outer base (c.face + 1) ∷ rs)) (rows.rings_one M c s ps has_free)
       ∙ ap (λ l. vertices_in base (l ∷ [])) (outer_row base (c.face + 1) (rows.first_face M c s ps) (rows.face_one M c s ps))
       ∙ ap (λ x. vertices_on base x ++ []) (content_row base (c.loop + 1) (rows.first_loop M c s ps) (rows.loop_one M c s ps) ∙ ap cycle (plus_halves c.edge 4))
       ∙ (λ i. on_path 0 (omega arith) i ∷ on_path 1 (omega arith) i ∷ on_path 2 (omega arith) i ∷ plus_tail_row base (c.edge + 4) _ (rows.last_edge_at M c s ps) i ∷ [])
@@ -191,7 +190,7 @@ module _ (M : Model) (sound : Sound M) (c : Taken) (is : c ≡ taken_in M) (s : 
           rows.there_one M c s ps,
           (
             ap not apart,
-            (ap (λ (o : Option ℕ). not (is_some o)) (rows.none_lone M c s ps bounded), (ap (λ (o : Option ℕ). not (is_some o)) (all_in_range d ra rb rg rh), left_numbers_hold (taken_in base) (needed_for_sides 4) (base_left left))),
+            (ap (λ (o : Option ℕ). not (is_some o)) (rows.none_lone M c s ps has_free), (ap (λ (o : Option ℕ). not (is_some o)) (all_in_range d ra rb rg rh), left_numbers_hold (taken_in base) (needed_for_sides 4) (base_left left))),
           ),
         ),
       )

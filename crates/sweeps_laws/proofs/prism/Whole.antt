@@ -1,5 +1,5 @@
 -- The loops of a face swept one after the other.
-use Rattle.std.proofs.Common.{◌≡◌, ◌≢◌, ℕ, zero, suc, ◌+◌, ◌-◌, ◌≤◌, ◌<◌, List, [], ◌∷◌, ◌++◌, length, Some, is_some, sym, ap, ◌∙◌, subst, arith, get_or, map, length-append}
+use Rattle.std.proofs.Common.{◌≡◌, ◌≢◌, ℕ, zero, suc, ◌+◌, ◌-◌, ◌≤◌, ◌<◌, List, [], ◌∷◌, ◌++◌, length, Some, is_some, refl, sym, ap, ◌∙◌, subst, arith, get_or, map, length-append}
 use Rattle.std.proofs.lemmas.List.{length-map}
 use Rattle.euler_operators.specs.Common.{Point, IsInRange, moved, count, IsIn, IsApart, At, edge_of, half, plus, face_of, Model, cycle, items_of, content, tail, point_of, solid_of, Sound, HasHalf}
 use Rattle.euler_operators.proofs.Common.{tick_same, IsIn-get_or, content_row, face_row, IsIn_rest, IsIn_head, get-put_other, in_use_within}
@@ -80,7 +80,7 @@ module _ (M N : Model) (c : Taken) (f l : ℕ) (d : Point) (ls : List ℕ) (g : 
       let b : k ≤ c.loop = in_use_within N.loops c.loop g.free.loops k (ap is_some (g.rows k (IsIn_rest k l ls i))) in
       get-put_other _ l _ k (not_l k i) ∙ sides_loops N c f l d hs ready (length hs) k (λ j lt s. omega arith)
 
-  next : Going M N' (taken_after c (length hs)) f d ls
+  pub next : Going M N' (taken_after c (length hs)) f d ls
   unfolding tail point_of
   next = record {
     sound = subst Sound swept (effects_keep_sound N (loop_ops M c d hs) g.sound accepted);
@@ -105,7 +105,7 @@ module _ (M N : Model) (c : Taken) (f l : ℕ) (d : Point) (ls : List ℕ) (g : 
     points_fit = λ k i. g.points_fit k (IsIn_rest k l ls i);
   }
 
-  raised_is : raised f d (record { model = N; taken = c }) l ≡ record { model = N'; taken = taken_after c (length hs) }
+  pub raised_is : raised f d (record { model = N; taken = c }) l ≡ record { model = N'; taken = taken_after c (length hs) }
   unfolding raised
   raised_is = ap (λ q. raised_over f d (record { model = N; taken = c }) l (items_of q)) (content_row N l (record { face = f; content = cycle hs }) (g.rows l (IsIn_head l ls)))
 
@@ -125,6 +125,34 @@ module _ (M N : Model) (c : Taken) (f l : ℕ) (d : Point) (ls : List ℕ) (g : 
 
     pub turn_model : (prism_from f d (record { model = X; taken = taken_after c (length (items_of (content N l))) }) ls).model ≡ (prism_from f d (record { model = N; taken = c }) (l ∷ ls)).model
     turn_model = (λ j. (prism_from f d (record { model = is_swept j; taken = taken_after c (length (same_items j)) }) ls).model) ∙ ap (λ q. (prism_from f d q ls).model) (sym raised_is)
+
+-- the same, told from the model then
+module _ (M N : Model) (c : Taken) (f : ℕ) (d : Point) (ls : List ℕ) (g : Going M N c f d ls) where
+  items_same : (l : ℕ) → IsIn l ls → items_of (content N l) ≡ items_of (content M l)
+  items_same l i = ap items_of (content_row N l _ (g.rows l i))
+
+  as_many : (ks : List ℕ) → ((l : ℕ) → IsIn l ks → IsIn l ls) → length (vertices_in N ks) ≡ length (vertices_in M ks)
+  as_many [] within = refl
+  as_many (k ∷ ks) within =
+      let hs = items_of (content M k) in
+      let i = within k (IsIn_head k ks) in
+      let now = ap (λ q. length (vertices_on N q)) (content_row N k _ (g.rows k i)) ∙ length-map hs (tail N) in
+      let first = ap (λ q. length (vertices_on M q)) (g.contents k i) ∙ length-map hs (tail M) in
+      length-append (vertices_on N (content N k)) (vertices_in N ks) ∙ (λ j. (now ∙ sym first) j + as_many ks (λ l at. within l (IsIn_rest l k ks at)) j) ∙ sym (length-append (vertices_on M (content M k)) (vertices_in M ks))
+
+  pub rebased : Going N N c f d ls
+  rebased = record {
+    sound = g.sound;
+    free = g.free;
+    left = subst (λ n. AreLeft c (needed_for_sides n)) (sym (as_many ls (λ l i. i))) g.left;
+    halves = λ h there. there;
+    starts = λ h there. refl;
+    apart = g.apart;
+    rows = λ l i. g.rows l i ∙ ap (λ hs. Some (record { face = f; content = cycle hs })) (sym (items_same l i));
+    items_there = λ l i h j. g.halves h (g.items_there l i h (subst (IsIn h) (items_same l i) j));
+    contents = λ l i. content_row N l _ (g.rows l i) ∙ ap cycle (sym (items_same l i));
+    points_fit = λ l i h j. let at = subst (IsIn h) (items_same l i) j in subst (λ p. IsInRange (moved p d)) (sym (g.starts h (g.items_there l i h at))) (g.points_fit l i h at);
+  }
 
 -- the operators of the loops are accepted, and sweep them
 pub loops_swept : (M N : Model) (c : Taken) (f : ℕ) (d : Point) (ls : List ℕ) → Going M N c f d ls → Leads N (prism_from f d (record { model = N; taken = c }) ls).model (ops_from M d c ls)

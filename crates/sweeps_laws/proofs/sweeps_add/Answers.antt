@@ -1,4 +1,4 @@
-use Rattle.sweeps_laws.proofs.FromSound.{sweep_adds, sweep_keeps_others}
+use Rattle.sweeps_laws.proofs.Whole.{sweep_adds, sweep_keeps_others}
 use Rattle.sweeps_laws.proofs.sweeps_add.Goals as goal
 
 pub returns : goal.returns

@@ -1,27 +1,17 @@
 -- One loop of a face swept: what the readers answer of the model after.
-use Rattle.std.proofs.Common.{◌≡◌, ◌≢◌, ℕ, ◌+◌, ◌≤◌, ◌<◌, true, false, cond, not, nat_eq, ◌&&◌, List, [], ◌∷◌, ◌++◌, length, get_or, Some, refl, sym, ap, subst, ◌∙◌, arith, inl, inr, append-nil}
+use Rattle.std.proofs.Common.{◌≡◌, ◌≢◌, ℕ, ◌+◌, ◌≤◌, ◌<◌, true, false, cond, not, nat_eq, ◌&&◌, List, [], ◌∷◌, ◌++◌, length, get_or, Some, is_some, refl, sym, ap, subst, ◌∙◌, arith, inl, inr, append-nil, ne_eqb, Bool}
 use Rattle.std.proofs.lemmas.Bool.Decides.{nat_tests, eqb_tells}
-use Rattle.euler_operators.specs.Common.{Point, moved, IsIn, least, from, canonical, rotate_to, edge_of, plus, minus, map_rows, Model, lone, cycle, LoopRow, items_of, tail, content, face_of, outer, point_of, rings_of, Has}
+use Rattle.euler_operators.specs.Common.{Point, moved, IsIn, least, from, canonical, rotate_to, edge_of, plus, minus, map_rows, Model, cycle, LoopRow, items_of, tail, content, face_of, outer, solid_of, point_of, rings_of, Has}
 use Rattle.euler_operators.specs.Items.{before}
-use Rattle.euler_operators.proofs.Common.{from_at, before_at, IsIn-get_or, map_one, all_where_none, all_where-map, get-put_here, get-put_other, content_row, face_row, outer_row, plus_tail_row, minus_tail_row, same_content, same_face, same_outer, none_but}
+use Rattle.euler_operators.proofs.Common.{from_at, before_at, IsIn-get_or, map_one, all_where_none, all_where-map, get-put_here, get-put_other, content_row, face_row, outer_row, plus_tail_row, minus_tail_row, same_content, same_face, same_outer, same_solid, in_use_within, none_but}
 use Rattle.euler_operators.specs.Table as table
 use Rattle.euler_laws.proofs.Common.{loop_row}
 use Rattle.shapes.specs.Common.{start, finish, Taken, riser, top_edge, top_items, next_place, lifted}
 use Rattle.shapes.proofs.Common.{at_most_greatest}
 use Rattle.sweeps_laws.proofs.swept.Filled.{place_cases, filled, filled_old, filled_new, filled_past, filled_none, same_search}
 use Rattle.sweeps_laws.proofs.swept.Numbers.{riser_above, top_above, next_within}
+use Rattle.sweeps_laws.proofs.swept.Bounds.{HasFree, item_within, loop_face_within, loops_within, tail_within}
 use Rattle.sweeps_laws.proofs.swept.Sides.{Keeps, start_kept, finish_kept, grown, item, side_face, side_items, side_loop, faces_grown, loops_grown, keeps_grown, riser_row, top_row, point_grown}
-
--- a model's numbers lie within the counters, and an outer loop is of its face
-pub record Bounded (M : Model) (c : Taken) : Type 0 where
-  pub faces : table.greatest M.faces ≤ c.face
-  pub loops : table.greatest M.loops ≤ c.loop
-  pub outers : (k : ℕ) → outer M k ≤ c.loop
-  pub loop_faces : (q : ℕ) → face_of M q ≤ c.face
-  pub items : (h q : ℕ) → IsIn h (items_of (content M q)) → edge_of h ≤ c.edge
-  pub tails : (h : ℕ) → tail M h ≤ c.vertex
-  pub lones : (q v : ℕ) → content M q ≡ lone v → v ≤ c.vertex
-  pub own : (k : ℕ) → Has M.faces k → face_of M (outer M k) ≡ k
 
 -- loop l of face f is a closed path along these half-edges
 pub record IsPathOf (M : Model) (f l : ℕ) (hs : List ℕ) : Type 0 where
@@ -96,9 +86,9 @@ module _ (M : Model) (c : Taken) (s : ℕ) (d : Point) (hs : List ℕ) (f l : �
   pub loop_past : (q : ℕ) → q ≢ l → c.loop + length hs < q → table.get swept.loops q ≡ table.get M.loops q
   loop_past q ne m = loop_other q ne ∙ filled_past M.loops c.loop (side_loop M c s d hs) (length hs) q m
 
-  module _ (b : Bounded M c) (r : IsPathOf M f l hs) where
+  module _ (b : HasFree M c) (r : IsPathOf M f l hs) where
     pub within : l ≤ c.loop
-    within = grind (arith, at_most_greatest M.loops l r.there, b.loops)
+    within = grind (arith, at_most_greatest M.loops l r.there, loops_within b)
 
     pub loop_new : (i : ℕ) → i < length hs → table.get swept.loops (c.loop + 1 + i) ≡ Some (side_loop M c s d hs i)
     loop_new i m = loop_other (c.loop + 1 + i) (λ e. absurd (omega (arith, within)))
@@ -126,7 +116,7 @@ module _ (M : Model) (c : Taken) (s : ℕ) (d : Point) (hs : List ℕ) (f l : �
     content_past q m = same_content M swept q (loop_past q (λ e. absurd (omega (arith, within))) m)
 
     pub items_within : (i : ℕ) → i < length hs → edge_of (item M c s d hs i) ≤ c.edge
-    items_within i m = b.items (item M c s d hs i) l (subst (λ x. IsIn (item M c s d hs i) (items_of x)) (sym r.content) (IsIn-get_or hs i 0 m))
+    items_within i m = item_within b (item M c s d hs i) l (subst (λ x. IsIn (item M c s d hs i) (items_of x)) (sym r.content) (IsIn-get_or hs i 0 m))
 
     side_read : (i : ℕ) → i < length hs → canonical (side_items M c s d hs i) ≡ side_items M c s d hs i
     side_read i m = let h = item M c s d hs i in let j = next_place (length hs) i in
@@ -162,15 +152,21 @@ module _ (M : Model) (c : Taken) (s : ℕ) (d : Point) (hs : List ℕ) (f l : �
     pub outer_old : (k : ℕ) → k ≤ c.face → outer swept k ≡ outer M k
     outer_old k m = same_outer M swept k (face_old k m)
 
+    abbrev is_ring : ℕ → ℕ → LoopRow → Bool
+    is_ring k q row = nat_eq row.face k && not (nat_eq (outer M k) q)
+
     pub rings_old : (k : ℕ) → k ≤ c.face → rings_of swept k ≡ rings_of M k
-    rings_old k m = grind (arith, loops_are, filled, side_loop, nat_tests, outer_old, all_where-map, same_search, rewrite_face, filled_none)
+    rings_old k m = ap (λ o. table.all_where (λ q row. nat_eq row.face k && not (nat_eq o q)) swept.loops) (outer_old k m)
+        ∙ ap (table.all_where (is_ring k)) loops_are ∙ all_where-map rewrite (is_ring k) (filled M.loops c.loop (side_loop M c s d hs) (length hs))
+        ∙ same_search (λ q row. is_ring k q (rewrite q row)) (is_ring k) (filled M.loops c.loop (side_loop M c s d hs) (length hs)) (λ q row. ap (λ f. nat_eq f k && not (nat_eq (outer M k) q)) (rewrite_face q row))
+        ∙ filled_none M.loops c.loop (side_loop M c s d hs) (loops_within b) (is_ring k) (length hs) (λ i. ap (λ t. t && not (nat_eq (outer M k) (c.loop + 1 + i))) (ne_eqb (c.face + 1 + i) k (λ e. absurd (omega (arith, m, e)))))
 
     pub rings_new : (i : ℕ) → i < length hs → rings_of swept (c.face + 1 + i) ≡ []
     rings_new i m = all_where_none (λ q row. nat_eq row.face (c.face + 1 + i) && not (nat_eq (outer swept (c.face + 1 + i)) q)) swept.loops
         (λ q y at. none_but y.face (c.face + 1 + i) (outer swept (c.face + 1 + i)) q (λ e. outer_new i m ∙ (elim (place_cases q c.loop (length hs)) [
-          | inl o ↦ absurd (omega (arith, sym (face_of_old q o) ∙ (face_row swept q y at ∙ e), b.loop_faces q))
+          | inl o ↦ absurd (omega (arith, sym (face_of_old q o) ∙ (face_row swept q y at ∙ e), loop_face_within b q))
           | inr (inl j) ↦ omega (arith, sym (face_of_new j.0 j.1) ∙ ap (face_of swept) (sym j.2) ∙ (face_row swept q y at ∙ e)) ∙ sym j.2
-          | inr (inr p) ↦ absurd (omega (arith, sym (face_of_past q p) ∙ (face_row swept q y at ∙ e), b.loop_faces q))
+          | inr (inr p) ↦ absurd (omega (arith, sym (face_of_past q p) ∙ (face_row swept q y at ∙ e), loop_face_within b q))
         ])))
 
     -- ---- where the new half-edges start and end
@@ -183,19 +179,19 @@ module _ (M : Model) (c : Taken) (s : ℕ) (d : Point) (hs : List ℕ) (f l : �
     to_point i = finish M (item M c s d hs i)
 
     new_point : (i : ℕ) → i < length hs → point_of swept (c.vertex + 1 + i) ≡ moved (from_point i) d
-    new_point i m = point_lifted (c.vertex + 1 + i) ∙ point_grown M c s d hs items_within b.tails i m
+    new_point i m = point_lifted (c.vertex + 1 + i) ∙ point_grown M c s d hs items_within (tail_within b) i m
 
     pub riser_start : (i : ℕ) → i < length hs → start swept (plus (riser c.edge i)) ≡ from_point i
-    riser_start i m = ap (point_of swept) (plus_tail_row swept (riser c.edge i) _ (riser_row M c s d hs items_within b.tails i m)) ∙ keeps_swept.points (tail M (item M c s d hs i)) (b.tails (item M c s d hs i))
+    riser_start i m = ap (point_of swept) (plus_tail_row swept (riser c.edge i) _ (riser_row M c s d hs items_within (tail_within b) i m)) ∙ keeps_swept.points (tail M (item M c s d hs i)) (tail_within b (item M c s d hs i))
 
     pub riser_finish : (i : ℕ) → i < length hs → start swept (minus (riser c.edge i)) ≡ moved (from_point i) d
-    riser_finish i m = ap (point_of swept) (minus_tail_row swept (riser c.edge i) _ (riser_row M c s d hs items_within b.tails i m)) ∙ new_point i m
+    riser_finish i m = ap (point_of swept) (minus_tail_row swept (riser c.edge i) _ (riser_row M c s d hs items_within (tail_within b) i m)) ∙ new_point i m
 
     pub top_start : (i : ℕ) → i < length hs → start swept (plus (top_edge c.edge (length hs) i)) ≡ moved (from_point i) d
-    top_start i m = ap (point_of swept) (plus_tail_row swept (top_edge c.edge (length hs) i) _ (top_row M c s d hs items_within b.tails i m)) ∙ new_point i m
+    top_start i m = ap (point_of swept) (plus_tail_row swept (top_edge c.edge (length hs) i) _ (top_row M c s d hs items_within (tail_within b) i m)) ∙ new_point i m
 
     pub top_finish : (i : ℕ) → i < length hs → start swept (minus (top_edge c.edge (length hs) i)) ≡ moved (to_point i) d
-    top_finish i m = ap (point_of swept) (minus_tail_row swept (top_edge c.edge (length hs) i) _ (top_row M c s d hs items_within b.tails i m))
+    top_finish i m = ap (point_of swept) (minus_tail_row swept (top_edge c.edge (length hs) i) _ (top_row M c s d hs items_within (tail_within b) i m))
         ∙ new_point (next_place (length hs) i) (next_within (length hs) i m) ∙ ap (λ p. moved p d) (sym (r.linked i m))
 
     pub next_start : (i : ℕ) → i < length hs → start swept (plus (riser c.edge (next_place (length hs) i))) ≡ to_point i
@@ -205,7 +201,22 @@ module _ (M : Model) (c : Taken) (s : ℕ) (d : Point) (hs : List ℕ) (f l : �
     next_finish i m = riser_finish (next_place (length hs) i) (next_within (length hs) i m) ∙ ap (λ p. moved p d) (sym (r.linked i m))
 
     pub item_start : (i : ℕ) → i < length hs → start swept (item M c s d hs i) ≡ from_point i
-    item_start i m = start_kept keeps_swept b.tails (item M c s d hs i) (items_within i m)
+    item_start i m = start_kept keeps_swept (tail_within b) (item M c s d hs i) (items_within i m)
 
     pub item_finish : (i : ℕ) → i < length hs → finish swept (item M c s d hs i) ≡ to_point i
-    item_finish i m = finish_kept keeps_swept b.tails (item M c s d hs i) (items_within i m)
+    item_finish i m = finish_kept keeps_swept (tail_within b) (item M c s d hs i) (items_within i m)
+
+    -- ---- the swept face stays, with its solid and its outer loop
+
+    module _ (there : Has M.faces f) where
+      old_face : f ≤ c.face
+      old_face = in_use_within M.faces c.face b.free.faces f there
+
+      pub there_after : Has swept.faces f
+      there_after = ap is_some (face_old f old_face) ∙ there
+
+      pub solid_after : solid_of swept f ≡ solid_of M f
+      solid_after = same_solid M swept f (face_old f old_face)
+
+      pub outer_after : outer swept f ≡ outer M f
+      outer_after = outer_old f old_face
