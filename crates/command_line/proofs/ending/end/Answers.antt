@@ -1,0 +1,5 @@
+use Rattle.std.proofs.Common.{◌∙◌}
+use Rattle.command_line.proofs.ending.end.Goals as goal
+
+pub returns : goal.returns
+returns g c = (c.printed-ended.result, c.printed-ended.ensures, c.complain.ensures, c.from.ensures ∙ c.status_of.ensures)
