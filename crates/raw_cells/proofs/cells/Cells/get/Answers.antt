@@ -7,3 +7,6 @@ filled (Some x) h = (x, refl)
 
 pub get-requires : goal.get-requires
 get-requires g c = (sym c.self.invariant.at, filled _ (rw (← c.self.view_is) at c.requires))
+
+pub returns : goal.returns
+returns g c = rw (← c.self.view_is) c.get.ensures

@@ -1,10 +1,13 @@
-use Rattle.std.proofs.Common.{◌≡◌, ◌+◌, length, arith}
+use Rattle.std.proofs.Common.{◌≡◌, ◌+◌, length, refl, arith}
 use Rattle.raw_cells.proofs.numbers_laws.Cells.{IsWider, length_rows, widened, rows_widened}
 use Rattle.raw_cells.proofs.rows.Rows.reach.Given.{Over}
 use Rattle.raw_cells.proofs.rows.Rows.reach.Goals as goal
 
 pub returns-then-number-self-clause-ok : goal.returns-then-number-self-clause-ok
 returns-then-number-self-clause-ok g c = let len : length c.args.self.now ≡ c.self.inside.room = rw (← c.self.view_is) (length_rows _ _ _ c.self.invariant) in omega (arith, len, c.if-number-self.true)
+
+pub returns-then-number-self-clause-known : goal.returns-then-number-self-clause-known
+returns-then-number-self-clause-known g c = λ h. refl
 
 pub returns-in_err-reach-clause-known : goal.returns-in_err-reach-clause-known
 returns-in_err-reach-clause-known g c = λ h. let len : length c.args.self.now ≡ c.self.inside.room = rw (← c.self.view_is) (length_rows _ _ _ c.self.invariant) in absurd (omega (arith, len, h, c.if-number-self.false))
