@@ -1,4 +1,4 @@
-use Rattle.std.proofs.Common.{List, subst}
+use Rattle.std.proofs.Common.{List, subst, rules}
 use Rattle.std.proofs.lemmas.Result.{on_ok_weaker}
 use Rattle.euler_operators.specs.Common.{Point}
 use Rattle.commands.specs.declared.command.Change.TheVariants as change
@@ -22,3 +22,6 @@ pub returns-in-Glue : goal.returns-in-Glue
 returns-in-Glue c =
     let r = c.glue_in.result in let e = c.glue_in.ensures in
     rw c.in-Glue.is (settled _ _ _ _ _ r e.ok (on_ok_weaker r (λ _. e.further) e.ok) e.refused e.memory e.err)
+
+pub returns-in-Split : goal.returns-in-Split
+returns-in-Split c = search rules

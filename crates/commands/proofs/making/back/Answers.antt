@@ -1,0 +1,6 @@
+use Rattle.std.proofs.Common.{ap, refl}
+use Rattle.commands.specs.Common.{DraftJournal, Drafting}
+use Rattle.commands.proofs.making.back.Goals as goal
+
+pub returns : goal.returns
+returns c = (refl, ap (λ (d : DraftJournal). Drafting (record { draft = d })) c.back_to.ensures)
