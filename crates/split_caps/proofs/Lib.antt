@@ -1,3 +1,4 @@
+mod behind
 mod block_cuts
 mod PartCaps
 mod Whole

@@ -7,3 +7,4 @@ pub mod Ways
 pub mod Volumes
 pub mod Halves
 pub mod Cases
+pub mod AnySession

@@ -18,10 +18,11 @@
 //! alone; the faces and the rings apart from each other by the section.
 
 ghost use Rattle.split_caps.specs.Counted.{SplitSharesCounts, SplitSharesSums, SplitMakesCounts, SplitKeepsCounts};
+ghost use Rattle.split_caps.specs.Blocks.{BlockSplitsFit, BlocksTakeNumbers};
 ghost use Rattle.split_caps.specs.LoneBlocks.{LoneBlockSplitsFit, LoneBlockPartsMeasure, LoneBlockPartsCount, LoneBlockHasCaps};
 ghost use Rattle.split_caps.specs.Laws.{CrossedAreCapped, SectionsAreCapped, CapsAreNumbered, CapsStand, HolesAreClosed, CapsHaveNormals, CapsFaceApart};
 
-use command_laws::faces_lie_flat;
+use command_laws::{faces_lie_flat, solids_are_there};
 
 /// Each cycle of the section has two caps, numbered on from the last face that was drawn, and each half-edge of the section stands in a
 /// cycle. So there are caps where a face above meets one that isn't, once the faces are drawn; and those of an outer cycle where an edge
@@ -54,6 +55,17 @@ pub fn splits_share_counts()
     ensures made { SplitMakesCounts }
     ensures others { SplitKeepsCounts }
 {}
+
+/// A new block can be split across each of its axes, strictly between its ends, whichever side of the plane is the upper one and whatever
+/// else the session holds: the split is accepted, if the upper part gets a number that is free and numbers are left. The block itself
+/// takes six faces and loops, twelve edges and eight vertices.
+pub fn block_splits_fit()
+    ensures fits { BlockSplitsFit }
+    ensures numbers { BlocksTakeNumbers }
+{
+    faces_lie_flat();
+    solids_are_there();
+}
 
 /// A block that is alone in the session can be split across each of its axes, strictly between its ends, whichever side of the plane is
 /// the upper one: the split is accepted, if the upper part gets a number of its own.

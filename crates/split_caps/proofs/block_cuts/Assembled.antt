@@ -1,11 +1,14 @@
 -- Where a solid comes through the stages, its split isn't refused.
-use Rattle.std.proofs.Common.{◌≡◌, ℕ, ◌+◌, true, false, cond, not, List, [], ◌∷◌, ◌++◌, filter, length, None, is_some, ◌&&◌, nat_lt, nat_eq, nat_le, sym, ap, subst, ◌∙◌}
+use Rattle.std.proofs.Common.{◌≡◌, ℕ, ◌+◌, true, false, cond, not, List, [], ◌∷◌, ◌++◌, filter, length, None, is_some, ◌&&◌, nat_lt, nat_eq, nat_le, sym, ap, subst, ◌∙◌, arith}
 use Rattle.euler_operators.specs.Common.{Plane, Model, Condition, faces_of, is_number, is_coordinate, is_offset, same_point, direction, origin, AllHold, part, cuts_lattice, plus}
 use Rattle.euler_operators.specs.Table as table
 use Rattle.euler_laws.proofs.Common.{◌also◌, none_refuses}
 use Rattle.shapes.specs.Common.{growing, taken_in, all_cut, all_pairs, faces_drawn, undrawn, with_crossings, with_drawings, straddling_pairs, straddling_faces, crossing_edges, first_conditions, section_conditions, split_conditions, split_refusal, later_conditions, below_halves, faces_above, face_is_above, is_crossed, is_flat, first_such, least_lone, found, has_stray_hole, start, finish, section_cycles, Opening, opened_at, next_opened, all_opened, opened_along, split_model, holes_closed, upper_left, is_touched, is_cut_often, pair_count}
 use Rattle.shapes.specs.split.Split.{upper_part}
 use Rattle.split_caps.specs.Capped.{caps_of}
+use Rattle.split_caps.specs.Blocks.{needed_to_cut}
+use Rattle.split_caps.proofs.behind.Drawn.{AllAlone}
+use Rattle.split_caps.proofs.behind.Accepted.{Takes, section_halves, section_rounds}
 use Rattle.split_caps.proofs.block_cuts.Stages.{parted, Stages, Goes, drawn_in, cut_at, picked, picked_is, in_faces, in_faces_is, ten}
 
 passed : (a b : List Condition) → AllHold a → AllHold b → AllHold (a ++ b)
@@ -28,11 +31,11 @@ pub record Ready (M : Model) (q : Plane) (s t : ℕ) : Type 0 where
   pub taken : taken_in M ≡ record { face = 6; loop = 6; edge = 12; vertex = 8 }
 
 module _ (M : Model) (q : Plane) (s : ℕ) (c : Stages) (goes : Goes M q s c) where
-  crossings : with_crossings M s q ≡ cut_at (growing M) c.cuts
+  pub crossings : with_crossings M s q ≡ cut_at (growing M) c.cuts
   unfolding with_crossings
   crossings = ap (all_cut q (growing M)) goes.crossing ∙ goes.cut
 
-  pairs : straddling_pairs M s q ≡ c.pairs
+  pub pairs : straddling_pairs M s q ≡ c.pairs
   pairs = (λ i. all_pairs M (crossings i).model q (goes.straddling i)) ∙ in_faces_is M (cut_at (growing M) c.cuts).model q c.straddling
       ∙ ap (in_faces (cut_at (growing M) c.cuts).model q c.straddling) goes.placed ∙ goes.paired
 
@@ -56,6 +59,35 @@ module _ (M : Model) (q : Plane) (s : ℕ) (c : Stages) (goes : Goes M q s c) wh
   later : AllHold (later_conditions s q (with_drawings M s q))
   later = subst (λ d. AllHold (later_conditions s q d)) (sym drawn_is)
       (ap (λ n. not (is_some (found n))) goes.not_stuck also subst (λ bs. AllHold (section_conditions (drawn_in M q c).model s q (drawn_in M q c).taken bs)) (sym below_is) sectioned)
+
+  -- ---- where it is alone, and behind others
+
+  pub alone : AllAlone (undrawn (with_crossings M s q)) (straddling_pairs M s q)
+  alone = subst (λ g. AllAlone (undrawn g) (straddling_pairs M s q)) (sym crossings) (subst (AllAlone (undrawn (cut_at (growing M) c.cuts))) (sym pairs) goes.alone)
+
+  pub halves_so : section_halves M s q ≡ 34 ∷ 36 ∷ 38 ∷ 40 ∷ []
+  halves_so = (λ i. below_halves (drawn_is i).model (faces_above (drawn_is i).model q s) s) ∙ below_is
+
+  pub rounds_so : section_rounds M s q ≡ c.cycle ∷ []
+  rounds_so = (λ i. section_cycles (drawn_is i).model (halves_so i)) ∙ goes.round
+
+  pub taken_so : (with_drawings M s q).taken ≡ record { face = 10; loop = 10; edge = 20; vertex = 12 }
+  taken_so = ap (λ d. d.taken) drawn_is ∙ goes.taken
+
+  pub takes : taken_in M ≡ record { face = 6; loop = 6; edge = 12; vertex = 8 } → Takes M s q needed_to_cut
+  takes first =
+      let cut : length (crossing_edges M q s) ≡ 4 = ap length goes.crossing ∙ goes.four in
+      let paired : pair_count M q (straddling_faces M q s) ≡ 4 = ap (pair_count M q) goes.straddling ∙ goes.counted in
+      let halves : length (section_halves M s q) ≡ 4 = ap length halves_so in let rounds : length (section_rounds M s q) ≡ 1 = ap length rounds_so in record {
+        cut_faces = omega (arith, paired);
+        cut_loops = omega (arith, paired);
+        cut_edges = omega (arith, cut, paired);
+        cut_vertices = omega (arith, cut);
+        faces = omega (arith, halves, rounds, ap (λ k. k.face) taken_so, ap (λ k. k.face) first);
+        loops = omega (arith, halves, rounds, ap (λ k. k.loop) taken_so, ap (λ k. k.loop) first);
+        edges = omega (arith, halves, ap (λ k. k.edge) taken_so, ap (λ k. k.edge) first);
+        vertices = omega (arith, halves, ap (λ k. k.vertex) taken_so, ap (λ k. k.vertex) first);
+      }
 
   module _ (t : ℕ) (ready : Ready M q s t) where
     begun : AllHold (first_conditions M s q t)

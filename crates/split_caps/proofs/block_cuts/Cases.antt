@@ -22,7 +22,7 @@ use Rattle.split_caps.proofs.block_cuts.Box.{box, block_is_box}
 use Rattle.split_caps.proofs.block_cuts.Levels.{compared, upward, downward}
 use Rattle.split_caps.proofs.block_cuts.Assembled.{Ready, accepted, caps_are, model_is}
 
-size : (d : ℤ) → int_le (pos 1) d ≡ true → (u : ℕ) × (d ≡ pos (suc u))
+pub size : (d : ℤ) → int_le (pos 1) d ≡ true → (u : ℕ) × (d ≡ pos (suc u))
 size (pos (suc u)) e = (u, refl)
 size (pos zero) e = absurd (grind (arith, ints))
 size (negsuc u) e = absurd (grind (arith, ints))
@@ -30,7 +30,7 @@ size (negsuc u) e = absurd (grind (arith, ints))
 -- ---- each axis and either way
 
 module _ (s : ℕ) (p : Point) (h : ℤ) where
-  abbrev IsCut : Axis → Bool → ℤ → ℤ → ℤ → Type 0
+  abbrev pub IsCut : Axis → Bool → ℤ → ℤ → ℤ → Type 0
   IsCut k up dx dy dz = Cut (box s p.x (p.x +ℤ dx) p.y (p.y +ℤ dy) p.z (p.z +ℤ dz)) (across k up h) s (pos 6 *ℤ size_across k dx dy dz *ℤ length_along k up p dx dy dz h) (pos 6 *ℤ size_across k dx dy dz *ℤ length_along k (not up) p dx dy dz h)
 
   x_up : (u v : ℕ) (dx : ℤ) → int_lt p.x h ≡ true → int_lt h (p.x +ℤ dx) ≡ true → IsCut x_axis true dx (pos (suc u)) (pos (suc v))
@@ -60,14 +60,14 @@ told : (b : Bool) → is_some (row_where b) ≡ b
 told true = refl
 told false = refl
 
-not_true : (b : Bool) → not b ≡ true → b ≡ false
+pub not_true : (b : Bool) → not b ≡ true → b ≡ false
 not_true true e = sym e
 not_true false e = refl
 
-closed_like : (M N : Model) (s : ℕ) → M ≡ N → IsClosedFlat M s → IsClosedFlat N s
+pub closed_like : (M N : Model) (s : ℕ) → M ≡ N → IsClosedFlat M s → IsClosedFlat N s
 closed_like M N s e = subst (λ L. IsClosedFlat L s) e
 
-offsets_fit : (a b h : ℤ) → is_coordinate a ≡ true → is_coordinate b ≡ true → int_lt a h ≡ true → int_lt h b ≡ true → (is_offset h ≡ true) × (is_offset (neg_ℤ h) ≡ true)
+pub offsets_fit : (a b h : ℤ) → is_coordinate a ≡ true → is_coordinate b ≡ true → int_lt a h ≡ true → int_lt h b ≡ true → (is_offset h ≡ true) × (is_offset (neg_ℤ h) ≡ true)
 offsets_fit a b h e f l g = (grind (arith, ints), grind (arith, ints))
 
 module _ (s t : ℕ) (x0 x1 y0 y1 z0 z1 : ℤ) where
@@ -94,7 +94,7 @@ module _ (s t : ℕ) (x0 x1 y0 y1 z0 z1 : ℤ) where
   unfolding computed box
   none_lone = refl
 
-  its_taken : taken_in (box s x0 x1 y0 y1 z0 z1) ≡ record { face = 6; loop = 6; edge = 12; vertex = 8 }
+  pub its_taken : taken_in (box s x0 x1 y0 y1 z0 z1) ≡ record { face = 6; loop = 6; edge = 12; vertex = 8 }
   unfolding computed box
   its_taken = refl
 
@@ -125,7 +125,7 @@ module _ (s t : ℕ) (x0 x1 y0 y1 z0 z1 : ℤ) where
       taken = its_taken;
     }
 
-    ready : (k : Axis) (up : Bool) (h : ℤ) → is_number s ≡ true → is_number t ≡ true → t ≢ s → is_offset h ≡ true → is_offset (neg_ℤ h) ≡ true → Ready (box s x0 x1 y0 y1 z0 z1) (across k up h) s t
+    pub ready : (k : Axis) (up : Bool) (h : ℤ) → is_number s ≡ true → is_number t ≡ true → t ≢ s → is_offset h ≡ true → is_offset (neg_ℤ h) ≡ true → Ready (box s x0 x1 y0 y1 z0 z1) (across k up h) s t
     ready x_axis true h a b ne o r = known a b ne (across x_axis true h) refl refl refl r refl
     ready x_axis false h a b ne o r = known a b ne (across x_axis false h) refl refl refl o refl
     ready y_axis true h a b ne o r = known a b ne (across y_axis true h) refl refl refl r refl
@@ -159,7 +159,7 @@ module _ (N : Model) (s t : ℕ) (lower upper : List ℕ) (below above : ℤ) (h
 
 -- the sizes as naturals, where these are known
 module _ (s : ℕ) (p : Point) (dx dy dz h : ℤ) (x : (u : ℕ) × (dx ≡ pos (suc u))) (y : (u : ℕ) × (dy ≡ pos (suc u))) (z : (u : ℕ) × (dz ≡ pos (suc u))) where
-  is_cut : (k : Axis) (up : Bool) → int_lt (coordinate k p) h ≡ true → int_lt h (coordinate k (moved p (vector dx dy dz))) ≡ true → IsCut s p h k up dx dy dz
+  pub is_cut : (k : Axis) (up : Bool) → int_lt (coordinate k p) h ≡ true → int_lt h (coordinate k (moved p (vector dx dy dz))) ≡ true → IsCut s p h k up dx dy dz
   is_cut x_axis true l g = subst (λ d. IsCut s p h x_axis true dx d dz) (sym y.1) (subst (λ d. IsCut s p h x_axis true dx (pos (suc y.0)) d) (sym z.1) (x_up s p h y.0 z.0 dx l g))
   is_cut x_axis false l g = subst (λ d. IsCut s p h x_axis false dx d dz) (sym y.1) (subst (λ d. IsCut s p h x_axis false dx (pos (suc y.0)) d) (sym z.1) (x_down s p h y.0 z.0 dx l g))
   is_cut y_axis true l g = subst (λ d. IsCut s p h y_axis true d dy dz) (sym x.1) (subst (λ d. IsCut s p h y_axis true (pos (suc x.0)) dy d) (sym z.1) (y_up s p h x.0 z.0 dy l g))
@@ -167,7 +167,7 @@ module _ (s : ℕ) (p : Point) (dx dy dz h : ℤ) (x : (u : ℕ) × (dx ≡ pos 
   is_cut z_axis true l g = subst (λ d. IsCut s p h z_axis true d dy dz) (sym x.1) (subst (λ d. IsCut s p h z_axis true (pos (suc x.0)) d dz) (sym y.1) (z_up s p h x.0 y.0 dz l g))
   is_cut z_axis false l g = subst (λ d. IsCut s p h z_axis false d dy dz) (sym x.1) (subst (λ d. IsCut s p h z_axis false (pos (suc x.0)) d dz) (sym y.1) (z_down s p h x.0 y.0 dz l g))
 
-in_range : (k : Axis) (q : Point) → is_in_range q ≡ true → is_coordinate (coordinate k q) ≡ true
+pub in_range : (k : Axis) (q : Point) → is_in_range q ≡ true → is_coordinate (coordinate k q) ≡ true
 in_range x_axis q e = (coordinates q e).0
 in_range y_axis q e = (coordinates q e).1
 in_range z_axis q e = (coordinates q e).2

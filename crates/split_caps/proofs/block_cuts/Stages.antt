@@ -6,6 +6,7 @@ use Rattle.euler_operators.specs.Table as table
 use Rattle.shapes.specs.Common.{Growing, FacePairs, Drawing, growing, all_cut, all_pairs, faces_drawn, undrawn, crossing_edges, straddling_faces, is_crossed, is_cut_often, is_touched, pair_count, first_such, face_is_above, reaches_above, reaches_below, place_pairs, drawn_pairs, from_place, below_halves, section_cycles, section_ends, least_branched, is_hole, start, finish, opened_along, edges_of, corners_in, volume_in}
 use Rattle.split_drawing_laws.proofs.crossings.OneCut.{edge_cut}
 use Rattle.solid_measure.specs.solid_counts.Counts.{rings_in}
+use Rattle.split_caps.proofs.behind.Drawn.{AllAlone}
 
 -- edges cut at points that are given
 abbrev pub next_at : Growing → (ℕ × Point) → Growing
@@ -74,6 +75,7 @@ pub record Goes (M : Model) (q : Plane) (s : ℕ) (c : Stages) : Type 0 where
   pub cut : all_cut q (growing M) (map (λ t. t.0) c.cuts) ≡ cut_at (growing M) c.cuts
   pub placed : map (place_pairs M q) c.straddling ≡ c.places
   pub paired : in_faces (cut_at (growing M) c.cuts).model q c.straddling c.places ≡ c.pairs
+  pub alone : AllAlone (undrawn (cut_at (growing M) c.cuts)) c.pairs
   pub not_stuck : (drawn_in M q c).stuck ≡ 0
   pub taken : (drawn_in M q c).taken ≡ record { face = 10; loop = 10; edge = 20; vertex = 12 }
   pub faces : faces_of (drawn_in M q c).model s ≡ ten

@@ -33,6 +33,7 @@ module _ (s : ℕ) (low high a c h : ℤ) (u v : ℕ) (q : Plane) (i : IsAcross 
     cut = simp (i.tall, i.under, i.over, divided, i.up.div, i.down.div);
     placed = simp (i.tall, i.under, i.over, compared, divided, i.up.div, i.down.div);
     paired = simp (i.tall, i.under, i.over, i.on, compared);
+    alone = ((refl, refl), ((refl, refl), ((refl, refl), ((refl, refl), tt))));
     not_stuck = refl;
     taken = refl;
     faces = simp compared;
@@ -71,6 +72,7 @@ module _ (s : ℕ) (low high a c h : ℤ) (u v : ℕ) (q : Plane) (i : IsAcross 
     cut = simp (i.tall, i.under, i.over, divided, i.up.div, i.down.div);
     placed = simp (i.tall, i.under, i.over, compared, divided, i.up.div, i.down.div);
     paired = simp (i.tall, i.under, i.over, i.on, compared);
+    alone = ((refl, refl), ((refl, refl), ((refl, refl), ((refl, refl), tt))));
     not_stuck = refl;
     taken = refl;
     faces = simp compared;
@@ -109,6 +111,7 @@ module _ (s : ℕ) (low high a c h : ℤ) (u v : ℕ) (q : Plane) (i : IsAcross 
     cut = simp (i.tall, i.under, i.over, divided, i.up.div, i.down.div);
     placed = simp (i.tall, i.under, i.over, compared, divided, i.up.div, i.down.div);
     paired = simp (i.tall, i.under, i.over, i.on, compared);
+    alone = ((refl, refl), ((refl, refl), ((refl, refl), ((refl, refl), tt))));
     not_stuck = refl;
     taken = refl;
     faces = simp compared;
@@ -147,6 +150,7 @@ module _ (s : ℕ) (low high a c h : ℤ) (u v : ℕ) (q : Plane) (i : IsAcross 
     cut = simp (i.tall, i.under, i.over, divided, i.up.div, i.down.div);
     placed = simp (i.tall, i.under, i.over, compared, divided, i.up.div, i.down.div);
     paired = simp (i.tall, i.under, i.over, i.on, compared);
+    alone = ((refl, refl), ((refl, refl), ((refl, refl), ((refl, refl), tt))));
     not_stuck = refl;
     taken = refl;
     faces = simp compared;
@@ -185,6 +189,7 @@ module _ (s : ℕ) (low high a c h : ℤ) (u v : ℕ) (q : Plane) (i : IsAcross 
     cut = simp (i.tall, i.under, i.over, divided, i.up.div);
     placed = simp (i.tall, i.under, i.over, compared, divided, i.up.div, i.down.div);
     paired = simp (i.tall, i.over, i.on, compared);
+    alone = ((refl, refl), ((refl, refl), ((refl, refl), ((refl, refl), tt))));
     not_stuck = refl;
     taken = refl;
     faces = simp compared;
@@ -223,6 +228,7 @@ module _ (s : ℕ) (low high a c h : ℤ) (u v : ℕ) (q : Plane) (i : IsAcross 
     cut = simp (i.tall, i.under, i.over, divided, i.down.div);
     placed = simp (i.tall, i.under, i.over, compared, divided, i.up.div, i.down.div);
     paired = simp (i.tall, i.under, i.on);
+    alone = ((refl, refl), ((refl, refl), ((refl, refl), ((refl, refl), tt))));
     not_stuck = refl;
     taken = refl;
     faces = simp compared;

@@ -1,0 +1,10 @@
+pub mod Numbers
+pub mod Lists
+pub mod Tables
+pub mod Models
+pub mod Places
+pub mod Effects
+pub mod Drawn
+pub mod Section
+pub mod Accepted
+pub mod Blocks
