@@ -8,3 +8,5 @@ pub mod Drawn
 pub mod Section
 pub mod Accepted
 pub mod Blocks
+pub mod Opened
+pub mod Parts

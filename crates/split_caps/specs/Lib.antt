@@ -1,5 +1,4 @@
 pub mod Capped
 pub mod Laws
 pub mod Counted
-pub mod LoneBlocks
 pub mod Blocks

@@ -12,14 +12,14 @@
 //! what it answered of the solid and from how many vertices, edges, faces and rings the session holds more. How many vertices and
 //! edges that is, and how many faces more than rings, by the edges that are cut, the edges drawn between cut places and the half-
 //! edges round the section; `v - e + f - r`, by the cycles of the section and its holes alone. Of every other solid `counts`
-//! answers what it did. A split of a block that is alone in the session, across an axis and strictly between its ends, is accepted;
-//! what each of its parts measures and counts, and the numbers of its caps. Not proved: that the holes of a section have less area
-//! than its outer cycle, so that the cap below points along the direction then too; what each part of any other solid counts
-//! alone; the faces and the rings apart from each other by the section.
+//! answers what it did. A split of a new block, across an axis and strictly between its ends, is accepted whatever else the session
+//! holds, if its upper part gets a free number and numbers are left; what each of its parts measures and counts, and the numbers of
+//! its caps. Not proved: that the holes of a section have less area than its outer cycle, so that the cap below points along the
+//! direction then too; what each part of any other solid counts alone; the faces and the rings apart from each other by the
+//! section.
 
 ghost use Rattle.split_caps.specs.Counted.{SplitSharesCounts, SplitSharesSums, SplitMakesCounts, SplitKeepsCounts};
-ghost use Rattle.split_caps.specs.Blocks.{BlockSplitsFit, BlocksTakeNumbers};
-ghost use Rattle.split_caps.specs.LoneBlocks.{LoneBlockSplitsFit, LoneBlockPartsMeasure, LoneBlockPartsCount, LoneBlockHasCaps};
+ghost use Rattle.split_caps.specs.Blocks.{BlockSplitsFit, BlocksTakeNumbers, BlocksAddSolids, BlockPartsMeasure, BlockPartsCount, BlockHasCaps};
 ghost use Rattle.split_caps.specs.Laws.{CrossedAreCapped, SectionsAreCapped, CapsAreNumbered, CapsStand, HolesAreClosed, CapsHaveNormals, CapsFaceApart};
 
 use command_laws::{faces_lie_flat, solids_are_there};
@@ -57,28 +57,22 @@ pub fn splits_share_counts()
 {}
 
 /// A new block can be split across each of its axes, strictly between its ends, whichever side of the plane is the upper one and whatever
-/// else the session holds: the split is accepted, if the upper part gets a number that is free and numbers are left. The block itself
-/// takes six faces and loops, twelve edges and eight vertices.
+/// else the session holds: the split is accepted, if the upper part gets a number that is free and numbers are left. How many numbers
+/// the block itself takes, and which solids are there then.
 pub fn block_splits_fit()
     ensures fits { BlockSplitsFit }
     ensures numbers { BlocksTakeNumbers }
+    ensures solids { BlocksAddSolids }
 {
     faces_lie_flat();
     solids_are_there();
 }
 
-/// A block that is alone in the session can be split across each of its axes, strictly between its ends, whichever side of the plane is
-/// the upper one: the split is accepted, if the upper part gets a number of its own.
-pub fn lone_block_splits_fit()
-    ensures { LoneBlockSplitsFit }
-{
-    faces_lie_flat();
-}
-
-/// The two parts of such a block are as blocks: each has six times the product of its sizes as its six volumes, eight vertices, twelve
-/// edges and six faces. The cap of the part below is face 11, that of the part above face 15.
-pub fn lone_block_parts_are_blocks()
-    ensures volumes { LoneBlockPartsMeasure }
-    ensures counts { LoneBlockPartsCount }
-    ensures caps { LoneBlockHasCaps }
+/// The two parts of a new block that was split so are as blocks: each has six times the product of its sizes as its six volumes, eight
+/// vertices, twelve edges and six faces. Four faces are drawn, and the section takes the next five numbers: the first is the cap of the
+/// part below, the last that of the part above.
+pub fn block_parts_are_blocks()
+    ensures volumes { BlockPartsMeasure }
+    ensures counts { BlockPartsCount }
+    ensures caps { BlockHasCaps }
 {}

@@ -1,20 +1,20 @@
 -- A split that is accepted where a solid is alone is accepted where it stands behind others, if numbers are left.
-use Rattle.std.proofs.Common.{◌≡◌, ℕ, ◌+◌, ◌*◌, ◌≤◌, Bool, true, false, not, ◌&&◌, nat_le, nat_lt, nat_eq, List, [], ◌∷◌, ◌++◌, map, length, Option, None, Some, is_some, option_map, refl, sym, ap, subst, ◌∙◌, arith}
+use Rattle.std.proofs.Common.{◌≡◌, ℕ, ◌+◌, ◌*◌, ◌≤◌, Bool, true, false, not, ◌&&◌, nat_le, List, [], ◌∷◌, ◌++◌, map, length, Option, None, Some, is_some, option_map, refl, sym, ap, subst, ◌∙◌, arith}
 use Rattle.std.specs.List.{list_any}
 use Rattle.std.proofs.lemmas.List.{length-map}
 use Rattle.std.proofs.lemmas.Bool.Decides.{nat_tests}
 use Rattle.euler_operators.specs.Common.{Plane, Model, Condition, AllHold, plus, faces_of, is_number, cuts_lattice, Sound, Has}
 use Rattle.euler_operators.specs.Table as table
 use Rattle.euler_laws.proofs.Common.{◌also◌, all_hold, none_refuses}
-use Rattle.shapes.specs.Common.{Needed, AreLeft, Taken, taken_in, start, finish, first_such, found, least_lone, is_flat, reaches_above, reaches_below, crossing_edges, straddling_faces, pair_count, is_touched, is_cut_often, is_crossed, with_crossings, with_drawings, straddling_pairs, undrawn, faces_above, below_halves, section_cycles, section_ends, least_branched, has_stray_hole, first_conditions, section_conditions, later_conditions, split_conditions, split_refusal}
+use Rattle.shapes.specs.Common.{Needed, AreLeft, taken_in, start, finish, first_such, found, least_lone, is_flat, reaches_above, reaches_below, crossing_edges, straddling_faces, pair_count, is_touched, is_cut_often, is_crossed, with_crossings, with_drawings, straddling_pairs, undrawn, faces_above, below_halves, section_cycles, section_ends, least_branched, has_stray_hole, first_conditions, section_conditions, later_conditions, split_conditions, split_refusal}
 use Rattle.split_caps.proofs.behind.Numbers.{past, plus_past}
 use Rattle.split_caps.proofs.behind.Lists.{any_over, such_over}
 use Rattle.split_caps.proofs.behind.Models.{Behind, faces_at, loops_at, edges_at, vertices_at, half_at, faces_are, start_is, finish_is}
-use Rattle.split_caps.proofs.behind.Places.{flat_is, lone_is, reaches_above_is, reaches_below_is, touched_is, cut_often_is, crossed_is, pair_count_is, straddling_are, crossing_are, faces_above_are}
+use Rattle.split_caps.proofs.behind.Places.{flat_is, lone_is, reaches_above_is, reaches_below_is, touched_is, cut_often_is, crossed_is, pair_count_is, straddling_are, crossing_are, faces_above_are, found_past}
 use Rattle.split_caps.proofs.behind.Drawn.{taken_past, AllAlone, DrawnBehind, drawings_past}
-use Rattle.split_caps.proofs.behind.Section.{below_halves_are, branched_is, cycles_are, stray_is, found_past}
+use Rattle.split_caps.proofs.behind.Section.{below_halves_are, branched_is, cycles_are, stray_is}
 
-passed : (a b : List Condition) → AllHold a → AllHold b → AllHold (a ++ b)
+pub passed : (a b : List Condition) → AllHold a → AllHold b → AllHold (a ++ b)
 passed [] b h k = k
 passed (c ∷ a) b h k = (h.0, passed a b h.1 k)
 
@@ -56,7 +56,7 @@ pub record Takes (N : Model) (s : ℕ) (p : Plane) (n : Needed) : Type 0 where
   pub edges : (with_drawings N s p).taken.edge + 2 * length (section_halves N s p) ≤ (taken_in N).edge + n.edges
   pub vertices : (with_drawings N s p).taken.vertex + length (section_halves N s p) ≤ (taken_in N).vertex + n.vertices
 
--- solid s, which A hasn't, is N's where it is alone, and M's behind A. Where it is alone each of its faces has at most one pair to draw
+-- solid s, which A hasn't, is N's where it is alone, and M's behind A. Each face that is drawn has one pair, in one loop, and no ring then
 pub record Stands (A N M : Model) (s : ℕ) (p : Plane) : Type 0 where
   pub sound : Sound A
   pub behind : Behind A N M
@@ -120,7 +120,7 @@ module _ (A N M : Model) (s : ℕ) (p : Plane) (w : Stands A N M s p) where
     unfolding section_conditions
     sectioned (stuck, (branched, (stray, _))) =
         let D = (with_drawings N s p).model in let E = (with_drawings M s p).model in let bs = section_halves N s p in let cs = section_rounds N s p in
-        ap (λ k. not (is_some (found k))) drawn.stuck ∙ ap not (found_past A w.sound D E drawn.behind (faces_at A) (with_drawings N s p).stuck) ∙ stuck
+        ap (λ k. not (is_some (found k))) drawn.stuck ∙ ap not (found_past (faces_at A) (with_drawings N s p).stuck) ∙ stuck
         also ap (λ xs. not (is_some (least_branched E (section_ends E xs)))) halves_are ∙ ap not (branched_is A w.sound D E drawn.behind bs) ∙ branched
         also ap (λ xs. not (has_stray_hole E p xs)) rounds_are ∙ ap not (stray_is A w.sound D E drawn.behind p cs) ∙ stray
         also (λ i. nat_le ((drawn.taken i).face + (long i + rounds i)) 1000000) ∙ later_within (taken_in N).face (faces_at A) (length bs + length cs) (with_drawings N s p).taken.face n.faces (at_most.faces) takes.faces

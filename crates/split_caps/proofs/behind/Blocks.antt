@@ -2,7 +2,7 @@
 use Rattle.std.proofs.Common.{◌≡◌, ◌≢◌, ℕ, zero, suc, ◌+◌, ◌-◌, ◌*◌, ℤ, pos, Bool, true, false, cond, nat_eq, List, [], ◌∷◌, ◌++◌, map, reverse, length, get_or, append-nil, refl, sym, ap, subst, ◌∙◌, arith, inl, inr}
 use Rattle.std.proofs.lemmas.List.{map-append, length-map}
 use Rattle.std.proofs.lemmas.Bool.Decides.{eqb_tells}
-use Rattle.euler_operators.specs.Common.{Point, Table, Model, FaceRow, LoopRow, EdgeRow, cycle, items_of, moved, canonical, plus, minus, tail, content, outer, solid_of, no_point, empty_model, Sound}
+use Rattle.euler_operators.specs.Common.{Point, Table, Model, EdgeRow, cycle, items_of, moved, canonical, plus, minus, tail, content, solid_of, empty_model, Sound}
 use Rattle.euler_operators.specs.Table as table
 use Rattle.shapes.specs.Common.{Taken, taken_in, Growing, growing, numbers_after, start, vector}
 use Rattle.shapes.specs.Lamina.{with_points, with_path, with_ring, lamina_at, lamina_model, lamina_face}
@@ -10,33 +10,33 @@ use Rattle.shapes.specs.Prism.{riser, top_edge, next_place, with_side, with_side
 use Rattle.shapes.specs.Block.{base_of, block_model}
 use Rattle.shapes.specs.Common.{loops_of}
 use Rattle.split_caps.proofs.behind.Numbers.{past, half_past, past_real, plus_past, minus_past}
-use Rattle.split_caps.proofs.behind.Lists.{pushed, mapped_over, reverse_over}
+use Rattle.split_caps.proofs.behind.Lists.{mapped_over, reverse_over}
 use Rattle.split_caps.proofs.behind.Tables.{IsBehind, put_at, greatest_of}
 use Rattle.split_caps.proofs.behind.Models.{Behind, faces_at, loops_at, edges_at, vertices_at, half_at, face_past, loop_past, tails_past, same_place, tail_is, start_is, content_is, items_are, solid_is, loops_are}
 use Rattle.split_caps.proofs.behind.Effects.{canonical_at}
 use Rattle.split_caps.proofs.behind.Drawn.{taken_past, GrownBehind}
 use Rattle.split_caps.proofs.block_cuts.Computed.{computed}
 
-counted : (k n m : ℕ) → n ≢ 0 → m ≡ n + k → m ≡ past k n
+pub counted : (k n m : ℕ) → n ≢ 0 → m ≡ n + k → m ≡ past k n
 counted k n m some e = e ∙ sym (past_real k n some)
 
 -- numbers on from one, behind k and before
-after_some : (a i : ℕ) → a + suc i ≢ 0
+pub after_some : (a i : ℕ) → a + suc i ≢ 0
 after_some a i e = absurd (omega arith)
 
-after_on : (k a i : ℕ) → a + k + suc i ≡ past k (a + suc i)
+pub after_on : (k a i : ℕ) → a + k + suc i ≡ past k (a + suc i)
 after_on k a i = counted k (a + suc i) (a + k + suc i) (after_some a i) (omega arith)
 
 more_some : (a i : ℕ) → a + suc i + 1 ≢ 0
 more_some a i e = absurd (omega arith)
 
-more_on : (k a i : ℕ) → a + k + suc i + 1 ≡ past k (a + suc i + 1)
+pub more_on : (k a i : ℕ) → a + k + suc i + 1 ≡ past k (a + suc i + 1)
 more_on k a i = counted k (a + suc i + 1) (a + k + suc i + 1) (more_some a i) (omega arith)
 
-one_some : (a : ℕ) → a + 1 ≢ 0
+pub one_some : (a : ℕ) → a + 1 ≢ 0
 one_some a e = absurd (omega arith)
 
-one_on : (k a : ℕ) → a + k + 1 ≡ past k (a + 1)
+pub one_on : (k a : ℕ) → a + k + 1 ≡ past k (a + 1)
 one_on k a = counted k (a + 1) (a + k + 1) (one_some a) (omega arith)
 
 two_some : (a : ℕ) → a + 2 ≢ 0
@@ -51,7 +51,7 @@ place_some a i e = absurd (omega arith)
 place_on : (k a i : ℕ) → a + k + 1 + i ≡ past k (a + 1 + i)
 place_on k a i = counted k (a + 1 + i) (a + k + 1 + i) (place_some a i) (omega arith)
 
-numbers_on : (k a n : ℕ) → numbers_after (a + k) n ≡ map (past k) (numbers_after a n)
+pub numbers_on : (k a n : ℕ) → numbers_after (a + k) n ≡ map (past k) (numbers_after a n)
 numbers_on k a zero = refl
 numbers_on k a (suc n) = (λ i. one_on k a i ∷ numbers_after (next i) n) ∙ ap (λ t. past k (a + 1) ∷ t) (numbers_on k (a + 1) n) where
   next : a + k + 1 ≡ a + 1 + k

@@ -1,12 +1,12 @@
 -- The edges of a solid behind others cut, and its faces drawn: as where it is alone, behind the others.
-use Rattle.std.proofs.Common.{◌≡◌, ◌≢◌, ℕ, zero, suc, ◌+◌, Bool, true, false, cond, nat_eq, List, [], ◌∷◌, ◌++◌, map, filter, fold, length, Option, None, Some, is_some, option_map, refl, sym, ap, subst, ◌∙◌, arith}
-use Rattle.euler_operators.specs.Common.{Plane, Point, is_on, cut_between, Model, plus, minus, mate, edge_of, after, loop_of, content, rings_of, half, round, mev_at, mef, effect, Sound, Has, Table, At}
+use Rattle.std.proofs.Common.{◌≡◌, ◌≢◌, ℕ, ◌+◌, Bool, true, false, cond, nat_eq, List, [], ◌∷◌, map, filter, Option, None, Some, is_some, option_map, refl, sym, ap, subst, ◌∙◌, arith}
+use Rattle.euler_operators.specs.Common.{Plane, Point, is_on, cut_between, Model, plus, edge_of, after, loop_of, content, rings_of, round, mev_at, mef, effect, Sound, Has, Table}
 use Rattle.euler_operators.specs.Table as table
 use Rattle.euler_operators.specs.Common.{get-map_rows, get-put}
 use Rattle.euler_operators.proofs.Common.{mate_plus, plus_row, code-half}
-use Rattle.shapes.specs.Common.{Taken, taken_in, Growing, growing, start, finish, next_cut, all_cut, with_crossings, crossing_edges, straddling_faces, FacePairs, Drawing, undrawn, from_place, drawn_pairs, all_pairs, straddling_pairs, place_pairs, in_one_loop, next_drawn, join_next, draw_next, draw_pair, faces_drawn, with_drawings, with_rings, rings_above, rings_shared, all_drawn, ring_free, stuck_at, join_pair, some_above, vertices_on}
+use Rattle.shapes.specs.Common.{Taken, taken_in, Growing, growing, start, finish, next_cut, all_cut, with_crossings, crossing_edges, straddling_faces, FacePairs, Drawing, undrawn, from_place, drawn_pairs, all_pairs, straddling_pairs, place_pairs, in_one_loop, next_drawn, join_next, draw_next, draw_pair, faces_drawn, with_drawings, with_rings, rings_shared, all_drawn, ring_free, stuck_at, join_pair, some_above, vertices_on}
 use Rattle.split_drawing_laws.proofs.crossings.OneCut.{cut_is_mev}
-use Rattle.split_caps.proofs.behind.Numbers.{past, past_same, past_next, plus_past, half_same}
+use Rattle.split_caps.proofs.behind.Numbers.{past, past_same, past_next, plus_past}
 use Rattle.split_caps.proofs.behind.Lists.{pushed, mapped_over}
 use Rattle.split_caps.proofs.behind.Models.{Behind, faces_at, loops_at, edges_at, vertices_at, half_at, start_is, finish_is, after_is, loop_is, rings_are}
 use Rattle.split_caps.proofs.behind.Places.{pair_at, place_pairs_are, crossing_are, straddling_are}

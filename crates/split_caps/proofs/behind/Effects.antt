@@ -1,16 +1,16 @@
 -- What the operators of a split make of a model behind another: the model that they make of it alone, behind the other.
-use Rattle.std.proofs.Common.{◌≡◌, ◌≢◌, ℕ, zero, suc, ◌+◌, ◌*◌, Bool, true, false, cond, not, ◌||◌, ◌&&◌, nat_eq, nat_lt, nat_cmp, List, [], ◌∷◌, ◌++◌, map, length, Option, None, Some, is_some, refl, sym, ap, subst, ◌∙◌, arith, true≢false}
+use Rattle.std.proofs.Common.{◌≡◌, ◌≢◌, ℕ, suc, ◌+◌, ◌*◌, true, cond, nat_eq, nat_lt, nat_cmp, List, [], ◌∷◌, ◌++◌, map, length, Some, is_some, refl, sym, ap, subst, ◌∙◌, arith, true≢false}
 use Rattle.std.proofs.lemmas.List.{map-append}
 use Rattle.std.specs.FinMap.Entries.{find}
-use Rattle.euler_operators.specs.Common.{Point, Table, Model, FaceRow, LoopRow, EdgeRow, LoopContent, lone, cycle, items_of, holds, count, plus, minus, edge_of, is_first, mate, tail, loop_of, content, face_of, solid_of, face_at, cycle_of, after, arc, round, canonical, insert_before, onward, upto, rotate_to, edge_row, where_held, with_before, with_tails, loop_to_face, corner_loop, corner_list, corner_tail, At, half, mev_at, mef, mekr, ring_in, Sound, Has, HasHalf}
+use Rattle.euler_operators.specs.Common.{Point, Table, Model, LoopRow, EdgeRow, LoopContent, cycle, items_of, holds, count, plus, minus, edge_of, is_first, mate, tail, solid_of, face_at, cycle_of, after, arc, round, canonical, insert_before, onward, upto, edge_row, where_held, with_before, with_tails, mev_at, mef, Sound, Has, HasHalf}
 use Rattle.euler_operators.specs.Table as table
 use Rattle.euler_operators.specs.Table.{map_entries}
-use Rattle.euler_operators.proofs.Common.{map_same, nat_eq_itself, plus_row, minus_row, code-half, row_some}
+use Rattle.euler_operators.proofs.Common.{map_same, nat_eq_itself, plus_row, minus_row}
 use Rattle.euler_operators.specs.Rings as rings
-use Rattle.split_caps.proofs.behind.Numbers.{past, half_past, past_same, half_same, half_least, edge_past, first_past, mate_past, plus_past, minus_past}
-use Rattle.split_caps.proofs.behind.Lists.{pushed, count_over, canonical_over, insert_over, onward_over, upto_over, rotate_over}
-use Rattle.split_caps.proofs.behind.Tables.{IsBehind, put_past, map_past, remove_past, none_turned, none_removed}
-use Rattle.split_caps.proofs.behind.Models.{Behind, faces_at, loops_at, edges_at, vertices_at, half_at, face_past, content_past, loop_past, tails_past, same_place, none_held, half_apart, no_loop_past, held_is, items_are, tail_is, solid_is, face_at_is, face_is, cycle_is, loop_is, after_is, has_edge}
+use Rattle.split_caps.proofs.behind.Numbers.{past, half_same, half_least, edge_past, first_past, mate_past, plus_past, minus_past}
+use Rattle.split_caps.proofs.behind.Lists.{pushed, count_over, canonical_over, insert_over, onward_over, upto_over}
+use Rattle.split_caps.proofs.behind.Tables.{IsBehind, put_past, map_past, none_turned}
+use Rattle.split_caps.proofs.behind.Models.{Behind, faces_at, loops_at, edges_at, vertices_at, half_at, face_past, content_past, loop_past, tails_past, same_place, none_held, half_apart, held_is, items_are, tail_is, solid_is, face_at_is, cycle_is, after_is, has_edge}
 
 module _ (A : Model) where
   pub canonical_at : (hs : List ℕ) → canonical (map (half_at A) hs) ≡ map (half_at A) (canonical hs)

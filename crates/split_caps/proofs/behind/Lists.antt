@@ -1,7 +1,7 @@
 -- What is read off lists whose numbers are renamed, each to one of its own.
-use Rattle.std.proofs.Common.{◌≡◌, ℕ, zero, suc, ◌+◌, ◌/◌, min, Bool, true, false, cond, not, ◌&&◌, ◌||◌, nat_eq, nat_lt, List, [], ◌∷◌, ◌++◌, map, reverse, length, filter, flat_map, Option, None, Some, is_some, option_map, refl, sym, ap, ◌∙◌, arith}
+use Rattle.std.proofs.Common.{◌≡◌, ℕ, zero, suc, ◌+◌, min, Bool, true, false, cond, ◌&&◌, ◌||◌, nat_eq, List, [], ◌∷◌, ◌++◌, map, reverse, filter, flat_map, Some, option_map, refl, sym, ap, ◌∙◌}
 use Rattle.std.specs.List.{list_any, list_all}
-use Rattle.std.proofs.lemmas.List.{map-append, length-map}
+use Rattle.std.proofs.lemmas.List.{map-append}
 use Rattle.euler_operators.specs.Common.{count, least, rotate_to, canonical, rest, upto, onward, successor, predecessor, insert_before, head_or, orbit, lists}
 use Rattle.euler_operators.proofs.Common.{reverse-cons}
 use Rattle.euler_operators.specs.Items.{before, after, from, last_or, least_with}
@@ -13,14 +13,6 @@ use Rattle.shapes.specs.Rewriting.{renamed}
 pub pushed : {A B : Type 0} (f : A → B) (b : Bool) (x y : A) → cond b (f x) (f y) ≡ f (cond b x y)
 pushed f true x y = refl
 pushed f false x y = refl
-
-pub all_same : {A B : Type 0} (f g : A → B) → ((x : A) → f x ≡ g x) → (xs : List A) → map f xs ≡ map g xs
-all_same f g e [] = refl
-all_same f g e (x ∷ xs) = λ i. e x i ∷ all_same f g e xs i
-
-pub twice : {A B C : Type 0} (f : B → C) (g : A → B) (xs : List A) → map f (map g xs) ≡ map (λ x. f (g x)) xs
-twice f g [] = refl
-twice f g (x ∷ xs) = ap (λ t. f (g x) ∷ t) (twice f g xs)
 
 pub mapped_over : {A B C D : Type 0} (f : B → C) (g : A → B) (h : D → C) (k : A → D) → ((x : A) → f (g x) ≡ h (k x)) → (xs : List A) → map f (map g xs) ≡ map h (map k xs)
 mapped_over f g h k e [] = refl

@@ -1,14 +1,14 @@
 -- A model that stands behind another: its rows come after those of the other, with their numbers counted past the greatest there.
 -- What it is asked it answers as it did alone.
-use Rattle.std.proofs.Common.{◌≡◌, ◌≢◌, ℕ, zero, suc, ◌+◌, ◌<◌, Bool, true, false, cond, not, ◌&&◌, ◌||◌, nat_eq, nat_lt, List, [], ◌∷◌, ◌++◌, map, filter, Option, None, Some, is_some, unwrap_or, option_map, refl, sym, ap, ◌∙◌, arith, true≢false, eqb-true}
+use Rattle.std.proofs.Common.{◌≡◌, ℕ, zero, suc, ◌+◌, ◌<◌, Bool, true, false, not, ◌&&◌, ◌||◌, nat_eq, nat_lt, List, [], ◌∷◌, ◌++◌, map, Option, None, Some, is_some, unwrap_or, option_map, refl, sym, ap, ◌∙◌, arith, true≢false, eqb-true}
 use Rattle.std.proofs.lemmas.List.{map-append}
-use Rattle.euler_operators.specs.Common.{Point, Table, Model, FaceRow, LoopRow, EdgeRow, LoopContent, lone, cycle, items_of, holds, count, no_face, no_loop, no_edge, no_point, plus, minus, edge_of, is_first, mate, tail_in, tail, loop_of, content, face_of, solid_of, outer, point_of, face_at, is_ring_of, faces_of, rings_of, has_rings, is_empty, cycle_of, after, before, successor, predecessor, is_number, lists, Sound, Has, HasHalf, NumbersFit}
+use Rattle.euler_operators.specs.Common.{Point, Table, Model, FaceRow, LoopRow, EdgeRow, LoopContent, lone, cycle, items_of, holds, count, no_face, no_loop, no_edge, no_point, plus, edge_of, is_first, mate, tail_in, tail, loop_of, content, face_of, solid_of, outer, point_of, face_at, faces_of, rings_of, cycle_of, after, before, successor, predecessor, lists, Sound, Has, HasHalf, NumbersFit}
 use Rattle.euler_operators.specs.Table as table
 use Rattle.euler_operators.proofs.Common.{all_where_none, not_held, holds-none, row_of, face_row, solid_row, number_real, plus_row, nat_eq_turned}
-use Rattle.shapes.specs.Common.{loops_of, items_in, boundary, vertices_on, vertices_in, corners, corners_in, start, finish, edges_of, vertices_of}
+use Rattle.shapes.specs.Common.{loops_of, items_in, boundary, vertices_on, vertices_in, corners, corners_in, start, finish, edges_of}
 use Rattle.shapes.proofs.Common.{none_above}
 use Rattle.split_caps.proofs.behind.Numbers.{past, half_past, past_same, half_same, edge_past, first_past, mate_past, plus_past}
-use Rattle.split_caps.proofs.behind.Lists.{pushed, mapped_over, filter_over, count_over, successor_over, predecessor_over, lists_over}
+use Rattle.split_caps.proofs.behind.Lists.{mapped_over, count_over, successor_over, predecessor_over}
 use Rattle.split_caps.proofs.behind.Tables.{IsBehind, get_past, get_before, all_past, first_kept}
 use Rattle.split_caps.proofs.behind.Tables as tables
 
@@ -133,9 +133,6 @@ module _ (A : Model) (sound : Sound A) (N M : Model) (b : Behind A N M) where
   there f None = refl
   there f (Some x) = refl
 
-  pub has_loop : (l : ℕ) → table.has M.loops (past (loops_at A) l) ≡ table.has N.loops l
-  has_loop l = ap is_some (row_of_loop l) ∙ there (loop_past A) (table.get N.loops l)
-
   pub has_edge : (e : ℕ) → table.has M.edges (past (edges_at A) e) ≡ table.has N.edges e
   has_edge e = ap is_some (row_of_edge e) ∙ there (tails_past A) (table.get N.edges e)
 
@@ -215,17 +212,6 @@ module _ (A : Model) (sound : Sound A) (N M : Model) (b : Behind A N M) where
   rings_are f = all_past A.loops (loop_past A) N.loops M.loops b.loops (λ l row. nat_eq row.face (past (faces_at A) f) && not (nat_eq (outer M (past (faces_at A) f)) l))
       (none_on_face A sound f (λ l row. not (nat_eq (outer M (past (faces_at A) f)) l)))
       ∙ ap (λ p. map (past (loops_at A)) (table.all_where p N.loops)) (λ i l row. past_same (faces_at A) row.face f i && not ((ap (λ k. nat_eq k (past (loops_at A) l)) (outer_is f) ∙ past_same (loops_at A) (outer N f) l) i))
-
-  pub has_rings_is : (f : ℕ) → has_rings M (past (faces_at A) f) ≡ has_rings N f
-  unfolding has_rings
-  has_rings_is f = ap (λ ls. not (is_empty ls)) (rings_are f) ∙ go (rings_of N f) where
-    go : (ls : List ℕ) → not (is_empty (map (past (loops_at A)) ls)) ≡ not (is_empty ls)
-    go [] = refl
-    go (l ∷ ls) = refl
-
-  pub is_ring_is : (f l : ℕ) → is_ring_of M (past (faces_at A) f) (past (loops_at A) l) ≡ is_ring_of N f l
-  is_ring_is f l = λ i. has_loop l i && (ap (λ g. nat_eq g (past (faces_at A) f)) (face_is l) ∙ past_same (faces_at A) (face_of N l) f) i
-      && not ((ap (λ k. nat_eq k (past (loops_at A) l)) (outer_is f) ∙ past_same (loops_at A) (outer N f) l) i)
 
   -- ---- what belongs to a face
 

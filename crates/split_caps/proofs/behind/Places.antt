@@ -1,13 +1,13 @@
 -- Where a plane cuts a solid that stands behind others, and how its faces lie: as where it is alone.
-use Rattle.std.proofs.Common.{◌≡◌, ℕ, ◌+◌, ◌/◌, pos, ◌+ℤ◌, int_lt, Bool, true, false, cond, not, ◌&&◌, ◌||◌, nat_eq, List, [], ◌∷◌, ◌++◌, map, filter, length, Option, None, Some, is_some, refl, sym, ap, ◌∙◌}
+use Rattle.std.proofs.Common.{◌≡◌, ℕ, ◌+◌, ◌/◌, pos, ◌+ℤ◌, int_lt, Bool, true, false, cond, not, ◌&&◌, ◌||◌, nat_eq, List, [], ◌∷◌, map, filter, length, None, Some, is_some, refl, sym, ap, ◌∙◌}
 use Rattle.std.specs.List.{list_any, list_all}
 use Rattle.std.proofs.lemmas.List.{length-map}
-use Rattle.euler_operators.specs.Common.{Point, Plane, moved, cross, dot, origin, same_point, is_above, is_below, is_on, are_opposite, cut_between, direction, lex_less, plus, Model, LoopContent, lone, cycle, LoopRow, items_of, tail, content, outer, before, point_of, faces_of, rings_of, head_or, is_lone, lists, differ, Sound}
+use Rattle.euler_operators.specs.Common.{Plane, moved, cross, dot, origin, same_point, is_above, is_below, is_on, are_opposite, cut_between, direction, lex_less, plus, Model, LoopContent, lone, cycle, items_of, content, outer, before, point_of, faces_of, rings_of, is_lone, lists, differ, Sound}
 use Rattle.euler_operators.specs.Table as table
 use Rattle.euler_operators.proofs.Common.{all_where_none}
-use Rattle.shapes.specs.Common.{boundary, corners, start, finish, edges_of, first_vertex, area, normal, anchor, plane_of, plane_through, is_plane_of, is_flat, volume_in, some_above, some_below, reaches_above, reaches_below, straddles, straddling_faces, crosses, crossing_edges, face_is_above, faces_above, is_place, place_point, goes_up, places, loop_is_cut, is_touched, is_cut_often, some_meet, sorted_in, sorted, in_pairs, sorted_pairs, is_up_and_down, is_crossed, up_first, place_pairs, pair_count, least_lone, found}
+use Rattle.shapes.specs.Common.{boundary, corners, start, edges_of, first_vertex, area, normal, anchor, plane_of, plane_through, is_plane_of, is_flat, volume_in, some_above, some_below, reaches_above, reaches_below, straddles, straddling_faces, crosses, crossing_edges, face_is_above, faces_above, is_place, place_point, goes_up, places, loop_is_cut, is_touched, is_cut_often, some_meet, sorted_in, sorted, in_pairs, sorted_pairs, is_up_and_down, is_crossed, up_first, place_pairs, pair_count, least_lone, found}
 use Rattle.split_caps.proofs.behind.Numbers.{past, past_same, plus_past}
-use Rattle.split_caps.proofs.behind.Lists.{pushed, filter_over, any_over, all_over, head_over, lists_over, mapped_over}
+use Rattle.split_caps.proofs.behind.Lists.{pushed, filter_over, any_over, all_over, lists_over, mapped_over}
 use Rattle.split_caps.proofs.behind.Tables as tables
 use Rattle.split_caps.proofs.behind.Models.{Behind, faces_at, loops_at, edges_at, vertices_at, half_at, content_past, loop_past, point_is, tail_is, start_is, finish_is, outer_is, content_is, items_are, boundary_is, corners_are, before_is, rings_are, faces_are, edges_are, none_listed, loop_face}
 
@@ -15,10 +15,14 @@ use Rattle.split_caps.proofs.behind.Models.{Behind, faces_at, loops_at, edges_at
 abbrev pub pair_at : Model → ℕ × ℕ → ℕ × ℕ
 pair_at A q = (half_at A q.0, half_at A q.1)
 
-module _ (A : Model) (sound : Sound A) (N M : Model) (b : Behind A N M) where
-  abbrev hs_at : List ℕ → List ℕ
-  hs_at hs = map (half_at A) hs
+-- a search that finds 0 finds nothing
+pub found_past : (k n : ℕ) → is_some (found (past k n)) ≡ is_some (found n)
+found_past k n = ap (λ t. is_some (cond t None (Some (past k n)))) (past_same k n 0) ∙ go (nat_eq n 0) where
+  go : (t : Bool) → is_some (cond t None (Some (past k n))) ≡ is_some (cond t None (Some n))
+  go true = refl
+  go false = refl
 
+module _ (A : Model) (sound : Sound A) (N M : Model) (b : Behind A N M) where
   -- ---- normals and planes
 
   pub area_is : (hs : List ℕ) → area M (map (half_at A) hs) ≡ area N hs
@@ -55,10 +59,7 @@ module _ (A : Model) (sound : Sound A) (N M : Model) (b : Behind A N M) where
       (all_where_none (λ _ row. is_lone row.content && lists (map (past (faces_at A)) fs) row.face) A.loops
       (λ l row at. ap (λ t. is_lone row.content && t) (none_listed A sound fs row.face (loop_face A sound l row at)) ∙ never (is_lone row.content)))
       ∙ ap (λ p. past (loops_at A) (table.first_where p N.loops)) (λ i l row. kind row.content i && lists_over (past (faces_at A)) (past_same (faces_at A)) fs row.face i))
-      ∙ ap (λ t. is_some (cond t None (Some (past (loops_at A) n)))) (past_same (loops_at A) n 0) ∙ go (nat_eq n 0) where
-        n : ℕ
-        n = table.first_where (λ _ row. is_lone row.content && lists fs row.face) N.loops
-
+      ∙ found_past (loops_at A) (table.first_where (λ _ row. is_lone row.content && lists fs row.face) N.loops) where
         never : (t : Bool) → (t && false) ≡ false
         never true = refl
         never false = refl
@@ -66,10 +67,6 @@ module _ (A : Model) (sound : Sound A) (N M : Model) (b : Behind A N M) where
         kind : (c : LoopContent) → is_lone (content_past A c) ≡ is_lone c
         kind (lone v) = refl
         kind (cycle hs) = refl
-
-        go : (t : Bool) → is_some (cond t None (Some (past (loops_at A) n))) ≡ is_some (cond t None (Some n))
-        go true = refl
-        go false = refl
 
   module _ (p : Plane) where
     -- ---- sides

@@ -1,15 +1,15 @@
 -- The section of a solid behind others: as where it is alone.
 use Rattle.std.proofs.Common.{◌≡◌, ℕ, ◌+◌, pos, int_lt, Bool, true, false, cond, not, ◌&&◌, nat_eq, nat_lt, List, [], ◌∷◌, ◌++◌, map, filter, flat_map, length, Option, None, Some, is_some, option_map, unwrap_or, refl, sym, ap, ◌∙◌}
 use Rattle.std.proofs.lemmas.List.{map-append, length-map}
-use Rattle.euler_operators.specs.Common.{Point, Plane, dot, direction, count, least, orbit, mate, plus, minus, Model, tail, face_at, lists, Sound, Has}
+use Rattle.euler_operators.specs.Common.{Plane, dot, direction, count, least, orbit, mate, plus, minus, Model, tail, face_at, lists, Sound, Has}
 use Rattle.euler_operators.specs.Table as table
 use Rattle.euler_operators.proofs.Common.{all_where_none}
 use Rattle.shapes.specs.Common.{edges_of, first_such, found, area, below_half, below_halves, section_ends, least_branched, next_below, cycle_from, section_cycles, is_hole, holes_in, has_stray_hole}
 use Rattle.split_caps.proofs.behind.Numbers.{past, past_same, half_same, half_least, mate_past, plus_past, minus_past}
-use Rattle.split_caps.proofs.behind.Lists.{pushed, mapped_over, filter_over, flat_over, such_over, count_over, lists_over, least_over, orbit_over}
+use Rattle.split_caps.proofs.behind.Lists.{mapped_over, filter_over, flat_over, such_over, count_over, lists_over, least_over, orbit_over}
 use Rattle.split_caps.proofs.behind.Tables as tables
 use Rattle.split_caps.proofs.behind.Models.{Behind, faces_at, edges_at, vertices_at, half_at, same_place, tail_is, face_at_is, edges_are, vertex_apart}
-use Rattle.split_caps.proofs.behind.Places.{area_is}
+use Rattle.split_caps.proofs.behind.Places.{area_is, found_past}
 
 module _ (A : Model) (sound : Sound A) (N M : Model) (b : Behind A N M) where
   below_half_is : (us : List ℕ) (e : ℕ) → below_half M (map (past (faces_at A)) us) (past (edges_at A) e) ≡ map (half_at A) (below_half N us e)
@@ -40,12 +40,6 @@ module _ (A : Model) (sound : Sound A) (N M : Model) (b : Behind A N M) where
   none_meet : (v : ℕ) → Has A.vertices v → (ws : List ℕ) → count v (map (past (vertices_at A)) ws) ≡ 0
   none_meet v there [] = refl
   none_meet v there (w ∷ ws) = λ i. cond (vertex_apart A sound v w there i) 1 0 + none_meet v there ws i
-
-  pub found_past : (k n : ℕ) → is_some (found (past k n)) ≡ is_some (found n)
-  found_past k n = ap (λ t. is_some (cond t None (Some (past k n)))) (past_same k n 0) ∙ go (nat_eq n 0) where
-    go : (t : Bool) → is_some (cond t None (Some (past k n))) ≡ is_some (cond t None (Some n))
-    go true = refl
-    go false = refl
 
   pub branched_is : (bs : List ℕ) → is_some (least_branched M (section_ends M (map (half_at A) bs))) ≡ is_some (least_branched N (section_ends N bs))
   branched_is bs = ap (λ ws. is_some (least_branched M ws)) (ends_are bs)

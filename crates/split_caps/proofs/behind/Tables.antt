@@ -1,5 +1,5 @@
 -- A table whose rows stand behind those of another, with their numbers counted past its greatest.
-use Rattle.std.proofs.Common.{◌≡◌, ◌≢◌, ℕ, zero, suc, ◌+◌, ◌<◌, Bool, true, false, cond, not, nat_eq, nat_lt, nat_cmp, List, [], ◌∷◌, ◌++◌, map, length, filter, Option, None, Some, is_some, option_map, refl, sym, ap, subst, ◌∙◌, arith}
+use Rattle.std.proofs.Common.{◌≡◌, ◌≢◌, ℕ, zero, suc, ◌+◌, ◌<◌, Bool, true, false, cond, nat_cmp, List, [], ◌∷◌, ◌++◌, map, None, Some, option_map, refl, sym, ap, subst, ◌∙◌, arith}
 use Rattle.std.proofs.lemmas.Bool.Decides.{nat_tests}
 use Rattle.std.specs.Ordering.{eq_by_cmp}
 use Rattle.std.specs.Cmp.{unsigned_tied}
@@ -48,10 +48,6 @@ module _ {X : Type 0} (k : ℕ) (f : X → X) where
   map_shifted g h e [] = refl
   map_shifted g h e (x ∷ xs) = λ i. (past k x.0, e x.0 x.1 i) ∷ map_shifted g h e xs i
 
-  key_shifted : (p q : ℕ → Bool) → ((n : ℕ) → p (past k n) ≡ q n) → (es : List (ℕ × X)) → where_key nat_cmp p (shifted es) ≡ shifted (where_key nat_cmp q es)
-  key_shifted p q e [] = refl
-  key_shifted p q e (x ∷ xs) = (λ i. cond (e x.0 i) ((past k x.0, f x.1) ∷ key_shifted p q e xs i) (key_shifted p q e xs i)) ∙ pushed shifted (q x.0) (x ∷ where_key nat_cmp q xs) (where_key nat_cmp q xs)
-
   greatest_shifted : (es : List (ℕ × X)) → greatest_in (shifted es) ≡ past k (greatest_in es)
   greatest_shifted [] = refl
   greatest_shifted (e ∷ []) = refl
@@ -97,13 +93,6 @@ module _ {X : Type 0} where
   map_behind : (g : ℕ → X → X) (es ds : List (ℕ × X)) → map_entries g (es ++ ds) ≡ map_entries g es ++ map_entries g ds
   map_behind g [] ds = refl
   map_behind g (e ∷ es) ds = ap (λ t. (e.0, g e.0 e.1) ∷ t) (map_behind g es ds)
-
-  key_behind : (p : ℕ → Bool) (es ds : List (ℕ × X)) → where_key nat_cmp p (es ++ ds) ≡ where_key nat_cmp p es ++ where_key nat_cmp p ds
-  key_behind p [] ds = refl
-  key_behind p (e ∷ es) ds = ap (λ t. cond (p e.0) (e ∷ t) t) (key_behind p es ds) ∙ go (p e.0) where
-    go : (b : Bool) → cond b (e ∷ where_key nat_cmp p es ++ where_key nat_cmp p ds) (where_key nat_cmp p es ++ where_key nat_cmp p ds) ≡ cond b (e ∷ where_key nat_cmp p es) (where_key nat_cmp p es) ++ where_key nat_cmp p ds
-    go true = refl
-    go false = refl
 
   greatest_behind : (es : List (ℕ × X)) (e : ℕ × X) (ds : List (ℕ × X)) → greatest_in (es ++ e ∷ ds) ≡ greatest_in (e ∷ ds)
   greatest_behind [] e ds = refl
@@ -151,30 +140,11 @@ module _ {X : Type 0} (a : Table X) (f : X → X) (t u : Table X) (is : IsBehind
   unfolding table.map_rows
   map_past g h stays e = ap (map_entries g) is ∙ map_behind g a.rows (shifted k f t.rows) ∙ (λ i. stays i ++ map_shifted k f g h e t.rows i)
 
-  pub remove_past : (n : ℕ) → where_key nat_cmp (λ m. not (eq_by_cmp nat_cmp (past k n) m)) a.rows ≡ a.rows → IsBehind a f (table.remove t n) (table.remove u (past k n))
-  unfolding table.remove
-  remove_past n stays = ap (where_key nat_cmp (λ m. not (eq_by_cmp nat_cmp (past k n) m))) is ∙ key_behind (λ m. not (eq_by_cmp nat_cmp (past k n) m)) a.rows (shifted k f t.rows)
-      ∙ (λ i. stays i ++ key_shifted k f (λ m. not (eq_by_cmp nat_cmp (past k n) m)) (λ m. not (eq_by_cmp nat_cmp n m))
-      (λ m i. not ((unsigned_tied (past k n) (past k m) ∙ past_same k n m ∙ sym (unsigned_tied n m)) i)) t.rows i)
-
-  pub greatest_past : (e : ℕ × X) (es : List (ℕ × X)) → t.rows ≡ e ∷ es → table.greatest u ≡ past k (table.greatest t)
-  unfolding table.greatest
-  greatest_past e es some = ap greatest_in is ∙ (λ i. greatest_in (a.rows ++ shifted k f (some i))) ∙ greatest_behind a.rows (past k e.0, f e.1) (shifted k f es) ∙ greatest_shifted k f (e ∷ es)
-      ∙ ap (λ r. past k (greatest_in r)) (sym some)
-
--- rows that a rewriting leaves, since no row passes its test, or none is found by a number
+-- rows that a rewriting leaves, since none passes its test
 pub none_turned : {X : Type 0} (p : ℕ → X → Bool) (y : ℕ → X → X) (es : List (ℕ × X)) → all_in p es ≡ [] → map_entries (λ n x. cond (p n x) (y n x) x) es ≡ es
 none_turned p y [] none = refl
 none_turned p y (e ∷ es) none = go (p e.0 e.1) none (none_turned p y es) where
   go : (b : Bool) → cond b (e.0 ∷ all_in p es) (all_in p es) ≡ [] → (all_in p es ≡ [] → map_entries (λ n x. cond (p n x) (y n x) x) es ≡ es) → (e.0, cond b (y e.0 e.1) e.1) ∷ map_entries (λ n x. cond (p n x) (y n x) x) es ≡ e ∷ es
-  go true is rest = cc
-  go false is rest = ap (λ t. e ∷ t) (rest is)
-
-pub none_removed : {X : Type 0} (n : ℕ) (es : List (ℕ × X)) → find nat_cmp n es ≡ None → where_key nat_cmp (λ m. not (eq_by_cmp nat_cmp n m)) es ≡ es
-none_removed n [] none = refl
-none_removed n (e ∷ es) none = go (eq_by_cmp nat_cmp n e.0) none (none_removed n es) where
-  go : (b : Bool) → cond b (Some e.1) (find nat_cmp n es) ≡ None → (find nat_cmp n es ≡ None → where_key nat_cmp (λ m. not (eq_by_cmp nat_cmp n m)) es ≡ es)
-      → cond (not b) (e ∷ where_key nat_cmp (λ m. not (eq_by_cmp nat_cmp n m)) es) (where_key nat_cmp (λ m. not (eq_by_cmp nat_cmp n m)) es) ≡ e ∷ es
   go true is rest = cc
   go false is rest = ap (λ t. e ∷ t) (rest is)
 

@@ -1,19 +1,14 @@
 -- Where a solid comes through the stages, its split isn't refused.
-use Rattle.std.proofs.Common.{◌≡◌, ℕ, ◌+◌, true, false, cond, not, List, [], ◌∷◌, ◌++◌, filter, length, None, is_some, ◌&&◌, nat_lt, nat_eq, nat_le, sym, ap, subst, ◌∙◌, arith}
-use Rattle.euler_operators.specs.Common.{Plane, Model, Condition, faces_of, is_number, is_coordinate, is_offset, same_point, direction, origin, AllHold, part, cuts_lattice, plus}
+use Rattle.std.proofs.Common.{◌≡◌, ℕ, ◌+◌, true, false, cond, not, [], ◌∷◌, ◌++◌, filter, length, None, is_some, ◌&&◌, nat_lt, nat_eq, nat_le, sym, ap, subst, ◌∙◌, arith}
+use Rattle.euler_operators.specs.Common.{Plane, Model, faces_of, is_number, is_coordinate, is_offset, same_point, direction, origin, AllHold, part, cuts_lattice, plus}
 use Rattle.euler_operators.specs.Table as table
 use Rattle.euler_laws.proofs.Common.{◌also◌, none_refuses}
-use Rattle.shapes.specs.Common.{growing, taken_in, all_cut, all_pairs, faces_drawn, undrawn, with_crossings, with_drawings, straddling_pairs, straddling_faces, crossing_edges, first_conditions, section_conditions, split_conditions, split_refusal, later_conditions, below_halves, faces_above, face_is_above, is_crossed, is_flat, first_such, least_lone, found, has_stray_hole, start, finish, section_cycles, Opening, opened_at, next_opened, all_opened, opened_along, split_model, holes_closed, upper_left, is_touched, is_cut_often, pair_count}
-use Rattle.shapes.specs.split.Split.{upper_part}
-use Rattle.split_caps.specs.Capped.{caps_of}
+use Rattle.shapes.specs.Common.{growing, taken_in, all_cut, all_pairs, faces_drawn, undrawn, with_crossings, with_drawings, straddling_pairs, straddling_faces, crossing_edges, first_conditions, section_conditions, split_conditions, split_refusal, later_conditions, below_halves, faces_above, face_is_above, is_crossed, is_flat, first_such, least_lone, found, has_stray_hole, start, finish, section_cycles, is_hole, opened_along, split_model, is_touched, is_cut_often, pair_count}
 use Rattle.split_caps.specs.Blocks.{needed_to_cut}
 use Rattle.split_caps.proofs.behind.Drawn.{AllAlone}
-use Rattle.split_caps.proofs.behind.Accepted.{Takes, section_halves, section_rounds}
+use Rattle.split_caps.proofs.behind.Accepted.{Takes, section_halves, section_rounds, passed}
+use Rattle.split_caps.proofs.behind.Parts.{split_once}
 use Rattle.split_caps.proofs.block_cuts.Stages.{parted, Stages, Goes, drawn_in, cut_at, picked, picked_is, in_faces, in_faces_is, ten}
-
-passed : (a b : List Condition) → AllHold a → AllHold b → AllHold (a ++ b)
-passed [] b h k = k
-passed (c ∷ a) b h k = (h.0, passed a b h.1 k)
 
 -- what a split asks before anything is cut
 pub record Ready (M : Model) (q : Plane) (s t : ℕ) : Type 0 where
@@ -113,29 +108,14 @@ module _ (M : Model) (q : Plane) (s : ℕ) (c : Stages) (goes : Goes M q s c) wh
 
   -- ---- the model after it
 
+  pub outer_so : is_hole (with_drawings M s q).model q c.cycle ≡ false
+  outer_so = (λ i. is_hole (drawn_is i).model q c.cycle) ∙ goes.outer
+
   above_so : faces_above (with_drawings M s q).model q s ≡ picked c.upper ten
   above_so = (λ i. faces_above (drawn_is i).model q s) ∙ above_is
 
-  -- the solid before it is opened
-  abbrev begun_with : Opening
-  begun_with = record { model = (drawn_in M q c).model; taken = (drawn_in M q c).taken; caps = [] }
-
-  opened_so : opened_at (with_drawings M s q) (faces_above (with_drawings M s q).model q s) s q ≡ next_opened q (picked c.upper ten) s begun_with c.cycle
-  opened_so = (λ i. opened_at (drawn_is i) (faces_above (drawn_is i).model q s) s q) ∙ ap (λ us. opened_at (drawn_in M q c) us s q) above_is
-      ∙ ap (λ bs. all_opened q (picked c.upper ten) s begun_with (section_cycles (drawn_in M q c).model bs)) goes.below
-      ∙ ap (all_opened q (picked c.upper ten) s begun_with) goes.round
-
-  caps_so : (next_opened q (picked c.upper ten) s begun_with c.cycle).caps ≡ record { lower = 11; upper = 15; hole = false } ∷ []
-  unfolding next_opened
-  caps_so = λ i. record { lower = (goes.taken i).face + 1; upper = (goes.taken i).face + goes.long i + 1; hole = goes.outer i } ∷ []
-
-  pub caps_are : caps_of M s q ≡ record { lower = 11; upper = 15; hole = false } ∷ []
-  caps_are = ap (λ o. o.caps) opened_so ∙ caps_so
-
-  model_so : (next_opened q (picked c.upper ten) s begun_with c.cycle).model ≡ opened_along (drawn_in M q c).model (picked c.upper ten) s (record { face = 10; loop = 10; edge = 20; vertex = 12 }) c.cycle
-  unfolding next_opened
-  model_so = ap (λ k. opened_along (drawn_in M q c).model (picked c.upper ten) s k c.cycle) goes.taken
+  last_so : (with_drawings M s q).taken.face + length c.cycle + 1 ≡ 15
+  last_so = λ i. (taken_so i).face + goes.long i + 1
 
   pub model_is : (t : ℕ) → split_model M s q t ≡ parted M q c s t
-  unfolding split_model
-  model_is t = (λ i. upper_part (opened_so i) (above_so i) s t) ∙ (λ i. part (holes_closed (model_so i) (caps_so i)) s t (upper_left (picked c.upper ten) (caps_so i)))
+  model_is t = split_once M s q c.cycle rounds_so outer_so t ∙ (λ i. part (opened_along (drawn_is i).model (above_so i) s (taken_so i) c.cycle) s t (above_so i ++ last_so i ∷ []))

@@ -1,26 +1,20 @@
--- A split of a block alone across an axis, strictly between its ends: it is accepted, and its parts are told.
-use Rattle.std.proofs.Common.{◌≡◌, ◌≢◌, ℕ, zero, suc, ℤ, pos, negsuc, ◌+ℤ◌, ◌*ℤ◌, neg_ℤ, int_lt, int_le, Bool, true, false, cond, not, List, [], ◌∷◌, length, nat_eq, Option, None, Some, is_some, refl, sym, ap, subst, ◌∙◌, arith, ne_eqb}
+-- A block alone, cut across an axis strictly between its ends: what the split asks, and what its parts are.
+use Rattle.std.proofs.Common.{◌≡◌, ◌≢◌, ℕ, zero, suc, ℤ, pos, negsuc, ◌+ℤ◌, ◌*ℤ◌, neg_ℤ, int_lt, int_le, Bool, true, false, cond, not, List, [], ◌∷◌, length, None, Some, is_some, refl, sym, ap, subst, ◌∙◌, arith, ne_eqb}
 use Rattle.std.proofs.lemmas.Int.{ints}
-use Rattle.euler_operators.specs.Common.{Point, Plane, Model, moved, is_number, is_coordinate, is_in_range, is_offset, faces_of, lists, same_point, direction, origin, empty_model, Sound, AllHold}
+use Rattle.euler_operators.specs.Common.{Point, Plane, Model, moved, is_number, is_coordinate, is_in_range, is_offset, faces_of, lists, same_point, direction, origin}
 use Rattle.euler_operators.specs.Table as table
 use Rattle.euler_operators.specs.Table.{get-put}
-use Rattle.euler_operators.proofs.Common.{coordinates, nat_eq_itself, nat_eq_turned}
-use Rattle.euler_laws.proofs.Common.{all_hold}
-use Rattle.euler_laws.proofs.shared.Empty.{empty_sound}
-use Rattle.shapes.specs.Common.{vector, first_such, is_flat, least_lone, taken_in, split_refusal, split_model, split_conditions, first_conditions, block_conditions, block_model, six_volume, volume_in, edges_of, vertices_of, corners_in}
-use Rattle.undo_journal.specs.Machine.{Machine, held}
-use Rattle.command_laws.specs.Commands.{IsBlock}
-use Rattle.command_laws.specs.Flat.{IsClosedFlat, BlocksLieFlat}
-use Rattle.split_caps.specs.LoneBlocks.{Axis, x_axis, y_axis, z_axis, coordinate, across, size_across, length_along, counts_of_block, LoneBlockSplitsFit, LoneBlockPartsMeasure, LoneBlockPartsCount, LoneBlockHasCaps}
-use Rattle.split_caps.specs.Capped.{caps_of}
-use Rattle.split_caps.proofs.block_cuts.Stages.{Cut, Halves, parted}
+use Rattle.euler_operators.proofs.Common.{coordinates, nat_eq_itself}
+use Rattle.shapes.specs.Common.{vector, first_such, is_flat, least_lone, taken_in, six_volume, volume_in, edges_of, vertices_of, corners_in}
+use Rattle.command_laws.specs.Flat.{IsClosedFlat}
+use Rattle.split_caps.specs.Blocks.{Axis, x_axis, y_axis, z_axis, coordinate, across, size_across, length_along, counts_of_block}
+use Rattle.split_caps.proofs.block_cuts.Stages.{Cut, Halves}
 use Rattle.split_caps.proofs.block_cuts.Halves.{cut_x_up, cut_x_down, cut_y_up, cut_y_down, cut_z_up, cut_z_down}
 use Rattle.solid_measure.specs.solid_counts.Counts.{counts, rings_in, tally_of}
-use Rattle.plane_split.specs.SplitModels.{IsSplit}
 use Rattle.split_caps.proofs.block_cuts.Computed.{computed}
-use Rattle.split_caps.proofs.block_cuts.Box.{box, block_is_box}
+use Rattle.split_caps.proofs.block_cuts.Box.{box}
 use Rattle.split_caps.proofs.block_cuts.Levels.{compared, upward, downward}
-use Rattle.split_caps.proofs.block_cuts.Assembled.{Ready, accepted, caps_are, model_is}
+use Rattle.split_caps.proofs.block_cuts.Assembled.{Ready}
 
 pub size : (d : ℤ) → int_le (pos 1) d ≡ true → (u : ℕ) × (d ≡ pos (suc u))
 size (pos (suc u)) e = (u, refl)
@@ -53,13 +47,6 @@ module _ (s : ℕ) (p : Point) (h : ℤ) where
 
 -- ---- the block in its model
 
-abbrev row_where : Bool → Option (Unit {0})
-row_where b = cond b (Some tt) None
-
-told : (b : Bool) → is_some (row_where b) ≡ b
-told true = refl
-told false = refl
-
 pub not_true : (b : Bool) → not b ≡ true → b ≡ false
 not_true true e = sym e
 not_true false e = refl
@@ -78,13 +65,6 @@ module _ (s t : ℕ) (x0 x1 y0 y1 z0 z1 : ℤ) where
   other_solid : t ≢ s → table.has (box s x0 x1 y0 y1 z0 z1).solids t ≡ false
   unfolding computed box
   other_solid ne = ap is_some (get-put table.empty s tt t) ∙ ap (λ b. is_some (cond b (Some tt) None)) (ne_eqb t s ne)
-
-  -- the new solid's number is another one
-  other_number : (q : Plane) → split_refusal (box s x0 x1 y0 y1 z0 z1) s q t ≡ None → nat_eq t s ≡ false
-  unfolding computed box split_conditions first_conditions
-  other_number q none =
-      let hold = all_hold (split_conditions (box s x0 x1 y0 y1 z0 z1) s q t) none in
-      sym (told (nat_eq t s)) ∙ sym (ap is_some (get-put table.empty s tt t)) ∙ not_true _ hold.1.1.1.0
 
   its_faces : faces_of (box s x0 x1 y0 y1 z0 z1) s ≡ 1 ∷ 2 ∷ 3 ∷ 4 ∷ 5 ∷ 6 ∷ []
   unfolding computed box
@@ -136,7 +116,7 @@ module _ (s t : ℕ) (x0 x1 y0 y1 z0 z1 : ℤ) where
 -- ---- the two parts
 
 module _ (N : Model) (s t : ℕ) (lower upper : List ℕ) (below above : ℤ) (halves : Halves N s t lower upper below above) where
-  half_volumes : (six_volume N s ≡ below) × (six_volume N t ≡ above)
+  pub half_volumes : (six_volume N s ≡ below) × (six_volume N t ≡ above)
   unfolding six_volume
   half_volumes = (ap (volume_in N) halves.lower_faces ∙ halves.lower_volume, ap (volume_in N) halves.upper_faces ∙ halves.upper_volume)
 
@@ -149,7 +129,7 @@ module _ (N : Model) (s t : ℕ) (lower upper : List ℕ) (below above : ℤ) (h
       let fourth : length (rings_in N (faces_of N u)) ≡ 0 = ap (λ ks. length (rings_in N ks)) faces ∙ ap length rings in
       λ i. tally_of (first i) (edges i) (third i) (fourth i)
 
-  half_counts : (counts N s ≡ counts_of_block) × (counts N t ≡ counts_of_block)
+  pub half_counts : (counts N s ≡ counts_of_block) × (counts N t ≡ counts_of_block)
   half_counts = (
     counted_of s lower halves.lower_faces halves.lower_six halves.lower_edges halves.lower_vertices halves.lower_rings,
     counted_of t upper halves.upper_faces halves.upper_six halves.upper_edges halves.upper_vertices halves.upper_rings,
@@ -171,55 +151,3 @@ pub in_range : (k : Axis) (q : Point) → is_in_range q ≡ true → is_coordina
 in_range x_axis q e = (coordinates q e).0
 in_range y_axis q e = (coordinates q e).1
 in_range z_axis q e = (coordinates q e).2
-
-module _ (before after : Machine) (s : ℕ) (p : Point) (dx dy dz : ℤ) (none : held before ≡ empty_model) (made : IsBlock before after s p dx dy dz) where
-  block_is : held after ≡ box s p.x (p.x +ℤ dx) p.y (p.y +ℤ dy) p.z (p.z +ℤ dz)
-  block_is = ap held made.1 ∙ ap (λ M. block_model M s p dx dy dz) none ∙ block_is_box s p dx dy dz
-
-  hold : AllHold (block_conditions (held before) s p dx dy dz)
-  hold = all_hold (block_conditions (held before) s p dx dy dz) made.0
-
-  module _ (k : Axis) (up : Bool) (h : ℤ) (l : int_lt (coordinate k p) h ≡ true) (g : int_lt h (coordinate k (moved p (vector dx dy dz))) ≡ true) where
-    cut : IsCut s p h k up dx dy dz
-    unfolding block_conditions
-    cut = is_cut s p dx dy dz h (size dx hold.1.1.0) (size dy hold.1.1.1.0) (size dz hold.1.1.1.1.0) k up l g
-
-    split_fits : BlocksLieFlat → (t : ℕ) → is_number t ≡ true → t ≢ s → split_refusal (held after) s (across k up h) t ≡ None
-    unfolding block_conditions
-    split_fits lie_flat t number ne =
-        let offsets = offsets_fit (coordinate k p) (coordinate k (moved p (vector dx dy dz))) h (in_range k p hold.1.1.1.1.1.0) (in_range k (moved p (vector dx dy dz)) hold.1.1.1.1.1.1.0) l g in
-        let flat = closed_like _ _ s block_is (lie_flat before after s p dx dy dz (subst Sound (sym none) empty_sound) made) in
-        ap (λ M. split_refusal M s (across k up h) t) block_is
-        ∙ accepted _ _ s _ cut.goes t (ready s t p.x (p.x +ℤ dx) p.y (p.y +ℤ dy) p.z (p.z +ℤ dz) flat k up h hold.0 number ne offsets.0 offsets.1)
-
-    caps_stand : caps_of (held after) s (across k up h) ≡ record { lower = 11; upper = 15; hole = false } ∷ []
-    caps_stand = ap (λ M. caps_of M s (across k up h)) block_is ∙ caps_are _ _ s _ cut.goes
-
-    module _ (parts : Machine) (t : ℕ) (split : IsSplit after parts s (across k up h) t) where
-      apart : nat_eq t s ≡ false
-      apart = other_number s t p.x (p.x +ℤ dx) p.y (p.y +ℤ dy) p.z (p.z +ℤ dz) (across k up h) (ap (λ M. split_refusal M s (across k up h) t) (sym block_is) ∙ split.0)
-
-      parts_are : held parts ≡ parted (box s p.x (p.x +ℤ dx) p.y (p.y +ℤ dy) p.z (p.z +ℤ dz)) (across k up h) cut.stages s t
-      parts_are = ap held split.1 ∙ ap (λ M. split_model M s (across k up h) t) block_is ∙ model_is _ _ s _ cut.goes t
-
-      halves : Halves (parted (box s p.x (p.x +ℤ dx) p.y (p.y +ℤ dy) p.z (p.z +ℤ dz)) (across k up h) cut.stages s t) s t cut.lower cut.upper
-          (pos 6 *ℤ size_across k dx dy dz *ℤ length_along k up p dx dy dz h) (pos 6 *ℤ size_across k dx dy dz *ℤ length_along k (not up) p dx dy dz h)
-      halves = cut.halves t apart (nat_eq_turned s t ∙ apart)
-
-pub lone_block_splits_fit : BlocksLieFlat → LoneBlockSplitsFit
-lone_block_splits_fit lie_flat before after s p dx dy dz k up h t none made l g number ne = split_fits before after s p dx dy dz none made k up h l g lie_flat t number ne
-
-pub lone_block_has_caps : LoneBlockHasCaps
-lone_block_has_caps before after s p dx dy dz k up h none made l g = caps_stand before after s p dx dy dz none made k up h l g
-
-pub lone_block_parts_measure : LoneBlockPartsMeasure
-lone_block_parts_measure before after parts s p dx dy dz k up h t none made l g split =
-    let e = parts_are before after s p dx dy dz none made k up h l g parts t split in
-    let v = half_volumes _ s t _ _ _ _ (halves before after s p dx dy dz none made k up h l g parts t split) in
-    (ap (λ N. six_volume N s) e ∙ v.0, ap (λ N. six_volume N t) e ∙ v.1)
-
-pub lone_block_parts_count : LoneBlockPartsCount
-lone_block_parts_count before after parts s p dx dy dz k up h t none made l g split =
-    let e = parts_are before after s p dx dy dz none made k up h l g parts t split in
-    let v = half_counts _ s t _ _ _ _ (halves before after s p dx dy dz none made k up h l g parts t split) in
-    (ap (λ N. counts N s) e ∙ v.0, ap (λ N. counts N t) e ∙ v.1)
