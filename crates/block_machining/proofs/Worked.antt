@@ -16,6 +16,7 @@ use Rattle.solid_measure.specs.solid_counts.Counts.{counts}
 use Rattle.split_caps.specs.Capped.{caps_of}
 use Rattle.shapes.specs.Common.{AreLeft, Needed, Taken, is_plane_of, lamina_face, glue_conditions, glue_model, loops_of, boundary, corners, taken_in, lamina_conditions, lamina_model, prism_conditions, with_side, raised, prism_model, block_conditions, block_model, normal, plane_of, is_flat, straddles, face_is_above, is_place, place_point, places, is_touched, is_cut_often, is_crossed, sorted_pairs, place_pairs, next_cut, with_crossings, drawn_pairs, join_next, draw_next, next_drawn, with_drawings, below_halves, section_cycles, is_hole, opened_along, next_opened, first_conditions, section_conditions, split_conditions, split_model}
 use Rattle.euler_operators.specs.Table as table
+use Rattle.block_machining.specs.Halving.{HasRoom}
 use Rattle.block_machining.specs.Machines.{blank, bossed, lengthened, merged, paired, parted, score, spur, stacked, triangular}
 
 -- opens the definitions that the machines compute by
@@ -44,6 +45,24 @@ blank_free = refl
 
 pub start_left : AreLeft (taken_in (held start)) (record { faces = 6; loops = 6; edges = 12; vertices = 8 })
 start_left = left start _ _ start_taken (record { faces = omega arith; loops = omega arith; edges = omega arith; vertices = omega arith })
+
+start_upper_free : table.has (held start).solids 2 ≡ false
+unfolding computed
+start_upper_free = refl
+
+-- a new session has room for a block and its upper part
+pub start_room : HasRoom (held start) 1 2
+start_room = record {
+  number = refl;
+  upper_number = refl;
+  apart = λ e. absurd (omega (arith, e));
+  free = start_free;
+  upper_free = start_upper_free;
+  left = left start _ _ start_taken (record { faces = omega arith; loops = omega arith; edges = omega arith; vertices = omega arith });
+}
+
+pub start_face : (taken_in (held start)).face ≡ 0
+start_face = ap (λ c. c.face) start_taken
 
 pub lamina_left : AreLeft (taken_in (held start)) (record { faces = 2; loops = 2; edges = 3; vertices = 3 })
 lamina_left = left start _ _ start_taken (record { faces = omega arith; loops = omega arith; edges = omega arith; vertices = omega arith })
