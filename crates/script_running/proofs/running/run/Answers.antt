@@ -1,4 +1,4 @@
-use Rattle.std.proofs.Common.{Ok}
+use Rattle.std.proofs.Common.{Ok, rules}
 use Rattle.std.proofs.KnownBytes.{Consumes-nil}
 use Rattle.script_running.proofs.RunLaws.{from_start, finished, nothing_begins}
 use Rattle.script_running.proofs.running.run.Goals as goal
@@ -8,6 +8,9 @@ returns-in_default g c = nothing_begins _ _ _ (Consumes-nil (g.R.Read.remaining 
 
 pub returns-in_default-new : goal.returns-in_default-new
 returns-in_default-new g c = nothing_begins _ _ _ (Consumes-nil (g.R.Read.remaining c.args.reader))
+
+pub returns-in_err-summary : goal.returns-in_err-summary
+returns-in_err-summary g c = search rules
 
 pub returns : goal.returns
 returns g c =
