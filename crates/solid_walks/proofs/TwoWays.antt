@@ -95,10 +95,10 @@ module _ (M : Model) (sound : Sound M) (h : ℕ) (there : HasHalf M h) where
 
   module _ (a b n : ℕ) (w : Unseen M h a b n) where
     ahead_cases : ((w.between ≡ []) × (round M a ≡ b)) ⊎ NextAhead a b n w
-    ahead_cases = go w.between refl w.path where
-      go : (xs : List ℕ) → w.between ≡ xs → IsPath (round M) (a ∷ xs) b → ((w.between ≡ []) × (round M a ≡ b)) ⊎ NextAhead a b n w
-      go [] e p = inl (e, p.0)
-      go (x ∷ xs) e p = inr (record { left = xs; split = e ∙ ap (λ y. y ∷ xs) (sym p.0) })
+    ahead_cases = next_on_path w.between refl w.path where
+      next_on_path : (xs : List ℕ) → w.between ≡ xs → IsPath (round M) (a ∷ xs) b → ((w.between ≡ []) × (round M a ≡ b)) ⊎ NextAhead a b n w
+      next_on_path [] e p = inl (e, p.0)
+      next_on_path (x ∷ xs) e p = inr (record { left = xs; split = e ∙ ap (λ y. y ∷ xs) (sym p.0) })
 
     -- one comes back to where the walk goes ahead from, or to the last unseen one
     back_is : mate (before M b) ≡ last_or a w.between
@@ -113,10 +113,10 @@ module _ (M : Model) (sound : Sound M) (h : ℕ) (there : HasHalf M h) where
           last_there (x ∷ xs) e = let p = front_of x xs in (w.at_vertex (last_or x xs) (omega (arith, ap (count (last_or x xs)) e, ap (count (last_or x xs)) p.1, count-append (last_or x xs) p.0 (last_or x xs ∷ []), tick_same (last_or x xs)))).0
 
     behind_cases : ((w.between ≡ []) × (mate (before M b) ≡ a)) ⊎ NextBehind a b n w
-    behind_cases = go w.between refl where
-      go : (xs : List ℕ) → w.between ≡ xs → ((w.between ≡ []) × (mate (before M b) ≡ a)) ⊎ NextBehind a b n w
-      go [] e = inl (e, back_is ∙ ap (last_or a) e)
-      go (x ∷ xs) e = let f = front_of x xs in inr (record { left = f.0; split = e ∙ f.1 ∙ ap (λ y. f.0 ++ y ∷ []) (sym (back_is ∙ ap (last_or a) e)) })
+    behind_cases = last_behind w.between refl where
+      last_behind : (xs : List ℕ) → w.between ≡ xs → ((w.between ≡ []) × (mate (before M b) ≡ a)) ⊎ NextBehind a b n w
+      last_behind [] e = inl (e, back_is ∙ ap (last_or a) e)
+      last_behind (x ∷ xs) e = let f = front_of x xs in inr (record { left = f.0; split = e ∙ f.1 ∙ ap (λ y. f.0 ++ y ∷ []) (sym (back_is ∙ ap (last_or a) e)) })
 
     -- ---- a step ahead
 

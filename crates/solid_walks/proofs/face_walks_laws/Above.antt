@@ -47,7 +47,7 @@ or_false false b e = e
 -- m is the least number above n: what stands above n is m, and then what stands above m
 pub next_above : (n m : ℕ) (ks : List ℕ) → Rising ks → n < m → member m ks ≡ true → ((k : ℕ) → n < k → k < m → member k ks ≡ false) → above n ks ≡ m ∷ above m ks
 next_above n m [] rising less there none = absurd (true≢false (sym there))
-next_above n m (x ∷ xs) rising less there none = go (nat_lt n x) refl (next_above n m xs rising.1 less) where
+next_above n m (x ∷ xs) rising less there none = next_with_first (nat_lt n x) refl (next_above n m xs rising.1 less) where
   first : n < x → (x ∷ above n xs) ≡ m ∷ above m (x ∷ xs)
   first up = elim (eqb_tells m x) [
     | inl same ↦
@@ -70,9 +70,9 @@ next_above n m (x ∷ xs) rising less there none = go (nat_lt n x) refl (next_ab
       rest (sym (ap (λ b. b || member m xs) f) ∙ there) (λ k a b. or_false (nat_eq k x) (member k xs) (none k a b))
       ∙ ap (λ (ys : List ℕ). m ∷ ys) (sym (ap (λ b. cond b (x ∷ above m xs) (above m xs)) e))
 
-  go : (b : Bool) → nat_lt n x ≡ b → (member m xs ≡ true → ((k : ℕ) → n < k → k < m → member k xs ≡ false) → above n xs ≡ m ∷ above m xs) → above n (x ∷ xs) ≡ m ∷ above m (x ∷ xs)
-  go true t rest = ap (λ b. cond b (x ∷ above n xs) (above n xs)) t ∙ first (grind (arith, nat_tests))
-  go false t rest = ap (λ b. cond b (x ∷ above n xs) (above n xs)) t ∙ later (grind (arith, nat_tests)) rest
+  next_with_first : (b : Bool) → nat_lt n x ≡ b → (member m xs ≡ true → ((k : ℕ) → n < k → k < m → member k xs ≡ false) → above n xs ≡ m ∷ above m xs) → above n (x ∷ xs) ≡ m ∷ above m (x ∷ xs)
+  next_with_first true t rest = ap (λ b. cond b (x ∷ above n xs) (above n xs)) t ∙ first (grind (arith, nat_tests))
+  next_with_first false t rest = ap (λ b. cond b (x ∷ above n xs) (above n xs)) t ∙ later (grind (arith, nat_tests)) rest
 
 -- no number is above n
 pub none_above : (n : ℕ) (ks : List ℕ) → ((k : ℕ) → n < k → member k ks ≡ false) → above n ks ≡ []

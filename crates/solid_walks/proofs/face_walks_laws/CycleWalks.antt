@@ -39,10 +39,10 @@ module _ (h : ℕ) (xs : List ℕ) (apart : IsApart xs) (first : IsIn h xs) wher
 
   -- the walk comes to h again: it has met all items
   pub walk_ends : (x : ℕ) → IsIn x xs → successor xs x ≡ h → to_come h xs x ≡ []
-  walk_ends x i back = go (after x ys) (parts x i) (sym (next_is x i) ∙ back) where
-    go : (qs : List ℕ) → ys ≡ before x ys ++ x ∷ qs → head_or x (qs ++ before x ys) ≡ h → qs ≡ []
-    go [] e n = refl
-    go (y ∷ qs) e n = absurd (
+  walk_ends x i back = none_after (after x ys) (parts x i) (sym (next_is x i) ∙ back) where
+    none_after : (qs : List ℕ) → ys ≡ before x ys ++ x ∷ qs → head_or x (qs ++ before x ys) ≡ h → qs ≡ []
+    none_after [] e n = refl
+    none_after (y ∷ qs) e n = absurd (
         let s : y ≡ h = n in
         twice (before x ys ++ x ∷ []) qs (e ∙ sym (append_assoc (before x ys) (x ∷ []) (y ∷ qs)) ∙ ap (λ (k : ℕ). (before x ys ++ x ∷ []) ++ k ∷ qs) s)
         (head_seen h x (before x ys) (y ∷ qs) (rest h xs) (sym e ∙ rotate_to_is h xs first)))
@@ -52,10 +52,10 @@ module _ (h : ℕ) (xs : List ℕ) (apart : IsApart xs) (first : IsIn h xs) wher
 
   -- or it goes on to the next item
   pub walk_goes : (x : ℕ) → IsIn x xs → successor xs x ≢ h → (to_come h xs x ≡ successor xs x ∷ to_come h xs (successor xs x)) × (seen h xs (successor xs x) ≡ seen h xs x ++ successor xs x ∷ [])
-  walk_goes x i on = go (after x ys) (parts x i) (next_is x i) where
-    go : (qs : List ℕ) → ys ≡ before x ys ++ x ∷ qs → successor xs x ≡ head_or x (qs ++ before x ys) → (qs ≡ successor xs x ∷ to_come h xs (successor xs x)) × (seen h xs (successor xs x) ≡ seen h xs x ++ successor xs x ∷ [])
-    go [] e n = absurd (on (n ∙ head_first h x (before x ys) (rest h xs) (sym e ∙ rotate_to_is h xs first)))
-    go (y ∷ qs) e n =
+  walk_goes x i on = next_after (after x ys) (parts x i) (next_is x i) where
+    next_after : (qs : List ℕ) → ys ≡ before x ys ++ x ∷ qs → successor xs x ≡ head_or x (qs ++ before x ys) → (qs ≡ successor xs x ∷ to_come h xs (successor xs x)) × (seen h xs (successor xs x) ≡ seen h xs x ++ successor xs x ∷ [])
+    next_after [] e n = absurd (on (n ∙ head_first h x (before x ys) (rest h xs) (sym e ∙ rotate_to_is h xs first)))
+    next_after (y ∷ qs) e n =
         let split : ys ≡ (before x ys ++ x ∷ []) ++ y ∷ qs = e ∙ sym (append_assoc (before x ys) (x ∷ []) (y ∷ qs)) in
         let none : count y (before x ys ++ x ∷ []) ≡ 0 = omega (arith, IsApart-rotate_to h xs apart y, ap (count y) split, count-append y (before x ys ++ x ∷ []) (y ∷ qs), tick_same y) in
         let s : successor xs x ≡ y = n in

@@ -30,10 +30,10 @@ module _ (M : Model) where
   member_faces s k = member_passing (of_solid s) M.faces k ∙ face_passes s k (get M.faces k)
 
   pub member_both : (s t k : ℕ) → member k (faces_of_both M s t) ≡ member k (faces_of M s) || member k (faces_of M t)
-  member_both s t k = member_passing (of_either s t) M.faces k ∙ go (get M.faces k) ∙ sym (λ i. member_passing (of_solid s) M.faces k i || member_passing (of_solid t) M.faces k i) where
-    go : (o : Option FaceRow) → passes (of_either s t) k o ≡ passes (of_solid s) k o || passes (of_solid t) k o
-    go None = refl
-    go (Some row) = refl
+  member_both s t k = member_passing (of_either s t) M.faces k ∙ either_passes (get M.faces k) ∙ sym (λ i. member_passing (of_solid s) M.faces k i || member_passing (of_solid t) M.faces k i) where
+    either_passes : (o : Option FaceRow) → passes (of_either s t) k o ≡ passes (of_solid s) k o || passes (of_solid t) k o
+    either_passes None = refl
+    either_passes (Some row) = refl
 
   pub faces_rise : (s : ℕ) → Rising (faces_of M s)
   faces_rise s = rising_passing (of_solid s) M.faces

@@ -13,10 +13,10 @@ module _ (M : Model) (f : ℕ) where
 
   pub member_rings : (l : ℕ) → member l (rings_of M f) ≡ is_ring_of M f l
   unfolding face_of
-  member_rings l = member_passing is_ring M.loops l ∙ go (get M.loops l) where
-    go : (o : Option LoopRow) → passes is_ring l o ≡ is_some o && nat_eq (unwrap_or o no_loop).face f && not (nat_eq (outer M f) l)
-    go None = refl
-    go (Some row) = refl
+  member_rings l = member_passing is_ring M.loops l ∙ ring_passes (get M.loops l) where
+    ring_passes : (o : Option LoopRow) → passes is_ring l o ≡ is_some o && nat_eq (unwrap_or o no_loop).face f && not (nat_eq (outer M f) l)
+    ring_passes None = refl
+    ring_passes (Some row) = refl
 
   pub next_ring : (n m : ℕ) → IsNextRing M f n (Some m) → above n (rings_of M f) ≡ m ∷ above m (rings_of M f)
   next_ring n m h = next_above n m (rings_of M f) (rising_passing is_ring M.loops) h.0 (member_rings m ∙ h.1) (λ k a b. member_rings k ∙ h.2 k a b)

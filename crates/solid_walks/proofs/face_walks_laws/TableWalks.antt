@@ -21,10 +21,10 @@ module _ {X : Type 0} where
   all_below k (e ∷ es) h = (less_means k e.0 (and_left _ _ h), all_below k es (and_right _ _ h))
 
   pub rising_numbers : (t : Table X) → Rising (numbers t)
-  rising_numbers t = go t.rows t.rising where
-    go : (es : List (ℕ × X)) → T (is_sorted nat_cmp es) → Rising (map (λ e. e.0) es)
-    go [] s = tt
-    go (e ∷ es) s = (all_below e.0 es (and_left _ _ s), go es (and_right _ _ s))
+  rising_numbers t = keys_rise t.rows t.rising where
+    keys_rise : (es : List (ℕ × X)) → T (is_sorted nat_cmp es) → Rising (map (λ e. e.0) es)
+    keys_rise [] s = tt
+    keys_rise (e ∷ es) s = (all_below e.0 es (and_left _ _ s), keys_rise es (and_right _ _ s))
 
   either : (b : Bool) (x : X) (o : Option X) → b || is_some o ≡ is_some (cond b (Some x) o)
   either true x o = refl
@@ -32,10 +32,10 @@ module _ {X : Type 0} where
 
   pub member_numbers : (t : Table X) (k : ℕ) → member k (numbers t) ≡ has t k
   unfolding get
-  member_numbers t k = go t.rows where
-    go : (es : List (ℕ × X)) → member k (map (λ e. e.0) es) ≡ is_some (find nat_cmp k es)
-    go [] = refl
-    go (e ∷ es) = ap (λ b. nat_eq k e.0 || b) (go es) ∙ either (nat_eq k e.0) e.1 (find nat_cmp k es) ∙ ap (λ b. is_some (cond b (Some e.1) (find nat_cmp k es))) (sym (unsigned_tied k e.0))
+  member_numbers t k = member_found t.rows where
+    member_found : (es : List (ℕ × X)) → member k (map (λ e. e.0) es) ≡ is_some (find nat_cmp k es)
+    member_found [] = refl
+    member_found (e ∷ es) = ap (λ b. nat_eq k e.0 || b) (member_found es) ∙ either (nat_eq k e.0) e.1 (find nat_cmp k es) ∙ ap (λ b. is_some (cond b (Some e.1) (find nat_cmp k es))) (sym (unsigned_tied k e.0))
 
   module _ (p : ℕ → X → Bool) where
     all_passing : (k : ℕ) (es : List (ℕ × X)) → T (below_all nat_cmp k es) → AllAbove k (all_in p es)
@@ -47,12 +47,12 @@ module _ {X : Type 0} where
 
     pub rising_passing : (t : Table X) → Rising (all_where p t)
     unfolding all_where
-    rising_passing t = go t.rows t.rising where
-      go : (es : List (ℕ × X)) → T (is_sorted nat_cmp es) → Rising (all_in p es)
-      go [] s = tt
-      go (e ∷ es) s = elim (p e.0 e.1) as (λ b. Rising (cond b (e.0 ∷ all_in p es) (all_in p es))) [
-        | true ↦ (all_passing e.0 es (and_left _ _ s), go es (and_right _ _ s))
-        | false ↦ go es (and_right _ _ s)
+    rising_passing t = passing_rise t.rows t.rising where
+      passing_rise : (es : List (ℕ × X)) → T (is_sorted nat_cmp es) → Rising (all_in p es)
+      passing_rise [] s = tt
+      passing_rise (e ∷ es) s = elim (p e.0 e.1) as (λ b. Rising (cond b (e.0 ∷ all_in p es) (all_in p es))) [
+        | true ↦ (all_passing e.0 es (and_left _ _ s), passing_rise es (and_right _ _ s))
+        | false ↦ passing_rise es (and_right _ _ s)
       ]
 
     skipped : (b : Bool) (k n : ℕ) (xs : List ℕ) → nat_eq k n ≡ false → member k (cond b (n ∷ xs) xs) ≡ member k xs
@@ -65,16 +65,16 @@ module _ {X : Type 0} where
 
     pub member_passing : (t : Table X) (k : ℕ) → member k (all_where p t) ≡ passes p k (get t k)
     unfolding get all_where
-    member_passing t k = go t.rows t.rising where
-      go : (es : List (ℕ × X)) → T (is_sorted nat_cmp es) → member k (all_in p es) ≡ passes p k (find nat_cmp k es)
-      go [] s = refl
-      go (e ∷ es) s = elim (eqb_tells k e.0) [
+    member_passing t k = member_passes t.rows t.rising where
+      member_passes : (es : List (ℕ × X)) → T (is_sorted nat_cmp es) → member k (all_in p es) ≡ passes p k (find nat_cmp k es)
+      member_passes [] s = refl
+      member_passes (e ∷ es) s = elim (eqb_tells k e.0) [
         | inl same ↦
             ap (λ q. member q (all_in p (e ∷ es))) same.1
             ∙ met (p e.0 e.1) e.0 (all_in p es) (not_member e.0 e.0 (all_in p es) (omega arith) (all_passing e.0 es (and_left _ _ s)))
             ∙ ap (λ q. p q e.1) (sym same.1)
             ∙ ap (λ b. passes p k (cond b (Some e.1) (find nat_cmp k es))) (sym (unsigned_tied k e.0 ∙ same.0))
         | inr other ↦
-            skipped (p e.0 e.1) k e.0 (all_in p es) other.0 ∙ go es (and_right _ _ s)
+            skipped (p e.0 e.1) k e.0 (all_in p es) other.0 ∙ member_passes es (and_right _ _ s)
             ∙ ap (λ b. passes p k (cond b (Some e.1) (find nat_cmp k es))) (sym (unsigned_tied k e.0 ∙ other.0))
       ]

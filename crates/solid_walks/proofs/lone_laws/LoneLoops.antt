@@ -49,10 +49,10 @@ module _ (M : Model) where
 
   row_passes : (fs : List ℕ) (k : ℕ) → passes (lone_row fs) k (get M.loops k) ≡ lone_in fs k
   unfolding content face_of
-  row_passes fs k = go (get M.loops k) where
-    go : (o : Option LoopRow) → passes (lone_row fs) k o ≡ is_lone (unwrap_or o no_loop).content && (is_some o && lists fs (unwrap_or o no_loop).face)
-    go None = refl
-    go (Some row) = refl
+  row_passes fs k = lone_passes (get M.loops k) where
+    lone_passes : (o : Option LoopRow) → passes (lone_row fs) k o ≡ is_lone (unwrap_or o no_loop).content && (is_some o && lists fs (unwrap_or o no_loop).face)
+    lone_passes None = refl
+    lone_passes (Some row) = refl
 
   there : (fs : List ℕ) (k : ℕ) (o : Option LoopRow) → passes (lone_row fs) k o ≡ true → is_some o ≡ true
   there fs k None e = e

@@ -94,12 +94,12 @@ least_rising p (n ∷ ns) rising = elim (p n) as (λ b. p n ≡ b → IsLeast (�
 -- the first row that passes is the first of all that pass
 first_of_all : {X : Type 0} (p : ℕ → X → Bool) (t : Table X) → AllAbove 0 (all_where p t) → found (first_where p t) ≡ first_such (λ _. true) (all_where p t)
 unfolding first_where all_where
-first_of_all {X} p t some = go t.rows some where
-  go : (es : List (ℕ × X)) → AllAbove 0 (all_in p es) → found (first_in p es) ≡ first_such (λ _. true) (all_in p es)
-  go [] some = refl
-  go (e ∷ es) some = elim (p e.0 e.1) as (λ b. AllAbove 0 (cond b (e.0 ∷ all_in p es) (all_in p es)) → found (cond b e.0 (first_in p es)) ≡ first_such (λ _. true) (cond b (e.0 ∷ all_in p es) (all_in p es))) [
+first_of_all {X} p t some = first_of_rows t.rows some where
+  first_of_rows : (es : List (ℕ × X)) → AllAbove 0 (all_in p es) → found (first_in p es) ≡ first_such (λ _. true) (all_in p es)
+  first_of_rows [] some = refl
+  first_of_rows (e ∷ es) some = elim (p e.0 e.1) as (λ b. AllAbove 0 (cond b (e.0 ∷ all_in p es) (all_in p es)) → found (cond b e.0 (first_in p es)) ≡ first_such (λ _. true) (cond b (e.0 ∷ all_in p es) (all_in p es))) [
     | true ↦ λ some. found_some e.0 some.0
-    | false ↦ go es
+    | false ↦ first_of_rows es
   ] some
 
 -- the least row that passes
