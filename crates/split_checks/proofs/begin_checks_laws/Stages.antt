@@ -106,10 +106,10 @@ module _ (M : Model) (s : ℕ) (p : Plane) (t : ℕ) where
   -- where no condition is false that is tested before anything is changed, none is that is tested before memory is asked for
   pub none_early : first_refusal (first_conditions M s p t) ≡ None → early_refusal M s p t ≡ None
   unfolding first_conditions early_conditions
-  none_early begun = go (early_refusal M s p t) refl where
-    go : (o : Option Refusal) → early_refusal M s p t ≡ o → o ≡ None
-    go None is = refl
-    go (Some r) is = sym (first_refusal-refused (early_conditions M s p t) (sectioning_conditions M s p) r is) ∙ begun
+  none_early begun = nothing_refused (early_refusal M s p t) refl where
+    nothing_refused : (o : Option Refusal) → early_refusal M s p t ≡ o → o ≡ None
+    nothing_refused None is = refl
+    nothing_refused (Some r) is = sym (first_refusal-refused (early_conditions M s p t) (sectioning_conditions M s p) r is) ∙ begun
 
   pub cut_plane : (u : Unit {0}) → Ok u ≡ verdict (first_refusal (plane_in_range p)) → IsCutPlane p
   cut_plane u e = let h = all_hold (plane_in_range p) (verdict_passed _ u e) in ((coordinate_within p.a h.0, coordinate_within p.b h.1.0, coordinate_within p.c h.1.1.0), offset_within p.d h.1.1.1.0)

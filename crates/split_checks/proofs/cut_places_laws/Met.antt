@@ -88,10 +88,10 @@ module _ (M : Model) (p : Plane) where
       e ∙ or_turned (same_sign from side) old ∙ ap (λ b. old || b) (ap (λ s. same_sign s side) is ∙ sign_lies side p (start M h) ∙ or_false (lies side p (start M h)))
 
   kept_if : {X : Type 0} (q : ℕ → Bool) (b : Bool) (g : ℕ → X) (h : ℕ) (x : X) → b ≡ q h → x ≡ g h → cond b (x ∷ []) [] ≡ map g (filter q (h ∷ []))
-  kept_if {X} q b g h x e f = (λ i. cond (e i) (f i ∷ []) []) ∙ go (q h) where
-    go : (c : Bool) → cond c (g h ∷ []) [] ≡ map g (cond c (h ∷ []) [])
-    go true = refl
-    go false = refl
+  kept_if {X} q b g h x e f = (λ i. cond (e i) (f i ∷ []) []) ∙ one_mapped (q h) where
+    one_mapped : (c : Bool) → cond c (g h ∷ []) [] ≡ map g (cond c (h ∷ []) [])
+    one_mapped true = refl
+    one_mapped false = refl
 
   codes_if : (b : Bool) (h : HalfEdge) → map code (cond b (h ∷ []) []) ≡ cond b (code h ∷ []) []
   codes_if true h = refl
@@ -187,12 +187,12 @@ module _ (M : Model) (p : Plane) where
     counted = omega (arith, now_is)
 
     pub some_told : nat_lt m n ≡ list_any (is_place M p) hs
-    some_told = ap (nat_lt m) now_is ∙ go hs where
-      go : (ks : List ℕ) → nat_lt m (m + length (filter (is_place M p) ks)) ≡ list_any (is_place M p) ks
-      go [] = grind (arith, nat_tests)
-      go (k ∷ ks) = elim (is_place M p k) as (λ b. nat_lt m (m + length (cond b (k ∷ filter (is_place M p) ks) (filter (is_place M p) ks))) ≡ b || list_any (is_place M p) ks) [
+    some_told = ap (nat_lt m) now_is ∙ more_if_any hs where
+      more_if_any : (ks : List ℕ) → nat_lt m (m + length (filter (is_place M p) ks)) ≡ list_any (is_place M p) ks
+      more_if_any [] = grind (arith, nat_tests)
+      more_if_any (k ∷ ks) = elim (is_place M p k) as (λ b. nat_lt m (m + length (cond b (k ∷ filter (is_place M p) ks) (filter (is_place M p) ks))) ≡ b || list_any (is_place M p) ks) [
         | true ↦ grind (arith, nat_tests)
-        | false ↦ go ks
+        | false ↦ more_if_any ks
       ]
 
     -- those found before are still the first

@@ -53,17 +53,17 @@ is_up Above e = refl
 
 -- what a side that is reached tells
 pub told_up : (s : Sign) (a b : Bool) → s ≡ side_reached a b → same_sign s Above ≡ a
-told_up s a b e = ap (λ t. same_sign t Above) e ∙ go a b where
-  go : (x y : Bool) → same_sign (side_reached x y) Above ≡ x
-  go true y = refl
-  go false true = refl
-  go false false = refl
+told_up s a b e = ap (λ t. same_sign t Above) e ∙ above_if_reached a b where
+  above_if_reached : (x y : Bool) → same_sign (side_reached x y) Above ≡ x
+  above_if_reached true y = refl
+  above_if_reached false true = refl
+  above_if_reached false false = refl
 
 pub told_down : (s : Sign) (a b : Bool) → s ≡ side_reached a b → a ≡ false → same_sign s Below ≡ b
-told_down s a b e low = ap (λ t. same_sign t Below) (e ∙ ap (λ x. side_reached x b) low) ∙ go b where
-  go : (y : Bool) → same_sign (side_reached false y) Below ≡ y
-  go true = refl
-  go false = refl
+told_down s a b e low = ap (λ t. same_sign t Below) (e ∙ ap (λ x. side_reached x b) low) ∙ below_if_reached b where
+  below_if_reached : (y : Bool) → same_sign (side_reached false y) Below ≡ y
+  below_if_reached true = refl
+  below_if_reached false = refl
 
 -- a lone vertex
 one_reached : (s : Sign) → s ≡ side_reached (same_sign s Above) (same_sign s Below)

@@ -40,16 +40,16 @@ sign_lies On p q = told_on (int_lt (height p q) (pos 0)) (int_lt (pos 0) (height
 sign_lies Above p q = told_above (int_lt (height p q) (pos 0)) (int_lt (pos 0) (height p q)) ∙ above_is (height p q)
 
 pub signs_opposite : (m n : ℤ) → opposite_signs (sign_of m) (sign_of n) ≡ opposite m n
-signs_opposite m n = go (int_lt m (pos 0)) (int_lt (pos 0) m) (int_lt n (pos 0)) (int_lt (pos 0) n) (one_side m) (one_side n) where
-  go : (a b c d : Bool) → a && b ≡ false → c && d ≡ false → opposite_signs (cond a Below (cond b Above On)) (cond c Below (cond d Above On)) ≡ (b && c) || (a && d)
-  go true true c d e f = absurd (true≢false e)
-  go true false true true e f = absurd (true≢false f)
-  go true false true false e f = refl
-  go true false false true e f = refl
-  go true false false false e f = refl
-  go false true true d e f = refl
-  go false true false true e f = refl
-  go false true false false e f = refl
-  go false false true d e f = refl
-  go false false false true e f = refl
-  go false false false false e f = refl
+signs_opposite m n = opposite_if_both (int_lt m (pos 0)) (int_lt (pos 0) m) (int_lt n (pos 0)) (int_lt (pos 0) n) (one_side m) (one_side n) where
+  opposite_if_both : (a b c d : Bool) → a && b ≡ false → c && d ≡ false → opposite_signs (cond a Below (cond b Above On)) (cond c Below (cond d Above On)) ≡ (b && c) || (a && d)
+  opposite_if_both true true c d e f = absurd (true≢false e)
+  opposite_if_both true false true true e f = absurd (true≢false f)
+  opposite_if_both true false true false e f = refl
+  opposite_if_both true false false true e f = refl
+  opposite_if_both true false false false e f = refl
+  opposite_if_both false true true d e f = refl
+  opposite_if_both false true false true e f = refl
+  opposite_if_both false true false false e f = refl
+  opposite_if_both false false true d e f = refl
+  opposite_if_both false false false true e f = refl
+  opposite_if_both false false false false e f = refl

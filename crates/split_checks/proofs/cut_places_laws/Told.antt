@@ -39,10 +39,10 @@ module _ (M : Model) (p : Plane) where
   first_of flaw [] = refl
   first_of flaw (f ∷ fs) =
       ap (λ b. option_map (λ (q : FaceMet). q.face) (cond b (Some (face_met M p f)) (find (shows flaw) (map (face_met M p) fs)))) (shown flaw f)
-      ∙ go (has_flaw flaw M p f) (first_of flaw fs) where
-        go : (b : Bool) → first_showing flaw (map (face_met M p) fs) ≡ first_such (has_flaw flaw M p) fs → option_map (λ (q : FaceMet). q.face) (cond b (Some (face_met M p f)) (find (shows flaw) (map (face_met M p) fs))) ≡ cond b (Some f) (first_such (has_flaw flaw M p) fs)
-        go true e = refl
-        go false e = e
+      ∙ first_or_later (has_flaw flaw M p f) (first_of flaw fs) where
+        first_or_later : (b : Bool) → first_showing flaw (map (face_met M p) fs) ≡ first_such (has_flaw flaw M p) fs → option_map (λ (q : FaceMet). q.face) (cond b (Some (face_met M p f)) (find (shows flaw) (map (face_met M p) fs))) ≡ cond b (Some f) (first_such (has_flaw flaw M p) fs)
+        first_or_later true e = refl
+        first_or_later false e = e
 
   pub first_flaw : (flaw : Flaw) (qs : List FaceMet) (hs : List ℕ) → AreTold M p qs hs → first_showing flaw qs ≡ first_such (has_flaw flaw M p) (faces_in qs)
   first_flaw flaw qs hs t = ap (first_showing flaw) t.told ∙ first_of flaw (faces_in qs)

@@ -12,11 +12,11 @@ module _ (M : Model) (p : Plane) where
   -- a cut place off the plane's own points is a half-edge that crosses
   pub place_off : (h : ℕ) → is_place M p h ≡ true → is_on p (start M h) ≡ false → crosses M p h ≡ true
   unfolding is_place
-  place_off h place off = go (crosses M p h) (is_on p (start M h)) (are_opposite p (start M (before M h)) (finish M h)) place off where
-    go : (a b c : Bool) → a || (b && c) ≡ true → b ≡ false → a ≡ true
-    go true b c e f = refl
-    go false true c e f = absurd (true≢false f)
-    go false false c e f = e
+  place_off h place off = first_holds (crosses M p h) (is_on p (start M h)) (are_opposite p (start M (before M h)) (finish M h)) place off where
+    first_holds : (a b c : Bool) → a || (b && c) ≡ true → b ≡ false → a ≡ true
+    first_holds true b c e f = refl
+    first_holds false true c e f = absurd (true≢false f)
+    first_holds false false c e f = e
 
   pub point_on : (h : ℕ) → is_on p (start M h) ≡ true → start M h ≡ place_point M p h
   unfolding place_point
