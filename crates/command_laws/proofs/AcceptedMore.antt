@@ -75,13 +75,13 @@ module _ (M : Model) (sound : Sound M) (s t : ℕ) (first : IsClosedFlat M s) (s
 
 module _ (M : Model) (sound : Sound M) (f s : ℕ) (ps : List Point) (face : IsFaceOf M f s ps) (flat : IsClosedFlat M s) where
   outline_is : outline M f ≡ ps
-  outline_is = go (content M (outer M f)) refl where
+  outline_is = outline_of_cycle (content M (outer M f)) refl where
     own : Has M.loops (outer M f) × (face_of M (outer M f) ≡ f)
     own = sound.outers_there f face.there
 
-    go : (c : LoopContent) → content M (outer M f) ≡ c → outline M f ≡ ps
-    go (lone v) e = absurd (true≢false (ap is_lone (sym e) ∙ flat.closed (outer M f) own.0 (ap (solid_of M) own.1 ∙ face.solid)))
-    go (cycle hs) e = ap (λ c. map (start M) (items_of c)) e ∙ sym (points_are M f (outer M f) hs face.plain refl e) ∙ face.points
+    outline_of_cycle : (c : LoopContent) → content M (outer M f) ≡ c → outline M f ≡ ps
+    outline_of_cycle (lone v) e = absurd (true≢false (ap is_lone (sym e) ∙ flat.closed (outer M f) own.0 (ap (solid_of M) own.1 ∙ face.solid)))
+    outline_of_cycle (cycle hs) e = ap (λ c. map (start M) (items_of c)) e ∙ sym (points_are M f (outer M f) hs face.plain refl e) ∙ face.points
 
   ringless : not (has_rings M f) ≡ true
   unfolding has_rings

@@ -61,19 +61,19 @@ ring_total w next (x ∷ xs) p = less _ _ (w x) (path_total w next (x ∷ xs) x 
 -- how often what passes a test stands in what passes it
 count_passed : (p : ℕ → Bool) (x : ℕ) (xs : List ℕ) → p x ≡ true → count x (filter p xs) ≡ count x xs
 count_passed p x [] e = refl
-count_passed p x (y ∷ ys) e = go (p y) refl (count_passed p x ys e) where
-  go : (b : Bool) → p y ≡ b → count x (filter p ys) ≡ count x ys → count x (cond b (y ∷ filter p ys) (filter p ys)) ≡ count x (y ∷ ys)
-  go true f rest = omega (arith, rest)
-  go false f rest = omega (arith, rest, tick_other x y (λ s. true≢false (sym e ∙ ap p s ∙ f)))
+count_passed p x (y ∷ ys) e = counted_with_first (p y) refl (count_passed p x ys e) where
+  counted_with_first : (b : Bool) → p y ≡ b → count x (filter p ys) ≡ count x ys → count x (cond b (y ∷ filter p ys) (filter p ys)) ≡ count x (y ∷ ys)
+  counted_with_first true f rest = omega (arith, rest)
+  counted_with_first false f rest = omega (arith, rest, tick_other x y (λ s. true≢false (sym e ∙ ap p s ∙ f)))
 
 same_passed : (p : ℕ → Bool) (xs ys : List ℕ) → ((x : ℕ) → p x ≡ true → count x xs ≡ count x ys) → SameItems (filter p xs) (filter p ys)
-same_passed p xs ys same x = go (p x) refl where
+same_passed p xs ys same x = passed_alike (p x) refl where
   none : (zs : List ℕ) → p x ≡ false → count x (filter p zs) ≡ 0
   none zs e = elim (IsIn_or_not x (filter p zs)) [ inl i ↦ absurd (true≢false (sym (filter_passes p x zs i) ∙ e)) | inr z ↦ z ]
 
-  go : (b : Bool) → p x ≡ b → count x (filter p xs) ≡ count x (filter p ys)
-  go true e = count_passed p x xs e ∙ same x e ∙ sym (count_passed p x ys e)
-  go false e = none xs e ∙ sym (none ys e)
+  passed_alike : (b : Bool) → p x ≡ b → count x (filter p xs) ≡ count x (filter p ys)
+  passed_alike true e = count_passed p x xs e ∙ same x e ∙ sym (count_passed p x ys e)
+  passed_alike false e = none xs e ∙ sym (none ys e)
 
 area_told : (M : Model) (r : Point) (xs : List ℕ) → dot r (area M xs) ≡ total (λ x. dot r (cross (start M x) (finish M x))) xs
 area_told M r [] = dot_turned r origin ∙ dot_origin r

@@ -235,10 +235,10 @@ stands_flat M N p k s on = ap (λ b. not (same_point (direction p) origin) && b)
 
 each_keeps_plane : (op : Op) (M : Model) (planes : ℕ → Plane) (k : ℕ) → Sound M → first_false M op ≡ None → makes_vertex op ≡ true → FanLiesFlat M op planes → Has M.faces k →
     is_plane_of M (planes k) (corners M k) ≡ true → is_plane_of (effect M op) (planes k) (corners (effect M op) k) ≡ true
-each_keeps_plane op M planes k sound e i flat there on = go (meets_fan M op k) refl where
-  go : (b : Bool) → meets_fan M op k ≡ b → is_plane_of (effect M op) (planes k) (corners (effect M op) k) ≡ true
-  go true m = each_lies op M planes k sound e i flat there m
-  go false off = stands_flat M (effect M op) (planes k) k (each_stands op M k sound e i there off) on
+each_keeps_plane op M planes k sound e i flat there on = plane_kept (meets_fan M op k) refl where
+  plane_kept : (b : Bool) → meets_fan M op k ≡ b → is_plane_of (effect M op) (planes k) (corners (effect M op) k) ≡ true
+  plane_kept true m = each_lies op M planes k sound e i flat there m
+  plane_kept false off = stands_flat M (effect M op) (planes k) k (each_stands op M k sound e i there off) on
 
 pub fans_keep_planes : FansKeepPlanes
 fans_keep_planes M N op planes k sound step i flat there on = subst (λ X. is_plane_of X (planes k) (corners X k) ≡ true) (sym step.1) (each_keeps_plane op M planes k sound step.0 i flat there on)

@@ -72,14 +72,14 @@ module _ {M : Model} {f g : ℕ} {partner_of : ℕ → ℕ} {hs : List ℕ} {x :
       )
 
   face_back : (k : ℕ) → Has N.faces k → is_of s (solid_of N k) ≡ false → (table.get N.faces k ≡ table.get M.faces k) × (is_either s t (solid_of N k) ≡ false)
-  face_back k there out = go (table.get faces_left k) refl where
-    at : table.get N.faces k ≡ option_map (turn k) (table.get faces_left k)
-    at = table.get-map_rows turn faces_left k
+  face_back k there out = row_and_solid_back (table.get faces_left k) refl where
+    face_row_turned : table.get N.faces k ≡ option_map (turn k) (table.get faces_left k)
+    face_row_turned = table.get-map_rows turn faces_left k
 
-    go : (o : Option FaceRow) → table.get faces_left k ≡ o → (table.get N.faces k ≡ table.get M.faces k) × (is_either s t (solid_of N k) ≡ false)
-    go None e = absurd (true≢false (sym there ∙ ap is_some (at ∙ ap (option_map (turn k)) e)))
-    go (Some row) e =
-        let now = at ∙ ap (option_map (turn k)) e in
+    row_and_solid_back : (o : Option FaceRow) → table.get faces_left k ≡ o → (table.get N.faces k ≡ table.get M.faces k) × (is_either s t (solid_of N k) ≡ false)
+    row_and_solid_back None e = absurd (true≢false (sym there ∙ ap is_some (face_row_turned ∙ ap (option_map (turn k)) e)))
+    row_and_solid_back (Some row) e =
+        let now = face_row_turned ∙ ap (option_map (turn k)) e in
         let not_s : solid_of N k ≢ s = eqb-false (solid_of N k) s out in
         let not_t : row.solid ≢ t = λ p. not_s (solid_row N k (turn k row) now ∙ row_turns k row p) in
         let same = now ∙ ap Some (row_stays k row not_t) in

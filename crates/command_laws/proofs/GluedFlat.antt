@@ -57,11 +57,11 @@ module _ (before after : Machine) (f g : ℕ) (sound : Sound (held before)) (mad
   abbrev fs : List ℕ
   fs = faces_of_both M s t
 
-  w : Seamed M f g (partner M (rim M g)) (rim M f) (rim M g)
-  w = seamed M f g sound made.0
+  rims_seamed : Seamed M f g (partner M (rim M g)) (rim M f) (rim M g)
+  rims_seamed = seamed M f g sound made.0
 
-  n : Glued M N f g (partner M (rim M g)) (rim M f)
-  n = glued M f g
+  rims_glued : Glued M N f g (partner M (rim M g)) (rim M f)
+  rims_glued = glued M f g
 
   is_after : held after ≡ N
   is_after = ap held made.1
@@ -69,11 +69,11 @@ module _ (before after : Machine) (f g : ℕ) (sound : Sound (held before)) (mad
   -- ---- its faces
 
   not_second : (k : ℕ) → Has N.faces k → k ≢ g
-  not_second k there e = true≢false (sym there ∙ ap is_some (measures.face_at_row w n k ∙ ap (option_map (measures.to_s w n k)) (ap (table.get (table.remove (table.remove M.faces f) g)) e ∙ get-remove_here (table.remove M.faces f) g)))
+  not_second k there e = true≢false (sym there ∙ ap is_some (measures.face_at_row rims_seamed rims_glued k ∙ ap (option_map (measures.to_s rims_seamed rims_glued k)) (ap (table.get (table.remove (table.remove M.faces f) g)) e ∙ get-remove_here (table.remove M.faces f) g)))
 
   was_left : (k : ℕ) → Has N.faces k → Has M.faces k × (k ≢ f)
   was_left k there =
-      let left = row_some (table.get (measures.faces_left w n) k) (mapped_there (measures.to_s w n k) (table.get (measures.faces_left w n) k) (ap is_some (sym (measures.face_at_row w n k)) ∙ there)) in
+      let left = row_some (table.get (measures.faces_left rims_seamed rims_glued) k) (mapped_there (measures.to_s rims_seamed rims_glued k) (table.get (measures.faces_left rims_seamed rims_glued) k) (ap is_some (sym (measures.face_at_row rims_seamed rims_glued k)) ∙ there)) in
       let first = still_there (table.remove M.faces f) g k left.0 left.1 in (
         ap is_some (still_there M.faces f k left.0 first),
         λ e. true≢false (sym (ap is_some first) ∙ ap is_some (ap (table.get (table.remove M.faces f)) e ∙ get-remove_here M.faces f)),
@@ -83,14 +83,14 @@ module _ (before after : Machine) (f g : ℕ) (sound : Sound (held before)) (mad
   unfolding solid_of
   was_either k there of =
       let old = was_left k there in
-      let row = measures.other_face w n k old.1 (not_second k there) ∙ ap (option_map (measures.to_s w n k)) (face_there M k old.0) in
+      let row = measures.other_face rims_seamed rims_glued k old.1 (not_second k there) ∙ ap (option_map (measures.to_s rims_seamed rims_glued k)) (face_there M k old.0) in
       either_is (solid_of M k) s t (sym (solid_either (nat_eq (solid_of M k) t) (record { solid = solid_of M k; outer = outer M k }) s) ∙ sym (ap (λ o. (unwrap_or o no_face).solid) row) ∙ of)
 
   flat_face : (k : ℕ) → Has N.faces k → solid_of N k ≡ s → is_flat (held after) k ≡ true
   flat_face k there of =
       let old = was_left k there in
       elim (was_either k there of) [
-        | inl e ↦ stands_flat M (held after) k (glue_keeps_shapes before after f g sound made k old.0 ((λ z. w.solids_apart (sym e ∙ z)), old.1)) ∙ w.flat k old.0 (inl e)
+        | inl e ↦ stands_flat M (held after) k (glue_keeps_shapes before after f g sound made k old.0 ((λ z. rims_seamed.solids_apart (sym e ∙ z)), old.1)) ∙ rims_seamed.flat k old.0 (inl e)
         | inr e ↦ (glue_takes_faces before after f g k sound made old.0 e (not_second k there)).flat
       ]
 
@@ -104,11 +104,11 @@ module _ (before after : Machine) (f g : ℕ) (sound : Sound (held before)) (mad
   loops_left = table.remove (table.remove M.loops (outer M f)) (outer M g)
 
   new : List ℕ → List ℕ
-  new = map (seams.swap w n)
+  new = map (seams.swap rims_seamed rims_glued)
 
   row_at : (l : ℕ) → table.get N.loops l ≡ option_map (rewritten_row new l) (table.get loops_left l)
   unfolding loops_left new
-  row_at l = ap (λ u. table.get u l) n.loops ∙ table.get-map_rows (rewritten_row (map (seams.swap w n))) (table.remove (table.remove M.loops (outer M f)) (outer M g)) l
+  row_at l = ap (λ u. table.get u l) rims_glued.loops ∙ table.get-map_rows (rewritten_row (map (seams.swap rims_seamed rims_glued))) (table.remove (table.remove M.loops (outer M f)) (outer M g)) l
 
   closed_loop : (l : ℕ) → Has N.loops l → Has N.faces (face_of N l) → solid_of N (face_of N l) ≡ s → is_lone (content N l) ≡ false
   unfolding loops_left

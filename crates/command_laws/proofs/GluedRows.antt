@@ -58,15 +58,15 @@ module _ {M : Model} {f g : ℕ} {partner_of : ℕ → ℕ} {hs : List ℕ} {x :
 
   -- a loop that is there was there, on the same face
   pub loop_was : (q : ℕ) → Has (glued_all M f g partner_of hs).loops q → Has M.loops q × (face_of (glued_all M f g partner_of hs) q ≡ face_of M q)
-  loop_was q there = go (table.get loops_left q) refl where
-    at : table.get N.loops q ≡ option_map (rewritten_row (map swap) q) (table.get loops_left q)
-    at = table.get-map_rows (rewritten_row (map swap)) loops_left q
+  loop_was q there = row_was (table.get loops_left q) refl where
+    loop_row_rewritten : table.get N.loops q ≡ option_map (rewritten_row (map swap) q) (table.get loops_left q)
+    loop_row_rewritten = table.get-map_rows (rewritten_row (map swap)) loops_left q
 
-    go : (o : Option LoopRow) → table.get loops_left q ≡ o → Has M.loops q × (face_of N q ≡ face_of M q)
-    go None e = absurd (true≢false (sym there ∙ ap is_some (at ∙ ap (option_map (rewritten_row (map swap) q)) e)))
-    go (Some row) e =
+    row_was : (o : Option LoopRow) → table.get loops_left q ≡ o → Has M.loops q × (face_of N q ≡ face_of M q)
+    row_was None e = absurd (true≢false (sym there ∙ ap is_some (loop_row_rewritten ∙ ap (option_map (rewritten_row (map swap) q)) e)))
+    row_was (Some row) e =
         let had = still_there M.loops (outer M f) q row (still_there (table.remove M.loops (outer M f)) (outer M g) q row e) in
-        (ap is_some had, face_row N q (rewritten_row (map swap) q row) (at ∙ ap (option_map (rewritten_row (map swap) q)) e) ∙ sym (face_row M q row had))
+        (ap is_some had, face_row N q (rewritten_row (map swap) q row) (loop_row_rewritten ∙ ap (option_map (rewritten_row (map swap) q)) e) ∙ sym (face_row M q row had))
 
   -- ---- edges
 

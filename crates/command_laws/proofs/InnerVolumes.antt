@@ -93,12 +93,12 @@ module _ (M N : Model) (p : Plane) (ks : List ℕ) (w : AreMet M N p ks) where
 
   half_on : (x : ℕ) → HasHalf N x → lists ks (face_at N x) ≡ true → is_on p (point_of M (tail N x)) ≡ true
   half_on x there m = elim (w.corners.halves x there) [
-    | inl was ↦ ap (λ v. is_on p (point_of M v)) was.1 ∙ go (loop_of M x) refl was.0 (lists ks (face_at M x)) refl
+    | inl was ↦ ap (λ v. is_on p (point_of M v)) was.1 ∙ start_was_on (loop_of M x) refl was.0 (lists ks (face_at M x)) refl
     | inr on ↦ on
   ] where
-    go : (q : ℕ) → loop_of M x ≡ q → HasHalf M x → (b : Bool) → lists ks (face_at M x) ≡ b → is_on p (point_of M (tail M x)) ≡ true
-    go q at was true e = on_half M w.before p ks w.on x was e
-    go q at was false e =
+    start_was_on : (q : ℕ) → loop_of M x ≡ q → HasHalf M x → (b : Bool) → lists ks (face_at M x) ≡ b → is_on p (point_of M (tail M x)) ≡ true
+    start_was_on q at was true e = on_half M w.before p ks w.on x was e
+    start_was_on q at was false e =
         let s = stays_left (loop_of M x) (loop_there M w.before x was) e in
         let stands = holds_in x (content M (loop_of M x)) (w.before.stands x was) in
         let here : loop_of N x ≡ loop_of M x = item_loop N w.after (loop_of M x) x (subst (λ c. IsIn x (items_of c)) (sym (same_content M N (loop_of M x) s.0)) stands) in
@@ -106,12 +106,12 @@ module _ (M N : Model) (p : Plane) (ks : List ℕ) (w : AreMet M N p ks) where
 
   lone_on : (q v : ℕ) → content N q ≡ lone v → lists ks (face_of N q) ≡ true → is_on p (point_of M v) ≡ true
   lone_on q v is m = elim (w.corners.lones q v is) [
-    | inl was ↦ go was (lists ks (face_of M q)) refl
+    | inl was ↦ lone_was_on was (lists ks (face_of M q)) refl
     | inr on ↦ on
   ] where
-    go : content M q ≡ lone v → (b : Bool) → lists ks (face_of M q) ≡ b → is_on p (point_of M v) ≡ true
-    go was true e = on_loop M w.before p ks w.on q v (lone_there M q v was) e (subst (λ c. IsIn v (vertices_on M c)) (sym was) (IsIn_head v []))
-    go was false e = absurd (true≢false (sym m ∙ (stays_left q (lone_there M q v was) e).1))
+    lone_was_on : content M q ≡ lone v → (b : Bool) → lists ks (face_of M q) ≡ b → is_on p (point_of M v) ≡ true
+    lone_was_on was true e = on_loop M w.before p ks w.on q v (lone_there M q v was) e (subst (λ c. IsIn v (vertices_on M c)) (sym was) (IsIn_head v []))
+    lone_was_on was false e = absurd (true≢false (sym m ∙ (stays_left q (lone_there M q v was) e).1))
 
   corner_on : (k v : ℕ) → Has N.faces k → lists ks k ≡ true → IsIn v (corners N k) → is_on p (point_of N v) ≡ true
   unfolding corners

@@ -58,10 +58,10 @@ half_none x e = omega (arith, ints)
 
 -- a vector that isn't 0 is a direction
 some_way : (n : Point) → n ≢ origin → not (same_point n origin) ≡ true
-some_way n ne = go (same_point n origin) refl where
-  go : (b : Bool) → same_point n origin ≡ b → not b ≡ true
-  go false e = refl
-  go true e = absurd (ne (same_is n origin e))
+some_way n ne = differs_holds (same_point n origin) refl where
+  differs_holds : (b : Bool) → same_point n origin ≡ b → not b ≡ true
+  differs_holds false e = refl
+  differs_holds true e = absurd (ne (same_is n origin e))
 
 module _ (a u v : Point) where
   abbrev corners_round : List Point

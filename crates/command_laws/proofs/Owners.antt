@@ -116,10 +116,10 @@ module _ (M : Model) (sound : Sound M) where
   ]
 
   pub half_is_on : (h : ℕ) → HasHalf M h → IsOn M (tail M h) (loop_of M h)
-  half_is_on h there = go (content M (loop_of M h)) (cycle_there M sound h there) where
-    go : (c : LoopContent) → IsIn h (items_of c) → IsIn (tail M h) (vertices_on M c)
-    go (lone w) i = absurd (omega arith)
-    go (cycle hs) i = IsIn-map (tail M) h hs i
+  half_is_on h there = tail_is_on (content M (loop_of M h)) (cycle_there M sound h there) where
+    tail_is_on : (c : LoopContent) → IsIn h (items_of c) → IsIn (tail M h) (vertices_on M c)
+    tail_is_on (lone w) i = absurd (omega arith)
+    tail_is_on (cycle hs) i = IsIn-map (tail M) h hs i
 
   -- and so it starts at a corner of its face
   pub half_corner : (h : ℕ) → HasHalf M h → IsIn (tail M h) (corners M (face_at M h))
@@ -154,10 +154,10 @@ module _ (M : Model) (sound : Sound M) where
 
   module _ (s : ℕ) where
     pub faces_many : length (faces_of M s) ≡ many (λ k. is_of s (solid_of M k)) M.faces
-    faces_many = same_length (faces_of M s) (table.all_where (λ k _. is_of s (solid_of M k)) M.faces) (λ k. count-all_where (λ _ row. nat_eq row.solid s) M.faces k ∙ go k (table.get M.faces k) refl ∙ sym (count-all_where (λ k _. is_of s (solid_of M k)) M.faces k)) where
-      go : (k : ℕ) (o : Option FaceRow) → table.get M.faces k ≡ o → passes (λ _ row. nat_eq row.solid s) k o ≡ passes (λ k _. is_of s (solid_of M k)) k o
-      go k None e = refl
-      go k (Some row) e = ap {B = ℕ} (λ u. cond (nat_eq u s) 1 0) (sym (solid_row M k row e))
+    faces_many = same_length (faces_of M s) (table.all_where (λ k _. is_of s (solid_of M k)) M.faces) (λ k. count-all_where (λ _ row. nat_eq row.solid s) M.faces k ∙ face_told k (table.get M.faces k) refl ∙ sym (count-all_where (λ k _. is_of s (solid_of M k)) M.faces k)) where
+      face_told : (k : ℕ) (o : Option FaceRow) → table.get M.faces k ≡ o → passes (λ _ row. nat_eq row.solid s) k o ≡ passes (λ k _. is_of s (solid_of M k)) k o
+      face_told k None e = refl
+      face_told k (Some row) e = ap {B = ℕ} (λ u. cond (nat_eq u s) 1 0) (sym (solid_row M k row e))
 
     abbrev corners_of : List ℕ
     corners_of = corners_in M (faces_of M s)
@@ -177,10 +177,10 @@ module _ (M : Model) (sound : Sound M) where
     ]
 
     pub vertices_many : length (vertices_of M s) ≡ many (λ v. is_of s (solid_of_vertex M v)) M.vertices
-    vertices_many = same_length (vertices_of M s) (table.all_where (λ v _. is_of s (solid_of_vertex M v)) M.vertices) (λ v. count-all_where (λ v _. lists corners_of v) M.vertices v ∙ go v (table.get M.vertices v) refl ∙ sym (count-all_where (λ v _. is_of s (solid_of_vertex M v)) M.vertices v)) where
-      go : (v : ℕ) (o : Option Point) → table.get M.vertices v ≡ o → passes (λ v _. lists corners_of v) v o ≡ passes (λ v _. is_of s (solid_of_vertex M v)) v o
-      go v None e = refl
-      go v (Some p) e = ap {B = ℕ} (λ b. cond b 1 0) (corner_told v (ap is_some e))
+    vertices_many = same_length (vertices_of M s) (table.all_where (λ v _. is_of s (solid_of_vertex M v)) M.vertices) (λ v. count-all_where (λ v _. lists corners_of v) M.vertices v ∙ vertex_told v (table.get M.vertices v) refl ∙ sym (count-all_where (λ v _. is_of s (solid_of_vertex M v)) M.vertices v)) where
+      vertex_told : (v : ℕ) (o : Option Point) → table.get M.vertices v ≡ o → passes (λ v _. lists corners_of v) v o ≡ passes (λ v _. is_of s (solid_of_vertex M v)) v o
+      vertex_told v None e = refl
+      vertex_told v (Some p) e = ap {B = ℕ} (λ b. cond b 1 0) (corner_told v (ap is_some e))
 
     -- each loop is the outer loop of its face or a ring
     loops_split : (fs : List ℕ) → length (loops_in M fs) ≡ length (rings_in M fs) + length fs

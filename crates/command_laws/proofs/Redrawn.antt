@@ -69,13 +69,13 @@ same_told M N q k e =
 -- what a test drops adds nothing
 pub dropped : (w : ℕ → ℤ) (p : ℕ → Bool) (xs : List ℕ) → ((x : ℕ) → p x ≡ false → w x ≡ pos 0) → total w xs ≡ total w (filter p xs)
 dropped w p [] none = refl
-dropped w p (x ∷ xs) none = go (p x) refl (dropped w p xs none) where
+dropped w p (x ∷ xs) none = sum_kept (p x) refl (dropped w p xs none) where
   nothing_more : (a b c : ℤ) → a ≡ pos 0 → b ≡ c → a +ℤ b ≡ c
   nothing_more a b c e f = omega (arith, ints, e, f)
 
-  go : (b : Bool) → p x ≡ b → total w xs ≡ total w (filter p xs) → w x +ℤ total w xs ≡ total w (cond b (x ∷ filter p xs) (filter p xs))
-  go true e rest = ap (λ t. w x +ℤ t) rest
-  go false e rest = nothing_more (w x) (total w xs) (total w (filter p xs)) (none x e) rest
+  sum_kept : (b : Bool) → p x ≡ b → total w xs ≡ total w (filter p xs) → w x +ℤ total w xs ≡ total w (cond b (x ∷ filter p xs) (filter p xs))
+  sum_kept true e rest = ap (λ t. w x +ℤ t) rest
+  sum_kept false e rest = nothing_more (w x) (total w xs) (total w (filter p xs)) (none x e) rest
 
 module _ (M N : Model) (p : ℕ → Plane) (q : Point) (met : ℕ → Bool) (drawn : AreRedrawn M N p q met) (u : ℕ) where
   -- what a face adds that isn't met
@@ -87,24 +87,24 @@ module _ (M N : Model) (p : ℕ → Plane) (q : Point) (met : ℕ → Bool) (dra
 
   none_met : (k : ℕ) → left k ≡ false → weight k ≡ pos 0
   unfolding left weight
-  none_met k e = go (met k) e where
-    go : (b : Bool) → not b ≡ false → cond b (pos 0) (told_from q M k) ≡ pos 0
-    go true e = refl
-    go false e = absurd (true≢false e)
+  none_met k e = none_if_met (met k) e where
+    none_if_met : (b : Bool) → not b ≡ false → cond b (pos 0) (told_from q M k) ≡ pos 0
+    none_if_met true e = refl
+    none_if_met false e = absurd (true≢false e)
 
   told_before : (k : ℕ) → Has M.faces k → told_from q M k ≡ weight k
   unfolding weight
-  told_before k there = go (met k) refl where
-    go : (b : Bool) → met k ≡ b → told_from q M k ≡ cond b (pos 0) (told_from q M k)
-    go true e = nothing_told M (p k) q k drawn.before there (drawn.on k there e)
-    go false e = refl
+  told_before k there = weight_before (met k) refl where
+    weight_before : (b : Bool) → met k ≡ b → told_from q M k ≡ cond b (pos 0) (told_from q M k)
+    weight_before true e = nothing_told M (p k) q k drawn.before there (drawn.on k there e)
+    weight_before false e = refl
 
   told_after : (k : ℕ) → Has N.faces k → told_from q N k ≡ weight k
   unfolding weight
-  told_after k there = go (met k) refl where
-    go : (b : Bool) → met k ≡ b → told_from q N k ≡ cond b (pos 0) (told_from q M k)
-    go true e = nothing_told N (p k) q k drawn.after there (drawn.on_then k there e)
-    go false e = same_told M N q k (drawn.stays k (drawn.back k there e) e).2
+  told_after k there = weight_after (met k) refl where
+    weight_after : (b : Bool) → met k ≡ b → told_from q N k ≡ cond b (pos 0) (told_from q M k)
+    weight_after true e = nothing_told N (p k) q k drawn.after there (drawn.on_then k there e)
+    weight_after false e = same_told M N q k (drawn.stays k (drawn.back k there e) e).2
 
   face_facts : (X : Model) (k : ℕ) → IsIn k (faces_of X u) → Has X.faces k × (solid_of X k ≡ u)
   face_facts X k i = face_in X u k (listed-from_in k (faces_of X u) i)

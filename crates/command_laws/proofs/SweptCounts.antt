@@ -89,12 +89,12 @@ module _ {M : Model} {c : Taken} {f l : ℕ} {d : Point} {hs : List ℕ} (w : Re
   -- a face is an old one, or one of the sides
   face_cases : (k : ℕ) → Has N.faces k → (table.get N.faces k ≡ table.get M.faces k) ⊎ (solid_of N k ≡ s)
   face_cases k there = elim (place_cases k c.face (length hs)) [
-    | inl m ↦ inl (at ∙ filled_old M.faces c.face (side_face M c s d hs) (length hs) k m)
-    | inr (inl i) ↦ inr (solid_row N k (side_face M c s d hs i.0) (at ∙ ap (table.get (filled M.faces c.face (side_face M c s d hs) (length hs))) i.2 ∙ filled_new M.faces c.face (side_face M c s d hs) (length hs) i.0 i.1))
-    | inr (inr m) ↦ inl (at ∙ filled_past M.faces c.face (side_face M c s d hs) (length hs) k m)
+    | inl m ↦ inl (face_row_grown ∙ filled_old M.faces c.face (side_face M c s d hs) (length hs) k m)
+    | inr (inl i) ↦ inr (solid_row N k (side_face M c s d hs i.0) (face_row_grown ∙ ap (table.get (filled M.faces c.face (side_face M c s d hs) (length hs))) i.2 ∙ filled_new M.faces c.face (side_face M c s d hs) (length hs) i.0 i.1))
+    | inr (inr m) ↦ inl (face_row_grown ∙ filled_past M.faces c.face (side_face M c s d hs) (length hs) k m)
   ] where
-    at : table.get N.faces k ≡ table.get (filled M.faces c.face (side_face M c s d hs) (length hs)) k
-    at = ap (λ t. table.get t k) (faces_grown M c s d hs (length hs))
+    face_row_grown : table.get N.faces k ≡ table.get (filled M.faces c.face (side_face M c s d hs) (length hs)) k
+    face_row_grown = ap (λ t. table.get t k) (faces_grown M c s d hs (length hs))
 
   loop_kept : (q : ℕ) → q ≢ l → Has M.loops q → table.get N.loops q ≡ table.get M.loops q
   loop_kept q ne there = get-put_other (S (length hs)).loops l _ q ne ∙ sides_loops M c f l d hs w (length hs) q (λ j m e. over q c.loop j (in_use_within M.loops c.loop w.free.loops q there) e)
@@ -107,14 +107,14 @@ module _ {M : Model} {c : Taken} {f l : ℕ} {d : Point} {hs : List ℕ} (w : Re
   loop_cases q there = elim (eqb_tells q l) [
     | inl e ↦ inr (ap (solid_of N) (ap (face_of N) e.1 ∙ face_row N l _ (get-put_here (S (length hs)).loops l _)) ∙ of_f)
     | inr e ↦ elim (place_cases q c.loop (length hs)) [
-      | inl m ↦ inl (at e.1 ∙ filled_old M.loops c.loop (side_loop M c s d hs) (length hs) q m)
-      | inr (inl i) ↦ inr (ap (solid_of N) (face_row N q (side_loop M c s d hs i.0) (at e.1 ∙ ap (table.get (filled M.loops c.loop (side_loop M c s d hs) (length hs))) i.2 ∙ filled_new M.loops c.loop (side_loop M c s d hs) (length hs) i.0 i.1))
+      | inl m ↦ inl (loop_row_grown e.1 ∙ filled_old M.loops c.loop (side_loop M c s d hs) (length hs) q m)
+      | inr (inl i) ↦ inr (ap (solid_of N) (face_row N q (side_loop M c s d hs i.0) (loop_row_grown e.1 ∙ ap (table.get (filled M.loops c.loop (side_loop M c s d hs) (length hs))) i.2 ∙ filled_new M.loops c.loop (side_loop M c s d hs) (length hs) i.0 i.1))
           ∙ solid_row N (c.face + 1 + i.0) (side_face M c s d hs i.0) (ap (λ t. table.get t (c.face + 1 + i.0)) (faces_grown M c s d hs (length hs)) ∙ filled_new M.faces c.face (side_face M c s d hs) (length hs) i.0 i.1))
-      | inr (inr m) ↦ inl (at e.1 ∙ filled_past M.loops c.loop (side_loop M c s d hs) (length hs) q m)
+      | inr (inr m) ↦ inl (loop_row_grown e.1 ∙ filled_past M.loops c.loop (side_loop M c s d hs) (length hs) q m)
     ]
   ] where
-    at : q ≢ l → table.get N.loops q ≡ table.get (filled M.loops c.loop (side_loop M c s d hs) (length hs)) q
-    at ne = get-put_other (S (length hs)).loops l _ q ne ∙ ap (λ t. table.get t q) (loops_grown M c s d hs (length hs))
+    loop_row_grown : q ≢ l → table.get N.loops q ≡ table.get (filled M.loops c.loop (side_loop M c s d hs) (length hs)) q
+    loop_row_grown ne = get-put_other (S (length hs)).loops l _ q ne ∙ ap (λ t. table.get t q) (loops_grown M c s d hs (length hs))
 
   -- ---- how many rows
 

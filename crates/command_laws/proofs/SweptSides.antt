@@ -87,8 +87,8 @@ module _ {f s : ℕ} (d : Point) {g : Growing} {l : ℕ} {ls : List ℕ} (w : Re
     side_row : table.get Z.loops q ≡ table.get Y.loops q
     side_row = later.loops q (omega (arith, m)) (elim (IsIn_or_not q ls) [ inl j ↦ absurd (omega (arith, later_low q j)) | inr z ↦ z ])
 
-    is : content Z q ≡ cycle round
-    is = same_content Y Z q side_row ∙ content_new X c o d hs f l (has_free d w) r i m
+    content_is : content Z q ≡ cycle round
+    content_is = same_content Y Z q side_row ∙ content_new X c o d hs f l (has_free d w) r i m
 
     there : Has Z.loops q
     there = ap is_some (side_row ∙ loop_new X c o d hs f l (has_free d w) r i m)
@@ -110,11 +110,11 @@ module _ {f s : ℕ} (d : Point) {g : Growing} {l : ℕ} {ls : List ℕ} (w : Re
     pub side_stands : IsFaceOf Z (g.taken.face + 1 + i) s (side_over d (start g.model (get_or (items d w) i 0)) (start g.model (get_or (items d w) (next_place (length (items d w)) i) 0)))
     side_stands =
         let out = outer_row Z k (side_face X c o d hs i) row in
-        let told = points_are Z k q round none out is ∙ round_points in
+        let told = points_are Z k q round none out content_is ∙ round_points in
         record {
           there = ap is_some row;
           solid = solid_row Z k (side_face X c o d hs i) row ∙ w.solid;
           plain = none;
           points = told;
-          plane = plane_is Z k q round none out is sound there (omega arith) (side_over d from to) told;
+          plane = plane_is Z k q round none out content_is sound there (omega arith) (side_over d from to) told;
         }
