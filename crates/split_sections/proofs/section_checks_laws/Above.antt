@@ -16,10 +16,10 @@ as_long f (b ∷ bs) = omega (arith, as_long f bs)
 
 fewer : (q : ℕ → Bool) (bs : List ℕ) → length (filter q bs) ≤ length bs
 fewer q [] = omega arith
-fewer q (b ∷ bs) = go (q b) (fewer q bs) where
-  go : (c : Bool) → length (filter q bs) ≤ length bs → length (cond c (b ∷ filter q bs) (filter q bs)) ≤ length (b ∷ bs)
-  go true l = omega (arith, l)
-  go false l = omega (arith, l)
+fewer q (b ∷ bs) = no_more_kept (q b) (fewer q bs) where
+  no_more_kept : (c : Bool) → length (filter q bs) ≤ length bs → length (cond c (b ∷ filter q bs) (filter q bs)) ≤ length (b ∷ bs)
+  no_more_kept true l = omega (arith, l)
+  no_more_kept false l = omega (arith, l)
 
 shorter : (f : ℕ → List ℕ) (q : ℕ → Bool) (bs : List ℕ) (m : ℕ) → length bs ≤ m → length (map f (filter q bs)) ≤ m
 shorter f q bs m l = omega (arith, l, as_long f (filter q bs), fewer q bs)

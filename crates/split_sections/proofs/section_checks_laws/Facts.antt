@@ -19,14 +19,14 @@ use Rattle.split_sections.proofs.section_checks_laws.Stages.{branched, stray, to
 
 module _ (M : Model) (sound : Sound M) (above : List ℕ) (s : ℕ) (faces : AreOf M above s) (halves : Vec HalfEdge Global) (met : map code halves.items ≡ below_halves M above s)
     (hs : List HalfEdge) (value : hs ≡ halves.items) where
-  e : map code hs ≡ below_halves M above s
-  e = ap (λ (gs : List HalfEdge). map code gs) value ∙ met
+  halves_met : map code hs ≡ below_halves M above s
+  halves_met = ap (λ (gs : List HalfEdge). map code gs) value ∙ met
 
   pub there_now : AreThere M (map code hs)
-  there_now = subst (AreThere M) (sym e) (halves_there M sound above s faces)
+  there_now = subst (AreThere M) (sym halves_met) (halves_there M sound above s faces)
 
   pub rising_now : strictly_rises (map code hs) ≡ true
-  rising_now = ap strictly_rises e ∙ halves_rise M above s sound
+  rising_now = ap strictly_rises halves_met ∙ halves_rise M above s sound
 
   as_many : length (below_halves M above s) ≡ vec_len halves
   as_many = sym (ap (λ (bs : List ℕ). length bs) met) ∙ length-map halves.items code ∙ omega (arith, halves.ok.0)
@@ -37,7 +37,7 @@ module _ (M : Model) (sound : Sound M) (above : List ℕ) (s : ℕ) (faces : Are
   -- what a search for a branched vertex has found
   module _ (o : Option ℕ) (searched : AreBalanced M (map code hs) → o ≡ least_branched M (section_ends M (map code hs))) where
     found : o ≡ least_branched M (section_ends M (below_halves M above s))
-    found = searched (subst (AreBalanced M) (sym e) (starts_are_ends M above s sound faces)) ∙ ap (λ bs. least_branched M (section_ends M bs)) e
+    found = searched (subst (AreBalanced M) (sym halves_met) (starts_are_ends M above s sound faces)) ∙ ap (λ bs. least_branched M (section_ends M bs)) halves_met
 
     pub branched_now : (p : Plane) (c : Taken) (v : ℕ) → o ≡ Some v → first_refusal (section_conditions M s p c (below_halves M above s)) ≡ Some (record { why = BranchedVertex; number = v })
     branched_now p c v is = branched M s p c (below_halves M above s) v (sym is ∙ found)
@@ -47,11 +47,11 @@ module _ (M : Model) (sound : Sound M) (above : List ℕ) (s : ℕ) (faces : Are
       unbranched = sym found ∙ none
 
       pub next_now : Permutes (next_below M (map code hs)) (map code hs)
-      next_now = subst (λ bs. Permutes (next_below M bs) bs) (sym e) (permutes M above s sound faces unbranched)
+      next_now = subst (λ bs. Permutes (next_below M bs) bs) (sym halves_met) (permutes M above s sound faces unbranched)
 
       module _ (p : Plane) (told : Vec Cycle Global) (h : map halves_of told.items ≡ section_cycles M (map code hs)) (w : map (λ c. c.hole) told.items ≡ map (is_hole M p) (map halves_of told.items)) where
         cycles_are : map halves_of told.items ≡ section_cycles M (below_halves M above s)
-        cycles_are = h ∙ ap (section_cycles M) e
+        cycles_are = h ∙ ap (section_cycles M) halves_met
 
         pub all_now : AreCyclesOf M p (below_halves M above s) told.items
         all_now = record { cycles = cycles_are; holes = w }

@@ -10,7 +10,7 @@ module _ (M : Model) (p : Plane) where
   -- as many are told as holes as are
   as_many : (cs : List Cycle) → map (λ c. c.hole) cs ≡ map (is_hole M p) (map halves_of cs) → length (filter (λ (c : Cycle). c.hole) cs) ≡ length (filter (is_hole M p) (map halves_of cs))
   as_many [] e = refl
-  as_many (c ∷ cs) e = go c.hole (is_hole M p (halves_of c)) (ap first e) (as_many cs (ap others e)) where
+  as_many (c ∷ cs) e = same_flag_same_count c.hole (is_hole M p (halves_of c)) (ap first e) (as_many cs (ap others e)) where
     first : List Bool → Bool
     first [] = true
     first (b ∷ bs) = b
@@ -19,12 +19,12 @@ module _ (M : Model) (p : Plane) where
     others [] = []
     others (b ∷ bs) = bs
 
-    go : (a b : Bool) → a ≡ b → length (filter (λ (c : Cycle). c.hole) cs) ≡ length (filter (is_hole M p) (map halves_of cs))
+    same_flag_same_count : (a b : Bool) → a ≡ b → length (filter (λ (c : Cycle). c.hole) cs) ≡ length (filter (is_hole M p) (map halves_of cs))
         → length (cond a (c ∷ filter (λ (c : Cycle). c.hole) cs) (filter (λ (c : Cycle). c.hole) cs)) ≡ length (cond b (halves_of c ∷ filter (is_hole M p) (map halves_of cs)) (filter (is_hole M p) (map halves_of cs)))
-    go true true s r = omega (arith, r)
-    go false false s r = r
-    go true false s r = absurd (true≢false s)
-    go false true s r = absurd (true≢false (sym s))
+    same_flag_same_count true true s r = omega (arith, r)
+    same_flag_same_count false false s r = r
+    same_flag_same_count true false s r = absurd (true≢false s)
+    same_flag_same_count false true s r = absurd (true≢false (sym s))
 
   same_length : (cs : List Cycle) → length (map halves_of cs) ≡ length cs
   same_length [] = refl
@@ -36,7 +36,7 @@ module _ (M : Model) (p : Plane) where
 -- no more are holes than there are
 pub few_holes : (cs : List Cycle) → length (filter (λ (c : Cycle). c.hole) cs) ≤ length cs
 few_holes [] = omega arith
-few_holes (c ∷ cs) = go c.hole (few_holes cs) where
-  go : (b : Bool) → length (filter (λ (c : Cycle). c.hole) cs) ≤ length cs → length (cond b (c ∷ filter (λ (c : Cycle). c.hole) cs) (filter (λ (c : Cycle). c.hole) cs)) ≤ length (c ∷ cs)
-  go true l = omega (arith, l)
-  go false l = omega (arith, l)
+few_holes (c ∷ cs) = no_more_holes c.hole (few_holes cs) where
+  no_more_holes : (b : Bool) → length (filter (λ (c : Cycle). c.hole) cs) ≤ length cs → length (cond b (c ∷ filter (λ (c : Cycle). c.hole) cs) (filter (λ (c : Cycle). c.hole) cs)) ≤ length (c ∷ cs)
+  no_more_holes true l = omega (arith, l)
+  no_more_holes false l = omega (arith, l)

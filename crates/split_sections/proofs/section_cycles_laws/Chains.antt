@@ -66,20 +66,20 @@ pub one_placed : (M : Model) (all left : List ℕ) (starts next : BTreeMap ℕ H
 one_placed M all left starts next branched p h rest t e is updates old more met had alone both = record {
   done = code h ∷ p.done;
   parts = p.parts ∙ ap (λ ks. ks ++ p.done) e ∙ append_assoc rest (code h ∷ []) p.done;
-  told = λ v. ap code_or_none (at v) ∙ chosen (nat_eq (tail M (code h)) v) (get nat_cmp starts v) (first_such (λ c. nat_eq (tail M c) v) p.done) (p.told v);
-  held = λ v. ap is_some (at v) ∙ either (nat_eq (tail M (code h)) v) (get nat_cmp starts v) ∙ ap (λ b. nat_eq (tail M (code h)) v || b) (p.held v) ∙ held_now (tail M (code h)) v (count v ts);
+  told = λ v. ap code_or_none (next_updated v) ∙ chosen (nat_eq (tail M (code h)) v) (get nat_cmp starts v) (first_such (λ c. nat_eq (tail M c) v) p.done) (p.told v);
+  held = λ v. ap is_some (next_updated v) ∙ either (nat_eq (tail M (code h)) v) (get nat_cmp starts v) ∙ ap (λ b. nat_eq (tail M (code h)) v || b) (p.held v) ∙ held_now (tail M (code h)) v (count v tails_done);
   least = subst (IsLeast (several M (code h ∷ p.done))) (sym more_is)
-      (least_same (λ v. several M p.done v || (nat_lt 0 (count t ts) && nat_eq v t)) (several M (code h ∷ p.done))
-      (λ v. several_now t v (count v ts) (count t ts) (ap (λ k. count k ts)) ∙ ap (λ k. nat_lt 1 (tick v k + count v ts)) is)
-      (lesser branched (only (nat_lt 0 (count t ts)) t)) (least_either (several M p.done) (λ v. nat_lt 0 (count t ts) && nat_eq v t) branched (only (nat_lt 0 (count t ts)) t) p.least (one_only (nat_lt 0 (count t ts)) t)));
+      (least_same (λ v. several M p.done v || (nat_lt 0 (count t tails_done) && nat_eq v t)) (several M (code h ∷ p.done))
+      (λ v. several_now t v (count v tails_done) (count t tails_done) (ap (λ k. count k tails_done)) ∙ ap (λ k. nat_lt 1 (tick v k + count v tails_done)) is)
+      (lesser branched (only (nat_lt 0 (count t tails_done)) t)) (least_either (several M p.done) (λ v. nat_lt 0 (count t tails_done) && nat_eq v t) branched (only (nat_lt 0 (count t tails_done)) t) p.least (one_only (nat_lt 0 (count t tails_done)) t)));
 } where
-  ts : List ℕ
-  ts = map (tail M) p.done
+  tails_done : List ℕ
+  tails_done = map (tail M) p.done
 
-  at : (v : ℕ) → get nat_cmp next v ≡ cond (nat_eq (tail M (code h)) v) (Some h) (get nat_cmp starts v)
-  at v = updates v ∙ ap (λ b. cond b (Some h) (get nat_cmp starts v)) (number_tied t v ∙ ap (λ n. nat_eq n v) is)
+  next_updated : (v : ℕ) → get nat_cmp next v ≡ cond (nat_eq (tail M (code h)) v) (Some h) (get nat_cmp starts v)
+  next_updated v = updates v ∙ ap (λ b. cond b (Some h) (get nat_cmp starts v)) (number_tied t v ∙ ap (λ n. nat_eq n v) is)
 
-  more_is : more ≡ lesser branched (only (nat_lt 0 (count t ts)) t)
+  more_is : more ≡ lesser branched (only (nat_lt 0 (count t tails_done)) t)
   more_is = both ∙ ap (lesser branched) (alone ∙ ap (λ b. only b t) (had ∙ p.held t))
 
   chosen : (b : Bool) (o : Option HalfEdge) (n : Option ℕ) → code_or_none o ≡ unwrap_or n 0 → code_or_none (cond b (Some h) o) ≡ unwrap_or (cond b (Some (code h)) n) 0

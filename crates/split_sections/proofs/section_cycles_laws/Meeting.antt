@@ -9,10 +9,10 @@ AreLow bs = (b : ℕ) → IsIn b bs → b ≤ 2000001
 
 low_edge : (h : HalfEdge) → code h ≤ 2000001 → h.edge ≤ 1000000
 unfolding code
-low_edge h l = go h.first l where
-  go : (f : Bool) → cond f (plus h.edge) (minus h.edge) ≤ 2000001 → h.edge ≤ 1000000
-  go true l = omega (arith, l)
-  go false l = omega (arith, l)
+low_edge h l = either_half_low h.first l where
+  either_half_low : (f : Bool) → cond f (plus h.edge) (minus h.edge) ≤ 2000001 → h.edge ≤ 1000000
+  either_half_low true l = omega (arith, l)
+  either_half_low false l = omega (arith, l)
 
 pub first_low : (hs : List HalfEdge) (d : HalfEdge) → 1 ≤ length hs → AreLow (map code hs) → (slice_index_or hs 0 d).edge ≤ 1000000
 first_low hs d l low =
