@@ -29,20 +29,20 @@ module _ (M : Model) (f g : ℕ) (sound : Sound M) (accepted : glue_refusal M f 
   abbrev p : ℕ → ℕ
   p = partner M (rim M g)
 
-  w : Facing M f g p hs (fresh_edge M)
-  w = facts.facing M f g sound accepted
+  rims_meet : Facing M f g p hs (fresh_edge M)
+  rims_meet = facts.facing M f g sound accepted
 
   pub first_there : Has M.faces f
-  first_there = w.f_there
+  first_there = rims_meet.f_there
 
   pub second_there : Has M.faces g
-  second_there = w.g_there
+  second_there = rims_meet.g_there
 
   pub edge_left : fresh_edge M ≤ 1000000
-  edge_left = number_fits (fresh_edge M) w.edge_fits
+  edge_left = number_fits (fresh_edge M) rims_meet.edge_fits
 
   pub first_held : is_lone (content M (outer M f)) ≡ false
-  first_held = ap is_lone (facing.content_f M f g p hs (fresh_edge M) w)
+  first_held = ap is_lone (facing.content_f M f g p hs (fresh_edge M) rims_meet)
 
   shape : (h : ℕ) × (mid : List ℕ) × (last : ℕ) × (hs ≡ h ∷ (mid ++ last ∷ []))
   shape = facts.shape M f g sound accepted
@@ -58,14 +58,14 @@ module _ (M : Model) (f g : ℕ) (sound : Sound M) (accepted : glue_refusal M f 
 
   -- the last item ends where the first one starts
   ends : start M (head_or 0 hs) ≡ finish M last
-  ends = ap (λ q. start M (head_or 0 q)) shape.3 ∙ ap (point_of M) (facing.meets_round M f g p hs (fresh_edge M) w shape.0 shape.1 shape.2 shape.3) ∙ ap (finish M) (sym last_is)
+  ends = ap (λ q. start M (head_or 0 q)) shape.3 ∙ ap (point_of M) (facing.meets_round M f g p hs (fresh_edge M) rims_meet shape.0 shape.1 shape.2 shape.3) ∙ ap (finish M) (sym last_is)
 
   partner_in : IsIn (p last) (rim M g)
-  partner_in = subst (IsIn (p last)) (sym (ap items_of (facing.content_g M f g p hs (fresh_edge M) w))) (facing.partner_in M f g p hs (fresh_edge M) w last last_there)
+  partner_in = subst (IsIn (p last)) (sym (ap items_of (facing.content_g M f g p hs (fresh_edge M) rims_meet))) (facing.partner_in M f g p hs (fresh_edge M) rims_meet last last_there)
 
   partner_starts : start M (p last) ≡ finish M last
   partner_starts = same_is (start M (p last)) (finish M last)
-      (such_passes (λ k. same_point (start M k) (finish M last)) (rim M g) (half_number M sound (p last) (facing.half_g M f g p hs (fresh_edge M) w last last_there)))
+      (such_passes (λ k. same_point (start M k) (finish M last)) (rim M g) (half_number M sound (p last) (facing.half_g M f g p hs (fresh_edge M) rims_meet last last_there)))
 
   module _ (point : Point) (at : point ≡ start M (head_or 0 hs)) where
     -- the partner of the last item starts there
@@ -87,7 +87,7 @@ module _ (M : Model) (f g : ℕ) (sound : Sound M) (accepted : glue_refusal M f 
   first_ops h k = opening M f g h (p k) (fresh_edge M)
 
   w_all : Facing M f g p all (fresh_edge M)
-  w_all = subst (λ q. Facing M f g p q (fresh_edge M)) shape.3 w
+  w_all = subst (λ q. Facing M f g p q (fresh_edge M)) shape.3 rims_meet
 
   goes : AreAccepted M (first_ops shape.0 shape.2)
   goes = opening_accepted M f g p shape.0 shape.1 shape.2 (fresh_edge M) w_all
@@ -103,7 +103,7 @@ module _ (M : Model) (f g : ℕ) (sound : Sound M) (accepted : glue_refusal M f 
     done = [];
     later = shape.1 ++ shape.2 ∷ [];
     stage = record {
-      facing = w;
+      facing = rims_meet;
       split = shape.3;
       last_in = IsIn_last shape.0 (shape.1 ++ shape.2 ∷ []);
       sound = subst Sound made (effects_keep_sound M (first_ops shape.0 shape.2) sound goes);

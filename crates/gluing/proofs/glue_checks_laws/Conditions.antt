@@ -38,13 +38,13 @@ module _ (M : Model) (sound : Sound M) where
   -- where no loop of some faces is lone, none of their outer loops is
   pub outer_held : (fs : List ℕ) (f : ℕ) → least_lone M fs ≡ None → Has M.faces f → lists fs f ≡ true → is_lone (content M (outer M f)) ≡ false
   unfolding content face_of
-  outer_held fs f none there listed = go (get M.loops (outer M f)) refl where
+  outer_held fs f none there listed = row_held (get M.loops (outer M f)) refl where
     its_face : face_of M (outer M f) ≡ f
     its_face = (sound.outers_there f there).1
 
-    go : (o : Option LoopRow) → get M.loops (outer M f) ≡ o → is_lone (unwrap_or (get M.loops (outer M f)) no_loop).content ≡ false
-    go None e = ap (λ o. is_lone (unwrap_or o no_loop).content) e
-    go (Some row) e =
+    row_held : (o : Option LoopRow) → get M.loops (outer M f) ≡ o → is_lone (unwrap_or (get M.loops (outer M f)) no_loop).content ≡ false
+    row_held None e = ap (λ o. is_lone (unwrap_or o no_loop).content) e
+    row_held (Some row) e =
         let p = zero_first_where (λ _ row. is_lone row.content && lists fs row.face) M.loops (loop_number M sound) (none_is_lone M fs none) (outer M f) row e in
         let face : row.face ≡ f = sym (ap (λ o. (unwrap_or o no_loop).face) e) ∙ its_face in
         ap (λ o. is_lone (unwrap_or o no_loop).content) e ∙ first_fails (is_lone row.content) (lists fs row.face) p (ap (lists fs) face ∙ listed)
@@ -70,10 +70,10 @@ module _ (M : Model) (f g : ℕ) where
   -- where nothing refuses a glue, no condition is false that is tested before memory is asked for
   pub none_early : first_refusal (glue_conditions M f g) ≡ None → early_refusal M f g ≡ None
   unfolding glue_conditions early_conditions
-  none_early accepted = go (early_refusal M f g) refl where
-    go : (o : Option Refusal) → early_refusal M f g ≡ o → o ≡ None
-    go None is = refl
-    go (Some r) is = sym (first_refusal-refused (early_conditions M f g) later r is) ∙ accepted
+  none_early accepted = none_refused (early_refusal M f g) refl where
+    none_refused : (o : Option Refusal) → early_refusal M f g ≡ o → o ≡ None
+    none_refused None is = refl
+    none_refused (Some r) is = sym (first_refusal-refused (early_conditions M f g) later r is) ∙ accepted
 
   pub faces_failed : (v : Result (Unit {0}) Refusal) → v ≡ verdict (first_refusal (face_conditions M f g)) → is_err v ≡ true → v ≡ verdict (first_refusal (glue_conditions M f g))
   faces_failed v is e = first_failed (face_conditions M f g) (solid_conditions M (solid_of M f) (solid_of M g) ++ later) v is e ∙ ap (λ cs. verdict (first_refusal cs)) (sym grouped)

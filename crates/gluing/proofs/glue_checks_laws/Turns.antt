@@ -90,11 +90,11 @@ module _ (p : Point) where
   missing_from n [] e i l s = omega arith
   missing_from n (q ∷ qs) e i l s = elim (same_point q p) as (λ b. same_point q p ≡ b → cond b (Some n) (place_from (n + 1) p qs) ≡ None → ⊥) [
     | true ↦ λ t f. true≢false (ap is_some f)
-    | false ↦ λ t f. at i l s t (missing_from (n + 1) qs f)
+    | false ↦ λ t f. at_no_place i l s t (missing_from (n + 1) qs f)
   ] refl e where
-    at : (i : ℕ) → i < suc (length qs) → p ≡ get_or (q ∷ qs) i p → same_point q p ≡ false → ((j : ℕ) → j < length qs → p ≢ get_or qs j p) → ⊥
-    at zero l s t rest = true≢false (sym (ap (λ r. same_point r p) (sym s) ∙ same_as p p refl) ∙ t)
-    at (suc i) l s t rest = rest i (omega (arith, l)) s
+    at_no_place : (i : ℕ) → i < suc (length qs) → p ≡ get_or (q ∷ qs) i p → same_point q p ≡ false → ((j : ℕ) → j < length qs → p ≢ get_or qs j p) → ⊥
+    at_no_place zero l s t rest = true≢false (sym (ap (λ r. same_point r p) (sym s) ∙ same_as p p refl) ∙ t)
+    at_no_place (suc i) l s t rest = rest i (omega (arith, l)) s
 
   pub not_found : (ps qs : List Point) → length (p ∷ ps) ≡ length qs → place_from 0 p qs ≡ None → is_rotation (p ∷ ps) qs ≡ false
   not_found ps qs same e = same_truth (is_rotation (p ∷ ps) qs) false (λ r. absurd (
