@@ -68,17 +68,17 @@ module _ (M : Model) (c : Taken) (s : ℕ) (ps : List Point) (goes : Goes M c s 
     }
 
   module _ (i : ℕ) (N : Model) (end : Corner) (b : Along M c s ps i N end) (all : i ≡ length ps) (op : Op) (is : op ≡ Mef (second_half (c.edge + length ps - 1)) (first_half (c.edge + 1)) (first_half (c.edge + length ps)) (c.face + 2) (c.loop + 2)) where
-    a : Along M c s ps (length ps) N end
-    a = subst (λ k. Along M c s ps k N end) all b
+    all_along : Along M c s ps (length ps) N end
+    all_along = subst (λ k. Along M c s ps k N end) all b
 
-    last_is : op ≡ last_edge c a.edges
-    last_is = is ∙ (λ t. Mef (second_half (before t)) (first_half (c.edge + 1)) (first_half (c.edge + a.counted t)) (c.face + 2) (c.loop + 2)) where
-      before : c.edge + length ps - 1 ≡ c.edge + a.edges
-      before = omega (arith, a.counted)
+    last_is : op ≡ last_edge c all_along.edges
+    last_is = is ∙ (λ t. Mef (second_half (before t)) (first_half (c.edge + 1)) (first_half (c.edge + all_along.counted t)) (c.face + 2) (c.loop + 2)) where
+      before : c.edge + length ps - 1 ≡ c.edge + all_along.edges
+      before = omega (arith, all_along.counted)
 
     pub last_goes : first_false N op ≡ None
-    last_goes = (λ t. first_false (a.model t) (last_is t)) ∙ close_accepted M c s ps (length ps) goes a.edges a.counted
+    last_goes = (λ t. first_false (all_along.model t) (last_is t)) ∙ close_accepted M c s ps (length ps) goes all_along.edges all_along.counted
 
     pub last_done : (K : Model) → K ≡ effect N op → c ≡ taken_in M → K ≡ lamina_model M s ps
     unfolding lamina_model
-    last_done K made counters = made ∙ (λ t. effect (a.model t) (last_is t)) ∙ close_made M c s ps (length ps) goes a.edges a.counted refl ∙ ap (λ k. lamina_at M k s ps) counters
+    last_done K made counters = made ∙ (λ t. effect (all_along.model t) (last_is t)) ∙ close_made M c s ps (length ps) goes all_along.edges all_along.counted refl ∙ ap (λ k. lamina_at M k s ps) counters

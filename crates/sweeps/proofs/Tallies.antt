@@ -48,7 +48,7 @@ module _ (M : Model) (d : Point) where
     half_told = sound.only_edges (code h) l stands
 
     pub ring_told : tally M d (map (tail M) (cycle_of M (code h))) ≡ tally M d (vertices_on M (content M l))
-    ring_told = ap (tally M d) (ap (λ k. map (tail M) (items_of (content M k))) (sound.one_loop (code h) l stands) ∙ go (content M l) (subst (Tells (content M l)) is tells)) where
-      go : (k : LoopContent) → Tells k (Content.Ring h) → map (tail M) (items_of k) ≡ vertices_on M k
-      go (lone v) t = absurd t
-      go (cycle hs) t = refl
+    ring_told = ap (tally M d) (ap (λ k. map (tail M) (items_of (content M k))) (sound.one_loop (code h) l stands) ∙ cycle_vertices (content M l) (subst (Tells (content M l)) is tells)) where
+      cycle_vertices : (k : LoopContent) → Tells k (Content.Ring h) → map (tail M) (items_of k) ≡ vertices_on M k
+      cycle_vertices (lone v) t = absurd t
+      cycle_vertices (cycle hs) t = refl
