@@ -107,19 +107,19 @@ module _ (M : Model) (s : ℕ) (p : Plane) (N : Model) (e : ℕ) (rs : List ℕ)
 
   -- once it is cut the others remain, and its edge and vertex are counted
   module _ (K : Model) (is : K ≡ effect N (cut_edge p (growing N) e)) where
-    on : Going M p (next_cut p (growing N) e) (e ∷ c.done) rs
-    on = going_on M p c.sound (growing N) c.done e rs c.going
+    still_going : Going M p (next_cut p (growing N) e) (e ∷ c.done) rs
+    still_going = going_on M p c.sound (growing N) c.done e rs c.going
 
     grown : next_cut p (growing N) e ≡ growing K
     grown =
         let model = next_model M p c.sound (growing N) c.done e rs c.going ∙ sym is in
-        λ i. record { model = model i; taken = (on.counted ∙ ap taken_in model) i }
+        λ i. record { model = model i; taken = (still_going.counted ∙ ap taken_in model) i }
 
     pub next_taken : Cutting M s p K rs
     next_taken = record {
       sound = c.sound;
       done = e ∷ c.done;
-      going = subst (λ h. Going M p h (e ∷ c.done) rs) grown on;
+      going = subst (λ h. Going M p h (e ∷ c.done) rs) grown still_going;
       made = ap (λ (h : Growing). (all_cut p h rs).model) (sym grown) ∙ c.made;
     }
 

@@ -21,13 +21,13 @@ module _ (f : ℕ) (d : Drawing) (q : ℕ × ℕ) (qs : List (ℕ × ℕ)) (w : 
   pub join_left : d.taken.edge + 1 ≤ 1000000
   join_left = omega (arith, w.joining.room.edges)
 
-  on : Joining w.before f (join_next d q) qs 0
-  on = (join_one w.before f d q qs 0 w.fit.0 w.joining).1
+  still_joining : Joining w.before f (join_next d q) qs 0
+  still_joining = (join_one w.before f d q qs 0 w.fit.0 w.joining).1
 
   -- a pair in one loop is left
   module _ (e : in_one_loop d.model q ≡ true) where
     pub kept_on : CanJoin f (record d { left = d.left ++ q ∷ [] }) qs
-    kept_on = record { before = w.before; fit = w.fit.1; joining = subst (λ x. Joining w.before f x qs 0) (join_next_one d q e) on }
+    kept_on = record { before = w.before; fit = w.fit.1; joining = subst (λ x. Joining w.before f x qs 0) (join_next_one d q e) still_joining }
 
     pub kept_made : fold join_next (record d { left = d.left ++ q ∷ [] }) qs ≡ fold join_next d (q ∷ qs)
     kept_made = ap (λ x. fold join_next x qs) (sym (join_next_one d q e))
@@ -48,7 +48,7 @@ module _ (f : ℕ) (d : Drawing) (q : ℕ × ℕ) (qs : List (ℕ × ℕ)) (w : 
       next_is = join_next_two d q e ∙ (λ i. record d { model = sym is i; taken = record d.taken { edge = d.taken.edge + 1 } })
 
       pub joined_on : CanJoin f (record d { model = K; taken = record d.taken { edge = d.taken.edge + 1 } }) qs
-      joined_on = record { before = w.before; fit = w.fit.1; joining = subst (λ x. Joining w.before f x qs 0) next_is on }
+      joined_on = record { before = w.before; fit = w.fit.1; joining = subst (λ x. Joining w.before f x qs 0) next_is still_joining }
 
       pub joined_made : fold join_next (record d { model = K; taken = record d.taken { edge = d.taken.edge + 1 } }) qs ≡ fold join_next d (q ∷ qs)
       joined_made = ap (λ x. fold join_next x qs) (sym next_is)
