@@ -102,22 +102,22 @@ module _ (N : Model) (s : ℕ) (c : Taken) (bs : List ℕ) (r : AreStripped N s 
   raised_so_far i le = (λ j. effects (r.model j) (read_before i le j)) ∙ (copies_go M r.above s c bs r.can i le).1
 
   module _ (i : ℕ) (lt : i < length bs) (X : Model) (x : X ≡ effects N (copy_ops N c bs i)) where
-    le : i ≤ length bs
-    le = omega (arith, lt)
+    within_length : i ≤ length bs
+    within_length = omega (arith, lt)
 
     is_raised : X ≡ copies_raised M r.above s c bs i
-    is_raised = x ∙ raised_so_far i le
+    is_raised = x ∙ raised_so_far i within_length
 
     -- the next half is there
     pub half_there : HasHalf X (get_or bs i 0)
-    half_there = subst (λ Y. HasHalf Y (get_or bs i 0)) (sym is_raised) (there M r.above s c bs r.can i le i lt)
+    half_there = subst (λ Y. HasHalf Y (get_or bs i 0)) (sym is_raised) (there M r.above s c bs r.can i within_length i lt)
 
     op_is : raise_copy X c bs i ≡ raise_copy M c bs i
-    op_is = ap (λ Y. raise_copy Y c bs i) is_raised ∙ kept_copy M r.above s c bs r.can i le i lt
+    op_is = ap (λ Y. raise_copy Y c bs i) is_raised ∙ kept_copy M r.above s c bs r.can i within_length i lt
 
     -- its copy can be raised
     pub copy_goes : first_false X (raise_copy X c bs i) ≡ None
-    copy_goes = (λ j. first_false (is_raised j) (op_is j)) ∙ copy_accepted M r.above s c bs r.can i lt (part_sound M r.above s c bs r.can i le)
+    copy_goes = (λ j. first_false (is_raised j) (op_is j)) ∙ copy_accepted M r.above s c bs r.can i lt (part_sound M r.above s c bs r.can i within_length)
 
     -- and then one more is
     pub one_raised : (K : Model) → K ≡ effect X (raise_copy X c bs i) → K ≡ effects N (copy_ops N c bs (i + 1))
