@@ -10,10 +10,10 @@ use Rattle.shapes.proofs.Common.{AreHalves, halves_short}
 
 pub point_fits : (M : Model) → Sound M → (v : ℕ) → IsInRange (point_of M v)
 unfolding point_of
-point_fits M sound v = go (table.get M.vertices v) refl where
-  go : (o : Option Point) → table.get M.vertices v ≡ o → IsInRange (unwrap_or o no_point)
-  go None e = refl
-  go (Some p) e = sound.points_fit v p e
+point_fits M sound v = row_in_range (table.get M.vertices v) refl where
+  row_in_range : (o : Option Point) → table.get M.vertices v ≡ o → IsInRange (unwrap_or o no_point)
+  row_in_range None e = refl
+  row_in_range (Some p) e = sound.points_fit v p e
 
 pub cross_within : (p q : Point) → IsInRange p → IsInRange q → IsVectorWithin 2000000000000000000 (cross p q)
 cross_within p q rp rq =

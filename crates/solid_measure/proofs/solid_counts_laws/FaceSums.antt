@@ -25,10 +25,10 @@ all_counted sum left total e none = sym (together_nothing sum) ∙ ap (together 
 -- a face without rings counts for what its outer loop does
 pub bare_face : (M : Model) (f n : ℕ) → n ≡ length (rings_of M f) → n ≡ 0 → loop_met M (content M (outer M f)) ≡ loops_met M (loops_of M f)
 unfolding loops_of
-bare_face M f n e z = go (rings_of M f) (sym e ∙ z) where
-  go : (rs : List ℕ) → length rs ≡ 0 → loop_met M (content M (outer M f)) ≡ loops_met M (outer M f ∷ rs)
-  go [] l = sym (together_nothing (loop_met M (content M (outer M f))))
-  go (r ∷ rs) l = absurd (omega (arith, l))
+bare_face M f n e z = outer_loop_only (rings_of M f) (sym e ∙ z) where
+  outer_loop_only : (rs : List ℕ) → length rs ≡ 0 → loop_met M (content M (outer M f)) ≡ loops_met M (outer M f ∷ rs)
+  outer_loop_only [] l = sym (together_nothing (loop_met M (content M (outer M f))))
+  outer_loop_only (r ∷ rs) l = absurd (omega (arith, l))
 
 rings_fewer : (M : Model) (fs : List ℕ) → length (rings_in M fs) ≤ length (loops_in M fs)
 unfolding loops_of

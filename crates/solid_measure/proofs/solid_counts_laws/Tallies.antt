@@ -153,13 +153,13 @@ module _ (M : Model) (sound : Sound M) (s : ℕ) where
     tail_on (cycle hs) x i = IsIn-map (tail M) x hs i
 
   listed_counted : (v : ℕ) → IsIn v solid_vertices → IsIn v (lone_ones ++ led_ones)
-  listed_counted v i = let l = listed_vertex v i in go l.0 l.1 (content M l.0) refl l.2 where
-    go : (l : ℕ) → IsIn l loops → (c : LoopContent) → content M l ≡ c → IsIn v (vertices_on M c) → IsIn v (lone_ones ++ led_ones)
-    go l i (lone w) e j = elim (eqb_tells v w) [
+  listed_counted v i = let l = listed_vertex v i in counted_on_loop l.0 l.1 (content M l.0) refl l.2 where
+    counted_on_loop : (l : ℕ) → IsIn l loops → (c : LoopContent) → content M l ≡ c → IsIn v (vertices_on M c) → IsIn v (lone_ones ++ led_ones)
+    counted_on_loop l i (lone w) e j = elim (eqb_tells v w) [
       | inl p ↦ omega (arith, count-append v lone_ones led_ones, of_lone l v i (e ∙ ap lone (sym p.1)))
       | inr n ↦ absurd (omega (arith, j, tick_other v w n.1))
     ]
-    go l i (cycle hs) e j =
+    counted_on_loop l i (cycle hs) e j =
         let m = of_map (tail M) v hs j in
         let x : IsIn m.0 halves = in_some (λ l. items_of (content M l)) (items_in M) (λ l ls. refl) loops l m.0 i (omega (arith, m.1, ap (λ c. count m.0 (items_of c)) e)) in
         omega (arith, count-append v lone_ones led_ones, of_half m.0 v x m.2)
