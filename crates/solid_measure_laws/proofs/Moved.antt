@@ -7,7 +7,7 @@ use Rattle.euler_operators.specs.Table as table
 use Rattle.euler_operators.proofs.Common.{in-holds, mate_there, holds_in, loop_there, dif-parts, difs, same_dif, same_vector, moved_none, dot_moved, dot_turned, dot_origin, dot_sum, add_none, IsIn_rest, IsIn_first, each_mapped, IsIn_head, canonical_nil, count-canonical, count-append, tick_same, tick_other, IsIn_or_not, edge_of-mate, mate-mate, all_where-map, SameItems-from_permutation, ring_stays}
 use Rattle.euler_laws.proofs.Common.{first_listed, rest_listed, listed_passes, listed_as, all_where-rises, IsIn-from_listed, light, loop_row, face_there, counted_once, none_counted}
 use Rattle.shapes.specs.Common.{start, finish, loops_of, items_in, boundary, vertices_on, corners, area, normal, anchor, first_vertex, volume_in, six_volume, plane_of, is_flat, towards, negated}
-use Rattle.shapes.proofs.Common.{area-append, cross_nothing, begins, IsPathTo, loop_closed, items_there, area_same, area_mates, own_opposite, count-mates, area_back, moved_back, dot_back, list_parts, are_on, plane_told}
+use Rattle.shapes.proofs.Common.{area-append, area_kept, areas_kept, cross_nothing, begins, IsPathTo, loop_closed, items_there, area_same, area_mates, own_opposite, count-mates, area_back, moved_back, dot_back, list_parts, are_on, plane_told}
 use Rattle.solid_measure_laws.specs.Models.{shifted, normals_in, run_back, row_back, turned}
 use Rattle.std.proofs.lemmas.Bool.Decides.{nat_tests, eqb_tells}
 use Rattle.std.specs.List.{list_all}
@@ -53,10 +53,6 @@ module _ (M : Model) (d : Point) where
   unfolding shifted loops_of outer
   loops_kept f = refl
 
-  items_kept : (ls : List ℕ) → items_in N ls ≡ items_in M ls
-  items_kept [] = refl
-  items_kept (l ∷ ls) = λ i. items_of (content_kept l i) ++ items_kept ls i
-
   -- ---- normals
 
   module _ (sound : Sound M) where
@@ -80,14 +76,10 @@ module _ (M : Model) (d : Point) where
       ends [] = stays d origin (area M [])
       ends (h ∷ hs) = stays d (start M h) (area M (h ∷ hs))
 
-    loops_moved : (ls : List ℕ) → area N (items_in M ls) ≡ area M (items_in M ls)
-    loops_moved [] = refl
-    loops_moved (l ∷ ls) = area-append N (items_of (content M l)) (items_in M ls) ∙ (λ i. moved (loop_moved l i) (loops_moved ls i)) ∙ sym (area-append M (items_of (content M l)) (items_in M ls))
-
     -- each face keeps its normal
     pub normal_kept : (f : ℕ) → normal N f ≡ normal M f
     unfolding normal boundary
-    normal_kept f = ap (λ ls. area N (items_in N ls)) (loops_kept f) ∙ ap (area N) (items_kept (loops_of M f)) ∙ loops_moved (loops_of M f)
+    normal_kept f = ap (λ ls. area N (items_in N ls)) (loops_kept f) ∙ areas_kept M N (loops_of M f) (λ l i. ap (λ c. area N (items_of c)) (content_kept l) ∙ loop_moved l)
 
     -- ---- volumes
 
@@ -243,10 +235,6 @@ module _ (M : Model) where
   unfolding turned tail point_of
   start_kept h = refl
 
-  area_kept : (hs : List ℕ) → area (turned M) hs ≡ area M hs
-  area_kept [] = refl
-  area_kept (h ∷ hs) = λ i. moved (cross (start_kept h i) (start_kept (mate h) i)) (area_kept hs i)
-
   pub outer_turned : (f : ℕ) → outer (turned M) f ≡ outer M f
   unfolding turned outer
   outer_turned f = refl
@@ -277,7 +265,7 @@ module _ (M : Model) where
 
   pub normal_turned : (f : ℕ) → normal (turned M) f ≡ negated (normal M f)
   unfolding normal boundary
-  normal_turned f = area_kept (items_in (turned M) (loops_of (turned M) f)) ∙ ap (λ ls. area M (items_in (turned M) ls)) (own_loops_turned f) ∙ loops_turned (loops_of M f)
+  normal_turned f = area_kept M (turned M) (items_in (turned M) (loops_of (turned M) f)) (λ h i. (start_kept h, start_kept (mate h))) ∙ ap (λ ls. area M (items_in (turned M) ls)) (own_loops_turned f) ∙ loops_turned (loops_of M f)
 
   -- the other halves of a face's half-edges, in any order
   pub normal_opposed : (f g : ℕ) → SameItems (boundary M g) (map mate (boundary M f)) → normal M g ≡ negated (normal M f)
