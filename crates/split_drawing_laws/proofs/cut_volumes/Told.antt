@@ -4,12 +4,12 @@ use Rattle.std.proofs.lemmas.Int.{ints}
 use Rattle.std.proofs.lemmas.List.Folds.{list_all-append}
 use Rattle.std.proofs.lemmas.Bool.Decides.{eqb_tells}
 use Rattle.std.proofs.lemmas.Bool.{and_parts}
-use Rattle.euler_operators.specs.Common.{count, tick, IsIn, Model, solid_of, faces_of, LoopContent, items_of, content, point_of, is_ring_of, rings_of, after, no_face, Has, Sound, Plane, is_on, origin, dot, same_point, direction, lists, strictly_rises}
+use Rattle.euler_operators.specs.Common.{count, tick, IsIn, Model, solid_of, faces_of, LoopContent, items_of, content, point_of, is_ring_of, rings_of, after, no_face, Has, Sound, Plane, is_on, origin, dot, same_point, direction}
 use Rattle.euler_operators.specs.Table as table
 use Rattle.euler_operators.proofs.Common.{tick_same, tick_other, IsIn_or_not, IsIn_rest, each_mapped, IsIn_head, same_solid, item_there, add_assoc, dot_turned}
-use Rattle.euler_laws.proofs.Common.{all_where-rises, IsIn-from_listed, counted_once, within, next_in}
+use Rattle.euler_laws.proofs.Common.{all_where-rises, IsIn-from_listed, counted_once, next_in}
 use Rattle.shapes.specs.Common.{six_volume, normal, anchor, plane_through, plane_of, is_flat, volume_in, start, finish, vertices_on, vertices_in, corners}
-use Rattle.shapes.proofs.Common.{total, volume_of, volume_is, unchanged, same_volumes, list_parts, are_on, anchor_on, plane_told, listed_ring, ring_listed, rings_rise}
+use Rattle.shapes.proofs.Common.{total, volume_of, volume_is, unchanged, same_volumes, list_parts, are_on, anchor_on, plane_told, listed_ring, ring_listed, rings_rise, rising_one}
 use Rattle.split_drawing_laws.proofs.crossings.Premises.{solid_facts, in_solid}
 
 -- ---- the faces of a solid
@@ -79,13 +79,6 @@ module _ (M : Model) (sound : Sound M) where
   item_ends_on r l h on i = ap (λ v. is_on r (point_of M v)) (sym (sound.ends_meet h (item_there M sound l h i))) ∙ item_on M r (content M l) (after M h) on (next_item l h i)
 
 -- ---- rings
-
--- rising lists of the same numbers are one
-pub rising_one : (xs ys : List ℕ) → strictly_rises xs ≡ true → strictly_rises ys ≡ true → ((q : ℕ) → lists xs q ≡ true → lists ys q ≡ true) → ((q : ℕ) → lists ys q ≡ true → lists xs q ≡ true) → xs ≡ ys
-rising_one xs ys a b to back =
-    let m = within xs ys a b to in
-    let n = within ys xs b a back in
-    m.1 (omega (arith, m.0, n.0))
 
 -- a face has the same rings in two models where the same loops are its rings
 pub same_rings : (M N : Model) → Sound M → Sound N → (f : ℕ) → ((l : ℕ) → is_ring_of N f l ≡ is_ring_of M f l) → rings_of N f ≡ rings_of M f

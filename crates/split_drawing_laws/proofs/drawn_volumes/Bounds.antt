@@ -7,7 +7,7 @@ use Rattle.euler_operators.specs.Table as table
 use Rattle.euler_operators.proofs.Common.{IsIn_or_not, tick_same, tick_other, count-append, cycle_there, loop_there, lone_there, item_there, item_loop, never_lone, mate_there, content_row, face_row, same_content, same_face, same_outer, IsIn_rest, all_mapped, IsIn_head, count-canonical, mate_plus, plus_other, row_elsewhere, moved_twice, none_moved}
 use Rattle.euler_laws.proofs.Common.{listed-from_in, count-mef_old, count-mef_new, half_face}
 use Rattle.shapes.specs.Common.{start, finish, loops_of, boundary, vertices_on, corners, area, anchor, first_vertex, normal}
-use Rattle.shapes.proofs.Common.{are_on, face_of_loop, AreHalves, different_items, loops_of_apart, area-append, area_same, halves_cancel}
+use Rattle.shapes.proofs.Common.{are_on, face_of_loop, AreHalves, different_items, loops_of_apart, area-append, area_kept, area_same, halves_cancel}
 use Rattle.split_drawing_laws.specs.drawings.DrawnIn.{Stays}
 use Rattle.split_drawing_laws.proofs.crossings.Premises.{loop_in_face, item_in_face}
 use Rattle.split_drawing_laws.proofs.crossings.Whole.{item_face}
@@ -72,10 +72,6 @@ module _ (N K : Model) (sound : Sound N) (stays : Stays N K) where
   finish_still : (h : ℕ) → HasHalf N h → finish K h ≡ finish N h
   finish_still h there = start_stays N K stays (mate h) (mate_there N h there)
 
-  pub area_still : (hs : List ℕ) → ((h : ℕ) → IsIn h hs → HasHalf N h) → area K hs ≡ area N hs
-  area_still [] there = refl
-  area_still (h ∷ hs) there = λ i. moved (cross (start_stays N K stays h (there h (IsIn_head h hs)) i) (finish_still h (there h (IsIn_head h hs)) i)) (area_still hs (λ x j. there x (IsIn_rest x h hs j)) i)
-
   -- a face keeps its anchor with its outer loop
   pub anchor_still : (f : ℕ) → Has N.faces f → outer K f ≡ outer N f → content K (outer N f) ≡ content N (outer N f) → anchor K f ≡ anchor N f
   anchor_still f there o c = ap (λ q. point_of K (first_vertex K (content K q))) o ∙ ap (λ x. point_of K (first_vertex K x)) c ∙ first_still (content N (outer N f)) refl where
@@ -96,7 +92,9 @@ normal_is N f = refl
 -- ---- faces that keep their half-edges
 
 pub area_after : (N K : Model) → Sound N → Stays N K → (f : ℕ) → area K (boundary N f) ≡ normal N f
-area_after N K sound stays f = area_still N K sound stays (boundary N f) (bound_halves N sound f).there ∙ sym (normal_is N f)
+area_after N K sound stays f =
+    let has = (bound_halves N sound f).there in
+    area_kept N K (boundary N f) (λ h i. (start_stays N K stays h (has h i), finish_still N K sound stays h (has h i))) ∙ sym (normal_is N f)
 
 module _ (N K : Model) (sound : Sound N) (new : Sound K) (stays : Stays N K) (f : ℕ) (there : Has N.faces f) where
   -- a half-edge that keeps its face bounds f as often as it did, and so does what is no half-edge of f
