@@ -1,13 +1,13 @@
 -- What two faces glued leave of the loops, the edges and the vertices of other solids than the second.
-use Rattle.std.proofs.Common.{◌≡◌, ◌≢◌, ℕ, List, [], ◌∷◌, Option, Some, None, is_some, refl, sym, ap, subst, ◌∙◌, arith, inl, inr, true≢false, map, option_map}
+use Rattle.std.proofs.Common.{◌≡◌, ◌≢◌, ℕ, List, Option, Some, None, is_some, refl, sym, ap, subst, ◌∙◌, arith, inl, inr, true≢false, map, option_map}
 use Rattle.std.proofs.lemmas.Bool.Decides.{eqb_tells}
-use Rattle.euler_operators.specs.Common.{count, IsIn, canonical, edge_of, mate, minus, plus, Table, Model, LoopContent, LoopRow, lone, cycle, holds, tail, content, face_of, outer, solid_of, Has, HasHalf}
-use Rattle.euler_operators.proofs.Common.{IsIn_or_not, from_map, IsIn_head, minus_row, plus_row, same_edge, face_row, in-holds, item_there, minus_tail_row, minus_there, plus_tail_row, plus_there, item_loop, get-remove_here, get-remove_other, row_some}
+use Rattle.euler_operators.specs.Common.{count, IsIn, edge_of, mate, minus, plus, Table, Model, LoopRow, lone, tail, content, face_of, outer, solid_of, Has, HasHalf}
+use Rattle.euler_operators.proofs.Common.{IsIn_or_not, from_map, minus_row, plus_row, same_edge, face_row, in-holds, item_there, minus_tail_row, minus_there, plus_tail_row, plus_there, item_loop, get-remove_here, get-remove_other, row_some}
 use Rattle.euler_operators.specs.Table as table
 use Rattle.euler_laws.proofs.Common.{loop_row}
 use Rattle.shapes.specs.Common.{vertices_on, renamed, rewritten, rewritten_row, without_rows, glue_model, partner, renamed_tails, rim, paired}
 use Rattle.shapes.proofs.glue.Facing as facing
-use Rattle.shapes.proofs.Common.{Facing, renamed_not, without_there}
+use Rattle.shapes.proofs.Common.{Facing, none_replaced, renamed_not, without_there}
 use Rattle.gluing_laws.proofs.glue.Ending.{glued_all, glued_along_is}
 use Rattle.command_laws.proofs.OnFaces.{vertex_cases}
 use Rattle.command_laws.proofs.Owners.{solid_of_half, solid_of_loop}
@@ -39,14 +39,9 @@ module _ {M : Model} {f g : ℕ} {partner_of : ℕ → ℕ} {hs : List ℕ} {x :
   swap_not y ne = renamed_not (λ h. mate (partner_of h)) (λ h. h) hs y (λ h i e.
       ne (ap (solid_of_half M) (sym e) ∙ facing.side_mate M f g partner_of hs x w (partner_of h) (facing.half_g M f g partner_of hs x w h i) ∙ facing.side_g M f g partner_of hs x w h i))
 
-  all_stay : (ys : List ℕ) → ((y : ℕ) → IsIn y ys → solid_of_half M y ≢ t) → map swap ys ≡ ys
-  all_stay [] other = refl
-  all_stay (y ∷ ys) other = λ i. swap_not y (other y (IsIn_head y ys)) i ∷ all_stay ys (λ z j. other z (omega (arith, j))) i
-
-  content_stays : (q : ℕ) (c : LoopContent) → Has M.loops q → content M q ≡ c → solid_of_loop M q ≢ t → rewritten (map swap) c ≡ c
-  content_stays q (lone v) there is ne = refl
-  content_stays q (cycle ys) there is ne =
-      ap cycle (ap canonical (all_stay ys (λ y i e. ne (ap (solid_of_loop M) (sym (w.sound.one_loop y q (ap (holds y) is ∙ in-holds y (cycle ys) i))) ∙ e))) ∙ (w.sound.cycles q ys there is).from_least)
+  content_stays : (q : ℕ) → Has M.loops q → solid_of_loop M q ≢ t → rewritten (map swap) (content M q) ≡ content M q
+  content_stays q there ne = none_replaced swap (content M q) (λ ys is. w.sound.cycles q ys there is)
+      (λ y i. swap_not y (λ e. ne (ap (solid_of_loop M) (sym (w.sound.one_loop y q (in-holds y (content M q) i))) ∙ e)))
 
   pub loop_stays : (q : ℕ) → Has M.loops q → face_of M q ≢ f → solid_of_loop M q ≢ solid_of M g → table.get (glued_all M f g partner_of hs).loops q ≡ table.get M.loops q
   loop_stays q there not_f other =
@@ -54,7 +49,7 @@ module _ {M : Model} {f g : ℕ} {partner_of : ℕ → ℕ} {hs : List ℕ} {x :
       table.get-map_rows (rewritten_row (map swap)) loops_left q
       ∙ ap (option_map (rewritten_row (map swap) q)) (get-remove_other (table.remove M.loops (outer M f)) (outer M g) q (λ e. other (ap (solid_of_loop M) e ∙ ap (solid_of M) (facing.face_g M f g partner_of hs x w)))
       ∙ get-remove_other M.loops (outer M f) q (λ e. not_f (ap (face_of M) e ∙ facing.face_f M f g partner_of hs x w)) ∙ row)
-      ∙ ap (λ c. Some (record { face = face_of M q; content = c })) (content_stays q (content M q) there refl other) ∙ sym row
+      ∙ ap (λ c. Some (record { face = face_of M q; content = c })) (content_stays q there other) ∙ sym row
 
   -- a loop that is there was there, on the same face
   pub loop_was : (q : ℕ) → Has (glued_all M f g partner_of hs).loops q → Has M.loops q × (face_of (glued_all M f g partner_of hs) q ≡ face_of M q)

@@ -28,7 +28,7 @@ mod LyingFlat
 mod BlockFlat
 mod AcceptedMore
 mod GluedFlat
-mod Inner
+pub mod Inner
 mod InnerCounts
 mod InnerFaces
 mod Redrawn

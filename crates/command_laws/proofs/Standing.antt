@@ -1,14 +1,13 @@
 -- A face whose loops, edges and vertices are left alone stands as it did.
-use Rattle.std.proofs.Common.{◌≡◌, ◌≢◌, ℕ, Bool, cond, not, nat_eq, ◌&&◌, List, [], ◌∷◌, ◌++◌, Option, Some, None, is_some, refl, sym, ap, subst, ◌∙◌, arith, map, ne_eqb}
+use Rattle.std.proofs.Common.{◌≡◌, ℕ, true, not, nat_eq, ◌&&◌, List, [], ◌∷◌, ◌++◌, is_some, refl, sym, ap, subst, ◌∙◌, arith, map, eqb-true}
+use Rattle.std.proofs.lemmas.Bool.{and_parts}
 use Rattle.std.proofs.lemmas.List.{map-append}
-use Rattle.euler_operators.specs.Common.{moved, cross, IsIn, mate, Model, LoopContent, LoopRow, lone, cycle, items_of, tail, content, face_of, outer, point_of, rings_of, after, Sound, Has, HasHalf, face_at}
-use Rattle.std.proofs.lemmas.Bool.Decides.{eqb_tells}
+use Rattle.euler_operators.specs.Common.{IsIn, mate, lists, Model, LoopContent, lone, cycle, items_of, tail, content, face_of, outer, point_of, rings_of, after, Sound, Has, HasHalf, face_at}
 use Rattle.euler_operators.proofs.Common.{IsIn_rest, IsIn-map, IsIn_head, edge_of-mate, face_row, item_there, holds_in, same_content, same_outer, same_solid, item_loop}
 use Rattle.euler_operators.specs.Table as table
-use Rattle.euler_laws.proofs.Common.{half_after, loop_after, listed-from_in, same_tail, same_point}
+use Rattle.euler_laws.proofs.Common.{IsIn-from_listed, all_where-rises, listed_passes, passes_listed, half_after, loop_after, listed-from_in, same_tail, same_point}
 use Rattle.shapes.specs.Common.{start, finish, items_in, loops_of, boundary, vertices_on, vertices_in, corners, area, normal, anchor, first_vertex, plane_through, plane_of}
-use Rattle.shapes.proofs.Common.{area-append, face_of_loop}
-use Rattle.gluing_laws.proofs.Listed.{passed, same_search}
+use Rattle.shapes.proofs.Common.{area_kept, areas_kept, face_of_loop, rising_one}
 use Rattle.command_laws.specs.NewFaces.{corner_points}
 use Rattle.command_laws.specs.Framed.{FacesStand}
 use Rattle.command_laws.specs.LeftAlone.{KeepsLoops, KeepsEdges, KeepsPoints, StandsAsBefore}
@@ -16,25 +15,20 @@ use Rattle.command_laws.proofs.Turned.{IsTurned, not_turned}
 
 -- ---- rings
 
+ring_still : (M N : Model) (k : ℕ) → outer N k ≡ outer M k → ((l : ℕ) → Has M.loops l → face_of M l ≡ k → table.get N.loops l ≡ table.get M.loops l) →
+    (l : ℕ) → lists (rings_of M k) l ≡ true → lists (rings_of N k) l ≡ true
+ring_still M N k same on l i =
+    let r = listed_passes (λ q row. nat_eq row.face k && not (nat_eq (outer M k) q)) M.loops l i in
+    let of = (and_parts (nat_eq r.0.face k) (not (nat_eq (outer M k) l)) r.2).0 in
+    passes_listed (λ q row. nat_eq row.face k && not (nat_eq (outer N k) q)) N.loops l r.0 (on l (ap is_some r.1) (face_row M l r.0 r.1 ∙ eqb-true r.0.face k of) ∙ r.1)
+    (ap (λ o. nat_eq r.0.face k && not (nat_eq o l)) same ∙ r.2)
+
 -- where the loops of a face have the rows that they had, and no loop more is of it, it has the rings that it had
-module _ (M N : Model) (k : ℕ) (row : table.get N.faces k ≡ table.get M.faces k) (on : (l : ℕ) → Has M.loops l → face_of M l ≡ k → table.get N.loops l ≡ table.get M.loops l)
-    (back : (l : ℕ) → Has N.loops l → face_of N l ≡ k → table.get N.loops l ≡ table.get M.loops l) where
-  abbrev is_ring : Model → ℕ → LoopRow → Bool
-  is_ring X l row = nat_eq row.face k && not (nat_eq (outer X k) l)
-
-  not_of : (X : Model) (l : ℕ) (row : LoopRow) → row.face ≢ k → passed (is_ring X) l (Some row) ≡ 0
-  not_of X l row ne = ap (λ b. cond (b && not (nat_eq (outer X k) l)) 1 0) (ne_eqb row.face k ne)
-
-  each_loop : (l : ℕ) (o p : Option LoopRow) → table.get N.loops l ≡ o → table.get M.loops l ≡ p → passed (is_ring N) l o ≡ passed (is_ring M) l p
-  each_loop l None None e f = refl
-  each_loop l (Some x) None e f = grind (arith, eqb_tells x.face k, face_row N l x e, not_of N l x)
-  each_loop l None (Some y) e f = grind (arith, eqb_tells y.face k, on l, face_row M l y f, not_of M l y)
-  each_loop l (Some x) (Some y) e f =
-      let one = passed (is_ring N) l in let two = same_outer M N k row in
-      grind (arith, eqb_tells y.face k, one, on l, face_row M l y f, two, eqb_tells x.face k, face_row N l x e, not_of N l x, not_of M l y)
-
-  pub rings_same : rings_of N k ≡ rings_of M k
-  rings_same = same_search (is_ring N) (is_ring M) N.loops M.loops (λ l. each_loop l (table.get N.loops l) (table.get M.loops l) refl refl)
+pub rings_same : (M N : Model) (k : ℕ) → table.get N.faces k ≡ table.get M.faces k → ((l : ℕ) → Has M.loops l → face_of M l ≡ k → table.get N.loops l ≡ table.get M.loops l) →
+    ((l : ℕ) → Has N.loops l → face_of N l ≡ k → table.get N.loops l ≡ table.get M.loops l) → rings_of N k ≡ rings_of M k
+rings_same M N k row on back =
+    let same = same_outer M N k row in
+    rising_one (rings_of N k) (rings_of M k) (all_where-rises _ N.loops) (all_where-rises _ M.loops) (ring_still N M k (sym same) (λ l has of. sym (back l has of))) (ring_still M N k same on)
 
 -- ---- a face
 
@@ -94,12 +88,8 @@ module _ (M N : Model) (Alone : ℕ → Type 0) (sound : Sound M) (loops : Keeps
     loop_points_kept : map (point_of N) (vertices_on N (content N l)) ≡ map (point_of M) (vertices_on M (content M l))
     loop_points_kept = ap (λ c. map (point_of N) (vertices_on N c)) content_kept ∙ points_on (content M l) refl
 
-    area_in : (hs : List ℕ) → ((h : ℕ) → IsIn h hs → IsIn h (items_of (content M l))) → area N hs ≡ area M hs
-    area_in [] inside = refl
-    area_in (h ∷ hs) inside = let j = inside h (IsIn_head h hs) in λ t. moved (cross (start_kept h j t) (finish_kept h j t)) (area_in hs (λ x i. inside x (IsIn_rest x h hs i)) t)
-
-    area_kept : area N (items_of (content N l)) ≡ area M (items_of (content M l))
-    area_kept = ap (λ c. area N (items_of c)) content_kept ∙ area_in (items_of (content M l)) (λ h j. j)
+    loop_area : area N (items_of (content N l)) ≡ area M (items_of (content M l))
+    loop_area = ap (λ c. area N (items_of c)) content_kept ∙ area_kept M N (items_of (content M l)) (λ h j. (start_kept h j, finish_kept h j))
 
     first_on : (c : LoopContent) → content M l ≡ c → point_of N (first_vertex N c) ≡ point_of M (first_vertex M c)
     first_on (lone v) is = vertex_kept v (subst (λ c. IsIn v (vertices_on M c)) (sym is) (IsIn_head v []))
@@ -127,19 +117,13 @@ module _ (M N : Model) (Alone : ℕ → Type 0) (sound : Sound M) (loops : Keeps
   all_points (l ∷ ls) inside = points_of N l ls
       ∙ (λ t. loop_points_kept l (inside l (IsIn_head l ls)) t ++ all_points ls (λ q j. inside q (IsIn_rest q l ls j)) t) ∙ sym (points_of M l ls)
 
-  all_areas : (ls : List ℕ) → ((l : ℕ) → IsIn l ls → IsIn l (loops_of M k)) → area N (items_in N ls) ≡ area M (items_in M ls)
-  all_areas [] inside = refl
-  all_areas (l ∷ ls) inside = area-append N (items_of (content N l)) (items_in N ls)
-      ∙ (λ t. moved (area_kept l (inside l (IsIn_head l ls)) t) (all_areas ls (λ q j. inside q (IsIn_rest q l ls j)) t))
-      ∙ sym (area-append M (items_of (content M l)) (items_in M ls))
-
   corners_kept : corner_points N k ≡ corner_points M k
   unfolding corners
   corners_kept = ap (λ ls. map (point_of N) (vertices_in N ls)) loops_kept ∙ all_points (loops_of M k) (λ l i. i)
 
   normal_kept : normal N k ≡ normal M k
   unfolding normal boundary
-  normal_kept = ap (λ ls. area N (items_in N ls)) loops_kept ∙ all_areas (loops_of M k) (λ l i. i)
+  normal_kept = ap (λ ls. area N (items_in N ls)) loops_kept ∙ areas_kept M N (loops_of M k) (λ l i. loop_area l (IsIn-from_listed l (loops_of M k) i))
 
   anchor_kept : anchor N k ≡ anchor M k
   anchor_kept = ap (λ q. point_of N (first_vertex N (content N q))) outer_kept ∙ ap (λ c. point_of N (first_vertex N c)) (content_kept (outer M k) outer_in) ∙ first_on (outer M k) outer_in (content M (outer M k)) refl
