@@ -22,7 +22,8 @@ use Rattle.split_drawing_laws.proofs.drawings.Whole.{drawable, drawable_on, next
 use Rattle.split_drawing_laws.proofs.drawings.Rings.{RingOf, Newer, moved_drawn}
 use Rattle.split_drawing_laws.proofs.pairs.Whole.{can_be_drawn}
 use Rattle.command_laws.proofs.Owners.{agree_none, agree_on, is_of, solid_of_edge, solid_of_half, solid_of_loop}
-use Rattle.split_frames.proofs.Steps.{Within, draw_within, face_in, half_in, join_within, own_edge, ring_within}
+use Rattle.command_laws.proofs.Inner.{Within}
+use Rattle.split_frames.proofs.Steps.{draw_within, face_in, half_in, join_within, own_edge, ring_within}
 
 pub within_on : (s : ℕ) (M N P : Model) → Within s M N → Within s N P → Within s M P
 within_on s M N P v w = agree_on M N P (is_of s) (is_of s) (is_of s) v w

@@ -21,7 +21,8 @@ use Rattle.split_laws.specs.SplitOps.{closing_ops}
 use Rattle.split_laws.proofs.Flags.{vertex_still}
 use Rattle.split_laws.proofs.opened.Caps.{loop_kinds, lower_row}
 use Rattle.command_laws.proofs.Owners.{agree_none, is_of, solid_of_half, solid_of_loop}
-use Rattle.split_frames.proofs.Steps.{Within, kill_within, own_edge}
+use Rattle.command_laws.proofs.Inner.{Within}
+use Rattle.split_frames.proofs.Steps.{kill_within, own_edge}
 use Rattle.split_frames.proofs.DrawnWithin.{within_on}
 
 -- ---- opened along one cycle
@@ -141,7 +142,7 @@ one_closed s M N f g w of accepted =
       | inl e ↦ e.1
       | inr e ↦ absurd (e.1 (same_solid M N f (w.faces_back f goes.f_there e.0).0 ∙ of))
     ] in
-    within_on s M N (kfmrh N f g) w (kill_within N w.after f g s goes now)
+    within_on s M N (kfmrh N f g) w (kill_within N w.after f g s accepted now)
 
 closing_within : (s : ℕ) (M N : Model) (o : Caps) (hs : List Caps) → Within s M N → solid_of M o.lower ≡ s → solid_of M o.upper ≡ s → AreAccepted N (closing_ops o hs) → Within s M (fold (hole_closed o) N hs)
 closing_within s M N o [] w low up accepted = w

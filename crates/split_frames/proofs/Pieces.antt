@@ -32,7 +32,8 @@ use Rattle.split_frames.proofs.DrawnFaces.{drawn_half, drawn_in}
 use Rattle.split_frames.proofs.DrawnWithin.{drawings_within}
 use Rattle.split_frames.proofs.Lower.{goes_high, stays_low}
 use Rattle.split_frames.proofs.PartFaces.{part_of, part_turned}
-use Rattle.split_frames.proofs.Steps.{Within, face_in}
+use Rattle.command_laws.proofs.Inner.{Within}
+use Rattle.split_frames.proofs.Steps.{face_in}
 use Rattle.split_frames.proofs.Whole.{after_is, drawn_agree}
 
 -- ---- which faces there are

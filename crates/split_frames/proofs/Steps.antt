@@ -1,19 +1,16 @@
 -- One step of a split within a solid: whatever isn't of the solid stays, and nothing else comes to be of another.
-use Rattle.std.proofs.Common.{◌≡◌, ◌≢◌, ℕ, true, false, cond, List, Option, Some, None, is_some, refl, sym, ap, ◌∙◌, true≢false, ne_eqb, inl, inr, Bool, nat_eq, eq-eqb, option_map}
+use Rattle.std.proofs.Common.{◌≡◌, ◌≢◌, ℕ, true, false, cond, List, Option, Some, None, is_some, refl, sym, ap, subst, ◌∙◌, true≢false, ne_eqb, inl, inr, Bool, nat_eq, eq-eqb, option_map}
 use Rattle.std.proofs.lemmas.Bool.Decides.{eqb_tells}
 use Rattle.std.proofs.lemmas.Bool.{eqb-false, false_from_ne_true}
-use Rattle.euler_operators.specs.Common.{edge_of, plus, Model, FaceRow, LoopRow, face_of, loop_of, outer, solid_of, content, Sound, Has, HasHalf, face_at, lists, faces_to_solid, kfmrh, loop_to_face, part, ring_in, Table}
+use Rattle.euler_operators.specs.Common.{edge_of, plus, Model, FaceRow, LoopRow, face_of, outer, solid_of, content, Sound, Has, HasHalf, lists, effect, faces_to_solid, first_false, kfmrh, loop_to_face, part, ring_in, Table}
 use Rattle.euler_operators.specs.Table as table
-use Rattle.euler_operators.proofs.Common.{plus_row, same_edge, face_row, loop_there, same_solid, solid_row, get-put_other, get-remove_here, get-remove_other}
-use Rattle.euler_laws.proofs.Common.{KillGoes, kill_face_l, kill_solid, sound-kfmrh, face_there, mapped_some, solid_either, loop_row}
-use Rattle.split_drawing_laws.proofs.drawings.Drawn.{CanDraw, CanJoin, draw_sound, face_drawn_else, face_drawn_new, join_sound, loops_joined_faces, face_drawn, loops_joined}
-use Rattle.split_drawing_laws.proofs.drawings.Stays.{edges_are, joined_edges, row_else, row_gone, row_joined, row_other}
-use Rattle.split_drawing_laws.proofs.face_sides.Beside.{never_free, new_loop_face, old_loop_face}
+use Rattle.euler_operators.specs.declared.Op.TheVariants.{Kfmrh}
+use Rattle.euler_operators.proofs.Common.{code-half, plus_row, same_edge, face_row, same_solid, solid_row}
+use Rattle.euler_laws.proofs.Common.{face_there, mapped_some, solid_either, loop_row}
+use Rattle.shapes.specs.Common.{draw_edge, join_edge}
+use Rattle.split_drawing_laws.proofs.drawings.Drawn.{CanDraw, CanJoin, draw_accepted, face_drawn, join_accepted, loops_joined}
+use Rattle.command_laws.proofs.Inner.{Within, inner_within}
 use Rattle.command_laws.proofs.Owners.{Agree, half_kept, is_either, is_of, neither, not_either, solid_of_edge, solid_of_half, solid_of_loop, turned}
-
--- two models that agree but for one solid
-abbrev pub Within : ℕ → Model → Model → Type 0
-Within s M N = Agree M N (is_of s) (is_of s)
 
 -- an edge is of the solid of each of its halves
 pub own_edge : (M : Model) → Sound M → (h : ℕ) → HasHalf M h → solid_of_edge M (edge_of h) ≡ solid_of_half M h
@@ -36,59 +33,19 @@ module _ (s : ℕ) (M N : Model) (w : Within s M N) where
     | inr e ↦ absurd (e.1 (same_solid M N k (w.faces_back k now e.0).0 ∙ of))
   ]
 
--- ---- an edge drawn in a face
+-- ---- operators within the solid: an edge drawn in a face, two loops of a face joined, a face that becomes a ring of another
 
-module _ (N : Model) (u k e g l s : ℕ) (can : CanDraw N u k e g l) (of : solid_of_half N u ≡ s) where
-  abbrev D : Model
-  D = face_drawn N u k e g l
+pub draw_within : (N : Model) (u k e g l s : ℕ) → CanDraw N u k e g l → solid_of_half N u ≡ s → Within s N (face_drawn N u k e g l)
+draw_within N u k e g l s can of =
+    subst (λ x. Within x N (face_drawn N u k e g l)) (ap (solid_of_half N) (code-half u) ∙ of) (inner_within (draw_edge u k e g l) N can.sound (draw_accepted N u k e g l can) refl)
 
-  drawn_here : Has N.faces (face_at N u)
-  drawn_here = can.sound.loops_of_faces (loop_of N u) (loop_there N can.sound u can.u_there)
+pub join_within : (N : Model) (c d e s : ℕ) → CanJoin N c d e → solid_of_half N c ≡ s → Within s N (loops_joined N c d e)
+join_within N c d e s can of =
+    subst (λ x. Within x N (loops_joined N c d e)) (ap (solid_of_half N) (code-half c) ∙ of) (inner_within (join_edge c d e) N can.sound (join_accepted N c d e can) refl)
 
-  drawn_face : (q : ℕ) → Has N.faces q → table.get D.faces q ≡ table.get N.faces q
-  drawn_face q there = face_drawn_else N u k e g l q (λ z. never_free N.faces q there (ap (table.get N.faces) z ∙ can.face_free))
-
-  drawn_solid : solid_of D (face_at N u) ≡ s
-  drawn_solid = same_solid N D (face_at N u) (drawn_face (face_at N u) drawn_here) ∙ of
-
-  new_solid : solid_of D g ≡ s
-  new_solid = solid_row D g _ (face_drawn_new N u k e g l) ∙ of
-
-  pub draw_within : Within s N (face_drawn N u k e g l)
-  draw_within = record {
-    before = can.sound;
-    after = draw_sound N u k e g l can;
-    faces = λ q there out. (drawn_face q there, out);
-    faces_back = λ q there out. (face_drawn_else N u k e g l q (λ z. eqb-false (solid_of D q) s out (ap (solid_of D) z ∙ new_solid)), out);
-    loops = λ q there out. row_else N u k e g l can q (λ z. eqb-false (solid_of_loop N q) s out (ap (solid_of_loop N) z ∙ of)) (λ z. never_free N.loops q there (ap (table.get N.loops) z ∙ can.loop_free));
-    loops_back = λ q there out. row_else N u k e g l can q
-        (λ z. eqb-false (solid_of_loop D q) s out (ap (solid_of D) (ap (face_of D) z ∙ old_loop_face N u k e g l can) ∙ drawn_solid))
-        (λ z. eqb-false (solid_of_loop D q) s out (ap (solid_of D) (ap (face_of D) z ∙ new_loop_face N u k e g l can) ∙ new_solid));
-    edges = λ h there out. ap (λ t. table.get t (edge_of h)) (edges_are N u k e g l can) ∙ get-put_other N.edges e _ (edge_of h) (λ z. never_free N.edges (edge_of h) there (ap (table.get N.edges) z ∙ can.edge_free));
-  }
-
--- ---- two loops of a face joined
-
-module _ (N : Model) (c d e s : ℕ) (can : CanJoin N c d e) (of : solid_of_half N c ≡ s) where
-  abbrev J : Model
-  J = loops_joined N c d e
-
-  joined_face : (q : ℕ) → table.get J.faces q ≡ table.get N.faces q
-  joined_face q = ap (λ t. table.get t q) (loops_joined_faces N c d e)
-
-  pub join_within : Within s N (loops_joined N c d e)
-  join_within = record {
-    before = can.sound;
-    after = join_sound N c d e can;
-    faces = λ q there out. (joined_face q, out);
-    faces_back = λ q there out. (joined_face q, out);
-    loops = λ q there out. row_other N c d e can q
-        (λ z. eqb-false (solid_of_loop N q) s out (ap (solid_of_loop N) z ∙ of)) (λ z. eqb-false (solid_of_loop N q) s out (ap (solid_of_loop N) z ∙ ap (solid_of N) (sym can.one_face) ∙ of));
-    loops_back = λ q there out. row_other N c d e can q
-        (λ z. eqb-false (solid_of_loop J q) s out (ap (solid_of J) (ap (face_of J) z ∙ face_row J (loop_of N c) _ (row_joined N c d e can)) ∙ same_solid N J (face_at N c) (joined_face (face_at N c)) ∙ of))
-        (λ z. never_free J.loops q there (ap (table.get J.loops) z ∙ row_gone N c d e can));
-    edges = λ h there out. ap (λ t. table.get t (edge_of h)) (joined_edges N c d e can) ∙ get-put_other N.edges e _ (edge_of h) (λ z. never_free N.edges (edge_of h) there (ap (table.get N.edges) z ∙ can.edge_free));
-  }
+pub kill_within : (N : Model) → Sound N → (f g s : ℕ) → first_false N (Kfmrh f g) ≡ None → solid_of N f ≡ s → Within s N (kfmrh N f g)
+unfolding effect
+kill_within N sound f g s accepted of = subst (λ x. Within x N (kfmrh N f g)) of (inner_within (Kfmrh f g) N sound accepted refl)
 
 -- ---- a ring given to another face
 
@@ -125,42 +82,6 @@ module _ (N : Model) (l k s : ℕ) (sound : Sound N) (after : Sound (ring_in N l
     loops = λ q there out. loop_else N.loops l k q (λ z. eqb-false (solid_of_loop N q) s out (ap (solid_of_loop N) z ∙ of));
     loops_back = λ q there out. loop_else N.loops l k q (λ z. eqb-false (solid_of_loop R q) s out (ap (solid_of_loop R) z ∙ ring_now));
     edges = λ h there out. refl;
-  }
-
--- ---- a face that becomes a ring of another
-
-module _ (N : Model) (sound : Sound N) (f g s : ℕ) (goes : KillGoes N f g) (of : solid_of N f ≡ s) where
-  abbrev K : Model
-  K = kfmrh N f g
-
-  killed_face : (q : ℕ) → q ≢ g → table.get K.faces q ≡ table.get N.faces q
-  unfolding kfmrh
-  killed_face q ne = get-remove_other N.faces g q ne
-
-  killed_gone : (q : ℕ) → q ≡ g → Has K.faces q → ⊥
-  unfolding kfmrh
-  killed_gone q e there = true≢false (sym there ∙ ap is_some (ap (table.get (table.remove N.faces g)) e ∙ get-remove_here N.faces g))
-
-  killed_loop : (q : ℕ) → q ≢ outer N g → table.get K.loops q ≡ table.get N.loops q
-  unfolding kfmrh
-  killed_loop q ne = loop_else N.loops (outer N g) f q ne
-
-  killed_edges : K.edges ≡ N.edges
-  unfolding kfmrh
-  killed_edges = refl
-
-  own : solid_of_loop N (outer N g) ≡ s
-  own = ap (solid_of N) (sound.outers_there g goes.g_there).1 ∙ sym goes.one_solid ∙ of
-
-  pub kill_within : Within s N (kfmrh N f g)
-  kill_within = record {
-    before = sound;
-    after = sound-kfmrh N sound f g goes;
-    faces = λ q there out. (killed_face q (λ z. eqb-false (solid_of N q) s out (ap (solid_of N) z ∙ sym goes.one_solid ∙ of)), out);
-    faces_back = λ q there out. (killed_face q (λ z. killed_gone q z there), out);
-    loops = λ q there out. killed_loop q (λ z. eqb-false (solid_of_loop N q) s out (ap (solid_of_loop N) z ∙ own));
-    loops_back = λ q there out. killed_loop q (λ z. eqb-false (solid_of_loop K q) s out (ap (solid_of_loop K) z ∙ ap (solid_of K) (kill_face_l N sound f g goes) ∙ kill_solid N sound f g goes f goes.apart ∙ of));
-    edges = λ h there out. ap (λ t. table.get t (edge_of h)) killed_edges;
   }
 
 -- ---- some faces parted

@@ -22,7 +22,8 @@ use Rattle.command_laws.proofs.Standing.{rings_same, stands}
 use Rattle.split_frames.specs.Laws.{SplitKeepsRows, SplitKeepsOwners, SplitKeepsLoops, SplitKeepsEdges, SplitKeepsPoints, SplitKeepsShapes}
 use Rattle.split_frames.proofs.DrawnWithin.{drawings_within, within_on}
 use Rattle.split_frames.proofs.PartedWithin.{holes_keep, holes_within, openings_vertices, openings_within, part_keeps}
-use Rattle.split_frames.proofs.Steps.{Within, part_agrees}
+use Rattle.command_laws.proofs.Inner.{Within}
+use Rattle.split_frames.proofs.Steps.{part_agrees}
 
 module _ (before after : Machine) (s : ℕ) (p : Plane) (t : ℕ) (sound : Sound (held before)) (made : IsSplit before after s p t) where
   abbrev M : Model
