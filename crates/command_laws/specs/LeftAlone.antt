@@ -25,10 +25,6 @@ KeepsEdges Alone M N = (h : ℕ) → HasHalf M h → Alone (face_at M h) → tab
 abbrev pub KeepsPoints : (ℕ → Type 0) → Model → Model → Type 0
 KeepsPoints Alone M N = (l v : ℕ) → IsIn v (vertices_on M (content M l)) → Alone (face_of M l) → table.get N.vertices v ≡ table.get M.vertices v
 
--- each of these faces that is there has the rings that it had
-abbrev pub KeepsRings : (ℕ → Type 0) → Model → Model → Type 0
-KeepsRings Alone M N = (k : ℕ) → Has M.faces k → Alone k → rings_of N k ≡ rings_of M k
-
 -- face k stands as it did: it is of the solid that it was, and has the outer loop, the rings, the corner points and the plane that it had
 pub record StandsAsBefore (M N : Model) (k : ℕ) : Type 0 where
   pub there : Has N.faces k
