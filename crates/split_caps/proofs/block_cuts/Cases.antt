@@ -9,11 +9,11 @@ use Rattle.shapes.specs.Common.{vector, first_such, is_flat, least_lone, taken_i
 use Rattle.command_laws.specs.Flat.{IsClosedFlat}
 use Rattle.split_caps.specs.Blocks.{Axis, x_axis, y_axis, z_axis, coordinate, across, size_across, length_along, counts_of_block}
 use Rattle.split_caps.proofs.block_cuts.Stages.{Cut, Halves}
-use Rattle.split_caps.proofs.block_cuts.Halves.{cut_x_up, cut_x_down, cut_y_up, cut_y_down, cut_z_up, cut_z_down}
+use Rattle.split_caps.proofs.block_cuts.Halves.{cut_across}
 use Rattle.solid_measure.specs.solid_counts.Counts.{counts, rings_in, tally_of}
 use Rattle.split_caps.proofs.block_cuts.Computed.{computed}
 use Rattle.split_caps.proofs.block_cuts.Box.{box}
-use Rattle.split_caps.proofs.block_cuts.Levels.{compared, upward, downward}
+use Rattle.split_caps.proofs.block_cuts.Levels.{x_up, x_down, y_up, y_down, z_up, z_down, compared, upward, downward}
 use Rattle.split_caps.proofs.block_cuts.Assembled.{Ready}
 
 pub size : (d : ℤ) → int_le (pos 1) d ≡ true → (u : ℕ) × (d ≡ pos (suc u))
@@ -26,24 +26,6 @@ size (negsuc u) e = absurd (grind (arith, ints))
 module _ (s : ℕ) (p : Point) (h : ℤ) where
   abbrev pub IsCut : Axis → Bool → ℤ → ℤ → ℤ → Type 0
   IsCut k up dx dy dz = Cut (box s p.x (p.x +ℤ dx) p.y (p.y +ℤ dy) p.z (p.z +ℤ dz)) (across k up h) s (pos 6 *ℤ size_across k dx dy dz *ℤ length_along k up p dx dy dz h) (pos 6 *ℤ size_across k dx dy dz *ℤ length_along k (not up) p dx dy dz h)
-
-  x_up : (u v : ℕ) (dx : ℤ) → int_lt p.x h ≡ true → int_lt h (p.x +ℤ dx) ≡ true → IsCut x_axis true dx (pos (suc u)) (pos (suc v))
-  x_up u v dx l g = cut_x_up s p.x (p.x +ℤ dx) p.y p.z h u v (across x_axis true h) (upward (across x_axis true h) (λ x y z. x) p.x (p.x +ℤ dx) h l g (λ x y z. omega (arith, ints)))
-
-  x_down : (u v : ℕ) (dx : ℤ) → int_lt p.x h ≡ true → int_lt h (p.x +ℤ dx) ≡ true → IsCut x_axis false dx (pos (suc u)) (pos (suc v))
-  x_down u v dx l g = cut_x_down s p.x (p.x +ℤ dx) p.y p.z h u v (across x_axis false h) (downward (across x_axis false h) (λ x y z. x) p.x (p.x +ℤ dx) h l g (λ x y z. omega (arith, ints)))
-
-  y_up : (u v : ℕ) (dy : ℤ) → int_lt p.y h ≡ true → int_lt h (p.y +ℤ dy) ≡ true → IsCut y_axis true (pos (suc u)) dy (pos (suc v))
-  y_up u v dy l g = cut_y_up s p.y (p.y +ℤ dy) p.x p.z h u v (across y_axis true h) (upward (across y_axis true h) (λ x y z. y) p.y (p.y +ℤ dy) h l g (λ x y z. omega (arith, ints)))
-
-  y_down : (u v : ℕ) (dy : ℤ) → int_lt p.y h ≡ true → int_lt h (p.y +ℤ dy) ≡ true → IsCut y_axis false (pos (suc u)) dy (pos (suc v))
-  y_down u v dy l g = cut_y_down s p.y (p.y +ℤ dy) p.x p.z h u v (across y_axis false h) (downward (across y_axis false h) (λ x y z. y) p.y (p.y +ℤ dy) h l g (λ x y z. omega (arith, ints)))
-
-  z_up : (u v : ℕ) (dz : ℤ) → int_lt p.z h ≡ true → int_lt h (p.z +ℤ dz) ≡ true → IsCut z_axis true (pos (suc u)) (pos (suc v)) dz
-  z_up u v dz l g = cut_z_up s p.z (p.z +ℤ dz) p.x p.y h u v (across z_axis true h) (upward (across z_axis true h) (λ x y z. z) p.z (p.z +ℤ dz) h l g (λ x y z. omega (arith, ints)))
-
-  z_down : (u v : ℕ) (dz : ℤ) → int_lt p.z h ≡ true → int_lt h (p.z +ℤ dz) ≡ true → IsCut z_axis false (pos (suc u)) (pos (suc v)) dz
-  z_down u v dz l g = cut_z_down s p.z (p.z +ℤ dz) p.x p.y h u v (across z_axis false h) (downward (across z_axis false h) (λ x y z. z) p.z (p.z +ℤ dz) h l g (λ x y z. omega (arith, ints)))
 
 -- ---- the block in its model
 
@@ -137,15 +119,18 @@ module _ (N : Model) (s t : ℕ) (lower upper : List ℕ) (below above : ℤ) (h
 
 -- ---- the laws
 
--- the sizes as naturals, where these are known
+-- what holds of two sizes told as naturals
+by_sizes : (P : ℤ → ℤ → Type 0) (d e : ℤ) (u : (n : ℕ) × (d ≡ pos (suc n))) (v : (n : ℕ) × (e ≡ pos (suc n))) → P (pos (suc u.0)) (pos (suc v.0)) → P d e
+by_sizes P d e u v holds = subst (λ a. P a e) (sym u.1) (subst (P (pos (suc u.0))) (sym v.1) holds)
+
 module _ (s : ℕ) (p : Point) (dx dy dz h : ℤ) (x : (u : ℕ) × (dx ≡ pos (suc u))) (y : (u : ℕ) × (dy ≡ pos (suc u))) (z : (u : ℕ) × (dz ≡ pos (suc u))) where
   pub is_cut : (k : Axis) (up : Bool) → int_lt (coordinate k p) h ≡ true → int_lt h (coordinate k (moved p (vector dx dy dz))) ≡ true → IsCut s p h k up dx dy dz
-  is_cut x_axis true l g = subst (λ d. IsCut s p h x_axis true dx d dz) (sym y.1) (subst (λ d. IsCut s p h x_axis true dx (pos (suc y.0)) d) (sym z.1) (x_up s p h y.0 z.0 dx l g))
-  is_cut x_axis false l g = subst (λ d. IsCut s p h x_axis false dx d dz) (sym y.1) (subst (λ d. IsCut s p h x_axis false dx (pos (suc y.0)) d) (sym z.1) (x_down s p h y.0 z.0 dx l g))
-  is_cut y_axis true l g = subst (λ d. IsCut s p h y_axis true d dy dz) (sym x.1) (subst (λ d. IsCut s p h y_axis true (pos (suc x.0)) dy d) (sym z.1) (y_up s p h x.0 z.0 dy l g))
-  is_cut y_axis false l g = subst (λ d. IsCut s p h y_axis false d dy dz) (sym x.1) (subst (λ d. IsCut s p h y_axis false (pos (suc x.0)) dy d) (sym z.1) (y_down s p h x.0 z.0 dy l g))
-  is_cut z_axis true l g = subst (λ d. IsCut s p h z_axis true d dy dz) (sym x.1) (subst (λ d. IsCut s p h z_axis true (pos (suc x.0)) d dz) (sym y.1) (z_up s p h x.0 y.0 dz l g))
-  is_cut z_axis false l g = subst (λ d. IsCut s p h z_axis false d dy dz) (sym x.1) (subst (λ d. IsCut s p h z_axis false (pos (suc x.0)) d dz) (sym y.1) (z_down s p h x.0 y.0 dz l g))
+  is_cut x_axis true l g = by_sizes (λ e f. IsCut s p h x_axis true dx e f) dy dz y z (cut_across s p.x (p.x +ℤ dx) p.y p.z h y.0 z.0 (across x_axis true h) x_up (upward x_up (across x_axis true h) refl p.x (p.x +ℤ dx) h l g (λ x y z. omega (arith, ints))))
+  is_cut x_axis false l g = by_sizes (λ e f. IsCut s p h x_axis false dx e f) dy dz y z (cut_across s (p.x +ℤ dx) p.x p.y p.z h y.0 z.0 (across x_axis false h) x_down (downward x_down (across x_axis false h) refl p.x (p.x +ℤ dx) h l g (λ x y z. omega (arith, ints))))
+  is_cut y_axis true l g = by_sizes (λ e f. IsCut s p h y_axis true e dy f) dx dz x z (cut_across s p.y (p.y +ℤ dy) p.x p.z h x.0 z.0 (across y_axis true h) y_up (upward y_up (across y_axis true h) refl p.y (p.y +ℤ dy) h l g (λ x y z. omega (arith, ints))))
+  is_cut y_axis false l g = by_sizes (λ e f. IsCut s p h y_axis false e dy f) dx dz x z (cut_across s (p.y +ℤ dy) p.y p.x p.z h x.0 z.0 (across y_axis false h) y_down (downward y_down (across y_axis false h) refl p.y (p.y +ℤ dy) h l g (λ x y z. omega (arith, ints))))
+  is_cut z_axis true l g = by_sizes (λ e f. IsCut s p h z_axis true e f dz) dx dy x y (cut_across s p.z (p.z +ℤ dz) p.x p.y h x.0 y.0 (across z_axis true h) z_up (upward z_up (across z_axis true h) refl p.z (p.z +ℤ dz) h l g (λ x y z. omega (arith, ints))))
+  is_cut z_axis false l g = by_sizes (λ e f. IsCut s p h z_axis false e f dz) dx dy x y (cut_across s (p.z +ℤ dz) p.z p.x p.y h x.0 y.0 (across z_axis false h) z_down (downward z_down (across z_axis false h) refl p.z (p.z +ℤ dz) h l g (λ x y z. omega (arith, ints))))
 
 pub in_range : (k : Axis) (q : Point) → is_in_range q ≡ true → is_coordinate (coordinate k q) ≡ true
 in_range x_axis q e = (coordinates q e).0

@@ -1,9 +1,10 @@
 -- The arithmetic of a block's cut: signs, quotients that are whole, and the area round the section.
-use Rattle.std.proofs.Common.{◌≡◌, ℕ, suc, zero, ◌+◌, ◌*◌, ◌<◌, ℤ, pos, negsuc, ◌+ℤ◌, ◌-ℤ◌, ◌*ℤ◌, neg_ℤ, int_lt, int_div, int_rem, Bool, true, false, cond, Some, None, refl, sym, ap, ◌∙◌, arith}
+use Rattle.std.proofs.Common.{◌≡◌, ℕ, suc, zero, ◌+◌, ◌*◌, ◌<◌, ℤ, pos, negsuc, ◌+ℤ◌, ◌-ℤ◌, ◌*ℤ◌, neg_ℤ, int_lt, int_div, int_rem, Bool, true, false, cond, Some, None, List, map, refl, sym, ap, ◌∙◌, arith}
 use Rattle.std.proofs.lemmas.Bool.{and_parts}
 use Rattle.std.proofs.lemmas.Int.{ints}
-use Rattle.euler_operators.specs.Common.{Point, Plane, height, opposite, cuts_lattice, cut_between, direction, dot, cross, moved, origin}
+use Rattle.euler_operators.specs.Common.{Model, Point, Plane, mate, height, opposite, cuts_lattice, cut_between, direction, dot, cross, moved, origin}
 use Rattle.euler_operators.proofs.Common.{nat_eq_itself, level_is, level_on, same_vector, dif-parts, difs, number, same_dif}
+use Rattle.shapes.specs.Common.{area, is_hole}
 use Rattle.solid_measure_laws.proofs.Cuts.{cuts_miss_none}
 
 pub not_less : (w : ℤ) → int_lt w w ≡ false
@@ -113,17 +114,17 @@ pub ruleset divided = (even, even_back, whole, whole_back)
 -- ---- a plane across an axis
 
 under : (a b : ℤ) → int_lt a b ≡ true → (m : ℕ) × (a -ℤ b ≡ negsuc m)
-under a b e = go (a -ℤ b) refl where
-  go : (d : ℤ) → a -ℤ b ≡ d → (m : ℕ) × (a -ℤ b ≡ negsuc m)
-  go (negsuc m) f = (m, f)
-  go (pos m) f = absurd (grind (arith, ints))
+under a b e = negative (a -ℤ b) refl where
+  negative : (d : ℤ) → a -ℤ b ≡ d → (m : ℕ) × (a -ℤ b ≡ negsuc m)
+  negative (negsuc m) f = (m, f)
+  negative (pos m) f = absurd (grind (arith, ints))
 
 past : (a b : ℤ) → int_lt a b ≡ true → (n : ℕ) × (b -ℤ a ≡ pos (suc n))
-past a b e = go (b -ℤ a) refl where
-  go : (d : ℤ) → b -ℤ a ≡ d → (n : ℕ) × (b -ℤ a ≡ pos (suc n))
-  go (pos (suc n)) f = (n, f)
-  go (pos zero) f = absurd (grind (arith, ints))
-  go (negsuc m) f = absurd (grind (arith, ints))
+past a b e = positive (b -ℤ a) refl where
+  positive : (d : ℤ) → b -ℤ a ≡ d → (n : ℕ) × (b -ℤ a ≡ pos (suc n))
+  positive (pos (suc n)) f = (n, f)
+  positive (pos zero) f = absurd (grind (arith, ints))
+  positive (negsuc m) f = absurd (grind (arith, ints))
 
 none_between : (h : ℤ) → h -ℤ h ≡ pos 0
 none_between h = omega (arith, ints)
@@ -131,26 +132,67 @@ none_between h = omega (arith, ints)
 abbrev pub point : ℤ → ℤ → ℤ → Point
 point x y z = record { x = x; y = y; z = z }
 
--- the plane's heights go by the coordinate along an axis: low lies below it, high above, and h on it, where it is met from either end
-pub record IsAcross (q : Plane) (along : ℤ → ℤ → ℤ → ℤ) (way : Point) (low high h : ℤ) : Type 0 where
+-- across an axis, with the upper side towards greater coordinates or towards smaller ones
+pub data Way : Type 0 where
+  x_up : Way
+  x_down : Way
+  y_up : Way
+  y_down : Way
+  z_up : Way
+  z_down : Way
+
+-- the coordinate along the axis
+abbrev pub coordinate_along : Way → Point → ℤ
+coordinate_along x_up p = p.x
+coordinate_along x_down p = p.x
+coordinate_along y_up p = p.y
+coordinate_along y_down p = p.y
+coordinate_along z_up p = p.z
+coordinate_along z_down p = p.z
+
+abbrev pub upper_direction : Way → Point
+upper_direction x_up = point (pos 1) (pos 0) (pos 0)
+upper_direction x_down = point (negsuc 0) (pos 0) (pos 0)
+upper_direction y_up = point (pos 0) (pos 1) (pos 0)
+upper_direction y_down = point (pos 0) (negsuc 0) (pos 0)
+upper_direction z_up = point (pos 0) (pos 0) (pos 1)
+upper_direction z_down = point (pos 0) (pos 0) (negsuc 0)
+
+abbrev pub rises : Way → Bool
+rises x_up = true
+rises y_up = true
+rises z_up = true
+rises w = false
+
+-- what takes the sides of a box, along x, y and z, given the one below the plane and the other one across the axis, and then those along the others
+abbrev pub arranged : {X : Type 0} → Way → (ℤ → ℤ → ℤ → ℤ → ℤ → ℤ → X) → ℤ → ℤ → ℤ → ℤ → ℤ → ℤ → X
+arranged x_up f near far a b c d = f near far a b c d
+arranged x_down f near far a b c d = f far near a b c d
+arranged y_up f near far a b c d = f a b near far c d
+arranged y_down f near far a b c d = f a b far near c d
+arranged z_up f near far a b c d = f a b c d near far
+arranged z_down f near far a b c d = f a b c d far near
+
+-- the plane's heights go by the coordinate along the axis: near lies below it, far above, and h on it, where it is met from either end
+pub record IsAcross (w : Way) (q : Plane) (near far h : ℤ) : Type 0 where
   pub level : ℤ → ℤ
-  pub tall : (x y z : ℤ) → height q (point x y z) ≡ level (along x y z)
-  pub directed : direction q ≡ way
+  pub tall : (x y z : ℤ) → height q (point x y z) ≡ level (coordinate_along w (point x y z))
+  pub directed : direction q ≡ upper_direction w
   pub m : ℕ
   pub n : ℕ
-  pub under : level low ≡ negsuc m
-  pub over : level high ≡ pos (suc n)
+  pub under : level near ≡ negsuc m
+  pub over : level far ≡ pos (suc n)
   pub on : level h ≡ pos 0
-  pub up : IsMet (negsuc m) (pos (suc n)) low high h
-  pub down : IsMet (pos (suc n)) (negsuc m) high low h
+  pub up : IsMet (negsuc m) (pos (suc n)) near far h
+  pub down : IsMet (pos (suc n)) (negsuc m) far near h
 
-module _ (q : Plane) (along : ℤ → ℤ → ℤ → ℤ) (low high h : ℤ) (below : int_lt low h ≡ true) (above : int_lt h high ≡ true) where
+module _ (w : Way) (q : Plane) (directed : direction q ≡ upper_direction w) (low high h : ℤ) (below : int_lt low h ≡ true) (above : int_lt h high ≡ true) where
   -- the upper side towards greater coordinates
-  pub upward : ((x y z : ℤ) → height q (point x y z) ≡ along x y z -ℤ h) → IsAcross q along (direction q) low high h
+  pub upward : ((x y z : ℤ) → height q (point x y z) ≡ coordinate_along w (point x y z) -ℤ h) → IsAcross w q low high h
   upward tall = let m = under low h below in let n = past h high above in let e = m.1 in let f = n.1 in record {
     level = λ c. c -ℤ h;
     tall = tall;
-    directed = refl;
+    directed = directed;
     m = m.0;
     n = n.0;
     under = e;
@@ -161,11 +203,11 @@ module _ (q : Plane) (along : ℤ → ℤ → ℤ → ℤ) (low high h : ℤ) (b
   }
 
   -- and towards smaller ones
-  pub downward : ((x y z : ℤ) → height q (point x y z) ≡ h -ℤ along x y z) → IsAcross q along (direction q) high low h
+  pub downward : ((x y z : ℤ) → height q (point x y z) ≡ h -ℤ coordinate_along w (point x y z)) → IsAcross w q high low h
   downward tall = let m = under h high above in let n = past low h below in let e = m.1 in let f = n.1 in record {
     level = λ c. h -ℤ c;
     tall = tall;
-    directed = refl;
+    directed = directed;
     m = m.0;
     n = n.0;
     under = e;
@@ -181,24 +223,22 @@ module _ (q : Plane) (along : ℤ → ℤ → ℤ → ℤ) (low high h : ℤ) (b
 abbrev section_area : Point → Point → Point → Point → Point
 section_area a b c d = moved (cross a b) (moved (cross d a) (moved (cross c d) (moved (cross b c) origin)))
 
-module _ (a c h u v : ℤ) where
-  pub round_x_up : dot (section_area (point h (a +ℤ u) (c +ℤ v)) (point h a (c +ℤ v)) (point h a c) (point h (a +ℤ u) c)) (point (pos 1) (pos 0) (pos 0)) ≡ pos 2 *ℤ (u *ℤ v)
-  round_x_up = rw (dif-parts a, dif-parts c, dif-parts h, dif-parts u, dif-parts v, number 0, number 1, number 2) (simp difs (same_dif _ _ _ _ (omega arith)))
+abbrev pub area_round : Way → ℤ → ℤ → ℤ → ℤ → ℤ → Point
+area_round x_up h a b c d = section_area (point h b d) (point h a d) (point h a c) (point h b c)
+area_round x_down h a b c d = section_area (point h a d) (point h b d) (point h b c) (point h a c)
+area_round y_up h a b c d = section_area (point a h d) (point b h d) (point b h c) (point a h c)
+area_round y_down h a b c d = section_area (point b h d) (point a h d) (point a h c) (point b h c)
+area_round z_up h a b c d = section_area (point a c h) (point b c h) (point b d h) (point a d h)
+area_round z_down h a b c d = section_area (point b c h) (point a c h) (point a d h) (point b d h)
 
-  pub round_x_down : dot (section_area (point h a (c +ℤ v)) (point h (a +ℤ u) (c +ℤ v)) (point h (a +ℤ u) c) (point h a c)) (point (negsuc 0) (pos 0) (pos 0)) ≡ pos 2 *ℤ (u *ℤ v)
-  round_x_down = rw (dif-parts a, dif-parts c, dif-parts h, dif-parts u, dif-parts v, number 0, number 2, dif-parts (negsuc 0)) (simp difs (same_dif _ _ _ _ (omega arith)))
+pub round : (w : Way) (h a c u v : ℤ) → dot (area_round w h a (a +ℤ u) c (c +ℤ v)) (upper_direction w) ≡ pos 2 *ℤ (u *ℤ v)
+round x_up h a c u v = rw (dif-parts a, dif-parts c, dif-parts h, dif-parts u, dif-parts v, number 0, number 2, number 1) (simp difs (same_dif _ _ _ _ (omega arith)))
+round w h a c u v = rw (dif-parts a, dif-parts c, dif-parts h, dif-parts u, dif-parts v, number 0, number 2, dif-parts (cond (rises w) (pos 1) (negsuc 0))) (simp difs (same_dif _ _ _ _ (omega arith)))
 
-  pub round_y_up : dot (section_area (point a h (c +ℤ v)) (point (a +ℤ u) h (c +ℤ v)) (point (a +ℤ u) h c) (point a h c)) (point (pos 0) (pos 1) (pos 0)) ≡ pos 2 *ℤ (u *ℤ v)
-  round_y_up = rw (dif-parts a, dif-parts c, dif-parts h, dif-parts u, dif-parts v, number 0, number 1, number 2) (simp difs (same_dif _ _ _ _ (omega arith)))
-
-  pub round_y_down : dot (section_area (point (a +ℤ u) h (c +ℤ v)) (point a h (c +ℤ v)) (point a h c) (point (a +ℤ u) h c)) (point (pos 0) (negsuc 0) (pos 0)) ≡ pos 2 *ℤ (u *ℤ v)
-  round_y_down = rw (dif-parts a, dif-parts c, dif-parts h, dif-parts u, dif-parts v, number 0, number 2, dif-parts (negsuc 0)) (simp difs (same_dif _ _ _ _ (omega arith)))
-
-  pub round_z_up : dot (section_area (point a c h) (point (a +ℤ u) c h) (point (a +ℤ u) (c +ℤ v) h) (point a (c +ℤ v) h)) (point (pos 0) (pos 0) (pos 1)) ≡ pos 2 *ℤ (u *ℤ v)
-  round_z_up = rw (dif-parts a, dif-parts c, dif-parts h, dif-parts u, dif-parts v, number 0, number 1, number 2) (simp difs (same_dif _ _ _ _ (omega arith)))
-
-  pub round_z_down : dot (section_area (point (a +ℤ u) c h) (point a c h) (point a (c +ℤ v) h) (point (a +ℤ u) (c +ℤ v) h)) (point (pos 0) (pos 0) (negsuc 0)) ≡ pos 2 *ℤ (u *ℤ v)
-  round_z_down = rw (dif-parts a, dif-parts c, dif-parts h, dif-parts u, dif-parts v, number 0, number 2, dif-parts (negsuc 0)) (simp difs (same_dif _ _ _ _ (omega arith)))
-
-pub not_negative : (k : ℕ) → int_lt (pos k) (pos 0) ≡ false
+not_negative : (k : ℕ) → int_lt (pos k) (pos 0) ≡ false
 not_negative k = grind (arith, ints)
+
+-- the area round the cycle of a section doesn't point against the plane's direction
+pub not_hole : (M : Model) (q : Plane) (hs : List ℕ) (way : Point) (n : ℕ) → direction q ≡ way → dot (area M (map mate hs)) way ≡ pos n → is_hole M q hs ≡ false
+unfolding is_hole
+not_hole M q hs way n directed round = ap (λ w. int_lt (dot (area M (map mate hs)) w) (pos 0)) directed ∙ ap (λ t. int_lt t (pos 0)) round ∙ not_negative n

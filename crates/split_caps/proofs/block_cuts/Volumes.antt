@@ -1,8 +1,8 @@
 -- The six volumes of a box's faces: each is a rectangle across an axis.
-use Rattle.std.proofs.Common.{◌≡◌, ℤ, pos, ◌+ℤ◌, ◌-ℤ◌, ◌*ℤ◌, arith}
+use Rattle.std.proofs.Common.{◌≡◌, ℕ, ◌-◌, ℤ, pos, ◌+ℤ◌, ◌-ℤ◌, ◌*ℤ◌, cond, List, [], ◌∷◌, get_or, arith}
 use Rattle.euler_operators.specs.Common.{Point, dot, cross, moved, origin}
 use Rattle.euler_operators.proofs.Common.{dif-parts, difs, number, same_dif}
-use Rattle.split_caps.proofs.block_cuts.Levels.{point}
+use Rattle.split_caps.proofs.block_cuts.Levels.{Way, x_up, x_down, y_up, y_down, z_up, z_down, rises, arranged, point}
 
 -- what a face round four corners has, from the first on
 abbrev pub face_volume : Point → Point → Point → Point → ℤ
@@ -32,40 +32,44 @@ module _ (k p q r w : ℤ) where
   pub z_second : face_volume (point p r k) (point p w k) (point q w k) (point q r k) ≡ rectangle k q p r w
   z_second = rw (dif-parts k, dif-parts p, dif-parts q, dif-parts r, dif-parts w, number 0, number 2) (simp difs (same_dif _ _ _ _ (omega arith)))
 
--- the six faces of each part, for each axis and either way
-module _ (a c low high h u v : ℤ) where
-  pub z_up_lower : rectangle low (a +ℤ u) a c (c +ℤ v) +ℤ (rectangle c (a +ℤ u) a low h +ℤ (rectangle (a +ℤ u) c (c +ℤ v) low h +ℤ (rectangle (c +ℤ v) a (a +ℤ u) low h +ℤ (rectangle a (c +ℤ v) c low h +ℤ (rectangle h a (a +ℤ u) c (c +ℤ v) +ℤ pos 0))))) ≡ pos 6 *ℤ (u *ℤ v) *ℤ (h -ℤ low)
-  z_up_lower = rw (dif-parts a, dif-parts c, dif-parts low, dif-parts h, dif-parts u, dif-parts v, number 0, number 2, number 6) (simp difs (same_dif _ _ _ _ (omega arith)))
+ruleset rectangles = (x_first, x_second, y_first, y_second, z_first, z_second)
 
-  pub z_up_upper : rectangle high a (a +ℤ u) c (c +ℤ v) +ℤ (rectangle c a (a +ℤ u) high h +ℤ (rectangle (a +ℤ u) (c +ℤ v) c high h +ℤ (rectangle (c +ℤ v) (a +ℤ u) a high h +ℤ (rectangle a (c +ℤ v) c h high +ℤ (rectangle h (a +ℤ u) a c (c +ℤ v) +ℤ pos 0))))) ≡ pos 6 *ℤ (u *ℤ v) *ℤ (high -ℤ h)
-  z_up_upper = rw (dif-parts a, dif-parts c, dif-parts high, dif-parts h, dif-parts u, dif-parts v, number 0, number 2, number 6) (simp difs (same_dif _ _ _ _ (omega arith)))
+-- ---- a box, told from its faces
 
-  pub z_down_lower : rectangle high a (a +ℤ u) c (c +ℤ v) +ℤ (rectangle c a (a +ℤ u) high h +ℤ (rectangle (a +ℤ u) (c +ℤ v) c high h +ℤ (rectangle (c +ℤ v) (a +ℤ u) a high h +ℤ (rectangle a (c +ℤ v) c h high +ℤ (rectangle h (a +ℤ u) a c (c +ℤ v) +ℤ pos 0))))) ≡ pos 6 *ℤ (u *ℤ v) *ℤ (high -ℤ h)
-  z_down_lower = rw (dif-parts a, dif-parts c, dif-parts high, dif-parts h, dif-parts u, dif-parts v, number 0, number 2, number 6) (simp difs (same_dif _ _ _ _ (omega arith)))
+-- the corners of a box, as a block numbers them
+abbrev corners : ℤ → ℤ → ℤ → ℤ → ℤ → ℤ → List Point
+corners x0 x1 y0 y1 z0 z1 = point x0 y0 z0 ∷ point x1 y0 z0 ∷ point x1 y1 z0 ∷ point x0 y1 z0 ∷ point x0 y0 z1 ∷ point x1 y0 z1 ∷ point x1 y1 z1 ∷ point x0 y1 z1 ∷ []
 
-  pub z_down_upper : rectangle low (a +ℤ u) a c (c +ℤ v) +ℤ (rectangle c (a +ℤ u) a low h +ℤ (rectangle (a +ℤ u) c (c +ℤ v) low h +ℤ (rectangle (c +ℤ v) a (a +ℤ u) low h +ℤ (rectangle a (c +ℤ v) c low h +ℤ (rectangle h a (a +ℤ u) c (c +ℤ v) +ℤ pos 0))))) ≡ pos 6 *ℤ (u *ℤ v) *ℤ (h -ℤ low)
-  z_down_upper = rw (dif-parts a, dif-parts c, dif-parts low, dif-parts h, dif-parts u, dif-parts v, number 0, number 2, number 6) (simp difs (same_dif _ _ _ _ (omega arith)))
+-- a face by the numbers of its corners, from the first on
+abbrev Face : Type 0
+Face = ℕ × ℕ × ℕ × ℕ
 
-  pub x_up_lower : rectangle (c +ℤ v) h low (a +ℤ u) a +ℤ (rectangle c low h (a +ℤ u) a +ℤ (rectangle a low h (c +ℤ v) c +ℤ (rectangle (a +ℤ u) low h c (c +ℤ v) +ℤ (rectangle low (a +ℤ u) a c (c +ℤ v) +ℤ (rectangle h (a +ℤ u) a (c +ℤ v) c +ℤ pos 0))))) ≡ pos 6 *ℤ (u *ℤ v) *ℤ (h -ℤ low)
-  x_up_lower = rw (dif-parts a, dif-parts c, dif-parts low, dif-parts h, dif-parts u, dif-parts v, number 0, number 2, number 6) (simp difs (same_dif _ _ _ _ (omega arith)))
+abbrev volume_round : List Point → List Face → ℤ
+volume_round ps [] = pos 0
+volume_round ps (f ∷ fs) = face_volume (get_or ps (f.0 - 1) origin) (get_or ps (f.1 - 1) origin) (get_or ps (f.2 - 1) origin) (get_or ps (f.3 - 1) origin) +ℤ volume_round ps fs
 
-  pub x_up_upper : rectangle high a (a +ℤ u) c (c +ℤ v) +ℤ (rectangle (c +ℤ v) h high a (a +ℤ u) +ℤ (rectangle c high h a (a +ℤ u) +ℤ (rectangle a high h c (c +ℤ v) +ℤ (rectangle (a +ℤ u) high h (c +ℤ v) c +ℤ (rectangle h a (a +ℤ u) (c +ℤ v) c +ℤ pos 0))))) ≡ pos 6 *ℤ (u *ℤ v) *ℤ (high -ℤ h)
-  x_up_upper = rw (dif-parts a, dif-parts c, dif-parts high, dif-parts h, dif-parts u, dif-parts v, number 0, number 2, number 6) (simp difs (same_dif _ _ _ _ (omega arith)))
+-- the faces of each part, in the order of their numbers
+abbrev faces_below : Way → List Face
+faces_below x_up = (7, 8, 5, 6) ∷ (4, 3, 2, 1) ∷ (5, 1, 2, 6) ∷ (3, 4, 8, 7) ∷ (4, 1, 5, 8) ∷ (7, 6, 2, 3) ∷ []
+faces_below x_down = (5, 6, 7, 8) ∷ (2, 1, 4, 3) ∷ (1, 2, 6, 5) ∷ (2, 3, 7, 6) ∷ (7, 3, 4, 8) ∷ (5, 8, 4, 1) ∷ []
+faces_below y_up = (5, 6, 7, 8) ∷ (2, 1, 4, 3) ∷ (1, 2, 6, 5) ∷ (6, 2, 3, 7) ∷ (4, 1, 5, 8) ∷ (8, 7, 3, 4) ∷ []
+faces_below y_down = (6, 7, 8, 5) ∷ (3, 2, 1, 4) ∷ (2, 3, 7, 6) ∷ (3, 4, 8, 7) ∷ (8, 4, 1, 5) ∷ (6, 5, 1, 2) ∷ []
+faces_below z_up = (2, 1, 4, 3) ∷ (1, 2, 6, 5) ∷ (2, 3, 7, 6) ∷ (3, 4, 8, 7) ∷ (4, 1, 5, 8) ∷ (5, 6, 7, 8) ∷ []
+faces_below z_down = (5, 6, 7, 8) ∷ (5, 1, 2, 6) ∷ (6, 2, 3, 7) ∷ (7, 3, 4, 8) ∷ (1, 5, 8, 4) ∷ (2, 1, 4, 3) ∷ []
 
-  pub x_down_lower : rectangle (c +ℤ v) h high a (a +ℤ u) +ℤ (rectangle c high h a (a +ℤ u) +ℤ (rectangle a high h c (c +ℤ v) +ℤ (rectangle high a (a +ℤ u) c (c +ℤ v) +ℤ (rectangle (a +ℤ u) high h (c +ℤ v) c +ℤ (rectangle h a (a +ℤ u) (c +ℤ v) c +ℤ pos 0))))) ≡ pos 6 *ℤ (u *ℤ v) *ℤ (high -ℤ h)
-  x_down_lower = rw (dif-parts a, dif-parts c, dif-parts high, dif-parts h, dif-parts u, dif-parts v, number 0, number 2, number 6) (simp difs (same_dif _ _ _ _ (omega arith)))
+abbrev faces_above : Way → List Face
+faces_above x_up = (2, 3, 7, 6) ∷ (5, 6, 7, 8) ∷ (2, 1, 4, 3) ∷ (1, 2, 6, 5) ∷ (7, 3, 4, 8) ∷ (5, 8, 4, 1) ∷ []
+faces_above x_down = (4, 1, 5, 8) ∷ (7, 8, 5, 6) ∷ (4, 3, 2, 1) ∷ (5, 1, 2, 6) ∷ (3, 4, 8, 7) ∷ (7, 6, 2, 3) ∷ []
+faces_above y_up = (3, 4, 8, 7) ∷ (6, 7, 8, 5) ∷ (3, 2, 1, 4) ∷ (2, 3, 7, 6) ∷ (8, 4, 1, 5) ∷ (6, 5, 1, 2) ∷ []
+faces_above y_down = (1, 2, 6, 5) ∷ (5, 6, 7, 8) ∷ (2, 1, 4, 3) ∷ (6, 2, 3, 7) ∷ (4, 1, 5, 8) ∷ (8, 7, 3, 4) ∷ []
+faces_above z_up = (5, 6, 7, 8) ∷ (5, 1, 2, 6) ∷ (6, 2, 3, 7) ∷ (7, 3, 4, 8) ∷ (1, 5, 8, 4) ∷ (2, 1, 4, 3) ∷ []
+faces_above z_down = (2, 1, 4, 3) ∷ (1, 2, 6, 5) ∷ (2, 3, 7, 6) ∷ (3, 4, 8, 7) ∷ (4, 1, 5, 8) ∷ (5, 6, 7, 8) ∷ []
 
-  pub x_down_upper : rectangle low (a +ℤ u) a c (c +ℤ v) +ℤ (rectangle (c +ℤ v) h low (a +ℤ u) a +ℤ (rectangle c low h (a +ℤ u) a +ℤ (rectangle a low h (c +ℤ v) c +ℤ (rectangle (a +ℤ u) low h c (c +ℤ v) +ℤ (rectangle h (a +ℤ u) a (c +ℤ v) c +ℤ pos 0))))) ≡ pos 6 *ℤ (u *ℤ v) *ℤ (h -ℤ low)
-  x_down_upper = rw (dif-parts a, dif-parts c, dif-parts low, dif-parts h, dif-parts u, dif-parts v, number 0, number 2, number 6) (simp difs (same_dif _ _ _ _ (omega arith)))
+-- x_up comes first, so that the clause below it is one for each other way
+pub volume_below : (w : Way) (near h a c u v : ℤ) → volume_round (arranged w corners near h a (a +ℤ u) c (c +ℤ v)) (faces_below w) ≡ pos 6 *ℤ (u *ℤ v) *ℤ cond (rises w) (h -ℤ near) (near -ℤ h)
+volume_below x_up near h a c u v = simp rectangles (rw (dif-parts a, dif-parts c, dif-parts near, dif-parts h, dif-parts u, dif-parts v, number 0, number 2, number 6) (simp difs (same_dif _ _ _ _ (omega arith))))
+volume_below w near h a c u v = simp rectangles (rw (dif-parts a, dif-parts c, dif-parts near, dif-parts h, dif-parts u, dif-parts v, number 0, number 2, number 6) (simp difs (same_dif _ _ _ _ (omega arith))))
 
-  pub y_up_lower : rectangle (c +ℤ v) a (a +ℤ u) low h +ℤ (rectangle c (a +ℤ u) a low h +ℤ (rectangle low (a +ℤ u) a c (c +ℤ v) +ℤ (rectangle (a +ℤ u) h low (c +ℤ v) c +ℤ (rectangle a h low c (c +ℤ v) +ℤ (rectangle h (a +ℤ u) a (c +ℤ v) c +ℤ pos 0))))) ≡ pos 6 *ℤ (u *ℤ v) *ℤ (h -ℤ low)
-  y_up_lower = rw (dif-parts a, dif-parts c, dif-parts low, dif-parts h, dif-parts u, dif-parts v, number 0, number 2, number 6) (simp difs (same_dif _ _ _ _ (omega arith)))
-
-  pub y_up_upper : rectangle high a (a +ℤ u) c (c +ℤ v) +ℤ (rectangle (c +ℤ v) a (a +ℤ u) h high +ℤ (rectangle c a (a +ℤ u) high h +ℤ (rectangle (a +ℤ u) h high c (c +ℤ v) +ℤ (rectangle a h high (c +ℤ v) c +ℤ (rectangle h a (a +ℤ u) (c +ℤ v) c +ℤ pos 0))))) ≡ pos 6 *ℤ (u *ℤ v) *ℤ (high -ℤ h)
-  y_up_upper = rw (dif-parts a, dif-parts c, dif-parts high, dif-parts h, dif-parts u, dif-parts v, number 0, number 2, number 6) (simp difs (same_dif _ _ _ _ (omega arith)))
-
-  pub y_down_lower : rectangle (c +ℤ v) a (a +ℤ u) h high +ℤ (rectangle c a (a +ℤ u) high h +ℤ (rectangle (a +ℤ u) h high c (c +ℤ v) +ℤ (rectangle high a (a +ℤ u) c (c +ℤ v) +ℤ (rectangle a h high (c +ℤ v) c +ℤ (rectangle h a (a +ℤ u) (c +ℤ v) c +ℤ pos 0))))) ≡ pos 6 *ℤ (u *ℤ v) *ℤ (high -ℤ h)
-  y_down_lower = rw (dif-parts a, dif-parts c, dif-parts high, dif-parts h, dif-parts u, dif-parts v, number 0, number 2, number 6) (simp difs (same_dif _ _ _ _ (omega arith)))
-
-  pub y_down_upper : rectangle low (a +ℤ u) a c (c +ℤ v) +ℤ (rectangle (c +ℤ v) a (a +ℤ u) low h +ℤ (rectangle c (a +ℤ u) a low h +ℤ (rectangle (a +ℤ u) h low (c +ℤ v) c +ℤ (rectangle a h low c (c +ℤ v) +ℤ (rectangle h (a +ℤ u) a (c +ℤ v) c +ℤ pos 0))))) ≡ pos 6 *ℤ (u *ℤ v) *ℤ (h -ℤ low)
-  y_down_upper = rw (dif-parts a, dif-parts c, dif-parts low, dif-parts h, dif-parts u, dif-parts v, number 0, number 2, number 6) (simp difs (same_dif _ _ _ _ (omega arith)))
+pub volume_above : (w : Way) (far h a c u v : ℤ) → volume_round (arranged w corners h far a (a +ℤ u) c (c +ℤ v)) (faces_above w) ≡ pos 6 *ℤ (u *ℤ v) *ℤ cond (rises w) (far -ℤ h) (h -ℤ far)
+volume_above x_up far h a c u v = simp rectangles (rw (dif-parts a, dif-parts c, dif-parts far, dif-parts h, dif-parts u, dif-parts v, number 0, number 2, number 6) (simp difs (same_dif _ _ _ _ (omega arith))))
+volume_above w far h a c u v = simp rectangles (rw (dif-parts a, dif-parts c, dif-parts far, dif-parts h, dif-parts u, dif-parts v, number 0, number 2, number 6) (simp difs (same_dif _ _ _ _ (omega arith))))
