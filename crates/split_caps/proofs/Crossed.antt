@@ -45,39 +45,39 @@ module _ (D : Model) (above : List ℕ) (s : ℕ) (sound : Sound D) (of : AreOf 
     no_half x i = absurd (omega (arith, i, ap (count x) none))
 
     across : (x : ℕ) → HasHalf D x → on (mate x) ≡ on x
-    across x there = go (on x) (on (mate x)) refl refl where
-      go : (a b : Bool) → on x ≡ a → on (mate x) ≡ b → b ≡ a
-      go true true e f = refl
-      go false false e f = refl
-      go false true e f = absurd (no_half x (is_half D above s sound of x there e f))
-      go true false e f = absurd (no_half (mate x) (is_half D above s sound of (mate x) (mate_there D x there) f (ap on (mate-mate x) ∙ e)))
+    across x there = side_kept (on x) (on (mate x)) refl refl where
+      side_kept : (a b : Bool) → on x ≡ a → on (mate x) ≡ b → b ≡ a
+      side_kept true true e f = refl
+      side_kept false false e f = refl
+      side_kept false true e f = absurd (no_half x (is_half D above s sound of x there e f))
+      side_kept true false e f = absurd (no_half (mate x) (is_half D above s sound of (mate x) (mate_there D x there) f (ap on (mate-mate x) ∙ e)))
 
     one_side : (x y : ℕ) → HasHalf D x → HasHalf D y → tail D x ≡ tail D y → on y ≡ on x
     one_side x y has now e = same_bit (on y) (on x)
         (kept_round D sound (λ z. bit (on z)) (λ z there. ap (λ l. bit (lists above (face_of D l))) (loop_after D sound z there)) (λ z there. ap bit (across z there)) x y has (sound.one_fan x y has now e))
 
   some_half : (x y : ℕ) → HasHalf D x → HasHalf D y → tail D x ≡ tail D y → on x ≡ true → on y ≡ false → (h : ℕ) × IsIn h (below_halves D above s)
-  some_half x y has now e up low = go (below_halves D above s) refl where
-    go : (hs : List ℕ) → below_halves D above s ≡ hs → (h : ℕ) × IsIn h (below_halves D above s)
-    go [] is = absurd (true≢false (sym up ∙ sym (one_side is x y has now e) ∙ low))
-    go (h ∷ hs) is = (h, subst (IsIn h) (sym is) (IsIn_head h hs))
+  some_half x y has now e up low = first_half (below_halves D above s) refl where
+    first_half : (hs : List ℕ) → below_halves D above s ≡ hs → (h : ℕ) × IsIn h (below_halves D above s)
+    first_half [] is = absurd (true≢false (sym up ∙ sym (one_side is x y has now e) ∙ low))
+    first_half (h ∷ hs) is = (h, subst (IsIn h) (sym is) (IsIn_head h hs))
 
 -- ---- one of the caps is that of an outer cycle
 
 outer_at : (ks : List Caps) → list_any (λ k. not k.hole) ks ≡ true → (i : ℕ) × (i < length ks) × ((get_or ks i no_caps).hole ≡ false)
 outer_at [] e = absurd (true≢false (sym e))
-outer_at (k ∷ ks) e = go k.hole refl (outer_at ks) where
-  go : (b : Bool) → k.hole ≡ b → (list_any (λ k. not k.hole) ks ≡ true → (i : ℕ) × (i < length ks) × ((get_or ks i no_caps).hole ≡ false)) → (i : ℕ) × (i < length (k ∷ ks)) × ((get_or (k ∷ ks) i no_caps).hole ≡ false)
-  go false is later = (0, omega arith, is)
-  go true is later = let w = later (sym (ap (λ b. not b || list_any (λ k. not k.hole) ks) is) ∙ e) in (suc w.0, omega (arith, w.1), w.2)
+outer_at (k ∷ ks) e = here_or_later k.hole refl (outer_at ks) where
+  here_or_later : (b : Bool) → k.hole ≡ b → (list_any (λ k. not k.hole) ks ≡ true → (i : ℕ) × (i < length ks) × ((get_or ks i no_caps).hole ≡ false)) → (i : ℕ) × (i < length (k ∷ ks)) × ((get_or (k ∷ ks) i no_caps).hole ≡ false)
+  here_or_later false is later = (0, omega arith, is)
+  here_or_later true is later = let w = later (sym (ap (λ b. not b || list_any (λ k. not k.hole) ks) is) ∙ e) in (suc w.0, omega (arith, w.1), w.2)
 
 some_outer : (ks : List Caps) → 0 < length ks → (list_any (λ k. not k.hole) ks ≡ true) ⊎ (filter (λ k. k.hole) ks ≡ []) → list_any (λ k. not k.hole) ks ≡ true
 some_outer ks l (inl e) = e
 some_outer [] l (inr none) = absurd (omega (arith, l))
-some_outer (k ∷ ks) l (inr none) = go k.hole refl where
-  go : (b : Bool) → k.hole ≡ b → (not k.hole || list_any (λ k. not k.hole) ks) ≡ true
-  go false is = ap (λ b. not b || list_any (λ k. not k.hole) ks) is
-  go true is = absurd (omega (arith, ap length (sym (ap (λ b. cond b (k ∷ filter (λ k. k.hole) ks) (filter (λ k. k.hole) ks)) is) ∙ none)))
+some_outer (k ∷ ks) l (inr none) = first_outer k.hole refl where
+  first_outer : (b : Bool) → k.hole ≡ b → (not k.hole || list_any (λ k. not k.hole) ks) ≡ true
+  first_outer false is = ap (λ b. not b || list_any (λ k. not k.hole) ks) is
+  first_outer true is = absurd (omega (arith, ap length (sym (ap (λ b. cond b (k ∷ filter (λ k. k.hole) ks) (filter (λ k. k.hole) ks)) is) ∙ none)))
 
 -- ---- the two halves of an edge that was cut
 

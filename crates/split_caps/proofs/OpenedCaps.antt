@@ -208,10 +208,10 @@ counted_holes [] i l e = absurd (omega (arith, l))
 counted_holes (k ∷ ks) zero l e = omega (arith, ap (λ b. length (cond b (k ∷ filter (λ k. k.hole) ks) (filter (λ k. k.hole) ks))) e, no_more ks) where
   no_more : (ks : List Caps) → length (filter (λ k. k.hole) ks) ≤ length ks
   no_more [] = omega arith
-  no_more (k ∷ ks) = go k.hole (no_more ks) where
-    go : (b : Bool) → length (filter (λ k. k.hole) ks) ≤ length ks → length (cond b (k ∷ filter (λ k. k.hole) ks) (filter (λ k. k.hole) ks)) ≤ suc (length ks)
-    go true r = omega (arith, r)
-    go false r = omega (arith, r)
+  no_more (k ∷ ks) = one_more k.hole (no_more ks) where
+    one_more : (b : Bool) → length (filter (λ k. k.hole) ks) ≤ length ks → length (cond b (k ∷ filter (λ k. k.hole) ks) (filter (λ k. k.hole) ks)) ≤ suc (length ks)
+    one_more true r = omega (arith, r)
+    one_more false r = omega (arith, r)
 counted_holes (k ∷ ks) (suc i) l e = grind (arith, counted_holes ks i)
 
 pub outer_is : (ks : List Caps) (i : ℕ) → i < length ks → (get_or ks i no_caps).hole ≡ false → length ks ≡ length (filter (λ k. k.hole) ks) + 1 → outer_caps ks ≡ get_or ks i no_caps

@@ -157,7 +157,7 @@ module _ (d : Drawing) (above : List ℕ) (s : ℕ) (p : Plane) (t : ℕ) (w : C
     cap_row e f j = closed.rows f (omega (arith, hole_apart f ks i l e, once f, j))
 
     gone : k.hole ≡ true → (f : ℕ) → 1 ≤ count f (k.lower ∷ k.upper ∷ []) → table.has P.faces f ≡ false
-    gone e f j = ap is_some (split.row_is K s t us f ∙ ap (option_map (split.go K s t us f)) (closed.gone f (omega (arith, hole_in f ks i l e, j))))
+    gone e f j = ap is_some (split.row_is K s t us f ∙ ap (option_map (split.to_new K s t us f)) (closed.gone f (omega (arith, hole_in f ks i l e, j))))
 
     stands_closed : (f : ℕ) → LiesOn X.model p f → cross (direction p) (normal X.model f) ≡ origin → Stands p f K
     stands_closed f on across = closing_carries X.model s p ks (Stands p f) (λ A g h c was. still_stands A p f g h c was) (split.closes d above s p t w) (λ there. (on, across))
@@ -175,8 +175,8 @@ module _ (d : Drawing) (above : List ℕ) (s : ℕ) (p : Plane) (t : ℕ) (w : C
     unfolding part face_of content point_of tail
     part_on f on q there of v j = grind (arith, on q there of v)
 
-    part_row : (f : ℕ) (row : FaceRow) → table.get K.faces f ≡ Some row → table.get P.faces f ≡ Some (split.go K s t us f row)
-    part_row f row e = split.row_is K s t us f ∙ ap (option_map (split.go K s t us f)) e
+    part_row : (f : ℕ) (row : FaceRow) → table.get K.faces f ≡ Some row → table.get P.faces f ≡ Some (split.to_new K s t us f row)
+    part_row f row e = split.row_is K s t us f ∙ ap (option_map (split.to_new K s t us f)) e
 
     part_solid : (f u : ℕ) (b : Bool) → Has K.faces f → solid_of K f ≡ u → lists us f ≡ b → solid_of P f ≡ cond b t u
     part_solid f u b there of is = solid_row P f _ (part_row f _ (face_there K f there)) ∙ solid_either (lists us f) (record { solid = solid_of K f; outer = outer K f }) t ∙ (λ j. cond (is j) t (of j))
@@ -217,13 +217,13 @@ module _ (d : Drawing) (above : List ℕ) (s : ℕ) (p : Plane) (t : ℕ) (w : C
       Take o = (taken_by X.model k.lower (closing o holes) ≡ sum_of (lowers X.model holes)) × (taken_by X.model k.upper (closing o holes) ≡ sum_of (uppers X.model holes))
 
       take : Take (outer_caps ks)
-      take = go holes refl where
-        go : (hs : List Caps) → holes ≡ hs → Take (outer_caps ks)
-        go [] none = (
+      take = taken_by_holes holes refl where
+        taken_by_holes : (hs : List Caps) → holes ≡ hs → Take (outer_caps ks)
+        taken_by_holes [] none = (
           ap (λ hs. taken_by X.model k.lower (closing (outer_caps ks) hs)) none ∙ ap (λ hs. sum_of (lowers X.model hs)) (sym none),
           ap (λ hs. taken_by X.model k.upper (closing (outer_caps ks) hs)) none ∙ ap (λ hs. sum_of (uppers X.model hs)) (sym none),
         )
-        go (h ∷ hs) some =
+        taken_by_holes (h ∷ hs) some =
             let one = one_outer d.model p cycles ks flags w.no_stray (subst (λ xs. 0 < length xs) (sym some) (omega arith)) in
             subst Take (sym (outer_is ks i l e one)) (both_take X.model k holes own)
 

@@ -34,14 +34,14 @@ next_one a b n e = omega arith
 
 cut_once : (M : Model) (p : Plane) (g : Growing) (e : ℕ) → AreAccepted M (cut_edge p g e ∷ []) → let N = effect M (cut_edge p g e) in (size N.vertices ≡ size M.vertices + 1) × (size N.edges ≡ size M.edges + 1)
 unfolding effect mev_at
-cut_once M p g e go = grind (arith, mev_goes, size-put_new, mapped_none, size-map_rows)
+cut_once M p g e goes = grind (arith, mev_goes, size-put_new, mapped_none, size-map_rows)
 
 pub cuts_make : (M : Model) (p : Plane) (g : Growing) (es : List ℕ) → AreAccepted M (crossings.ops_from p g es) → let N = effects M (crossings.ops_from p g es) in (size N.vertices ≡ size M.vertices + length es) × (size N.edges ≡ size M.edges + length es)
-cuts_make M p g [] go = (none (size M.vertices), none (size M.edges))
-cuts_make M p g (e ∷ es) go =
+cuts_make M p g [] goes = (none (size M.vertices), none (size M.edges))
+cuts_make M p g (e ∷ es) goes =
     let N = effect M (cut_edge p g e) in
-    let first = cut_once M p g e (go.0, tt) in
-    let rest = cuts_make N p (next_cut p g e) es go.1 in
+    let first = cut_once M p g e (goes.0, tt) in
+    let rest = cuts_make N p (next_cut p g e) es goes.1 in
     (rest.0 ∙ next_one (size M.vertices) (size N.vertices) (length es) first.0, rest.1 ∙ next_one (size M.edges) (size N.edges) (length es) first.1)
 
 -- ---- faces drawn

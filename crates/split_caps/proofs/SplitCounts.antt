@@ -77,10 +77,10 @@ total-append [] ys = sym (none_add (total ys))
 total-append (x ∷ xs) ys = ap (λ z. growth x +ℤ z) (total-append xs ys) ∙ sym (add_assoc (growth x) (total xs) (total ys))
 
 run_grows : (M : Model) (ops : List Op) → Sound M → AreAccepted M ops → euler_number (effects M ops) ≡ euler_number M +ℤ total ops
-run_grows M [] sound go = none (euler_number M) where
+run_grows M [] sound goes = none (euler_number M) where
   none : (a : ℤ) → a ≡ a +ℤ pos 0
   none a = omega (arith, ints)
-run_grows M (op ∷ ops) sound go = run_grows (effect M op) ops (effect_keeps_sound M op sound go.0) go.1 ∙ ap (λ z. z +ℤ total ops) (grows M op sound go.0) ∙ add_assoc (euler_number M) (growth op) (total ops)
+run_grows M (op ∷ ops) sound goes = run_grows (effect M op) ops (effect_keeps_sound M op sound goes.0) goes.1 ∙ ap (λ z. z +ℤ total ops) (grows M op sound goes.0) ∙ add_assoc (euler_number M) (growth op) (total ops)
 
 -- two lists of operators that add nothing
 abbrev AddsNothing : List Op → Type 0
@@ -139,10 +139,10 @@ copies_nothing M c bs zero = refl
 copies_nothing M c bs (suc n) = nothing_both (copy_ops M c bs n) (_ ∷ []) (copies_nothing M c bs n) refl
 
 joinings_nothing : (c : Taken) (m n : ℕ) → AddsNothing (joinings c m n)
-joinings_nothing c m n = go (numbers_after (c.edge + m + 1) n) where
-  go : (es : List ℕ) → AddsNothing (map (λ e. Kef (half (minus e))) es)
-  go [] = refl
-  go (e ∷ es) = ap (λ z. pos 0 +ℤ z) (go es)
+joinings_nothing c m n = kefs_nothing (numbers_after (c.edge + m + 1) n) where
+  kefs_nothing : (es : List ℕ) → AddsNothing (map (λ e. Kef (half (minus e))) es)
+  kefs_nothing [] = refl
+  kefs_nothing (e ∷ es) = ap (λ z. pos 0 +ℤ z) (kefs_nothing es)
 
 cap_two : (c : Taken) (m : ℕ) → total (cap_ops c m) ≡ pos 2
 unfolding cap_ops

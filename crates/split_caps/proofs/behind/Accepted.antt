@@ -1,5 +1,5 @@
 -- A split that is accepted where a solid is alone is accepted where it stands behind others, if numbers are left.
-use Rattle.std.proofs.Common.{◌≡◌, ℕ, ◌+◌, ◌*◌, ◌≤◌, Bool, true, false, not, ◌&&◌, nat_le, List, [], ◌∷◌, ◌++◌, map, length, Option, None, Some, is_some, option_map, refl, sym, ap, subst, ◌∙◌, arith}
+use Rattle.std.proofs.Common.{◌≡◌, ℕ, ◌+◌, ◌*◌, ◌≤◌, Bool, true, false, not, ◌&&◌, nat_le, List, [], ◌∷◌, ◌++◌, map, length, None, is_some, sym, ap, subst, ◌∙◌, arith}
 use Rattle.std.specs.List.{list_any}
 use Rattle.std.proofs.lemmas.List.{length-map}
 use Rattle.std.proofs.lemmas.Bool.Decides.{nat_tests}
@@ -8,7 +8,7 @@ use Rattle.euler_operators.specs.Table as table
 use Rattle.euler_laws.proofs.Common.{◌also◌, all_hold, none_refuses}
 use Rattle.shapes.specs.Common.{Needed, AreLeft, taken_in, start, finish, first_such, found, least_lone, is_flat, reaches_above, reaches_below, crossing_edges, straddling_faces, pair_count, is_touched, is_cut_often, is_crossed, with_crossings, with_drawings, straddling_pairs, undrawn, faces_above, below_halves, section_cycles, section_ends, least_branched, has_stray_hole, first_conditions, section_conditions, later_conditions, split_conditions, split_refusal}
 use Rattle.split_caps.proofs.behind.Numbers.{past, plus_past}
-use Rattle.split_caps.proofs.behind.Lists.{any_over, such_over}
+use Rattle.split_caps.proofs.behind.Lists.{any_over, some_over, such_over}
 use Rattle.split_caps.proofs.behind.Models.{Behind, faces_at, loops_at, edges_at, vertices_at, half_at, faces_are, start_is, finish_is}
 use Rattle.split_caps.proofs.behind.Places.{flat_is, lone_is, reaches_above_is, reaches_below_is, touched_is, cut_often_is, crossed_is, pair_count_is, straddling_are, crossing_are, faces_above_are, found_past}
 use Rattle.split_caps.proofs.behind.Drawn.{taken_past, AllAlone, DrawnBehind, drawings_past}
@@ -33,10 +33,7 @@ later_within : (a k n c m : ℕ) → a + k + m ≤ 1000000 → c + n ≤ a + m �
 later_within a k n c m l e = let f : c + k + n ≤ 1000000 = omega (arith, l, e) in grind (arith, nat_tests)
 
 such_is : (g : ℕ → ℕ) (p q : ℕ → Bool) → ((x : ℕ) → p (g x) ≡ q x) → (xs : List ℕ) → is_some (first_such p (map g xs)) ≡ is_some (first_such q xs)
-such_is g p q e xs = ap is_some (such_over g p q e xs) ∙ go (first_such q xs) where
-  go : (o : Option ℕ) → is_some (option_map g o) ≡ is_some o
-  go None = refl
-  go (Some x) = refl
+such_is g p q e xs = ap is_some (such_over g p q e xs) ∙ some_over g (first_such q xs)
 
 -- the section of solid s, once its faces are drawn
 abbrev pub section_halves : Model → ℕ → Plane → List ℕ

@@ -65,10 +65,10 @@ module _ (k e : ℕ) where
   ]
 
   riser_on : (i : ℕ) → riser (e + k) i ≡ past k (riser e i)
-  riser_on i = counted k (riser e i) (riser (e + k) i) (riser_some i) (go (nat_eq i 0)) where
-    go : (b : Bool) → cond b (e + k + 1) (e + k + 2 * i) ≡ cond b (e + 1) (e + 2 * i) + k
-    go true = omega arith
-    go false = omega arith
+  riser_on i = counted k (riser e i) (riser (e + k) i) (riser_some i) (either_riser (nat_eq i 0)) where
+    either_riser : (b : Bool) → cond b (e + k + 1) (e + k + 2 * i) ≡ cond b (e + 1) (e + 2 * i) + k
+    either_riser true = omega arith
+    either_riser false = omega arith
 
   top_some : (n i : ℕ) → top_edge e n i ≢ 0
   top_some n i is = elim (eqb_tells (i + 1) n) [
@@ -77,10 +77,10 @@ module _ (k e : ℕ) where
   ]
 
   top_on : (n i : ℕ) → top_edge (e + k) n i ≡ past k (top_edge e n i)
-  top_on n i = counted k (top_edge e n i) (top_edge (e + k) n i) (top_some n i) (go (nat_eq (i + 1) n)) where
-    go : (b : Bool) → cond b (e + k + 2 * n) (e + k + 2 * i + 3) ≡ cond b (e + 2 * n) (e + 2 * i + 3) + k
-    go true = omega arith
-    go false = omega arith
+  top_on n i = counted k (top_edge e n i) (top_edge (e + k) n i) (top_some n i) (either_edge (nat_eq (i + 1) n)) where
+    either_edge : (b : Bool) → cond b (e + k + 2 * n) (e + k + 2 * i + 3) ≡ cond b (e + 2 * n) (e + 2 * i + 3) + k
+    either_edge true = omega arith
+    either_edge false = omega arith
 
   tops_on : (n i : ℕ) → top_items (e + k) n i ≡ map (half_past k) (top_items e n i)
   tops_on n zero = refl

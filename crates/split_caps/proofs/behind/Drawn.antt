@@ -1,5 +1,5 @@
 -- The edges of a solid behind others cut, and its faces drawn: as where it is alone, behind the others.
-use Rattle.std.proofs.Common.{◌≡◌, ◌≢◌, ℕ, ◌+◌, Bool, true, false, cond, nat_eq, List, [], ◌∷◌, map, filter, Option, None, Some, is_some, option_map, refl, sym, ap, subst, ◌∙◌, arith}
+use Rattle.std.proofs.Common.{◌≡◌, ◌≢◌, ℕ, ◌+◌, Bool, true, false, cond, nat_eq, List, [], ◌∷◌, map, filter, Some, is_some, refl, sym, ap, subst, ◌∙◌, arith}
 use Rattle.euler_operators.specs.Common.{Plane, Point, is_on, cut_between, Model, plus, edge_of, after, loop_of, content, rings_of, round, mev_at, mef, effect, Sound, Has, Table}
 use Rattle.euler_operators.specs.Table as table
 use Rattle.euler_operators.specs.Common.{get-map_rows, get-put}
@@ -7,7 +7,7 @@ use Rattle.euler_operators.proofs.Common.{mate_plus, plus_row, code-half}
 use Rattle.shapes.specs.Common.{Taken, taken_in, Growing, growing, start, finish, next_cut, all_cut, with_crossings, crossing_edges, straddling_faces, FacePairs, Drawing, undrawn, from_place, drawn_pairs, all_pairs, straddling_pairs, place_pairs, in_one_loop, next_drawn, join_next, draw_next, draw_pair, faces_drawn, with_drawings, with_rings, rings_shared, all_drawn, ring_free, stuck_at, join_pair, some_above, vertices_on}
 use Rattle.split_drawing_laws.proofs.crossings.OneCut.{cut_is_mev}
 use Rattle.split_caps.proofs.behind.Numbers.{past, past_same, past_next, plus_past}
-use Rattle.split_caps.proofs.behind.Lists.{pushed, mapped_over}
+use Rattle.split_caps.proofs.behind.Lists.{pushed, mapped_over, some_over}
 use Rattle.split_caps.proofs.behind.Models.{Behind, faces_at, loops_at, edges_at, vertices_at, half_at, start_is, finish_is, after_is, loop_is, rings_are}
 use Rattle.split_caps.proofs.behind.Places.{pair_at, place_pairs_are, crossing_are, straddling_are}
 use Rattle.split_caps.proofs.behind.Effects.{mev_past, mef_past, round_is}
@@ -22,16 +22,13 @@ abbrev pub taken_past : Model → Taken → Taken
 taken_past A c = record { face = c.face + faces_at A; loop = c.loop + loops_at A; edge = c.edge + edges_at A; vertex = c.vertex + vertices_at A }
 
 has_put : {X : Type 0} (t : Table X) (n k : ℕ) (x : X) → Has t n → Has (table.put t k x) n
-has_put t n k x there = ap is_some (get-put t k x n) ∙ go (nat_eq n k) where
-  go : (b : Bool) → is_some (cond b (Some x) (table.get t n)) ≡ true
-  go true = refl
-  go false = there
+has_put t n k x there = ap is_some (get-put t k x n) ∙ put_or_there (nat_eq n k) where
+  put_or_there : (b : Bool) → is_some (cond b (Some x) (table.get t n)) ≡ true
+  put_or_there true = refl
+  put_or_there false = there
 
 has_map : {X : Type 0} (t : Table X) (f : ℕ → X → X) (n : ℕ) → Has t n → Has (table.map_rows f t) n
-has_map {X = X} t f n there = ap is_some (get-map_rows f t n) ∙ go (table.get t n) there where
-  go : (o : Option X) → is_some o ≡ true → is_some (option_map (f n) o) ≡ true
-  go None e = e
-  go (Some x) e = refl
+has_map t f n there = ap is_some (get-map_rows f t n) ∙ some_over (f n) (table.get t n) ∙ there
 
 -- an edge cut, as what mev makes
 module _ (p : Plane) (g : Growing) (e : ℕ) where

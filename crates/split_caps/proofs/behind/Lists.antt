@@ -1,5 +1,5 @@
 -- What is read off lists whose numbers are renamed, each to one of its own.
-use Rattle.std.proofs.Common.{◌≡◌, ℕ, zero, suc, ◌+◌, min, Bool, true, false, cond, ◌&&◌, ◌||◌, nat_eq, List, [], ◌∷◌, ◌++◌, map, reverse, filter, flat_map, Some, option_map, refl, sym, ap, ◌∙◌}
+use Rattle.std.proofs.Common.{◌≡◌, ℕ, zero, suc, ◌+◌, min, Bool, true, false, cond, ◌&&◌, ◌||◌, nat_eq, List, [], ◌∷◌, ◌++◌, map, reverse, filter, flat_map, Option, None, Some, is_some, unwrap_or, option_map, refl, sym, ap, ◌∙◌}
 use Rattle.std.specs.List.{list_any, list_all}
 use Rattle.std.proofs.lemmas.List.{map-append}
 use Rattle.euler_operators.specs.Common.{count, least, rotate_to, canonical, rest, upto, onward, successor, predecessor, insert_before, head_or, orbit, lists}
@@ -13,6 +13,15 @@ use Rattle.shapes.specs.Rewriting.{renamed}
 pub pushed : {A B : Type 0} (f : A → B) (b : Bool) (x y : A) → cond b (f x) (f y) ≡ f (cond b x y)
 pushed f true x y = refl
 pushed f false x y = refl
+
+pub some_over : {A B : Type 0} (f : A → B) (o : Option A) → is_some (option_map f o) ≡ is_some o
+some_over f None = refl
+some_over f (Some x) = refl
+
+-- what is read of x, or of z where there is none
+pub read_over : {A B : Type 0} (f : A → A) (z : A) (g : A → B) (h : B → B) → g z ≡ h (g z) → ((x : A) → g (f x) ≡ h (g x)) → (o : Option A) → g (unwrap_or (option_map f o) z) ≡ h (g (unwrap_or o z))
+read_over f z g h none some None = none
+read_over f z g h none some (Some x) = some x
 
 pub mapped_over : {A B C D : Type 0} (f : B → C) (g : A → B) (h : D → C) (k : A → D) → ((x : A) → f (g x) ≡ h (k x)) → (xs : List A) → map f (map g xs) ≡ map h (map k xs)
 mapped_over f g h k e [] = refl

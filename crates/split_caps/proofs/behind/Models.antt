@@ -1,14 +1,14 @@
 -- A model that stands behind another: its rows come after those of the other, with their numbers counted past the greatest there.
 -- What it is asked it answers as it did alone.
-use Rattle.std.proofs.Common.{◌≡◌, ℕ, zero, suc, ◌+◌, ◌<◌, Bool, true, false, not, ◌&&◌, ◌||◌, nat_eq, nat_lt, List, [], ◌∷◌, ◌++◌, map, Option, None, Some, is_some, unwrap_or, option_map, refl, sym, ap, ◌∙◌, arith, true≢false, eqb-true}
+use Rattle.std.proofs.Common.{◌≡◌, ℕ, zero, suc, ◌+◌, ◌<◌, Bool, true, false, not, ◌&&◌, ◌||◌, nat_eq, nat_lt, List, [], ◌∷◌, ◌++◌, map, Option, None, Some, is_some, unwrap_or, option_map, refl, sym, ap, ◌∙◌, arith, true≢false, ne_eqb}
 use Rattle.std.proofs.lemmas.List.{map-append}
 use Rattle.euler_operators.specs.Common.{Point, Table, Model, FaceRow, LoopRow, EdgeRow, LoopContent, lone, cycle, items_of, holds, count, no_face, no_loop, no_edge, no_point, plus, edge_of, is_first, mate, tail_in, tail, loop_of, content, face_of, solid_of, outer, point_of, face_at, faces_of, rings_of, cycle_of, after, before, successor, predecessor, lists, Sound, Has, HasHalf, NumbersFit}
 use Rattle.euler_operators.specs.Table as table
-use Rattle.euler_operators.proofs.Common.{all_where_none, not_held, holds-none, row_of, face_row, solid_row, number_real, plus_row, nat_eq_turned}
+use Rattle.euler_operators.proofs.Common.{all_where_none, not_held, holds-none, row_of, face_row, solid_row, row_some, row_elsewhere, number_real, plus_row, nat_eq_turned}
 use Rattle.shapes.specs.Common.{loops_of, items_in, boundary, vertices_on, vertices_in, corners, corners_in, start, finish, edges_of}
 use Rattle.shapes.proofs.Common.{none_above}
 use Rattle.split_caps.proofs.behind.Numbers.{past, half_past, past_same, half_same, edge_past, first_past, mate_past, plus_past}
-use Rattle.split_caps.proofs.behind.Lists.{mapped_over, count_over, successor_over, predecessor_over}
+use Rattle.split_caps.proofs.behind.Lists.{mapped_over, some_over, read_over, count_over, successor_over, predecessor_over}
 use Rattle.split_caps.proofs.behind.Tables.{IsBehind, get_past, get_before, all_past, first_kept}
 use Rattle.split_caps.proofs.behind.Tables as tables
 
@@ -54,10 +54,10 @@ module _ (A : Model) where
 
 -- no number counted past the greatest is in use
 none_past : {X : Type 0} (t : Table X) → NumbersFit t → (n : ℕ) → table.get t (past (table.greatest t) n) ≡ None
-none_past {X = X} t fit zero = go (table.get t 0) refl where
-  go : (o : Option X) → table.get t 0 ≡ o → o ≡ None
-  go None e = refl
-  go (Some x) e = absurd (true≢false (sym (fit 0 (ap is_some e))))
+none_past {X = X} t fit zero = none_at_zero (table.get t 0) refl where
+  none_at_zero : (o : Option X) → table.get t 0 ≡ o → o ≡ None
+  none_at_zero None e = refl
+  none_at_zero (Some x) e = absurd (true≢false (sym (fit 0 (ap is_some e))))
 none_past {X = X} t fit (suc n) = let above : table.greatest t < suc n + table.greatest t = omega arith in none_above t (suc n + table.greatest t) above
 
 module _ (A : Model) (sound : Sound A) where
@@ -81,22 +81,17 @@ module _ (A : Model) (sound : Sound A) where
 
   -- a number in use isn't one that is counted past
   pub face_apart : (g f : ℕ) → Has A.faces g → nat_eq g (past (faces_at A) f) ≡ false
-  face_apart g f there = go (nat_eq g (past (faces_at A) f)) refl where
-    go : (b : Bool) → nat_eq g (past (faces_at A) f) ≡ b → b ≡ false
-    go false e = refl
-    go true e = sym there ∙ ap (table.has A.faces) (eqb-true g (past (faces_at A) f) e) ∙ ap is_some (no_face_past f)
+  face_apart g f there = ne_eqb g (past (faces_at A) f) (row_elsewhere A.faces g (past (faces_at A) f) there (no_face_past f))
 
   pub half_apart : (g h : ℕ) → HasHalf A g → nat_eq g (half_at A h) ≡ false
-  half_apart g h there = go (nat_eq g (half_at A h)) refl where
-    go : (b : Bool) → nat_eq g (half_at A h) ≡ b → b ≡ false
-    go false e = refl
-    go true e = sym there ∙ ap (λ x. table.has A.edges (edge_of x)) (eqb-true g (half_at A h) e) ∙ ap is_some (no_half_past h)
+  half_apart g h there = ne_eqb g (half_at A h) (λ e. row_elsewhere A.edges (edge_of g) (edge_of (half_at A h)) there (no_half_past h) (ap edge_of e))
 
   pub vertex_apart : (v w : ℕ) → Has A.vertices v → nat_eq v (past (vertices_at A) w) ≡ false
-  vertex_apart v w there = go (nat_eq v (past (vertices_at A) w)) refl where
-    go : (b : Bool) → nat_eq v (past (vertices_at A) w) ≡ b → b ≡ false
-    go false e = refl
-    go true e = sym there ∙ ap (table.has A.vertices) (eqb-true v (past (vertices_at A) w) e) ∙ ap is_some (no_vertex_past w)
+  vertex_apart v w there = ne_eqb v (past (vertices_at A) w) (row_elsewhere A.vertices v (past (vertices_at A) w) there (no_vertex_past w))
+
+  -- a face that is there is of no solid that isn't
+  pub solid_apart : (f s : ℕ) → Has A.faces f → table.has A.solids s ≡ false → nat_eq (solid_of A f) s ≡ false
+  solid_apart f s there free = ne_eqb (solid_of A f) s (λ e. true≢false (sym (sound.faces_of_solids f there) ∙ ap (table.has A.solids) e ∙ free))
 
   pub loop_face : (l : ℕ) (row : LoopRow) → table.get A.loops l ≡ Some row → Has A.faces row.face
   loop_face l row at = ap (table.has A.faces) (sym (face_row A l row at)) ∙ sound.loops_of_faces l (ap is_some at)
@@ -109,10 +104,7 @@ module _ (A : Model) (sound : Sound A) where
   none_listed (f ∷ fs) g there = (λ i. (nat_eq_turned (past (faces_at A) f) g ∙ face_apart g f there) i || none_listed fs g there i)
 
   pub none_of_solid : (s : ℕ) → table.has A.solids s ≡ false → table.all_where (λ _ row. nat_eq row.solid s) A.faces ≡ []
-  none_of_solid s free = all_where_none (λ _ row. nat_eq row.solid s) A.faces (λ f row at. go f row at (nat_eq row.solid s) refl) where
-    go : (f : ℕ) (row : FaceRow) → table.get A.faces f ≡ Some row → (b : Bool) → nat_eq row.solid s ≡ b → b ≡ false
-    go f row at false e = refl
-    go f row at true e = sym (sound.faces_of_solids f (ap is_some at)) ∙ ap (table.has A.solids) (solid_row A f row at ∙ eqb-true row.solid s e) ∙ free
+  none_of_solid s free = all_where_none (λ _ row. nat_eq row.solid s) A.faces (λ f row at. ap (λ u. nat_eq u s) (sym (solid_row A f row at)) ∙ solid_apart f s (ap is_some at) free)
 
 -- ---- what is asked of a model behind A
 
@@ -129,57 +121,36 @@ module _ (A : Model) (sound : Sound A) (N M : Model) (b : Behind A N M) where
   pub row_of_vertex : (v : ℕ) → table.get M.vertices (past (vertices_at A) v) ≡ option_map (same_place A) (table.get N.vertices v)
   row_of_vertex v = get_past A.vertices (same_place A) N.vertices M.vertices b.vertices v (no_vertex_past A sound v)
 
-  there : {X : Type 0} (f : X → X) (o : Option X) → is_some (option_map f o) ≡ is_some o
-  there f None = refl
-  there f (Some x) = refl
-
   pub has_edge : (e : ℕ) → table.has M.edges (past (edges_at A) e) ≡ table.has N.edges e
-  has_edge e = ap is_some (row_of_edge e) ∙ there (tails_past A) (table.get N.edges e)
+  has_edge e = ap is_some (row_of_edge e) ∙ some_over (tails_past A) (table.get N.edges e)
 
   pub outer_is : (f : ℕ) → outer M (past (faces_at A) f) ≡ past (loops_at A) (outer N f)
   unfolding outer
-  outer_is f = ap (λ o. (unwrap_or o no_face).outer) (row_of_face f) ∙ go (table.get N.faces f) where
-    go : (o : Option FaceRow) → (unwrap_or (option_map (face_past A) o) no_face).outer ≡ past (loops_at A) (unwrap_or o no_face).outer
-    go None = refl
-    go (Some row) = refl
+  outer_is f = ap (λ o. (unwrap_or o no_face).outer) (row_of_face f) ∙ read_over (face_past A) no_face (λ row. row.outer) (past (loops_at A)) refl (λ row. refl) (table.get N.faces f)
 
   pub solid_is : (f : ℕ) → solid_of M (past (faces_at A) f) ≡ solid_of N f
   unfolding solid_of
-  solid_is f = ap (λ o. (unwrap_or o no_face).solid) (row_of_face f) ∙ go (table.get N.faces f) where
-    go : (o : Option FaceRow) → (unwrap_or (option_map (face_past A) o) no_face).solid ≡ (unwrap_or o no_face).solid
-    go None = refl
-    go (Some row) = refl
+  solid_is f = ap (λ o. (unwrap_or o no_face).solid) (row_of_face f) ∙ read_over (face_past A) no_face (λ row. row.solid) (λ s. s) refl (λ row. refl) (table.get N.faces f)
 
   pub content_is : (l : ℕ) → content M (past (loops_at A) l) ≡ content_past A (content N l)
   unfolding content
-  content_is l = ap (λ o. (unwrap_or o no_loop).content) (row_of_loop l) ∙ go (table.get N.loops l) where
-    go : (o : Option LoopRow) → (unwrap_or (option_map (loop_past A) o) no_loop).content ≡ content_past A (unwrap_or o no_loop).content
-    go None = refl
-    go (Some row) = refl
+  content_is l = ap (λ o. (unwrap_or o no_loop).content) (row_of_loop l) ∙ read_over (loop_past A) no_loop (λ row. row.content) (content_past A) refl (λ row. refl) (table.get N.loops l)
 
   pub face_is : (l : ℕ) → face_of M (past (loops_at A) l) ≡ past (faces_at A) (face_of N l)
   unfolding face_of
-  face_is l = ap (λ o. (unwrap_or o no_loop).face) (row_of_loop l) ∙ go (table.get N.loops l) where
-    go : (o : Option LoopRow) → (unwrap_or (option_map (loop_past A) o) no_loop).face ≡ past (faces_at A) (unwrap_or o no_loop).face
-    go None = refl
-    go (Some row) = refl
+  face_is l = ap (λ o. (unwrap_or o no_loop).face) (row_of_loop l) ∙ read_over (loop_past A) no_loop (λ row. row.face) (past (faces_at A)) refl (λ row. refl) (table.get N.loops l)
 
   pub tail_is : (h : ℕ) → tail M (half_at A h) ≡ past (vertices_at A) (tail N h)
   unfolding tail
   tail_is h = (λ i. tail_in (unwrap_or (table.get M.edges (edge_past (edges_at A) h i)) no_edge) (first_past (edges_at A) h i)) ∙ ap (λ o. tail_in (unwrap_or o no_edge) (is_first h)) (row_of_edge (edge_of h))
-      ∙ go (table.get N.edges (edge_of h)) (is_first h) where
-        go : (o : Option EdgeRow) (b : Bool) → tail_in (unwrap_or (option_map (tails_past A) o) no_edge) b ≡ past (vertices_at A) (tail_in (unwrap_or o no_edge) b)
-        go None true = refl
-        go None false = refl
-        go (Some row) true = refl
-        go (Some row) false = refl
+      ∙ either_tail (is_first h) (table.get N.edges (edge_of h)) where
+        either_tail : (b : Bool) (o : Option EdgeRow) → tail_in (unwrap_or (option_map (tails_past A) o) no_edge) b ≡ past (vertices_at A) (tail_in (unwrap_or o no_edge) b)
+        either_tail true = read_over (tails_past A) no_edge (λ row. row.plus_tail) (past (vertices_at A)) refl (λ row. refl)
+        either_tail false = read_over (tails_past A) no_edge (λ row. row.minus_tail) (past (vertices_at A)) refl (λ row. refl)
 
   pub point_is : (v : ℕ) → point_of M (past (vertices_at A) v) ≡ point_of N v
   unfolding point_of
-  point_is v = ap (λ o. unwrap_or o no_point) (row_of_vertex v) ∙ go (table.get N.vertices v) where
-    go : (o : Option Point) → unwrap_or (option_map (same_place A) o) no_point ≡ unwrap_or o no_point
-    go None = refl
-    go (Some p) = refl
+  point_is v = ap (λ o. unwrap_or o no_point) (row_of_vertex v) ∙ read_over (same_place A) no_point (λ p. p) (λ p. p) refl (λ p. refl) (table.get N.vertices v)
 
   pub items_are : (c : LoopContent) → items_of (content_past A c) ≡ map (half_at A) (items_of c)
   items_are (lone v) = refl
@@ -278,16 +249,13 @@ module _ (A : Model) (sound : Sound A) (N M : Model) (b : Behind A N M) where
       face_there = sound.loops_of_faces l (ap is_some loop_there)
 
       solid : solid_of M (face_at M (plus e)) ≡ solid_of A (face_of A l)
-      solid = ap (λ k. solid_of M (face_of M k)) loop ∙ ap (solid_of M) face ∙ go (table.get A.faces (face_of A l)) refl face_there where
-        go : (o : Option FaceRow) → table.get A.faces (face_of A l) ≡ o → is_some o ≡ true → solid_of M (face_of A l) ≡ solid_of A (face_of A l)
-        go None at t = absurd (true≢false (sym t))
-        go (Some row) at t = solid_row M (face_of A l) row (get_before A.faces (face_past A) N.faces M.faces b.faces (face_of A l) row at) ∙ sym (solid_row A (face_of A l) row at)
+      solid =
+          let row = row_some (table.get A.faces (face_of A l)) face_there in
+          ap (λ k. solid_of M (face_of M k)) loop ∙ ap (solid_of M) face
+          ∙ solid_row M (face_of A l) row.0 (get_before A.faces (face_past A) N.faces M.faces b.faces (face_of A l) row.0 row.1) ∙ sym (solid_row A (face_of A l) row.0 row.1)
 
       apart : nat_eq (solid_of A (face_of A l)) s ≡ false
-      apart = go (nat_eq (solid_of A (face_of A l)) s) refl where
-        go : (b : Bool) → nat_eq (solid_of A (face_of A l)) s ≡ b → b ≡ false
-        go false e = refl
-        go true e = sym (sound.faces_of_solids (face_of A l) face_there) ∙ ap (table.has A.solids) (eqb-true (solid_of A (face_of A l)) s e) ∙ free
+      apart = solid_apart A sound (face_of A l) s face_there free
 
     pub edges_are : edges_of M s ≡ map (past (edges_at A)) (edges_of N s)
     edges_are = all_past A.edges (tails_past A) N.edges M.edges b.edges (λ e _. nat_eq (solid_of M (face_at M (plus e))) s)

@@ -52,10 +52,10 @@ module _ (k : ℕ) where
   half_rises (suc (suc g)) (suc (suc h)) l = omega arith
 
   pub half_least : (g h : ℕ) → min (half_past k g) (half_past k h) ≡ half_past k (min g h)
-  half_least g h = go (nat_le g h) refl where
-    go : (b : Bool) → nat_le g h ≡ b → min (half_past k g) (half_past k h) ≡ half_past k (min g h)
-    go true e = let l : g ≤ h = leb-true g h e in let m : g ≡ min g h = omega arith in let n : half_past k g ≤ half_past k h = half_rises g h l in let r : min (half_past k g) (half_past k h) ≡ half_past k g = omega arith in r ∙ ap (half_past k) m
-    go false e = let l : h < g = leb-false g h e in let w : h ≤ g = omega arith in let m : h ≡ min g h = omega arith in let n : half_past k h ≤ half_past k g = half_rises h g w in let r : min (half_past k g) (half_past k h) ≡ half_past k h = omega arith in
+  half_least g h = by_order (nat_le g h) refl where
+    by_order : (b : Bool) → nat_le g h ≡ b → min (half_past k g) (half_past k h) ≡ half_past k (min g h)
+    by_order true e = let l : g ≤ h = leb-true g h e in let m : g ≡ min g h = omega arith in let n : half_past k g ≤ half_past k h = half_rises g h l in let r : min (half_past k g) (half_past k h) ≡ half_past k g = omega arith in r ∙ ap (half_past k) m
+    by_order false e = let l : h < g = leb-false g h e in let w : h ≤ g = omega arith in let m : h ≡ min g h = omega arith in let n : half_past k h ≤ half_past k g = half_rises h g w in let r : min (half_past k g) (half_past k h) ≡ half_past k h = omega arith in
         r ∙ ap (half_past k) m
 
   pub past_next : (n : ℕ) → past k (n + 1) ≡ n + k + 1
@@ -81,11 +81,11 @@ module _ (k : ℕ) where
   unfolding mate is_first
   mate_past zero = refl
   mate_past (suc zero) = refl
-  mate_past (suc (suc h)) = ap (λ b. cond b (suc (suc h) + 2 * k + 1) (suc (suc h) + 2 * k - 1)) (first_past (suc (suc h))) ∙ go h (is_first (suc (suc h))) refl where
-    go : (h : ℕ) (b : Bool) → is_first (suc (suc h)) ≡ b → cond b (suc (suc h) + 2 * k + 1) (suc (suc h) + 2 * k - 1) ≡ half_past k (cond b (suc (suc h) + 1) (suc (suc h) - 1))
-    go h true e = let f : suc (suc h) + 1 ≡ suc (suc (suc h)) = omega arith in let g : suc (suc h) + 2 * k + 1 ≡ suc (suc (suc h)) + 2 * k = omega arith in g ∙ ap (half_past k) (sym f)
-    go zero false e = cc
-    go (suc h) false e = let f : suc (suc (suc h)) - 1 ≡ suc (suc h) = omega arith in let g : suc (suc (suc h)) + 2 * k - 1 ≡ suc (suc h) + 2 * k = omega arith in g ∙ ap (half_past k) (sym f)
+  mate_past (suc (suc h)) = ap (λ b. cond b (suc (suc h) + 2 * k + 1) (suc (suc h) + 2 * k - 1)) (first_past (suc (suc h))) ∙ mate_either h (is_first (suc (suc h))) refl where
+    mate_either : (h : ℕ) (b : Bool) → is_first (suc (suc h)) ≡ b → cond b (suc (suc h) + 2 * k + 1) (suc (suc h) + 2 * k - 1) ≡ half_past k (cond b (suc (suc h) + 1) (suc (suc h) - 1))
+    mate_either h true e = let f : suc (suc h) + 1 ≡ suc (suc (suc h)) = omega arith in let g : suc (suc h) + 2 * k + 1 ≡ suc (suc (suc h)) + 2 * k = omega arith in g ∙ ap (half_past k) (sym f)
+    mate_either zero false e = cc
+    mate_either (suc h) false e = let f : suc (suc (suc h)) - 1 ≡ suc (suc h) = omega arith in let g : suc (suc (suc h)) + 2 * k - 1 ≡ suc (suc h) + 2 * k = omega arith in g ∙ ap (half_past k) (sym f)
 
   pub plus_past : (e : ℕ) → half_past k (plus e) ≡ plus (past k e)
   plus_past zero = refl

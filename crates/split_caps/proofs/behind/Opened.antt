@@ -48,10 +48,10 @@ module _ (A : Model) (sound : Sound A) where
   not_copied v there (q ∷ ps) = ap (λ b. cond b (past (vertices_at A) q.1) (renamed (map (ends_at A) ps) v)) (nat_eq_turned (past (vertices_at A) q.0) v ∙ vertex_apart A sound v q.0 there) ∙ not_copied v there ps
 
   tail_stays : (M : Model) (us hs : List ℕ) (ps : List (ℕ × ℕ)) (h v : ℕ) → Has A.vertices v → opened_tail M us hs (map (ends_at A) ps) h v ≡ v
-  tail_stays M us hs ps h v there = ap (λ w. cond (lists us (face_at M h) && not (lists hs h)) w v) (not_copied v there ps) ∙ go (lists us (face_at M h) && not (lists hs h)) where
-    go : (b : Bool) → cond b v v ≡ v
-    go true = refl
-    go false = refl
+  tail_stays M us hs ps h v there = ap (λ w. cond (lists us (face_at M h) && not (lists hs h)) w v) (not_copied v there ps) ∙ either_stays (lists us (face_at M h) && not (lists hs h)) where
+    either_stays : (b : Bool) → cond b v v ≡ v
+    either_stays true = refl
+    either_stays false = refl
 
   edges_stay : (M : Model) (us hs : List ℕ) (ps : List (ℕ × ℕ)) → map_entries (opened_row M us hs (map (ends_at A) ps)) A.edges.rows ≡ A.edges.rows
   unfolding table.map_rows

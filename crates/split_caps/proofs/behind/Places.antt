@@ -17,10 +17,10 @@ pair_at A q = (half_at A q.0, half_at A q.1)
 
 -- a search that finds 0 finds nothing
 pub found_past : (k n : ℕ) → is_some (found (past k n)) ≡ is_some (found n)
-found_past k n = ap (λ t. is_some (cond t None (Some (past k n)))) (past_same k n 0) ∙ go (nat_eq n 0) where
-  go : (t : Bool) → is_some (cond t None (Some (past k n))) ≡ is_some (cond t None (Some n))
-  go true = refl
-  go false = refl
+found_past k n = ap (λ t. is_some (cond t None (Some (past k n)))) (past_same k n 0) ∙ found_either (nat_eq n 0) where
+  found_either : (t : Bool) → is_some (cond t None (Some (past k n))) ≡ is_some (cond t None (Some n))
+  found_either true = refl
+  found_either false = refl
 
 module _ (A : Model) (sound : Sound A) (N M : Model) (b : Behind A N M) where
   -- ---- normals and planes

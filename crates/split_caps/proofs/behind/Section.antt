@@ -1,12 +1,12 @@
 -- The section of a solid behind others: as where it is alone.
-use Rattle.std.proofs.Common.{◌≡◌, ℕ, ◌+◌, pos, int_lt, Bool, true, false, cond, not, ◌&&◌, nat_eq, nat_lt, List, [], ◌∷◌, ◌++◌, map, filter, flat_map, length, Option, None, Some, is_some, option_map, unwrap_or, refl, sym, ap, ◌∙◌}
+use Rattle.std.proofs.Common.{◌≡◌, ℕ, ◌+◌, pos, int_lt, Bool, true, false, cond, not, ◌&&◌, nat_eq, nat_lt, List, [], ◌∷◌, ◌++◌, map, filter, flat_map, length, is_some, unwrap_or, refl, sym, ap, ◌∙◌}
 use Rattle.std.proofs.lemmas.List.{map-append, length-map}
 use Rattle.euler_operators.specs.Common.{Plane, dot, direction, count, least, orbit, mate, plus, minus, Model, tail, face_at, lists, Sound, Has}
 use Rattle.euler_operators.specs.Table as table
 use Rattle.euler_operators.proofs.Common.{all_where_none}
 use Rattle.shapes.specs.Common.{edges_of, first_such, found, area, below_half, below_halves, section_ends, least_branched, next_below, cycle_from, section_cycles, is_hole, holes_in, has_stray_hole}
 use Rattle.split_caps.proofs.behind.Numbers.{past, past_same, half_same, half_least, mate_past, plus_past, minus_past}
-use Rattle.split_caps.proofs.behind.Lists.{mapped_over, filter_over, flat_over, such_over, count_over, lists_over, least_over, orbit_over}
+use Rattle.split_caps.proofs.behind.Lists.{mapped_over, read_over, filter_over, flat_over, such_over, count_over, lists_over, least_over, orbit_over}
 use Rattle.split_caps.proofs.behind.Tables as tables
 use Rattle.split_caps.proofs.behind.Models.{Behind, faces_at, edges_at, vertices_at, half_at, same_place, tail_is, face_at_is, edges_are, vertex_apart}
 use Rattle.split_caps.proofs.behind.Places.{area_is, found_past}
@@ -15,15 +15,15 @@ module _ (A : Model) (sound : Sound A) (N M : Model) (b : Behind A N M) where
   below_half_is : (us : List ℕ) (e : ℕ) → below_half M (map (past (faces_at A)) us) (past (edges_at A) e) ≡ map (half_at A) (below_half N us e)
   below_half_is us e = (λ i. cond (above (plus e) (plus (past (edges_at A) e)) (plus_past (edges_at A) e) i) (cond (above (minus e) (minus (past (edges_at A) e)) (minus_past (edges_at A) e) i) [] (sym (minus_past (edges_at A) e) i ∷ []))
       (cond (above (minus e) (minus (past (edges_at A) e)) (minus_past (edges_at A) e) i) (sym (plus_past (edges_at A) e) i ∷ []) []))
-      ∙ go (lists us (face_at N (plus e))) (lists us (face_at N (minus e))) where
+      ∙ either_half (lists us (face_at N (plus e))) (lists us (face_at N (minus e))) where
         above : (h g : ℕ) → half_at A h ≡ g → lists (map (past (faces_at A)) us) (face_at M g) ≡ lists us (face_at N h)
         above h g is = ap (λ x. lists (map (past (faces_at A)) us) (face_at M x)) (sym is) ∙ ap (lists (map (past (faces_at A)) us)) (face_at_is A sound N M b h) ∙ lists_over (past (faces_at A)) (past_same (faces_at A)) us (face_at N h)
 
-        go : (x y : Bool) → cond x (cond y [] (half_at A (minus e) ∷ [])) (cond y (half_at A (plus e) ∷ []) []) ≡ map (half_at A) (cond x (cond y [] (minus e ∷ [])) (cond y (plus e ∷ []) []))
-        go true true = refl
-        go true false = refl
-        go false true = refl
-        go false false = refl
+        either_half : (x y : Bool) → cond x (cond y [] (half_at A (minus e) ∷ [])) (cond y (half_at A (plus e) ∷ []) []) ≡ map (half_at A) (cond x (cond y [] (minus e ∷ [])) (cond y (plus e ∷ []) []))
+        either_half true true = refl
+        either_half true false = refl
+        either_half false true = refl
+        either_half false false = refl
 
   pub below_halves_are : (us : List ℕ) (s : ℕ) → table.has A.solids s ≡ false → below_halves M (map (past (faces_at A)) us) s ≡ map (half_at A) (below_halves N us s)
   unfolding below_halves
@@ -55,10 +55,7 @@ module _ (A : Model) (sound : Sound A) (N M : Model) (b : Behind A N M) where
 
   next_is : (bs : List ℕ) (h : ℕ) → next_below M (map (half_at A) bs) (half_at A h) ≡ half_at A (next_below N bs h)
   next_is bs h = ap (λ o. unwrap_or o 0) (such_over (half_at A) (λ c. nat_eq (tail M c) (tail M (mate (half_at A h)))) (λ c. nat_eq (tail N c) (tail N (mate h))) (starts bs h) bs)
-      ∙ go (first_such (λ c. nat_eq (tail N c) (tail N (mate h))) bs) where
-        go : (o : Option ℕ) → unwrap_or (option_map (half_at A) o) 0 ≡ half_at A (unwrap_or o 0)
-        go None = refl
-        go (Some n) = refl
+      ∙ read_over (half_at A) 0 (λ n. n) (half_at A) refl (λ n. refl) (first_such (λ c. nat_eq (tail N c) (tail N (mate h))) bs)
 
   cycle_from_is : (bs : List ℕ) (h : ℕ) → cycle_from M (map (half_at A) bs) (half_at A h) ≡ map (half_at A) (cycle_from N bs h)
   cycle_from_is bs h = ap (λ n. orbit (next_below M (map (half_at A) bs)) (half_at A h) n) (length-map bs (half_at A))

@@ -58,31 +58,31 @@ module _ {X : Type 0} (k : ℕ) (f : X → X) where
 module _ {X : Type 0} where
   find_behind : (n : ℕ) (es ds : List (ℕ × X)) → find nat_cmp n es ≡ None → find nat_cmp n (es ++ ds) ≡ find nat_cmp n ds
   find_behind n [] ds none = refl
-  find_behind n (e ∷ es) ds none = go (eq_by_cmp nat_cmp n e.0) none (find_behind n es ds) where
-    go : (b : Bool) → cond b (Some e.1) (find nat_cmp n es) ≡ None → (find nat_cmp n es ≡ None → find nat_cmp n (es ++ ds) ≡ find nat_cmp n ds) → cond b (Some e.1) (find nat_cmp n (es ++ ds)) ≡ find nat_cmp n ds
-    go true is rest = cc
-    go false is rest = rest is
+  find_behind n (e ∷ es) ds none = not_here (eq_by_cmp nat_cmp n e.0) none (find_behind n es ds) where
+    not_here : (b : Bool) → cond b (Some e.1) (find nat_cmp n es) ≡ None → (find nat_cmp n es ≡ None → find nat_cmp n (es ++ ds) ≡ find nat_cmp n ds) → cond b (Some e.1) (find nat_cmp n (es ++ ds)) ≡ find nat_cmp n ds
+    not_here true is rest = cc
+    not_here false is rest = rest is
 
   find_before : (n : ℕ) (x : X) (es ds : List (ℕ × X)) → find nat_cmp n es ≡ Some x → find nat_cmp n (es ++ ds) ≡ Some x
   find_before n x [] ds is = cc
-  find_before n x (e ∷ es) ds is = go (eq_by_cmp nat_cmp n e.0) is (find_before n x es ds) where
-    go : (b : Bool) → cond b (Some e.1) (find nat_cmp n es) ≡ Some x → (find nat_cmp n es ≡ Some x → find nat_cmp n (es ++ ds) ≡ Some x) → cond b (Some e.1) (find nat_cmp n (es ++ ds)) ≡ Some x
-    go true is rest = is
-    go false is rest = rest is
+  find_before n x (e ∷ es) ds is = here_or_later (eq_by_cmp nat_cmp n e.0) is (find_before n x es ds) where
+    here_or_later : (b : Bool) → cond b (Some e.1) (find nat_cmp n es) ≡ Some x → (find nat_cmp n es ≡ Some x → find nat_cmp n (es ++ ds) ≡ Some x) → cond b (Some e.1) (find nat_cmp n (es ++ ds)) ≡ Some x
+    here_or_later true is rest = is
+    here_or_later false is rest = rest is
 
   first_behind : (p : ℕ → X → Bool) (es ds : List (ℕ × X)) → all_in p es ≡ [] → first_in p (es ++ ds) ≡ first_in p ds
   first_behind p [] ds none = refl
-  first_behind p (e ∷ es) ds none = go (p e.0 e.1) none (first_behind p es ds) where
-    go : (b : Bool) → cond b (e.0 ∷ all_in p es) (all_in p es) ≡ [] → (all_in p es ≡ [] → first_in p (es ++ ds) ≡ first_in p ds) → cond b e.0 (first_in p (es ++ ds)) ≡ first_in p ds
-    go true is rest = cc
-    go false is rest = rest is
+  first_behind p (e ∷ es) ds none = not_here (p e.0 e.1) none (first_behind p es ds) where
+    not_here : (b : Bool) → cond b (e.0 ∷ all_in p es) (all_in p es) ≡ [] → (all_in p es ≡ [] → first_in p (es ++ ds) ≡ first_in p ds) → cond b e.0 (first_in p (es ++ ds)) ≡ first_in p ds
+    not_here true is rest = cc
+    not_here false is rest = rest is
 
   first_before : (p : ℕ → X → Bool) (es ds : List (ℕ × X)) → first_in p es ≢ 0 → first_in p (es ++ ds) ≡ first_in p es
   first_before p [] ds some = absurd (some refl)
-  first_before p (e ∷ es) ds some = go (p e.0 e.1) some (first_before p es ds) where
-    go : (b : Bool) → cond b e.0 (first_in p es) ≢ 0 → (first_in p es ≢ 0 → first_in p (es ++ ds) ≡ first_in p es) → cond b e.0 (first_in p (es ++ ds)) ≡ cond b e.0 (first_in p es)
-    go true is rest = refl
-    go false is rest = rest is
+  first_before p (e ∷ es) ds some = here_or_later (p e.0 e.1) some (first_before p es ds) where
+    here_or_later : (b : Bool) → cond b e.0 (first_in p es) ≢ 0 → (first_in p es ≢ 0 → first_in p (es ++ ds) ≡ first_in p es) → cond b e.0 (first_in p (es ++ ds)) ≡ cond b e.0 (first_in p es)
+    here_or_later true is rest = refl
+    here_or_later false is rest = rest is
 
   put_behind : (n : ℕ) (x : X) (es ds : List (ℕ × X)) → AllBelow n es → entries.put nat_cmp n x (es ++ ds) ≡ es ++ entries.put nat_cmp n x ds
   put_behind n x [] ds b = refl
@@ -143,10 +143,10 @@ module _ {X : Type 0} (a : Table X) (f : X → X) (t u : Table X) (is : IsBehind
 -- rows that a rewriting leaves, since none passes its test
 pub none_turned : {X : Type 0} (p : ℕ → X → Bool) (y : ℕ → X → X) (es : List (ℕ × X)) → all_in p es ≡ [] → map_entries (λ n x. cond (p n x) (y n x) x) es ≡ es
 none_turned p y [] none = refl
-none_turned p y (e ∷ es) none = go (p e.0 e.1) none (none_turned p y es) where
-  go : (b : Bool) → cond b (e.0 ∷ all_in p es) (all_in p es) ≡ [] → (all_in p es ≡ [] → map_entries (λ n x. cond (p n x) (y n x) x) es ≡ es) → (e.0, cond b (y e.0 e.1) e.1) ∷ map_entries (λ n x. cond (p n x) (y n x) x) es ≡ e ∷ es
-  go true is rest = cc
-  go false is rest = ap (λ t. e ∷ t) (rest is)
+none_turned p y (e ∷ es) none = row_left (p e.0 e.1) none (none_turned p y es) where
+  row_left : (b : Bool) → cond b (e.0 ∷ all_in p es) (all_in p es) ≡ [] → (all_in p es ≡ [] → map_entries (λ n x. cond (p n x) (y n x) x) es ≡ es) → (e.0, cond b (y e.0 e.1) e.1) ∷ map_entries (λ n x. cond (p n x) (y n x) x) es ≡ e ∷ es
+  row_left true is rest = cc
+  row_left false is rest = ap (λ t. e ∷ t) (rest is)
 
 module _ {X : Type 0} (a : Table X) (f : X → X) (t u : Table X) (is : IsBehind a f t u) where
   -- a row put at a number that is told
@@ -156,7 +156,7 @@ module _ {X : Type 0} (a : Table X) (f : X → X) (t u : Table X) (is : IsBehind
   -- the greatest number
   pub greatest_of : table.greatest t ≢ 0 → table.greatest u ≡ table.greatest t + table.greatest a
   unfolding table.greatest
-  greatest_of some = ap greatest_in is ∙ go a.rows t.rows some where
-    go : (es ds : List (ℕ × X)) → greatest_in ds ≢ 0 → greatest_in (es ++ shifted (greatest_in a.rows) f ds) ≡ greatest_in ds + greatest_in a.rows
-    go es [] some = absurd (some refl)
-    go es (d ∷ ds) some = greatest_behind es (past (greatest_in a.rows) d.0, f d.1) (shifted (greatest_in a.rows) f ds) ∙ greatest_shifted (greatest_in a.rows) f (d ∷ ds) ∙ past_real (greatest_in a.rows) (greatest_in (d ∷ ds)) some
+  greatest_of some = ap greatest_in is ∙ greatest_of_rows a.rows t.rows some where
+    greatest_of_rows : (es ds : List (ℕ × X)) → greatest_in ds ≢ 0 → greatest_in (es ++ shifted (greatest_in a.rows) f ds) ≡ greatest_in ds + greatest_in a.rows
+    greatest_of_rows es [] some = absurd (some refl)
+    greatest_of_rows es (d ∷ ds) some = greatest_behind es (past (greatest_in a.rows) d.0, f d.1) (shifted (greatest_in a.rows) f ds) ∙ greatest_shifted (greatest_in a.rows) f (d ∷ ds) ∙ past_real (greatest_in a.rows) (greatest_in (d ∷ ds)) some
