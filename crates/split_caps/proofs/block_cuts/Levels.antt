@@ -158,13 +158,14 @@ upper_direction y_down = point (pos 0) (negsuc 0) (pos 0)
 upper_direction z_up = point (pos 0) (pos 0) (pos 1)
 upper_direction z_down = point (pos 0) (pos 0) (negsuc 0)
 
+-- the upper side lies towards greater coordinates
 abbrev pub rises : Way → Bool
 rises x_up = true
 rises y_up = true
 rises z_up = true
 rises w = false
 
--- what takes the sides of a box, along x, y and z, given the one below the plane and the other one across the axis, and then those along the others
+-- f of the sides of a box along x, y and z, told as the two across the axis, that below the plane first, and then those along the other axes
 abbrev pub arranged : {X : Type 0} → Way → (ℤ → ℤ → ℤ → ℤ → ℤ → ℤ → X) → ℤ → ℤ → ℤ → ℤ → ℤ → ℤ → X
 arranged x_up f near far a b c d = f near far a b c d
 arranged x_down f near far a b c d = f far near a b c d
