@@ -155,8 +155,7 @@ ring_and_face M l f =
     need (table.has M.loops l) NoLoop l
     ∷ need (table.has M.faces f) NoFace f
     ∷ need (nat_eq (solid_of M (face_of M l)) (solid_of M f)) DifferentSolids (solid_of M f)
-    ∷ need (is_ring_of M (face_of M l) l) NotRing l
-    ∷ []
+    ∷ need (is_ring_of M (face_of M l) l) NotRing l ∷ []
 
 -- the conditions of an operator, each as the refusal that it gives where it is false
 unfoldable pub conditions : Model → Op → List Condition
@@ -166,13 +165,11 @@ conditions M (Mvfs s f l v p) =
     ∷ never (table.has M.faces f) FaceTaken f
     ∷ never (table.has M.loops l) LoopTaken l
     ∷ never (table.has M.vertices v) VertexTaken v
-    ∷ need (is_in_range p) PointRange v
-    ∷ []
+    ∷ need (is_in_range p) PointRange v ∷ []
 conditions M (Kvfs s) =
     numbers_in_range (s ∷ []) ++
     need (table.has M.solids s) NoSolid s
-    ∷ need (bare_face M (faces_of M s)) NotBare s
-    ∷ []
+    ∷ need (bare_face M (faces_of M s)) NotBare s ∷ []
 conditions M (Mev c d h v p) =
     numbers_in_range (corner_number c ∷ corner_number d ∷ h.edge ∷ v ∷ []) ++
     corner_known M c
@@ -182,14 +179,12 @@ conditions M (Mev c d h v p) =
     ∷ never (table.has M.edges h.edge) EdgeTaken h.edge
     ∷ never (table.has M.vertices v) VertexTaken v
     ∷ need (is_in_range p) PointRange v
-    ∷ need (nat_eq (corner_tail M c) (corner_tail M d)) DifferentTails (corner_tail M d)
-    ∷ []
+    ∷ need (nat_eq (corner_tail M c) (corner_tail M d)) DifferentTails (corner_tail M d) ∷ []
 conditions M (Kev h) =
     numbers_in_range (h.edge ∷ []) ++
     need (table.has M.edges h.edge) NoEdge h.edge
     ∷ need (nat_eq (parallel M (code h)) 0) ParallelEdge (parallel M (code h))
-    ∷ never (kept_end_bare M (code h)) KeptEndBare (tail M (code h))
-    ∷ []
+    ∷ never (kept_end_bare M (code h)) KeptEndBare (tail M (code h)) ∷ []
 conditions M (Mef g k h f l) =
     numbers_in_range (g.edge ∷ k.edge ∷ h.edge ∷ f ∷ l ∷ []) ++
     need (table.has M.edges g.edge) NoEdge g.edge
@@ -198,20 +193,17 @@ conditions M (Mef g k h f l) =
     ∷ never (table.has M.faces f) FaceTaken f
     ∷ never (table.has M.loops l) LoopTaken l
     ∷ need (nat_eq (loop_of M (code g)) (loop_of M (code k))) DifferentLoops (loop_of M (code k))
-    ∷ never (nat_eq (tail M (code g)) (tail M (code k))) SameTail (tail M (code g))
-    ∷ []
+    ∷ never (nat_eq (tail M (code g)) (tail M (code k))) SameTail (tail M (code g)) ∷ []
 conditions M (Kef h) =
     numbers_in_range (h.edge ∷ []) ++
     need (table.has M.edges h.edge) NoEdge h.edge
     ∷ never (nat_eq (face_at M (code h)) (face_at M (mate (code h)))) SameFace (face_at M (code h))
-    ∷ never (has_rings M (face_at M (mate (code h)))) HasRings (face_at M (mate (code h)))
-    ∷ []
+    ∷ never (has_rings M (face_at M (mate (code h)))) HasRings (face_at M (mate (code h))) ∷ []
 conditions M (Kemr h l) =
     numbers_in_range (h.edge ∷ l ∷ []) ++
     need (table.has M.edges h.edge) NoEdge h.edge
     ∷ never (table.has M.loops l) LoopTaken l
-    ∷ need (nat_eq (loop_of M (code h)) (loop_of M (mate (code h)))) DifferentLoops (loop_of M (mate (code h)))
-    ∷ []
+    ∷ need (nat_eq (loop_of M (code h)) (loop_of M (mate (code h)))) DifferentLoops (loop_of M (mate (code h))) ∷ []
 conditions M (Mekr c d h) =
     numbers_in_range (corner_number c ∷ corner_number d ∷ h.edge ∷ []) ++
     corner_known M c
@@ -222,22 +214,19 @@ conditions M (Mekr c d h) =
     ∷ never (nat_eq (corner_loop M c) (corner_loop M d)) SameLoop (corner_loop M d)
     ∷ need (nat_eq (face_of M (corner_loop M c)) (face_of M (corner_loop M d))) DifferentFaces (face_of M (corner_loop M d))
     ∷ need (is_ring_of M (face_of M (corner_loop M d)) (corner_loop M d)) NotRing (corner_loop M d)
-    ∷ never (nat_eq (corner_tail M c) (corner_tail M d)) SameTail (corner_tail M c)
-    ∷ []
+    ∷ never (nat_eq (corner_tail M c) (corner_tail M d)) SameTail (corner_tail M c) ∷ []
 conditions M (Kfmrh f g) =
     numbers_in_range (f ∷ g ∷ []) ++
     need (table.has M.faces f) NoFace f
     ∷ need (table.has M.faces g) NoFace g
     ∷ never (nat_eq f g) SameFace f
     ∷ need (nat_eq (solid_of M f) (solid_of M g)) DifferentSolids (solid_of M g)
-    ∷ never (has_rings M g) HasRings g
-    ∷ []
+    ∷ never (has_rings M g) HasRings g ∷ []
 conditions M (Mfkrh l f) =
     numbers_in_range (l ∷ f ∷ []) ++
     need (table.has M.loops l) NoLoop l
     ∷ never (table.has M.faces f) FaceTaken f
-    ∷ need (is_ring_of M (face_of M l) l) NotRing l
-    ∷ []
+    ∷ need (is_ring_of M (face_of M l) l) NotRing l ∷ []
 conditions M (RingIn l f) = ring_and_face M l f ++ never (nat_eq (face_of M l) f) SameFace f ∷ []
 conditions M (RingOut l f) = ring_and_face M l f
 conditions M (Outer l f) = ring_and_face M l f
@@ -245,8 +234,7 @@ conditions M (Merge s t) =
     numbers_in_range (s ∷ t ∷ []) ++
     need (table.has M.solids s) NoSolid s
     ∷ need (table.has M.solids t) NoSolid t
-    ∷ never (nat_eq s t) SameSolid s
-    ∷ []
+    ∷ never (nat_eq s t) SameSolid s ∷ []
 conditions M (Part s t fs) =
     numbers_in_range (s ∷ t ∷ fs) ++
     (need (table.has M.solids s) NoSolid s

@@ -56,8 +56,7 @@ numbers_left c n =
     need (nat_le (c.face + n.faces) 1000000) NumbersSpent 2
     ∷ need (nat_le (c.loop + n.loops) 1000000) NumbersSpent 3
     ∷ need (nat_le (c.edge + n.edges) 1000000) NumbersSpent 4
-    ∷ need (nat_le (c.vertex + n.vertices) 1000000) NumbersSpent 5
-    ∷ []
+    ∷ need (nat_le (c.vertex + n.vertices) 1000000) NumbersSpent 5 ∷ []
 
 -- a model in the making, and the numbers taken so far
 pub record Growing : Type 0 where
