@@ -27,8 +27,8 @@ BY_NAME = frozenset({'Rattle.script_laws.specs.Scripts.answers', 'Rattle.script_
                      'Rattle.script_running.specs.Output.output_of', 'Rattle.script_running.specs.Output.summary_of'})
 # When a larger command is refused, and what it makes: the same for lists of calls and for scripts.
 LARGER = ('shapes.specs.Lamina.lamina_conditions', 'shapes.specs.Lamina.lamina_model', 'shapes.specs.Block.block_conditions', 'shapes.specs.Block.block_model',
-          'shapes.specs.Prism.prism_conditions', 'shapes.specs.Prism.prism_model', 'gluing.specs.glue_checks.Conditions.early_conditions',
-          'shapes.specs.glue.Glue.glue_conditions', 'shapes.specs.glue.Glue.glue_model', 'split_checks.specs.begin_checks.Conditions.early_conditions',
+          'shapes.specs.Prism.prism_conditions', 'shapes.specs.Prism.prism_model', 'shapes.specs.glue.Glue.early_glue_conditions',
+          'shapes.specs.glue.Glue.glue_conditions', 'shapes.specs.glue.Glue.glue_model', 'shapes.specs.split.Split.early_split_conditions',
           'shapes.specs.split.Split.split_conditions', 'shapes.specs.split.Split.split_model')
 SHARED = frozenset(f'Rattle.{name}' for name in LARGER)
 SHARED_PAGE = PAGES / 'larger_commands.md'

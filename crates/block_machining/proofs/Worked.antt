@@ -14,14 +14,14 @@ use Rattle.euler_operators.specs.declared.Op.TheVariants.{Kfmrh, Merge}
 use Rattle.euler_operators.specs.Common.{Has, Model, Plane, Point, LoopRow, dot, is_in_range, is_lone, lists, no_loop, first_false, rotate_to, canonical, rest, mate, code, half, edge_of, is_first, empty_model, content, tail, loop_of, face_of, solid_of, outer, arc, holds, after, before, point_of, conditions, has_rings, effect, inverse, mvfs, kvfs_at, mev_lone, mev_at, kev, mef, kef, kemr, mekr, kfmrh, mfkrh, ring_in, ring_out, take_outer, merge, part}
 use Rattle.solid_measure.specs.solid_counts.Counts.{counts}
 use Rattle.split_caps.specs.Capped.{caps_of}
-use Rattle.shapes.specs.Common.{AreLeft, Needed, Taken, is_plane_of, lamina_face, glue_conditions, glue_model, loops_of, boundary, corners, taken_in, lamina_conditions, lamina_model, prism_conditions, with_side, raised, prism_model, block_conditions, block_model, normal, plane_of, is_flat, straddles, face_is_above, is_place, place_point, places, is_touched, is_cut_often, is_crossed, sorted_pairs, place_pairs, next_cut, with_crossings, drawn_pairs, join_next, draw_next, next_drawn, with_drawings, below_halves, section_cycles, is_hole, opened_along, next_opened, first_conditions, section_conditions, split_conditions, split_model}
+use Rattle.shapes.specs.Common.{AreLeft, Needed, Taken, is_plane_of, lamina_face, early_glue_conditions, glue_conditions, glue_model, loops_of, boundary, corners, taken_in, lamina_conditions, lamina_model, prism_conditions, with_side, raised, prism_model, block_conditions, block_model, normal, plane_of, is_flat, straddles, face_is_above, is_place, place_point, places, is_touched, is_cut_often, is_crossed, sorted_pairs, place_pairs, next_cut, with_crossings, drawn_pairs, join_next, draw_next, next_drawn, with_drawings, below_halves, section_cycles, is_hole, opened_along, next_opened, early_split_conditions, first_conditions, section_conditions, split_conditions, split_model}
 use Rattle.euler_operators.specs.Table as table
 use Rattle.block_machining.specs.Halving.{HasRoom}
 use Rattle.block_machining.specs.Machines.{blank, bossed, lengthened, merged, paired, parted, score, spur, stacked, triangular}
 
 -- opens the definitions that the machines compute by
 unfoldable pub computed : ℕ
-unfolding mate code half edge_of is_first rotate_to canonical rest holds after before table.empty table.get table.put table.remove table.map_rows table.first_where table.all_where table.greatest empty_model content tail loop_of face_of solid_of outer arc conditions first_false has_rings effect inverse mvfs kvfs_at mev_lone mev_at kev mef kef kemr mekr kfmrh mfkrh ring_in ring_out take_outer merge part point_of loops_of boundary corners taken_in lamina_conditions lamina_model prism_conditions with_side raised prism_model block_conditions block_model normal plane_of is_flat six_volume straddles face_is_above is_place place_point places is_touched is_cut_often is_crossed sorted_pairs place_pairs next_cut with_crossings drawn_pairs join_next draw_next next_drawn with_drawings below_halves section_cycles is_hole opened_along next_opened first_conditions section_conditions split_conditions split_model
+unfolding mate code half edge_of is_first rotate_to canonical rest holds after before table.empty table.get table.put table.remove table.map_rows table.first_where table.all_where table.greatest empty_model content tail loop_of face_of solid_of outer arc conditions first_false has_rings effect inverse mvfs kvfs_at mev_lone mev_at kev mef kef kemr mekr kfmrh mfkrh ring_in ring_out take_outer merge part point_of loops_of boundary corners taken_in lamina_conditions lamina_model prism_conditions with_side raised prism_model block_conditions block_model normal plane_of is_flat six_volume straddles face_is_above is_place place_point places is_touched is_cut_often is_crossed sorted_pairs place_pairs next_cut with_crossings drawn_pairs join_next draw_next next_drawn with_drawings below_halves section_cycles is_hole opened_along next_opened early_split_conditions first_conditions section_conditions split_conditions split_model
 computed = 0
 
 left : (m : Machine) (c : Taken) (n : Needed) → taken_in (held m) ≡ c → AreLeft c n → AreLeft (taken_in (held m)) n
@@ -102,30 +102,30 @@ unfolding computed blank
 spur_apart = refl
 
 pub split_accepted : split_refusal lengthened 1 (plane_with (pos 1) (pos 0) (pos 0) (neg_ℤ (pos 2))) 2 ≡ None
-unfolding computed glue_conditions glue_model blank paired lengthened
+unfolding computed early_glue_conditions glue_conditions glue_model blank paired lengthened
 split_accepted = refl
 
 pub near_is : six_volume (held parted) 1 ≡ pos 72
-unfolding computed glue_conditions glue_model blank paired lengthened parted
+unfolding computed early_glue_conditions glue_conditions glue_model blank paired lengthened parted
 near_is = refl
 
 pub far_is : six_volume (held parted) 2 ≡ pos 108
-unfolding computed glue_conditions glue_model blank paired lengthened parted
+unfolding computed early_glue_conditions glue_conditions glue_model blank paired lengthened parted
 far_is = refl
 
 -- ---- the parts alone
 
 pub near_counts : counts (held parted) 1 ≡ record { v = 8; e = 12; f = 6; r = 0; sum = pos 2 }
-unfolding computed glue_conditions glue_model blank paired lengthened parted counts
+unfolding computed early_glue_conditions glue_conditions glue_model blank paired lengthened parted counts
 near_counts = refl
 
 pub far_counts : counts (held parted) 2 ≡ record { v = 12; e = 20; f = 10; r = 0; sum = pos 2 }
-unfolding computed glue_conditions glue_model blank paired lengthened parted counts
+unfolding computed early_glue_conditions glue_conditions glue_model blank paired lengthened parted counts
 far_counts = refl
 
 -- the section is one cycle, and no hole
 pub one_cap : caps_of (held lengthened) 1 (plane_with (pos 1) (pos 0) (pos 0) (neg_ℤ (pos 2))) ≡ record { lower = 16; upper = 20; hole = false } ∷ []
-unfolding computed glue_conditions glue_model blank paired lengthened
+unfolding computed early_glue_conditions glue_conditions glue_model blank paired lengthened
 one_cap = refl
 
 -- ---- an edge across the top

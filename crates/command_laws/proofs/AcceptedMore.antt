@@ -7,7 +7,7 @@ use Rattle.euler_operators.specs.Table as table
 use Rattle.euler_operators.proofs.Common.{content_row, face_row, first_where_zero, IsIn_head, IsIn_rest}
 use Rattle.euler_laws.proofs.Common.{◌also◌, none_refuses, listed_passes, listed-from_in}
 use Rattle.shapes.proofs.Common.{left_numbers_hold}
-use Rattle.shapes.specs.Common.{AreLeft, start, corners, least_lone, faces_of_both, taken_in, first_such, found, is_flat, prism_conditions, glue_conditions, outline, has_repeats, is_rotation}
+use Rattle.shapes.specs.Common.{AreLeft, start, corners, least_lone, faces_of_both, taken_in, first_such, found, is_flat, prism_conditions, early_glue_conditions, glue_conditions, outline, has_repeats, is_rotation}
 use Rattle.sweeps_laws.specs.prism.Ready.{needed_for_sides}
 use Rattle.undo_journal.specs.Machine.{held}
 use Rattle.command_laws.specs.NewFaces.{IsFaceOf}
@@ -88,7 +88,7 @@ module _ (M : Model) (sound : Sound M) (f s : ℕ) (ps : List Point) (face : IsF
   ringless = ap (λ rs. not (not (is_empty rs))) face.plain
 
 pub glues_fit : GluesFit
-unfolding glue_conditions taken_in
+unfolding glue_conditions early_glue_conditions taken_in
 glues_fit m f g s t ps qs sound first second apart flat_s flat_t once_f once_g turned left =
     let M = held m in
     let out_f = outline_is M sound f s ps first flat_s in

@@ -1,26 +1,17 @@
 -- The solids and the faces that are there after a glue.
 use Rattle.std.proofs.Common.{◌≡◌, ◌≢◌, ℕ, cond, Option, Some, None, is_some, refl, ap, ◌∙◌, ne_eqb, arith, nat_eq, unwrap_or, option_map}
-use Rattle.std.proofs.lemmas.Bool.{eqb-false, not-true}
 use Rattle.euler_operators.specs.Table as table
 use Rattle.euler_operators.specs.Common.{Model, FaceRow, no_face, solid_of, Sound, Has, faces_to_solid}
 use Rattle.euler_operators.proofs.Common.{get-remove_here, get-remove_other}
-use Rattle.euler_laws.proofs.Common.{all_hold}
-use Rattle.shapes.specs.Common.{glue_conditions, glue_refusal, glue_model}
+use Rattle.shapes.specs.Common.{glue_refusal, glue_model}
+use Rattle.shapes.proofs.glue.Facts.{glue_goes}
 use Rattle.undo_journal.specs.Machine.{held}
 use Rattle.command_laws.specs.Solids.{GluesJoinSolids}
 use Rattle.command_laws.specs.Kept.{GlueKeepsFaces}
 
-first_there : (M : Model) (f g : ℕ) → glue_refusal M f g ≡ None → Has M.faces f
-unfolding glue_conditions
-first_there M f g e = (all_hold (glue_conditions M f g) e).1.1.0
-
-solids_apart : (M : Model) (f g : ℕ) → glue_refusal M f g ≡ None → solid_of M f ≢ solid_of M g
-unfolding glue_conditions
-solids_apart M f g e = eqb-false (solid_of M f) (solid_of M g) (not-true _ (all_hold (glue_conditions M f g) e).1.1.1.1.0)
-
 first_stays : (M : Model) (f g : ℕ) → Sound M → glue_refusal M f g ≡ None → Has (glue_model M f g).solids (solid_of M f)
 unfolding glue_model
-first_stays M f g sound e = ap is_some (get-remove_other M.solids (solid_of M g) (solid_of M f) (solids_apart M f g e)) ∙ sound.faces_of_solids f (first_there M f g e)
+first_stays M f g sound e = let goes = glue_goes M f g e in ap is_some (get-remove_other M.solids (solid_of M g) (solid_of M f) goes.solids_apart) ∙ sound.faces_of_solids f goes.f_there
 
 second_goes : (M : Model) (f g : ℕ) → table.get (glue_model M f g).solids (solid_of M g) ≡ None
 unfolding glue_model

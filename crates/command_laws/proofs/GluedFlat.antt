@@ -5,9 +5,9 @@ use Rattle.std.proofs.lemmas.Bool.Decides.{eqb_tells}
 use Rattle.euler_operators.specs.Table as table
 use Rattle.euler_operators.specs.Common.{Table, Model, LoopContent, LoopRow, no_face, lone, cycle, content, face_of, outer, solid_of, Sound, Has, is_lone, lists}
 use Rattle.euler_operators.proofs.Common.{content_row, face_row, loop_number, get-remove_here, row_some, zero_first_where}
-use Rattle.euler_laws.proofs.Common.{all_hold, listed_as, face_there, solid_either}
-use Rattle.shapes.specs.Common.{faces_of_both, least_lone, rewritten, rewritten_row, is_flat, glue_conditions, glue_model, partner, rim}
-use Rattle.shapes.proofs.Common.{none_found, none_is_lone}
+use Rattle.euler_laws.proofs.Common.{listed_as, face_there, solid_either}
+use Rattle.shapes.specs.Common.{faces_of_both, rewritten, rewritten_row, is_flat, glue_model, partner, rim}
+use Rattle.shapes.proofs.glue.Facts.{glue_goes}
 use Rattle.gluing_laws.proofs.glue.Glued.{glued_sound}
 use Rattle.gluing_laws.proofs.Seams as seams
 use Rattle.gluing_laws.proofs.Measures as measures
@@ -96,10 +96,6 @@ module _ (before after : Machine) (f g : ℕ) (sound : Sound (held before)) (mad
 
   -- ---- its loops
 
-  none_lone : table.first_where (λ _ row. is_lone row.content && lists fs row.face) M.loops ≡ 0
-  unfolding glue_conditions
-  none_lone = none_is_lone M fs (none_found (least_lone M fs) (all_hold (glue_conditions M f g) made.0).1.1.1.1.1.1.1.0)
-
   loops_left : Table LoopRow
   loops_left = table.remove (table.remove M.loops (outer M f)) (outer M g)
 
@@ -121,7 +117,7 @@ module _ (before after : Machine) (f g : ℕ) (sound : Sound (held before)) (mad
       let same : k ≡ row.face = face_row N l (rewritten_row new l row) now in
       let listed = listed_as (λ _ row. nat_eq row.solid s || nat_eq row.solid t) M.faces k _ (face_there M k (was_left k there).0) ∙ either_listed (solid_of M k) s t (was_either k there of) in
       ap is_lone (content_row N l (rewritten_row new l row) now) ∙ lone_still new row.content
-      ∙ first_fails (is_lone row.content) (lists fs row.face) (zero_first_where (λ _ row. is_lone row.content && lists fs row.face) M.loops (loop_number M sound) none_lone l row at) (ap (lists fs) (sym same) ∙ listed)
+      ∙ first_fails (is_lone row.content) (lists fs row.face) (zero_first_where (λ _ row. is_lone row.content && lists fs row.face) M.loops (loop_number M sound) (glue_goes M f g made.0).none_lone l row at) (ap (lists fs) (sym same) ∙ listed)
 
   sound_after : Sound N
   sound_after = glued_sound M f g sound made.0

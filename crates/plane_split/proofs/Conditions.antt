@@ -1,11 +1,10 @@
--- The conditions of a split: those that are tested first and what they say, and those that are tested once the faces are drawn.
+-- The conditions of a split: those that are tested first, and those that are tested once the faces are drawn.
 use Rattle.std.proofs.Common.{◌≡◌, ℕ, true, Some, Result, Err, sym, ap, ◌∙◌}
-use Rattle.euler_operators.specs.Common.{Plane, IsCutPlane, Model, Sound, Has, AllHold, first_refusal}
-use Rattle.euler_operators.proofs.Common.{coordinate_within, offset_within}
+use Rattle.euler_operators.specs.Common.{Plane, Model, Sound, first_refusal}
 use Rattle.euler_operators.specs.Table as table
 use Rattle.euler_operators.specs.declared.Refusal.{Refusal}
-use Rattle.euler_laws.proofs.Common.{all_hold}
 use Rattle.shapes.proofs.Common.{first_refusal-append, first_refusal-refused}
+use Rattle.shapes.proofs.split.Facts.{split_begins}
 use Rattle.shapes.specs.Common.{with_crossings, Drawing, straddling_pairs, with_drawings, first_conditions, later_conditions, split_conditions, split_refusal}
 use Rattle.split_drawing_laws.specs.crossings.Laws.{CanBegin}
 use Rattle.split_drawing_laws.proofs.crossings.Whole.{crossings_keep}
@@ -35,21 +34,10 @@ module _ (M : Model) (s : ℕ) (p : Plane) (t : ℕ) where
     unfolding split_conditions
     later_decide d e = ap (λ x. first_refusal (later_conditions s p x)) e ∙ sym (first_refusal-append (first_conditions M s p t) (later_conditions s p (with_drawings M s p)) begun)
 
-    first : AllHold (first_conditions M s p t)
-    first = all_hold (first_conditions M s p t) begun
-
-    pub plane_within : IsCutPlane p
-    unfolding first_conditions
-    plane_within = ((coordinate_within p.a first.1.1.1.1.0, coordinate_within p.b first.1.1.1.1.1.0, coordinate_within p.c first.1.1.1.1.1.1.0), offset_within p.d first.1.1.1.1.1.1.1.0)
-
-    pub s_there : Has M.solids s
-    unfolding first_conditions
-    s_there = first.1.1.0
-
     drawn_keeps : Sound M → KeepsSolids (with_crossings M s p).model (with_drawings M s p).model
     unfolding with_drawings
     drawn_keeps sound = drawing_keeps p (with_crossings M s p) (straddling_pairs M s p) (can_be_drawn M s p t sound begun)
 
     -- the solid is there once its faces are drawn
     pub still_there : Sound M → (d : Drawing) → d ≡ put_aside (with_drawings M s p) → table.has d.model.solids s ≡ true
-    still_there sound d e = ap (λ x. table.has x.model.solids s) e ∙ ap (λ u. table.has u s) ((drawn_keeps sound).solids ∙ (crossings_keep M s p t sound begun).solids) ∙ s_there
+    still_there sound d e = ap (λ x. table.has x.model.solids s) e ∙ ap (λ u. table.has u s) ((drawn_keeps sound).solids ∙ (crossings_keep M s p t sound begun).solids) ∙ (split_begins M s p t begun).s_there

@@ -5,7 +5,7 @@ use Rattle.euler_operators.specs.declared.Op.{Op}
 use Rattle.euler_operators.specs.declared.Op.TheVariants.{Part}
 use Rattle.euler_laws.specs.Laws.{AreAccepted, effects}
 use Rattle.euler_laws.proofs.Common.{effects-append, AreAccepted-back}
-use Rattle.shapes.specs.Common.{faces_above, below_halves, section_cycles, Drawing, with_drawings, Caps, all_opened, opened_at, upper_left, split_above, split_refusal, split_model}
+use Rattle.shapes.specs.Common.{faces_above, below_halves, section_cycles, Drawing, with_drawings, Caps, all_opened, opened_at, upper_left, split_refusal, split_model}
 use Rattle.split_drawing_laws.specs.pairs.Laws.{rewriting_ops}
 use Rattle.split_drawing_laws.proofs.pairs.Whole.{rewritings_made}
 use Rattle.split_drawing_laws.proofs.drawings.Runs.{Leads}
@@ -17,7 +17,7 @@ use Rattle.split_sections.specs.section_checks.Sections.{IsSection, cycles_of}
 use Rattle.split_sections.specs.declared.section_checks.section.Section.{Section}
 use Rattle.split_drawing.specs.solid_drawing.Drawn.{put_aside}
 use Rattle.plane_split.specs.solid_opening.Capped.{opened_section, unopened}
-use Rattle.split_laws.specs.SplitOps.{openings_ops, hole_ops, upper_ops, ops_above, split_ops}
+use Rattle.split_laws.specs.SplitOps.{openings_ops, hole_ops, upper_ops, ops_above, split_above, split_ops}
 use Rattle.split_laws.proofs.Openings.{openings_go}
 use Rattle.split_laws.proofs.Whole.{split_accepted, split_made}
 use Rattle.plane_split.specs.Drawn.{IsDrawn}

@@ -2,8 +2,9 @@
 ghost use Rattle.std.specs.Prelude.{◌≡◌, [], None, Some, Ok, Err, OnOk, OnErr, IfOk};
 ghost use Rattle.euler_operators.specs.Common.{Sound, verdict};
 ghost use Rattle.euler_operators.specs.declared.Refusal.{Refusal};
-ghost use Rattle.shapes.specs.Common.{split_above, split_model, split_refusal};
+ghost use Rattle.shapes.specs.Common.{split_model, split_refusal};
 ghost use Rattle.split_drawing_laws.specs.crossings.Laws.{CanBegin};
+ghost use Rattle.split_laws.specs.SplitOps.{split_above};
 ghost use Rattle.split_drawing.specs.Cuts.{AreCuts};
 ghost use Rattle.split_drawing.specs.Noted.{AreSides};
 ghost use Rattle.split_drawing.specs.Progress.{drawing_of};

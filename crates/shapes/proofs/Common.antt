@@ -1,7 +1,7 @@
 -- The lemmas of this crate that other crates cite, passed on from one place. Declares nothing.
 pub use Rattle.shapes.proofs.Areas.{area-append, area_push, moved_turned}
 pub use Rattle.shapes.proofs.fresh.Rows.{all_where-put_last, at_most_greatest, free_above, get-put_cases, greatest-put_last, greatest_is, greatest_used, none_above}
-pub use Rattle.shapes.proofs.fresh.Tests.{first_refusal-append, first_refusal-refused, left_numbers_hold, none_found, none_is_lone, none_such, number_fits, numbers_are_left, zero_found}
+pub use Rattle.shapes.proofs.fresh.Tests.{first_refusal-append, first_refusal-front, first_refusal-refused, left_numbers_hold, none_found, none_is_lone, none_such, number_fits, numbers_are_left, zero_found}
 pub use Rattle.shapes.proofs.glue.Facing.{Facing, side}
 pub use Rattle.shapes.proofs.glue.Points.{same_is, same_lists}
 pub use Rattle.shapes.proofs.glue.Renamings.{map_stays, none_replaced, renamed_cases, renamed_last, renamed_more, renamed_not, replaced, row_unrenamed, tail_renamed, without_first, without_gone, without_more, without_there}

@@ -7,7 +7,7 @@ pub use Rattle.shapes.specs.Fresh.{AreFree, AreLeft, Growing, Needed, Taken, fir
 unfoldable pub use Rattle.shapes.specs.Fresh.{taken_in}
 pub use Rattle.shapes.specs.Lamina.{first_far, first_repeated, lamina_at, lamina_face, lamina_refusal, with_path, with_points, with_ring}
 unfoldable pub use Rattle.shapes.specs.Lamina.{lamina_conditions, lamina_model}
-pub use Rattle.shapes.specs.Measure.{anchor, area, first_vertex, is_plane_of, plane_through, volume_in}
+pub use Rattle.shapes.specs.Measure.{anchor, area, faces_are_flat, first_vertex, is_plane_of, plane_through, volume_in}
 unfoldable pub use Rattle.shapes.specs.Measure.{is_flat, normal, plane_of, six_volume}
 pub use Rattle.shapes.specs.Prism.{lifted, next_place, prism_from, prism_refusal, raised_over, riser, top_edge, top_items, with_sides}
 unfoldable pub use Rattle.shapes.specs.Prism.{prism_conditions, prism_model, raised, with_side}
@@ -15,8 +15,8 @@ pub use Rattle.shapes.specs.Rewriting.{renamed, rewritten, rewritten_row, withou
 pub use Rattle.shapes.specs.Vectors.{negated, scaled, towards}
 pub use Rattle.shapes.specs.Walks.{loops_in}
 unfoldable pub use Rattle.shapes.specs.Walks.{first_edge, leads}
-pub use Rattle.shapes.specs.glue.Glue.{glue_refusal, glued_along, has_repeats, is_rotation, is_turned, moves, outline, partner, partners, renamed_tails, rim, same_points}
-unfoldable pub use Rattle.shapes.specs.glue.Glue.{glue_conditions, glue_model}
+pub use Rattle.shapes.specs.glue.Glue.{face_conditions, glue_refusal, glued_along, has_repeats, is_rotation, is_turned, moves, outline, outline_conditions, partner, partners, renamed_tails, rim, same_points}
+unfoldable pub use Rattle.shapes.specs.glue.Glue.{early_glue_conditions, glue_conditions, glue_model}
 pub use Rattle.shapes.specs.glue.GlueOps.{closing, closings, fresh_edge, opening}
 unfoldable pub use Rattle.shapes.specs.glue.GlueOps.{glue_ops}
 pub use Rattle.shapes.specs.glue.Part.{paired, seam}
@@ -33,5 +33,5 @@ pub use Rattle.shapes.specs.split.Section.{below_half, cycle_from, has_stray_hol
 unfoldable pub use Rattle.shapes.specs.split.Section.{below_halves, is_hole, section_cycles}
 pub use Rattle.shapes.specs.split.Sides.{crosses, crossing_edges, faces_above, reaches_above, reaches_below, some_above, some_below, straddling_faces}
 unfoldable pub use Rattle.shapes.specs.split.Sides.{face_is_above, straddles}
-pub use Rattle.shapes.specs.split.Split.{cut_conditions, cycle_conditions, later_conditions, opened_at, plane_in_range, split_above, split_drawn, split_refusal, upper_left}
-unfoldable pub use Rattle.shapes.specs.split.Split.{first_conditions, section_conditions, split_conditions, split_model}
+pub use Rattle.shapes.specs.split.Split.{cut_conditions, cycle_conditions, later_conditions, number_conditions, opened_at, plane_in_range, sectioning_conditions, split_drawn, split_refusal, straddling_conditions, upper_left}
+unfoldable pub use Rattle.shapes.specs.split.Split.{early_split_conditions, first_conditions, section_conditions, split_conditions, split_model}

@@ -1,11 +1,12 @@
 -- Normals, planes and volumes.
 use Rattle.std.specs.Prelude.{ℕ, ℤ, pos, ◌+ℤ◌, neg_ℤ, Bool, not, ◌&&◌, List, [], ◌∷◌, ◌++◌, Option}
 use Rattle.std.specs.List.{list_all}
-use Rattle.euler_operators.specs.Common.{Point, Plane, origin, moved, dot, cross, same_point, is_on, direction, head_or, Model, LoopContent, lone, cycle, tail, content, outer, point_of, faces_of, need, first_refusal, numbers_in_range}
+use Rattle.euler_operators.specs.Common.{Point, Plane, origin, moved, dot, cross, same_point, is_on, direction, head_or, Model, LoopContent, lone, cycle, tail, content, outer, point_of, faces_of, Condition, need, first_refusal, numbers_in_range}
 use Rattle.euler_operators.specs.Table as table
-use Rattle.shapes.specs.Faces.{boundary, corners, start, finish}
+use Rattle.shapes.specs.Faces.{boundary, corners, start, finish, least_lone}
+use Rattle.shapes.specs.Fresh.{no_such, first_such}
 use Rattle.euler_operators.specs.declared.Refusal.{Refusal}
-use Rattle.euler_operators.specs.declared.Why.TheVariants.{NoFace}
+use Rattle.euler_operators.specs.declared.Why.TheVariants.{NoFace, LoneLoop, NotFlat}
 
 -- the sum of p x q over half-edges that go from p to q
 abbrev pub area : Model → List ℕ → Point
@@ -41,6 +42,10 @@ is_plane_of M p vs = not (same_point (direction p) origin) && list_all (λ v. is
 
 unfoldable pub is_flat : Model → ℕ → Bool
 is_flat M f = is_plane_of M (plane_of M f) (corners M f)
+
+-- no loop of some faces is lone, and each face is flat
+abbrev pub faces_are_flat : Model → List ℕ → List Condition
+faces_are_flat M fs = no_such (least_lone M fs) LoneLoop ∷ no_such (first_such (λ f. not (is_flat M f)) fs) NotFlat ∷ []
 
 -- the sum over some faces of their normals times their anchors
 abbrev pub volume_in : Model → List ℕ → ℤ

@@ -6,7 +6,8 @@
 //! split, and the model that an accepted one makes, as three rewritings: the edges that cross the plane are cut, edges are drawn in the
 //! faces that straddle it, and the solid is opened along the cycles of the section. The lemmas of `walks` are about the faces of a solid,
 //! the loops of a face and the half-edges of a loop; those of `fresh` about tables to which rows are added at fresh numbers,
-//! conditions by search, and numbers that are left.
+//! conditions by search, and numbers that are left; `glue` and `split` have a file `Facts` each, where conditions are read by place into
+//! records that name what each of them says.
 //!
 //! # What is proved
 //!

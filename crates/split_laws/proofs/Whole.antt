@@ -6,7 +6,7 @@ use Rattle.euler_operators.specs.declared.Op.TheVariants.{Part}
 use Rattle.euler_operators.specs.declared.Op.{Op}
 use Rattle.euler_operators.proofs.Common.{row_of, mate_there, same_truth, map_alike, tick_same, count-append, IsIn-filter, count-filter, filter_passes, mate-mate}
 use Rattle.euler_laws.proofs.Common.{IsIn-from_listed, listed-from_in, PartGoes, part_accepted, counted_once, none_counted, effects_keep_sound}
-use Rattle.shapes.specs.Common.{Caps, Opening, outer_caps, hole_closed, holes_closed, upper_left, opened_at, split_above, split_refusal, split_model, split_drawn, Drawing, with_drawings, below_halves, section_cycles, has_stray_hole, faces_above}
+use Rattle.shapes.specs.Common.{Caps, Opening, outer_caps, hole_closed, holes_closed, upper_left, opened_at, split_refusal, split_model, split_drawn, Drawing, with_drawings, below_halves, section_cycles, has_stray_hole, faces_above}
 use Rattle.split_drawing_laws.proofs.drawings.Runs.{Leads, leads_one, leads_on}
 use Rattle.split_opening_laws.specs.sections.Capped.{ArePlain, cap_faces, HasCaps}
 use Rattle.split_opening_laws.specs.sections.InTurn.{upper_faces, CanBeOpenedInTurn}
@@ -17,7 +17,7 @@ use Rattle.euler_laws.specs.Laws.{AreAccepted, effects}
 use Rattle.split_opening_laws.proofs.sections.InTurn.{above_there, all_on, caps_rise}
 use Rattle.split_drawing_laws.specs.pairs.Laws.{rewriting_ops}
 use Rattle.split_drawing_laws.proofs.pairs.Whole.{rewritings_accepted, rewritings_made}
-use Rattle.split_laws.specs.SplitOps.{closing_ops, hole_ops, openings_ops, upper_ops, ops_above, split_ops, later_ops}
+use Rattle.split_laws.specs.SplitOps.{closing_ops, hole_ops, openings_ops, upper_ops, ops_above, split_above, split_ops, later_ops}
 use Rattle.split_laws.specs.drawn.Kept.{HasFace}
 use Rattle.split_laws.proofs.Flags.{flags_are, one_outer, IsOld, all_old, solids_still}
 use Rattle.split_laws.proofs.Openings.{openings_go}

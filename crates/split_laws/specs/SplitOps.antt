@@ -3,7 +3,7 @@ use Rattle.std.specs.Prelude.{ℕ, List, [], ◌∷◌, ◌++◌, filter, flat_m
 use Rattle.euler_operators.specs.Common.{Plane, Model}
 use Rattle.euler_operators.specs.declared.Op.{Op}
 use Rattle.euler_operators.specs.declared.Op.TheVariants.{Kfmrh, Part}
-use Rattle.shapes.specs.Common.{faces_above, below_halves, section_cycles, Drawing, with_drawings, Caps, Opening, next_opened, outer_caps, opened_at, upper_left}
+use Rattle.shapes.specs.Common.{faces_above, below_halves, section_cycles, Drawing, with_drawings, Caps, Opening, next_opened, outer_caps, opened_at, upper_left, split_drawn}
 use Rattle.split_drawing_laws.specs.pairs.Laws.{rewriting_ops}
 use Rattle.split_opening_laws.specs.opening.OpeningOps.{opening_ops}
 
@@ -28,6 +28,10 @@ abbrev pub later_ops : Drawing → List ℕ → ℕ → Plane → ℕ → List O
 later_ops d above s p t =
     openings_ops above s p (record { model = d.model; taken = d.taken; caps = [] }) (section_cycles d.model (below_halves d.model above s))
     ++ upper_ops (opened_at d above s p) above s t
+
+-- along the section between the faces above and the others: what is made of a drawing, and the operators that make it
+abbrev pub split_above : Drawing → ℕ → Plane → ℕ → Model
+split_above d s p t = split_drawn d (faces_above d.model p s) s p t
 
 abbrev pub ops_above : Drawing → ℕ → Plane → ℕ → List Op
 ops_above d s p t = later_ops d (faces_above d.model p s) s p t

@@ -5,11 +5,12 @@ use Rattle.euler_operators.specs.Common.{get, Model, LoopRow, no_loop, content, 
 use Rattle.euler_operators.proofs.Common.{zero_first_where, first_fails, or_true, loop_number}
 use Rattle.euler_operators.specs.declared.Refusal.{Refusal}
 use Rattle.euler_laws.proofs.Common.{all_hold, verdict_passed, verdict_failed}
-use Rattle.shapes.proofs.Common.{first_refusal-append, first_refusal-refused, none_found, none_is_lone}
-use Rattle.shapes.specs.Common.{faces_of_both, least_lone, taken_in, numbers_left, glue_conditions, has_repeats, is_rotation, outline}
+use Rattle.shapes.proofs.Common.{first_refusal-append, first_refusal-front, first_refusal-refused, none_found, none_is_lone}
+use Rattle.shapes.proofs.glue.Facts.{faces_there}
+use Rattle.shapes.specs.Common.{faces_of_both, least_lone, taken_in, numbers_left, face_conditions, faces_are_flat, outline_conditions, early_glue_conditions, glue_conditions, has_repeats, is_rotation, outline}
 use Rattle.solid_measure.proofs.solid_checks_laws.FaceWalks.{lists_member, member_faces, member_both}
 use Rattle.euler_operators.specs.declared.Why.TheVariants.{RepeatedPoint, NoMatch}
-use Rattle.gluing.specs.glue_checks.Conditions.{face_conditions, solid_conditions, early_conditions, early_refusal, outline_conditions}
+use Rattle.gluing.specs.glue_checks.Conditions.{early_refusal}
 use Rattle.solid_walks.proofs.face_walks_laws.Above.{member}
 
 -- a verdict that is an error is the whole verdict
@@ -57,61 +58,59 @@ module _ (M : Model) (sound : Sound M) where
 
 -- the conditions of a glue, one part after the other
 module _ (M : Model) (f g : ℕ) where
+  abbrev both : List ℕ
+  both = faces_of_both M (solid_of M f) (solid_of M g)
+
+  -- all but those on the numbers that are left
+  abbrev before_numbers : List Condition
+  before_numbers = early_glue_conditions M f g ++ outline_conditions M f g
+
   abbrev numbers : List Condition
   numbers = numbers_left (taken_in M) (record { faces = 0; loops = 0; edges = 1; vertices = 0 })
 
-  abbrev later : List Condition
-  later = outline_conditions M f g ++ numbers
-
-  grouped : glue_conditions M f g ≡ face_conditions M f g ++ (solid_conditions M (solid_of M f) (solid_of M g) ++ later)
-  unfolding glue_conditions
-  grouped = refl
-
   -- where nothing refuses a glue, no condition is false that is tested before memory is asked for
   pub none_early : first_refusal (glue_conditions M f g) ≡ None → early_refusal M f g ≡ None
-  unfolding glue_conditions early_conditions
-  none_early accepted = none_refused (early_refusal M f g) refl where
-    none_refused : (o : Option Refusal) → early_refusal M f g ≡ o → o ≡ None
-    none_refused None is = refl
-    none_refused (Some r) is = sym (first_refusal-refused (early_conditions M f g) later r is) ∙ accepted
+  unfolding glue_conditions
+  none_early accepted = first_refusal-front (early_glue_conditions M f g) (outline_conditions M f g) (first_refusal-front before_numbers numbers accepted)
+
+  early_failed : (v : Result (Unit {0}) Refusal) → v ≡ verdict (early_refusal M f g) → is_err v ≡ true → v ≡ verdict (first_refusal (glue_conditions M f g))
+  unfolding glue_conditions
+  early_failed v is e = first_failed before_numbers numbers v (first_failed (early_glue_conditions M f g) (outline_conditions M f g) v is e) e
 
   pub faces_failed : (v : Result (Unit {0}) Refusal) → v ≡ verdict (first_refusal (face_conditions M f g)) → is_err v ≡ true → v ≡ verdict (first_refusal (glue_conditions M f g))
-  faces_failed v is e = first_failed (face_conditions M f g) (solid_conditions M (solid_of M f) (solid_of M g) ++ later) v is e ∙ ap (λ cs. verdict (first_refusal cs)) (sym grouped)
+  unfolding early_glue_conditions
+  faces_failed v is e = early_failed v (first_failed (face_conditions M f g) (faces_are_flat M both) v is e) e
 
   module _ (faces : first_refusal (face_conditions M f g) ≡ None) where
-    pub first_there : Has M.faces f
-    first_there = (all_hold (face_conditions M f g) faces).1.1.0
+    after_faces : first_refusal (faces_are_flat M both) ≡ early_refusal M f g
+    unfolding early_glue_conditions
+    after_faces = sym (first_refusal-append (face_conditions M f g) (faces_are_flat M both) faces)
 
-    pub second_there : Has M.faces g
-    second_there = (all_hold (face_conditions M f g) faces).1.1.1.0
+    pub solids_failed : (v : Result (Unit {0}) Refusal) → v ≡ verdict (first_refusal (faces_are_flat M (faces_of_both M (solid_of M f) (solid_of M g)))) → is_err v ≡ true → v ≡ verdict (first_refusal (glue_conditions M f g))
+    solids_failed v is e = early_failed v (is ∙ ap verdict after_faces) e
 
-    after_faces : first_refusal (solid_conditions M (solid_of M f) (solid_of M g) ++ later) ≡ first_refusal (glue_conditions M f g)
-    after_faces = sym (first_refusal-append (face_conditions M f g) (solid_conditions M (solid_of M f) (solid_of M g) ++ later) faces) ∙ ap first_refusal (sym grouped)
-
-    pub solids_failed : (v : Result (Unit {0}) Refusal) → v ≡ verdict (first_refusal (solid_conditions M (solid_of M f) (solid_of M g))) → is_err v ≡ true → v ≡ verdict (first_refusal (glue_conditions M f g))
-    solids_failed v is e = first_failed (solid_conditions M (solid_of M f) (solid_of M g)) later v is e ∙ ap verdict after_faces
-
-    module _ (solids : first_refusal (solid_conditions M (solid_of M f) (solid_of M g)) ≡ None) where
+    module _ (solids : first_refusal (faces_are_flat M (faces_of_both M (solid_of M f) (solid_of M g))) ≡ None) where
       pub early_passed : early_refusal M f g ≡ None
-      unfolding early_conditions
-      early_passed = first_refusal-append (face_conditions M f g) (solid_conditions M (solid_of M f) (solid_of M g)) faces ∙ solids
+      early_passed = sym after_faces ∙ solids
 
-      after_solids : first_refusal later ≡ first_refusal (glue_conditions M f g)
-      after_solids = sym (first_refusal-append (solid_conditions M (solid_of M f) (solid_of M g)) later solids) ∙ after_faces
+      after_solids : first_refusal (outline_conditions M f g) ≡ first_refusal before_numbers
+      after_solids = sym (first_refusal-append (early_glue_conditions M f g) (outline_conditions M f g) early_passed)
 
       pub outlines_failed : (v : Result (Unit {0}) Refusal) → v ≡ verdict (first_refusal (outline_conditions M f g)) → is_err v ≡ true → v ≡ verdict (first_refusal (glue_conditions M f g))
-      outlines_failed v is e = first_failed (outline_conditions M f g) numbers v is e ∙ ap verdict after_solids
+      unfolding glue_conditions
+      outlines_failed v is e = first_failed before_numbers numbers v (is ∙ ap verdict after_solids) e
 
       pub numbers_decide : first_refusal (outline_conditions M f g) ≡ None → first_refusal numbers ≡ first_refusal (glue_conditions M f g)
-      numbers_decide outlines = sym (first_refusal-append (outline_conditions M f g) numbers outlines) ∙ after_solids
+      unfolding glue_conditions
+      numbers_decide outlines = sym (first_refusal-append before_numbers numbers (sym after_solids ∙ outlines))
 
-      none_lone : least_lone M (faces_of_both M (solid_of M f) (solid_of M g)) ≡ None
-      none_lone = none_found (least_lone M (faces_of_both M (solid_of M f) (solid_of M g))) (all_hold (solid_conditions M (solid_of M f) (solid_of M g)) solids).0
+      none_lone : least_lone M both ≡ None
+      none_lone = none_found (least_lone M both) (all_hold (faces_are_flat M both) solids).0
 
       -- neither outer loop is lone
       module _ (sound : Sound M) where
         pub first_held : is_lone (content M (outer M f)) ≡ false
-        first_held = outer_held M sound (faces_of_both M (solid_of M f) (solid_of M g)) f none_lone first_there (listed_first M sound (solid_of M f) (solid_of M g) f first_there refl)
+        first_held = let there = (faces_there M f g faces).0 in outer_held M sound both f none_lone there (listed_first M sound (solid_of M f) (solid_of M g) f there refl)
 
         pub second_held : is_lone (content M (outer M g)) ≡ false
-        second_held = outer_held M sound (faces_of_both M (solid_of M f) (solid_of M g)) g none_lone second_there (listed_second M sound (solid_of M f) (solid_of M g) g second_there refl)
+        second_held = let there = (faces_there M f g faces).1 in outer_held M sound both g none_lone there (listed_second M sound (solid_of M f) (solid_of M g) g there refl)

@@ -3,8 +3,8 @@ ghost use Rattle.std.specs.Prelude.{◌≡◌, true, false, None, IfOk, OnErr};
 ghost use Rattle.euler_operators.specs.Common.{content, outer, first_refusal, has_rings, is_lone, verdict};
 ghost use Rattle.euler_conditions.specs.Ready.{IsReady};
 ghost use Rattle.euler_conditions.specs.Store.{has_number};
-ghost use Rattle.shapes.specs.Common.{glue_refusal};
-ghost use Rattle.gluing.specs.glue_checks.Conditions.{early_refusal, face_conditions, outline_conditions, solid_conditions};
+ghost use Rattle.shapes.specs.Common.{face_conditions, faces_are_flat, faces_of_both, glue_refusal, outline_conditions};
+ghost use Rattle.gluing.specs.glue_checks.Conditions.{early_refusal};
 
 use crate::glue_checks::outlines::{backwards, has_repeats, is_rotation};
 use crate::rims::outline;
@@ -56,7 +56,7 @@ fn check_faces(arena: &Arena, f: u32, other: u32) -> Result<(), Refusal>
 /// Whether the two solids have no lone loop, and flat faces only.
 fn check_solids(arena: &Arena, s: u32, other: u32) -> Result<(), Refusal>
     requires { IsReady arena.now }
-    ensures { result ≡ verdict (first_refusal (solid_conditions arena.now.model s other)) }
+    ensures { result ≡ verdict (first_refusal (faces_are_flat arena.now.model (faces_of_both arena.now.model s other))) }
 {
     if let Some(l) = least_lone_of_both(arena, s, other) {
         return refused(Why::LoneLoop, l);

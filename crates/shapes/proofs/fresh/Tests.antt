@@ -3,6 +3,7 @@ use Rattle.std.proofs.Common.{◌≡◌, ℕ, ◌+◌, ◌≤◌, Bool, true, fa
 use Rattle.std.proofs.lemmas.Bool.Decides.{nat_tests, eqb_tells}
 use Rattle.euler_operators.specs.Common.{IsIn, first_where, Model, is_number, Condition, AllHold, first_refusal, is_lone, lists}
 use Rattle.euler_operators.proofs.Common.{tick_other}
+use Rattle.euler_laws.proofs.Common.{all_hold, all_hold-front, none_refuses}
 use Rattle.euler_operators.specs.declared.Refusal.{Refusal}
 use Rattle.shapes.specs.Common.{least_lone, first_such, found, AreLeft, Needed, Taken, numbers_left}
 
@@ -22,6 +23,10 @@ first_refusal-refused (c ∷ cs) ds r e =
       | true ↦ λ e. first_refusal-refused cs ds r e
       | false ↦ λ e. e
     ] e
+
+-- where nothing refuses the whole list, nothing refuses its front
+pub first_refusal-front : (cs ds : List Condition) → first_refusal (cs ++ ds) ≡ None → first_refusal cs ≡ None
+first_refusal-front cs ds e = none_refuses cs (all_hold-front cs ds (all_hold (cs ++ ds) e))
 
 -- where a search must find nothing, it finds nothing
 pub none_found : (o : Option ℕ) → not (is_some o) ≡ true → o ≡ None

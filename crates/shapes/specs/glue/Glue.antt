@@ -1,14 +1,14 @@
 -- Two solids glued together at a face of each.
-use Rattle.std.specs.Prelude.{ℕ, zero, suc, Bool, true, false, not, ◌&&◌, ◌||◌, nat_eq, List, [], ◌∷◌, ◌++◌, map, reverse, length, take, drop, Option, unwrap_or}
+use Rattle.std.specs.Prelude.{ℕ, zero, suc, Bool, true, false, ◌&&◌, ◌||◌, nat_eq, List, [], ◌∷◌, ◌++◌, map, reverse, length, take, drop, Option, unwrap_or}
 use Rattle.std.specs.List.{list_any}
 use Rattle.euler_operators.specs.Common.{Point, same_point, mate, edge_of, Model, EdgeRow, items_of, content, tail, outer, solid_of, Condition, need, never, first_refusal, numbers_in_range, has_rings, faces_to_solid}
 use Rattle.euler_operators.specs.Table as table
 use Rattle.euler_operators.specs.declared.Refusal.{Refusal}
-use Rattle.euler_operators.specs.declared.Why.TheVariants.{NoFace, SameSolid, HasRings, LoneLoop, NotFlat, RepeatedPoint, NoMatch}
-use Rattle.shapes.specs.Faces.{least_lone, faces_of_both, start, finish}
-use Rattle.shapes.specs.Fresh.{taken_in, numbers_left, no_such, first_such}
+use Rattle.euler_operators.specs.declared.Why.TheVariants.{NoFace, SameSolid, HasRings, RepeatedPoint, NoMatch}
+use Rattle.shapes.specs.Faces.{faces_of_both, start, finish}
+use Rattle.shapes.specs.Fresh.{taken_in, numbers_left, first_such}
 use Rattle.shapes.specs.Rewriting.{rewritten_row, renamed, without_rows}
-use Rattle.shapes.specs.Measure.{is_flat}
+use Rattle.shapes.specs.Measure.{faces_are_flat}
 
 -- the half-edges of a face's outer loop, and the points at which they start
 abbrev pub rim : Model → ℕ → List ℕ
@@ -35,21 +35,31 @@ is_turned (suc n) ps qs = same_points ps (drop (suc n) qs ++ take (suc n) qs) ||
 abbrev pub is_rotation : List Point → List Point → Bool
 is_rotation ps qs = is_turned (length qs) ps qs
 
--- a glue of face g to face f, in the order of its refusals
-unfoldable pub glue_conditions : Model → ℕ → ℕ → List Condition
-glue_conditions M f g = let s = solid_of M f in let t = solid_of M g in
+-- the faces are there, of different solids, and without rings
+abbrev pub face_conditions : Model → ℕ → ℕ → List Condition
+face_conditions M f g =
     numbers_in_range (f ∷ g ∷ []) ++
     need (table.has M.faces f) NoFace f
     ∷ need (table.has M.faces g) NoFace g
-    ∷ never (nat_eq s t) SameSolid s
+    ∷ never (nat_eq (solid_of M f) (solid_of M g)) SameSolid (solid_of M f)
     ∷ never (has_rings M f) HasRings f
-    ∷ never (has_rings M g) HasRings g
-    ∷ no_such (least_lone M (faces_of_both M s t)) LoneLoop
-    ∷ no_such (first_such (λ k. not (is_flat M k)) (faces_of_both M s t)) NotFlat
-    ∷ never (has_repeats (outline M f)) RepeatedPoint f
+    ∷ never (has_rings M g) HasRings g ∷ []
+
+-- the conditions of a glue of face g to face f that are tested before memory is asked for
+unfoldable pub early_glue_conditions : Model → ℕ → ℕ → List Condition
+early_glue_conditions M f g = face_conditions M f g ++ faces_are_flat M (faces_of_both M (solid_of M f) (solid_of M g))
+
+-- the outlines have no point twice, and lie on one another
+abbrev pub outline_conditions : Model → ℕ → ℕ → List Condition
+outline_conditions M f g =
+    never (has_repeats (outline M f)) RepeatedPoint f
     ∷ never (has_repeats (outline M g)) RepeatedPoint g
-    ∷ need (is_rotation (outline M f) (reverse (outline M g))) NoMatch g
-    ∷ numbers_left (taken_in M) (record { faces = 0; loops = 0; edges = 1; vertices = 0 })
+    ∷ need (is_rotation (outline M f) (reverse (outline M g))) NoMatch g ∷ []
+
+-- all of them, in the order of its refusals
+unfoldable pub glue_conditions : Model → ℕ → ℕ → List Condition
+glue_conditions M f g =
+    early_glue_conditions M f g ++ outline_conditions M f g ++ numbers_left (taken_in M) (record { faces = 0; loops = 0; edges = 1; vertices = 0 })
 
 -- the refusal of the first false condition, if one is false
 abbrev pub glue_refusal : Model → ℕ → ℕ → Option Refusal

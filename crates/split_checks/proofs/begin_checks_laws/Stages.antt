@@ -3,13 +3,13 @@ use Rattle.std.specs.List.{list_any}
 use Rattle.std.proofs.Common.{◌≡◌, ℕ, ◌+◌, true, false, cond, ◌&&◌, nat_le, List, [], ◌∷◌, ◌++◌, length, Option, Some, None, Result, Ok, Err, IfOk, IfErr, OnErr, refl, sym, ap, subst, ◌∙◌, arith, min}
 use Rattle.std.proofs.lemmas.Bool.Decides.{nat_tests}
 use Rattle.euler_operators.specs.Common.{Plane, IsCutPlane, Model, faces_of, Condition, need, first_refusal, verdict}
-use Rattle.euler_operators.proofs.Common.{coordinate_within, offset_within}
 use Rattle.euler_operators.specs.declared.Why.TheVariants.{PlaneMisses, NotLattice, NumbersSpent, TouchedFace, CutOften, CutCrossed}
 use Rattle.euler_operators.specs.declared.Refusal.{Refusal}
 use Rattle.euler_laws.proofs.Common.{all_hold, verdict_passed, verdict_failed}
-use Rattle.shapes.proofs.Common.{first_refusal-append, first_refusal-refused}
-use Rattle.shapes.specs.Common.{Taken, taken_in, numbers_left, no_such, first_such, is_touched, is_cut_often, is_crossed, pair_count, reaches_above, reaches_below, straddling_faces, crossing_edges, plane_in_range, cut_conditions, first_conditions}
-use Rattle.split_checks.specs.begin_checks.Conditions.{number_conditions, solid_conditions, early_conditions, early_refusal, face_conditions, sectioning_conditions}
+use Rattle.shapes.proofs.Common.{first_refusal-append, first_refusal-front, first_refusal-refused}
+use Rattle.shapes.proofs.split.Facts.{plane_within}
+use Rattle.shapes.specs.Common.{Taken, taken_in, numbers_left, no_such, first_such, is_touched, is_cut_often, is_crossed, pair_count, reaches_above, reaches_below, straddling_faces, crossing_edges, number_conditions, plane_in_range, faces_are_flat, early_split_conditions, straddling_conditions, cut_conditions, sectioning_conditions, first_conditions}
+use Rattle.split_checks.specs.begin_checks.Conditions.{early_refusal}
 use Rattle.split_checks.specs.cut_places.Crossings.{is_off}
 
 -- what holds of the value of a result, and of its error
@@ -28,20 +28,20 @@ on_any (Err e) h = h
 
 module _ (M : Model) (p : Plane) (fs : List ℕ) where
   by_flaws : (a b c : Option ℕ) → a ≡ first_such (is_touched M p) fs → b ≡ first_such (is_cut_often M p) fs → c ≡ first_such (is_crossed M p) fs
-      → first_refusal (face_conditions M p fs) ≡ first_refusal (no_such a TouchedFace ∷ no_such b CutOften ∷ no_such c CutCrossed ∷ [])
+      → first_refusal (straddling_conditions M p fs) ≡ first_refusal (no_such a TouchedFace ∷ no_such b CutOften ∷ no_such c CutCrossed ∷ [])
   by_flaws a b c e f g = sym (λ i. first_refusal (no_such (e i) TouchedFace ∷ no_such (f i) CutOften ∷ no_such (g i) CutCrossed ∷ []))
 
-  pub touched_refused : (f : ℕ) → Some f ≡ first_such (is_touched M p) fs → first_refusal (face_conditions M p fs) ≡ Some (record { why = TouchedFace; number = f })
+  pub touched_refused : (f : ℕ) → Some f ≡ first_such (is_touched M p) fs → first_refusal (straddling_conditions M p fs) ≡ Some (record { why = TouchedFace; number = f })
   touched_refused f e = by_flaws (Some f) (first_such (is_cut_often M p) fs) (first_such (is_crossed M p) fs) e refl refl
 
-  pub often_refused : (f : ℕ) → None ≡ first_such (is_touched M p) fs → Some f ≡ first_such (is_cut_often M p) fs → first_refusal (face_conditions M p fs) ≡ Some (record { why = CutOften; number = f })
+  pub often_refused : (f : ℕ) → None ≡ first_such (is_touched M p) fs → Some f ≡ first_such (is_cut_often M p) fs → first_refusal (straddling_conditions M p fs) ≡ Some (record { why = CutOften; number = f })
   often_refused f e o = by_flaws None (Some f) (first_such (is_crossed M p) fs) e o refl
 
   module _ (untouched : None ≡ first_such (is_touched M p) fs) (seldom : None ≡ first_such (is_cut_often M p) fs) where
-    pub crossed_refused : (f : ℕ) → first_such (is_crossed M p) fs ≡ Some f → first_refusal (face_conditions M p fs) ≡ Some (record { why = CutCrossed; number = f })
+    pub crossed_refused : (f : ℕ) → first_such (is_crossed M p) fs ≡ Some f → first_refusal (straddling_conditions M p fs) ≡ Some (record { why = CutCrossed; number = f })
     crossed_refused f e = by_flaws None None (Some f) untouched seldom (sym e)
 
-    pub none_refused : first_such (is_crossed M p) fs ≡ None → first_refusal (face_conditions M p fs) ≡ None
+    pub none_refused : first_such (is_crossed M p) fs ≡ None → first_refusal (straddling_conditions M p fs) ≡ None
     none_refused e = by_flaws None None None untouched seldom (sym e)
 
 -- ---- numbers that are left, told up to a limit
@@ -78,64 +78,58 @@ module _ (M : Model) (s : ℕ) (p : Plane) where
   missed off = ap (λ b. cond b (first_refusal cutting) (Some (record { why = PlaneMisses; number = s }))) off
 
   pub edges_refused : (e : ℕ) → first_such (is_off M p) es ≡ Some e → first_refusal cutting ≡ Some (record { why = NotLattice; number = e })
-  edges_refused e off = ap (λ o. first_refusal (no_such o NotLattice ∷ face_conditions M p fs ++ numbers)) off
+  edges_refused e off = ap (λ o. first_refusal (no_such o NotLattice ∷ straddling_conditions M p fs ++ numbers)) off
 
   module _ (whole : None ≡ first_such (is_off M p) es) where
-    after_edges : first_refusal cutting ≡ first_refusal (face_conditions M p fs ++ numbers)
-    after_edges = ap (λ o. first_refusal (no_such o NotLattice ∷ face_conditions M p fs ++ numbers)) (sym whole)
+    after_edges : first_refusal cutting ≡ first_refusal (straddling_conditions M p fs ++ numbers)
+    after_edges = ap (λ o. first_refusal (no_such o NotLattice ∷ straddling_conditions M p fs ++ numbers)) (sym whole)
 
-    pub faces_refused : (r : Refusal) → first_refusal (face_conditions M p fs) ≡ Some r → first_refusal cutting ≡ Some r
-    faces_refused r e = after_edges ∙ first_refusal-refused (face_conditions M p fs) numbers r e
+    pub faces_refused : (r : Refusal) → first_refusal (straddling_conditions M p fs) ≡ Some r → first_refusal cutting ≡ Some r
+    faces_refused r e = after_edges ∙ first_refusal-refused (straddling_conditions M p fs) numbers r e
 
-    pub numbers_decide : first_refusal (face_conditions M p fs) ≡ None → (m n : ℕ) → m ≡ min (length es) 1000001 → n ≡ min (pair_count M p fs) 1000001
+    pub numbers_decide : first_refusal (straddling_conditions M p fs) ≡ None → (m n : ℕ) → m ≡ min (length es) 1000001 → n ≡ min (pair_count M p fs) 1000001
         → first_refusal (numbers_left (taken_in M) (record { faces = n; loops = n; edges = m + n; vertices = m })) ≡ first_refusal cutting
     numbers_decide e m n is_m is_n =
         (λ i. first_refusal (numbers_left (taken_in M) (record { faces = is_n i; loops = is_n i; edges = is_m i + is_n i; vertices = is_m i }))) ∙ numbers_capped (taken_in M) (length es) (pair_count M p fs)
-        ∙ sym (first_refusal-append (face_conditions M p fs) numbers e) ∙ sym after_edges
+        ∙ sym (first_refusal-append (straddling_conditions M p fs) numbers e) ∙ sym after_edges
 
 -- ---- the whole
 
 module _ (M : Model) (s : ℕ) (p : Plane) (t : ℕ) where
-  abbrev all : List Condition
-  all = number_conditions M s t ++ (plane_in_range p ++ (solid_conditions M s ++ sectioning_conditions M s p))
-
-  all_is : first_conditions M s p t ≡ all
-  unfolding first_conditions
-  all_is = refl
-
   -- where no condition is false that is tested before anything is changed, none is that is tested before memory is asked for
   pub none_early : first_refusal (first_conditions M s p t) ≡ None → early_refusal M s p t ≡ None
-  unfolding first_conditions early_conditions
-  none_early begun = nothing_refused (early_refusal M s p t) refl where
-    nothing_refused : (o : Option Refusal) → early_refusal M s p t ≡ o → o ≡ None
-    nothing_refused None is = refl
-    nothing_refused (Some r) is = sym (first_refusal-refused (early_conditions M s p t) (sectioning_conditions M s p) r is) ∙ begun
+  unfolding first_conditions
+  none_early = first_refusal-front (early_split_conditions M s p t) (sectioning_conditions M s p)
+
+  early_refused : (r : Refusal) → early_refusal M s p t ≡ Some r → first_refusal (first_conditions M s p t) ≡ Some r
+  unfolding first_conditions
+  early_refused = first_refusal-refused (early_split_conditions M s p t) (sectioning_conditions M s p)
 
   pub cut_plane : (u : Unit {0}) → Ok u ≡ verdict (first_refusal (plane_in_range p)) → IsCutPlane p
-  cut_plane u e = let h = all_hold (plane_in_range p) (verdict_passed _ u e) in ((coordinate_within p.a h.0, coordinate_within p.b h.1.0, coordinate_within p.c h.1.1.0), offset_within p.d h.1.1.1.0)
+  cut_plane u e = plane_within p (all_hold (plane_in_range p) (verdict_passed _ u e))
 
   pub numbers_refused : (r : Refusal) → Err r ≡ verdict (first_refusal (number_conditions M s t)) → first_refusal (first_conditions M s p t) ≡ Some r
-  numbers_refused r e = ap first_refusal all_is ∙ first_refusal-refused (number_conditions M s t) (plane_in_range p ++ (solid_conditions M s ++ sectioning_conditions M s p)) r (verdict_failed _ r e)
+  unfolding early_split_conditions
+  numbers_refused r e = early_refused r (first_refusal-refused (number_conditions M s t) (plane_in_range p ++ faces_are_flat M (faces_of M s)) r (verdict_failed _ r e))
 
   module _ (u : Unit {0}) (known : Ok u ≡ verdict (first_refusal (number_conditions M s t))) where
-    after_numbers : first_refusal (plane_in_range p ++ (solid_conditions M s ++ sectioning_conditions M s p)) ≡ first_refusal (first_conditions M s p t)
-    after_numbers = sym (first_refusal-append (number_conditions M s t) (plane_in_range p ++ (solid_conditions M s ++ sectioning_conditions M s p)) (verdict_passed _ u known)) ∙ ap first_refusal (sym all_is)
+    after_numbers : first_refusal (plane_in_range p ++ faces_are_flat M (faces_of M s)) ≡ early_refusal M s p t
+    unfolding early_split_conditions
+    after_numbers = sym (first_refusal-append (number_conditions M s t) (plane_in_range p ++ faces_are_flat M (faces_of M s)) (verdict_passed _ u known))
 
     pub range_refused : (r : Refusal) → Err r ≡ verdict (first_refusal (plane_in_range p)) → first_refusal (first_conditions M s p t) ≡ Some r
-    range_refused r e = sym after_numbers ∙ first_refusal-refused (plane_in_range p) (solid_conditions M s ++ sectioning_conditions M s p) r (verdict_failed _ r e)
+    range_refused r e = early_refused r (sym after_numbers ∙ first_refusal-refused (plane_in_range p) (faces_are_flat M (faces_of M s)) r (verdict_failed _ r e))
 
     module _ (v : Unit {0}) (range : Ok v ≡ verdict (first_refusal (plane_in_range p))) where
-      after_range : first_refusal (solid_conditions M s ++ sectioning_conditions M s p) ≡ first_refusal (first_conditions M s p t)
-      after_range = sym (first_refusal-append (plane_in_range p) (solid_conditions M s ++ sectioning_conditions M s p) (verdict_passed _ v range)) ∙ after_numbers
+      after_range : first_refusal (faces_are_flat M (faces_of M s)) ≡ early_refusal M s p t
+      after_range = sym (first_refusal-append (plane_in_range p) (faces_are_flat M (faces_of M s)) (verdict_passed _ v range)) ∙ after_numbers
 
-      pub solid_refused : (r : Refusal) → Err r ≡ verdict (first_refusal (solid_conditions M s)) → first_refusal (first_conditions M s p t) ≡ Some r
-      solid_refused r e = sym after_range ∙ first_refusal-refused (solid_conditions M s) (sectioning_conditions M s p) r (verdict_failed _ r e)
+      pub solid_refused : (r : Refusal) → Err r ≡ verdict (first_refusal (faces_are_flat M (faces_of M s))) → first_refusal (first_conditions M s p t) ≡ Some r
+      solid_refused r e = early_refused r (sym after_range ∙ verdict_failed _ r e)
 
-      pub early_passed : (w : Unit {0}) → Ok w ≡ verdict (first_refusal (solid_conditions M s)) → early_refusal M s p t ≡ None
-      unfolding early_conditions
-      early_passed w solid =
-          first_refusal-append (number_conditions M s t) (plane_in_range p ++ solid_conditions M s) (verdict_passed _ u known)
-          ∙ first_refusal-append (plane_in_range p) (solid_conditions M s) (verdict_passed _ v range) ∙ verdict_passed _ w solid
+      pub early_passed : (w : Unit {0}) → Ok w ≡ verdict (first_refusal (faces_are_flat M (faces_of M s))) → early_refusal M s p t ≡ None
+      early_passed w solid = sym after_range ∙ verdict_passed _ w solid
 
-      pub section_decides : (w : Unit {0}) → Ok w ≡ verdict (first_refusal (solid_conditions M s)) → first_refusal (sectioning_conditions M s p) ≡ first_refusal (first_conditions M s p t)
-      section_decides w solid = sym (first_refusal-append (solid_conditions M s) (sectioning_conditions M s p) (verdict_passed _ w solid)) ∙ after_range
+      pub section_decides : (w : Unit {0}) → Ok w ≡ verdict (first_refusal (faces_are_flat M (faces_of M s))) → first_refusal (sectioning_conditions M s p) ≡ first_refusal (first_conditions M s p t)
+      unfolding first_conditions
+      section_decides w solid = sym (first_refusal-append (early_split_conditions M s p t) (sectioning_conditions M s p) (early_passed w solid))

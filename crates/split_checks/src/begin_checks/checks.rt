@@ -1,14 +1,14 @@
 //! The conditions with which a split begins, in the order in which they are tested.
 ghost use Rattle.std.specs.Prelude.{◌≡◌, ◌&&◌, map, None, Some, IfErr, IfOk, OnErr};
-ghost use Rattle.euler_operators.specs.Common.{code, first_refusal, verdict, IsCutPlane};
+ghost use Rattle.euler_operators.specs.Common.{code, faces_of, first_refusal, verdict, IsCutPlane};
 ghost use Rattle.euler_conditions.specs.Ready.{IsReady};
 ghost use Rattle.split_checks.specs.Cuts.{AreCuts, all_pairs, codes, paired_face};
-ghost use Rattle.split_checks.specs.begin_checks.Conditions.{early_refusal, face_conditions, number_conditions, sectioning_conditions, solid_conditions};
+ghost use Rattle.split_checks.specs.begin_checks.Conditions.{early_refusal};
 ghost use Rattle.split_checks.specs.cut_places.Meetings.{AreTold, IsSolidMet, faces_in};
 ghost use Rattle.split_checks.specs.cut_places.Noted.{AreSides};
 ghost use Rattle.split_checks.specs.cut_places.Places.{AreFacesAlong};
 ghost use Rattle.split_checks.specs.place_order.Order.{AreCrossings};
-ghost use Rattle.shapes.specs.Common.{crossing_edges, straddling_faces, cut_conditions, first_conditions};
+ghost use Rattle.shapes.specs.Common.{crossing_edges, straddling_faces, cut_conditions, faces_are_flat, first_conditions, number_conditions, sectioning_conditions, straddling_conditions};
 
 use crate::begin_checks::crossings::cut_edges;
 use crate::begin_checks::flaws::{Flaw, first_flawed};
@@ -52,7 +52,7 @@ fn check_numbers(arena: &Arena, s: u32, upper: u32) -> Result<(), Refusal>
 /// Whether solid s has no lone loop, and flat faces only.
 fn check_solid(arena: &Arena, s: u32) -> Result<(), Refusal>
     requires { IsReady arena.now }
-    ensures { result ≡ verdict (first_refusal (solid_conditions arena.now.model s)) }
+    ensures { result ≡ verdict (first_refusal (faces_are_flat arena.now.model (faces_of arena.now.model s))) }
 {
     if let Some(l) = least_lone(arena, s) {
         return refused(Why::LoneLoop, l);
@@ -87,10 +87,10 @@ fn check_faces(
     requires whole { AreFacesAlong arena.now.model plane crossings.edges.now (faces_in faces.now) }
     requires told { AreTold arena.now.model plane faces.now (map code places.now) }
     ensures sides { AreSides arena.now.model plane sides.new }
-    ensures accepted { IfOk result (λ checked. IfOk checked (λ _. first_refusal (face_conditions arena.now.model plane (faces_in faces.now)) ≡ None)) }
+    ensures accepted { IfOk result (λ checked. IfOk checked (λ _. first_refusal (straddling_conditions arena.now.model plane (faces_in faces.now)) ≡ None)) }
     ensures faces { IfOk result (λ checked. IfOk checked (λ paired. paired.0.items ≡ map (paired_face arena.now.model plane) (faces_in faces.now))) }
     ensures pairs { IfOk result (λ checked. IfOk checked (λ paired. map codes paired.1.items ≡ all_pairs arena.now.model plane (faces_in faces.now))) }
-    ensures refused { IfOk result (λ checked. IfErr checked (λ refusal. first_refusal (face_conditions arena.now.model plane (faces_in faces.now)) ≡ Some refusal)) }
+    ensures refused { IfOk result (λ checked. IfErr checked (λ refusal. first_refusal (straddling_conditions arena.now.model plane (faces_in faces.now)) ≡ Some refusal)) }
 {
     if let Some(f) = first_flawed(Flaw::Touched, faces) {
         return Ok(Err(refusal(Why::TouchedFace, f)));

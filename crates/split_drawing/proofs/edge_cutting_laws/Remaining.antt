@@ -1,10 +1,10 @@
 -- Edges that are still to be cut.
 use Rattle.std.proofs.Common.{◌≡◌, ℕ, ◌+◌, ◌≤◌, List, [], ◌∷◌, length, map, slice_index_or, None, refl, sym, ap, ◌∙◌, subst, arith}
-use Rattle.euler_operators.specs.Common.{Point, Plane, At, IsCutPlane, are_opposite, cut_between, count, half, plus, minus, Model, after, no_point, Sound, AllHold, first_false, effect}
+use Rattle.euler_operators.specs.Common.{Point, Plane, At, IsCutPlane, are_opposite, cut_between, count, half, plus, minus, Model, after, no_point, Sound, first_false, effect}
 use Rattle.euler_operators.specs.declared.Op.TheVariants.{Mev}
-use Rattle.euler_operators.proofs.Common.{coordinate_within, offset_within, tick_same, mate_plus, plus_there, minus_there}
-use Rattle.euler_laws.proofs.Common.{all_hold}
-use Rattle.shapes.specs.Common.{start, finish, Taken, taken_in, Growing, growing, crossing_edges, next_cut, all_cut, with_crossings, first_conditions, cut_edge}
+use Rattle.euler_operators.proofs.Common.{tick_same, mate_plus, plus_there, minus_there}
+use Rattle.shapes.specs.Common.{start, finish, Taken, taken_in, Growing, growing, crossing_edges, next_cut, all_cut, with_crossings, cut_edge}
+use Rattle.shapes.proofs.split.Facts.{split_begins}
 use Rattle.split_drawing_laws.proofs.crossings.Steps.{CutGoes, cut_accepted}
 use Rattle.split_drawing_laws.proofs.crossings.Runs.{cut_at, Crossing, Going, kept_start, goes_now, next_model, going_on}
 use Rattle.split_drawing_laws.proofs.crossings.Whole as whole
@@ -23,13 +23,9 @@ pub record Cutting (M : Model) (s : ℕ) (p : Plane) (N : Model) (rs : List ℕ)
   pub going : Going M p (growing N) done rs
   pub made : (all_cut p (growing N) rs).model ≡ (with_crossings M s p).model
 
-plane_within : (M : Model) (s : ℕ) (p : Plane) (t : ℕ) → AllHold (first_conditions M s p t) → IsCutPlane p
-unfolding first_conditions
-plane_within M s p t hold = ((coordinate_within p.a hold.1.1.1.1.0, coordinate_within p.b hold.1.1.1.1.1.0, coordinate_within p.c hold.1.1.1.1.1.1.0), offset_within p.d hold.1.1.1.1.1.1.1.0)
-
 -- a plane that can begin a split is in range
 pub cut_plane : (M : Model) (s : ℕ) (p : Plane) → CanBeCut M s p → IsCutPlane p
-cut_plane M s p can = plane_within M s p can.0 (all_hold (first_conditions M s p can.0) can.1)
+cut_plane M s p can = (split_begins M s p can.0 can.1).in_range
 
 -- all crossing edges are to be cut
 pub begins : (M : Model) (s : ℕ) (p : Plane) → Sound M → CanBeCut M s p → Cutting M s p M (crossing_edges M p s)

@@ -1,13 +1,13 @@
 -- Lists that tests pick from, and the items and corners of faces.
 use Rattle.std.specs.List.{list_any, list_all}
-use Rattle.std.proofs.Common.{◌≡◌, ℕ, ◌+◌, ◌≤◌, Bool, true, false, cond, not, nat_eq, ◌&&◌, ◌||◌, List, [], ◌∷◌, refl, sym, ap, ◌∙◌, subst, arith, inl, inr, ◌≢◌, ℤ, pos, length, is_some, ◌⊎◌, true≢false, None, filter, int_lt, eq-eqb, eqb-true}
+use Rattle.std.proofs.Common.{◌≡◌, ℕ, ◌+◌, ◌≤◌, Bool, true, false, cond, not, nat_eq, ◌&&◌, ◌||◌, List, [], ◌∷◌, refl, sym, ap, ◌∙◌, subst, arith, inl, inr, ◌≢◌, ℤ, pos, is_some, ◌⊎◌, true≢false, filter, int_lt, eq-eqb, eqb-true}
 use Rattle.std.proofs.lemmas.Bool.Decides.{eqb_tells}
-use Rattle.std.proofs.lemmas.Bool.{not-false}
-use Rattle.euler_operators.specs.Common.{count, tick, IsIn, Model, items_of, content, tail, face_of, loop_of, solid_of, before, faces_of, Has, Sound, HasHalf, StandsIn, Plane, IsInRange, height, opposite, are_opposite, is_on, same_point, cuts_lattice, cut_between, plus, minus, AllHold, face_at}
+use Rattle.euler_operators.specs.Common.{count, tick, IsIn, Model, items_of, content, tail, face_of, loop_of, solid_of, before, faces_of, Has, Sound, HasHalf, StandsIn, Plane, IsInRange, height, opposite, are_opposite, is_on, same_point, cut_between, plus, minus, face_at}
 use Rattle.euler_operators.proofs.Common.{count-append, tick_same, tick_other, mate_plus, mate_minus, held_row, cycle_there, plus_there, minus_there, solid_row, IsIn-filter, count-filter, filter_passes, same_as, cut_back, opposite_back, not_level, level_is, cut_fits, row_some}
 use Rattle.euler_laws.proofs.Common.{not_false, no_zero, loop_row, face_there, point_row, all_where_in, all_where_has}
-use Rattle.shapes.specs.Common.{AreLeft, Needed, loops_of, items_in, boundary, corners, start, finish, edges_of, first_such, taken_in, crosses, straddles, straddling_faces, crossing_edges, is_place, place_point, places, some_meet, is_touched, is_cut_often, is_crossed, is_up_and_down, sorted_pairs, pair_count, first_conditions}
-use Rattle.shapes.proofs.Common.{tail_in, none_found, none_such, numbers_are_left}
+use Rattle.shapes.specs.Common.{loops_of, items_in, boundary, corners, start, finish, edges_of, crosses, straddles, straddling_faces, crossing_edges, is_place, place_point, places, some_meet, is_crossed, is_up_and_down, sorted_pairs}
+use Rattle.shapes.proofs.Common.{tail_in}
+use Rattle.shapes.proofs.split.Facts.{Cuttable}
 use Rattle.solid_measure_laws.proofs.Cuts.{cut_on}
 use Rattle.split_drawing_laws.proofs.crossings.Runs.{Crossing}
 
@@ -70,8 +70,6 @@ module _ (M : Model) where
   unfolding corners
   tail_in_face h l there i = tail_in M h l (loops_of M (face_of M l)) (loop_in_face l there) i
 
--- ---- what it says that the first conditions of a split hold: each edge that crosses the plane can be cut there
-
 -- ---- two places of a face with equal points
 
 pub two_meet : (M : Model) (p : Plane) (x y : ℕ) (hs : List ℕ) → x ≢ y → place_point M p x ≡ place_point M p y → IsIn x hs → IsIn y hs → some_meet M p hs ≡ true
@@ -90,18 +88,7 @@ pub crossing_is_place : (M : Model) (p : Plane) (h : ℕ) → crosses M p h ≡ 
 unfolding is_place
 crossing_is_place M p h x = ap (λ b. b || (is_on p (start M h) && are_opposite p (start M (before M h)) (finish M h))) x
 
--- what it takes to cut the edges and draw the faces
-abbrev pub needed_for_rewritings : Model → ℕ → Plane → Needed
-needed_for_rewritings M s p = let e = length (crossing_edges M p s) in let n = pair_count M p (straddling_faces M p s) in record { faces = n; loops = n; edges = e + n; vertices = e }
-
--- ---- what the conditions say
-
-pub record Cuttable (M : Model) (s : ℕ) (p : Plane) : Type 0 where
-  pub whole : (e : ℕ) → IsIn e (crossing_edges M p s) → cuts_lattice p (start M (plus e)) (finish M (plus e)) ≡ true
-  pub untouched : (f : ℕ) → IsIn f (straddling_faces M p s) → is_touched M p f ≡ false
-  pub not_often : (f : ℕ) → IsIn f (straddling_faces M p s) → is_cut_often M p f ≡ false
-  pub uncrossed : (f : ℕ) → IsIn f (straddling_faces M p s) → is_crossed M p f ≡ false
-  pub left : AreLeft (taken_in M) (needed_for_rewritings M s p)
+-- ---- edges that cross the plane, and faces that straddle it
 
 module _ (M : Model) (sound : Sound M) (s : ℕ) (p : Plane) where
   pub edge_facts : (e : ℕ) → IsIn e (crossing_edges M p s) → Has M.edges e × (solid_of M (face_at M (plus e)) ≡ s) × (crosses M p (plus e) ≡ true)
@@ -109,30 +96,6 @@ module _ (M : Model) (sound : Sound M) (s : ℕ) (p : Plane) where
 
   pub faces_not_zero : (f : ℕ) → IsIn f (straddling_faces M p s) → f ≢ 0
   faces_not_zero f i z = no_zero f z (sound.faces_fit f (face_facts M s p f i).0)
-
-  module _ (t : ℕ) (hold : AllHold (first_conditions M s p t)) where
-    none_off : first_such (λ e. not (cuts_lattice p (start M (plus e)) (finish M (plus e)))) (crossing_edges M p s) ≡ None
-    unfolding first_conditions
-    none_off = none_found (first_such (λ e. not (cuts_lattice p (start M (plus e)) (finish M (plus e)))) (crossing_edges M p s)) hold.1.1.1.1.1.1.1.1.1.1.1.1.0
-
-    none_touched : first_such (is_touched M p) (straddling_faces M p s) ≡ None
-    unfolding first_conditions
-    none_touched = none_found (first_such (is_touched M p) (straddling_faces M p s)) hold.1.1.1.1.1.1.1.1.1.1.1.1.1.0
-
-    none_often : first_such (is_cut_often M p) (straddling_faces M p s) ≡ None
-    unfolding first_conditions
-    none_often = none_found (first_such (is_cut_often M p) (straddling_faces M p s)) hold.1.1.1.1.1.1.1.1.1.1.1.1.1.1.0
-
-    none_crossed : first_such (is_crossed M p) (straddling_faces M p s) ≡ None
-    unfolding first_conditions
-    none_crossed = none_found (first_such (is_crossed M p) (straddling_faces M p s)) hold.1.1.1.1.1.1.1.1.1.1.1.1.1.1.1.0
-
-    numbers : AreLeft (taken_in M) (needed_for_rewritings M s p)
-    unfolding first_conditions
-    numbers = numbers_are_left (taken_in M) _ hold.1.1.1.1.1.1.1.1.1.1.1.1.1.1.1.1
-
-    pub cuttable : Cuttable M s p
-    cuttable = grind (arith, not-false, none_such, none_off, none_touched, none_often, none_crossed, numbers)
 
   -- ---- the halves of an edge that crosses the plane stand in different loops
 

@@ -5,13 +5,14 @@ use Rattle.euler_operators.specs.Common.{Plane, are_opposite, height, is_on, cut
 use Rattle.euler_operators.specs.Table as table
 use Rattle.euler_operators.proofs.Common.{mate_plus, mate_minus, IsIn-filter, count-filter, filter_passes, plus_there, minus_there, IsIn_or_not, opposite_turned, level_on, not_level}
 use Rattle.euler_laws.specs.Laws.{AreAccepted, effects}
-use Rattle.euler_laws.proofs.Common.{all_hold, all_where-rises, IsIn-from_listed, listed-from_in, counted_once, none_counted, all_where_has, halves_of_edge, half_after, loop_after}
+use Rattle.euler_laws.proofs.Common.{all_where-rises, IsIn-from_listed, listed-from_in, counted_once, none_counted, all_where_has, halves_of_edge, half_after, loop_after}
 use Rattle.shapes.specs.Common.{start, edges_of, finish, loops_of, boundary, taken_in, growing, crosses, crossing_edges, straddling_faces, with_crossings, first_conditions, is_place, place_point, places, from_place}
 use Rattle.shapes.proofs.Common.{face_of_loop, items_counted, items_there}
+use Rattle.shapes.proofs.split.Facts.{Cuttable, split_begins}
 use Rattle.split_drawing_laws.specs.crossings.CrossingOps.{crossing_ops}
 use Rattle.split_drawing_laws.specs.crossings.Kept.{Kept}
 use Rattle.split_drawing_laws.specs.crossings.AtPlace.{AtPlace}
-use Rattle.split_drawing_laws.proofs.crossings.Premises.{picked_none, Cuttable, cuttable, crossing_here, crossing_point, one_point, minus_crosses, face_facts, edge_listed}
+use Rattle.split_drawing_laws.proofs.crossings.Premises.{picked_none, crossing_here, crossing_point, one_point, minus_crosses, face_facts, edge_listed}
 use Rattle.split_drawing_laws.proofs.crossings.Runs.{AreCut, Going, Gone, all_gone, all_made, none_cut, kept_start}
 
 -- ---- where the cut places of a face are, once the edges are cut
@@ -28,7 +29,7 @@ module _ (M : Model) (sound : Sound M) (f : ℕ) (there : Has M.faces f) where
 
 module _ (M : Model) (s : ℕ) (p : Plane) (t : ℕ) (sound : Sound M) (accepted : first_refusal (first_conditions M s p t) ≡ None) where
   pub can_cut : Cuttable M s p
-  can_cut = cuttable M sound s p t (all_hold (first_conditions M s p t) accepted)
+  can_cut = (split_begins M s p t accepted).cuttable
 
   pub begins : Going M p (growing M) [] (crossing_edges M p s)
   begins = grind (arith, none_cut, crossing_here, can_cut, count-filter, counted_once, all_where-rises)

@@ -1,12 +1,13 @@
 -- Edges cut at points between their ends: the areas of loops, the normals and planes of faces and the volumes of solids stay.
 use Rattle.std.proofs.Common.{◌≡◌, ◌≢◌, ℕ, true, not, nat_eq, ◌&&◌, List, [], ◌∷◌, unwrap_or, refl, sym, ap, ◌∙◌, ◌⊎◌, inl, inr, subst, arith, ◌+◌, None, flat_map}
 use Rattle.std.proofs.lemmas.Bool.Decides.{eqb_tells}
-use Rattle.euler_operators.specs.Common.{Point, Plane, origin, moved, cross, is_on, are_opposite, cuts_lattice, same_point, direction, IsIn, count, canonical, mate, edge_of, plus, minus, Model, LoopContent, lone, cycle, no_face, items_of, tail, content, outer, point_of, rings_of, loop_of, face_of, solid_of, faces_of, HasHalf, Has, Sound, face_at, AllHold, first_refusal, lists}
+use Rattle.euler_operators.specs.Common.{Point, Plane, origin, moved, cross, is_on, are_opposite, cuts_lattice, same_point, direction, IsIn, count, canonical, mate, edge_of, plus, minus, Model, LoopContent, lone, cycle, no_face, items_of, tail, content, outer, point_of, rings_of, loop_of, face_of, solid_of, faces_of, HasHalf, Has, Sound, face_at, first_refusal, lists}
 use Rattle.euler_operators.specs.Table as table
 use Rattle.euler_operators.proofs.Common.{count-canonical, IsIn_head, plus_row, same_edge, edge_of-mate, mate_plus, mate_minus, IsIn_rest, IsIn_one, all_mapped, item_there, item_loop, mate_there, plus_there, minus_there, count-append, tick_other, IsIn_or_not, moved_none}
-use Rattle.euler_laws.proofs.Common.{content-new, all_hold, IsIn-from_listed}
-use Rattle.shapes.specs.Common.{start, finish, loops_of, items_in, boundary, vertices_on, vertices_in, corners, rewritten, area, normal, anchor, first_vertex, plane_of, is_plane_of, is_flat, six_volume, negated, next_cut, all_cut, with_crossings, Growing, first_such, growing, crossing_edges, first_conditions}
-use Rattle.shapes.proofs.Common.{area-append, moved_turned, area_same, cross_back, moved_back, are_on, none_such, none_found}
+use Rattle.euler_laws.proofs.Common.{content-new, IsIn-from_listed}
+use Rattle.shapes.specs.Common.{start, finish, loops_of, items_in, boundary, vertices_on, vertices_in, corners, rewritten, area, normal, anchor, first_vertex, plane_of, is_plane_of, is_flat, six_volume, negated, next_cut, all_cut, with_crossings, Growing, growing, crossing_edges, first_conditions}
+use Rattle.shapes.proofs.Common.{area-append, moved_turned, area_same, cross_back, moved_back, are_on, none_such}
+use Rattle.shapes.proofs.split.Facts.{split_begins}
 use Rattle.split_drawing_laws.specs.crossings.Kept.{Kept}
 use Rattle.split_drawing_laws.proofs.crossings.OneCut.{doubled_none, doubled, edge_cut}
 use Rattle.split_drawing_laws.proofs.crossings.Steps.{CutGoes, cut_sound, rewrites, cut_keeps, point_new, tail_old, tail_new, tail_other}
@@ -282,12 +283,8 @@ all_measured M p s sound g ds (e ∷ rs) w o = measured_on g.model (next_cut p g
 module _ (M : Model) (s : ℕ) (p : Plane) (t : ℕ) (sound : Sound M) (accepted : first_refusal (first_conditions M s p t) ≡ None) where
   -- ---- the faces of the solid are flat
 
-  none_bent : AllHold (first_conditions M s p t) → first_such (λ f. not (is_flat M f)) (faces_of M s) ≡ None
-  unfolding first_conditions
-  none_bent hold = none_found (first_such (λ f. not (is_flat M f)) (faces_of M s)) hold.1.1.1.1.1.1.1.1.1.1.0
-
   listed_flat : (f : ℕ) → IsIn f (faces_of M s) → is_flat M f ≡ true
-  listed_flat f i = not-false (is_flat M f) (none_such (λ g. not (is_flat M g)) (faces_of M s) (none_bent (all_hold (first_conditions M s p t) accepted)) f i)
+  listed_flat f i = not-false (is_flat M f) (none_such (λ g. not (is_flat M g)) (faces_of M s) (split_begins M s p t accepted).none_bent f i)
 
   pub all_flat : (f : ℕ) → Has M.faces f → solid_of M f ≡ s → is_flat M f ≡ true
   all_flat f there of_s = listed_flat f (in_solid M f s there of_s)

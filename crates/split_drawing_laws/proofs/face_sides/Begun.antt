@@ -5,9 +5,10 @@ use Rattle.std.proofs.lemmas.Bool.{false_from_ne_true}
 use Rattle.euler_operators.proofs.Common.{first_fails, and_false, tick_other, count-append, tick_same, IsIn_or_not, in-holds, content_cycle, cycle_there, lone_there, same_outer, never_lone, same_solid as solid_same, zero_first_where, IsIn-map, IsIn-filter, IsIn_one, IsIn_some_head, from_map}
 use Rattle.euler_operators.specs.Common.{Plane, is_above, is_below, count, IsIn, head_or, Model, cycle, items_of, content, tail, loop_of, face_of, solid_of, outer, after, cycle_of, point_of, faces_of, LoopContent, has_half, Sound, Has, HasHalf, face_at, is_lone, lists}
 use Rattle.euler_operators.specs.Table as table
-use Rattle.euler_laws.proofs.Common.{half_after, loop_after, half_face, all_hold, no_zero, loop_row, not_lone_cycle, IsIn-from_listed, listed-from_in, none_counted}
-use Rattle.shapes.proofs.Common.{none_found, none_is_lone}
-use Rattle.shapes.specs.Common.{start, finish, least_lone, boundary, vertices_on, loops_of, vertices_in, corners, some_above, reaches_above, straddling_faces, straddles, reaches_below, is_place, places, with_crossings, from_place, drawn_pairs, all_pairs, faces_drawn, undrawn, straddling_pairs, with_drawings, first_conditions}
+use Rattle.euler_laws.proofs.Common.{half_after, loop_after, half_face, no_zero, loop_row, not_lone_cycle, IsIn-from_listed, listed-from_in, none_counted}
+use Rattle.shapes.proofs.Common.{none_is_lone}
+use Rattle.shapes.proofs.split.Facts.{split_begins}
+use Rattle.shapes.specs.Common.{start, finish, boundary, vertices_on, loops_of, vertices_in, corners, some_above, reaches_above, straddling_faces, straddles, reaches_below, is_place, places, with_crossings, from_place, drawn_pairs, all_pairs, faces_drawn, undrawn, straddling_pairs, with_drawings}
 use Rattle.split_drawing_laws.specs.crossings.Kept.{Kept}
 use Rattle.split_drawing_laws.specs.crossings.Laws.{CanBegin}
 use Rattle.split_drawing_laws.proofs.crossings.Premises.{item_in_face, face_facts, in_solid, faces_not_zero, loop_in_face, solid_facts}
@@ -79,8 +80,7 @@ module _ (M : Model) (s : ℕ) (p : Plane) (t : ℕ) (sound : Sound M) (begins :
   -- ---- no loop of the solid is lone
 
   no_lone : table.first_where (λ _ row. is_lone row.content && lists (faces_of M s) row.face) M.loops ≡ 0
-  unfolding first_conditions
-  no_lone = none_is_lone M (faces_of M s) (none_found (least_lone M (faces_of M s)) (all_hold (first_conditions M s p t) begins).1.1.1.1.1.1.1.1.1.0)
+  no_lone = none_is_lone M (faces_of M s) (split_begins M s p t begins).none_lone
 
   is_cycle : (q : ℕ) → Has M.loops q → solid_of M (face_of M q) ≡ s → content M q ≡ cycle (items_of (content M q))
   is_cycle q there of_s = not_lone_cycle (content M q) (first_fails (is_lone (content M q)) (lists (faces_of M s) (face_of M q))

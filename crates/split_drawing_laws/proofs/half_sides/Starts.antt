@@ -8,7 +8,8 @@ use Rattle.euler_laws.proofs.Common.{halves_of_edge, half_after, loop_after, bac
 use Rattle.shapes.specs.Common.{start, finish, boundary, crosses, straddling_faces, crossing_edges, is_place, places, with_crossings, from_place}
 use Rattle.split_drawing_laws.specs.crossings.Kept.{Kept}
 use Rattle.split_drawing_laws.specs.crossings.Laws.{CanBegin}
-use Rattle.split_drawing_laws.proofs.crossings.Premises.{item_in_face, Cuttable, crossing_is_place, edge_facts, plus_crosses, minus_crosses, minus_is}
+use Rattle.shapes.proofs.split.Facts.{Cuttable}
+use Rattle.split_drawing_laws.proofs.crossings.Premises.{item_in_face, crossing_is_place, edge_facts, plus_crosses, minus_crosses, minus_is}
 use Rattle.split_drawing_laws.proofs.crossings.Whole.{plus_on, minus_off, can_cut, crossings_keep, crossings_sound, start_minus, start_plus}
 use Rattle.split_drawing_laws.proofs.crossings.Runs.{kept_point}
 use Rattle.split_drawing_laws.proofs.pairs.LoopPlaces.{on_place, before_after}

@@ -19,7 +19,8 @@ use Rattle.split_drawing_laws.specs.drawings.Laws.{CanBeDrawn}
 use Rattle.split_drawing_laws.specs.pairs.Laws.{rewriting_ops}
 use Rattle.split_drawing_laws.proofs.drawings.Counted.{pairs_counted, of_all_pairs, fresh_taken, straddling_apart, faces_are}
 use Rattle.split_drawing_laws.proofs.crossings.Whole.{place_starts, item_face, can_cut, crossings_accepted, crossings_made, crossings_sound, crossings_counted, crossings_keep}
-use Rattle.split_drawing_laws.proofs.crossings.Premises.{Cuttable, needed_for_rewritings, face_facts}
+use Rattle.shapes.proofs.split.Facts.{Cuttable, needed_for_rewritings}
+use Rattle.split_drawing_laws.proofs.crossings.Premises.{face_facts}
 use Rattle.split_drawing_laws.proofs.drawings.Whole.{drawing_accepted, drawing_made, drawing_sound, drawing_stays, drawing_fresh}
 use Rattle.split_drawing_laws.proofs.loop_sides.SidesWhole.{faces_go_on}
 use Rattle.split_drawing_laws.proofs.pairs.Sorted.{sorted_apart, all_paired, between, all_fit, lone_in_loop, points_apart}

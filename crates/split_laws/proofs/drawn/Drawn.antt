@@ -1,13 +1,14 @@
 -- What the conditions of a split say once the faces are drawn: the solid can be opened along its section, and has a face on either side.
-use Rattle.std.proofs.Common.{◌≡◌, ℕ, true, false, nat_eq, List, [], ◌++◌, length, None, IsTrue, ap, ◌∙◌, subst, arith, not, ◌&&◌, ◌||◌, is_some, unwrap_or, refl, sym, inl, inr, true≢false, append-nil, pos, int_lt}
-use Rattle.std.proofs.lemmas.Bool.{and_parts, not-true, false_from_ne_true}
+use Rattle.std.proofs.Common.{◌≡◌, ℕ, true, false, nat_eq, List, [], None, IsTrue, ap, ◌∙◌, subst, arith, not, ◌&&◌, ◌||◌, is_some, unwrap_or, refl, sym, inl, inr, true≢false, append-nil, pos, int_lt}
+use Rattle.std.proofs.lemmas.Bool.{false_from_ne_true}
 use Rattle.std.specs.List.{list_any}
-use Rattle.euler_operators.specs.Common.{Plane, Model, solid_of, is_number, faces_of, no_point, content, tail, loop_of, face_of, point_of, Sound, Has, HasHalf, AllHold, lists, face_at, is_lone, is_above, is_below, dot, direction, IsIn, edge_of, plus, minus}
+use Rattle.euler_operators.specs.Common.{Plane, Model, solid_of, is_number, faces_of, no_point, content, tail, loop_of, face_of, point_of, Sound, Has, HasHalf, lists, face_at, is_lone, is_above, is_below, dot, direction, IsIn, edge_of, plus, minus}
 use Rattle.euler_operators.specs.Table as table
 use Rattle.euler_operators.proofs.Common.{count-filter, IsIn-filter, filter_passes, no_row, zero_first_where, first_fails, IsIn_or_not, in-holds, cycle_there, plus_there, minus_there, loop_there}
-use Rattle.euler_laws.proofs.Common.{all_hold, none_refuses, all_hold-front, all_hold-back, no_zero, all_where-rises, IsIn-from_listed, listed-from_in, halves_of_edge, loop_after, half_face, loop_row, not_lone_cycle}
-use Rattle.shapes.proofs.Common.{none_found, zero_found, numbers_are_left, none_is_lone, face_of_loop}
-use Rattle.shapes.specs.Common.{AreLeft, least_lone, loops_of, corners, found, reaches_above, reaches_below, face_is_above, faces_above, straddles, crossing_edges, with_crossings, Drawing, straddling_pairs, with_drawings, below_halves, section_ends, least_branched, section_cycles, has_stray_hole, first_conditions, later_conditions, section_conditions, split_conditions, split_refusal, normal}
+use Rattle.euler_laws.proofs.Common.{no_zero, all_where-rises, IsIn-from_listed, listed-from_in, halves_of_edge, loop_after, half_face, loop_row, not_lone_cycle}
+use Rattle.shapes.proofs.Common.{none_is_lone, face_of_loop}
+use Rattle.shapes.proofs.split.Facts.{SplitBegins, SectionOpens, none_first, split_begins, split_opens}
+use Rattle.shapes.specs.Common.{least_lone, loops_of, corners, reaches_above, reaches_below, face_is_above, faces_above, straddles, crossing_edges, with_crossings, Drawing, straddling_pairs, with_drawings, below_halves, section_cycles, has_stray_hole, split_refusal, normal}
 use Rattle.split_drawing_laws.specs.crossings.Laws.{CanBegin}
 use Rattle.split_drawing_laws.proofs.crossings.Whole.{crossings_keep, crossings_cut, crossings_sound, same_solid, not_cut}
 use Rattle.split_drawing_laws.proofs.crossings.Premises.{solid_facts, any_passes, tail_in_face, in_solid}
@@ -15,10 +16,8 @@ use Rattle.split_drawing_laws.proofs.pairs.Whole.{can_be_drawn, rewritings_sound
 use Rattle.split_drawing_laws.specs.drawings.DrawnIn.{Stays}
 use Rattle.split_drawing_laws.specs.drawings.Laws.{CanBeDrawn}
 use Rattle.split_drawing_laws.proofs.drawings.Whole.{drawing_stays}
-use Rattle.split_opening_laws.specs.cycles.SectionCycles.{IsUnbranched}
 use Rattle.split_opening_laws.proofs.cycles.RisingLists.{filter_rises}
 use Rattle.split_opening_laws.specs.sections.Capped.{HasCaps}
-use Rattle.split_opening_laws.specs.Numbers.{needed_for_openings}
 use Rattle.split_opening_laws.specs.sections.InTurn.{CanBeOpenedInTurn}
 use Rattle.split_opening_laws.proofs.sections.InTurn.{can_be_opened}
 use Rattle.split_laws.specs.drawn.Kept.{KeepsSolids, HasFace}
@@ -47,51 +46,29 @@ module _ (M : Model) (s : ℕ) (p : Plane) (t : ℕ) (sound : Sound M) (accepted
   abbrev above : List ℕ
   above = faces_above (with_drawings M s p).model p s
 
-  abbrev halves : List ℕ
-  halves = below_halves (with_drawings M s p).model (faces_above (with_drawings M s p).model p s) s
-
-  abbrev cycles : List (List ℕ)
-  cycles = section_cycles (with_drawings M s p).model (below_halves (with_drawings M s p).model (faces_above (with_drawings M s p).model p s) s)
-
-  all : AllHold (first_conditions M s p t ++ later_conditions s p d)
-  unfolding split_conditions
-  all = all_hold (first_conditions M s p t ++ later_conditions s p d) accepted
-
-  first : AllHold (first_conditions M s p t)
-  first = all_hold-front (first_conditions M s p t) (later_conditions s p d) all
-
-  later : AllHold (later_conditions s p d)
-  later = all_hold-back (first_conditions M s p t) (later_conditions s p d) all
-
   pub begins : CanBegin M s p t
-  begins = none_refuses (first_conditions M s p t) first
+  begins = none_first M s p t accepted
+
+  first : SplitBegins M s p t
+  first = split_begins M s p t begins
+
+  later : SectionOpens s p (with_drawings M s p)
+  later = split_opens M s p t accepted
 
   pub t_fits : IsTrue (is_number t)
-  unfolding first_conditions
-  t_fits = first.1.0
+  t_fits = first.t_fits
 
   pub none_lone : least_lone M (faces_of M s) ≡ None
-  unfolding first_conditions
-  none_lone = none_found (least_lone M (faces_of M s)) first.1.1.1.1.1.1.1.1.1.0
+  none_lone = first.none_lone
 
   pub meets : (list_any (reaches_above M p) (faces_of M s) ≡ true) × (list_any (reaches_below M p) (faces_of M s) ≡ true)
-  unfolding first_conditions
-  meets = and_parts (list_any (reaches_above M p) (faces_of M s)) (list_any (reaches_below M p) (faces_of M s)) first.1.1.1.1.1.1.1.1.1.1.1.0
+  meets = first.meets
 
   pub never_stuck : (with_drawings M s p).stuck ≡ 0
-  never_stuck = zero_found d.stuck (none_found (found d.stuck) later.0)
-
-  unbranched : IsUnbranched D halves
-  unfolding section_conditions
-  unbranched = none_found (least_branched D (section_ends D halves)) later.1.0
+  never_stuck = later.never_stuck
 
   pub no_stray : has_stray_hole (with_drawings M s p).model p (section_cycles (with_drawings M s p).model (below_halves (with_drawings M s p).model (faces_above (with_drawings M s p).model p s) s)) ≡ false
-  unfolding section_conditions
-  no_stray = not-true (has_stray_hole D p cycles) later.1.1.0
-
-  left : AreLeft d.taken (needed_for_openings (length halves) (length cycles))
-  unfolding section_conditions
-  left = numbers_are_left d.taken _ later.1.1.1
+  no_stray = later.no_stray
 
   pub drawn_sound : Sound (with_drawings M s p).model
   drawn_sound = rewritings_sound M s p t sound begins
@@ -108,9 +85,7 @@ module _ (M : Model) (s : ℕ) (p : Plane) (t : ℕ) (sound : Sound M) (accepted
   drawn_keeps = drawing_keeps p (with_crossings M s p) (straddling_pairs M s p) can
 
   pub t_free : table.get (with_drawings M s p).model.solids t ≡ None
-  unfolding first_conditions
-  t_free = ap (λ u. table.get u t) (drawn_keeps.solids ∙ (crossings_keep M s p t sound begins).solids)
-      ∙ no_row (table.get M.solids t) (not-true (table.has M.solids t) first.1.1.1.0)
+  t_free = ap (λ u. table.get u t) (drawn_keeps.solids ∙ (crossings_keep M s p t sound begins).solids) ∙ no_row (table.get M.solids t) first.t_free
 
   -- a face above is there and of the solid
   pub above_facts : (f : ℕ) → lists (faces_above (with_drawings M s p).model p s) f ≡ true → Has (with_drawings M s p).model.faces f × (solid_of (with_drawings M s p).model f ≡ s)
@@ -119,7 +94,7 @@ module _ (M : Model) (s : ℕ) (p : Plane) (t : ℕ) (sound : Sound M) (accepted
   -- the solid can be opened along its section
   pub can_open_all : CanBeOpenedInTurn (faces_above (with_drawings M s p).model p s) s (record { model = (with_drawings M s p).model; taken = (with_drawings M s p).taken; caps = [] })
       (section_cycles (with_drawings M s p).model (below_halves (with_drawings M s p).model (faces_above (with_drawings M s p).model p s) s))
-  can_open_all = can_be_opened D above s d.taken drawn_sound (rewritings_free M s p t sound begins) (λ f l. (above_facts f l).1) (λ f l. (above_facts f l).0) unbranched left
+  can_open_all = can_be_opened D above s d.taken drawn_sound (rewritings_free M s p t sound begins) (λ f l. (above_facts f l).1) (λ f l. (above_facts f l).0) later.unbranched later.left
 
   -- and has no caps yet
   pub no_caps : HasCaps (faces_above (with_drawings M s p).model p s) s (record { model = (with_drawings M s p).model; taken = (with_drawings M s p).taken; caps = [] })

@@ -1,13 +1,14 @@
 -- The drawn model of a split that isn't refused: its faces are flat, and its section lies on the plane.
 use Rattle.std.proofs.Common.{◌≡◌, ◌≢◌, ℕ, true, false, not, ℤ, pos, List, [], ◌∷◌, None, is_some, refl, sym, ap, subst, ◌∙◌, arith, true≢false, inl, inr, int_lt, int_eq, append-nil}
 use Rattle.std.proofs.lemmas.Int.{ints}
-use Rattle.std.proofs.lemmas.Bool.{and_parts, not-true}
-use Rattle.euler_operators.specs.Common.{Plane, height, origin, same_point, direction, is_on, is_above, is_below, IsIn, mate, Model, tail, after, loop_of, face_of, outer, point_of, solid_of, faces_of, Sound, Has, HasHalf, AllHold, face_at, lists}
+use Rattle.std.proofs.lemmas.Bool.{and_parts}
+use Rattle.euler_operators.specs.Common.{Plane, height, origin, same_point, direction, is_on, is_above, is_below, IsIn, mate, Model, tail, after, loop_of, face_of, outer, point_of, solid_of, faces_of, Sound, Has, HasHalf, face_at, lists}
 use Rattle.euler_operators.proofs.Common.{count-append, IsIn_or_not, mate-mate, cycle_there, loop_there as has_loop, item_there, mate_there, item_loop}
 use Rattle.euler_operators.specs.Table as table
-use Rattle.euler_laws.proofs.Common.{half_after, loop_after, half_face, all_hold, listed-from_in}
-use Rattle.shapes.specs.Common.{start, corners, plane_of, faces_above, with_drawings, below_halves, section_cycles, first_conditions, split_refusal}
+use Rattle.euler_laws.proofs.Common.{half_after, loop_after, half_face, listed-from_in}
+use Rattle.shapes.specs.Common.{start, corners, plane_of, faces_above, with_drawings, below_halves, section_cycles, split_refusal}
 use Rattle.shapes.proofs.Common.{are_on, told_anywhere}
+use Rattle.shapes.proofs.split.Facts.{split_begins}
 use Rattle.split_opening_laws.specs.cycles.SectionCycles.{IsBelowHalf, AreSectionCycles}
 use Rattle.split_drawing_laws.specs.drawn_volumes.Laws.{LiesOnOld}
 use Rattle.split_drawing_laws.proofs.drawn_volumes.Bounds.{OnFace, on_face}
@@ -66,14 +67,6 @@ module _ (M : Model) (s : ℕ) (p : Plane) (t : ℕ) (sound : Sound M) (accepted
   D_sound : Sound D
   D_sound = drawn_sound M s p t sound accepted
 
-  -- the plane has a direction
-  directed : AllHold (first_conditions M s p t) → same_point (direction p) origin ≡ false
-  unfolding first_conditions
-  directed hold = not-true (same_point (direction p) origin) hold.1.1.1.1.1.1.1.1.0
-
-  some_way : same_point (direction p) origin ≡ false
-  some_way = directed (all_hold (first_conditions M s p t) (begins M s p t sound accepted))
-
   -- ---- each face lies on the plane of an old one, from all of whose points it is told the same
 
   alike : AllTellAlike D s
@@ -90,7 +83,7 @@ module _ (M : Model) (s : ℕ) (p : Plane) (t : ℕ) (sound : Sound M) (accepted
 
   section_on : LieOn D p cycles
   section_on = record {
-    some_way = some_way;
+    some_way = (split_begins M s p t (begins M s p t sound accepted)).directed;
     on_plane = λ b i. between_on D D_sound p s above drawn_sided b (half_in D above s cycles (can_open_all M s p t sound accepted).cycles.cycles b i);
   }
 

@@ -1,15 +1,16 @@
 use Rattle.std.proofs.Common.{[], Ok, sym, ap, subst, ◌∙◌}
 use Rattle.euler_operators.specs.Common.{verdict}
-use Rattle.shapes.specs.Common.{split_above}
+use Rattle.shapes.proofs.split.Facts.{split_begins}
+use Rattle.split_laws.specs.SplitOps.{split_above}
 use Rattle.split_drawing.specs.Noted.{AreSides}
 use Rattle.split_drawing.specs.Progress.{drawing_of}
 use Rattle.split_sections.specs.section_checks.Sections.{IsSection}
-use Rattle.plane_split.proofs.Conditions.{plane_within, still_there, later_decide}
+use Rattle.plane_split.proofs.Conditions.{still_there, later_decide}
 use Rattle.plane_split.proofs.Parted.{split_is}
 use Rattle.plane_split.proofs.steps.take_steps.Goals as goal
 
 pub check_later-requires-clause-plane : goal.check_later-requires-clause-plane
-check_later-requires-clause-plane c = plane_within c.args.draft.now.model c.args.s c.args.plane.now c.args.upper c.requires.begins
+check_later-requires-clause-plane c = (split_begins c.args.draft.now.model c.args.s c.args.plane.now c.args.upper c.requires.begins).in_range
 
 pub check_later-requires-clause-there : goal.check_later-requires-clause-there
 check_later-requires-clause-there c =

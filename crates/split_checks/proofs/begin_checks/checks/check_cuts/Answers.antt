@@ -2,10 +2,9 @@ use Rattle.std.proofs.Common.{◌≡◌, ◌∙◌, ◌+◌, ℕ, List, Result, 
 use Rattle.euler_operators.specs.Common.{Plane, code, Model, first_refusal, strictly_rises}
 use Rattle.euler_operators.specs.declared.Refusal.{Refusal}
 use Rattle.euler_laws.proofs.Common.{verdict_passed, verdict_failed}
-use Rattle.shapes.specs.Common.{first_such, numbers_left, taken_in, crossing_edges, straddling_faces, cut_conditions}
+use Rattle.shapes.specs.Common.{first_such, numbers_left, taken_in, crossing_edges, straddling_faces, straddling_conditions, cut_conditions}
 use Rattle.split_checks.specs.declared.cuts.Pair.{Pair}
 use Rattle.split_checks.specs.Cuts.{all_pairs, codes, cut_at, paired_face}
-use Rattle.split_checks.specs.begin_checks.Conditions.{face_conditions}
 use Rattle.split_checks.specs.cut_places.Crossings.{AreCrossing, is_off}
 use Rattle.split_checks.specs.cut_places.Meetings.{faces_in}
 use Rattle.split_checks.specs.cut_places.Places.{AreFacesAlong}
@@ -20,15 +19,15 @@ use Rattle.split_checks.proofs.begin_checks.checks.check_cuts.Goals as goal
 left : {A B : Type 0} (M : Model) (s : ℕ) (p : Plane) (es fs : List ℕ) → es ≡ crossing_edges M p s → fs ≡ straddling_faces M p s
     → (edges : Result A ℕ) (cut : A) → edges ≡ Ok cut → IfOk edges (λ _. first_such (is_off M p) es ≡ None)
     → (faces : Result (B × Vec Pair Global) Refusal) (paired : B × Vec Pair Global) → faces ≡ Ok paired
-    → IfOk faces (λ _. first_refusal (face_conditions M p fs) ≡ None) → IfOk faces (λ paired. map codes paired.1.items ≡ all_pairs M p fs)
+    → IfOk faces (λ _. first_refusal (straddling_conditions M p fs) ≡ None) → IfOk faces (λ paired. map codes paired.1.items ≡ all_pairs M p fs)
     → (m n k : ℕ) → m ≡ min (length es) 1000001 → n ≡ min k 1000001 → k ≡ vec_len paired.1
     → first_refusal (numbers_left (taken_in M) (record { faces = n; loops = n; edges = m + n; vertices = m })) ≡ first_refusal (cut_conditions M p (crossing_edges M p s) (straddling_faces M p s))
 left M s p es fs along straddling edges cut is_cut on faces paired is_paired drawable pairs m n k is_m is_n is_k =
     let held : vec_len paired.1 ≡ length paired.1.items = omega (arith, paired.1.ok.0) in
     let whole = at_ok edges cut (λ _. first_such (is_off M p) es ≡ None) is_cut on in
-    let able = at_ok faces paired (λ _. first_refusal (face_conditions M p fs) ≡ None) is_paired drawable in
+    let able = at_ok faces paired (λ _. first_refusal (straddling_conditions M p fs) ≡ None) is_paired drawable in
     let are = at_ok faces paired (λ paired. map codes paired.1.items ≡ all_pairs M p fs) is_paired pairs in
-    numbers_decide M s p (sym whole ∙ ap (first_such (is_off M p)) along) (ap (λ gs. first_refusal (face_conditions M p gs)) (sym straddling) ∙ able) m n
+    numbers_decide M s p (sym whole ∙ ap (first_such (is_off M p)) along) (ap (λ gs. first_refusal (straddling_conditions M p gs)) (sym straddling) ∙ able) m n
     (is_m ∙ ap (λ (ks : List ℕ). min (length ks) 1000001) along) (is_n ∙ ap (λ j. min j 1000001) (is_k ∙ held ∙ many_pairs M p _ _ (are ∙ ap (all_pairs M p) straddling)))
 
 pub cut_edges-requires-clause-crossing : goal.cut_edges-requires-clause-crossing
@@ -65,8 +64,8 @@ returns-in-Err-2-clause-refused c =
     let M = c.args.arena.now.model in let p = c.args.plane in
     let whole = sym (at_ok c.in_ok-cut.field-0 c.in-Ok.cut (λ _. first_such (is_off M p) c.as_slice-edges.result.now ≡ None) c.in-Ok.is c.in_ok-cut.ensures.whole) ∙ ap (first_such (is_off M p)) (c.as_slice-edges.ensures.value ∙ c.requires.met.edges) in
     faces_refused M c.args.s p whole c.in-Err-2.refusal
-    (ap (λ fs. first_refusal (face_conditions M p fs)) (sym (ap faces_in c.as_slice-straddling.ensures.value ∙ solid_faces M p c.args.s c.args.met.now c.requires.met))
-    ∙ at_err c.in_ok-paired.field-0 c.in-Err-2.refusal (λ refusal. first_refusal (face_conditions M p (faces_in c.as_slice-straddling.result.now)) ≡ Some refusal) c.in-Err-2.is c.in_ok-paired.ensures.refused)
+    (ap (λ fs. first_refusal (straddling_conditions M p fs)) (sym (ap faces_in c.as_slice-straddling.ensures.value ∙ solid_faces M p c.args.s c.args.met.now c.requires.met))
+    ∙ at_err c.in_ok-paired.field-0 c.in-Err-2.refusal (λ refusal. first_refusal (straddling_conditions M p (faces_in c.as_slice-straddling.result.now)) ≡ Some refusal) c.in-Err-2.is c.in_ok-paired.ensures.refused)
 
 pub returns-in-Ok-check_left-clause-accepted : goal.returns-in-Ok-check_left-clause-accepted
 returns-in-Ok-check_left-clause-accepted c =
