@@ -1,16 +1,14 @@
 -- Each half-edge of the section stands in a cycle that has its caps.
-use Rattle.std.proofs.Common.{◌≡◌, ℕ, suc, ◌+◌, ◌<◌, List, [], ◌∷◌, ◌++◌, None, refl, sym, ap, subst, ◌∙◌, arith, inl, inr, flat_map, length, get_or}
+use Rattle.std.proofs.Common.{◌≡◌, ℕ, suc, ◌+◌, ◌<◌, List, [], ◌∷◌, refl, sym, ap, subst, ◌∙◌, arith, inl, inr, flat_map, length, get_or}
 use Rattle.std.proofs.lemmas.List.{length-map}
-use Rattle.euler_operators.specs.Common.{Plane, IsIn, Model}
+use Rattle.euler_operators.specs.Common.{IsIn}
 use Rattle.euler_operators.proofs.Common.{count-append, IsIn_or_not}
-use Rattle.euler_laws.proofs.Common.{all_hold, all_hold-back}
-use Rattle.shapes.proofs.Common.{none_found}
-use Rattle.shapes.specs.Common.{with_drawings, least_branched, section_ends, first_conditions, later_conditions, section_conditions, split_conditions, split_refusal}
-use Rattle.split_opening_laws.specs.cycles.SectionCycles.{IsUnbranched}
+use Rattle.shapes.specs.Common.{with_drawings}
+use Rattle.shapes.proofs.split.Facts.{split_opens}
 use Rattle.split_opening_laws.proofs.cycles.NextBelow.{cycles_cover}
 use Rattle.split_laws.proofs.drawn.Drawn.{drawn_sound, above_facts}
 use Rattle.undo_journal.specs.Machine.{held}
-use Rattle.split_caps.specs.Capped.{section_of, cycles_of, caps_of, lower_numbers}
+use Rattle.split_caps.specs.Capped.{cycles_of, caps_of, lower_numbers}
 use Rattle.split_caps.specs.Laws.{SectionsAreCapped}
 use Rattle.split_caps.proofs.Whole.{caps_are_numbered}
 
@@ -26,16 +24,10 @@ as_many : (f : ℕ) (cs : List (List ℕ)) → length (lower_numbers f cs) ≡ l
 as_many f [] = refl
 as_many f (bs ∷ cs) = ap suc (as_many (f + length bs + 1) cs)
 
-unbranched : (M : Model) (s : ℕ) (p : Plane) (t : ℕ) → split_refusal M s p t ≡ None → IsUnbranched (with_drawings M s p).model (section_of M s p)
-unfolding split_conditions section_conditions
-unbranched M s p t accepted =
-    none_found (least_branched (with_drawings M s p).model (section_ends (with_drawings M s p).model (section_of M s p)))
-    (all_hold-back (first_conditions M s p t) (later_conditions s p (with_drawings M s p)) (all_hold (first_conditions M s p t ++ later_conditions s p (with_drawings M s p)) accepted)).1.0
-
 pub sections_are_capped : SectionsAreCapped
 sections_are_capped before after s p t h sound made i =
     let M = held before in
-    let covers = cycles_cover (with_drawings M s p).model _ s (drawn_sound M s p t sound made.0) (λ f l. (above_facts M s p t sound made.0 f l).1) (unbranched M s p t made.0) in
+    let covers = cycles_cover (with_drawings M s p).model _ s (drawn_sound M s p t sound made.0) (λ f l. (above_facts M s p t sound made.0 f l).1) (split_opens M s p t made.0).unbranched in
     let one = in_one h (cycles_of M s p) (omega (arith, i, covers h)) in
     let many = sym (length-map (caps_of M s p) (λ k. k.lower)) ∙ ap length (caps_are_numbered before after s p t sound made).0 ∙ as_many (with_drawings M s p).taken.face (cycles_of M s p) in
     (one.0, subst (λ n. one.0 < n) (sym many) one.1, one.2)

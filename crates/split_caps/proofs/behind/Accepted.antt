@@ -6,7 +6,7 @@ use Rattle.std.proofs.lemmas.Bool.Decides.{nat_tests}
 use Rattle.euler_operators.specs.Common.{Plane, Model, Condition, AllHold, plus, faces_of, is_number, cuts_lattice, Sound, Has}
 use Rattle.euler_operators.specs.Table as table
 use Rattle.euler_laws.proofs.Common.{◌also◌, all_hold, none_refuses}
-use Rattle.shapes.specs.Common.{Needed, AreLeft, taken_in, start, finish, first_such, found, least_lone, is_flat, reaches_above, reaches_below, crossing_edges, straddling_faces, pair_count, is_touched, is_cut_often, is_crossed, with_crossings, with_drawings, straddling_pairs, undrawn, faces_above, below_halves, section_cycles, section_ends, least_branched, has_stray_hole, first_conditions, section_conditions, later_conditions, split_conditions, split_refusal}
+use Rattle.shapes.specs.Common.{Needed, AreLeft, taken_in, start, finish, first_such, found, least_lone, is_flat, reaches_above, reaches_below, crossing_edges, straddling_faces, pair_count, is_touched, is_cut_often, is_crossed, with_crossings, with_drawings, straddling_pairs, undrawn, faces_above, below_halves, section_cycles, section_ends, least_branched, has_stray_hole, early_split_conditions, first_conditions, section_conditions, later_conditions, split_conditions, split_refusal}
 use Rattle.split_caps.proofs.behind.Numbers.{past, plus_past}
 use Rattle.split_caps.proofs.behind.Lists.{any_over, some_over, such_over}
 use Rattle.split_caps.proofs.behind.Models.{Behind, faces_at, loops_at, edges_at, vertices_at, half_at, faces_are, start_is, finish_is}
@@ -76,7 +76,7 @@ module _ (A N M : Model) (s : ℕ) (p : Plane) (w : Stands A N M s p) where
 
   module _ (n : Needed) (takes : Takes N s p n) (left : AreLeft (taken_in M) n) where
     begun : (t u : ℕ) → is_number t ≡ true → table.has M.solids s ≡ true → table.has M.solids t ≡ false → AllHold (first_conditions N s p u) → AllHold (first_conditions M s p t)
-    unfolding first_conditions
+    unfolding first_conditions early_split_conditions
     begun t u number there free (fits, (_, (_, (_, (a, (b, (c, (d, (directed, (closed, (flat, (reached, (lattice, (touched, (often, (crossed, _)))))))))))))))) =
         fits also number also there also ap not free also a also b also c also d also directed
         also ap (λ fs. not (is_some (least_lone M fs))) faces ∙ ap not (lone_is A w.sound N M w.behind (faces_of N s)) ∙ closed

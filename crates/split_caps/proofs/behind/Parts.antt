@@ -5,7 +5,6 @@ use Rattle.euler_operators.specs.Common.{Plane, Model, part, faces_of, rings_of,
 use Rattle.euler_operators.specs.Table as table
 use Rattle.euler_operators.proofs.Common.{all_where_none, nat_eq_turned}
 use Rattle.shapes.specs.Common.{Taken, vertices_of, edges_of, corners_in, six_volume, volume_in, with_drawings, faces_above, is_hole, Caps, Opening, opened_along, next_opened, all_opened, holes_closed, upper_left, opened_at, split_model}
-use Rattle.shapes.specs.split.Split.{upper_part}
 use Rattle.solid_measure.specs.solid_counts.Counts.{counts, rings_in, tally_of}
 use Rattle.split_caps.specs.Capped.{caps_of}
 use Rattle.split_caps.proofs.behind.Numbers.{past, past_same}
@@ -77,7 +76,7 @@ module _ (L : Model) (s : ℕ) (p : Plane) (round : List ℕ) (one : section_rou
 
   pub split_once : (t : ℕ) → split_model L s p t ≡ part (opened_along D above s taken round) s t (above ++ (taken.face + length round + 1) ∷ [])
   unfolding split_model next_opened
-  split_once t = ap (λ o. upper_part o above s t) opened_once ∙ ap (λ b. part (holes_closed (opened_along D above s taken round) (caps b)) s t (upper_left above (caps b))) outer
+  split_once t = ap (λ o. part (holes_closed o.model o.caps) s t (upper_left above o.caps)) opened_once ∙ ap (λ b. part (holes_closed (opened_along D above s taken round) (caps b)) s t (upper_left above (caps b))) outer
 
 -- ---- split behind others
 

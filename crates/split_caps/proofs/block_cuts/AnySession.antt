@@ -6,7 +6,8 @@ use Rattle.euler_operators.specs.Table as table
 use Rattle.euler_laws.proofs.Common.{◌also◌, all_hold, none_refuses}
 use Rattle.euler_laws.proofs.shared.Empty.{empty_sound}
 use Rattle.euler_operators.proofs.Common.{nat_eq_turned}
-use Rattle.shapes.specs.Common.{vector, AreLeft, taken_in, six_volume, with_drawings, first_conditions, split_conditions, split_refusal, split_model, block_conditions, block_model}
+use Rattle.shapes.specs.Common.{vector, AreLeft, taken_in, six_volume, with_drawings, split_refusal, split_model, block_conditions, block_model}
+use Rattle.shapes.proofs.split.Facts.{none_first, split_begins}
 use Rattle.solid_measure.specs.solid_counts.Counts.{counts}
 use Rattle.plane_split.specs.SplitModels.{IsSplit}
 use Rattle.undo_journal.specs.Machine.{Machine, held, start}
@@ -114,10 +115,9 @@ module _ (before after : Machine) (s : ℕ) (p : Point) (dx dy dz : ℤ) (sound 
     module _ (parts : Machine) (t : ℕ) (split : IsSplit after parts s (across k up h) t) where
       -- the upper number is another one, and A hasn't that solid either
       apart : (nat_eq t s ≡ false) × (table.has A.solids t ≡ false)
-      unfolding split_conditions first_conditions
       apart =
-          let hold = all_hold (split_conditions (held after) s (across k up h) t) split.0 in
-          not_there (nat_eq t s) (table.get A.solids t) (sym (ap is_some (table.get-put A.solids s tt t)) ∙ sym (ap (λ ss. table.has ss t) (solids_are before after s p dx dy dz made)) ∙ not_true (table.has (held after).solids t) hold.1.1.1.0)
+          let free = (split_begins (held after) s (across k up h) t (none_first (held after) s (across k up h) t split.0)).t_free in
+          not_there (nat_eq t s) (table.get A.solids t) (sym (ap is_some (table.get-put A.solids s tt t)) ∙ sym (ap (λ ss. table.has ss t) (solids_are before after s p dx dy dz made)) ∙ free)
 
       parts_behind : Behind A (parted B (across k up h) cut.stages s t) (held parts)
       parts_behind = subst (λ X. Behind A X (held parts)) (model_is B (across k up h) s cut.stages cut.goes t)

@@ -3,7 +3,7 @@ use Rattle.std.proofs.Common.{◌≡◌, ℕ, ◌+◌, true, false, cond, not, [
 use Rattle.euler_operators.specs.Common.{Plane, Model, faces_of, is_number, is_coordinate, is_offset, same_point, direction, origin, AllHold, part, cuts_lattice, plus}
 use Rattle.euler_operators.specs.Table as table
 use Rattle.euler_laws.proofs.Common.{◌also◌, none_refuses}
-use Rattle.shapes.specs.Common.{growing, taken_in, all_cut, all_pairs, faces_drawn, undrawn, with_crossings, with_drawings, straddling_pairs, straddling_faces, crossing_edges, first_conditions, section_conditions, split_conditions, split_refusal, later_conditions, below_halves, faces_above, face_is_above, is_crossed, is_flat, first_such, least_lone, found, has_stray_hole, start, finish, section_cycles, is_hole, opened_along, split_model, is_touched, is_cut_often, pair_count}
+use Rattle.shapes.specs.Common.{growing, taken_in, all_cut, all_pairs, faces_drawn, undrawn, with_crossings, with_drawings, straddling_pairs, straddling_faces, crossing_edges, early_split_conditions, first_conditions, section_conditions, split_conditions, split_refusal, later_conditions, below_halves, faces_above, face_is_above, is_crossed, is_flat, first_such, least_lone, found, has_stray_hole, start, finish, section_cycles, is_hole, opened_along, split_model, is_touched, is_cut_often, pair_count}
 use Rattle.split_caps.specs.Blocks.{needed_to_cut}
 use Rattle.split_caps.proofs.behind.Drawn.{AllAlone}
 use Rattle.split_caps.proofs.behind.Accepted.{Takes, section_halves, section_rounds, passed}
@@ -86,7 +86,7 @@ module _ (M : Model) (q : Plane) (s : ℕ) (c : Stages) (goes : Goes M q s c) wh
 
   module _ (t : ℕ) (ready : Ready M q s t) where
     begun : AllHold (first_conditions M s q t)
-    unfolding first_conditions
+    unfolding first_conditions early_split_conditions
     begun = ready.solid_number also ready.upper_number also ready.there also ap not ready.free
         also ready.a_fits also ready.b_fits also ready.c_fits also ready.d_fits also ap not ready.directed
         also ap (λ o. not (is_some o)) ready.closed also ap (λ o. not (is_some o)) ready.flat also goes.reached
