@@ -1,47 +1,55 @@
--- The edge divided and joined again: both operators are accepted, and meet two faces, in whose planes their fans move, and along the edge.
-use Rattle.std.proofs.lemmas.Bool.{and_parts}
+-- The edge divided and joined again: both operators are accepted, and meet two faces, in whose planes their fans move, and along the edge. So
+-- the block is still there after each, with its volume, and the planes and the areas of its faces.
+use Rattle.std.proofs.lemmas.Bool.{and_parts, false_from_ne_true, not-false}
 use Rattle.std.proofs.lemmas.Bool.Decides.{eqb_tells}
-use Rattle.std.proofs.Common.{sym, Bool, cond, nat_eq, ap, ◌∙◌, true, false, not, ◌&&◌, inl, inr, true≢false, subst, arith, ◌≡◌, ◌≢◌, ℕ, None, refl, [], ◌∷◌, map}
+use Rattle.std.proofs.Common.{sym, Bool, cond, nat_eq, ap, ◌∙◌, true, false, not, ◌&&◌, inl, inr, true≢false, subst, arith, ◌≡◌, ◌≢◌, ℕ, pos, None, Some, refl, [], ◌∷◌, map}
 use Rattle.euler_operators.specs.declared.Op.{Op}
-use Rattle.euler_operators.specs.Common.{Has, HasHalf, IsIn, Model, Point, Table, all_where, arc, code, edge_of, effect, face_at, first_false, get, is_on, kev, lists, mate, mev_at, minus, plus, solid_of, tail}
+use Rattle.euler_operators.specs.declared.Refusal.{Refusal}
+use Rattle.euler_operators.specs.Common.{Has, HasHalf, IsIn, Model, Point, Table, all_where, arc, code, edge_of, effect, face_at, first_false, get, is_on, kev, lists, mate, mev_at, minus, plus, Sound, solid_of, tail}
 use Rattle.euler_operators.specs.Table as table
 use Rattle.euler_operators.proofs.Common.{IsIn_one, mate_plus, none_all_where, plus_row, row_some, same_edge, same_solid}
 use Rattle.shapes.specs.Common.{finish, is_flat, plane_of, start}
-use Rattle.sweeps.specs.PlainMachine.{Machine, act, held}
+use Rattle.sweeps.specs.Measure.{normal, six_volume}
+use Rattle.sweeps.specs.PlainMachine.{Machine, act, act_refusal, held}
+use Rattle.command_laws.specs.Counted.{counts}
 use Rattle.command_laws.specs.Flat.{IsClosedFlat}
 use Rattle.command_laws.specs.LeftAlone.{StandsAsBefore}
-use Rattle.command_laws.specs.Operators.{AreOnLine, FanLeadsAlong, FanLiesFlat, IsStep, LiesWith, meets_fan, moves_to, solid_in}
-use Rattle.block_machining.specs.Dividing.{IsFlatAsBefore, StayInPlanes, divided, division, reunion}
+use Rattle.command_laws.specs.Operators.{AreOnLine, FanLeadsAlong, FanLiesFlat, FansKeepFlatFaces, FansKeepNormals, FansKeepShapes, FansKeepVolumes, IsStep, LiesWith, counted_on, is_inner, makes_vertex, meets_fan, moves_to, solid_in}
+use Rattle.block_machining.specs.Dividing.{IsBlockStill, IsFlatAsBefore, StayInPlanes, divided, division, rejoined, reunion}
 use Rattle.block_machining.specs.Machines.{blank}
+use Rattle.block_machining.specs.Undoing.{AreCounted}
+use Rattle.block_machining.proofs.Accepted.{for_no_reason}
+use Rattle.block_machining.proofs.AllElse.{stands_still}
 use Rattle.block_machining.proofs.Worked.{computed, one_of_two}
 
--- an operator that is accepted leads from a machine to the next
-pub accepted_leads : (m n known : Machine) (op : Op) → m ≡ known → first_false (held known) op ≡ None → n ≡ act m op → IsStep (held m) op (held n)
-accepted_leads m n known op is accepted made = (ap (λ m. first_false (held m) op) is ∙ accepted, ap held made)
-
-pub division_accepted : first_false (held blank) division ≡ None
+division_accepted : first_false (held blank) division ≡ None
 unfolding computed blank
 division_accepted = refl
 
-pub division_in_block : solid_in (held blank) division ≡ 1
+division_in_block : solid_in (held blank) division ≡ 1
 unfolding computed blank
 division_in_block = refl
 
-pub reunion_accepted : first_false (held divided) reunion ≡ None
+reunion_accepted : first_false (held divided) reunion ≡ None
 unfolding computed blank divided
 reunion_accepted = refl
 
-pub reunion_in_block : solid_in (held divided) reunion ≡ 1
+reunion_in_block : solid_in (held divided) reunion ≡ 1
 unfolding computed blank divided
 reunion_in_block = refl
 
+-- the second takes the first back
+pub joined_again : held rejoined ≡ held blank
+unfolding computed blank divided rejoined
+joined_again = refl
+
 -- ---- no solid and no face comes or goes
 
-pub division_keeps_rows : (M N : Model) → N ≡ effect M division → (N.solids ≡ M.solids) × (N.faces ≡ M.faces)
+division_keeps_rows : (M N : Model) → N ≡ effect M division → (N.solids ≡ M.solids) × (N.faces ≡ M.faces)
 unfolding effect mev_at
 division_keeps_rows M N made = (ap (λ X. X.solids) made, ap (λ X. X.faces) made)
 
-pub reunion_keeps_rows : (M N : Model) → N ≡ effect M reunion → (N.solids ≡ M.solids) × (N.faces ≡ M.faces)
+reunion_keeps_rows : (M N : Model) → N ≡ effect M reunion → (N.solids ≡ M.solids) × (N.faces ≡ M.faces)
 unfolding effect kev
 reunion_keeps_rows M N made = (ap (λ X. X.solids) made, ap (λ X. X.faces) made)
 
@@ -62,17 +70,14 @@ new = code (record { edge = 13; first = true })
 abbrev is_at_edge : ℕ → Bool
 is_at_edge k = lists (4 ∷ 1 ∷ []) k
 
-pub faces_apart : (k : ℕ) → k ≢ 1 → k ≢ 4 → is_at_edge k ≡ false
+faces_apart : (k : ℕ) → k ≢ 1 → k ≢ 4 → is_at_edge k ≡ false
 faces_apart k a b = grind (arith, a, b, eqb_tells 4 k, eqb_tells 1 k)
 
 -- a test that each row passes holds of each number in use
 each_passes : {X : Type 0} (p : ℕ → Bool) (t : Table X) → all_where (λ k _. not (p k)) t ≡ [] → (k : ℕ) → Has t k → p k ≡ true
 each_passes p t none k there =
     let row = row_some (get t k) there in
-    passes (p k) (none_all_where (λ k _. not (p k)) t none k row.0 row.1) where
-      passes : (b : Bool) → not b ≡ false → b ≡ true
-      passes true e = refl
-      passes false e = absurd (true≢false e)
+    not-false (p k) (none_all_where (λ k _. not (p k)) t none k row.0 row.1)
 
 -- where the one holds, so does the other
 follows : (a b : Bool) → cond a b true ≡ true → a ≡ true → b ≡ true
@@ -82,7 +87,7 @@ faces_met : map (face_at (held blank)) (beside ∷ arc (held blank) along beside
 unfolding computed blank
 faces_met = refl
 
-pub division_meets : (k : ℕ) → meets_fan (held blank) division k ≡ is_at_edge k
+division_meets : (k : ℕ) → meets_fan (held blank) division k ≡ is_at_edge k
 division_meets k = ap (λ ks. lists ks k) faces_met
 
 corners_met : all_where (λ k _. not (cond (meets_fan (held divided) reunion k) (is_at_edge k) true)) (held divided).faces ≡ []
@@ -92,35 +97,23 @@ corners_met = refl
 reunion_meets : (k : ℕ) → Has (held divided).faces k → meets_fan (held divided) reunion k ≡ true → is_at_edge k ≡ true
 reunion_meets k there met = follows (meets_fan (held divided) reunion k) (is_at_edge k) (each_passes _ (held divided).faces corners_met k there) met
 
-pub reunion_meets_no_other : (m : Machine) → m ≡ divided → (k : ℕ) → Has (held m).faces k → k ≢ 1 → k ≢ 4 → meets_fan (held m) reunion k ≡ false
-reunion_meets_no_other m is k there a b =
-    ap (λ n. meets_fan (held n) reunion k) is
-    ∙ unmet (meets_fan (held divided) reunion k) (λ met. true≢false (sym (reunion_meets k (subst (λ n. Has (held n).faces k) is there) met) ∙ faces_apart k a b)) where
-      unmet : (b : Bool) → b ≢ true → b ≡ false
-      unmet true h = absurd (h refl)
-      unmet false h = refl
+division_meets_no_other : (k : ℕ) → Has (held blank).faces k → k ≢ 1 → k ≢ 4 → meets_fan (held blank) division k ≡ false
+division_meets_no_other k there a b = division_meets k ∙ faces_apart k a b
+
+reunion_meets_no_other : (k : ℕ) → Has (held divided).faces k → k ≢ 1 → k ≢ 4 → meets_fan (held divided) reunion k ≡ false
+reunion_meets_no_other k there a b = false_from_ne_true (meets_fan (held divided) reunion k) (λ met. true≢false (sym (reunion_meets k there met) ∙ faces_apart k a b))
 
 -- ---- the faces stay in their planes
 
-pub block_in_planes : (m : Machine) → m ≡ blank → IsClosedFlat (held m) 1 → StayInPlanes (held blank) (held m) 1
+block_in_planes : (m : Machine) → m ≡ blank → IsClosedFlat (held m) 1 → StayInPlanes (held blank) (held m) 1
 block_in_planes m is flat = subst (λ n. StayInPlanes (held n) (held m) 1) is (λ k there solid. record { there = there; solid = refl; flat = flat.flat k there solid; plane = refl })
 
 -- also after one step more
-pub stay_in_planes : (B M N : Model) (s : ℕ) → StayInPlanes B M s → N.faces ≡ M.faces → ((k : ℕ) → Has M.faces k → is_flat M k ≡ true → (is_flat N k ≡ true) × (plane_of N k ≡ plane_of M k)) → StayInPlanes B N s
+stay_in_planes : (B M N : Model) (s : ℕ) → StayInPlanes B M s → N.faces ≡ M.faces → ((k : ℕ) → Has M.faces k → is_flat M k ≡ true → (is_flat N k ≡ true) × (plane_of N k ≡ plane_of M k)) → StayInPlanes B N s
 stay_in_planes B M N s stay same kept k there solid =
     let face = stay k there solid in
     let now = kept k face.there face.flat in
     record { there = ap (λ t. table.has t k) same ∙ face.there; solid = same_solid M N k (ap (λ t. get t k) same) ∙ face.solid; flat = now.0; plane = now.1 ∙ face.plane }
-
-pub stands_still : (B M N : Model) (k : ℕ) → StandsAsBefore B M k → StandsAsBefore M N k → StandsAsBefore B N k
-stands_still B M N k was is = record {
-  there = is.there;
-  solid = is.solid ∙ was.solid;
-  outer = is.outer ∙ was.outer;
-  rings = is.rings ∙ was.rings;
-  points = is.points ∙ was.points;
-  plane = is.plane ∙ was.plane;
-}
 
 -- ---- the fans move in the planes of the faces that they meet
 
@@ -155,13 +148,11 @@ reunion_on_both : IsOnBoth (moves_to (held divided) reunion)
 unfolding computed blank divided
 reunion_on_both = (refl, refl)
 
-pub division_lies_flat : (m : Machine) → m ≡ blank → StayInPlanes (held blank) (held m) 1 → FanLiesFlat (held m) division (plane_of (held m))
-division_lies_flat m is stay = fan_lies_flat (held m) division stay division_on_both (λ k there met. sym (ap (λ n. meets_fan (held n) division k) is ∙ division_meets k) ∙ met)
+division_lies_flat : StayInPlanes (held blank) (held blank) 1 → FanLiesFlat (held blank) division (plane_of (held blank))
+division_lies_flat stay = fan_lies_flat (held blank) division stay division_on_both (λ k there met. sym (division_meets k) ∙ met)
 
-pub reunion_lies_flat : (m : Machine) → m ≡ divided → StayInPlanes (held blank) (held m) 1 → FanLiesFlat (held m) reunion (plane_of (held m))
-reunion_lies_flat m is =
-    subst (λ n. StayInPlanes (held blank) (held n) 1 → FanLiesFlat (held n) reunion (plane_of (held n))) (sym is)
-    (λ stay. fan_lies_flat (held divided) reunion stay reunion_on_both reunion_meets)
+reunion_lies_flat : StayInPlanes (held blank) (held divided) 1 → FanLiesFlat (held divided) reunion (plane_of (held divided))
+reunion_lies_flat stay = fan_lies_flat (held divided) reunion stay reunion_on_both reunion_meets
 
 -- ---- and along the edge
 
@@ -173,9 +164,9 @@ point_on_edge : AreOnLine (start (held blank) along) (moves_to (held blank) divi
 unfolding computed blank
 point_on_edge = refl
 
-pub division_leads_along : (m : Machine) → m ≡ blank → FanLeadsAlong (held m) division
-division_leads_along m is = subst (λ n. FanLeadsAlong (held n) division) (sym is) (λ x i.
-    subst (λ x. AreOnLine (start (held blank) along) (moves_to (held blank) division) (finish (held blank) x)) (sym (IsIn_one along x (subst (IsIn x) one_half i))) point_on_edge)
+division_leads : FanLeadsAlong (held blank) division
+division_leads x i =
+    subst (λ x. AreOnLine (start (held blank) along) (moves_to (held blank) division) (finish (held blank) x)) (sym (IsIn_one along x (subst (IsIn x) one_half i))) point_on_edge
 
 -- a test that both half-edges of each edge pass
 each_half_passes : (M : Model) (p : ℕ → Bool) → all_where (λ e _. not (p (plus e) && p (minus e))) M.edges ≡ [] → (x : ℕ) → HasHalf M x → p x ≡ true
@@ -210,5 +201,86 @@ reunion_leads x there at apart =
       | inr e ↦ subst (λ x. AreOnLine (start (held divided) new) (finish (held divided) new) (finish (held divided) x)) (sym e) edge_in_line
     ]
 
-pub reunion_leads_along : (m : Machine) → m ≡ divided → FanLeadsAlong (held m) reunion
-reunion_leads_along m is = subst (λ n. FanLeadsAlong (held n) reunion) (sym is) reunion_leads
+-- ---- the block is still there
+
+-- what is known of an operator that moves a fan at that edge, of the machine that takes it
+pub record MovesFan (known : Machine) (op : Op) : Type 0 where
+  pub accepted : first_false (held known) op ≡ None
+  pub in_block : solid_in (held known) op ≡ 1
+  pub moves : makes_vertex op ≡ true
+  pub inner : is_inner op ≡ true
+  pub keeps_rows : (M N : Model) → N ≡ effect M op → (N.solids ≡ M.solids) × (N.faces ≡ M.faces)
+  pub meets_no_other : (k : ℕ) → Has (held known).faces k → k ≢ 1 → k ≢ 4 → meets_fan (held known) op k ≡ false
+  pub lies_flat : StayInPlanes (held blank) (held known) 1 → FanLiesFlat (held known) op (plane_of (held known))
+  pub leads : FanLeadsAlong (held known) op
+
+pub division_moves : MovesFan blank division
+division_moves = record {
+  accepted = division_accepted;
+  in_block = division_in_block;
+  moves = refl;
+  inner = refl;
+  keeps_rows = division_keeps_rows;
+  meets_no_other = division_meets_no_other;
+  lies_flat = division_lies_flat;
+  leads = division_leads;
+}
+
+pub reunion_moves : MovesFan divided reunion
+reunion_moves = record {
+  accepted = reunion_accepted;
+  in_block = reunion_in_block;
+  moves = refl;
+  inner = refl;
+  keeps_rows = reunion_keeps_rows;
+  meets_no_other = reunion_meets_no_other;
+  lies_flat = reunion_lies_flat;
+  leads = reunion_leads;
+}
+
+module _ (known : Machine) (op : Op) (w : MovesFan known op) (m : Machine) (is : m ≡ known) where
+  pub not_refused : (refusal : Refusal) → act_refusal m op ≡ Some refusal → ⊥
+  not_refused refusal = for_no_reason (act_refusal m op) refusal (ap (λ m. act_refusal m op) is ∙ w.accepted)
+
+  module _ (n : Machine) where
+    -- what the block counts then
+    pub counts_told : AreCounted (held m) (held n) op → counts (held n) 1 ≡ counted_on op (counts (held m) 1)
+    counts_told counted =
+        let at : solid_in (held m) op ≡ 1 = ap (λ m. solid_in (held m) op) is ∙ w.in_block in
+        ap (counts (held n)) (sym at) ∙ counted.inner w.inner ∙ ap (λ s. counted_on op (counts (held m) s)) at
+
+    leads_along : FanLeadsAlong (held m) op
+    leads_along = subst (λ n. FanLeadsAlong (held n) op) (sym is) w.leads
+
+    lies_on_planes : StayInPlanes (held blank) (held m) 1 → FanLiesFlat (held m) op (plane_of (held m))
+    lies_on_planes = subst (λ n. StayInPlanes (held blank) (held n) 1 → FanLiesFlat (held n) op (plane_of (held n))) (sym is) w.lies_flat
+
+    unmet : (k : ℕ) → Has (held m).faces k → k ≢ 1 → k ≢ 4 → meets_fan (held m) op k ≡ false
+    unmet k there a b = ap (λ n. meets_fan (held n) op k) is ∙ w.meets_no_other k (subst (λ n. Has (held n).faces k) is there) a b
+
+    -- by the laws of fans
+    pub still_after : FansKeepShapes → FansKeepVolumes → FansKeepNormals → FansKeepFlatFaces → Sound (held m) → n ≡ act m op → IsBlockStill (held m) → IsBlockStill (held n)
+    still_after keep_shapes keep_volumes keep_normals keep_flat sound made was =
+        let M : Model = held m in
+        let N : Model = held n in
+        let step : IsStep M op N = (ap (λ m. first_false (held m) op) is ∙ w.accepted, ap held made) in
+        let rows = w.keeps_rows M N step.1 in
+        let lie = lies_on_planes was.planes in
+        record {
+          there = ap (λ t. table.has t 1) rows.0 ∙ was.there;
+          volume = keep_volumes M N op (plane_of M) 1 sound step w.moves lie ∙ was.volume;
+          planes = stay_in_planes (held blank) M N 1 was.planes rows.1 (λ k. keep_flat M N op k sound step w.moves leads_along lie);
+          normals = λ k. keep_normals M N op k sound step w.moves leads_along ∙ was.normals k;
+          others = λ k there a b. let stood = was.others k there a b in
+              stands_still (held blank) M N k stood (keep_shapes M N op k sound step w.moves stood.there (unmet k stood.there a b));
+        }
+
+-- and before both it is the block
+pub block_itself : (m : Machine) → m ≡ blank → Has (held m).solids 1 → six_volume (held m) 1 ≡ pos 144 → IsClosedFlat (held m) 1 → IsBlockStill (held m)
+block_itself m is there volume flat = record {
+  there = there;
+  volume = volume;
+  planes = block_in_planes m is flat;
+  normals = λ k. ap (λ n. normal (held n) k) is;
+  others = λ k has a b. subst (λ n. StandsAsBefore (held n) (held m) k) is (record { there = subst (λ n. Has (held n).faces k) (sym is) has; solid = refl; outer = refl; rings = refl; points = refl; plane = refl });
+}

@@ -4,7 +4,7 @@ use Rattle.std.specs.List.{list_all}
 use Rattle.std.specs.Ordering.{eq_by_cmp, nat_cmp}
 use Rattle.std.proofs.lemmas.Bool.{and_parts, not-true}
 use Rattle.std.proofs.lemmas.Bool.Decides.{eqb_tells}
-use Rattle.std.proofs.Common.{sym, Bool, Some, cond, nat_eq, ap, ◌∙◌, true, not, ◌&&◌, ◌⊎◌, inl, inr, List, true≢false, length, unwrap_or, subst, arith, ◌≡◌, ℕ, pos, neg_ℤ, None, false, refl, [], ◌∷◌}
+use Rattle.std.proofs.Common.{sym, Bool, Some, cond, nat_eq, ap, ◌∙◌, true, not, ◌&&◌, ◌⊎◌, inl, inr, List, true≢false, length, unwrap_or, get_or, subst, arith, ◌≡◌, ◌<◌, ℕ, ℤ, pos, neg_ℤ, None, false, refl, [], ◌∷◌}
 use Rattle.sweeps.specs.Measure.{six_volume}
 use Rattle.sweeps.specs.PlainMachine.{Machine, act, start, held}
 use Rattle.plane_split.specs.Machine.{plane_with, split_refusal}
@@ -14,8 +14,9 @@ use Rattle.euler_operators.specs.declared.Op.TheVariants.{Kfmrh, Merge}
 use Rattle.euler_operators.specs.Common.{Has, Model, Plane, Point, LoopRow, dot, is_in_range, is_lone, lists, no_loop, first_false, rotate_to, canonical, rest, mate, code, half, edge_of, is_first, empty_model, content, tail, loop_of, face_of, solid_of, outer, arc, holds, after, before, point_of, conditions, has_rings, effect, inverse, mvfs, kvfs_at, mev_lone, mev_at, kev, mef, kef, kemr, mekr, kfmrh, mfkrh, ring_in, ring_out, take_outer, merge, part}
 use Rattle.solid_measure.specs.solid_counts.Counts.{counts}
 use Rattle.split_caps.specs.Capped.{caps_of}
-use Rattle.shapes.specs.Common.{AreLeft, Needed, Taken, is_plane_of, lamina_face, early_glue_conditions, glue_conditions, glue_model, loops_of, boundary, corners, taken_in, lamina_conditions, lamina_model, prism_conditions, with_side, raised, prism_model, block_conditions, block_model, normal, plane_of, is_flat, straddles, face_is_above, is_place, place_point, places, is_touched, is_cut_often, is_crossed, sorted_pairs, place_pairs, next_cut, with_crossings, drawn_pairs, join_next, draw_next, next_drawn, with_drawings, below_halves, section_cycles, is_hole, opened_along, next_opened, early_split_conditions, first_conditions, section_conditions, split_conditions, split_model}
+use Rattle.shapes.specs.Common.{AreLeft, no_caps, Needed, Taken, is_plane_of, lamina_face, early_glue_conditions, glue_conditions, glue_model, loops_of, boundary, corners, taken_in, lamina_conditions, lamina_model, prism_conditions, with_side, raised, prism_model, block_conditions, block_model, normal, plane_of, is_flat, straddles, face_is_above, is_place, place_point, places, is_touched, is_cut_often, is_crossed, sorted_pairs, place_pairs, next_cut, with_crossings, drawn_pairs, join_next, draw_next, next_drawn, with_drawings, below_halves, section_cycles, is_hole, opened_along, next_opened, early_split_conditions, first_conditions, section_conditions, split_conditions, split_model}
 use Rattle.euler_operators.specs.Table as table
+use Rattle.block_machining.specs.Cutting.{AreCapped, IsCapAt}
 use Rattle.block_machining.specs.Halving.{HasRoom}
 use Rattle.block_machining.specs.Machines.{blank, bossed, lengthened, merged, paired, parted, score, spur, stacked, triangular}
 
@@ -60,6 +61,24 @@ start_room = record {
   upper_free = start_upper_free;
   left = left start _ _ start_taken (record { faces = omega arith; loops = omega arith; edges = omega arith; vertices = omega arith });
 }
+
+blank_upper_free : table.has (held blank).solids 3 ≡ false
+unfolding computed blank
+blank_upper_free = refl
+
+-- beside the block there is room for another and its upper part
+pub blank_room_for_halves : HasRoom (held blank) 2 3
+blank_room_for_halves = record {
+  number = refl;
+  upper_number = refl;
+  apart = λ e. absurd (omega (arith, e));
+  free = blank_free;
+  upper_free = blank_upper_free;
+  left = left blank _ _ blank_taken (record { faces = omega arith; loops = omega arith; edges = omega arith; vertices = omega arith });
+}
+
+pub blank_face : (taken_in (held blank)).face ≡ 6
+blank_face = ap (λ c. c.face) blank_taken
 
 pub start_face : (taken_in (held start)).face ≡ 0
 start_face = ap (λ c. c.face) start_taken
@@ -127,6 +146,12 @@ far_counts = refl
 pub one_cap : caps_of (held lengthened) 1 (plane_with (pos 1) (pos 0) (pos 0) (neg_ℤ (pos 2))) ≡ record { lower = 16; upper = 20; hole = false } ∷ []
 unfolding computed early_glue_conditions glue_conditions glue_model blank paired lengthened
 one_cap = refl
+
+-- and where a section is so, its caps close the parts
+pub capped : (M N : Model) (d : ℤ) (s t f g : ℕ) → caps_of M s (plane_with (pos 1) (pos 0) (pos 0) d) ≡ record { lower = f; upper = g; hole = false } ∷ [] → AreCapped M N d s t →
+    IsCapAt N d s f × IsCapAt N d t g
+capped M N d s t f g e each =
+    subst (λ ks. (i : ℕ) → i < length ks → (get_or ks i no_caps).hole ≡ false → IsCapAt N d s (get_or ks i no_caps).lower × IsCapAt N d t (get_or ks i no_caps).upper) e each 0 (omega arith) refl
 
 -- ---- an edge across the top
 
@@ -209,10 +234,10 @@ none_found : (l : ℕ) (es : List (ℕ × LoopRow)) → no_lone es ≡ true → 
 none_found l [] all = refl
 none_found l (e ∷ es) all =
     let both = and_parts (not (is_lone e.1.content)) (no_lone es) all in
-    go (eq_by_cmp nat_cmp l e.0) (not-true (is_lone e.1.content) both.0) (none_found l es both.1) where
-      go : (b : Bool) → is_lone e.1.content ≡ false → is_lone (unwrap_or (find nat_cmp l es) no_loop).content ≡ false → is_lone (unwrap_or (cond b (Some e.1) (find nat_cmp l es)) no_loop).content ≡ false
-      go true first rest = first
-      go false first rest = rest
+    neither_lone (eq_by_cmp nat_cmp l e.0) (not-true (is_lone e.1.content) both.0) (none_found l es both.1) where
+      neither_lone : (b : Bool) → is_lone e.1.content ≡ false → is_lone (unwrap_or (find nat_cmp l es) no_loop).content ≡ false → is_lone (unwrap_or (cond b (Some e.1) (find nat_cmp l es)) no_loop).content ≡ false
+      neither_lone true first rest = first
+      neither_lone false first rest = rest
 
 pub none_lone : (l : ℕ) → is_lone (content (held bossed) l) ≡ false
 unfolding computed blank stacked merged bossed

@@ -4,8 +4,8 @@ use Rattle.euler_operators.specs.declared.Op.{Op}
 use Rattle.euler_operators.specs.declared.Op.TheVariants.{Kev, Mev}
 use Rattle.euler_operators.specs.Common.{At, Model, solid_of, Has}
 use Rattle.shapes.specs.Common.{plane_of}
-use Rattle.sweeps.specs.Measure.{is_flat, normal}
-use Rattle.sweeps.specs.PlainMachine.{Machine, act}
+use Rattle.sweeps.specs.Measure.{is_flat, normal, six_volume}
+use Rattle.sweeps.specs.PlainMachine.{Machine, act, held}
 use Rattle.command_laws.specs.LeftAlone.{StandsAsBefore}
 use Rattle.block_machining.specs.Machines.{blank}
 
@@ -17,9 +17,12 @@ division = Mev (At (record { edge = 9; first = true })) (At (record { edge = 6; 
 abbrev pub reunion : Op
 reunion = Kev (record { edge = 13; first = true })
 
--- the block with the edge divided
+-- the block with the edge divided, and with it joined again
 unfoldable pub divided : Machine
 divided = act blank division
+
+unfoldable pub rejoined : Machine
+rejoined = act divided reunion
 
 -- face k is there still, is of the solid that it was, is flat, and lies in the plane that it had
 pub record IsFlatAsBefore (M N : Model) (k : ℕ) : Type 0 where
@@ -39,3 +42,11 @@ KeepNormals M N = (k : ℕ) → normal N k ≡ normal M k
 -- each face but these two stands as it did
 abbrev pub OthersStand : Model → Model → ℕ → ℕ → Type 0
 OthersStand M N f g = (k : ℕ) → Has M.faces k → k ≢ f → k ≢ g → StandsAsBefore M N k
+
+-- solid 1 is the block still, but for the edge between its top and that side: it has its volume, and each face its plane and its area
+pub record IsBlockStill (M : Model) : Type 0 where
+  pub there : Has M.solids 1
+  pub volume : six_volume M 1 ≡ pos 144
+  pub planes : StayInPlanes (held blank) M 1
+  pub normals : KeepNormals (held blank) M
+  pub others : OthersStand (held blank) M 1 4

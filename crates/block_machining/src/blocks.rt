@@ -4,7 +4,7 @@ ghost use Rattle.command_laws.specs.Counted.{counts};
 ghost use Rattle.command_laws.specs.Flat.{IsClosedFlat};
 ghost use Rattle.command_laws.specs.NewFaces.{last_face, IsFaceOf};
 ghost use Rattle.block_machining.specs.Cutting.{IsCapAt, LieOnEitherSide};
-ghost use Rattle.block_machining.specs.Machines.{blank, paired, lengthened, triangle};
+ghost use Rattle.block_machining.specs.Machines.{blank, lengthened, machined, paired, parted, scored, spurred, taken_back, triangle, underlaid};
 ghost use Rattle.block_machining.specs.Meeting.{top, near_side, far_side};
 ghost use Rattle.sweeps.specs.PlainMachine.{depth, ahead, held};
 ghost use Rattle.sweeps.specs.Measure.{six_volume};
@@ -53,6 +53,7 @@ pub fn machined(alloc: Global) -> Result<Session, AllocError>
     ensures volume { IfOk result (λ session. six_volume (held session.machine) 1 ≡ pos 144) }
     ensures there { IfOk result (λ session. Has (held session.machine).solids 1) }
     ensures left { IfOk result (λ session. (depth session.machine ≡ 1) × (ahead session.machine ≡ 1)) }
+    ensures made { IfOk result (λ session. session.machine ≡ machined) }
 {
     let session = blank(alloc)?;
     sweeps_fit();
@@ -69,6 +70,7 @@ pub fn spurred(alloc: Global) -> Result<Session, AllocError>
     ensures side { IfOk result (λ session. IsFaceOf (held session.machine) 4 1 near_side) }
     ensures counts { IfOk result (λ session. counts (held session.machine) 1 ≡ record { v = 9; e = 13; f = 6; r = 0; sum = pos 2 }) }
     ensures depth { IfOk result (λ session. depth session.machine ≡ 2) }
+    ensures made { IfOk result (λ session. session.machine ≡ spurred) }
 {
     let session = blank(alloc)?;
     faces_stand();
@@ -91,6 +93,7 @@ pub fn scored(alloc: Global) -> Result<Session, AllocError>
     ensures there { IfOk result (λ session. Has (held session.machine).solids 1) }
     ensures volume { IfOk result (λ session. six_volume (held session.machine) 1 ≡ pos 144) }
     ensures counts { IfOk result (λ session. counts (held session.machine) 1 ≡ record { v = 8; e = 13; f = 7; r = 0; sum = pos 2 }) }
+    ensures made { IfOk result (λ session. session.machine ≡ scored) }
 {
     let session = blank(alloc)?;
     let from = HalfEdge {
@@ -116,6 +119,7 @@ pub fn underlaid(alloc: Global) -> Result<Session, AllocError>
     ensures side { IfOk result (λ session. IsFaceOf (held session.machine) 4 1 near_side) }
     ensures counts { IfOk result (λ session. counts (held session.machine) 1 ≡ record { v = 8; e = 12; f = 6; r = 0; sum = pos 2 }) }
     ensures lamina { IfOk result (λ session. IsFaceOf (held session.machine) 7 2 triangle) }
+    ensures made { IfOk result (λ session. session.machine ≡ underlaid) }
 {
     let session = blank(alloc)?;
     laminas_fit();
@@ -181,6 +185,7 @@ pub fn parted(alloc: Global) -> Result<Session, AllocError>
     ensures near_counts { IfOk result (λ session. counts (held session.machine) 1 ≡ record { v = 8; e = 12; f = 6; r = 0; sum = pos 2 }) }
     ensures far_counts { IfOk result (λ session. counts (held session.machine) 2 ≡ record { v = 12; e = 20; f = 10; r = 0; sum = pos 2 }) }
     ensures caps { IfOk result (λ session. IsCapAt (held session.machine) (neg_ℤ (pos 2)) 1 16 × IsCapAt (held session.machine) (neg_ℤ (pos 2)) 2 20) }
+    ensures made { IfOk result (λ session. session.machine ≡ parted) }
 {
     let session = lengthened(alloc)?;
     let (session, done) = cut(alloc, session, 1, -2, 2);
@@ -192,6 +197,7 @@ pub fn parted(alloc: Global) -> Result<Session, AllocError>
 pub fn taken_back(alloc: Global) -> Result<Session, AllocError>
     ensures empty { IfOk result (λ session. held session.machine ≡ empty_model) }
     ensures depth { IfOk result (λ session. depth session.machine ≡ 0) }
+    ensures made { IfOk result (λ session. session.machine ≡ taken_back) }
 {
     let mut session = paired(alloc)?;
     session.stays_consistent();

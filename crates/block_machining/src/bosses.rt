@@ -1,7 +1,7 @@
 //! A block with a boss: a smaller one that stands on its top.
 ghost use Rattle.std.specs.Prelude.{◌≡◌, pos, IfOk};
 ghost use Rattle.command_laws.specs.Counted.{counts};
-ghost use Rattle.block_machining.specs.Machines.{bossed, merged};
+ghost use Rattle.block_machining.specs.Machines.{bossed, merged, pocketed};
 ghost use Rattle.sweeps.specs.PlainMachine.{held};
 ghost use Rattle.sweeps.specs.Measure.{six_volume};
 ghost use Rattle.euler_operators.specs.Common.{Has};
@@ -43,6 +43,7 @@ pub fn pocketed(alloc: Global) -> Result<Session, AllocError>
     ensures there { IfOk result (λ session. Has (held session.machine).solids 1) }
     ensures volume { IfOk result (λ session. six_volume (held session.machine) 1 ≡ pos 276) }
     ensures sum { IfOk result (λ session. (counts (held session.machine) 1).sum ≡ pos 2) }
+    ensures made { IfOk result (λ session. session.machine ≡ pocketed) }
 {
     let session = bossed(alloc)?;
     sweeps_fit();

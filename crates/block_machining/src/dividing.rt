@@ -1,11 +1,9 @@
 //! A block with an edge divided at a point of it, and joined again.
 ghost use Rattle.std.specs.Prelude.{◌≡◌, pos, IfOk};
 ghost use Rattle.command_laws.specs.Counted.{counts};
-ghost use Rattle.block_machining.specs.Dividing.{divided, KeepNormals, OthersStand, StayInPlanes};
+ghost use Rattle.block_machining.specs.Dividing.{divided, rejoined, IsBlockStill};
 ghost use Rattle.block_machining.specs.Machines.{blank};
 ghost use Rattle.sweeps.specs.PlainMachine.{depth, held};
-ghost use Rattle.sweeps.specs.Measure.{six_volume};
-ghost use Rattle.euler_operators.specs.Common.{Has};
 
 use crate::blocks::blank;
 use crate::machining::{acted, but_for_memory};
@@ -18,12 +16,8 @@ use sweeps::{Op, Point, Session};
 /// vertex and an edge more, and its volume as before. All its faces are flat, in the planes that they had, with their areas; those which
 /// don't meet at the edge have their corners too.
 pub fn divided(alloc: Global) -> Result<Session, AllocError>
-    ensures there { IfOk result (λ session. Has (held session.machine).solids 1) }
-    ensures volume { IfOk result (λ session. six_volume (held session.machine) 1 ≡ pos 144) }
+    ensures still { IfOk result (λ session. IsBlockStill (held session.machine)) }
     ensures counts { IfOk result (λ session. counts (held session.machine) 1 ≡ record { v = 9; e = 13; f = 6; r = 0; sum = pos 2 }) }
-    ensures flat { IfOk result (λ session. StayInPlanes (held blank) (held session.machine) 1) }
-    ensures normals { IfOk result (λ session. KeepNormals (held blank) (held session.machine)) }
-    ensures others { IfOk result (λ session. OthersStand (held blank) (held session.machine) 1 4) }
     ensures depth { IfOk result (λ session. depth session.machine ≡ 2) }
     ensures made { IfOk result (λ session. session.machine ≡ divided) }
 {
@@ -51,15 +45,13 @@ pub fn divided(alloc: Global) -> Result<Session, AllocError>
 }
 
 /// The edge joined again, by a command of its own and not by undo: the block counts as it did, and its volume is kept, with the planes and
-/// the areas of its faces, and the corners of those that didn't meet at the edge.
+/// the areas of its faces, and the corners of those that didn't meet at the edge. The model is that of the block again.
 pub fn rejoined(alloc: Global) -> Result<Session, AllocError>
-    ensures there { IfOk result (λ session. Has (held session.machine).solids 1) }
-    ensures volume { IfOk result (λ session. six_volume (held session.machine) 1 ≡ pos 144) }
+    ensures still { IfOk result (λ session. IsBlockStill (held session.machine)) }
     ensures counts { IfOk result (λ session. counts (held session.machine) 1 ≡ record { v = 8; e = 12; f = 6; r = 0; sum = pos 2 }) }
-    ensures flat { IfOk result (λ session. StayInPlanes (held blank) (held session.machine) 1) }
-    ensures normals { IfOk result (λ session. KeepNormals (held blank) (held session.machine)) }
-    ensures others { IfOk result (λ session. OthersStand (held blank) (held session.machine) 1 4) }
     ensures depth { IfOk result (λ session. depth session.machine ≡ 3) }
+    ensures made { IfOk result (λ session. session.machine ≡ rejoined) }
+    ensures again { IfOk result (λ session. held session.machine ≡ held blank) }
 {
     let session = divided(alloc)?;
     session.stays_consistent();

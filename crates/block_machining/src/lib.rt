@@ -24,12 +24,13 @@
 //! they meet still has its corners, which are those of the second one's, the other way round, and each counts as it did alone; so it
 //! is beside a lamina. The block made longer by the second one glued to it has 180; and once it is cut its two parts have 72 and 108,
 //! with what each counts and one cap each, and four commands to undo. Of a block of any sizes, made beside what a session holds and
-//! cut across x, each part measures and counts as a block. With a smaller block joined to its top it has 156, and 276 once the top, a
+//! cut across x, each part measures and counts as a block, and all that was there before is as it was: each solid with what it counts
+//! and measures, each face, loop, edge and vertex. With a smaller block joined to its top it has 156, and 276 once the top, a
 //! face with a ring then, is raised round that. A wedge, a triangle swept up, has 72, and its faces are known by their numbers and
 //! their corners. A list of four calls in one is told what the plain machine may tell, and leads to a machine that may come of them,
 //! which is consistent. With an edge divided at a point of it the block has a vertex and an edge more; its volume, the planes and the
 //! areas of its faces, and the corners of those that don't meet there are as before, also once the edge is joined again by an operator
-//! of its own.
+//! of its own; then the model is the one before. Of each block it is said too which commands of the plain machine lead to it.
 
 mod blocks;
 mod bosses;
@@ -42,7 +43,7 @@ mod wedges;
 pub use blocks::{machined, parted, scored, spurred, taken_back, underlaid};
 pub use bosses::pocketed;
 pub use dividing::{divided, rejoined};
-pub use halves::{halved, halved_beside};
+pub use halves::{halved, halved_beside, halved_beside_block};
 pub use lists::made;
 pub use machining::known;
 pub use wedges::wedge;

@@ -1,7 +1,7 @@
 //! A wedge: a triangle swept up.
 ghost use Rattle.std.specs.Prelude.{◌≡◌, pos, IfOk};
 ghost use Rattle.command_laws.specs.NewFaces.{IsFaceOf};
-ghost use Rattle.block_machining.specs.Machines.{triangle, triangular};
+ghost use Rattle.block_machining.specs.Machines.{triangle, triangular, wedge};
 ghost use Rattle.block_machining.specs.Wedge.{HasWalls, lid};
 ghost use Rattle.sweeps.specs.PlainMachine.{held};
 ghost use Rattle.sweeps.specs.Measure.{six_volume};
@@ -49,6 +49,7 @@ pub fn wedge(alloc: Global) -> Result<Session, AllocError>
     ensures there { IfOk result (λ session. Has (held session.machine).solids 1) }
     ensures top { IfOk result (λ session. IsFaceOf (held session.machine) 1 1 lid) }
     ensures walls { IfOk result (λ session. HasWalls (held session.machine)) }
+    ensures made { IfOk result (λ session. session.machine ≡ wedge) }
 {
     let session = flat(alloc)?;
     sweeps_fit();

@@ -3,8 +3,8 @@
 //! `block_machining`, which makes the blocks. No command in it is refused: the only error is that memory is.
 
 use block_machining::{
-    divided, halved, known, machined, made, parted, pocketed, rejoined, scored, spurred,
-    taken_back, underlaid, wedge,
+    divided, halved, halved_beside_block, known, machined, made, parted, pocketed, rejoined,
+    scored, spurred, taken_back, underlaid, wedge,
 };
 use call_lists::Told;
 use euler_operators::Point;
@@ -106,6 +106,20 @@ fn tell_halves(rt: &HostRuntime) -> Result<(), AllocError> {
     Ok(())
 }
 
+/// Says what the halves of a block of 7 by 3 by 2 measure, which is made at the end of the first block and cut 2 from it; and that this
+/// measures what it did.
+fn tell_neighbour(rt: &HostRuntime) -> Result<(), AllocError> {
+    let end = Point { x: 4, y: 0, z: 0 };
+    let session = halved_beside_block(rt.alloc(), end, 7, 3, 2, 6)?;
+    let (near, far) = (known(&session, 2) / 6, known(&session, 3) / 6);
+    let (block, commands) = (known(&session, 1) / 6, session.depth());
+    prove!(near == 12 && far == 30 && block == 24 && commands == 3);
+    let _ = println!(rt;
+        "cut across beside the block: volumes of {near} and {far}, the block of {block}, {commands} commands to undo"
+    );
+    Ok(())
+}
+
 /// Says what a list of calls was told, one answer a call.
 fn tell_list(rt: &HostRuntime) -> Result<(), AllocError> {
     let mut told = Vec::new(rt.alloc());
@@ -135,6 +149,7 @@ fn main(rt: HostRuntime) -> ExitCode {
         .and_then(|()| tell_wedge(&rt))
         .and_then(|()| tell_parts(&rt))
         .and_then(|()| tell_halves(&rt))
+        .and_then(|()| tell_neighbour(&rt))
         .and_then(|()| tell_none(&rt))
         .and_then(|()| tell_list(&rt));
     if told.is_ok() {

@@ -1,18 +1,13 @@
 use Rattle.std.proofs.Common.{◌≡◌, suc, ◌+◌, pos, ap, subst, ◌∙◌, arith, refl}
-use Rattle.sweeps.specs.Journal.{Journal, new_journal}
 use Rattle.sweeps.specs.Machine.{block, block_refusal}
 use Rattle.sweeps.specs.PlainMachine.{Machine, start, depth, held}
 use Rattle.euler_operators.specs.Common.{origin}
 use Rattle.command_laws.specs.NewFaces.{last_face, IsFaceOf}
 use Rattle.block_machining.specs.Machines.{blank}
 use Rattle.block_machining.specs.Meeting.{top, near_side}
-use Rattle.block_machining.proofs.Accepted.{for_no_reason}
+use Rattle.block_machining.proofs.Accepted.{begins, for_no_reason}
 use Rattle.block_machining.proofs.Worked.{start_free, start_left}
 use Rattle.block_machining.proofs.blocks.blank.Goals as goal
-
--- a new session
-begins : (j : Journal) → j ≡ new_journal → j.machine ≡ start
-begins j new = ap (λ (i : Journal). i.machine) new
 
 no_face : (m : Machine) → m ≡ start → last_face start ≡ 0 → last_face m ≡ 0
 no_face m new none = ap last_face new ∙ none

@@ -1,15 +1,12 @@
-use Rattle.std.proofs.Common.{◌≡◌, ℕ, ℤ, suc, ◌<◌, length, false, List, [], ◌∷◌, pos, neg_ℤ, arith, refl, subst, sym, ap, ◌∙◌, get_or}
-use Rattle.shapes.specs.Common.{Caps, no_caps}
-use Rattle.euler_operators.specs.Common.{Model}
+use Rattle.std.proofs.Common.{◌≡◌, suc, pos, neg_ℤ, sym, ap, ◌∙◌}
 use Rattle.command_laws.specs.Counted.{counts}
 use Rattle.split_caps.specs.Capped.{caps_of}
-use Rattle.block_machining.specs.Cutting.{IsCapAt}
 use Rattle.plane_split.specs.Machine.{plane_with, split, split_refusal}
 use Rattle.sweeps.specs.Measure.{six_volume}
 use Rattle.sweeps.specs.PlainMachine.{Machine, held}
 use Rattle.block_machining.specs.Machines.{lengthened, parted}
 use Rattle.block_machining.proofs.Accepted.{for_no_reason}
-use Rattle.block_machining.proofs.Worked.{split_accepted, near_is, far_is, near_counts, far_counts, one_cap}
+use Rattle.block_machining.proofs.Worked.{capped, split_accepted, near_is, far_is, near_counts, far_counts, one_cap}
 use Rattle.block_machining.proofs.blocks.parted.Goals as goal
 
 pub returns-clause-volume : goal.returns-clause-volume
@@ -55,13 +52,11 @@ returns-clause-far_counts c =
     let made = rw c.in_ok-but_for_memory.ensures at c.cut-session.ensures.made in
     ap (λ m. counts (held m) 2) (cut_is c.in_ok-session.session.machine c.cut-session.result.0.machine c.in_ok-session.ensures.made made) ∙ far_counts
 
--- the caps of the one cycle
-capped : (N : Model) (d : ℤ) (ks : List Caps) → ks ≡ record { lower = 16; upper = 20; hole = false } ∷ [] →
-    ((i : ℕ) → i < length ks → (get_or ks i no_caps).hole ≡ false → IsCapAt N d 1 (get_or ks i no_caps).lower × IsCapAt N d 2 (get_or ks i no_caps).upper) → IsCapAt N d 1 16 × IsCapAt N d 2 20
-capped N d ks e each = subst (λ xs. (i : ℕ) → i < length xs → (get_or xs i no_caps).hole ≡ false → IsCapAt N d 1 (get_or xs i no_caps).lower × IsCapAt N d 2 (get_or xs i no_caps).upper) e each 0 (omega arith) refl
-
 pub returns-clause-caps : goal.returns-clause-caps
 returns-clause-caps c =
     let across = plane_with (pos 1) (pos 0) (pos 0) (neg_ℤ (pos 2)) in
-    capped (held c.cut-session.result.0.machine) (neg_ℤ (pos 2)) (caps_of (held c.in_ok-session.session.machine) 1 across) (ap (λ m. caps_of (held m) 1 across) c.in_ok-session.ensures.made ∙ one_cap)
+    capped (held c.in_ok-session.session.machine) (held c.cut-session.result.0.machine) (neg_ℤ (pos 2)) 1 2 16 20 (ap (λ m. caps_of (held m) 1 across) c.in_ok-session.ensures.made ∙ one_cap)
     (rw c.in_ok-but_for_memory.ensures at c.cut-session.ensures.caps)
+
+pub returns-clause-made : goal.returns-clause-made
+returns-clause-made c = cut_is c.in_ok-session.session.machine c.cut-session.result.0.machine c.in_ok-session.ensures.made (rw c.in_ok-but_for_memory.ensures at c.cut-session.ensures.made)

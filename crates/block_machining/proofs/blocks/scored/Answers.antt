@@ -3,7 +3,7 @@ use Rattle.euler_operators.specs.Common.{Has, Model}
 use Rattle.sweeps.specs.PlainMachine.{act, act_refusal, held}
 use Rattle.command_laws.specs.Counted.{counts}
 use Rattle.command_laws.specs.Operators.{LieOnPlane, counted_on, faces_met, solid_in}
-use Rattle.block_machining.specs.Machines.{score}
+use Rattle.block_machining.specs.Machines.{score, scored}
 use Rattle.block_machining.proofs.Accepted.{for_no_reason}
 use Rattle.block_machining.proofs.Worked.{score_accepted, score_in, score_lies, score_there, top_plane}
 use Rattle.block_machining.proofs.blocks.scored.Goals as goal
@@ -30,3 +30,7 @@ pub returns-clause-there : goal.returns-clause-there
 returns-clause-there c =
     let made = rw c.in_ok-but_for_memory.ensures at c.acted-session.ensures.made in
     subst (λ m. Has (held m).solids 1) (sym (made ∙ ap (λ m. act m score) c.in_ok-session.ensures.made)) score_there
+
+pub returns-clause-made : goal.returns-clause-made
+unfolding scored
+returns-clause-made c = rw c.in_ok-but_for_memory.ensures at c.acted-session.ensures.made ∙ ap (λ m. act m score) c.in_ok-session.ensures.made

@@ -1,10 +1,10 @@
 use Rattle.std.proofs.Common.{◌≡◌, ◌≢◌, suc, refl, subst, sym, ap, ◌∙◌}
 use Rattle.std.proofs.lemmas.Bool.{eqb-false}
 use Rattle.euler_operators.specs.Common.{Model}
-use Rattle.sweeps.specs.PlainMachine.{act_refusal, held}
+use Rattle.sweeps.specs.PlainMachine.{act, act_refusal, held}
 use Rattle.command_laws.specs.Counted.{counts}
 use Rattle.command_laws.specs.Operators.{counted_on, solid_in, spur_face}
-use Rattle.block_machining.specs.Machines.{blank, spur}
+use Rattle.block_machining.specs.Machines.{blank, spur, spurred}
 use Rattle.block_machining.specs.Meeting.{near_side}
 use Rattle.block_machining.proofs.Accepted.{for_no_reason}
 use Rattle.block_machining.proofs.Worked.{is_one_spur, spur_accepted, spur_apart, spur_in}
@@ -33,3 +33,7 @@ returns-clause-side c =
     let apart : 4 ≢ spur_face M spur = subst (λ m. 4 ≢ spur_face (held m) spur) (sym c.in_ok-session.ensures.made) (eqb-false 4 (spur_face (held blank) spur) spur_apart) in
     let left = rw c.in_ok-but_for_memory.ensures at c.acted-session.ensures.spurred in
     c.faces_stand.ensures M N 4 1 near_side (left 4 (is_one_spur M) side.there apart) side
+
+pub returns-clause-made : goal.returns-clause-made
+unfolding spurred
+returns-clause-made c = rw c.in_ok-but_for_memory.ensures at c.acted-session.ensures.made ∙ ap (λ m. act m spur) c.in_ok-session.ensures.made

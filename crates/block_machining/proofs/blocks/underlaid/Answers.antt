@@ -1,9 +1,9 @@
 use Rattle.std.proofs.Common.{◌+◌, ap, sym, subst, ◌∙◌, arith, refl}
-use Rattle.sweeps.specs.Machine.{lamina_refusal}
+use Rattle.sweeps.specs.Machine.{lamina, lamina_refusal}
 use Rattle.sweeps.specs.PlainMachine.{held}
 use Rattle.command_laws.specs.Commands.{IsLamina}
 use Rattle.command_laws.specs.NewFaces.{IsFaceOf}
-use Rattle.block_machining.specs.Machines.{blank, triangle}
+use Rattle.block_machining.specs.Machines.{blank, triangle, underlaid}
 use Rattle.block_machining.specs.Meeting.{near_side}
 use Rattle.block_machining.proofs.Accepted.{for_no_reason}
 use Rattle.block_machining.proofs.Worked.{blank_free, blank_room}
@@ -37,3 +37,9 @@ returns-clause-lamina c =
     let after = c.lamina-session.result.0.machine in
     let made = subst (λ ps. IsLamina before after 2 ps) c.corners.ensures (rw c.in_ok-but_for_memory.ensures at c.lamina-session.ensures.ok) in
     subst (λ g. IsFaceOf (held after) (g + 1) 2 triangle) c.in_ok-session.ensures.last (c.laminas_make_faces.ensures.faces before after 2 triangle c.lamina-session.ensures.sound made).0
+
+pub returns-clause-made : goal.returns-clause-made
+unfolding underlaid
+returns-clause-made c =
+    let made = rw c.in_ok-but_for_memory.ensures at c.lamina-session.ensures.ok in
+    made.1 ∙ (λ i. lamina (c.in_ok-session.ensures.made i) 2 (c.corners.ensures i))

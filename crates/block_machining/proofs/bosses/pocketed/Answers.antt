@@ -1,11 +1,11 @@
 use Rattle.std.proofs.Common.{◌≡◌, ◌*◌, pos, ◌+ℤ◌, ◌*ℤ◌, sym, ap, subst, ◌∙◌, refl}
 use Rattle.euler_operators.specs.Common.{Sound, dot, solid_of, Has}
-use Rattle.sweeps.specs.Machine.{sweep_refusal}
+use Rattle.sweeps.specs.Machine.{sweep, sweep_refusal}
 use Rattle.sweeps.specs.Measure.{normal, six_volume}
 use Rattle.sweeps.specs.PlainMachine.{Machine, held}
 use Rattle.shapes.specs.Common.{AreLeft, taken_in}
 use Rattle.command_laws.specs.Counted.{counts}
-use Rattle.block_machining.specs.Machines.{bossed}
+use Rattle.block_machining.specs.Machines.{bossed, pocketed}
 use Rattle.block_machining.proofs.Accepted.{for_no_reason}
 use Rattle.block_machining.proofs.Worked.{none_lone, pocket_left, top_area, top_corners, top_near, top_solid, top_there, up_two}
 use Rattle.block_machining.proofs.bosses.pocketed.Goals as goal
@@ -40,3 +40,7 @@ returns-clause-sum c =
 pub returns-clause-there : goal.returns-clause-there
 returns-clause-there c =
     subst (λ s. Has (held c.raised-session.result.0.machine).solids s) (solid_is c.in_ok-session.session.machine c.in_ok-session.ensures.made) (rw c.in_ok-but_for_memory.ensures at c.raised-session.ensures.there)
+
+pub returns-clause-made : goal.returns-clause-made
+unfolding pocketed
+returns-clause-made c = (rw c.in_ok-but_for_memory.ensures at c.raised-session.ensures.made).1 ∙ ap (λ m. sweep m 1 up_two) c.in_ok-session.ensures.made

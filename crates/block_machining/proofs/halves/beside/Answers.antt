@@ -1,8 +1,6 @@
-use Rattle.std.proofs.Common.{◌≡◌, ◌+◌, ◌≤◌, ◌*ℤ◌, pos, Some, ℕ, arith, w64}
+use Rattle.std.proofs.Common.{◌≡◌, ◌+◌, ◌≤◌, Some, ℕ, arith, w64}
 use Rattle.std.proofs.lemmas.Int.{to_z-of_z}
 use Rattle.sweeps.specs.Machine.{block_refusal}
-use Rattle.sweeps.specs.PlainMachine.{held}
-use Rattle.sweeps.specs.Measure.{six_volume}
 use Rattle.shapes.specs.Common.{AreLeft, Taken}
 use Rattle.command_laws.specs.Commands.{IsBlock}
 use Rattle.block_machining.specs.Halving.{needed_for_halves}
@@ -28,10 +26,3 @@ pub returns-clause-made : goal.returns-clause-made
 returns-clause-made c =
     same_sizes (IsBlock c.args.session.machine c.block-session.result.0.machine c.args.s c.args.corner) _ _ _ c.args.dx c.args.dy c.args.dz
     (to_z-of_z w64 c.args.dx c.ranges.dx) (to_z-of_z w64 c.args.dy c.ranges.dy) (to_z-of_z w64 c.args.dz c.ranges.dz) (rw c.in_ok-but_for_memory.ensures at c.block-session.ensures.ok)
-
-pub returns-clause-volume : goal.returns-clause-volume
-returns-clause-volume c =
-    let made = rw c.in_ok-but_for_memory.ensures at c.block-session.ensures.ok in
-    same_sizes (λ u v w. six_volume (held c.block-session.result.0.machine) c.args.s ≡ pos 6 *ℤ u *ℤ v *ℤ w) _ _ _ c.args.dx c.args.dy c.args.dz
-    (to_z-of_z w64 c.args.dx c.ranges.dx) (to_z-of_z w64 c.args.dy c.ranges.dy) (to_z-of_z w64 c.args.dz c.ranges.dz)
-    (c.block_measures.ensures.solid c.args.session.machine c.block-session.result.0.machine c.args.s _ _ _ _ c.block-session.ensures.sound made.0 made.1)

@@ -1,5 +1,4 @@
 use Rattle.std.proofs.Common.{◌≡◌, ◌+◌, true, sym, ap, subst, ◌∙◌, arith, refl}
-use Rattle.sweeps.specs.Journal.{Journal, new_journal}
 use Rattle.sweeps.specs.Machine.{lamina, lamina_refusal}
 use Rattle.sweeps.specs.Measure.{is_flat}
 use Rattle.sweeps.specs.PlainMachine.{Machine, start, held}
@@ -8,12 +7,9 @@ use Rattle.command_laws.specs.Commands.{IsLamina}
 use Rattle.command_laws.specs.Flat.{lie_flat}
 use Rattle.command_laws.specs.NewFaces.{last_face, IsFaceOf}
 use Rattle.block_machining.specs.Machines.{triangle, triangular}
-use Rattle.block_machining.proofs.Accepted.{for_no_reason}
+use Rattle.block_machining.proofs.Accepted.{begins, for_no_reason}
 use Rattle.block_machining.proofs.Worked.{start_free, lamina_left, first_face}
 use Rattle.block_machining.proofs.wedges.flat.Goals as goal
-
-begins : (j : Journal) → j ≡ new_journal → j.machine ≡ start
-begins j new = ap (λ (i : Journal). i.machine) new
 
 pub but_for_memory-requires : goal.but_for_memory-requires
 but_for_memory-requires c refusal is =

@@ -1,11 +1,11 @@
 use Rattle.std.proofs.Common.{◌≡◌, ◌<◌, ◌+◌, ℕ, length, pos, ◌+ℤ◌, ◌*ℤ◌, sym, ap, subst, ◌∙◌, arith, refl}
 use Rattle.euler_operators.specs.Common.{Point, Model, solid_of, Has, dot, direction}
-use Rattle.sweeps.specs.Machine.{sweep_refusal}
+use Rattle.sweeps.specs.Machine.{sweep, sweep_refusal}
 use Rattle.sweeps.specs.Measure.{six_volume, normal, plane_of}
 use Rattle.sweeps.specs.PlainMachine.{Machine, held}
 use Rattle.shapes.specs.Common.{AreLeft, taken_in, next_place}
 use Rattle.command_laws.specs.NewFaces.{IsFaceOf, all_moved, corner_points, last_face, nth, plane_round, side_over}
-use Rattle.block_machining.specs.Machines.{triangle}
+use Rattle.block_machining.specs.Machines.{triangle, wedge}
 use Rattle.block_machining.specs.Wedge.{lid}
 use Rattle.block_machining.proofs.Accepted.{for_no_reason}
 use Rattle.block_machining.proofs.Worked.{triangular_last, wedge_left}
@@ -64,3 +64,7 @@ returns-clause-walls c i l =
     let face = c.in_ok-session.ensures.face in
     wall_is m n face i (ap last_face c.in_ok-session.ensures.made ∙ triangular_last)
     (c.sweeps_make_faces.ensures.sides m n 1 up i c.raised-session.ensures.sound (rw c.in_ok-but_for_memory.ensures at c.raised-session.ensures.made) face.plain (subst (λ ps. i < length ps) (sym face.points) l))
+
+pub returns-clause-made : goal.returns-clause-made
+unfolding wedge
+returns-clause-made c = (rw c.in_ok-but_for_memory.ensures at c.raised-session.ensures.made).1 ∙ ap (λ m. sweep m 1 up) c.in_ok-session.ensures.made
