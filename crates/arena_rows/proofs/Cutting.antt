@@ -1,35 +1,27 @@
 -- A cut and a join, as the nodes and rows do them.
-use Rattle.std.proofs.Common.{◌≡◌, ◌≢◌, ℕ, ◌+◌, true, cond, nat_eq, List, [], Option, Some, None, is_some, sym, ap, subst, ◌∙◌, arith, true≢false, inl, inr}
+use Rattle.std.proofs.Common.{◌≡◌, ◌≢◌, ℕ, ◌+◌, true, List, Option, Some, None, sym, ap, subst, ◌∙◌, arith, inl, inr}
 use Rattle.std.proofs.lemmas.Bool.Decides.{eqb_tells}
-use Rattle.std.proofs.lemmas.Option.{same_Some}
 use Rattle.boundary_model.specs.Items.{count, IsIn, head_or}
 use Rattle.boundary_model.proofs.Lists.{IsIn_or_not}
 use Rattle.arena_rows.specs.declared.rows.LoopCell.{LoopCell}
-use Rattle.arena_rows.specs.declared.rows.StoredContent.{StoredContent}
-use Rattle.arena_rows.specs.declared.rows.StoredContent.TheVariants.{Empty, Lone, At}
-use Rattle.boundary_model.specs.Table.{put, remove, tabulate}
+use Rattle.arena_rows.specs.declared.rows.StoredContent.TheVariants.{Empty, At}
+use Rattle.boundary_model.specs.Table.{remove, tabulate}
 use Rattle.raw_cells.specs.Rows.{row_at}
-use Rattle.arena_rows.specs.Common.{ArenaRows, RowsAreTied, table_of, loosened, Spots, codes, live, label, ring, spliced, labelled, AreRings, stored_content, loop_row, HasEntry, AreLoops, StandsAt, edge_row, loose_row}
-use Rattle.boundary_model.specs.Model.{cycle}
+use Rattle.arena_rows.specs.Common.{ArenaRows, RowsAreTied, loosened, Spots, codes, live, label, ring, spliced, labelled, AreRings, AreLoops, StandsAt, edge_row, loose_row}
 use Rattle.boundary_model.specs.Rings.{cut_left, cut_right, joined}
 use Rattle.boundary_model.proofs.Cuts.{IsIn-cut}
 use Rattle.arena_rows.proofs.ring_spots_laws.SpotLaws.{ring_left, ring_right, ring_beside, cut_items, AreRings-cut, AreRings-labelled, ring-labelled, live-labelled, live-spliced, label-spliced, label-labelled_in, label-labelled_out, ring_joint, ring_aside, join_items, AreRings-join}
 use Rattle.arena_rows.proofs.ring_spots_laws.SpotTables.{loose_none, loose_kept, loose_removed, loose_same, edges_same, tails-labelled, tails-spliced}
-use Rattle.arena_rows.proofs.Tellings.{loose_added, same_loop, loops_table}
-use Rattle.boundary_model.specs.Model.{items_of}
+use Rattle.arena_rows.proofs.Tellings.{loose_added, same_loop}
+use Rattle.arena_rows.proofs.Writes.{IsBare, none_in_bare, IsKept, IsTold, told_at, loops_told}
 
--- loop l is there and holds no half-edge
-pub record IsBare (sp : Spots) (loops : List (Option LoopCell)) (l : ℕ) : Type 0 where
-  pub cell : LoopCell
-  pub here : row_at loops l ≡ Some cell
-  pub bare : items_of (stored_content sp cell.stored) ≡ []
-
--- a and b live in one loop, and loop l takes what is cut off; where l is 0 it becomes loose
+-- a and b live in one loop, apart, and loop l takes what is cut off; where l is 0 it becomes loose
 pub record CutFacts (sp : Spots) (loops : List (Option LoopCell)) (a b l : ℕ) : Type 0 where
   pub a_there : live sp a ≡ true
   pub b_there : live sp b ≡ true
   pub looped : label sp a ≢ 0
   pub one : label sp b ≡ label sp a
+  pub apart : a ≢ b
   pub free : l ≢ 0 → IsBare sp loops l
 
 -- a lives in a loop, and b in another or in none
@@ -52,7 +44,7 @@ module _ (arena : ArenaRows) (tied : RowsAreTied arena) where
   abbrev are : AreLoops spots loops
   are = tied.loops_tied
 
-  module _ (a b l : ℕ) (g : CutFacts spots loops a b l) (ne : a ≢ b) where
+  module _ (a b l : ℕ) (g : CutFacts spots loops a b l) where
     abbrev label_a : ℕ
     label_a = label spots a
 
@@ -75,7 +67,7 @@ module _ (arena : ArenaRows) (tied : RowsAreTied arena) where
     together = same_loop spots loops rings are a b g.a_there g.b_there g.looped g.one
 
     pub rings1 : AreRings cut_spots
-    rings1 = AreRings-cut spots rings a b g.a_there g.b_there together ne
+    rings1 = AreRings-cut spots rings a b g.a_there g.b_there together g.apart
 
     pub there1 : live cut_spots b ≡ true
     there1 = live-spliced spots a b b ∙ g.b_there
@@ -84,16 +76,16 @@ module _ (arena : ArenaRows) (tied : RowsAreTied arena) where
     rings2 = AreRings-labelled cut_spots rings1 b l there1
 
     a_left : IsIn a left
-    a_left = (IsIn-cut a b whole (rings.rings a g.a_there).apart (rings.rings a g.a_there).item together ne).0
+    a_left = (IsIn-cut a b whole (rings.rings a g.a_there).apart (rings.rings a g.a_there).item together g.apart).0
 
     b_right : IsIn b right
-    b_right = (IsIn-cut a b whole (rings.rings a g.a_there).apart (rings.rings a g.a_there).item together ne).1
+    b_right = (IsIn-cut a b whole (rings.rings a g.a_there).apart (rings.rings a g.a_there).item together g.apart).1
 
     right_is : ring cut_spots b ≡ right
-    right_is = (ring_right spots rings a b g.a_there g.b_there together ne b b_right).0
+    right_is = (ring_right spots rings a b g.a_there g.b_there together g.apart b b_right).0
 
     items : (x : ℕ) → count x left + count x right ≡ count x whole
-    items = cut_items spots rings a b g.a_there g.b_there together ne
+    items = cut_items spots rings a b g.a_there g.b_there together g.apart
 
     pub live2 : (x : ℕ) → live labelled_spots x ≡ live spots x
     live2 x = live-labelled cut_spots l (ring cut_spots b) x ∙ live-spliced spots a b x
@@ -114,13 +106,13 @@ module _ (arena : ArenaRows) (tied : RowsAreTied arena) where
     ring2 x = ring-labelled cut_spots rings1 b l there1 x
 
     pub ring_of_left : ring labelled_spots a ≡ left
-    ring_of_left = ring2 a ∙ (ring_left spots rings a b g.a_there g.b_there together ne a a_left).0
+    ring_of_left = ring2 a ∙ (ring_left spots rings a b g.a_there g.b_there together g.apart a a_left).0
 
     pub ring_of_right : ring labelled_spots b ≡ right
     ring_of_right = ring2 b ∙ right_is
 
     ring_out : (x : ℕ) → live spots x ≡ true → count x whole ≡ 0 → ring labelled_spots x ≡ ring spots x
-    ring_out x h n = ring2 x ∙ (ring_beside spots rings a b g.a_there g.b_there together ne x h n).0
+    ring_out x h n = ring2 x ∙ (ring_beside spots rings a b g.a_there g.b_there together g.apart x h n).0
 
     label_out : (x : ℕ) → count x whole ≡ 0 → label labelled_spots x ≡ label spots x
     label_out x n = label_not_right x (omega (arith, items x))
@@ -132,66 +124,48 @@ module _ (arena : ArenaRows) (tied : RowsAreTied arena) where
     pub kept2 : (q c : ℕ) → q ≢ label_a → live spots c ≡ true → label spots c ≡ q → ring labelled_spots c ≡ ring spots c
     kept2 q c n h e = ring_out c h (out c (λ z. n (sym e ∙ z)))
 
-    apart_l : l ≢ 0 → l ≢ label_a
-    apart_l n e =
-        let f = g.free n in
-        let i : IsIn a (ring spots (are.stands a g.a_there g.looped).entry) = (are.stands a g.a_there g.looped).item in
-        let z : stored_content spots f.cell.stored ≡ cycle (ring spots (are.stands a g.a_there g.looped).entry) = ap (λ (c : LoopCell). stored_content spots c.stored) (same_Some _ _ (sym f.here ∙ ap (row_at loops) e ∙ (are.stands a g.a_there g.looped).here)) in
-        let k : count a (ring spots (are.stands a g.a_there g.looped).entry) ≡ 0 = ap (count a) (sym (ap items_of z) ∙ f.bare) in
-        absurd (omega arith)
+    pub apart_rows : l ≢ 0 → l ≢ label_a
+    apart_rows n e = none_in_bare spots loops a l (g.free n) (subst (StandsAt spots loops a) (sym e) (are.stands a g.a_there g.looped))
+
+    other_loop : l ≢ label_a
+    other_loop e = elim (eqb_tells l 0) [ inl z ↦ g.looped (sym e ∙ z.1) | inr n ↦ apart_rows n.1 e ]
+
+    -- what the two loops hold then
+    in_left : (x : ℕ) → live labelled_spots x ≡ true → label labelled_spots x ≡ label_a → IsIn x left
+    in_left x a' e = elim (IsIn_or_not x right) [
+      | inl i ↦ absurd (other_loop (sym (label_right x i) ∙ e))
+      | inr m ↦ let w : IsIn x whole = same_loop spots loops rings are a x g.a_there (sym (live2 x) ∙ a') g.looped (sym (label_not_right x m) ∙ e) in omega (arith, items x)
+    ]
+
+    in_right : l ≢ 0 → (x : ℕ) → live labelled_spots x ≡ true → label labelled_spots x ≡ l → IsIn x right
+    in_right n x a' e = elim (IsIn_or_not x right) [
+      | inl i ↦ i
+      | inr m ↦
+          let o = sym (label_not_right x m) ∙ e in
+          absurd (none_in_bare spots loops x l (g.free n) (subst (StandsAt spots loops x) o (are.stands x (sym (live2 x) ∙ a') (λ z. n (sym o ∙ z)))))
+    ]
 
     -- the rows after the cut
     module _ (new : List (Option LoopCell)) (fa : ℕ) (at_la : row_at new label_a ≡ Some (record { face = fa; stored = At a })) (at_l : l ≢ 0 → (f : ℕ) × (row_at new l ≡ Some (record { face = f; stored = At b })))
         (elsewhere : (q : ℕ) → q ≢ label_a → q ≢ l → row_at new q ≡ row_at loops q) (new_zero : row_at new 0 ≡ None) where
-      old : (q : ℕ) → q ≢ label_a → (stored : StoredContent) → HasEntry spots q stored → HasEntry labelled_spots q stored
-      old q n Empty e = tt
-      old q n (Lone v) e = tt
-      old q n (At c) e = (live2 c ∙ e.0, label_out c (out c (λ z. n (sym e.1 ∙ z))) ∙ e.1)
+      told_left : IsTold labelled_spots new label_a
+      told_left = told_at labelled_spots new label_a fa (At a) at_la (live2 a ∙ g.a_there, label_left a a_left) (λ x h e. subst (IsIn x) (sym ring_of_left) (in_left x h e))
 
-      cut_entries : (q : ℕ) (cell : LoopCell) → row_at new q ≡ Some cell → HasEntry labelled_spots q cell.stored
-      cut_entries q cell at = elim (eqb_tells q label_a) [
-        | inl p ↦ subst (HasEntry labelled_spots q) (ap (λ (c : LoopCell). c.stored) (same_Some _ _ (sym (ap (row_at new) p.1 ∙ at_la) ∙ at))) (live2 a ∙ g.a_there, label_left a a_left ∙ sym p.1)
-        | inr p ↦ elim (eqb_tells q l) [
-          | inl r ↦
-              let n : l ≢ 0 = λ z. true≢false (ap is_some (sym at) ∙ ap is_some (ap (row_at new) (r.1 ∙ z) ∙ new_zero)) in
-              subst (HasEntry labelled_spots q) (ap (λ (c : LoopCell). c.stored) (same_Some _ _ (sym (ap (row_at new) r.1 ∙ (at_l n).1) ∙ at))) (live2 b ∙ g.b_there, label_right b b_right ∙ sym r.1)
-          | inr r ↦ old q p.1 cell.stored (are.entries q cell (sym (elsewhere q p.1 r.1) ∙ at))
-        ]
-      ]
+      told_right : l ≢ 0 → IsTold labelled_spots new l
+      told_right n = told_at labelled_spots new l (at_l n).0 (At b) (at_l n).1 (live2 b ∙ g.b_there, label_right b b_right) (λ x h e. subst (IsIn x) (sym ring_of_right) (in_right n x h e))
 
-      cut_stands : (x : ℕ) → live labelled_spots x ≡ true → label labelled_spots x ≢ 0 → StandsAt labelled_spots new x (label labelled_spots x)
-      cut_stands x h n = elim (IsIn_or_not x left) [
-        | inl i ↦ subst (StandsAt labelled_spots new x) (sym (label_left x i)) (record { face = fa; entry = a; here = at_la; item = subst (IsIn x) (sym ring_of_left) i })
-        | inr m ↦ elim (IsIn_or_not x right) [
-          | inl i ↦
-              let k : l ≢ 0 = λ z. n (label_right x i ∙ z) in
-              subst (StandsAt labelled_spots new x) (sym (label_right x i)) (record { face = (at_l k).0; entry = b; here = (at_l k).1; item = subst (IsIn x) (sym ring_of_right) i })
-          | inr k ↦
-              let away : count x whole ≡ 0 = omega (arith, items x) in
-              let e = label_out x away in
-              let there : live spots x ≡ true = sym (live2 x) ∙ h in
-              let s = are.stands x there (λ z. n (e ∙ z)) in
-              let ent = are.entries (label spots x) (record { face = s.face; stored = At s.entry }) s.here in
-              let not_la : label spots x ≢ label_a = λ z. let w : IsIn x whole = same_loop spots loops rings are a x g.a_there there g.looped z in absurd (omega arith) in
-              let not_l : label spots x ≢ l = λ z.
-              let nz : l ≢ 0 = λ y. n (e ∙ z ∙ y) in let f = g.free nz in
-              let c : stored_content spots f.cell.stored ≡ cycle (ring spots s.entry) = ap (λ (c : LoopCell). stored_content spots c.stored) (same_Some _ _ (sym f.here ∙ ap (row_at loops) (sym z) ∙ s.here)) in
-              let u : count x (ring spots s.entry) ≡ 0 = ap (count x) (sym (ap items_of c) ∙ f.bare) in
-              let i = s.item in absurd (omega arith) in
-              subst (StandsAt labelled_spots new x) (sym e) (record {
-                face = s.face;
-                entry = s.entry;
-                here = elsewhere (label spots x) not_la not_l ∙ s.here;
-                item = subst (IsIn x) (sym (kept2 (label spots x) s.entry not_la ent.0 ent.1)) s.item;
-              })
-        ]
-      ]
+      kept_loop : (q : ℕ) → q ≢ label_a → q ≢ l → IsKept spots labelled_spots loops new q
+      kept_loop q n m = record {
+        row = elsewhere q n m;
+        stays = λ c h e. let o = out c (λ z. n (sym e ∙ z)) in (live2 c ∙ h, label_out c o ∙ e, ring_out c h o);
+        stood = λ c h e. elim (IsIn_or_not c right) [ inl i ↦ absurd (m (sym e ∙ label_right c i)) | inr k ↦ (sym (live2 c) ∙ h, sym (label_not_right c k) ∙ e) ];
+      }
 
       pub AreLoops-cut : AreLoops labelled_spots new
-      AreLoops-cut = record { entries = cut_entries; stands = cut_stands }
-
-    pub apart_rows : l ≢ 0 → l ≢ label_a
-    apart_rows = apart_l
+      AreLoops-cut = loops_told spots labelled_spots loops new are new_zero (λ q some. elim (eqb_tells q label_a) [
+        | inl p ↦ inr (subst (IsTold labelled_spots new) (sym p.1) told_left)
+        | inr p ↦ elim (eqb_tells q l) [ inl r ↦ inr (subst (IsTold labelled_spots new) (sym r.1) (told_right (λ z. some (r.1 ∙ z)))) | inr r ↦ inl (kept_loop q p.1 r.1) ]
+      ])
 
     -- the loose rings after the cut
     out_alike : (k : ℕ) → count k whole ≡ 0 → loose_row labelled_spots k ≡ loose_row spots k
@@ -218,9 +192,6 @@ module _ (arena : ArenaRows) (tied : RowsAreTied arena) where
 
     pub edges-cut : tabulate (edge_row labelled_spots) codes ≡ tabulate (edge_row spots) codes
     edges-cut = edges_same spots labelled_spots (λ q. tails-labelled cut_spots l (ring cut_spots b) q ∙ tails-spliced spots a b q)
-
-    pub loops-cut : (rows : List (Option LoopCell)) (fa : ℕ) → ((q : ℕ) → row_at rows q ≡ cond (nat_eq q label_a) (Some (record { face = fa; stored = At a })) (row_at loops q)) → table_of (loop_row labelled_spots) rows ≡ put (table_of (loop_row spots) loops) label_a (record { face = fa; content = cycle left })
-    loops-cut rows fa is = loops_table spots labelled_spots loops rows are label_a (record { face = fa; stored = At a }) is kept2 ∙ ap (λ hs. put (table_of (loop_row spots) loops) label_a (record { face = fa; content = cycle hs })) ring_of_left
 
   -- a's loop takes the ring of b, which stands in another loop or in none
   module _ (a b : ℕ) (g : JoinFacts spots a b) where
@@ -350,42 +321,41 @@ module _ (arena : ArenaRows) (tied : RowsAreTied arena) where
     pub jring_of : (d : ℕ) → IsIn d ring_a → ring joined_spots d ≡ joint
     jring_of d i = jring_in d (joint_in d i)
 
+    -- what the two loops hold then
+    in_joint : (x : ℕ) → live joined_spots x ≡ true → label joined_spots x ≡ jla → IsIn x joint
+    in_joint x h e = elim (IsIn_or_not x joint) [
+      | inl i ↦ i
+      | inr m ↦
+          let w : IsIn x ring_a = same_loop spots loops rings are a x g.a_there (sym (jlive2 x) ∙ h) g.looped (sym (jlabel_out x (omega (arith, jitems x))) ∙ e) in
+          omega (arith, jitems x)
+    ]
+
+    none_left : jlb ≢ 0 → (x : ℕ) → live joined_spots x ≡ true → label joined_spots x ≡ jlb → ⊥
+    none_left n x h e = elim (IsIn_or_not x joint) [
+      | inl i ↦ g.other (sym e ∙ jlabel_in x i)
+      | inr m ↦
+          let w : IsIn x ring_b = same_loop spots loops rings are b x g.b_there (sym (jlive2 x) ∙ h) n (sym (jlabel_out x (omega (arith, jitems x))) ∙ e) in
+          absurd (omega (arith, jitems x))
+    ]
+
     -- the rows after the join: loop b is empty, if it is a loop, and loop a has an entry d of its own
-    module _ (d : ℕ) (d_in : IsIn d (ring spots a)) (new : List (Option LoopCell)) (fa : ℕ) (at_la : row_at new jla ≡ Some (record { face = fa; stored = At d })) (at_lb : (cell : LoopCell) → row_at new jlb ≡ Some cell → cell.stored ≡ Empty)
-        (elsewhere : (q : ℕ) → q ≢ jla → q ≢ jlb → row_at new q ≡ row_at loops q) where
-      jold : (q : ℕ) → q ≢ jla → q ≢ jlb → (stored : StoredContent) → HasEntry spots q stored → HasEntry joined_spots q stored
-      jold q n m Empty e = tt
-      jold q n m (Lone v) e = tt
-      jold q n m (At c) e =
-          let z = jaway c (λ z. n (sym e.1 ∙ z)) (λ z. m (sym e.1 ∙ z)) in
-          (jlive2 c ∙ e.0, jlabel_out c (omega (arith, jitems c)) ∙ e.1)
+    module _ (d : ℕ) (d_in : IsIn d (ring spots a)) (new : List (Option LoopCell)) (fa : ℕ) (at_la : row_at new jla ≡ Some (record { face = fa; stored = At d })) (at_lb : jlb ≢ 0 → (f : ℕ) × (row_at new jlb ≡ Some (record { face = f; stored = Empty })))
+        (elsewhere : (q : ℕ) → q ≢ jla → q ≢ jlb → row_at new q ≡ row_at loops q) (new_zero : row_at new 0 ≡ None) where
+      told_joint : IsTold joined_spots new jla
+      told_joint = told_at joined_spots new jla fa (At d) at_la (jlive2 d ∙ (rings.rings a g.a_there).awake d d_in, jlabel_in d (joint_in d d_in)) (λ x h e. subst (IsIn x) (sym (jring_of d d_in)) (in_joint x h e))
 
-      join_entries : (q : ℕ) (cell : LoopCell) → row_at new q ≡ Some cell → HasEntry joined_spots q cell.stored
-      join_entries q cell at = elim (eqb_tells q jla) [
-        | inl p ↦ subst (HasEntry joined_spots q) (ap (λ (c : LoopCell). c.stored) (same_Some _ _ (sym (ap (row_at new) p.1 ∙ at_la) ∙ at))) (jlive2 d ∙ (rings.rings a g.a_there).awake d d_in, jlabel_in d (joint_in d d_in) ∙ sym p.1)
-        | inr p ↦ elim (eqb_tells q jlb) [
-          | inl r ↦ subst (HasEntry joined_spots q) (sym (at_lb cell (ap (row_at new) (sym r.1) ∙ at))) tt
-          | inr r ↦ jold q p.1 r.1 cell.stored (are.entries q cell (sym (elsewhere q p.1 r.1) ∙ at))
-        ]
-      ]
+      told_empty : jlb ≢ 0 → IsTold joined_spots new jlb
+      told_empty n = told_at joined_spots new jlb (at_lb n).0 Empty (at_lb n).1 tt (λ x h e. absurd (none_left n x h e))
 
-      join_stands : (x : ℕ) → live joined_spots x ≡ true → label joined_spots x ≢ 0 → StandsAt joined_spots new x (label joined_spots x)
-      join_stands x h n = elim (IsIn_or_not x joint) [
-        | inl i ↦ subst (StandsAt joined_spots new x) (sym (jlabel_in x i)) (record { face = fa; entry = d; here = at_la; item = subst (IsIn x) (sym (jring_of d d_in)) i })
-        | inr m ↦
-            let e = jlabel_out x (omega (arith, jitems x)) in
-            let there : live spots x ≡ true = sym (jlive2 x) ∙ h in
-            let s = are.stands x there (λ z. n (e ∙ z)) in
-            let ent = are.entries (label spots x) (record { face = s.face; stored = At s.entry }) s.here in
-            let not_la : label spots x ≢ jla = λ z. let w : IsIn x ring_a = same_loop spots loops rings are a x g.a_there there g.looped z in absurd (omega (arith, jitems x)) in
-            let not_lb : label spots x ≢ jlb = λ z. let w : IsIn x ring_b = same_loop spots loops rings are b x g.b_there there (λ y. n (e ∙ z ∙ y)) z in absurd (omega (arith, jitems x)) in
-            subst (StandsAt joined_spots new x) (sym e) (record {
-              face = s.face;
-              entry = s.entry;
-              here = elsewhere (label spots x) not_la not_lb ∙ s.here;
-              item = subst (IsIn x) (sym (jkept (label spots x) s.entry not_la not_lb ent.0 ent.1)) s.item;
-            })
-      ]
+      joined_kept : (q : ℕ) → q ≢ jla → q ≢ jlb → IsKept spots joined_spots loops new q
+      joined_kept q n m = record {
+        row = elsewhere q n m;
+        stays = λ c h e. let o = jaway c (λ z. n (sym e ∙ z)) (λ z. m (sym e ∙ z)) in (jlive2 c ∙ h, jlabel_out c (omega (arith, jitems c)) ∙ e, jring_out c h o);
+        stood = λ c h e. elim (IsIn_or_not c joint) [ inl i ↦ absurd (n (sym e ∙ jlabel_in c i)) | inr k ↦ (sym (jlive2 c) ∙ h, sym (jlabel_out c (omega (arith, jitems c))) ∙ e) ];
+      }
 
       pub AreLoops-join : AreLoops joined_spots new
-      AreLoops-join = record { entries = join_entries; stands = join_stands }
+      AreLoops-join = loops_told spots joined_spots loops new are new_zero (λ q some. elim (eqb_tells q jla) [
+        | inl p ↦ inr (subst (IsTold joined_spots new) (sym p.1) told_joint)
+        | inr p ↦ elim (eqb_tells q jlb) [ inl r ↦ inr (subst (IsTold joined_spots new) (sym r.1) (told_empty (λ z. some (r.1 ∙ z)))) | inr r ↦ inl (joined_kept q p.1 r.1) ]
+      ])

@@ -1,25 +1,23 @@
--- A loop is cleared, takes a loose ring, and a half-edge starts elsewhere.
+-- A loop is cleared, takes a loose ring, or gets other content without a half-edge.
 use Rattle.std.proofs.lemmas.Bool.Decides.{eqb_tells}
-use Rattle.std.proofs.lemmas.Option.{same_Some}
 use Rattle.boundary_model.specs.Items.{count, IsIn}
 use Rattle.boundary_model.proofs.Lists.{IsIn_or_not}
 use Rattle.boundary_model.proofs.Tables.{get-put_here}
 use Rattle.arena_rows.specs.declared.rows.LoopCell.{LoopCell}
 use Rattle.arena_rows.specs.declared.rows.StoredContent.{StoredContent}
 use Rattle.arena_rows.specs.declared.rows.StoredContent.TheVariants.{Empty, Lone, At}
-use Rattle.boundary_model.specs.Table.{get, put, remove}
+use Rattle.boundary_model.specs.Table.{get, put, remove, tabulate}
 use Rattle.raw_cells.specs.Rows.{row_at}
 use Rattle.boundary_model.specs.Model.{Model, cycle}
-use Rattle.arena_rows.specs.Common.{ArenaRows, Store, loosened, Spots, live, label, ring, labelled, AreRings, store_of, RowsAreTied, stored_content, loop_row, HasEntry, AreLoops, StandsAt, clear, fill, held_row, Fits}
-use Rattle.std.proofs.Common.{unwrap_or, ◌≡◌, ◌≢◌, ℕ, Bool, true, cond, nat_eq, List, [], length, Option, Some, is_some, refl, sym, ap, subst, ◌∙◌, arith, ne_eqb, inl, inr}
+use Rattle.arena_rows.specs.Common.{ArenaRows, Store, loosened, Spots, live, label, ring, labelled, AreRings, store_of, RowsAreTied, stored_content, loop_row, HasEntry, AreLoops, StandsAt, clear, fill, held_row, table_of, codes, edge_row, loose_row}
+use Rattle.std.proofs.Common.{unwrap_or, ◌≡◌, ◌≢◌, ℕ, true, List, [], Option, is_some, refl, sym, ap, subst, ◌∙◌, arith, inl, inr}
 use Rattle.boundary_model.specs.Model.{no_loop}
 use Rattle.boundary_model.specs.Model.{items_of, content, face_of}
 use Rattle.arena_rows.specs.Store.{with_loop}
-use Rattle.arena_rows.proofs.Views.{fits-write, table_of-put, row_not_zero}
-use Rattle.arena_rows.proofs.Writes.{row_here, loops_write, no_stand_bare, tied_loops, store_loops}
+use Rattle.arena_rows.proofs.Writes.{IsRefilled, refilled_here, refilled_elsewhere, refilled_some, refilled_fits, IsBare, none_in_bare, tied_loops, store_loops, IsKept, IsTold, told_at, loops_told}
 use Rattle.arena_rows.proofs.Stands.{content_row, face_row_of, loose_key_is, loose_ring_is}
 use Rattle.arena_rows.proofs.ring_spots_laws.SpotTables.{loose_none, loose_alike, loose_removed, edges_same, tails-labelled}
-use Rattle.arena_rows.proofs.Tellings.{loose_added, loops_table, store_is}
+use Rattle.arena_rows.proofs.Tellings.{loose_added, loops_table, same_loop, TiedAs, Makes, store_is, tied_as}
 use Rattle.arena_rows.proofs.ring_spots_laws.SpotLaws.{live-labelled, label-labelled_in, label-labelled_out, ring-labelled, AreRings-labelled}
 
 module _ (arena : ArenaRows) (tied : RowsAreTied arena) where
@@ -32,167 +30,138 @@ module _ (arena : ArenaRows) (tied : RowsAreTied arena) where
   abbrev model : Model
   model = store.model
 
-  abbrev rings : AreRings spots
-  rings = tied.rings
+  -- the table where loop l gets other content, and the rings of the other loops stay
+  pub loops_refilled : (new : Spots) (rows : List (Option LoopCell)) (l : ℕ) (x : StoredContent) (w : IsRefilled arena.loops rows l x) → ((q c : ℕ) → q ≢ l → live spots c ≡ true → label spots c ≡ q → ring new c ≡ ring spots c) →
+      table_of (loop_row new) rows ≡ put model.loops l (held_row model l (stored_content new x))
+  loops_refilled new rows l x w kept = loops_table spots new arena.loops rows tied.loops_tied l _ w.is kept
+      ∙ ap (λ f. put model.loops l (record { face = f; content = stored_content new x })) (sym (face_row_of arena tied l w.cell w.found))
 
-  abbrev are : AreLoops spots arena.loops
-  are = tied.loops_tied
+  -- the ring of d gets label n
+  module _ (d n : ℕ) (there : live spots d ≡ true) where
+    abbrev relabelled : Spots
+    relabelled = labelled spots n (ring spots d)
 
-  pub tied_with : (new : Spots) (known' : ℕ → Bool) (rows : List (Option LoopCell)) → AreRings new → live new 0 ≡ live spots 0 → AreLoops new rows → Fits rows → RowsAreTied (record arena { spots = new; known = known'; loops = rows })
-  tied_with new known' rows N z A F = record { rings = N; no_edge = λ e. tied.no_edge (sym z ∙ e); loops_tied = A; solids_fit = tied.solids_fit; faces_fit = tied.faces_fit; loops_fit = F; vertices_fit = tied.vertices_fit; points = tied.points }
+    live_same : (x : ℕ) → live relabelled x ≡ live spots x
+    live_same x = live-labelled spots n (ring spots d) x
 
-  module _ (l : ℕ) (cell : LoopCell) (found : row_at arena.loops l ≡ Some cell) (rows : List (Option LoopCell)) (len : length rows ≡ length arena.loops) where
-    l_not : l ≢ 0
-    l_not = row_not_zero arena.loops l tied.loops_fit (ap is_some found)
+    ring_same : (x : ℕ) → ring relabelled x ≡ ring spots x
+    ring_same x = ring-labelled spots tied.rings d n there x
 
-    -- the ring of d goes out of loop l
-    module _ (d : ℕ) (stored : cell.stored ≡ At d) (is : (q : ℕ) → row_at rows q ≡ cond (nat_eq q l) (Some (record { face = cell.face; stored = Empty })) (row_at arena.loops q)) where
-      entry : HasEntry spots l (At d)
-      entry = subst (HasEntry spots l) stored (are.entries l cell found)
+    label_in : (x : ℕ) → IsIn x (ring spots d) → label relabelled x ≡ n
+    label_in x i = label-labelled_in spots n (ring spots d) x i ((tied.rings.rings d there).awake x i)
 
-      abbrev cleared : Spots
-      cleared = labelled spots 0 (ring spots d)
+    label_out : (x : ℕ) → count x (ring spots d) ≡ 0 → label relabelled x ≡ label spots x
+    label_out x m = label-labelled_out spots n (ring spots d) x m
 
-      c_live : (x : ℕ) → live cleared x ≡ live spots x
-      c_live x = live-labelled spots 0 (ring spots d) x
+    away : (x : ℕ) → label spots x ≢ label spots d → count x (ring spots d) ≡ 0
+    away x other = elim (IsIn_or_not x (ring spots d)) [ inl i ↦ absurd (other ((tied.rings.rings d there).one_label x i)) | inr m ↦ m ]
 
-      c_ring : (x : ℕ) → ring cleared x ≡ ring spots x
-      c_ring x = ring-labelled spots rings d 0 entry.0 x
+    rings_after : AreRings relabelled
+    rings_after = AreRings-labelled spots tied.rings d n there
 
-      c_in : (x : ℕ) → IsIn x (ring spots d) → label cleared x ≡ 0
-      c_in x i = label-labelled_in spots 0 (ring spots d) x i ((rings.rings d entry.0).awake x i)
+    edges_after : tabulate (edge_row relabelled) codes ≡ tabulate (edge_row spots) codes
+    edges_after = edges_same spots relabelled (λ q. tails-labelled spots n (ring spots d) q)
 
-      c_out : (x : ℕ) → count x (ring spots d) ≡ 0 → label cleared x ≡ label spots x
-      c_out x n = label-labelled_out spots 0 (ring spots d) x n
+    alike : (x : ℕ) → count x (ring spots d) ≡ 0 → loose_row relabelled x ≡ loose_row spots x
+    alike x m = loose_alike spots relabelled x (live_same x) (label_out x m) (ring_same x)
 
-      c_of_l : (x : ℕ) → IsIn x (ring spots d) → label spots x ≡ l
-      c_of_l x i = (rings.rings d entry.0).one_label x i ∙ entry.1
+    -- a loop that the ring neither leaves nor comes to
+    kept : (rows : List (Option LoopCell)) (q : ℕ) → q ≢ label spots d → q ≢ n → row_at rows q ≡ row_at arena.loops q → IsKept spots relabelled arena.loops rows q
+    kept rows q other else e = record {
+      row = e;
+      stays = λ x a s. (live_same x ∙ a, label_out x (away x (λ z. other (sym s ∙ z))) ∙ s, ring_same x);
+      stood = λ x a s. elim (IsIn_or_not x (ring spots d)) [ inl i ↦ absurd (else (sym s ∙ label_in x i)) | inr m ↦ (sym (live_same x) ∙ a, sym (label_out x m) ∙ s) ];
+    }
 
-      away : (x : ℕ) → label spots x ≢ l → count x (ring spots d) ≡ 0
-      away x n = elim (IsIn_or_not x (ring spots d)) [ inl i ↦ absurd (n (c_of_l x i)) | inr m ↦ m ]
+  -- the ring of d goes out of loop l
+  module _ (l : ℕ) (rows : List (Option LoopCell)) (w : IsRefilled arena.loops rows l Empty) (d : ℕ) (stored : w.cell.stored ≡ At d) where
+    entry : HasEntry spots l (At d)
+    entry = subst (HasEntry spots l) stored (tied.loops_tied.entries l w.cell w.found)
 
-      c_rings : AreRings cleared
-      c_rings = AreRings-labelled spots rings d 0 entry.0
+    l_some : l ≢ 0
+    l_some = refilled_some w tied.loops_fit
 
-      old_entry : (q : ℕ) → q ≢ l → (h : StoredContent) → HasEntry spots q h → HasEntry cleared q h
-      old_entry q n Empty e = tt
-      old_entry q n (Lone v) e = tt
-      old_entry q n (At c) e = (c_live c ∙ e.0, c_out c (away c (λ z. n (sym e.1 ∙ z))) ∙ e.1)
+    abbrev cleared : Spots
+    cleared = labelled spots 0 (ring spots d)
 
-      c_loops : AreLoops cleared rows
-      c_loops = record {
-        entries = λ q k at. elim (eqb_tells q l) [
-          | inl p ↦ subst (HasEntry cleared q) (ap (λ (w : LoopCell). w.stored) (same_Some _ _ (sym (ap (row_at rows) p.1 ∙ row_here arena.loops rows l _ is) ∙ at))) tt
-          | inr p ↦ old_entry q p.1 k.stored (are.entries q k (sym (is q ∙ ap (λ b. cond b (Some (record { face = cell.face; stored = Empty })) (row_at arena.loops q)) p.0) ∙ at))
-        ];
-        stands = λ h a n. elim (IsIn_or_not h (ring spots d)) [
-          | inl i ↦ absurd (n (c_in h i))
-          | inr m ↦
-              let e = c_out h m in
-              let s = are.stands h (sym (c_live h) ∙ a) (λ z. n (e ∙ z)) in
-              let other : label spots h ≢ l = λ z.
-              let f : At s.entry ≡ At d = ap (λ (w : LoopCell). w.stored) (same_Some _ _ (sym s.here ∙ ap (row_at arena.loops) z ∙ found)) ∙ stored in
-              let g : s.entry ≡ d = cc in
-              let i : IsIn h (ring spots d) = subst (λ w. IsIn h (ring spots w)) g s.item in absurd (omega arith) in
-              subst (StandsAt cleared rows h) (sym e) (record {
-                face = s.face;
-                entry = s.entry;
-                here = is (label spots h) ∙ ap (λ b. cond b (Some (record { face = cell.face; stored = Empty })) (row_at arena.loops (label spots h))) (ne_eqb (label spots h) l other) ∙ s.here;
-                item = subst (IsIn h) (sym (c_ring s.entry)) s.item;
-              })
-        ];
-      }
+    none_left : (x : ℕ) → live cleared x ≡ true → label cleared x ≡ l → ⊥
+    none_left x a e = elim (IsIn_or_not x (ring spots d)) [
+      | inl i ↦ l_some (sym e ∙ label_in d 0 entry.0 x i)
+      | inr m ↦
+          let i : IsIn x (ring spots d) = same_loop spots arena.loops tied.rings tied.loops_tied d x entry.0 (sym (live_same d 0 entry.0 x) ∙ a) (λ z. l_some (sym entry.1 ∙ z)) (sym (label_out d 0 entry.0 x m) ∙ e ∙ sym entry.1) in
+          absurd (omega arith)
+    ]
 
-      pub tied_clear : (known' : ℕ → Bool) (new : Spots) → new ≡ cleared → RowsAreTied (record arena { spots = new; known = known'; loops = rows })
-      tied_clear known' new e = subst (λ s. RowsAreTied (record arena { spots = s; known = known'; loops = rows })) (sym e) (tied_with cleared known' rows c_rings (c_live 0) c_loops (fits-write arena.loops rows l _ tied.loops_fit l_not len is))
+    loops_after : AreLoops cleared rows
+    loops_after = loops_told spots cleared arena.loops rows tied.loops_tied (refilled_fits w tied.loops_fit).no_zero (λ q some. elim (eqb_tells q l) [
+      | inl p ↦ inr (subst (IsTold cleared rows) (sym p.1) (told_at cleared rows l w.cell.face Empty (refilled_here w) tt (λ x a e. absurd (none_left x a e))))
+      | inr p ↦ inl (kept d 0 entry.0 rows q (λ z. p.1 (z ∙ entry.1)) some (refilled_elsewhere w q p.1))
+    ])
 
-      pub store_clear : (known' : ℕ → Bool) → known' ≡ arena.known → (new : Spots) → new ≡ cleared → store_of (record arena { spots = new; known = known'; loops = rows }) ≡ clear store l
-      unfolding clear
-      store_clear known' k new e = (λ i. store_of (record arena { spots = e i; known = k i; loops = rows }))
-          ∙ store_is arena cleared rows _ _ len (edges_same spots cleared (λ q. tails-labelled spots 0 (ring spots d) q))
-          (loops_table spots cleared arena.loops rows are l (record { face = cell.face; stored = Empty }) is (λ q c _ _ _. c_ring c)
-          ∙ ap (λ f. put model.loops l (record { face = f; content = cycle [] })) (sym (face_row_of arena tied l cell found)))
-          (loose_added spots cleared rings c_rings d (ring spots d) (c_live d ∙ entry.0) (c_in d (rings.rings d entry.0).item) (c_ring d) (λ x i. loose_none spots x (λ z. l_not (sym (c_of_l x i) ∙ z)))
-          (λ x n. loose_alike spots cleared x (c_live x) (c_out x n) (c_ring x))
-          ∙ ap (λ c. loosened (items_of c) store.loose) (sym (content_row arena tied l cell found ∙ ap (stored_content spots) stored)))
+    pub clear_as : Makes arena cleared rows (clear store l)
+    unfolding clear
+    clear_as = tied_as arena tied cleared rows (clear store l) (rings_after d 0 entry.0) (λ t. sym (live_same d 0 entry.0 0) ∙ t) loops_after (refilled_fits w tied.loops_fit)
+        (store_is arena cleared rows _ _ _ w.len (edges_after d 0 entry.0) (loops_refilled cleared rows l Empty w (λ q c _ _ _. ring_same d 0 entry.0 c))
+        (loose_added spots cleared tied.rings (rings_after d 0 entry.0) d (ring spots d) (live_same d 0 entry.0 d ∙ entry.0) (label_in d 0 entry.0 d (tied.rings.rings d entry.0).item) (ring_same d 0 entry.0 d)
+        (λ x i. loose_none spots x (λ z. l_some (sym ((tied.rings.rings d entry.0).one_label x i ∙ entry.1) ∙ z))) (alike d 0 entry.0)
+        ∙ ap (λ c. loosened (items_of c) store.loose) (sym (content_row arena tied l w.cell w.found ∙ ap (stored_content spots) stored))))
 
-    -- loop l, which holds no half-edge, gets other content without one
-    module _ (bare : items_of (stored_content spots cell.stored) ≡ []) (x : StoredContent) (free : HasEntry spots l x) (is : (q : ℕ) → row_at rows q ≡ cond (nat_eq q l) (Some (record { face = cell.face; stored = x })) (row_at arena.loops q)) where
-      pub tied_bare : RowsAreTied (record arena { loops = rows })
-      tied_bare = tied_loops arena tied rows (fits-write arena.loops rows l _ tied.loops_fit l_not len is)
-          (loops_write spots arena.loops rows l _ are (λ k e. subst (HasEntry spots l) (ap (λ (w : LoopCell). w.stored) (same_Some _ _ e)) free) (λ h a s. no_stand_bare spots arena.loops rows cell h l found bare s) is)
+  -- loop l, which holds no half-edge, gets other content without one
+  module _ (l : ℕ) (rows : List (Option LoopCell)) (x : StoredContent) (w : IsRefilled arena.loops rows l x) (bare : items_of (stored_content spots w.cell.stored) ≡ []) where
+    empty : IsBare spots arena.loops l
+    empty = record { cell = w.cell; here = w.found; bare = bare }
 
-      pub store_bare : store_of (record arena { loops = rows }) ≡ record store { model = with_loop model l (stored_content spots x) }
-      store_bare = store_loops arena tied rows _ len
-          (table_of-put (loop_row spots) arena.loops rows l _ is ∙ ap (λ f. put model.loops l (record { face = f; content = stored_content spots x })) (sym (face_row_of arena tied l cell found)))
+    pub bare_as : HasEntry spots l x → TiedAs (record arena { loops = rows }) (record store { model = with_loop model l (stored_content spots x) })
+    bare_as free = record {
+      tied = tied_loops arena tied rows (refilled_fits w tied.loops_fit) (loops_told spots spots arena.loops rows tied.loops_tied (refilled_fits w tied.loops_fit).no_zero (λ q some. elim (eqb_tells q l) [
+        | inl p ↦ inr (subst (IsTold spots rows) (sym p.1) (told_at spots rows l w.cell.face x (refilled_here w) free
+            (λ h a e. absurd (none_in_bare spots arena.loops h l empty (subst (StandsAt spots arena.loops h) e (tied.loops_tied.stands h a (λ z. refilled_some w tied.loops_fit (sym e ∙ z))))))))
+        | inr p ↦ inl (record { row = refilled_elsewhere w q p.1; stays = λ h a e. (a, e, refl); stood = λ h a e. (a, e) })
+      ]));
+      is = store_loops arena tied rows _ w.len (loops_refilled spots rows l x w (λ q c _ _ _. refl));
+    }
 
-      pub store_clear_bare : x ≡ Empty → store_of (record arena { loops = rows }) ≡ clear store l
-      unfolding clear
-      store_clear_bare e = store_bare ∙ ap (λ h. record store { model = with_loop model l (stored_content spots h) }) e
-          ∙ ap (λ hs. record store { model = with_loop model l (cycle []); loose = loosened hs store.loose }) (sym (ap items_of (content_row arena tied l cell found) ∙ bare))
+    pub clear_bare_as : x ≡ Empty → TiedAs (record arena { loops = rows }) (clear store l)
+    unfolding clear
+    clear_bare_as e =
+        let b = bare_as (subst (HasEntry spots l) (sym e) tt) in
+        record {
+          tied = b.tied;
+          is = b.is ∙ ap (λ h. record store { model = with_loop model l (stored_content spots h) }) e
+              ∙ ap (λ hs. record store { model = with_loop model l (cycle []); loose = loosened hs store.loose }) (sym (ap items_of (content_row arena tied l w.cell w.found) ∙ bare));
+        }
 
-    -- loop l takes the loose ring of h
-    module _ (bare : items_of (stored_content spots cell.stored) ≡ []) (h : ℕ) (a : live spots h ≡ true) (z : label spots h ≡ 0) (is : (q : ℕ) → row_at rows q ≡ cond (nat_eq q l) (Some (record { face = cell.face; stored = At h })) (row_at arena.loops q)) where
-      abbrev filled : Spots
-      filled = labelled spots l (ring spots h)
+  -- loop l takes the loose ring of h
+  module _ (l : ℕ) (rows : List (Option LoopCell)) (h : ℕ) (w : IsRefilled arena.loops rows l (At h)) (bare : items_of (stored_content spots w.cell.stored) ≡ []) (there : live spots h ≡ true) (loose : label spots h ≡ 0) where
+    l_real : l ≢ 0
+    l_real = refilled_some w tied.loops_fit
 
-      f_live : (x : ℕ) → live filled x ≡ live spots x
-      f_live x = live-labelled spots l (ring spots h) x
+    abbrev filled : Spots
+    filled = labelled spots l (ring spots h)
 
-      f_ring : (x : ℕ) → ring filled x ≡ ring spots x
-      f_ring x = ring-labelled spots rings h l a x
+    all_in : (x : ℕ) → live filled x ≡ true → label filled x ≡ l → IsIn x (ring spots h)
+    all_in x a e = elim (IsIn_or_not x (ring spots h)) [
+      | inl i ↦ i
+      | inr m ↦
+          let o = sym (label_out h l there x m) ∙ e in
+          let s = tied.loops_tied.stands x (sym (live_same h l there x) ∙ a) (λ z. l_real (sym o ∙ z)) in
+          absurd (none_in_bare spots arena.loops x l (empty l rows (At h) w bare) (subst (StandsAt spots arena.loops x) o s))
+    ]
 
-      f_in : (x : ℕ) → IsIn x (ring spots h) → label filled x ≡ l
-      f_in x i = label-labelled_in spots l (ring spots h) x i ((rings.rings h a).awake x i)
+    loops_filled : AreLoops filled rows
+    loops_filled = loops_told spots filled arena.loops rows tied.loops_tied (refilled_fits w tied.loops_fit).no_zero (λ q some. elim (eqb_tells q l) [
+      | inl p ↦ inr (subst (IsTold filled rows) (sym p.1) (told_at filled rows l w.cell.face (At h) (refilled_here w) (live_same h l there h ∙ there, label_in h l there h (tied.rings.rings h there).item)
+          (λ x a e. subst (IsIn x) (sym (ring_same h l there h)) (all_in x a e))))
+      | inr p ↦ inl (kept h l there rows q (λ z. some (z ∙ loose)) p.1 (refilled_elsewhere w q p.1))
+    ])
 
-      f_out : (x : ℕ) → count x (ring spots h) ≡ 0 → label filled x ≡ label spots x
-      f_out x n = label-labelled_out spots l (ring spots h) x n
-
-      f_away : (x : ℕ) → label spots x ≢ 0 → count x (ring spots h) ≡ 0
-      f_away x n = elim (IsIn_or_not x (ring spots h)) [ inl i ↦ absurd (n ((rings.rings h a).one_label x i ∙ z)) | inr m ↦ m ]
-
-      f_rings : AreRings filled
-      f_rings = AreRings-labelled spots rings h l a
-
-      f_entry : (q : ℕ) → q ≢ 0 → (k : StoredContent) → HasEntry spots q k → HasEntry filled q k
-      f_entry q n Empty e = tt
-      f_entry q n (Lone v) e = tt
-      f_entry q n (At c) e = (f_live c ∙ e.0, f_out c (f_away c (λ y. n (sym e.1 ∙ y))) ∙ e.1)
-
-      f_loops : AreLoops filled rows
-      f_loops = record {
-        entries = λ q k at. elim (eqb_tells q l) [
-          | inl p ↦ subst (HasEntry filled q) (ap (λ (w : LoopCell). w.stored) (same_Some _ _ (sym (ap (row_at rows) p.1 ∙ row_here arena.loops rows l _ is) ∙ at))) (f_live h ∙ a, f_in h (rings.rings h a).item ∙ sym p.1)
-          | inr p ↦
-              let old = sym (is q ∙ ap (λ b. cond b (Some (record { face = cell.face; stored = At h })) (row_at arena.loops q)) p.0) ∙ at in
-              f_entry q (row_not_zero arena.loops q tied.loops_fit (ap is_some old)) k.stored (are.entries q k old)
-        ];
-        stands = λ x b n. elim (IsIn_or_not x (ring spots h)) [
-          | inl i ↦ subst (StandsAt filled rows x) (sym (f_in x i)) (record { face = cell.face; entry = h; here = row_here arena.loops rows l _ is; item = subst (IsIn x) (sym (f_ring h)) i })
-          | inr m ↦
-              let e = f_out x m in
-              let s = are.stands x (sym (f_live x) ∙ b) (λ y. n (e ∙ y)) in
-              let moved : StandsAt spots rows x (label spots x) = elim (eqb_tells (label spots x) l) [
-                | inl p ↦ subst (StandsAt spots rows x) (sym p.1) (no_stand_bare spots arena.loops rows cell x l found bare (subst (StandsAt spots arena.loops x) p.1 s))
-                | inr p ↦ record { face = s.face; entry = s.entry; here = is (label spots x) ∙ ap (λ b. cond b (Some (record { face = cell.face; stored = At h })) (row_at arena.loops (label spots x))) p.0 ∙ s.here; item = s.item }
-              ] in
-              subst (StandsAt filled rows x) (sym e) (record { face = moved.face; entry = moved.entry; here = moved.here; item = subst (IsIn x) (sym (f_ring moved.entry)) moved.item })
-        ];
-      }
-
-      pub tied_fill : (known' : ℕ → Bool) (new : Spots) → new ≡ filled → RowsAreTied (record arena { spots = new; known = known'; loops = rows })
-      tied_fill known' new e = subst (λ s. RowsAreTied (record arena { spots = s; known = known'; loops = rows })) (sym e) (tied_with filled known' rows f_rings (f_live 0) f_loops (fits-write arena.loops rows l _ tied.loops_fit l_not len is))
-
-      pub store_fill : (known' : ℕ → Bool) → known' ≡ arena.known → (new : Spots) → new ≡ filled → store_of (record arena { spots = new; known = known'; loops = rows }) ≡ fill store l h
-      unfolding fill
-      store_fill known' k new e = (λ i. store_of (record arena { spots = e i; known = k i; loops = rows }))
-          ∙ store_is arena filled rows _ _ len (edges_same spots filled (λ q. tails-labelled spots l (ring spots h) q))
-          (loops_table spots filled arena.loops rows are l (record { face = cell.face; stored = At h }) is (λ q c _ _ _. f_ring c)
-          ∙ ap (λ hs. put model.loops l (record { face = cell.face; content = cycle hs })) (f_ring h)
-          ∙ ap (λ f. put model.loops l (record { face = f; content = cycle (ring spots h) })) (sym (face_row_of arena tied l cell found))
-          ∙ ap (λ hs. put model.loops l (held_row model l (cycle hs))) (sym (loose_ring_is arena tied h a z)))
-          (loose_removed spots filled rings f_rings h a (λ x i. loose_none filled x (λ y. l_not (sym (f_in x i) ∙ y))) (λ x n. loose_alike spots filled x (f_live x) (f_out x n) (f_ring x))
-          ∙ ap (remove store.loose) (sym (loose_key_is arena tied h a z)))
+    pub fill_as : Makes arena filled rows (fill store l h)
+    unfolding fill
+    fill_as = tied_as arena tied filled rows (fill store l h) (rings_after h l there) (λ t. sym (live_same h l there 0) ∙ t) loops_filled (refilled_fits w tied.loops_fit)
+        (store_is arena filled rows _ _ _ w.len (edges_after h l there)
+        (loops_refilled filled rows l (At h) w (λ q c _ _ _. ring_same h l there c) ∙ ap (λ hs. put model.loops l (held_row model l (cycle hs))) (ring_same h l there h ∙ sym (loose_ring_is arena tied h there loose)))
+        (loose_removed spots filled tied.rings (rings_after h l there) h there (λ x i. loose_none filled x (λ y. l_real (sym (label_in h l there x i) ∙ y))) (alike h l there)
+        ∙ ap (remove store.loose) (sym (loose_key_is arena tied h there loose))))
 
 pub bare_of : (sp : Spots) (stored : StoredContent) → ((c : ℕ) → stored ≡ At c → ⊥) → items_of (stored_content sp stored) ≡ []
 bare_of sp Empty n = refl

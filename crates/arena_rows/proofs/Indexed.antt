@@ -12,7 +12,9 @@ use Rattle.arena_rows.specs.Common.{ArenaRows, IsWhole, Owners, no_owners, put, 
 use Rattle.arena_rows.proofs.owner_chains_laws.Counting.{more}
 use Rattle.arena_rows.specs.declared.rows.FaceCell.{FaceCell}
 use Rattle.arena_rows.specs.declared.rows.LoopCell.{LoopCell}
+use Rattle.arena_rows.specs.declared.rows.StoredContent.{StoredContent}
 use Rattle.raw_cells.specs.Rows.{row_at}
+use Rattle.arena_rows.proofs.Writes.{IsRefilled}
 use Rattle.arena_rows.proofs.Views.{get-table_of, read_row, table_of-same, table_of-put, table_of-remove, table_of-empty}
 
 -- ---- what it says
@@ -168,8 +170,9 @@ module _ (solids : List (Option Bool)) (faces : List (Option FaceCell)) (loops :
     loop_items = omega (arith, indexed.loop_items, ends.items, len);
   }
 
-  pub indexed_same_loops : (new : List (Option LoopCell)) → length new ≡ length loops → face_numbers new ≡ face_numbers loops → AreIndexed solids faces new ss fs
-  indexed_same_loops new len e = indexed_loops new fs len (ends_same fs) (indexed.of_faces ∙ sym e)
+  -- a loop gets other content
+  pub indexed_refilled : (new : List (Option LoopCell)) (l : ℕ) (x : StoredContent) → IsRefilled loops new l x → AreIndexed solids faces new ss fs
+  indexed_refilled new l x w = indexed_loops new fs w.len (ends_same fs) (indexed.of_faces ∙ sym (owner_kept (λ (cell : LoopCell). cell.face) loops new l _ w.cell w.found refl w.is))
 
   -- the same of the faces' solids
   pub indexed_faces : (new : List (Option FaceCell)) (ss' : Owners) → length new ≡ length faces → HasSameEnds ss ss' → ss'.owner_of ≡ solid_numbers new → AreIndexed solids new loops ss' fs

@@ -1,6 +1,6 @@
 -- The tables of loops, edges and loose rings, where the nodes change.
 use Rattle.arena_rows.proofs.ring_spots_laws.SpotTables.{loose_put}
-use Rattle.std.proofs.Common.{◌≡◌, ◌≢◌, ℕ, ◌-◌, true, cond, nat_eq, List, [], ◌∷◌, length, Option, Some, None, is_some, refl, sym, ap, subst, ◌∙◌, arith, true≢false, inl, inr}
+use Rattle.std.proofs.Common.{◌≡◌, ◌≢◌, ℕ, ◌-◌, Bool, true, cond, nat_eq, List, [], ◌∷◌, length, Option, Some, None, is_some, refl, sym, ap, subst, ◌∙◌, arith, true≢false, inl, inr}
 use Rattle.std.proofs.lemmas.Bool.Decides.{eqb_tells}
 use Rattle.std.proofs.lemmas.Option.{same_Some}
 use Rattle.boundary_model.specs.Items.{count, IsIn, head_or}
@@ -9,9 +9,10 @@ use Rattle.arena_rows.specs.declared.rows.StoredContent.{StoredContent}
 use Rattle.arena_rows.specs.declared.rows.StoredContent.TheVariants.{Empty, Lone, At}
 use Rattle.boundary_model.specs.Table.{Table, get, put, tabulate, get-put, same_table}
 use Rattle.raw_cells.specs.Rows.{row_at}
-use Rattle.arena_rows.specs.Common.{ArenaRows, map_row, table_of, Store, loosened, Spots, codes, live, label, ring, AreRings, store_of, stored_content, loop_row, HasEntry, AreLoops, StandsAt, edge_row, loose_row}
-use Rattle.boundary_model.specs.Model.{cycle, LoopRow}
+use Rattle.arena_rows.specs.Common.{ArenaRows, map_row, table_of, Store, loosened, Spots, codes, live, label, ring, AreRings, store_of, RowsAreTied, Fits, stored_content, loop_row, HasEntry, AreLoops, StandsAt, edge_row, loose_row}
+use Rattle.boundary_model.specs.Model.{cycle, EdgeRow, LoopRow}
 use Rattle.arena_rows.proofs.Views.{get-table_of}
+use Rattle.arena_rows.proofs.Writes.{loops_told}
 use Rattle.arena_rows.proofs.ring_spots_laws.SpotLaws.{ring_same}
 
 loosened_is : (hs : List ℕ) (t : Table (List ℕ)) (c : ℕ) → IsIn c hs → loosened hs t ≡ put t (head_or 0 hs) hs
@@ -58,19 +59,11 @@ loops_same sp new loops are kept zero = same_table (table_of (loop_row new) loop
 -- the codes that stand in loops are those that did, with their labels and rings
 pub loops_kept : (sp new : Spots) (loops : List (Option LoopCell)) → AreLoops sp loops → row_at loops 0 ≡ None → ((c : ℕ) → live sp c ≡ true → label sp c ≢ 0 → (live new c ≡ true) × (label new c ≡ label sp c) × (ring new c ≡ ring sp c)) →
     ((c : ℕ) → live new c ≡ true → label new c ≢ 0 → (live sp c ≡ true) × (label sp c ≢ 0)) → AreLoops new loops
-loops_kept sp new loops are zero on back = record {
-  entries = λ q k at. entry q (λ z. true≢false (sym (ap is_some at) ∙ ap (λ n. is_some (row_at loops n)) z ∙ ap is_some zero)) k.stored (are.entries q k at);
-  stands = λ x b n.
-      let o = back x b n in
-      let s = are.stands x o.0 o.1 in
-      let t = are.entries (label sp x) (record { face = s.face; stored = At s.entry }) s.here in
-      let kept = on s.entry t.0 (λ z. o.1 (sym t.1 ∙ z)) in
-      subst (StandsAt new loops x) (sym (on x o.0 o.1).1) (record { face = s.face; entry = s.entry; here = s.here; item = subst (IsIn x) (sym kept.2) s.item });
-} where
-  entry : (q : ℕ) → q ≢ 0 → (k : StoredContent) → HasEntry sp q k → HasEntry new q k
-  entry q z Empty e = tt
-  entry q z (Lone v) e = tt
-  entry q z (At c) e = let o = on c e.0 (λ y. z (sym e.1 ∙ y)) in (o.0, o.1 ∙ e.1)
+loops_kept sp new loops are zero on back = loops_told sp new loops loops are zero (λ l n. inl (record {
+  row = refl;
+  stays = λ c a e. let o = on c a (λ z. n (sym e ∙ z)) in (o.0, o.1 ∙ e, o.2);
+  stood = λ c a e. let o = back c a (λ z. n (sym e ∙ z)) in (o.0, sym (on c o.0 o.1).1 ∙ e);
+}))
 
 -- what stands in the loop of a stands in its ring
 pub same_loop : (sp : Spots) (loops : List (Option LoopCell)) → (R : AreRings sp) → AreLoops sp loops → (a c : ℕ) → live sp a ≡ true → live sp c ≡ true → label sp a ≢ 0 → label sp c ≡ label sp a → IsIn c (ring sp a)
@@ -83,10 +76,36 @@ same_loop sp loops R are a c k j n e =
     let i : IsIn c (ring sp s.entry) = subst (λ w. IsIn c (ring sp w)) d t.item in
     subst (IsIn c) (sym (ring_same sp R s.entry a h.0 s.item)) i
 
+-- ---- the arena with other nodes and rows of loops
+
+-- the arena is tied, and stands for a store
+pub record TiedAs (arena : ArenaRows) (store : Store) : Type 0 where
+  pub tied : RowsAreTied arena
+  pub is : store_of arena ≡ store
+
+-- every arena with these nodes and rows of loops is tied, and stands for the store
+abbrev pub Makes : ArenaRows → Spots → List (Option LoopCell) → Store → Type 0
+Makes arena sp rows store = (known : ℕ → Bool) → known ≡ arena.known → (new : Spots) → new ≡ sp → TiedAs (record arena { spots = new; known = known; loops = rows }) store
+
 module _ (arena : ArenaRows) where
   abbrev store : Store
   store = store_of arena
 
-  pub store_is : (new : Spots) (rows : List (Option LoopCell)) (t : Table LoopRow) (u : Table (List ℕ)) → length rows ≡ length arena.loops → tabulate (edge_row new) codes ≡ store.model.edges → table_of (loop_row new) rows ≡ t → tabulate (loose_row new) codes ≡ u →
-      store_of (record arena { spots = new; loops = rows }) ≡ record store { model = record store.model { loops = t }; loose = u }
-  store_is new rows t u len e f g = λ i. record store { model = record store.model { edges = e i; loops = f i }; loose = g i; room = record store.room { loops = len i - 1 } }
+  pub store_is : (new : Spots) (rows : List (Option LoopCell)) (e : Table EdgeRow) (t : Table LoopRow) (u : Table (List ℕ)) → length rows ≡ length arena.loops → tabulate (edge_row new) codes ≡ e → table_of (loop_row new) rows ≡ t → tabulate (loose_row new) codes ≡ u →
+      store_of (record arena { spots = new; loops = rows }) ≡ record store { model = record store.model { edges = e; loops = t }; loose = u }
+  store_is new rows e t u len edges loops loose = λ i. record store { model = record store.model { edges = edges i; loops = loops i }; loose = loose i; room = record store.room { loops = len i - 1 } }
+
+  pub tied_as : RowsAreTied arena → (sp : Spots) (rows : List (Option LoopCell)) (s : Store) → AreRings sp → (live sp 0 ≡ true → live arena.spots 0 ≡ true) → AreLoops sp rows → Fits rows → store_of (record arena { spots = sp; loops = rows }) ≡ s → Makes arena sp rows s
+  tied_as tied sp rows s rings zero loops fits makes known k new e = record {
+    tied = subst (λ (x : Spots). RowsAreTied (record arena { spots = x; known = known; loops = rows })) (sym e) (record {
+      rings = rings;
+      no_edge = λ t. tied.no_edge (zero t);
+      loops_tied = loops;
+      solids_fit = tied.solids_fit;
+      faces_fit = tied.faces_fit;
+      loops_fit = fits;
+      vertices_fit = tied.vertices_fit;
+      points = tied.points;
+    });
+    is = (λ i. store_of (record arena { spots = e i; known = k i; loops = rows })) ∙ makes;
+  }

@@ -1,21 +1,42 @@
 -- What becomes of the store where one row is written.
-use Rattle.std.proofs.Common.{◌≡◌, ℕ, ◌-◌, Bool, true, false, cond, nat_eq, List, [], length, Option, Some, is_some, refl, sym, ap, subst, ◌∙◌, arith, true≢false, eq-eqb, inl, inr}
+use Rattle.std.proofs.Common.{◌≡◌, ℕ, ◌-◌, ◌≢◌, Bool, true, false, cond, nat_eq, List, [], length, Option, Some, None, is_some, refl, sym, ap, subst, ◌∙◌, arith, true≢false, eq-eqb, ne_eqb, ◌⊎◌, inl, inr}
 use Rattle.std.proofs.lemmas.Bool.Decides.{eqb_tells}
 use Rattle.std.proofs.lemmas.Option.{same_Some}
 use Rattle.boundary_model.specs.declared.Point.{Point}
 use Rattle.boundary_model.specs.Points.{IsInRange}
-use Rattle.boundary_model.specs.Items.{count}
+use Rattle.boundary_model.specs.Items.{count, IsIn}
 use Rattle.arena_rows.specs.declared.rows.FaceCell.{FaceCell}
 use Rattle.arena_rows.specs.declared.rows.LoopCell.{LoopCell}
 use Rattle.arena_rows.specs.declared.rows.StoredContent.{StoredContent}
-use Rattle.arena_rows.specs.declared.rows.StoredContent.TheVariants.{Empty}
+use Rattle.arena_rows.specs.declared.rows.StoredContent.TheVariants.{Empty, Lone, At}
 use Rattle.boundary_model.specs.Table.{Table}
 use Rattle.raw_cells.specs.Rows.{row_at}
 use Rattle.arena_rows.specs.Common.{ArenaRows, table_of, Store, Spots, live, label, ring, store_of, RowsAreTied, Fits, AreLoops, HasEntry, StandsAt, stored_content, loop_row, face_row, solid_row}
 use Rattle.boundary_model.specs.Model.{cycle, FaceRow, LoopRow, items_of}
+use Rattle.arena_rows.proofs.Views.{fits-write, row_not_zero}
 
 pub row_here : {X : Type 0} (rows new : List (Option X)) (n : ℕ) (x : Option X) → ((q : ℕ) → row_at new q ≡ cond (nat_eq q n) x (row_at rows q)) → row_at new n ≡ x
 row_here rows new n x is = is n ∙ ap (λ b. cond b x (row_at rows n)) (eq-eqb n n refl)
+
+-- loop l, which is there, gets other content: its row alone is written
+pub record IsRefilled (rows new : List (Option LoopCell)) (l : ℕ) (x : StoredContent) : Type 0 where
+  pub cell : LoopCell
+  pub found : row_at rows l ≡ Some cell
+  pub len : length new ≡ length rows
+  pub is : (q : ℕ) → row_at new q ≡ cond (nat_eq q l) (Some (record { face = cell.face; stored = x })) (row_at rows q)
+
+module _ {rows new : List (Option LoopCell)} {l : ℕ} {x : StoredContent} (w : IsRefilled rows new l x) where
+  pub refilled_here : row_at new l ≡ Some (record { face = w.cell.face; stored = x })
+  refilled_here = row_here rows new l _ w.is
+
+  pub refilled_elsewhere : (q : ℕ) → q ≢ l → row_at new q ≡ row_at rows q
+  refilled_elsewhere q ne = w.is q ∙ ap (λ b. cond b (Some (record { face = w.cell.face; stored = x })) (row_at rows q)) (ne_eqb q l ne)
+
+  pub refilled_some : Fits rows → l ≢ 0
+  refilled_some fits = row_not_zero rows l fits (ap is_some w.found)
+
+  pub refilled_fits : Fits rows → Fits new
+  refilled_fits fits = fits-write rows new l _ fits (refilled_some fits) w.len w.is
 
 module _ (arena : ArenaRows) (tied : RowsAreTied arena) where
   abbrev store : Store
@@ -76,10 +97,16 @@ no_stand sp rows h l free s = true≢false (sym (ap is_some s.here) ∙ free)
 pub no_stand_free : (sp : Spots) (rows new : List (Option LoopCell)) (h l : ℕ) → is_some (row_at rows l) ≡ false → StandsAt sp rows h l → StandsAt sp new h l
 no_stand_free sp rows new h l free s = absurd (no_stand sp rows h l free s)
 
-pub no_stand_bare : (sp : Spots) (rows new : List (Option LoopCell)) (cell : LoopCell) (h l : ℕ) → row_at rows l ≡ Some cell → items_of (stored_content sp cell.stored) ≡ [] → StandsAt sp rows h l → StandsAt sp new h l
-no_stand_bare sp rows new cell h l at bare s =
-    let e : stored_content sp cell.stored ≡ cycle (ring sp s.entry) = ap (λ c. stored_content sp c.stored) (same_Some _ _ (sym at ∙ s.here)) in
-    let z : count h (ring sp s.entry) ≡ 0 = ap (count h) (sym (ap items_of e) ∙ bare) in
+-- loop l is there and holds no half-edge
+pub record IsBare (sp : Spots) (loops : List (Option LoopCell)) (l : ℕ) : Type 0 where
+  pub cell : LoopCell
+  pub here : row_at loops l ≡ Some cell
+  pub bare : items_of (stored_content sp cell.stored) ≡ []
+
+pub none_in_bare : (sp : Spots) (rows : List (Option LoopCell)) (h l : ℕ) → IsBare sp rows l → StandsAt sp rows h l → ⊥
+none_in_bare sp rows h l b s =
+    let e : stored_content sp b.cell.stored ≡ cycle (ring sp s.entry) = ap (λ c. stored_content sp c.stored) (same_Some _ _ (sym b.here ∙ s.here)) in
+    let z : count h (ring sp s.entry) ≡ 0 = ap (count h) (sym (ap items_of e) ∙ b.bare) in
     let i = s.item in
     absurd (omega arith)
 
@@ -96,3 +123,48 @@ entry_empty sp l f cell e = subst (HasEntry sp l) (ap (λ c. c.stored) (same_Som
 
 pub entry_same : (sp : Spots) (l f : ℕ) (stored : StoredContent) (cell : LoopCell) → HasEntry sp l stored → Some (record { face = f; stored = stored }) ≡ Some cell → HasEntry sp l cell.stored
 entry_same sp l f stored cell h e = subst (HasEntry sp l) (ap (λ c. c.stored) (same_Some _ _ e)) h
+
+-- ---- the loops where codes have other labels and rings
+
+-- what loop l holds reads alike: its row, and the codes that stand in it with their rings
+pub record IsKept (sp new : Spots) (rows rows' : List (Option LoopCell)) (l : ℕ) : Type 0 where
+  pub row : row_at rows' l ≡ row_at rows l
+  pub stays : (c : ℕ) → live sp c ≡ true → label sp c ≡ l → (live new c ≡ true) × (label new c ≡ l) × (ring new c ≡ ring sp c)
+  pub stood : (c : ℕ) → live new c ≡ true → label new c ≡ l → (live sp c ≡ true) × (label sp c ≡ l)
+
+-- what loop l holds is told anew
+pub record IsTold (new : Spots) (rows : List (Option LoopCell)) (l : ℕ) : Type 0 where
+  pub entry : (cell : LoopCell) → row_at rows l ≡ Some cell → HasEntry new l cell.stored
+  pub stands : (c : ℕ) → live new c ≡ true → label new c ≡ l → StandsAt new rows c l
+
+-- by its row, where all that have its label are among what that holds
+pub told_at : (new : Spots) (rows : List (Option LoopCell)) (l f : ℕ) (x : StoredContent) → row_at rows l ≡ Some (record { face = f; stored = x }) → HasEntry new l x →
+    ((c : ℕ) → live new c ≡ true → label new c ≡ l → IsIn c (items_of (stored_content new x))) → IsTold new rows l
+told_at new rows l f x here e holds = record {
+  entry = λ cell at. subst (HasEntry new l) (ap (λ (k : LoopCell). k.stored) (same_Some _ _ (sym here ∙ at))) e;
+  stands = λ c a b. stands c x here (holds c a b);
+} where
+  stands : (c : ℕ) (x : StoredContent) → row_at rows l ≡ Some (record { face = f; stored = x }) → IsIn c (items_of (stored_content new x)) → StandsAt new rows c l
+  stands c Empty at i = absurd (omega arith)
+  stands c (Lone v) at i = absurd (omega arith)
+  stands c (At d) at i = record { face = f; entry = d; here = at; item = i }
+
+pub loops_told : (sp new : Spots) (rows rows' : List (Option LoopCell)) → AreLoops sp rows → row_at rows' 0 ≡ None → ((l : ℕ) → l ≢ 0 → IsKept sp new rows rows' l ⊎ IsTold new rows' l) → AreLoops new rows'
+loops_told sp new rows rows' are zero each = record {
+  entries = λ l cell at. elim (each l (λ z. true≢false (sym (ap is_some at) ∙ ap (λ n. is_some (row_at rows' n)) z ∙ ap is_some zero))) [
+    | inl k ↦ entry l k cell.stored (are.entries l cell (sym k.row ∙ at))
+    | inr t ↦ t.entry cell at
+  ];
+  stands = λ c a n. elim (each (label new c) n) [
+    | inl k ↦
+        let o = k.stood c a refl in
+        let s = subst (StandsAt sp rows c) o.1 (are.stands c o.0 (λ z. n (sym o.1 ∙ z))) in
+        let e = are.entries (label new c) (record { face = s.face; stored = At s.entry }) s.here in
+        record { face = s.face; entry = s.entry; here = k.row ∙ s.here; item = subst (IsIn c) (sym (k.stays s.entry e.0 e.1).2) s.item }
+    | inr t ↦ t.stands c a refl
+  ];
+} where
+  entry : (l : ℕ) → IsKept sp new rows rows' l → (stored : StoredContent) → HasEntry sp l stored → HasEntry new l stored
+  entry l k Empty e = tt
+  entry l k (Lone v) e = tt
+  entry l k (At c) e = let o = k.stays c e.0 e.1 in (o.0, o.1)
