@@ -1,7 +1,7 @@
 -- What kef's writers make of a store, one after another.
 use Rattle.std.proofs.Common.{◌≡◌, ◌≢◌, ℕ, ◌+◌, true, List, [], ◌∷◌, ◌++◌, Some, is_some, refl, sym, ap, ◌∙◌, subst, arith}
 use Rattle.euler_operators.specs.Common.{count, IsIn, IsApart, head_or, canonical, rest, joined, HalfEdge, code, mate, edge_of, Table, Model, LoopContent, LoopRow, cycle, items_of, content, face_of, loop_of, cycle_of, tail, after as after_half, has_half, Sound, face_at, effect, kef, cycle_or_lone}
-use Rattle.euler_operators.proofs.Common.{count-append, tick_same, count-canonical, count_at, count-joined, mate_other, put_same, row_of, number_real}
+use Rattle.euler_operators.proofs.Common.{count-append, tick_same, count-canonical, count_at, count-joined, mate_other, row_of, number_real}
 use Rattle.euler_operators.specs.Table as table
 use Rattle.euler_operators.specs.declared.Op.TheVariants.{Kef}
 use Rattle.euler_conditions.specs.Ready.{Accepts, after}
@@ -12,7 +12,7 @@ use Rattle.low_euler.specs.steps.Steps.{IsStanding, take_out, kill_edge}
 use Rattle.low_euler.proofs.steps_laws.StoreSteps.{remove-put_same}
 use Rattle.low_euler.proofs.steps_laws.RingSteps.{rest_joined, rest_both}
 use Rattle.low_euler.proofs.steps_laws.TwoLoops as two
-use Rattle.low_euler.proofs.steps_laws.TwoLoops.{TwoLoops}
+use Rattle.low_euler.proofs.steps_laws.TwoLoops.{TwoLoops, Fits}
 use Rattle.low_euler.proofs.steps_laws.LooseRings.{pair, edge_gone, halves_back}
 use Rattle.low_euler.proofs.steps_laws.SoundLoops.{sound_loops}
 
@@ -98,14 +98,11 @@ module _ (s : Store) (half : HalfEdge) (ok : Accepts s (Kef half)) where
   abbrev all : List ℕ
   all = xs ++ ys
 
-  loops : TwoLoops M r l all
+  loops : TwoLoops M r l (face_of M r) (face_of M l) all
   loops = sound_loops M sound r l (laws.r_s M sound h goes) r_real (number_real l (sound.loops_fit l (ap is_some l_row)))
 
   abbrev state : LoopContent → LoopContent → Table (List ℕ) → Store
-  state c d z = two.state M r l (face_of M r) (face_of M l) all loops s.room c d z
-
-  abbrev Fits : LoopContent → LoopContent → Type 0
-  Fits c d = two.Fits M r l (face_of M r) (face_of M l) all loops c d
+  state c d z = two.state loops s.room c d z
 
   abbrev as_join : List ℕ
   as_join = joined h m xs ys
@@ -128,18 +125,16 @@ module _ (s : Store) (half : HalfEdge) (ok : Accepts s (Kef half)) where
 
   before_is : s ≡ state (cycle xs) (cycle ys) table.empty
   before_is = ap (λ z. record s { loose = z }) bare
-      ∙ ap (λ t. record { model = record M { loops = t }; loose = table.empty; room = s.room })
-      (sym (ap (λ t. table.put t l (record { face = face_of M l; content = cycle ys })) (put_same M.loops r (record { face = face_of M r; content = cycle xs }) r_row)
-      ∙ put_same M.loops l (record { face = face_of M l; content = cycle ys }) l_row))
+      ∙ ap (λ t. record { model = record M { loops = t }; loose = table.empty; room = s.room }) (sym (two.held_before loops (cycle xs) (cycle ys) r_row l_row))
 
-  fits_one : Fits (cycle xs) (cycle ys)
-  fits_one x = omega (arith, count-append x xs ys)
+  fits_one : Fits all (cycle xs) (cycle ys)
+  fits_one = record { some = λ x. omega (arith, count-append x xs ys) }
 
-  fits_two : Fits (cycle as_join) (cycle [])
-  fits_two x = omega (arith, count-append x xs ys, count-joined h m xs ys once h_in m_in x)
+  fits_two : Fits all (cycle as_join) (cycle [])
+  fits_two = record { some = λ x. omega (arith, count-append x xs ys, count-joined h m xs ys once h_in m_in x) }
 
   one_is : one ≡ state (cycle as_join) (cycle []) table.empty
-  one_is = ap (λ t. join t h m) before_is ∙ two.join_parts M r l (face_of M r) (face_of M l) all loops s.room xs ys table.empty fits_one h m h_in m_in
+  one_is = ap (λ t. join t h m) before_is ∙ two.join_parts loops s.room table.empty fits_one h m h_in m_in
 
   m_joined : IsIn m as_join
   m_joined = omega (arith, count-joined h m xs ys once h_in m_in m, m_in)
@@ -147,29 +142,29 @@ module _ (s : Store) (half : HalfEdge) (ok : Accepts s (Kef half)) where
   -- what the edge that is killed asks
   pub m_stands : IsStanding one.model m
   m_stands = subst (λ (t : Store). IsStanding t.model m) (sym one_is)
-      (two.standing_r M r l (face_of M r) (face_of M l) all loops (cycle as_join) (cycle []) fits_two m m_joined)
+      (two.standing_r loops fits_two m m_joined)
 
   abbrev kept : List ℕ
   kept = canonical (B ++ h ∷ A)
 
   first_is : take_out one m ≡ state (cycle kept) (cycle []) (table.put table.empty m (m ∷ []))
   first_is = ap (λ t. take_out t m) one_is
-      ∙ two.take_out_r M r l (face_of M r) (face_of M l) all loops s.room (cycle as_join) (cycle []) table.empty fits_two m m_joined
+      ∙ two.take_out_r loops s.room table.empty fits_two m m_joined
       ∙ ap (λ q. state (cycle_or_lone q (tail M m)) (cycle []) (table.put table.empty m (m ∷ []))) (rest_joined h m xs ys once h_in m_in)
       ∙ ap (λ c. state c (cycle []) (table.put table.empty m (m ∷ []))) (cycle_filled (B ++ h ∷ A) (tail M m) (right_filled B A h))
 
   count_kept : (x : ℕ) → count x kept ≡ count x B + count x (h ∷ A)
   count_kept x = count-canonical x (B ++ h ∷ A) ∙ count-append x B (h ∷ A)
 
-  fits_three : Fits (cycle kept) (cycle [])
-  fits_three x = omega (arith, count_kept x, count_at x h xs h_in, count_at x m ys m_in, count-append x xs ys)
+  fits_three : Fits all (cycle kept) (cycle [])
+  fits_three = record { some = λ x. omega (arith, count_kept x, count_at x h xs h_in, count_at x m ys m_in, count-append x xs ys) }
 
   h_kept : IsIn h kept
   h_kept = omega (arith, count_kept h, tick_same h)
 
   pub h_stands : IsStanding (take_out one m).model h
   h_stands = subst (λ (t : Store). IsStanding t.model h) (sym first_is)
-      (two.standing_r M r l (face_of M r) (face_of M l) all loops (cycle kept) (cycle []) fits_three h h_kept)
+      (two.standing_r loops fits_three h h_kept)
 
   some_follow : A ++ B ≢ []
   unfolding after_half
@@ -177,7 +172,7 @@ module _ (s : Store) (half : HalfEdge) (ok : Accepts s (Kef half)) where
 
   second_is : take_out (take_out one m) h ≡ state (cycle (canonical (A ++ B))) (cycle []) (pair m h mate_is_other)
   second_is = ap (λ t. take_out t h) first_is
-      ∙ two.take_out_r M r l (face_of M r) (face_of M l) all loops s.room (cycle kept) (cycle []) (table.put table.empty m (m ∷ [])) fits_three h h_kept
+      ∙ two.take_out_r loops s.room (table.put table.empty m (m ∷ [])) fits_three h h_kept
       ∙ ap (λ q. state (cycle_or_lone q (tail M h)) (cycle []) (pair m h mate_is_other)) (rest_both h m xs ys once h_in m_in)
       ∙ ap (λ c. state c (cycle []) (pair m h mate_is_other)) (cycle_filled (A ++ B) (tail M h) some_follow)
 
@@ -186,22 +181,14 @@ module _ (s : Store) (half : HalfEdge) (ok : Accepts s (Kef half)) where
   less t z = record s { model = record M { loops = t; edges = table.remove M.edges (edge_of h) }; loose = z }
 
   abbrev joined_loops : Table LoopRow
-  joined_loops = (two.holding M r l (face_of M r) (face_of M l) all loops (cycle (canonical (A ++ B))) (cycle [])).loops
+  joined_loops = (two.holding loops (cycle (canonical (A ++ B))) (cycle [])).loops
 
   edgeless_is : edgeless ≡ less joined_loops table.empty
   unfolding take_edge
   edgeless_is = ap (λ t. take_edge t (edge_of h)) second_is ∙ ap (less joined_loops) (edge_gone m h mate_is_other (edge_of h) (halves_back h))
 
-  pub gone_still : (p : Store) (n : ℕ) → n ≡ l → p ≡ edgeless → table.has p.model.loops n ≡ true
-  gone_still p n en e = ap (table.has p.model.loops) en ∙ ap (λ (t : Store). table.has t.model.loops l) (e ∙ edgeless_is)
-      ∙ ap is_some (two.get_l M r l (face_of M r) (face_of M l) all loops M.loops (record { face = face_of M r; content = cycle (canonical (A ++ B)) }) (record { face = face_of M l; content = cycle [] }))
-
-  l_content : content (less joined_loops table.empty).model l ≡ cycle []
-  unfolding content
-  l_content = two.content_l M r l (face_of M r) (face_of M l) all loops (cycle (canonical (A ++ B))) (cycle [])
-
-  pub gone_bare : (p : Store) (n : ℕ) → n ≡ l → p ≡ edgeless → items_of (content p.model n) ≡ []
-  gone_bare p n en e = ap (λ q. items_of (content p.model q)) en ∙ ap (λ (t : Store). items_of (content t.model l)) (e ∙ edgeless_is) ∙ ap items_of l_content
+  pub gone_bare : (p : Store) (n : ℕ) → n ≡ l → p ≡ edgeless → (table.has p.model.loops n ≡ true) × (items_of (content p.model n) ≡ [])
+  gone_bare p n en e = two.emptied_l loops (cycle (canonical (A ++ B))) p.model n en (ap (λ (t : Store). t.model.loops) (e ∙ edgeless_is))
 
   loopless_is : loopless ≡ less (table.remove (table.put M.loops r (record { face = face_of M r; content = cycle (canonical (A ++ B)) })) l) table.empty
   loopless_is = ap (λ t. take_loop t l) edgeless_is

@@ -11,7 +11,7 @@ use Rattle.euler_conditions.specs.Store.{Store, put_loop, cut, cut_loose, cut_to
 use Rattle.low_euler.specs.steps.Steps.{IsStanding, take_out, kill_edge}
 use Rattle.low_euler.proofs.steps_laws.RingSteps.{rest_left, rest_right}
 use Rattle.low_euler.proofs.steps_laws.TwoLoops as two
-use Rattle.low_euler.proofs.steps_laws.TwoLoops.{TwoLoops, CanCut}
+use Rattle.low_euler.proofs.steps_laws.TwoLoops.{TwoLoops, Fits, CanCut}
 use Rattle.low_euler.proofs.steps_laws.LooseRings.{pair, edge_gone, halves_back}
 use Rattle.low_euler.proofs.steps_laws.SoundLoops.{sound_loops}
 
@@ -86,17 +86,14 @@ module _ (s : Store) (half : HalfEdge) (l : ℕ) (ok : Accepts s (Kemr half l)) 
   abbrev all : List ℕ
   all = xs ++ items_of (content M l)
 
-  loops : TwoLoops M r l all
+  loops : TwoLoops M r l (face_of M r) (face_of M r) all
   loops = sound_loops M sound r l (laws.r_l M sound h l goes) (number_real r (sound.loops_fit r loop_there)) (number_real l goes.loop_fits)
 
   count_all : (x : ℕ) → count x all ≡ count x xs
   count_all x = omega (arith, count-append x xs (items_of (content M l)), ap (λ c. count x (items_of c)) l_none)
 
   abbrev state : LoopContent → LoopContent → Table (List ℕ) → Store
-  state c d z = two.state M r l (face_of M r) (face_of M r) all loops s.room c d z
-
-  abbrev Fits : LoopContent → LoopContent → Type 0
-  Fits c d = two.Fits M r l (face_of M r) (face_of M r) all loops c d
+  state c d z = two.state loops s.room c d z
 
   abbrev left : List ℕ
   left = cut_left h m xs
@@ -110,19 +107,19 @@ module _ (s : Store) (half : HalfEdge) (l : ℕ) (ok : Accepts s (Kemr half l)) 
       (sym (put_same M.loops r (record { face = face_of M r; content = cycle xs }) (row_of M sound h goes.h_there)))
       ∙ ap (state (cycle xs) (cycle [])) bare
 
-  fits_one : Fits (cycle xs) (cycle [])
-  fits_one x = omega (arith, count_all x)
+  fits_one : Fits all (cycle xs) (cycle [])
+  fits_one = record { some = λ x. omega (arith, count_all x) }
 
-  fits_two : Fits (cycle left) (cycle right)
-  fits_two x = omega (arith, count_all x, count-cut h m xs once h_in m_in mate_apart x)
+  fits_two : Fits all (cycle left) (cycle right)
+  fits_two = record { some = λ x. omega (arith, count_all x, count-cut h m xs once h_in m_in mate_apart x) }
 
   pub cut_asks : (p : Store) (n : ℕ) → p ≡ looped → n ≡ m → CanCut p h n l
-  cut_asks p n e en = two.cut_asks M r l (face_of M r) (face_of M r) all loops s.room xs table.empty fits_one h m h_in m_in mate_apart p n (e ∙ looped_is) en
+  cut_asks p n e en = two.cut_asks loops s.room table.empty fits_one h m h_in m_in mate_apart p n (e ∙ looped_is) en
 
   parted_is : parted ≡ state (cycle left) (cycle right) table.empty
   parted_is = ap (λ b. cond b (cut_loose looped h m) (cut_to looped h m l)) (ne_eqb l 0 (number_real l goes.loop_fits))
       ∙ ap (λ t. cut_to t h m l) looped_is
-      ∙ two.cut_parts M r l (face_of M r) (face_of M r) all loops s.room xs (cycle []) table.empty fits_one h m h_in
+      ∙ two.cut_parts loops s.room table.empty fits_one h m h_in
 
   h_left : IsIn h left
   h_left = (IsIn-cut h m xs once h_in m_in mate_apart).0
@@ -132,24 +129,24 @@ module _ (s : Store) (half : HalfEdge) (l : ℕ) (ok : Accepts s (Kemr half l)) 
 
   -- what the edge that is killed asks
   pub m_parted : IsStanding parted.model m
-  m_parted = subst (λ (t : Store). IsStanding t.model m) (sym parted_is) (two.standing_l M r l (face_of M r) (face_of M r) all loops (cycle left) (cycle right) fits_two m m_right)
+  m_parted = subst (λ (t : Store). IsStanding t.model m) (sym parted_is) (two.standing_l loops fits_two m m_right)
 
   first_is : take_out parted m ≡ state (cycle left) (cycle_or_lone X (tail M m)) (table.put table.empty m (m ∷ []))
   first_is = ap (λ t. take_out t m) parted_is
-      ∙ two.take_out_l M r l (face_of M r) (face_of M r) all loops s.room (cycle left) (cycle right) table.empty fits_two m m_right
+      ∙ two.take_out_l loops s.room table.empty fits_two m m_right
       ∙ ap (λ q. state (cycle left) (cycle_or_lone q (tail M m)) (table.put table.empty m (m ∷ []))) (rest_right h m xs once h_in m_in mate_apart)
 
-  fits_three : Fits (cycle left) (cycle_or_lone X (tail M m))
-  fits_three x = omega (arith, count_or_lone x X (tail M m), fits_two x, count_right x) where
+  fits_three : Fits all (cycle left) (cycle_or_lone X (tail M m))
+  fits_three = record { some = λ x. omega (arith, count_or_lone x X (tail M m), fits_two.some x, count_right x) } where
     count_right : (x : ℕ) → count x right ≡ tick x m + count x X
     count_right x = count-canonical x (m ∷ X)
 
   pub h_first : IsStanding (take_out parted m).model h
-  h_first = subst (λ (t : Store). IsStanding t.model h) (sym first_is) (two.standing_r M r l (face_of M r) (face_of M r) all loops (cycle left) (cycle_or_lone X (tail M m)) fits_three h h_left)
+  h_first = subst (λ (t : Store). IsStanding t.model h) (sym first_is) (two.standing_r loops fits_three h h_left)
 
   second_is : take_out (take_out parted m) h ≡ state (cycle_or_lone Y (tail M h)) (cycle_or_lone X (tail M m)) (pair m h m_h)
   second_is = ap (λ t. take_out t h) first_is
-      ∙ two.take_out_r M r l (face_of M r) (face_of M r) all loops s.room (cycle left) (cycle_or_lone X (tail M m)) (table.put table.empty m (m ∷ [])) fits_three h h_left
+      ∙ two.take_out_r loops s.room (table.put table.empty m (m ∷ [])) fits_three h h_left
       ∙ ap (λ q. state (cycle_or_lone q (tail M h)) (cycle_or_lone X (tail M m)) (pair m h m_h)) (rest_left h m xs once h_in m_in mate_apart)
 
   abbrev with_loops : Table LoopRow → Store
@@ -159,5 +156,5 @@ module _ (s : Store) (half : HalfEdge) (l : ℕ) (ok : Accepts s (Kemr half l)) 
   pub made_is : made ≡ after s (Kemr half l)
   unfolding effect kemr take_edge
   made_is = ap (λ t. take_edge t (edge_of h)) second_is
-      ∙ ap (λ z. record s { model = record (two.holding M r l (face_of M r) (face_of M r) all loops (cycle_or_lone Y (tail M h)) (cycle_or_lone X (tail M m))) { edges = table.remove M.edges (edge_of h) }; loose = z }) (edge_gone m h m_h (edge_of h) (halves_back h) ∙ sym bare)
+      ∙ ap (λ z. record s { model = record (two.holding loops (cycle_or_lone Y (tail M h)) (cycle_or_lone X (tail M m))) { edges = table.remove M.edges (edge_of h) }; loose = z }) (edge_gone m h m_h (edge_of h) (halves_back h) ∙ sym bare)
       ∙ ap with_loops (sym (laws.loops_are M sound h l goes))

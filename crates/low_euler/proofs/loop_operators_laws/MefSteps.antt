@@ -10,7 +10,7 @@ use Rattle.euler_conditions.specs.Store.{Store, Extents, within, put_loop, cut, 
 use Rattle.low_euler.specs.steps.Steps.{IsStanding, IsUnused, with_edge, put_before, make_edge}
 use Rattle.low_euler.proofs.steps_laws.RingSteps.{cut_old, cut_new, count_put}
 use Rattle.low_euler.proofs.steps_laws.TwoLoops as two
-use Rattle.low_euler.proofs.steps_laws.TwoLoops.{TwoLoops, CanCut}
+use Rattle.low_euler.proofs.steps_laws.TwoLoops.{TwoLoops, Fits, CanCut}
 use Rattle.low_euler.proofs.steps_laws.LooseRings.{pair, pair_singles, get_first, left_second, pair_gone, singles_remove, key_is}
 use Rattle.low_euler.proofs.steps_laws.SoundLoops.{edged_loops, none_first, none_second}
 use Rattle.low_euler.proofs.steps_laws.LoopsApart.{content-same}
@@ -107,7 +107,7 @@ module _ (s : Store) (first second half : HalfEdge) (f l : ℕ) (ok : Accepts s 
   abbrev all : List ℕ
   all = h ∷ m ∷ (xs ++ items_of (content M l))
 
-  loops : TwoLoops N r l all
+  loops : TwoLoops N r l (face_of M r) f all
   loops = edged_loops M sound r l r_l r_real l_real h (edge_row h (tail M g) (tail M k)) goes.edge_free
 
   count_all : (x : ℕ) → count x all ≡ tick x h + tick x m + count x xs
@@ -132,7 +132,7 @@ module _ (s : Store) (first second half : HalfEdge) (f l : ℕ) (ok : Accepts s 
   pair_h = pair h m (mate_other h)
 
   abbrev state : List ℕ → List ℕ → Table (List ℕ) → Store
-  state ys zs z = two.state N r l (face_of M r) f all loops s.room (cycle ys) (cycle zs) z
+  state ys zs z = two.state loops s.room (cycle ys) (cycle zs) z
 
   abbrev ys : List ℕ
   ys = put_ring h g xs
@@ -149,14 +149,14 @@ module _ (s : Store) (first second half : HalfEdge) (f l : ℕ) (ok : Accepts s 
   edged_is = ap (λ t. record s { model = record N { loops = t }; loose = table.put (table.put s.loose h (h ∷ [])) m (m ∷ []) }) loops_looped
       ∙ ap (λ z. state xs [] (table.put (table.put z h (h ∷ [])) m (m ∷ []))) bare
 
-  fits_one : two.Fits N r l (face_of M r) f all loops (cycle xs) (cycle [])
-  fits_one x = omega (arith, count_all x)
+  fits_one : Fits all (cycle xs) (cycle [])
+  fits_one = record { some = λ x. omega (arith, count_all x) }
 
-  fits_two : two.Fits N r l (face_of M r) f all loops (cycle ys) (cycle [])
-  fits_two x = omega (arith, count_all x, count_put x h g xs)
+  fits_two : Fits all (cycle ys) (cycle [])
+  fits_two = record { some = λ x. omega (arith, count_all x, count_put x h g xs) }
 
-  fits_three : two.Fits N r l (face_of M r) f all loops (cycle zs) (cycle [])
-  fits_three x = omega (arith, count_all x, count_put x h g xs, count_put x m k ys)
+  fits_three : Fits all (cycle zs) (cycle [])
+  fits_three = record { some = λ x. omega (arith, count_all x, count_put x h g xs, count_put x m k ys) }
 
   h_all : IsIn h all
   h_all = omega (arith, tick_same h)
@@ -168,7 +168,7 @@ module _ (s : Store) (first second half : HalfEdge) (f l : ℕ) (ok : Accepts s 
   nowhere_looped : (x : ℕ) → IsIn x all → count x xs ≡ 0 → (q : ℕ) → count x (items_of (content looped.model q)) ≡ 0
   unfolding put_loop
   nowhere_looped x i n q = ap (λ c. count x (items_of c)) (content-same (state xs [] pair_h).model looped.model loops_looped q)
-      ∙ two.nowhere N r l (face_of M r) f all loops (cycle xs) (cycle []) fits_one x i (omega (arith, n)) q
+      ∙ two.nowhere loops fits_one x i (omega (arith, n)) q
 
   pub unused : IsUnused looped h
   unfolding put_loop
@@ -183,30 +183,30 @@ module _ (s : Store) (first second half : HalfEdge) (f l : ℕ) (ok : Accepts s 
   edge_free = ap (table.has M.edges) (sym (edge_of-code half)) ∙ ap is_some goes.edge_free
 
   pub g_stands : IsStanding edged.model g
-  g_stands = subst (λ (t : Store). IsStanding t.model g) (sym edged_is) (two.standing_r N r l (face_of M r) f all loops (cycle xs) (cycle []) fits_one g g_in)
+  g_stands = subst (λ (t : Store). IsStanding t.model g) (sym edged_is) (two.standing_r loops fits_one g g_in)
 
   -- what stands before the first corner stays there
   pub before_first : (n : ℕ) → n ≡ before M g → n ≡ before edged.model g
   unfolding before
-  before_first n e = e ∙ sym (ap (λ (t : Store). before t.model g) edged_is ∙ two.before_r N r l (face_of M r) f all loops (cycle xs) (cycle []) fits_one g g_in)
+  before_first n e = e ∙ sym (ap (λ (t : Store). before t.model g) edged_is ∙ two.before_r loops fits_one g g_in)
 
   pub corners_apart : k ≢ g
   corners_apart e = g_k (sym e)
 
   first_is : first_in ≡ state ys [] (table.remove pair_h h)
   first_is = ap (λ t. put_before t g h) edged_is
-      ∙ two.put_before_r N r l (face_of M r) f all loops s.room (cycle xs) (cycle []) pair_h fits_one g h g_in
+      ∙ two.put_before_r loops s.room pair_h fits_one g h g_in
       ∙ ap (λ q. state ys [] (table.remove pair_h q)) (key_is (state xs [] pair_h) h (pair_singles h m (mate_other h)) (get_first h m (mate_other h)))
 
   k_in_two : IsIn k ys
   k_in_two = omega (arith, k_in, count_put k h g xs)
 
   pub k_stands : IsStanding first_in.model k
-  k_stands = subst (λ (t : Store). IsStanding t.model k) (sym first_is) (two.standing_r N r l (face_of M r) f all loops (cycle ys) (cycle []) fits_two k k_in_two)
+  k_stands = subst (λ (t : Store). IsStanding t.model k) (sym first_is) (two.standing_r loops fits_two k k_in_two)
 
   second_is : second_in ≡ state zs [] table.empty
   second_is = ap (λ t. put_before t k m) first_is
-      ∙ two.put_before_r N r l (face_of M r) f all loops s.room (cycle ys) (cycle []) (table.remove pair_h h) fits_two k m k_in_two
+      ∙ two.put_before_r loops s.room (table.remove pair_h h) fits_two k m k_in_two
       ∙ ap (λ q. state zs [] (table.remove (table.remove pair_h h) q)) (key_is (state ys [] (table.remove pair_h h)) m (singles_remove pair_h h (pair_singles h m (mate_other h))) (left_second h m (mate_other h)))
       ∙ ap (λ z. state zs [] z) (pair_gone h m (mate_other h))
 
@@ -217,12 +217,12 @@ module _ (s : Store) (first second half : HalfEdge) (f l : ℕ) (ok : Accepts s 
   m_in = omega (arith, count_put m m k ys, tick_same m)
 
   pub cut_asks : (p : Store) (n : ℕ) → p ≡ second_in → n ≡ m → CanCut p h n l
-  cut_asks p n e en = two.cut_asks N r l (face_of M r) f all loops s.room zs table.empty fits_three h m h_in m_in (mate_other h) p n (e ∙ second_is) en
+  cut_asks p n e en = two.cut_asks loops s.room table.empty fits_three h m h_in m_in (mate_other h) p n (e ∙ second_is) en
 
   parted_is : parted ≡ state (mef_old h g k xs) (mef_new m g k xs) table.empty
   parted_is = ap (λ b. cond b (cut_loose second_in h m) (cut_to second_in h m l)) (ne_eqb l 0 l_real)
       ∙ ap (λ t. cut_to t h m l) second_is
-      ∙ two.cut_parts N r l (face_of M r) f all loops s.room zs (cycle []) table.empty fits_three h m h_in
+      ∙ two.cut_parts loops s.room table.empty fits_three h m h_in
       ∙ ap (λ q. state q (cut_right h m zs) table.empty) (cut_old h m g k xs apart_xs g_in k_in g_k (mate_other h) no_h no_m)
       ∙ ap (λ q. state (mef_old h g k xs) q table.empty) (cut_new h m g k xs apart_xs g_in k_in g_k (mate_other h) no_h no_m) where
         apart_xs : IsApart xs

@@ -1,7 +1,7 @@
 -- What mekr's writers make of a store, one after another.
 use Rattle.std.proofs.Common.{◌≡◌, ◌≢◌, ℕ, ◌+◌, true, false, List, [], ◌∷◌, ◌++◌, Some, is_some, refl, sym, ap, ◌∙◌, subst, arith, true≢false}
 use Rattle.euler_operators.specs.Common.{count, tick, IsIn, IsApart, canonical, rotate_to, joined, HalfEdge, Corner, At, Lone, code, mate, edge_of, Table, Model, LoopContent, lone, cycle, items_of, content, face_of, loop_of, cycle_of, has_half, Sound, corner_known, corner_lone, corner_loop, corner_tail, corner_list, is_lone, effect, mekr, edge_row}
-use Rattle.euler_operators.proofs.Common.{count-append, tick_same, count-canonical, canonical_one, apart_front, rest_canonical, mate_other, edge_of-code, put_same, cycle_there, number_real}
+use Rattle.euler_operators.proofs.Common.{count-append, tick_same, count-canonical, canonical_one, apart_front, rest_canonical, mate_other, edge_of-code, cycle_there, number_real}
 use Rattle.euler_operators.specs.Table as table
 use Rattle.euler_operators.specs.declared.Op.TheVariants.{Mekr}
 use Rattle.euler_conditions.specs.Ready.{Accepts, after}
@@ -10,7 +10,7 @@ use Rattle.euler_conditions.specs.Store.{Store, with_loop, fill, join, take_loop
 use Rattle.low_euler.specs.steps.Steps.{IsStanding, IsUnused, IsCorner, CanTake, with_edge, put_before, put_at, make_edge}
 use Rattle.low_euler.proofs.steps_laws.StoreSteps.{remove-put_same}
 use Rattle.low_euler.proofs.steps_laws.TwoLoops as two
-use Rattle.low_euler.proofs.steps_laws.TwoLoops.{TwoLoops}
+use Rattle.low_euler.proofs.steps_laws.TwoLoops.{TwoLoops, Fits}
 use Rattle.low_euler.proofs.steps_laws.LooseRings.{AreSingles, pair, pair_singles, get_first, left_second, pair_gone, singles_remove, key_is, ring_is}
 use Rattle.low_euler.proofs.steps_laws.SoundLoops.{edged_loops, none_first, none_second}
 
@@ -114,7 +114,7 @@ module _ (s : Store) (first second : Corner) (half : HalfEdge) (ok : Accepts s (
   abbrev all : List ℕ
   all = h ∷ m ∷ (items_of C ++ items_of D)
 
-  loops : TwoLoops N r l all
+  loops : TwoLoops N r l (face_of M r) (face_of M l) all
   loops = edged_loops M sound r l r_l r_real l_real h (edge_row h u w) goes.edge_free
 
   no_h : (q : ℕ) → count h (items_of (content M q)) ≡ 0
@@ -133,10 +133,7 @@ module _ (s : Store) (first second : Corner) (half : HalfEdge) (ok : Accepts s (
   count_D = count_spot M sound l w X goes.second
 
   abbrev state : LoopContent → LoopContent → Table (List ℕ) → Store
-  state c d z = two.state N r l (face_of M r) (face_of M l) all loops s.room c d z
-
-  abbrev Fits : LoopContent → LoopContent → Type 0
-  Fits c d = two.Fits N r l (face_of M r) (face_of M l) all loops c d
+  state c d z = two.state loops s.room c d z
 
   mate_apart : h ≢ m
   mate_apart = mate_other h
@@ -147,12 +144,10 @@ module _ (s : Store) (first second : Corner) (half : HalfEdge) (ok : Accepts s (
   edged_is : edged ≡ state C D loose
   unfolding with_edge
   edged_is = ap (λ z. record s { model = N; loose = table.put (table.put z h (h ∷ [])) m (m ∷ []) }) bare
-      ∙ ap (λ t. record { model = record N { loops = t }; loose = loose; room = s.room })
-      (sym (ap (λ t. table.put t l (record { face = face_of M l; content = D })) (put_same M.loops r (record { face = face_of M r; content = C }) (loop_row M r goes.first.there))
-      ∙ put_same M.loops l (record { face = face_of M l; content = D }) (loop_row M l goes.second.there)))
+      ∙ ap (λ t. record { model = record N { loops = t }; loose = loose; room = s.room }) (sym (two.held_before loops C D (loop_row M r goes.first.there) (loop_row M l goes.second.there)))
 
-  fits_one : Fits C D
-  fits_one x = omega (arith, count_all x)
+  fits_one : Fits all C D
+  fits_one = record { some = λ x. omega (arith, count_all x) }
 
   pub unused : IsUnused s h
   unused = record { bare = bare; first = no_h; second = no_m }
@@ -187,8 +182,8 @@ module _ (s : Store) (first second : Corner) (half : HalfEdge) (ok : Accepts s (
 
   pub first_takes : CanTake edged.model first
   first_takes = subst (λ (t : Store). CanTake t.model first) (sym edged_is)
-      (takes_at (state C D loose).model r (ap is_some (two.get_r N r l (face_of M r) (face_of M l) all loops N.loops (record { face = face_of M r; content = C }) (record { face = face_of M l; content = D })))
-      (two.content_r N r l (face_of M r) (face_of M l) all loops C D) (two.standing_r N r l (face_of M r) (face_of M l) all loops C D fits_one) first refl first_there)
+      (takes_at (state C D loose).model r (ap is_some (two.get_r loops N.loops (record { face = face_of M r; content = C }) (record { face = face_of M l; content = D })))
+      (two.content_r loops C D) (two.standing_r loops fits_one) first refl first_there)
 
   -- h and what the first corner's loop reads from there on
   abbrev ys : List ℕ
@@ -199,38 +194,38 @@ module _ (s : Store) (first second : Corner) (half : HalfEdge) (ok : Accepts s (
 
   first_is : first_in ≡ state (cycle ys) D left
   first_is = ap (λ t. put_at t first h) edged_is
-      ∙ put_corner (state C D loose) r h (two.content_r N r l (face_of M r) (face_of M l) all loops C D) (two.loop_r N r l (face_of M r) (face_of M l) all loops C D fits_one)
+      ∙ put_corner (state C D loose) r h (two.content_r loops C D) (two.loop_r loops fits_one)
       (pair_singles h m mate_apart) (get_first h m mate_apart) first refl first_there
-      ∙ two.new_r N r l (face_of M r) (face_of M l) all loops s.room C D (cycle ys) left r refl
+      ∙ two.new_r loops s.room C D (cycle ys) left r refl
 
   count_ys : (x : ℕ) → count x ys ≡ tick x h + count x (items_of C)
   count_ys x = count-canonical x (h ∷ Y) ∙ omega (arith, count_C x)
 
-  fits_two : Fits (cycle ys) D
-  fits_two x = omega (arith, count_all x, count_ys x)
+  fits_two : Fits all (cycle ys) D
+  fits_two = record { some = λ x. omega (arith, count_all x, count_ys x) }
 
   -- ---- the second corner
 
   pub second_takes : CanTake first_in.model second
   second_takes = subst (λ (t : Store). CanTake t.model second) (sym first_is)
-      (takes_at (state (cycle ys) D left).model l (ap is_some (two.get_l N r l (face_of M r) (face_of M l) all loops N.loops (record { face = face_of M r; content = cycle ys }) (record { face = face_of M l; content = D })))
-      (two.content_l N r l (face_of M r) (face_of M l) all loops (cycle ys) D) (two.standing_l N r l (face_of M r) (face_of M l) all loops (cycle ys) D fits_two) second refl second_there)
+      (takes_at (state (cycle ys) D left).model l (ap is_some (two.get_l loops N.loops (record { face = face_of M r; content = cycle ys }) (record { face = face_of M l; content = D })))
+      (two.content_l loops (cycle ys) D) (two.standing_l loops fits_two) second refl second_there)
 
   abbrev xs : List ℕ
   xs = canonical (m ∷ X)
 
   second_is : second_in ≡ state (cycle ys) (cycle xs) table.empty
   second_is = ap (λ t. put_at t second m) first_is
-      ∙ put_corner (state (cycle ys) D left) l m (two.content_l N r l (face_of M r) (face_of M l) all loops (cycle ys) D) (two.loop_l N r l (face_of M r) (face_of M l) all loops (cycle ys) D fits_two)
+      ∙ put_corner (state (cycle ys) D left) l m (two.content_l loops (cycle ys) D) (two.loop_l loops fits_two)
       (singles_remove loose h (pair_singles h m mate_apart)) (left_second h m mate_apart) second refl second_there
-      ∙ two.new_l N r l (face_of M r) (face_of M l) all loops s.room (cycle ys) D (cycle xs) (table.remove left m) l refl
+      ∙ two.new_l loops s.room (cycle ys) D (cycle xs) (table.remove left m) l refl
       ∙ ap (state (cycle ys) (cycle xs)) (pair_gone h m mate_apart)
 
   count_xs : (x : ℕ) → count x xs ≡ tick x m + count x (items_of D)
   count_xs x = count-canonical x (m ∷ X) ∙ omega (arith, count_D x)
 
-  fits_three : Fits (cycle ys) (cycle xs)
-  fits_three x = omega (arith, count_all x, count_ys x, count_xs x)
+  fits_three : Fits all (cycle ys) (cycle xs)
+  fits_three = record { some = λ x. omega (arith, count_all x, count_ys x, count_xs x) }
 
   h_in : IsIn h ys
   h_in = omega (arith, count_ys h, tick_same h)
@@ -242,16 +237,16 @@ module _ (s : Store) (first second : Corner) (half : HalfEdge) (ok : Accepts s (
 
   pub h_stands : (p : Store) → p ≡ second_in → IsStanding p.model h
   h_stands p e = subst (λ (t : Store). IsStanding t.model h) (sym (e ∙ second_is))
-      (two.standing_r N r l (face_of M r) (face_of M l) all loops (cycle ys) (cycle xs) fits_three h h_in)
+      (two.standing_r loops fits_three h h_in)
 
   pub m_stands : (p : Store) (n : ℕ) → n ≡ m → p ≡ second_in → IsStanding p.model n
   m_stands p n en e = subst (IsStanding p.model) (sym en) (subst (λ (t : Store). IsStanding t.model m) (sym (e ∙ second_is))
-      (two.standing_l N r l (face_of M r) (face_of M l) all loops (cycle ys) (cycle xs) fits_three m m_in))
+      (two.standing_l loops fits_three m m_in))
 
   pub loops_apart : (p : Store) (n : ℕ) → n ≡ m → p ≡ second_in → loop_of p.model n ≢ loop_of p.model h
   loops_apart p n en e = subst (λ k. loop_of p.model k ≢ loop_of p.model h) (sym en) (subst (λ (t : Store). loop_of t.model m ≢ loop_of t.model h) (sym (e ∙ second_is))
-      (λ same. r_l (sym (two.loop_r N r l (face_of M r) (face_of M l) all loops (cycle ys) (cycle xs) fits_three h h_in) ∙ sym same
-      ∙ two.loop_l N r l (face_of M r) (face_of M l) all loops (cycle ys) (cycle xs) fits_three m m_in)))
+      (λ same. r_l (sym (two.loop_r loops fits_three h h_in) ∙ sym same
+      ∙ two.loop_l loops fits_three m m_in)))
 
   abbrev ring : List ℕ
   ring = canonical ((h ∷ X) ++ m ∷ Y)
@@ -266,18 +261,13 @@ module _ (s : Store) (first second : Corner) (half : HalfEdge) (ok : Accepts s (
 
   one_is : one ≡ state (cycle ring) (cycle []) table.empty
   one_is = ap (λ t. join t h m) second_is
-      ∙ two.join_parts N r l (face_of M r) (face_of M l) all loops s.room ys xs table.empty fits_three h m h_in m_in
+      ∙ two.join_parts loops s.room table.empty fits_three h m h_in m_in
       ∙ ap (λ hs. state (cycle hs) (cycle []) table.empty) ring_joined
 
   -- ---- the loop that goes
 
-  pub ring_there : (p : Store) (n : ℕ) → n ≡ l → p ≡ one → table.has p.model.loops n ≡ true
-  ring_there p n en e = ap (table.has p.model.loops) en ∙ ap (λ (t : Store). table.has t.model.loops l) (e ∙ one_is)
-      ∙ ap is_some (two.get_l N r l (face_of M r) (face_of M l) all loops N.loops (record { face = face_of M r; content = cycle ring }) (record { face = face_of M l; content = cycle [] }))
-
-  pub ring_bare : (p : Store) (n : ℕ) → n ≡ l → p ≡ one → items_of (content p.model n) ≡ []
-  ring_bare p n en e = ap (λ q. items_of (content p.model q)) en ∙ ap (λ (t : Store). items_of (content t.model l)) (e ∙ one_is)
-      ∙ ap items_of (two.content_l N r l (face_of M r) (face_of M l) all loops (cycle ring) (cycle []))
+  pub ring_bare : (p : Store) (n : ℕ) → n ≡ l → p ≡ one → (table.has p.model.loops n ≡ true) × (items_of (content p.model n) ≡ [])
+  ring_bare p n en e = two.emptied_l loops (cycle ring) p.model n en (ap (λ (t : Store). t.model.loops) (e ∙ one_is))
 
   -- together they are mekr
   pub made_is : made ≡ after s (Mekr first second half)

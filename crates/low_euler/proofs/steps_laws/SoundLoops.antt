@@ -37,7 +37,7 @@ module _ (M : Model) (sound : Sound M) where
       | inr n ↦ omega (arith, count_shared x, n, placed.apart l x)
     ]
 
-    pub sound_loops : TwoLoops M r l shared
+    pub sound_loops : {fr fl : ℕ} → TwoLoops M r l fr fl shared
     sound_loops = record {
       apart = apart;
       first_real = first;
@@ -90,13 +90,13 @@ module _ (M : Model) (sound : Sound M) where
         ]
       ]
 
-      pub edged_loops : TwoLoops N r l with_both
-      edged_loops = record {
+      pub edged_loops : {fr fl : ℕ} → TwoLoops N r l fr fl with_both
+      edged_loops {fr} {fl} = record {
         apart = apart;
         first_real = first;
         second_real = second;
         once = once_both;
-        there = which (HasHalf N) half_h half_m (λ x i. half-put M (edge_of h) row x (sound_loops.there x i));
+        there = which (HasHalf N) half_h half_m (λ x i. half-put M (edge_of h) row x ((sound_loops {fr = fr} {fl = fl}).there x i));
         others = λ x q i a b. ap (λ c. count x (items_of c)) (content_N q)
-            ∙ which (λ y. count y (hs q) ≡ 0) (none_first q) (none_second q) (λ y j. sound_loops.others y q j a b) x i;
+            ∙ which (λ y. count y (hs q) ≡ 0) (none_first q) (none_second q) (λ y j. (sound_loops {fr = fr} {fl = fl}).others y q j a b) x i;
       }

@@ -1,21 +1,25 @@
 -- Stores that differ in the contents of two loops only: what the readers answer there, and what the steps make of them.
-use Rattle.std.proofs.Common.{◌≡◌, ◌≢◌, ℕ, ◌+◌, ◌≤◌, true, cond, List, [], ◌∷◌, Some, is_some, unwrap_or, refl, sym, ap, ◌∙◌, subst, arith, ◌⊎◌, inl, inr, ne_eqb}
+use Rattle.std.proofs.Common.{◌≡◌, ◌≢◌, ℕ, ◌+◌, ◌≤◌, true, cond, List, [], ◌∷◌, Some, is_some, unwrap_or, sym, ap, ◌∙◌, subst, arith, ◌⊎◌, inl, inr, ne_eqb}
 use Rattle.std.proofs.lemmas.Bool.Decides.{nat_tests, eqb_tells}
 use Rattle.euler_operators.specs.Common.{count, IsIn, IsApart, rest, predecessor, cut_left, cut_right, joined, put_ring, Table, tables, Model, LoopContent, LoopRow, cycle, holds, items_of, content, face_of, has_half, loop_of, cycle_of, before, tail, no_loop, HasHalf, StandsIn, cycle_or_lone}
-use Rattle.euler_operators.proofs.Common.{IsIn_or_not, IsIn_predecessor, put-put, put_turned, content_row, face_row, in-holds, holds_in}
+use Rattle.euler_operators.proofs.Common.{IsIn_or_not, IsIn_predecessor, put-put, put_turned, put_same, content_row, face_row, in-holds, holds_in}
 use Rattle.euler_operators.specs.Table as table
 use Rattle.euler_laws.proofs.Common.{loop_at}
 use Rattle.euler_conditions.specs.Store.{Store, Extents, loose_key, join, join_loose, join_loops, cut_to}
 use Rattle.low_euler.specs.steps.Steps.{IsStanding, put_before, take_out}
 
--- two loops of a model, and half-edges that stand in no other loop
-pub record TwoLoops (N : Model) (r l : ℕ) (all : List ℕ) : Type 0 where
+-- two loops of a model, which get the faces fr and fl, and half-edges that stand in no other loop
+pub record TwoLoops (N : Model) (r l fr fl : ℕ) (all : List ℕ) : Type 0 where
   pub apart : r ≢ l
   pub first_real : r ≢ 0
   pub second_real : l ≢ 0
   pub once : IsApart all
   pub there : (x : ℕ) → IsIn x all → HasHalf N x
   pub others : (x q : ℕ) → IsIn x all → q ≢ r → q ≢ l → count x (items_of (content N q)) ≡ 0
+
+-- c and d hold some of the half-edges, each once
+pub record Fits (all : List ℕ) (c d : LoopContent) : Type 0 where
+  pub some : (x : ℕ) → count x (items_of c) + count x (items_of d) ≤ count x all
 
 -- a loop can be cut at a and b, and what stands from b on goes to loop l
 pub record CanCut (s : Store) (a b l : ℕ) : Type 0 where
@@ -26,7 +30,7 @@ pub record CanCut (s : Store) (a b l : ℕ) : Type 0 where
   pub apart : a ≢ b
   pub free : (table.has s.model.loops l ≡ true) × (items_of (content s.model l) ≡ [])
 
-module _ (N : Model) (r l fr fl : ℕ) (all : List ℕ) (loops : TwoLoops N r l all) where
+module _ {N : Model} {r l fr fl : ℕ} {all : List ℕ} (loops : TwoLoops N r l fr fl all) where
   abbrev pub row_r : LoopContent → LoopRow
   row_r c = record { face = fr; content = c }
 
@@ -36,10 +40,6 @@ module _ (N : Model) (r l fr fl : ℕ) (all : List ℕ) (loops : TwoLoops N r l 
   -- the model whose loops r and l hold c and d
   abbrev pub holding : LoopContent → LoopContent → Model
   holding c d = record N { loops = table.put (table.put N.loops r (row_r c)) l (row_l d) }
-
-  -- the two hold some of the half-edges, each once
-  abbrev pub Fits : LoopContent → LoopContent → Type 0
-  Fits c d = (x : ℕ) → count x (items_of c) + count x (items_of d) ≤ count x all
 
   pub get_r : (t : Table LoopRow) (x y : LoopRow) → table.get (table.put (table.put t r x) l y) r ≡ Some x
   get_r t x y = let a = loops.apart in grind (arith, nat_tests, tables, a)
@@ -68,7 +68,19 @@ module _ (N : Model) (r l fr fl : ℕ) (all : List ℕ) (loops : TwoLoops N r l 
   pub put_l : (c d e : LoopContent) → table.put (holding c d).loops l (row_l e) ≡ (holding c e).loops
   put_l c d e = put-put (table.put N.loops r (row_r c)) l (row_l d) (row_l e)
 
-  module _ (c d : LoopContent) (fits : Fits c d) where
+  -- rows that are there already
+  pub held_before : (c d : LoopContent) → table.get N.loops r ≡ Some (row_r c) → table.get N.loops l ≡ Some (row_l d) → (holding c d).loops ≡ N.loops
+  held_before c d a b = ap (λ t. table.put t l (row_l d)) (put_same N.loops r (row_r c) a) ∙ put_same N.loops l (row_l d) b
+
+  -- the second loop, once it holds none
+  pub emptied_l : (c : LoopContent) (P : Model) (n : ℕ) → n ≡ l → P.loops ≡ (holding c (cycle [])).loops → (table.has P.loops n ≡ true) × (items_of (content P n) ≡ [])
+  unfolding content
+  emptied_l c P n en e = (
+    ap (table.has P.loops) en ∙ ap (λ t. table.has t l) e ∙ ap is_some (get_l N.loops (row_r c) (row_l (cycle []))),
+    ap (λ q. items_of (content P q)) en ∙ ap (λ t. items_of (unwrap_or (table.get t l) no_loop).content) e ∙ ap items_of (content_l c (cycle [])),
+  )
+
+  module _ {c d : LoopContent} (fits : Fits all c d) where
     abbrev P : Model
     P = holding c d
 
@@ -93,11 +105,11 @@ module _ (N : Model) (r l fr fl : ℕ) (all : List ℕ) (loops : TwoLoops N r l 
 
     pub loop_r : (x : ℕ) → IsIn x (items_of c) → loop_of P x ≡ r
     loop_r x i = loop_at P x r (ap (holds x) (content_r c d) ∙ in-holds x c i)
-        (λ q t. elim (found x q (omega (arith, fits x, i)) t) [ inl a ↦ a.0 | inr b ↦ absurd (omega (arith, fits x, loops.once x, i, b.1)) ])
+        (λ q t. elim (found x q (omega (arith, fits.some x, i)) t) [ inl a ↦ a.0 | inr b ↦ absurd (omega (arith, fits.some x, loops.once x, i, b.1)) ])
 
     pub loop_l : (x : ℕ) → IsIn x (items_of d) → loop_of P x ≡ l
     loop_l x i = loop_at P x l (ap (holds x) (content_l c d) ∙ in-holds x d i)
-        (λ q t. elim (found x q (omega (arith, fits x, i)) t) [ inl a ↦ absurd (omega (arith, fits x, loops.once x, i, a.1)) | inr b ↦ b.0 ])
+        (λ q t. elim (found x q (omega (arith, fits.some x, i)) t) [ inl a ↦ absurd (omega (arith, fits.some x, loops.once x, i, a.1)) | inr b ↦ b.0 ])
 
     pub nowhere : (x : ℕ) → IsIn x all → count x (items_of c) + count x (items_of d) ≡ 0 → (q : ℕ) → count x (items_of (content P q)) ≡ 0
     nowhere x i n q = elim (IsIn_or_not x (items_of (content P q))) [
@@ -131,10 +143,10 @@ module _ (N : Model) (r l fr fl : ℕ) (all : List ℕ) (loops : TwoLoops N r l 
         }
 
     pub standing_r : (x : ℕ) → IsIn x (items_of c) → IsStanding P x
-    standing_r = standing_in r c (content_r c d) loops.first_real (λ x. omega (arith, fits x)) loop_r
+    standing_r = standing_in r c (content_r c d) loops.first_real (λ x. omega (arith, fits.some x)) loop_r
 
     pub standing_l : (x : ℕ) → IsIn x (items_of d) → IsStanding P x
-    standing_l = standing_in l d (content_l c d) loops.second_real (λ x. omega (arith, fits x)) loop_l
+    standing_l = standing_in l d (content_l c d) loops.second_real (λ x. omega (arith, fits.some x)) loop_l
 
   -- ---- the steps
 
@@ -155,30 +167,23 @@ module _ (N : Model) (r l fr fl : ℕ) (all : List ℕ) (loops : TwoLoops N r l 
     new_l c d e z q a = ap (λ k. state_r c d k (face_of (holding c d) k) e z) a ∙ ap (λ f. state_r c d l f e z) (face_l c d)
         ∙ ap (λ t. record { model = record N { loops = t }; loose = z; room = R }) (put_l c d e)
 
-    module _ (c d : LoopContent) (z : Table (List ℕ)) (fits : Fits c d) where
+    module _ {c d : LoopContent} (z : Table (List ℕ)) (fits : Fits all c d) where
       pub put_before_r : (g h : ℕ) → IsIn g (items_of c) → put_before (state c d z) g h ≡ state (cycle (put_ring h g (items_of c))) d (table.remove z (loose_key (state c d z) h))
       unfolding put_before
       put_before_r g h i =
-          ap (λ hs. state_r c d (loop_of (holding c d) g) (face_of (holding c d) (loop_of (holding c d) g)) (cycle (put_ring h g hs)) (table.remove z (loose_key (state c d z) h))) (cycle_r c d fits g i)
-          ∙ new_r c d (cycle (put_ring h g (items_of c))) (table.remove z (loose_key (state c d z) h)) (loop_of (holding c d) g) (loop_r c d fits g i)
+          ap (λ hs. state_r c d (loop_of (holding c d) g) (face_of (holding c d) (loop_of (holding c d) g)) (cycle (put_ring h g hs)) (table.remove z (loose_key (state c d z) h))) (cycle_r fits g i)
+          ∙ new_r c d (cycle (put_ring h g (items_of c))) (table.remove z (loose_key (state c d z) h)) (loop_of (holding c d) g) (loop_r fits g i)
 
-      tail_same : (x : ℕ) → tail (holding c d) x ≡ tail N x
-      unfolding tail
-      tail_same x = refl
+      taken : (h : ℕ) (hs : List ℕ) → cycle_of (holding c d) h ≡ hs →
+          take_out (state c d z) h ≡ state_r c d (loop_of (holding c d) h) (face_of (holding c d) (loop_of (holding c d) h)) (cycle_or_lone (rest h hs) (tail N h)) (table.put z h (h ∷ []))
+      unfolding take_out tail
+      taken h hs e = ap (λ ring. state_r c d (loop_of (holding c d) h) (face_of (holding c d) (loop_of (holding c d) h)) (cycle_or_lone (rest h ring) (tail N h)) (table.put z h (h ∷ []))) e
 
       pub take_out_r : (h : ℕ) → IsIn h (items_of c) → take_out (state c d z) h ≡ state (cycle_or_lone (rest h (items_of c)) (tail N h)) d (table.put z h (h ∷ []))
-      unfolding take_out
-      take_out_r h i =
-          ap (λ hs. state_r c d (loop_of (holding c d) h) (face_of (holding c d) (loop_of (holding c d) h)) (cycle_or_lone (rest h hs) (tail (holding c d) h)) (table.put z h (h ∷ []))) (cycle_r c d fits h i)
-          ∙ ap (λ v. state_r c d (loop_of (holding c d) h) (face_of (holding c d) (loop_of (holding c d) h)) (cycle_or_lone (rest h (items_of c)) v) (table.put z h (h ∷ []))) (tail_same h)
-          ∙ new_r c d (cycle_or_lone (rest h (items_of c)) (tail N h)) (table.put z h (h ∷ [])) (loop_of (holding c d) h) (loop_r c d fits h i)
+      take_out_r h i = taken h (items_of c) (cycle_r fits h i) ∙ new_r c d (cycle_or_lone (rest h (items_of c)) (tail N h)) (table.put z h (h ∷ [])) (loop_of (holding c d) h) (loop_r fits h i)
 
       pub take_out_l : (h : ℕ) → IsIn h (items_of d) → take_out (state c d z) h ≡ state c (cycle_or_lone (rest h (items_of d)) (tail N h)) (table.put z h (h ∷ []))
-      unfolding take_out
-      take_out_l h i =
-          ap (λ hs. state_r c d (loop_of (holding c d) h) (face_of (holding c d) (loop_of (holding c d) h)) (cycle_or_lone (rest h hs) (tail (holding c d) h)) (table.put z h (h ∷ []))) (cycle_l c d fits h i)
-          ∙ ap (λ v. state_r c d (loop_of (holding c d) h) (face_of (holding c d) (loop_of (holding c d) h)) (cycle_or_lone (rest h (items_of d)) v) (table.put z h (h ∷ []))) (tail_same h)
-          ∙ new_l c d (cycle_or_lone (rest h (items_of d)) (tail N h)) (table.put z h (h ∷ [])) (loop_of (holding c d) h) (loop_l c d fits h i)
+      take_out_l h i = taken h (items_of d) (cycle_l fits h i) ∙ new_l c d (cycle_or_lone (rest h (items_of d)) (tail N h)) (table.put z h (h ∷ [])) (loop_of (holding c d) h) (loop_l fits h i)
 
     abbrev state_2 : LoopContent → LoopContent → ℕ → LoopRow → ℕ → LoopRow → Table (List ℕ) → Store
     state_2 c d q x k y z = record { model = record N { loops = table.put (table.put (holding c d).loops q x) k y }; loose = z; room = R }
@@ -188,40 +193,40 @@ module _ (N : Model) (r l fr fl : ℕ) (all : List ℕ) (loops : TwoLoops N r l 
         ∙ ap (λ t. record { model = record N { loops = t }; loose = z; room = R }) (put_l e d k)
 
     -- the first loop is cut at two half-edges, and the part from the second on goes to the second loop
-    pub cut_parts : (xs : List ℕ) (d : LoopContent) (z : Table (List ℕ)) → Fits (cycle xs) d → (a b : ℕ) → IsIn a xs →
+    pub cut_parts : {xs : List ℕ} {d : LoopContent} (z : Table (List ℕ)) → Fits all (cycle xs) d → (a b : ℕ) → IsIn a xs →
         cut_to (state (cycle xs) d z) a b l ≡ state (cycle (cut_left a b xs)) (cycle (cut_right a b xs)) z
     unfolding cut_to
-    cut_parts xs d z fits a b i =
+    cut_parts {xs} {d} z fits a b i =
         let P : Model = holding (cycle xs) d in
-        let at = loop_r (cycle xs) d fits a i in
-        let hs = cycle_r (cycle xs) d fits a i in
+        let at = loop_r fits a i in
+        let hs = cycle_r fits a i in
         (λ k. state_2 (cycle xs) d (at k) (record { face = face_of P (at k); content = cycle (cut_left a b (hs k)) }) l (record { face = face_of P l; content = cycle (cut_right a b (hs k)) }) z)
         ∙ (λ k. state_2 (cycle xs) d r (record { face = face_r (cycle xs) d k; content = cycle (cut_left a b xs) }) l (record { face = face_l (cycle xs) d k; content = cycle (cut_right a b xs) }) z)
         ∙ both (cycle xs) d (cycle (cut_left a b xs)) (cycle (cut_right a b xs)) z
 
     -- what the cut asks, where the second loop is empty
-    pub cut_asks : (xs : List ℕ) (z : Table (List ℕ)) → Fits (cycle xs) (cycle []) → (a b : ℕ) → IsIn a xs → IsIn b xs → a ≢ b →
+    pub cut_asks : {xs : List ℕ} (z : Table (List ℕ)) → Fits all (cycle xs) (cycle []) → (a b : ℕ) → IsIn a xs → IsIn b xs → a ≢ b →
         (p : Store) (n : ℕ) → p ≡ state (cycle xs) (cycle []) z → n ≡ b → CanCut p a n l
-    cut_asks xs z fits a b i j ne p n e en = subst (λ k. CanCut p a k l) (sym en) (subst (λ t. CanCut t a b l) (sym e) (record {
-      a_there = (standing_r (cycle xs) (cycle []) fits a i).there;
-      b_there = (standing_r (cycle xs) (cycle []) fits b j).there;
-      looped = (standing_r (cycle xs) (cycle []) fits a i).looped;
-      together = loop_r (cycle xs) (cycle []) fits b j ∙ sym (loop_r (cycle xs) (cycle []) fits a i);
+    cut_asks {xs} z fits a b i j ne p n e en = subst (λ k. CanCut p a k l) (sym en) (subst (λ t. CanCut t a b l) (sym e) (record {
+      a_there = (standing_r fits a i).there;
+      b_there = (standing_r fits b j).there;
+      looped = (standing_r fits a i).looped;
+      together = loop_r fits b j ∙ sym (loop_r fits a i);
       apart = ne;
       free = (ap is_some (get_l N.loops (row_r (cycle xs)) (row_l (cycle []))), ap items_of (content_l (cycle xs) (cycle [])));
     }))
 
     -- the two loops become one, and the second is empty
-    pub join_parts : (xs ys : List ℕ) (z : Table (List ℕ)) → Fits (cycle xs) (cycle ys) → (a b : ℕ) → IsIn a xs → IsIn b ys →
+    pub join_parts : {xs ys : List ℕ} (z : Table (List ℕ)) → Fits all (cycle xs) (cycle ys) → (a b : ℕ) → IsIn a xs → IsIn b ys →
         join (state (cycle xs) (cycle ys) z) a b ≡ state (cycle (joined a b xs ys)) (cycle []) z
     unfolding join_loops
-    join_parts xs ys z fits a b i j =
+    join_parts {xs} {ys} z fits a b i j =
         let P : Model = holding (cycle xs) (cycle ys) in
         let s : Store = state (cycle xs) (cycle ys) z in
-        let la = loop_r (cycle xs) (cycle ys) fits a i in
-        let lb = loop_l (cycle xs) (cycle ys) fits b j in
-        let ha = cycle_r (cycle xs) (cycle ys) fits a i in
-        let hb = cycle_l (cycle xs) (cycle ys) fits b j in
+        let la = loop_r fits a i in
+        let lb = loop_l fits b j in
+        let ha = cycle_r fits a i in
+        let hb = cycle_l fits b j in
         ap (λ t. cond t (join_loose s a b) (join_loops s a b)) (ne_eqb (loop_of P b) 0 (λ e. loops.second_real (sym lb ∙ e)))
         ∙ (λ k. state_2 (cycle xs) (cycle ys) (lb k) (record { face = face_of P (lb k); content = cycle [] }) (la k) (record { face = face_of P (la k); content = cycle (joined a b (ha k) (hb k)) }) z)
         ∙ (λ k. state_2 (cycle xs) (cycle ys) l (record { face = face_l (cycle xs) (cycle ys) k; content = cycle [] }) r (record { face = face_r (cycle xs) (cycle ys) k; content = cycle (joined a b xs ys) }) z)

@@ -32,7 +32,7 @@ take_loop-requires c =
     let e1 = c.join.ensures ∙ ap (join c.args.arena.now (code c.args.half)) c.mate-mate.ensures in
     let e2 = c.kill_edge.ensures ∙ ap (λ t. kill_edge t (code c.args.half)) e1 in
     let killed = c.loop_of-killed.ensures ∙ ap (loop_of c.args.arena.now.model) c.mate-mate.ensures in
-    record { there = steps.gone_still _ _ c.requires _ _ killed e2; bare = steps.gone_bare _ _ c.requires _ _ killed e2 }
+    let gone = steps.gone_bare _ _ c.requires _ _ killed e2 in record { there = gone.0; bare = gone.1 }
 
 pub take_face-requires : goal.take_face-requires
 take_face-requires c =

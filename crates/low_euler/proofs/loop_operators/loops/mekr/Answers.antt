@@ -39,7 +39,8 @@ pub take_loop-requires : goal.take_loop-requires
 take_loop-requires c =
     let e1 = steps.was_second _ _ _ _ c.requires _ _ _ c.tail_at-start.ensures c.tail_at-end.ensures c.make_edge.ensures in
     let e2 = c.join.ensures ∙ (λ i. join (e1 i) (code c.args.half) (c.mate.ensures i)) in
-    record { there = steps.ring_there _ _ _ _ c.requires _ _ c.loop_at-ring.ensures e2; bare = steps.ring_bare _ _ _ _ c.requires _ _ c.loop_at-ring.ensures e2 }
+    let gone = steps.ring_bare _ _ _ _ c.requires _ _ c.loop_at-ring.ensures e2 in
+    record { there = gone.0; bare = gone.1 }
 
 pub returns : goal.returns
 returns c =
