@@ -43,11 +43,10 @@ item_at-across-requires c =
 seam : (c : After-item_at-across) → let M = c.args.draft.now.model in (code c.first_item-first.result ≡ head_or 0 (rim M c.args.f)) × (code c.item_at-across.result ≡ partner M (rim M c.args.other) (last_or 0 (rim M c.args.f)))
 seam c =
     let N = c.arena-arena.result.now.model in
-    let at = c.point-start.ensures.point ∙ ap (point_of N) c.tail.ensures ∙ ap (start N) c.first_item-first.ensures.first in
-    (
+    let at = c.point-start.ensures.point ∙ ap (point_of N) c.tail.ensures ∙ ap (start N) c.first_item-first.ensures.first in (
       c.first_item-first.ensures.first ∙ ap (λ X. head_or 0 (rim X c.args.f)) c.arena-arena.ensures.model,
       c.item_at-across.ensures ∙ opened.across_is N c.args.f c.args.other c.arena-arena.ensures.ready.sound (ap (λ X. glue_refusal X c.args.f c.args.other) c.arena-arena.ensures.model ∙ c.requires) c.point-start.result at
-      ∙ ap (λ X. partner X (rim X c.args.other) (last_or 0 (rim X c.args.f))) c.arena-arena.ensures.model,
+          ∙ ap (λ X. partner X (rim X c.args.other) (last_or 0 (rim X c.args.f))) c.arena-arena.ensures.model,
     )
 
 spare : (c : After-spare_of-spare) → let M = c.args.draft.now.model in (c.spare_of-spare.result.edge ≡ fresh_edge M) × (c.spare_of-spare.result.ring ≡ outer M c.args.other)
