@@ -5,7 +5,7 @@ use Rattle.euler_laws.proofs.Common.{Leads, leads_on}
 use Rattle.shapes.specs.Common.{lamina_refusal, lamina_model, lamina_face, prism_refusal, prism_model, vector, base_of, block_refusal, block_model}
 use Rattle.sweeps_laws.specs.lamina.Path.{lamina_operators}
 use Rattle.sweeps_laws.specs.prism.SweepOps.{sweep_ops}
-use Rattle.sweeps_laws.specs.block.BlockOps.{block_ops}
+use Rattle.sweeps_laws.specs.block.BlockOps.{block_operators}
 use Rattle.sweeps_laws.specs.block.Laws.{BlocksAreAccepted, OperatorsMakeBlocks, BlocksAreSound}
 use Rattle.sweeps_laws.proofs.lamina.Walk.{operators_are_accepted, operators_make_lamina, lamina_is_sound}
 use Rattle.sweeps_laws.proofs.lamina.Blocks.{blocks_have_bases, bases_rise}
@@ -27,8 +27,8 @@ module _ (M : Model) (s : ℕ) (p : Point) (dx dy dz : ℤ) (sound : Sound M) (e
   rise : prism_refusal base (lamina_face M) up ≡ None
   rise = bases_rise M s p dx dy dz sound e
 
-  led : Leads M (block_model M s p dx dy dz) (block_ops M s p dx dy dz)
-  unfolding block_ops block_model
+  led : Leads M (block_model M s p dx dy dz) (block_operators M s p dx dy dz)
+  unfolding block_operators block_model
   led = leads_on M base (prism_model base (lamina_face M) up) (lamina_operators M s (base_of p dx dy)) (sweep_ops base (lamina_face M) up)
       (record { accepted = operators_are_accepted M s (base_of p dx dy) sound goes; made = operators_make_lamina M s (base_of p dx dy) sound goes })
       (record { accepted = sweep_accepted base (lamina_face M) up base_sound rise; made = sweep_is_prism base (lamina_face M) up base_sound rise })

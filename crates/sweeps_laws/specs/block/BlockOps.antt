@@ -7,5 +7,5 @@ use Rattle.sweeps_laws.specs.lamina.Path.{lamina_operators}
 use Rattle.sweeps_laws.specs.prism.SweepOps.{sweep_ops}
 
 -- those of the lamina of its base, and then those of the sweep of the lamina's first face
-unfoldable pub block_ops : Model → ℕ → Point → ℤ → ℤ → ℤ → List Op
-block_ops M s p dx dy dz = let ps = base_of p dx dy in lamina_operators M s ps ++ sweep_ops (lamina_model M s ps) (lamina_face M) (vector (pos 0) (pos 0) dz)
+unfoldable pub block_operators : Model → ℕ → Point → ℤ → ℤ → ℤ → List Op
+block_operators M s p dx dy dz = let ps = base_of p dx dy in lamina_operators M s ps ++ sweep_ops (lamina_model M s ps) (lamina_face M) (vector (pos 0) (pos 0) dz)
