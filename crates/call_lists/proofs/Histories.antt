@@ -4,7 +4,8 @@ use Rattle.call_lists.specs.Common.{Abandon, Ask, Back, Call, Change, Command, C
 use Rattle.euler_laws.specs.Laws.{AreAccepted, effects}
 use Rattle.undo_journal.specs.Histories as histories
 use Rattle.undo_journal.proofs.Journals.{same_machine}
-use Rattle.commands.proofs.Calls.{LargerAreCalls, stopped, command_is_call}
+use Rattle.commands.specs.Calls.{CommandsAreCalls}
+use Rattle.commands.proofs.Calls.{stopped}
 use Rattle.commands.proofs.Settling.{ended}
 use Rattle.call_lists.specs.Laws.{machine_of, ListsAreHistories}
 
@@ -34,8 +35,8 @@ led : (m : Machine) (g h : Stage) → h ≡ g → IsCall m (machine_of g) → Is
 led m g h is call = subst (λ (k : Stage). IsCall m (machine_of k)) (sym is) call
 
 -- a call of a session or a draft is one, whatever it is told
-stage_call : LargerAreCalls → (g h : Stage) (c : Call) (a : Told) → IsWhole g → Tells g c a h → IsCall (machine_of g) (machine_of h)
-stage_call l (Session s) h (Give c) a whole x = led s.machine (Session x.0) h x.1 (command_is_call l s x.0 c a whole.held_sound x.2)
+stage_call : CommandsAreCalls → (g h : Stage) (c : Call) (a : Told) → IsWhole g → Tells g c a h → IsCall (machine_of g) (machine_of h)
+stage_call l (Session s) h (Give c) a whole x = led s.machine (Session x.0) h x.1 (l s x.0 c a whole.held_sound x.2)
 stage_call l (Session s) h Open a whole (inl x) = stopped s.machine _ (ap machine_of x.1)
 stage_call l (Session s) h Open a whole (inr x) = stopped s.machine _ (ap machine_of x.1)
 stage_call l (Session s) h Mark a whole x = stopped s.machine _ (ap machine_of x.1)
@@ -49,7 +50,7 @@ stage_call l (Drafting d) h (Back n) a whole x = stopped d.draft.session.machine
 stage_call l (Drafting d) h Commit a whole x = led d.draft.session.machine _ h x.1 (committed d.draft whole.2.operators whole.2.are_accepted whole.2.make)
 stage_call l (Drafting d) h Abandon a whole x = stopped d.draft.session.machine _ (ap machine_of x.1)
 
-pub lists_are_histories : LargerAreCalls → ListsAreHistories
+pub lists_are_histories : CommandsAreCalls → ListsAreHistories
 lists_are_histories l g h [] [] whole x = record { history = []; as_many = refl; leads = sym (ap machine_of x) }
 lists_are_histories l g h [] (a ∷ answers) whole x = absurd x
 lists_are_histories l g h (c ∷ calls) [] whole x = absurd x

@@ -1,9 +1,7 @@
 //! The laws of lists of calls. Each function does nothing: its contract is what is proved, over every session or draft and every list.
 ghost use Rattle.call_lists.specs.Laws.{ListsAreHistories, ListsKeepWhole, EachIsWhole, PlacesAreCounted, UndosLeadToTheFirst, RedosLeadToTheLast, CommandsAreTakenBack, ListsHaveOneAnswer, OnlyDoneChanges, IdleListsStay, MemoryCanBeLeftOut};
 
-use gluing::glues_are_calls;
-use plane_split::splits_are_calls;
-use sweeps::larger_commands_are_calls;
+use commands::commands_are_calls;
 
 /// What `make_all` says of a list is a history: a list of as many calls of the plain machine leads to the machine after it. Every model on
 /// the way is sound, also one that a later command dropped.
@@ -12,9 +10,7 @@ pub fn lists_are_histories()
     ensures whole { ListsKeepWhole }
     ensures each { EachIsWhole }
 {
-    larger_commands_are_calls();
-    glues_are_calls();
-    splits_are_calls();
+    commands_are_calls();
 }
 
 /// After a list of calls as many commands can be undone as were done and not taken back, and as many redone as were taken back since

@@ -8,12 +8,12 @@ use Rattle.sweeps.specs.Calls.{LaminasAreCalls, BlocksAreCalls, SweepsAreCalls}
 use Rattle.gluing.specs.Calls.{GluesAreCalls}
 use Rattle.plane_split.specs.Machine.{plane_with}
 use Rattle.plane_split.specs.Calls.{SplitsAreCalls}
-use Rattle.commands.specs.Common.{Change, Command, Journal, Machine, Refusal, Sound, Told, accepted, held}
+use Rattle.commands.specs.Common.{Change, Journal, Machine, Refusal, Sound, Told, accepted, held}
 use Rattle.commands.specs.declared.command.Change.TheVariants as change
 use Rattle.commands.specs.declared.command.Command.TheVariants as command
-use Rattle.commands.specs.Calls.{IsCall}
+use Rattle.commands.specs.Calls.{IsCall, CommandsAreCalls}
 use Rattle.commands.specs.Changes.{refusal_of, made}
-use Rattle.commands.specs.Telling.{Settled, TellsSession}
+use Rattle.commands.specs.Telling.{Settled}
 use Rattle.commands.proofs.Settling.{ended}
 
 -- the larger commands are calls
@@ -42,8 +42,8 @@ changes l s (change.Sweep f d) k goes = record { call = histories.made _; leads 
 changes l s (change.Glue f g) k goes = record { call = histories.made _; leads = l.glue s f g k goes }
 changes l s (change.Split n x y z w m) k goes = record { call = histories.made _; leads = l.split s n (plane_with x y z w) m k goes }
 
-pub command_is_call : LargerAreCalls → (s t : Journal) (c : Command) (a : Told) → Sound (held s.machine) → TellsSession s c a t → IsCall s.machine t.machine
-command_is_call l s t (command.Change c) a k h = settles _ _ _ s t a (λ none goes. subst (IsCall s.machine) (sym goes.0) (changes l s.machine c k none)) h
-command_is_call l s t (command.Ask q) a k h = stopped s.machine t.machine (same_machine h.1)
-command_is_call l s t command.Undo a k h = settles _ _ _ s t a (λ none goes. subst (IsCall s.machine) (sym (same_machine goes)) (record { call = histories.undone; leads = refl })) h
-command_is_call l s t command.Redo a k h = settles _ _ _ s t a (λ none goes. subst (IsCall s.machine) (sym (same_machine goes)) (record { call = histories.redone; leads = refl })) h
+pub commands_are_calls : LargerAreCalls → CommandsAreCalls
+commands_are_calls l s t (command.Change c) a k h = settles _ _ _ s t a (λ none goes. subst (IsCall s.machine) (sym goes.0) (changes l s.machine c k none)) h
+commands_are_calls l s t (command.Ask q) a k h = stopped s.machine t.machine (same_machine h.1)
+commands_are_calls l s t command.Undo a k h = settles _ _ _ s t a (λ none goes. subst (IsCall s.machine) (sym (same_machine goes)) (record { call = histories.undone; leads = refl })) h
+commands_are_calls l s t command.Redo a k h = settles _ _ _ s t a (λ none goes. subst (IsCall s.machine) (sym (same_machine goes)) (record { call = histories.redone; leads = refl })) h

@@ -3,7 +3,8 @@ use Rattle.std.proofs.Common.{◌≡◌, inl, inr, ℕ, suc, Bool, List, [], ◌
 use Rattle.script_running.specs.Common.{Answer, Call, Change, Fault, IsCall, IsConsistent, Journal, Lamina, Machine, Request, RunFault, Sound, Summary, after_call, after_calls, held, lines_of, new_journal, request_of, start, within_limit}
 use Rattle.undo_journal.specs.Laws.{HistoriesAreConsistent}
 use Rattle.undo_journal.proofs.Journals.{same_machine}
-use Rattle.commands.proofs.Calls.{LargerAreCalls, stopped, command_is_call}
+use Rattle.commands.specs.Calls.{CommandsAreCalls}
+use Rattle.commands.proofs.Calls.{stopped}
 use Rattle.script_reader.specs.declared.command.Request.TheVariants as request
 use Rattle.script_running.specs.script_judging.Judging.{Obeys, Answers, Judges, answer_text}
 use Rattle.script_running.specs.Outs.{Outs}
@@ -14,17 +15,17 @@ use Rattle.script_running.specs.declared.running.RunFault.TheVariants as fault
 use Rattle.script_running.proofs.Counting.{one_more}
 
 -- what a line asks for is one call
-obeys : LargerAreCalls → (s t : Journal) (r : Request) (a : Answer) → Sound (held s.machine) → Obeys s r a t → IsCall s.machine t.machine
+obeys : CommandsAreCalls → (s t : Journal) (r : Request) (a : Answer) → Sound (held s.machine) → Obeys s r a t → IsCall s.machine t.machine
 obeys l s t request.Nothing a k h = stopped s.machine t.machine (same_machine h.1)
 obeys l s t request.List a k h = stopped s.machine t.machine (same_machine h.1)
-obeys l s t (request.Lamina n ps) a k h = command_is_call l s t (Change (Lamina n ps)) h.0 k h.2
-obeys l s t (request.Give c) a k h = command_is_call l s t c h.0 k h.2
+obeys l s t (request.Lamina n ps) a k h = l s t (Change (Lamina n ps)) h.0 k h.2
+obeys l s t (request.Give c) a k h = l s t c h.0 k h.2
 
-answers : LargerAreCalls → (s t : Journal) (r : Result Request Fault) (a : Answer) → Sound (held s.machine) → Answers s r a t → IsCall s.machine t.machine
+answers : CommandsAreCalls → (s t : Journal) (r : Result Request Fault) (a : Answer) → Sound (held s.machine) → Answers s r a t → IsCall s.machine t.machine
 answers l s t (Ok r) a k h = obeys l s t r a k h
 answers l s t (Err f) a k h = stopped s.machine t.machine (same_machine h.1)
 
-pub lines_are_calls : LargerAreCalls → LinesAreCalls
+pub lines_are_calls : CommandsAreCalls → LinesAreCalls
 lines_are_calls l s t line a k h = answers l s t (request_of line) a k h
 
 pub histories_make_consistent : HistoriesAreConsistent → HistoriesMakeConsistent

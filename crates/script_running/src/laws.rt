@@ -2,9 +2,8 @@
 ghost use Rattle.script_running.specs.Histories.{LinesAreCalls, LinesLeadOn, HistoriesMakeConsistent, RunsTellHistories};
 ghost use Rattle.script_running.specs.Laws.{LinesAreTold, OneOutput, HasNoMemory};
 
-use gluing::glues_are_calls;
-use plane_split::splits_are_calls;
-use sweeps::{histories_are_consistent, larger_commands_are_calls};
+use commands::commands_are_calls;
+use sweeps::histories_are_consistent;
 
 /// A line that spells a command is answered what the call to give that command to the session is told, and leads on to the same session.
 pub fn lines_are_told()
@@ -24,9 +23,7 @@ pub fn lines_are_calls()
     ensures lead { LinesLeadOn }
     ensures consistent { HistoriesMakeConsistent }
 {
-    larger_commands_are_calls();
-    glues_are_calls();
-    splits_are_calls();
+    commands_are_calls();
     histories_are_consistent();
 }
 
