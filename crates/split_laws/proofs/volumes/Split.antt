@@ -34,9 +34,6 @@ module _ (M : Model) (s t : ℕ) (fs : List ℕ) where
   abbrev pub to_new : ℕ → FaceRow → FaceRow
   to_new = faces_to_solid (λ f _. lists fs f) t
 
-  abbrev pub go : ℕ → FaceRow → FaceRow
-  go = to_new
-
   pub row_is : (k : ℕ) → table.get N.faces k ≡ option_map (to_new k) (table.get M.faces k)
   unfolding part
   row_is k = get-map_rows to_new M.faces k
