@@ -1,5 +1,5 @@
 -- A walk round a loop whose last items are summed in 64 bits.
-use Rattle.std.proofs.Common.{◌≡◌, ◌≢◌, ℕ, ◌+◌, ◌*◌, ◌%◌, sym, ap, subst, ◌∙◌, arith}
+use Rattle.std.proofs.Common.{◌≡◌, ◌≢◌, ℕ, ◌+◌, ◌%◌, sym, ap, subst, ◌∙◌, arith}
 use Rattle.euler_operators.specs.Common.{Point, IsInRange, IsVectorWithin, normal_limit, moved, cross, origin, IsIn, Model, items_of, content, after, Sound}
 use Rattle.euler_operators.proofs.Common.{vector_within, moved_none, moved_twice}
 use Rattle.euler_laws.proofs.Common.{steps}
@@ -9,7 +9,7 @@ use Rattle.solid_measure.specs.declared.short.Swept.{Swept}
 use Rattle.solid_measure.specs.Measure.{area, area_limit, read}
 use Rattle.solid_measure.specs.Short.{IsOfItems, all_of}
 use Rattle.solid_measure.proofs.Areas.{cross_within, moved_within}
-use Rattle.solid_measure.proofs.AreaRounds.{AreaRound, crossed_is, area_start, area_room, area_closed, area_more, area_ended}
+use Rattle.solid_measure.proofs.AreaRounds.{AreaRound, crossed_is, area_start, area_room, area_closed, area_more}
 
 -- the walk has come to h; the sum stands in two parts, of which the last is that of the items since a multiple of four
 pub record SweptRound (M : Model) (l first h n count : ℕ) (from : Point) (now : Swept) : Type 0 where

@@ -1,5 +1,5 @@
 -- What fits 64 bits.
-use Rattle.std.specs.Prelude.{◌≡◌, ℕ, ◌*◌, ℤ, IfSome, Option}
+use Rattle.std.specs.Prelude.{◌≡◌, ℕ, ◌*◌, IfSome, Option}
 use Rattle.euler_operators.specs.Common.{Point, Plane, IsVectorWithin, IsWithin, direction, moved}
 use Rattle.solid_measure.specs.Measure.{read}
 use Rattle.solid_measure.specs.declared.short.ShortPlane.{ShortPlane}
