@@ -4,7 +4,13 @@ use Rattle.std.proofs.lemmas.Int.{ints}
 use mir.Syntax.{w128}
 use Rattle.euler_operators.specs.Common.{Point, Plane, IsWithin, IsVectorWithin, IsPlane, normal_limit, offset_limit, dot, Model}
 use Rattle.euler_operators.proofs.Common.{fits, fits_as, held, held_is, held_as}
-use Rattle.solid_measure.specs.Measure.{area_limit, anchor, normal, plane_of, plane_through}
+use Rattle.solid_measure.specs.declared.faces.Frame.{Frame}
+use Rattle.solid_measure.specs.Measure.{area_limit, plane_of, plane_through, read}
+use Rattle.solid_measure.specs.Frames.{IsFrame}
+
+pub plane_told : (M : Model) (f : ℕ) (found : Frame) → IsFrame M f found → plane_through (read found.normal) found.anchor ≡ plane_of M f
+unfolding plane_of
+plane_told M f found w = λ i. plane_through (w.summed i) (w.anchored i)
 
 abbrev held_vector : Point → Point
 held_vector n = record { x = held n.x; y = held n.y; z = held n.z }
@@ -28,11 +34,10 @@ module _ (n a : Point) (t : ℤ) (wn : IsVectorWithin area_limit n) (wt : IsWith
   abbrev pub plane_made : Plane
   plane_made = record { a = held n.x; b = held n.y; c = held n.z; d = held (pos 0 -ℤ held t) }
 
-  pub plane_is : (M : Model) (f : ℕ) → t ≡ dot (held_vector n) a → n ≡ normal M f → a ≡ anchor M f → plane_made ≡ plane_of M f
-  unfolding plane_of
-  plane_is M f e en ea =
+  pub plane_is : t ≡ dot (held_vector n) a → plane_made ≡ plane_through n a
+  plane_is e =
       let d : t ≡ dot n a = e ∙ ap (λ v. dot v a) held_vector_is in
-      (λ i. record { a = (held_vector_is i).x; b = (held_vector_is i).y; c = (held_vector_is i).z; d = (turned_held ∙ ap neg_ℤ d) i }) ∙ (λ i. plane_through (en i) (ea i))
+      λ i. record { a = (held_vector_is i).x; b = (held_vector_is i).y; c = (held_vector_is i).z; d = (turned_held ∙ ap neg_ℤ d) i }
 
   wider : (m k : ℕ) (z y : ℤ) → z ≡ y → IsWithin m y → m ≤ k → IsWithin k z
   wider m k z y e w l = subst (IsWithin k) (sym e) (omega (arith, w, l))

@@ -3,13 +3,15 @@ use Rattle.std.proofs.Common.{◌≡◌, ℕ, ◌*◌, ℤ, pos, List, [], ◌�
 use mir.Syntax.{w128}
 use Rattle.std.proofs.Math.IntN.{+ℤ_assoc, +ℤ_idl, +ℤ_idr}
 use Rattle.euler_operators.specs.Common.{Point, IsInRange, IsWithin, IsVectorWithin, dot, Model, faces_of, Sound}
-use Rattle.euler_operators.proofs.Common.{coordinates, coordinate_within, product_within, sum_within, fits, fits_as, held, held_is, held_as, dot_turned}
+use Rattle.euler_operators.proofs.Common.{coordinates, coordinate_within, product_within, sum_within, fits, fits_as, held, held_is, held_as}
 use Rattle.solid_walks.specs.Store.{IsNextFace}
 use Rattle.shapes.specs.Common.{items_in, loops_of, boundary, loops_in}
 use Rattle.euler_laws.proofs.Common.{up_to}
 use Rattle.shapes.proofs.Common.{halves_short, items_joined, different_items, faces_none, solid_loops_apart}
 use Rattle.solid_walks.proofs.NextFace.{faces_more, faces_all}
-use Rattle.solid_measure.specs.Measure.{anchor, normal, six_volume, volume_in}
+use Rattle.solid_measure.specs.declared.faces.Frame.{Frame}
+use Rattle.solid_measure.specs.Measure.{anchor, normal, read, six_volume, volume_in}
+use Rattle.solid_measure.specs.Frames.{IsFrame}
 use Rattle.solid_measure.proofs.Areas.{point_fits, area_within}
 
 -- the half-edges of some faces
@@ -20,8 +22,8 @@ halves_of M fs = items_in M (loops_in M fs)
 unfoldable pub volume_to : Model → ℕ → ℕ → ℤ
 volume_to M s n = volume_in M (up_to n (faces_of M s))
 
-pub face_volume : (M : Model) (f : ℕ) (r : ℤ) (n a : Point) → n ≡ normal M f → a ≡ anchor M f → r ≡ dot n a → r ≡ dot (anchor M f) (normal M f)
-face_volume M f r n a en ea e = e ∙ (λ i. dot (en i) (ea i)) ∙ dot_turned (normal M f) (anchor M f)
+pub face_volume : (M : Model) (f : ℕ) (found : Frame) → IsFrame M f found → dot found.anchor (read found.normal) ≡ dot (anchor M f) (normal M f)
+face_volume M f found w = λ i. dot (w.anchored i) (w.summed i)
 
 volume_push : (M : Model) (fs : List ℕ) (f : ℕ) → volume_in M (fs ++ f ∷ []) ≡ volume_in M fs +ℤ dot (anchor M f) (normal M f)
 volume_push M [] f = +ℤ_idr (dot (anchor M f) (normal M f)) ∙ sym (+ℤ_idl (dot (anchor M f) (normal M f)))

@@ -1,17 +1,18 @@
 //! Normals and planes of faces that are there.
-ghost use Rattle.std.specs.Prelude.{◌≡◌, true, not, Some};
+ghost use Rattle.std.specs.Prelude.{◌≡◌, ◌≤◌, true, not, Some, IfSome, IsSome};
 ghost use Rattle.std.specs.List.{list_all};
 ghost use Rattle.euler_operators.specs.Common.{IsInRange, IsPlane, IsVectorWithin, IsWithin, direction, dot, is_on, moved, origin, same_point, content, items_of, outer, point_of, rings_of};
 ghost use Rattle.solid_walks.specs.Store.{has_number};
 ghost use Rattle.solid_walks.specs.Ready.{IsReady};
 ghost use Rattle.shapes.specs.Common.{corners, vertices_on};
-ghost use Rattle.solid_measure.specs.Measure.{anchor, area, area_limit, is_flat, normal, plane_of, read};
+ghost use Rattle.solid_measure.specs.Measure.{anchor, area, area_limit, is_flat, normal, plane_of, plane_through, read};
+ghost use Rattle.solid_measure.specs.Frames.{IsFrame, IsOuterFrame};
 ghost use Rattle.solid_measure.specs.Short.{IsShortOf};
 
 use crate::Vector;
-use crate::loops::{loop_added, loop_lies_on, short_loop_lies_on, walk_round};
+use crate::loops::{loop_added, loop_lies_on, short_loop_lies_on, walk_within};
 use crate::short::{ShortPlane, short_plane};
-use euler_operators::{Content, Kind, Plane, Point, dot};
+use euler_operators::{Content, HALF_EDGE_CODES, Kind, Plane, Point, dot};
 use solid_walks::{Arena, loops_of, rings_of, start_of_code};
 
 /// Where a face lies: the sum of the cross products over the half-edges of its loops, and the point of its first corner.
@@ -21,30 +22,30 @@ pub(crate) struct Frame {
     pub(crate) anchor: Point,
 }
 
-/// The cross products over the half-edges of the face's outer loop, and the point of its first corner: where the first item of that
-/// loop starts, or where it is lone.
+/// The cross products over the half-edges of the face's outer loop, unless it has more than `most`, and the point of its first corner:
+/// where the first item of that loop starts, or where it is lone.
 #[inline(always)]
-fn outer_frame(arena: &Arena, f: u32) -> Frame
+fn outer_frame(arena: &Arena, f: u32, most: u32) -> Option<Frame>
     requires ready { IsReady arena.now }
     requires there { has_number arena.now Kind.Face f ≡ true }
-    ensures normal { read result.normal ≡ moved origin (area arena.now.model (items_of (content arena.now.model (outer arena.now.model f)))) }
-    ensures anchor { result.anchor ≡ anchor arena.now.model f }
-    ensures range { IsInRange result.anchor }
+    requires most { most ≤ 2000002 }
+    ensures frame { IfSome result (IsOuterFrame arena.now.model f) }
+    ensures all { most ≡ 2000002 → IsSome result }
 {
     let outer = arena.outer(f);
     let normal = Vector { x: 0, y: 0, z: 0 };
     match arena.content(outer) {
-        Content::Lone(v) => Frame {
+        Content::Lone(v) => Some(Frame {
             normal,
             anchor: arena.point(v),
-        },
-        Content::Ring(first) => {
-            let round = walk_round(arena, normal, outer, first);
-            Frame {
+        }),
+        Content::Ring(first) => match walk_within(arena, normal, outer, first, most) {
+            Some(round) => Some(Frame {
                 normal: round.sum,
                 anchor: start_of_code(arena, round.least),
-            }
-        }
+            }),
+            None => None,
+        },
     }
 }
 
@@ -72,16 +73,60 @@ fn rings_added(arena: &Arena, vector: Vector, f: u32) -> Vector
 pub(crate) fn frame_of(arena: &Arena, f: u32) -> Frame
     requires ready { IsReady arena.now }
     requires there { has_number arena.now Kind.Face f ≡ true }
-    ensures normal { read result.normal ≡ normal arena.now.model f }
-    ensures within { IsVectorWithin area_limit (read result.normal) }
-    ensures anchor { result.anchor ≡ anchor arena.now.model f }
-    ensures range { IsInRange result.anchor }
+    ensures { IsFrame arena.now.model f result }
 {
-    let Frame { normal, anchor } = outer_frame(arena, f);
+    let Some(Frame { normal, anchor }) = outer_frame(arena, f, HALF_EDGE_CODES) else {
+        unreachable!()
+    };
     Frame {
         normal: rings_added(arena, normal, f),
         anchor,
     }
+}
+
+/// How many items an outer loop has at most whose sum stays in 64 bits all the way.
+const FEW: u32 = 4;
+
+/// The normal and the anchor of a face that has no ring and few corners, summed in 64 bits. Of another face nothing is told.
+#[inline(always)]
+fn short_frame(arena: &Arena, f: u32) -> Option<Frame>
+    requires ready { IsReady arena.now }
+    requires there { has_number arena.now Kind.Face f ≡ true }
+    ensures { IfSome result (IsFrame arena.now.model f) }
+{
+    match arena.ring_after(f, 0) {
+        Some(_) => None,
+        None => outer_frame(arena, f, FEW),
+    }
+}
+
+/// The plane through a frame's anchor, across its normal.
+#[inline(always)]
+fn frame_plane(frame: Frame) -> Plane
+    requires normal { IsVectorWithin area_limit (read frame.normal) }
+    requires anchor { IsInRange frame.anchor }
+    ensures is { result ≡ plane_through (read frame.normal) frame.anchor }
+    ensures range { IsPlane result }
+{
+    let Frame { normal: n, anchor } = frame;
+    let d = -dot([n.x, n.y, n.z], anchor);
+    Plane {
+        a: n.x,
+        b: n.y,
+        c: n.z,
+        d,
+    }
+}
+
+/// The plane of a face with any number of rings and corners. It stands apart, so that a short face is looked at in place.
+#[inline(never)]
+fn long_plane_of(arena: &Arena, f: u32) -> Plane
+    requires ready { IsReady arena.now }
+    requires there { has_number arena.now Kind.Face f ≡ true }
+    ensures is { result ≡ plane_of arena.now.model f }
+    ensures range { IsPlane result }
+{
+    frame_plane(frame_of(arena, f))
 }
 
 /// The plane through the face's anchor, across its normal.
@@ -92,13 +137,9 @@ pub(crate) fn plane_of(arena: &Arena, f: u32) -> Plane
     ensures is { result ≡ plane_of arena.now.model f }
     ensures range { IsPlane result }
 {
-    let Frame { normal: n, anchor } = frame_of(arena, f);
-    let d = -dot([n.x, n.y, n.z], anchor);
-    Plane {
-        a: n.x,
-        b: n.y,
-        c: n.z,
-        d,
+    match short_frame(arena, f) {
+        Some(frame) => frame_plane(frame),
+        None => long_plane_of(arena, f),
     }
 }
 
@@ -173,6 +214,29 @@ pub(crate) fn is_flat(arena: &Arena, f: u32) -> bool
     has_direction(plane) && face_lies_on(arena, plane, f)
 }
 
+/// The product of a frame's anchor with its normal, at most 3 * 10^34 in magnitude.
+#[inline(always)]
+fn frame_volume(frame: Frame) -> i128
+    requires normal { IsVectorWithin area_limit (read frame.normal) }
+    requires anchor { IsInRange frame.anchor }
+    ensures is { result ≡ dot frame.anchor (read frame.normal) }
+    ensures within { IsWithin 30000000000000000000000000000000000 result }
+{
+    let Frame { normal: n, anchor } = frame;
+    dot([n.x, n.y, n.z], anchor)
+}
+
+/// `volume_over` of a face with any number of rings and corners. It stands apart, so that a short face is looked at in place.
+#[inline(never)]
+fn long_volume_over(arena: &Arena, f: u32) -> i128
+    requires ready { IsReady arena.now }
+    requires there { has_number arena.now Kind.Face f ≡ true }
+    ensures is { result ≡ dot (anchor arena.now.model f) (normal arena.now.model f) }
+    ensures within { IsWithin 30000000000000000000000000000000000 result }
+{
+    frame_volume(frame_of(arena, f))
+}
+
 /// The product of the face's anchor with its normal, at most 3 * 10^34 in magnitude.
 pub(crate) fn volume_over(arena: &Arena, f: u32) -> i128
     requires ready { IsReady arena.now }
@@ -180,6 +244,8 @@ pub(crate) fn volume_over(arena: &Arena, f: u32) -> i128
     ensures is { result ≡ dot (anchor arena.now.model f) (normal arena.now.model f) }
     ensures within { IsWithin 30000000000000000000000000000000000 result }
 {
-    let Frame { normal: n, anchor } = frame_of(arena, f);
-    dot([n.x, n.y, n.z], anchor)
+    match short_frame(arena, f) {
+        Some(frame) => frame_volume(frame),
+        None => long_volume_over(arena, f),
+    }
 }

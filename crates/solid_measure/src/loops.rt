@@ -1,11 +1,12 @@
 //! Walks round the loops of a face.
-ghost use Rattle.std.specs.Prelude.{◌≡◌, true, map, Some};
+ghost use Rattle.std.specs.Prelude.{◌≡◌, ◌≤◌, true, map, Some, IfSome, IsSome};
 ghost use Rattle.std.specs.List.{list_all};
-ghost use Rattle.euler_operators.specs.Common.{IsInRange, IsPlane, IsVectorWithin, normal_limit, moved, cross, is_on, IsIn, head_or, code, items_of, content, cycle_of, has_half, point_of, tail};
+ghost use Rattle.euler_operators.specs.Common.{IsInRange, IsPlane, IsVectorWithin, normal_limit, moved, cross, is_on, IsIn, code, items_of, content, cycle_of, has_half, point_of, tail};
 ghost use Rattle.solid_walks.specs.Store.{has_number};
 ghost use Rattle.solid_walks.specs.Ready.{IsReady};
 ghost use Rattle.shapes.specs.Common.{start, finish, vertices_on};
 ghost use Rattle.solid_measure.specs.Measure.{area, area_limit, read};
+ghost use Rattle.solid_measure.specs.Frames.{IsWalked};
 ghost use Rattle.solid_measure.specs.Short.{IsShortOf};
 
 use crate::Vector;
@@ -45,16 +46,22 @@ pub(crate) struct Round {
     pub(crate) least: u32,
 }
 
-/// Walks once round loop l, in which `first` stands: the vector plus the cross products over its half-edges, and its first item. Each
-/// point is looked up once, since a half-edge ends where the next one starts.
+/// Walks once round loop l, in which `first` stands, unless it has more than `most` items: the vector plus the cross products over its
+/// half-edges, and its first item. Each point is looked up once, since a half-edge ends where the next one starts.
 #[inline(always)]
-pub(crate) fn walk_round(arena: &Arena, vector: Vector, l: u32, first: HalfEdge) -> Round
+pub(crate) fn walk_within(
+    arena: &Arena,
+    vector: Vector,
+    l: u32,
+    first: HalfEdge,
+    most: u32,
+) -> Option<Round>
     requires ready { IsReady arena.now }
     requires vector { IsVectorWithin area_limit (read vector) }
     requires item { IsIn (code first) (items_of (content arena.now.model l)) }
-    ensures sum { read result.sum ≡ moved (read vector) (area arena.now.model (items_of (content arena.now.model l))) }
-    ensures least { result.least ≡ head_or 0 (items_of (content arena.now.model l)) }
-    ensures there { has_half arena.now.model result.least ≡ true }
+    requires most { most ≤ 2000002 }
+    ensures walked { IfSome result (IsWalked arena.now.model (read vector) l) }
+    ensures all { most ≡ 2000002 → IsSome result }
 {
     let begin = first.code();
     let mut swept = Swept {
@@ -64,7 +71,7 @@ pub(crate) fn walk_round(arena: &Arena, vector: Vector, l: u32, first: HalfEdge)
     let mut least = begin;
     let mut code = begin;
     let mut from = start_of_code(arena, begin);
-    'round: for count in 0..HALF_EDGE_CODES {
+    'round: for count in 0..most {
         let next = next_code(arena, code);
         let to = start_of_code(arena, next);
         let last = short_crossed(swept.last, from, to);
@@ -74,19 +81,22 @@ pub(crate) fn walk_round(arena: &Arena, vector: Vector, l: u32, first: HalfEdge)
         };
         least = least.min(code);
         if next == begin {
-            return Round {
+            return Some(Round {
                 sum: widened(more),
                 least,
-            };
+            });
         }
         swept = carried(more, count);
         code = next;
         from = to;
     }
-    Round {
+    if most < HALF_EDGE_CODES {
+        return None;
+    }
+    Some(Round {
         sum: widened(swept),
         least,
-    }
+    })
 }
 
 /// The vector plus the cross products over the half-edges of the loop.
@@ -99,7 +109,10 @@ pub(crate) fn loop_added(arena: &Arena, vector: Vector, l: u32) -> Vector
 {
     match arena.content(l) {
         Content::Lone(_) => vector,
-        Content::Ring(first) => walk_round(arena, vector, l, first).sum,
+        Content::Ring(first) => match walk_within(arena, vector, l, first, HALF_EDGE_CODES) {
+            Some(round) => round.sum,
+            None => unreachable!(),
+        },
     }
 }
 

@@ -1,10 +1,10 @@
 use Rattle.std.proofs.Common.{◌≡◌, refl, ap, ◌∙◌}
-use Rattle.euler_operators.specs.Common.{Content, HalfEdge, head_or, Model, LoopContent, lone, cycle, content, items_of, point_of}
+use Rattle.euler_operators.specs.Common.{Content, HalfEdge, head_or, Model, LoopContent, lone, cycle, content, items_of, point_of, moved, origin}
 use Rattle.euler_operators.specs.Table as table
 use Rattle.solid_walks.specs.Store.{Tells}
 use Rattle.solid_walks.proofs.Known.{filled}
 use Rattle.shapes.specs.Common.{start}
-use Rattle.solid_measure.specs.Measure.{first_vertex}
+use Rattle.solid_measure.specs.Measure.{area, first_vertex}
 use Rattle.solid_measure.proofs.faces.outer_frame.Goals as goal
 
 pub content-requires-clause-filled : goal.content-requires-clause-filled
@@ -12,15 +12,18 @@ content-requires-clause-filled c =
     let M = c.args.arena.now.model in filled M c.requires.ready.sound c.outer-outer.result (ap (table.has M.loops) c.outer-outer.ensures ∙ (c.requires.ready.sound.outers_there c.args.f c.requires.there).0)
 
 pub start_of_code-requires-clause-there : goal.start_of_code-requires-clause-there
-start_of_code-requires-clause-there c = c.walk_round-round.ensures.there
+start_of_code-requires-clause-there c = c.in-Some.ensures.walked.there
 
 -- a ring's first vertex is that at which its least half-edge starts
 ring_first : (M : Model) (c : LoopContent) (first : HalfEdge) → Tells c (Content.Ring first) → start M (head_or 0 (items_of c)) ≡ point_of M (first_vertex M c)
 ring_first M (lone v) first t = absurd t
 ring_first M (cycle hs) first t = refl
 
-pub returns-in-Ring-clause-anchor : goal.returns-in-Ring-clause-anchor
-returns-in-Ring-clause-anchor c =
-    let M = c.args.arena.now.model in
-    c.start_of_code.ensures.point ∙ ap (start M) c.walk_round-round.ensures.least ∙ ring_first M (content M c.outer-outer.result) c.in-Ring.first c.in-Ring.ensures
-    ∙ ap (λ l. point_of M (first_vertex M (content M l))) c.outer-outer.ensures
+pub returns-in-Some-clause-frame : goal.returns-in-Some-clause-frame
+returns-in-Some-clause-frame c =
+    let M = c.args.arena.now.model in record {
+      summed = c.in-Some.ensures.walked.sum ∙ ap (λ l. moved origin (area M (items_of (content M l)))) c.outer-outer.ensures;
+      anchored = c.start_of_code.ensures.point ∙ ap (start M) c.in-Some.ensures.walked.least ∙ ring_first M (content M c.outer-outer.result) c.in-Ring.first c.in-Ring.ensures
+          ∙ ap (λ l. point_of M (first_vertex M (content M l))) c.outer-outer.ensures;
+      range = c.start_of_code.ensures.range;
+    }

@@ -1,4 +1,4 @@
-use Rattle.std.proofs.Common.{◌≡◌, ◌≢◌, ℕ, ◌+◌, ◌-◌, refl, sym, ap, subst, ◌∙◌, arith}
+use Rattle.std.proofs.Common.{◌≢◌, ℕ, ◌+◌, ◌-◌, refl, sym, ap, subst, ◌∙◌, arith}
 use Rattle.euler_operators.specs.Common.{code, origin, has_half}
 use Rattle.euler_laws.proofs.Common.{steps, steps_are, half_in}
 use Rattle.solid_walks.proofs.face_walks_laws.HalfCodes.{edge_fits}
@@ -6,7 +6,7 @@ use Rattle.solid_measure.specs.Measure.{read}
 use Rattle.solid_measure.proofs.AreaRounds.{area_ended}
 use Rattle.solid_measure.proofs.SweptRounds.{SweptRound, swept_start, swept_fits, swept_few, swept_items, swept_next, swept_closed, swept_room, swept_on}
 use Rattle.solid_measure.proofs.LeastRounds.{LeastRound, least_start, least_closed, least_more, least_ended, lower_item}
-use Rattle.solid_measure.proofs.loops.walk_round.Goals as goal
+use Rattle.solid_measure.proofs.loops.walk_within.Goals as goal
 
 pub round-init : goal.round-init
 round-init c =
@@ -41,22 +41,18 @@ widened-requires-clause-last c =
     swept_next c.args.arena.now.model c.requires.ready.sound c.args.l (code c.args.first) c.requires.item (read c.args.vector) c.requires.vector c.round.code (steps - c.round.count) c.round.count c.round.swept c.round.invariant.swept
     (steps - (c.round.count + 1)) c.next_code-next.result (omega (arith, steps_are)) c.round.from c.start_of_code-to.result c.short_crossed-last.result c.short_crossed-last.ensures c.round.invariant.range c.start_of_code-to.ensures.range
 
-pub returns-then-next-begin-clause-sum : goal.returns-then-next-begin-clause-sum
-returns-then-next-begin-clause-sum c =
-    c.widened.ensures ∙ swept_closed c.args.arena.now.model c.requires.ready.sound c.args.l (code c.args.first) c.requires.item (read c.args.vector) c.requires.vector c.round.code (steps - c.round.count) c.round.count c.round.swept c.round.invariant.swept
-    (steps - (c.round.count + 1)) c.next_code-next.result (omega (arith, steps_are)) c.round.from c.start_of_code-to.result c.short_crossed-last.result c.short_crossed-last.ensures
-    c.next_code-next.ensures.next c.round.invariant.from c.start_of_code-to.ensures.point (c.if-next-begin.true ∙ c.code-begin.ensures)
-
-pub returns-then-next-begin-clause-least : goal.returns-then-next-begin-clause-least
-returns-then-next-begin-clause-least c =
-    least_closed c.args.arena.now.model c.requires.ready.sound c.args.l (code c.args.first) c.requires.item c.round.code (steps - c.round.count) c.round.least c.round.invariant.least (steps - (c.round.count + 1)) (omega (arith, steps_are))
-    c.min-least.result c.min-least.ensures (sym c.next_code-next.ensures.next ∙ c.if-next-begin.true ∙ c.code-begin.ensures)
-
-pub returns-then-next-begin-clause-there : goal.returns-then-next-begin-clause-there
-returns-then-next-begin-clause-there c =
-    let M = c.args.arena.now.model in let s = c.requires.ready.sound in let l = c.args.l in let first : ℕ = code c.args.first in
-    half_in M s l first c.requires.item c.min-least.result
-    (lower_item M s l first c.requires.item c.round.code (steps - c.round.count) c.round.least c.round.invariant.least (steps - (c.round.count + 1)) (omega (arith, steps_are)) c.min-least.result c.min-least.ensures)
+pub returns-then-next-begin-clause-walked : goal.returns-then-next-begin-clause-walked
+returns-then-next-begin-clause-walked c =
+    let M = c.args.arena.now.model in let s = c.requires.ready.sound in let l = c.args.l in let first : ℕ = code c.args.first in let i = c.requires.item in
+    let n = steps - c.round.count in let k = steps - (c.round.count + 1) in record {
+      sum = c.widened.ensures ∙ swept_closed M s l first i (read c.args.vector) c.requires.vector c.round.code n c.round.count c.round.swept c.round.invariant.swept
+          k c.next_code-next.result (omega (arith, steps_are)) c.round.from c.start_of_code-to.result c.short_crossed-last.result c.short_crossed-last.ensures
+          c.next_code-next.ensures.next c.round.invariant.from c.start_of_code-to.ensures.point (c.if-next-begin.true ∙ c.code-begin.ensures);
+      least = least_closed M s l first i c.round.code n c.round.least c.round.invariant.least k (omega (arith, steps_are))
+          c.min-least.result c.min-least.ensures (sym c.next_code-next.ensures.next ∙ c.if-next-begin.true ∙ c.code-begin.ensures);
+      there = half_in M s l first i c.min-least.result
+          (lower_item M s l first i c.round.code n c.round.least c.round.invariant.least k (omega (arith, steps_are)) c.min-least.result c.min-least.ensures);
+    }
 
 pub carried-swept-requires-clause-all : goal.carried-swept-requires-clause-all
 carried-swept-requires-clause-all c =
@@ -87,14 +83,11 @@ pub widened-requires-2-clause-last : goal.widened-requires-2-clause-last
 widened-requires-2-clause-last c =
     swept_few c.args.arena.now.model c.requires.ready.sound c.args.l (code c.args.first) c.requires.item (read c.args.vector) c.requires.vector c.round.code (steps - c.round.count) c.round.count c.round.swept c.round.invariant.swept
 
-pub returns-clause-sum : goal.returns-clause-sum
-returns-clause-sum c =
-    c.widened-2.ensures ∙ area_ended c.args.arena.now.model c.requires.ready.sound c.args.l (code c.args.first) c.requires.item (read c.args.vector) c.round.code (steps - c.round.count) _ c.round.invariant.swept.area (omega (arith, steps_are))
-
-pub returns-clause-least : goal.returns-clause-least
-returns-clause-least c =
-    least_ended c.args.arena.now.model c.requires.ready.sound c.args.l (code c.args.first) c.requires.item c.round.code (steps - c.round.count) c.round.least c.round.invariant.least (omega (arith, steps_are))
-
-pub returns-clause-there : goal.returns-clause-there
-returns-clause-there c =
-    half_in c.args.arena.now.model c.requires.ready.sound c.args.l (code c.args.first) c.requires.item c.round.least c.round.invariant.least.item
+pub returns-clause-walked : goal.returns-clause-walked
+returns-clause-walked c =
+    let M = c.args.arena.now.model in let s = c.requires.ready.sound in let l = c.args.l in let first : ℕ = code c.args.first in let i = c.requires.item in
+    let n = steps - c.round.count in record {
+      sum = c.widened-2.ensures ∙ area_ended M s l first i (read c.args.vector) c.round.code n _ c.round.invariant.swept.area (omega (arith, steps_are));
+      least = least_ended M s l first i c.round.code n c.round.least c.round.invariant.least (omega (arith, steps_are));
+      there = half_in M s l first i c.round.least c.round.invariant.least.item;
+    }

@@ -5,7 +5,7 @@ use Rattle.shapes.specs.Common.{start}
 use Rattle.solid_measure.specs.Measure.{read}
 use Rattle.solid_measure.proofs.SweptRounds.{SweptRound}
 use Rattle.solid_measure.proofs.LeastRounds.{LeastRound}
-use Rattle.solid_measure.proofs.loops.walk_round.Given as goal
+use Rattle.solid_measure.proofs.loops.walk_within.Given as goal
 
 abbrev pub invariant-round : goal.invariant-round
 invariant-round l = record {

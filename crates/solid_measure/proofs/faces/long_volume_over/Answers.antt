@@ -1,0 +1,9 @@
+use Rattle.std.proofs.Common.{◌∙◌, arith}
+use Rattle.euler_operators.proofs.Common.{fits, held_is}
+use Rattle.solid_measure.proofs.Volumes.{face_volume}
+use Rattle.solid_measure.proofs.faces.long_volume_over.Goals as goal
+
+pub returns-clause-is : goal.returns-clause-is
+returns-clause-is c =
+    held_is c.frame_volume.result (fits _ _ c.frame_volume.ensures.within (omega arith)) ∙ c.frame_volume.ensures.is
+    ∙ face_volume c.args.arena.now.model c.args.f c.frame_of.result c.frame_of.ensures
