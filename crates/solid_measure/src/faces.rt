@@ -11,7 +11,7 @@ ghost use Rattle.solid_measure.specs.Short.{IsShortOf};
 
 use crate::Vector;
 use crate::loops::{loop_added, loop_lies_on, short_loop_lies_on, walk_within};
-use crate::short::{ShortPlane, short_plane};
+use crate::short::{ShortPlane, short_plane, widened};
 use euler_operators::{Content, HALF_EDGE_CODES, Kind, Plane, Point, dot};
 use solid_walks::{Arena, loops_of, rings_of, start_of_code};
 
@@ -41,7 +41,7 @@ fn outer_frame(arena: &Arena, f: u32, most: u32) -> Option<Frame>
         }),
         Content::Ring(first) => match walk_within(arena, normal, outer, first, most) {
             Some(round) => Some(Frame {
-                normal: round.sum,
+                normal: widened(round.sum),
                 anchor: start_of_code(arena, round.least),
             }),
             None => None,

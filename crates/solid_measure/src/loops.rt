@@ -40,8 +40,8 @@ pub fn half_added(arena: &Arena, vector: Vector, h: HalfEdge) -> Vector
 /// What a walk round a loop finds.
 #[derive(Drop)]
 pub(crate) struct Round {
-    /// A vector plus the cross products over the half-edges of the loop.
-    pub(crate) sum: Vector,
+    /// A vector plus the cross products over the half-edges of the loop, in two parts.
+    pub(crate) sum: Swept,
     /// The code of the loop's first item in the order of listings.
     pub(crate) least: u32,
 }
@@ -81,10 +81,7 @@ pub(crate) fn walk_within(
         };
         least = least.min(code);
         if next == begin {
-            return Some(Round {
-                sum: widened(more),
-                least,
-            });
+            return Some(Round { sum: more, least });
         }
         swept = carried(more, count);
         code = next;
@@ -93,10 +90,7 @@ pub(crate) fn walk_within(
     if most < HALF_EDGE_CODES {
         return None;
     }
-    Some(Round {
-        sum: widened(swept),
-        least,
-    })
+    Some(Round { sum: swept, least })
 }
 
 /// The vector plus the cross products over the half-edges of the loop.
@@ -110,7 +104,7 @@ pub(crate) fn loop_added(arena: &Arena, vector: Vector, l: u32) -> Vector
     match arena.content(l) {
         Content::Lone(_) => vector,
         Content::Ring(first) => match walk_within(arena, vector, l, first, HALF_EDGE_CODES) {
-            Some(round) => round.sum,
+            Some(round) => widened(round.sum),
             None => unreachable!(),
         },
     }

@@ -22,7 +22,7 @@ ring_first M (cycle hs) first t = refl
 pub returns-in-Some-clause-frame : goal.returns-in-Some-clause-frame
 returns-in-Some-clause-frame c =
     let M = c.args.arena.now.model in record {
-      summed = c.in-Some.ensures.walked.sum ∙ ap (λ l. moved origin (area M (items_of (content M l)))) c.outer-outer.ensures;
+      summed = c.widened.ensures ∙ c.in-Some.ensures.walked.sum ∙ ap (λ l. moved origin (area M (items_of (content M l)))) c.outer-outer.ensures;
       anchored = c.start_of_code.ensures.point ∙ ap (start M) c.in-Some.ensures.walked.least ∙ ring_first M (content M c.outer-outer.result) c.in-Ring.first c.in-Ring.ensures
           ∙ ap (λ l. point_of M (first_vertex M (content M l))) c.outer-outer.ensures;
       range = c.start_of_code.ensures.range;

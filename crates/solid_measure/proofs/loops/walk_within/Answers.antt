@@ -36,18 +36,16 @@ pub short_crossed-last-requires-clause-last : goal.short_crossed-last-requires-c
 short_crossed-last-requires-clause-last c =
     swept_fits c.args.arena.now.model c.requires.ready.sound c.args.l (code c.args.first) c.requires.item (read c.args.vector) c.requires.vector c.round.code (steps - c.round.count) c.round.count c.round.swept c.round.invariant.swept
 
-pub widened-requires-clause-last : goal.widened-requires-clause-last
-widened-requires-clause-last c =
-    swept_next c.args.arena.now.model c.requires.ready.sound c.args.l (code c.args.first) c.requires.item (read c.args.vector) c.requires.vector c.round.code (steps - c.round.count) c.round.count c.round.swept c.round.invariant.swept
-    (steps - (c.round.count + 1)) c.next_code-next.result (omega (arith, steps_are)) c.round.from c.start_of_code-to.result c.short_crossed-last.result c.short_crossed-last.ensures c.round.invariant.range c.start_of_code-to.ensures.range
-
 pub returns-then-next-begin-clause-walked : goal.returns-then-next-begin-clause-walked
 returns-then-next-begin-clause-walked c =
     let M = c.args.arena.now.model in let s = c.requires.ready.sound in let l = c.args.l in let first : ℕ = code c.args.first in let i = c.requires.item in
     let n = steps - c.round.count in let k = steps - (c.round.count + 1) in record {
-      sum = c.widened.ensures ∙ swept_closed M s l first i (read c.args.vector) c.requires.vector c.round.code n c.round.count c.round.swept c.round.invariant.swept
+      sum = swept_closed M s l first i (read c.args.vector) c.requires.vector c.round.code n c.round.count c.round.swept c.round.invariant.swept
           k c.next_code-next.result (omega (arith, steps_are)) c.round.from c.start_of_code-to.result c.short_crossed-last.result c.short_crossed-last.ensures
           c.next_code-next.ensures.next c.round.invariant.from c.start_of_code-to.ensures.point (c.if-next-begin.true ∙ c.code-begin.ensures);
+      whole = c.round.invariant.swept.whole;
+      last = swept_next M s l first i (read c.args.vector) c.requires.vector c.round.code n c.round.count c.round.swept c.round.invariant.swept
+          k c.next_code-next.result (omega (arith, steps_are)) c.round.from c.start_of_code-to.result c.short_crossed-last.result c.short_crossed-last.ensures c.round.invariant.range c.start_of_code-to.ensures.range;
       least = least_closed M s l first i c.round.code n c.round.least c.round.invariant.least k (omega (arith, steps_are))
           c.min-least.result c.min-least.ensures (sym c.next_code-next.ensures.next ∙ c.if-next-begin.true ∙ c.code-begin.ensures);
       there = half_in M s l first i c.min-least.result
@@ -79,15 +77,13 @@ round-preserved c =
           c.min-least.result c.min-least.ensures (λ e. apart (c.next_code-next.ensures.next ∙ e)));
     }
 
-pub widened-requires-2-clause-last : goal.widened-requires-2-clause-last
-widened-requires-2-clause-last c =
-    swept_few c.args.arena.now.model c.requires.ready.sound c.args.l (code c.args.first) c.requires.item (read c.args.vector) c.requires.vector c.round.code (steps - c.round.count) c.round.count c.round.swept c.round.invariant.swept
-
 pub returns-clause-walked : goal.returns-clause-walked
 returns-clause-walked c =
     let M = c.args.arena.now.model in let s = c.requires.ready.sound in let l = c.args.l in let first : ℕ = code c.args.first in let i = c.requires.item in
     let n = steps - c.round.count in record {
-      sum = c.widened-2.ensures ∙ area_ended M s l first i (read c.args.vector) c.round.code n _ c.round.invariant.swept.area (omega (arith, steps_are));
+      sum = area_ended M s l first i (read c.args.vector) c.round.code n _ c.round.invariant.swept.area (omega (arith, steps_are));
+      whole = c.round.invariant.swept.whole;
+      last = swept_few M s l first i (read c.args.vector) c.requires.vector c.round.code n c.round.count c.round.swept c.round.invariant.swept;
       least = least_ended M s l first i c.round.code n c.round.least c.round.invariant.least (omega (arith, steps_are));
       there = half_in M s l first i c.round.least c.round.invariant.least.item;
     }
