@@ -1,12 +1,10 @@
 -- The six volumes of a block and of a lamina, and of the other solids.
-use Rattle.std.proofs.Common.{◌≡◌, ℕ, suc, ◌+◌, ◌<◌, ℤ, pos, ◌-ℤ◌, true, false, nat_eq, List, [], None, is_some, refl, sym, ap, subst, ◌∙◌, arith, true≢false, length, get_or, ◌-◌, ne_eqb, leb-true}
-use Rattle.std.proofs.lemmas.Bool.{not-true}
+use Rattle.std.proofs.Common.{◌≡◌, ℕ, suc, ◌+◌, ◌<◌, ℤ, pos, ◌-ℤ◌, true, false, nat_eq, List, [], None, is_some, refl, sym, ap, subst, ◌∙◌, arith, true≢false, length, get_or, ◌-◌, ne_eqb}
 use Rattle.euler_operators.specs.Common.{Point, dot, Model, no_point, solid_of, faces_of, Sound}
 use Rattle.euler_operators.specs.Table as table
 use Rattle.euler_operators.proofs.Common.{all_where_none, none_add, second_corner, third_corner, fourth_corner, rectangle_flat, rectangle_raised, solid_row}
-use Rattle.euler_laws.proofs.Common.{all_hold}
-use Rattle.shapes.specs.Common.{taken_in, lamina_conditions, lamina_refusal, lamina_at, lamina_model, lamina_face, prism_refusal, prism_model, vector, base_of, block_refusal, block_model, normal, is_flat, six_volume}
-use Rattle.sweeps_laws.proofs.lamina.Walk.{lamina_is_sound}
+use Rattle.shapes.specs.Common.{taken_in, lamina_refusal, lamina_at, lamina_model, lamina_face, prism_refusal, prism_model, vector, base_of, block_refusal, block_model, normal, is_flat, six_volume}
+use Rattle.sweeps_laws.proofs.lamina.Walk.{lamina_goes, lamina_is_sound}
 use Rattle.sweeps_laws.proofs.lamina.Blocks.{block_goes, blocks_have_bases, bases_rise}
 use Rattle.sweeps_laws.proofs.Whole.{sweep_adds, sweep_keeps_others}
 use Rattle.sweeps_laws.proofs.swept.Bounds.{taken_free}
@@ -50,29 +48,28 @@ pub block_volume : BlockMeasures
 block_volume M s p dx dy dz sound e = grind (arith, second_corner, third_corner, fourth_corner, taken_free, base_solid, block_is, base_sound, rises, no_faces, solid_free, rectangle_flat, none_add, base, sweep_adds, base_normal, base_volume, rectangle_raised)
 
 -- a lamina has three points or more, and its solid is new
-lamina_new : (M : Model) (s : ℕ) (ps : List Point) → lamina_refusal M s ps ≡ None → (length ps ≡ suc (suc (suc (length ps - 3)))) × (table.has M.solids s ≡ false)
-unfolding lamina_conditions
-lamina_new M s ps e = grind (arith, all_hold, leb-true, not-true)
+lamina_new : (M : Model) (s : ℕ) (ps : List Point) → Sound M → lamina_refusal M s ps ≡ None → (length ps ≡ suc (suc (suc (length ps - 3)))) × (table.has M.solids s ≡ false)
+lamina_new M s ps sound e = let goes = lamina_goes M s ps sound e in (omega (arith, goes.many), ap is_some goes.solid_free)
 
-some_points : (M : Model) (s : ℕ) (ps : List Point) → lamina_refusal M s ps ≡ None → 0 < length ps
-some_points M s ps e = omega (arith, (lamina_new M s ps e).0)
+some_points : (M : Model) (s : ℕ) (ps : List Point) → Sound M → lamina_refusal M s ps ≡ None → 0 < length ps
+some_points M s ps sound e = omega (arith, (lamina_goes M s ps sound e).many)
 
 pub lamina_measures : LaminaMeasures
-lamina_measures M s ps sound e = let g = lamina_new M s ps e in
+lamina_measures M s ps sound e = let g = lamina_new M s ps sound e in
     subst (λ N. six_volume N s ≡ dot (get_or ps 0 no_point) (normal N (lamina_face M)) -ℤ dot (get_or ps 1 no_point) (normal N (lamina_face M))) (sym (lamina_is M s ps))
     (lamina_volume s ps (length ps - 3) g.0 (taken_free M sound) (no_faces M s sound g.1))
 
 pub flat_laminas_measure_nothing : FlatLaminasMeasureNothing
-flat_laminas_measure_nothing M s ps sound e = let g = lamina_new M s ps e in
+flat_laminas_measure_nothing M s ps sound e = let g = lamina_new M s ps sound e in
     subst (λ N. is_flat N (lamina_face M) ≡ true → six_volume N s ≡ pos 0) (sym (lamina_is M s ps))
     (flat_volume s ps (length ps - 3) g.0 (taken_free M sound) (no_faces M s sound g.1))
 
 -- other solids keep their six volumes
 pub lamina_keeps_others : LaminaKeepsOthers
-lamina_keeps_others M s ps u sound e ne = ap (λ x. six_volume x u) (lamina_is M s ps) ∙ lamina_keeps M (taken_in M) s ps (some_points M s ps e) (taken_free M sound) u ne
+lamina_keeps_others M s ps u sound e ne = ap (λ x. six_volume x u) (lamina_is M s ps) ∙ lamina_keeps M (taken_in M) s ps (some_points M s ps sound e) (taken_free M sound) u ne
 
 pub block_keeps_others : BlockKeepsOthers
 block_keeps_others M s p dx dy dz u sound e ne =
     ap (λ x. six_volume x u) (block_is M s p dx dy dz)
     ∙ sweep_keeps_others (L M s p dx dy dz sound e) ((taken_in M).face + 1) (vector (pos 0) (pos 0) dz) u (base_sound M s p dx dy dz sound e) (rises M s p dx dy dz sound e) (λ o. ne (o ∙ base_solid M s p dx dy dz sound e))
-    ∙ lamina_keeps M (taken_in M) s (base_of p dx dy) (some_points M s (base_of p dx dy) (blocks_have_bases M s p dx dy dz e)) (taken_free M sound) u ne
+    ∙ lamina_keeps M (taken_in M) s (base_of p dx dy) (some_points M s (base_of p dx dy) sound (blocks_have_bases M s p dx dy dz e)) (taken_free M sound) u ne

@@ -1,12 +1,15 @@
 -- One loop of a face swept: what the six volumes grow by; and the rows of a lamina, beside which other solids keep theirs.
 use Rattle.std.proofs.Common.{◌≡◌, ◌≢◌, ℕ, zero, suc, ◌+◌, ◌≤◌, pos, ◌+ℤ◌, ◌*ℤ◌, Bool, true, cond, nat_eq, List, [], ◌∷◌, ◌++◌, length, is_some, refl, sym, ap, ◌∙◌, arith, inl, inr, false, ◌||◌, ◌<◌, not, ◌&&◌, Some, subst, ◌⊎◌, None, append-nil, eqb-true, eq-eqb, ne_eqb, get_or, map, reverse, ◌-◌}
 use Rattle.std.proofs.lemmas.Bool.Decides.{eqb_tells, nat_tests}
-use Rattle.euler_operators.specs.Common.{Point, dot, Model, FaceRow, face_of, outer, solid_of, faces_of, cycle, LoopRow, EdgeRow, no_point, point_of, rings_of, items_of, content, Has, lists, canonical, plus, minus, Table}
+use Rattle.std.proofs.lemmas.List.{map-append}
+use Rattle.euler_operators.specs.Common.{Point, dot, Model, FaceRow, face_of, outer, solid_of, faces_of, cycle, LoopRow, EdgeRow, no_point, point_of, rings_of, items_of, tail, content, Has, lists, canonical, plus, minus, Table}
 use Rattle.euler_operators.specs.Table as table
-use Rattle.euler_operators.proofs.Common.{solid_row, face_row, outer_row, point_row, same_content, same_outer, add_none, add_assoc, total_to, same_total, area_at, sides_volume, nat_eq_itself, none_but, less_still, all_where_none, first_where_zero, get-put_here, get-put_other}
+use Rattle.euler_operators.proofs.Common.{content_row, solid_row, face_row, outer_row, plus_tail_row, point_row, same_content, same_outer, add_none, add_assoc, total_to, same_total, area_at, sides_volume, nat_eq_itself, none_but, less_still, all_where_none, first_where_zero, get-put_here, get-put_other}
 use Rattle.euler_laws.proofs.Common.{listed_passes, all_where-rises, passes_listed, face_there, same_tail, same_point}
-use Rattle.shapes.specs.Common.{Taken, numbers_after, area, normal, volume_in, six_volume, anchor, first_vertex, least_lone, items_in, lamina_at, with_path, with_points, with_ring}
+use Rattle.shapes.specs.Common.{Taken, numbers_after, area, normal, volume_in, six_volume, anchor, first_vertex, least_lone, items_in, vertices_in, vertices_on, corners, loops_of, lamina_at, with_path, with_points, with_ring}
 use Rattle.shapes.proofs.Common.{at_most_greatest, get-put_cases, all_where-put_last, area_kept, areas_kept, greatest-put_last, volume_of, same_volumes}
+use Rattle.sweeps_laws.specs.lamina.Path.{out}
+use Rattle.sweeps_laws.proofs.lamina.Lists.{numbers_last, plus_halves}
 use Rattle.sweeps_laws.proofs.swept.Filled.{filled, filled_search, filled_none}
 use Rattle.sweeps_laws.proofs.Loops.{area_sum, volume_last, side_is, faces_kept, faces_moved, from_at, to_at, normal_is, first_kept, face_loop_within}
 use Rattle.sweeps_laws.proofs.swept.Sides.{side_face, faces_grown, Keeps, start_kept, finish_kept}
@@ -161,6 +164,18 @@ module _ (M : Model) (c : Taken) (s : ℕ) (ps : List Point) where
   pub point_at : (i : ℕ) → i < length ps → point_of drawn (c.vertex + suc i) ≡ get_or ps i no_point
   point_at i l = point_row drawn (c.vertex + suc i) (get_or ps i no_point) (points_new M.vertices c.vertex ps (length ps) i l)
 
+  -- where the edges start
+  pub tail_at : (i : ℕ) → i < length ps → tail drawn (plus (c.edge + suc i)) ≡ c.vertex + suc i
+  tail_at i l = elim (eqb_tells (suc i) (length ps)) [
+    | inl p ↦ subst (λ n. tail drawn (plus (c.edge + n)) ≡ c.vertex + n) (sym p.1) (plus_tail_row drawn (c.edge + length ps) _ last_edge_at)
+    | inr p ↦ plus_tail_row drawn (c.edge + suc i) _ (edge_at i (less_still (suc i) (length ps) (omega (arith, l)) p.1))
+  ]
+
+  tails_are : (k : ℕ) → k ≤ length ps → map (tail drawn) (out c.edge k) ≡ numbers_after c.vertex k
+  tails_are zero m = refl
+  tails_are (suc k) m = map-append (tail drawn) (out c.edge k) (plus (c.edge + suc k) ∷ [])
+      ∙ (λ i. tails_are k (omega (arith, m)) i ++ tail_at k (omega (arith, m)) i ∷ []) ∙ sym (numbers_last c.vertex k)
+
   module _ (has_free : HasFree M c) where
     -- a loop is one of the two new ones, or was there
     loop_cases : (q : ℕ) (y : LoopRow) → table.get drawn.loops q ≡ Some y → ((q ≡ c.loop + 2) × (y ≡ second_loop)) ⊎ (((q ≡ c.loop + 1) × (y ≡ first_loop)) ⊎ (y.face ≤ c.face))
@@ -178,6 +193,13 @@ module _ (M : Model) (c : Taken) (s : ℕ) (ps : List Point) where
       | inr (inl p) ↦ outer_row drawn (c.face + 1) first_face face_one ∙ sym p.0
       | inr (inr p) ↦ absurd (low_not_one c.face y.face p e)
     ]))
+
+    -- the corners of the first face are at the new vertices, in order
+    pub corners_one : corners drawn (c.face + 1) ≡ numbers_after c.vertex (length ps)
+    unfolding corners loops_of
+    corners_one = (λ i. vertices_in drawn (outer_row drawn (c.face + 1) first_face face_one i ∷ rings_one i))
+        ∙ ap (λ x. vertices_on drawn x ++ []) (content_row drawn (c.loop + 1) first_loop loop_one ∙ ap cycle (plus_halves c.edge (length ps)))
+        ∙ append-nil (map (tail drawn) (out c.edge (length ps))) ∙ tails_are (length ps) (omega arith)
 
     pub rings_two : rings_of drawn (c.face + 2) ≡ []
     rings_two = all_where_none (λ q row. nat_eq row.face (c.face + 2) && not (nat_eq (outer drawn (c.face + 2)) q)) drawn.loops (λ q y at. none_but y.face (c.face + 2) (outer drawn (c.face + 2)) q (λ e. elim (loop_cases q y at) [

@@ -1,11 +1,11 @@
 -- The six volumes of a lamina: its two faces have opposite normals, and one is told from the first point, the other from the second.
-use Rattle.std.proofs.Common.{◌≡◌, ℕ, zero, suc, ◌+◌, ◌≤◌, ◌<◌, ℤ, pos, ◌+ℤ◌, ◌-ℤ◌, true, List, [], ◌∷◌, ◌++◌, refl, sym, ap, subst, ◌∙◌, arith, inl, inr, append-nil, length, get_or, map, reverse}
+use Rattle.std.proofs.Common.{◌≡◌, ℕ, zero, suc, ◌+◌, ◌≤◌, ◌<◌, ℤ, pos, ◌+ℤ◌, ◌-ℤ◌, true, List, [], ◌∷◌, ◌++◌, refl, sym, ap, ◌∙◌, arith, inl, inr, append-nil, length, get_or, map, reverse}
 use Rattle.std.proofs.lemmas.Bool.Decides.{eqb_tells}
 use Rattle.std.proofs.lemmas.Int.{ints}
 use Rattle.euler_operators.specs.Common.{Point, dot, origin, moved, cross, count, IsIn, IsApart, head_or, canonical, mate, plus, minus, Model, cycle, no_point, items_of, tail, content, outer, point_of, faces_of, lists}
-use Rattle.euler_operators.proofs.Common.{content_row, outer_row, plus_tail_row, minus_tail_row, mate_plus, mate_minus, count-append, tick_same, tick_other, count-canonical, IsIn-map, ring_area}
+use Rattle.euler_operators.proofs.Common.{content_row, outer_row, minus_tail_row, mate_plus, mate_minus, count-append, tick_same, tick_other, count-canonical, ring_area}
 use Rattle.euler_laws.proofs.Common.{listed-from_in}
-use Rattle.shapes.specs.Common.{items_in, vertices_in, vertices_on, corners, loops_of, start, finish, Taken, numbers_after, area, normal, anchor, first_vertex, is_flat, volume_in, six_volume, negated, lamina_at}
+use Rattle.shapes.specs.Common.{items_in, corners, start, finish, Taken, numbers_after, area, normal, anchor, first_vertex, is_flat, volume_in, six_volume, negated, lamina_at}
 use Rattle.shapes.proofs.Common.{dot_back, area_same, area_back, corner_told}
 use Rattle.sweeps_laws.specs.lamina.Path.{out, back}
 use Rattle.sweeps_laws.proofs.lamina.Lists.{out_first, plus_halves, minus_halves, back_apart, first_moved, canonical_first}
@@ -41,10 +41,6 @@ mates : (es : List ℕ) → map minus es ≡ map mate (map plus es)
 mates [] = refl
 mates (e ∷ es) = λ i. sym (mate_plus e) i ∷ mates es i
 
-second_in : (e j : ℕ) → IsIn (plus (e + 2)) (out e (suc (suc j)))
-second_in e zero = omega (arith, count-append (plus (e + 2)) (out e 1) (plus (e + 2) ∷ []), tick_same (plus (e + 2)))
-second_in e (suc j) = omega (arith, count-append (plus (e + 2)) (out e (suc (suc j))) (plus (e + suc (suc (suc j))) ∷ []), second_in e j)
-
 no_difference : (m n : ℤ) → n ≡ m → m -ℤ n ≡ pos 0
 no_difference m n e = omega (arith, ints)
 
@@ -63,9 +59,6 @@ module _ {M : Model} {c : Taken} (s : ℕ) (ps : List Point) (k : ℕ) (many : l
   abbrev halves_back : List ℕ
   halves_back = reverse (map minus (numbers_after c.edge (length ps)))
 
-  out_at : (i : ℕ) → i < suc (suc k) → tail drawn (plus (c.edge + suc i)) ≡ c.vertex + suc i
-  out_at i l = plus_tail_row drawn (c.edge + suc i) (record { plus_tail = c.vertex + suc i; minus_tail = c.vertex + suc i + 1 }) (rows.edge_at M c s ps i (omega (arith, many, l)))
-
   back_one : tail drawn (minus (c.edge + 1)) ≡ c.vertex + 2
   back_one = minus_tail_row drawn (c.edge + 1) (record { plus_tail = c.vertex + 1; minus_tail = c.vertex + 1 + 1 }) (rows.edge_at M c s ps 0 (omega (arith, many))) ∙ omega arith
 
@@ -83,7 +76,7 @@ module _ {M : Model} {c : Taken} (s : ℕ) (ps : List Point) (k : ℕ) (many : l
   anchor_one : anchor drawn face ≡ get_or ps 0 no_point
   anchor_one = ap (λ q. point_of drawn (first_vertex drawn (content drawn q))) outer_one ∙ ap (λ x. point_of drawn (first_vertex drawn x)) content_one
       ∙ ap (λ hs. point_of drawn (tail drawn (head_or 0 hs))) (halves_are ∙ out_first c.edge (suc (suc k)))
-      ∙ ap (point_of drawn) (out_at 0 (omega arith)) ∙ rows.point_at M c s ps 0 (omega (arith, many))
+      ∙ ap (point_of drawn) (rows.tail_at M c s ps 0 (omega (arith, many))) ∙ rows.point_at M c s ps 0 (omega (arith, many))
 
   normal_one : normal drawn face ≡ area drawn halves
   normal_one = normal_is drawn face ∙ ap (λ rs. area drawn (items_in drawn (outer drawn face ∷ rs))) (rows.rings_one M c s ps b)
@@ -124,14 +117,8 @@ module _ {M : Model} {c : Taken} (s : ℕ) (ps : List Point) (k : ℕ) (many : l
 
   -- the second vertex is one of the first face's corners
   second_corner : lists (corners drawn face) (c.vertex + 2) ≡ true
-  unfolding corners loops_of
-  second_corner = ap (λ rs. lists (vertices_in drawn (outer drawn face ∷ rs)) (c.vertex + 2)) (rows.rings_one M c s ps b)
-      ∙ ap (λ q. lists (vertices_in drawn (q ∷ [])) (c.vertex + 2)) outer_one
-      ∙ ap (λ x. lists (vertices_on drawn x ++ []) (c.vertex + 2)) content_one
-      ∙ ap (λ vs. lists vs (c.vertex + 2)) (append-nil (map (tail drawn) halves))
-      ∙ ap (λ hs. lists (map (tail drawn) hs) (c.vertex + 2)) halves_are
-      ∙ listed-from_in (c.vertex + 2) (map (tail drawn) (out c.edge (suc (suc (suc k)))))
-      (subst (λ v. IsIn v (map (tail drawn) (out c.edge (suc (suc (suc k)))))) (out_at 1 (omega arith)) (IsIn-map (tail drawn) (plus (c.edge + 2)) (out c.edge (suc (suc (suc k)))) (second_in c.edge (suc k))))
+  second_corner = ap (λ vs. lists vs (c.vertex + 2)) (rows.corners_one M c s ps b) ∙ ap (λ n. lists (numbers_after c.vertex n) (c.vertex + 2)) many
+      ∙ listed-from_in (c.vertex + 2) (numbers_after c.vertex (suc (suc (suc k)))) (grind (arith, tick_same))
 
   pub flat_volume : faces_of M s ≡ [] → is_flat drawn face ≡ true → six_volume drawn s ≡ pos 0
   flat_volume none flat = lamina_volume none ∙ no_difference (dot (get_or ps 0 no_point) (normal drawn face)) (dot (get_or ps 1 no_point) (normal drawn face))
@@ -146,14 +133,11 @@ module _ (M : Model) (c : Taken) (s : ℕ) (a b g h : Point) where
   abbrev pub base : Model
   base = lamina_at M c s four
 
-  out_starts : (i : ℕ) → i < 3 → start base (plus (c.edge + suc i)) ≡ get_or four i no_point
-  out_starts i l = ap (point_of base) (plus_tail_row base (c.edge + suc i) _ (rows.edge_at M c s four i (omega (arith, l)))) ∙ rows.point_at M c s four i (omega (arith, l))
+  out_starts : (i : ℕ) → i < 4 → start base (plus (c.edge + suc i)) ≡ get_or four i no_point
+  out_starts i l = ap (point_of base) (rows.tail_at M c s four i l) ∙ rows.point_at M c s four i l
 
   back_starts : (i : ℕ) → i < 3 → start base (minus (c.edge + suc i)) ≡ get_or four (suc i) no_point
   back_starts i l = ap (point_of base) (minus_tail_row base (c.edge + suc i) _ (rows.edge_at M c s four i (omega (arith, l))) ∙ omega arith) ∙ rows.point_at M c s four (suc i) (omega (arith, l))
-
-  last_starts : start base (plus (c.edge + 4)) ≡ h
-  last_starts = ap (point_of base) (plus_tail_row base (c.edge + 4) _ (rows.last_edge_at M c s four)) ∙ rows.point_at M c s four 3 (omega arith)
 
   last_ends : start base (minus (c.edge + 4)) ≡ a
   last_ends = ap (point_of base) (minus_tail_row base (c.edge + 4) _ (rows.last_edge_at M c s four)) ∙ rows.point_at M c s four 0 (omega arith)
@@ -169,11 +153,11 @@ module _ (M : Model) (c : Taken) (s : ℕ) (a b g h : Point) where
     pub base_normal : normal base (c.face + 1) ≡ ring_area a b g h
     base_normal = normal_one s four 1 refl has_free ∙ ap (area base) (plus_halves c.edge 4)
         ∙ (λ i. moved (cross (out_starts 0 (omega arith) i) (plus_ends (c.edge + 1) b (back_starts 0 (omega arith)) i)) (moved (cross (out_starts 1 (omega arith) i) (plus_ends (c.edge + 2) g (back_starts 1 (omega arith)) i))
-        (moved (cross (out_starts 2 (omega arith) i) (plus_ends (c.edge + 3) h (back_starts 2 (omega arith)) i)) (moved (cross (last_starts i) (plus_ends (c.edge + 4) a last_ends i)) origin))))
+        (moved (cross (out_starts 2 (omega arith) i) (plus_ends (c.edge + 3) h (back_starts 2 (omega arith)) i)) (moved (cross (out_starts 3 (omega arith) i) (plus_ends (c.edge + 4) a last_ends i)) origin))))
 
     back_normal : normal base (c.face + 2) ≡ ring_area b a h g
     back_normal = normal_back s four 1 refl has_free ∙ ap (area base) (ap canonical (minus_halves c.edge 4) ∙ back_from_first c.edge 3)
-        ∙ (λ i. moved (cross (back_starts 0 (omega arith) i) (minus_ends (c.edge + 1) a (out_starts 0 (omega arith)) i)) (moved (cross (last_ends i) (minus_ends (c.edge + 4) h last_starts i))
+        ∙ (λ i. moved (cross (back_starts 0 (omega arith) i) (minus_ends (c.edge + 1) a (out_starts 0 (omega arith)) i)) (moved (cross (last_ends i) (minus_ends (c.edge + 4) h (out_starts 3 (omega arith)) i))
         (moved (cross (back_starts 2 (omega arith) i) (minus_ends (c.edge + 3) g (out_starts 2 (omega arith)) i)) (moved (cross (back_starts 1 (omega arith) i) (minus_ends (c.edge + 2) b (out_starts 1 (omega arith)) i)) origin))))
 
     -- the six volumes of a solid that was not there

@@ -1,17 +1,16 @@
 -- Where a block can be made: the lamina of its base can be made, and then its first face can be swept up.
-use Rattle.std.proofs.Common.{◌≡◌, ◌≢◌, ℕ, zero, suc, ◌+◌, ◌*◌, ◌<◌, ℤ, pos, negsuc, ◌+ℤ◌, Bool, true, false, cond, not, ◌&&◌, List, [], ◌∷◌, ◌++◌, Some, None, is_some, refl, sym, ap, ◌∙◌, subst, arith, true≢false, Option, length, int_le, int_eq}
+use Rattle.std.proofs.Common.{◌≡◌, ◌≢◌, ℕ, zero, suc, ◌+◌, ◌*◌, ℤ, pos, negsuc, ◌+ℤ◌, Bool, true, false, cond, not, ◌&&◌, List, [], ◌∷◌, ◌++◌, Some, None, is_some, refl, sym, ap, ◌∙◌, subst, arith, true≢false, Option, length, int_le, int_eq}
 use Rattle.std.proofs.lemmas.Bool.{not-true}
 use Rattle.std.proofs.lemmas.Int.{ints}
-use Rattle.euler_operators.specs.Common.{Point, is_coordinate, is_in_range, origin, moved, same_point, plus, Model, cycle, outer, tail, point_of, Sound, AllHold, Condition, need, never, first_refusal, is_number, numbers_in_range}
+use Rattle.euler_operators.specs.Common.{Point, is_coordinate, is_in_range, origin, moved, same_point, Model, point_of, Sound, AllHold, Condition, need, never, first_refusal, is_number, numbers_in_range}
 use Rattle.euler_operators.specs.Table as table
-use Rattle.euler_operators.proofs.Common.{content_row, outer_row, plus_tail_row, and_first, and_second, add_none}
+use Rattle.euler_operators.proofs.Common.{and_first, and_second, add_none}
 use Rattle.euler_operators.specs.declared.Why.TheVariants.{NoFace, ZeroSweep, LoneLoop, PointRange}
 use Rattle.euler_laws.proofs.Common.{◌also◌, all_hold, none_refuses}
 use Rattle.shapes.proofs.Common.{greatest-put_last, numbers_are_left, left_numbers_hold, number_fits}
-use Rattle.shapes.specs.Common.{AreLeft, corners, loops_of, vertices_in, vertices_on, least_lone, Taken, taken_in, numbers_left, no_such, first_such, first_far, first_repeated, lamina_conditions, lamina_model, prism_conditions, prism_refusal, vector, base_of, block_conditions, block_refusal}
+use Rattle.shapes.specs.Common.{AreLeft, corners, least_lone, Taken, taken_in, numbers_left, no_such, first_such, first_far, first_repeated, lamina_conditions, lamina_model, prism_conditions, prism_refusal, vector, base_of, block_conditions, block_refusal}
 use Rattle.sweeps_laws.specs.lamina.Laws.{BlocksHaveBases, BasesRise}
 use Rattle.sweeps_laws.specs.prism.Ready.{needed_for_sides}
-use Rattle.sweeps_laws.proofs.lamina.Lists.{plus_halves}
 use Rattle.sweeps_laws.proofs.swept.Bounds.{HasFree, taken_free}
 use Rattle.sweeps_laws.proofs.LaminaRows as rows
 pub use Rattle.sweeps_laws.proofs.LaminaRows.{one_or_two, low_not_one}
@@ -144,19 +143,11 @@ module _ (M : Model) (sound : Sound M) (c : Taken) (is : c ≡ taken_in M) (s : 
   has_free : HasFree M c
   has_free = subst (HasFree M) (sym is) (taken_free M sound)
 
-  -- its vertices and their points
-  on_path : (i : ℕ) → i < 3 → tail base (plus (c.edge + suc i)) ≡ c.vertex + suc i
-  on_path i l = plus_tail_row base (c.edge + suc i) _ (rows.edge_at M c s ps i (omega (arith, l)))
-
   abbrev base_vertices : List ℕ
   base_vertices = (c.vertex + 1) ∷ (c.vertex + 2) ∷ (c.vertex + 3) ∷ (c.vertex + 4) ∷ []
 
   corners_are : corners base (c.face + 1) ≡ base_vertices
-  unfolding corners loops_of
-  corners_are = ap (λ rs. vertices_in base (outer base (c.face + 1) ∷ rs)) (rows.rings_one M c s ps has_free)
-      ∙ ap (λ l. vertices_in base (l ∷ [])) (outer_row base (c.face + 1) (rows.first_face M c s ps) (rows.face_one M c s ps))
-      ∙ ap (λ x. vertices_on base x ++ []) (content_row base (c.loop + 1) (rows.first_loop M c s ps) (rows.loop_one M c s ps) ∙ ap cycle (plus_halves c.edge 4))
-      ∙ (λ i. on_path 0 (omega arith) i ∷ on_path 1 (omega arith) i ∷ on_path 2 (omega arith) i ∷ plus_tail_row base (c.edge + 4) _ (rows.last_edge_at M c s ps) i ∷ [])
+  corners_are = rows.corners_one M c s ps has_free ∙ grind arith
 
   -- ---- the sweep
 
