@@ -22,8 +22,8 @@ pub(crate) struct Frame {
     pub(crate) anchor: Point,
 }
 
-/// The cross products over the half-edges of the face's outer loop, unless it has more than `most`, and the point of its first corner:
-/// where the first item of that loop starts, or where it is lone.
+/// The cross products over the half-edges of the face's outer loop, and the point of its first corner: where the first item of that
+/// loop starts, or where it is lone. Of a loop that has more than `most` items, or is lone where `most` isn't all, nothing is told.
 #[inline(always)]
 fn outer_frame(arena: &Arena, f: u32, most: u32) -> Option<Frame>
     requires ready { IsReady arena.now }
@@ -35,10 +35,16 @@ fn outer_frame(arena: &Arena, f: u32, most: u32) -> Option<Frame>
     let outer = arena.outer(f);
     let normal = Vector { x: 0, y: 0, z: 0 };
     match arena.content(outer) {
-        Content::Lone(v) => Some(Frame {
-            normal,
-            anchor: arena.point(v),
-        }),
+        Content::Lone(v) => {
+            // so that a short face's normal is always a sum in 64 bits
+            if most < HALF_EDGE_CODES {
+                return None;
+            }
+            Some(Frame {
+                normal,
+                anchor: arena.point(v),
+            })
+        }
         Content::Ring(first) => match walk_within(arena, normal, outer, first, most) {
             Some(round) => Some(Frame {
                 normal: widened(round.sum),
