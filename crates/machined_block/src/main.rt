@@ -113,7 +113,8 @@ fn tell_neighbour(rt: &HostRuntime) -> Result<(), AllocError> {
     let session = halved_beside_block(rt.alloc(), end, 7, 3, 2, 6)?;
     let (near, far) = (known(&session, 2) / 6, known(&session, 3) / 6);
     let (block, commands) = (known(&session, 1) / 6, session.depth());
-    prove!(near == 12 && far == 30 && block == 24 && commands == 3);
+    prove!(near == 12 && far == 30);
+    prove!(block == 24 && commands == 3);
     let _ = println!(rt;
         "cut across beside the block: volumes of {near} and {far}, the block of {block}, {commands} commands to undo"
     );
