@@ -62,7 +62,7 @@ module _ (back : Bool) (M : Model) (p f q g : List Model) (h : back ≡ true →
   obeyed_alike : (r : Request) → r ≢ redoing → (back ≡ false → r ≢ undoing) → SameTurn back (obeyed (machine p M f) r) (obeyed (machine q M g) r)
   obeyed_alike request.Nothing r u = stay _
   obeyed_alike request.List r u = stay _
-  obeyed_alike (request.Lamina n ps) r u = acted _ _
+  obeyed_alike (request.Over o ps) r u = acted _ _
   obeyed_alike (request.Give (command.Change c)) r u = acted _ _
   obeyed_alike (request.Give (command.Ask a)) r u = stay _
   obeyed_alike (request.Give command.Undo) r u = undo_either back M p f q g h (λ b. u b refl)
@@ -138,7 +138,7 @@ redo_forward p M (N ∷ f) = moved_forward _ _ _ refl
 obeyed_forward : (s : Machine) (r : Request) → r ≢ undoing → Forward s (obeyed s r)
 obeyed_forward s request.Nothing u = other_forward s _ refl
 obeyed_forward s request.List u = other_forward s _ refl
-obeyed_forward s (request.Lamina n ps) u = moved_forward _ s _ refl
+obeyed_forward s (request.Over o ps) u = moved_forward _ s _ refl
 obeyed_forward s (request.Give (command.Change c)) u = moved_forward _ s _ refl
 obeyed_forward s (request.Give (command.Ask q)) u = other_forward s _ (asked_other (held s) q)
 obeyed_forward s (request.Give command.Undo) u = absurd (u refl)

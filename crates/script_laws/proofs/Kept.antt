@@ -36,7 +36,7 @@ given_stays s command.Redo = moved_stays _ s _
 obeyed_stays : (s : Machine) (r : Request) → Stays s (obeyed s r)
 obeyed_stays s request.Nothing = inr refl
 obeyed_stays s request.List = inr refl
-obeyed_stays s (request.Lamina n ps) = moved_stays _ s _
+obeyed_stays s (request.Over o ps) = moved_stays _ s _
 obeyed_stays s (request.Give c) = given_stays s c
 
 answered_stays : (s : Machine) (r : Result Request Fault) → Stays s (answered s r)

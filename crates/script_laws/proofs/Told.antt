@@ -9,7 +9,7 @@ use Rattle.script_reader.specs.Lines.{lines_of, within_limit}
 use Rattle.script_reader.specs.Newline.{Lacks}
 use Rattle.undo_journal.specs.Journal.{Journal, new_journal}
 use Rattle.undo_journal.proofs.Journals.{same_machine}
-use Rattle.commands.specs.declared.command.Change.TheVariants as change
+use Rattle.script_reader.specs.Polygon.{over}
 use Rattle.commands.specs.declared.command.Command.{Command}
 use Rattle.commands.specs.declared.command.Command.TheVariants as command
 use Rattle.commands.proofs.Kept.{session_kept}
@@ -40,7 +40,7 @@ gives_stay s t c a (b, is, h) e = session_kept s t c b (λ done. absurd (cc (sym
 obeys_stay : (s t : Journal) (r : Request) (a : Answer) → Obeys s r a t → a ≡ Says reply.Memory → t ≡ s
 obeys_stay s t request.Nothing a p e = p.1
 obeys_stay s t request.List a p e = p.1
-obeys_stay s t (request.Lamina n ps) a p e = gives_stay s t (command.Change (change.Lamina n ps)) a p e
+obeys_stay s t (request.Over o ps) a p e = gives_stay s t (command.Change (over o ps)) a p e
 obeys_stay s t (request.Give c) a p e = gives_stay s t c a p e
 
 answers_stay : (s t : Journal) (r : Result Request Fault) (a : Answer) → Answers s r a t → a ≡ Says reply.Memory → t ≡ s

@@ -121,7 +121,7 @@ moved_first (Some r) s next e = record { same = refl }
 obeyed_first : (s : Machine) (r : Request) → KeepsFirst s (obeyed s r)
 obeyed_first s request.Nothing = record { same = refl }
 obeyed_first s request.List = record { same = refl }
-obeyed_first s (request.Lamina n ps) = moved_first _ s _ refl
+obeyed_first s (request.Over o ps) = moved_first _ s _ refl
 obeyed_first s (request.Give (command.Change c)) = moved_first _ s _ refl
 obeyed_first s (request.Give (command.Ask q)) = record { same = refl }
 obeyed_first s (request.Give command.Undo) = moved_first _ s _ (undo_first s.past s.present s.future)
@@ -165,7 +165,7 @@ asked_other M (question.Count n) = value_other (solid_refusal M n) (told.Counts 
 obeyed_grows : (s : Machine) (r : Request) → r ≢ undoing → r ≢ redoing → Grows s (obeyed s r)
 obeyed_grows s request.Nothing h k = omega arith
 obeyed_grows s request.List h k = omega arith
-obeyed_grows s (request.Lamina n ps) h k = moved_grows _ s _ (omega arith)
+obeyed_grows s (request.Over o ps) h k = moved_grows _ s _ (omega arith)
 obeyed_grows s (request.Give (command.Change c)) h k = moved_grows _ s _ (omega arith)
 obeyed_grows s (request.Give (command.Ask q)) h k = stays_so (length s.past) _ _ refl (asked_other (held s) q)
 obeyed_grows s (request.Give command.Undo) h k = absurd (h refl)

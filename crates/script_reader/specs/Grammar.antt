@@ -18,6 +18,7 @@ use Rattle.script_reader.specs.declared.name.Name.{Name}
 use Rattle.script_reader.specs.declared.name.Name.TheVariants as name
 use Rattle.script_reader.specs.declared.places.Way.{Way}
 use Rattle.script_reader.specs.declared.places.Way.TheVariants as way
+use Rattle.script_reader.specs.declared.polygon.Outline.TheVariants as outline
 
 -- the command words
 abbrev pub names : List Name
@@ -122,7 +123,7 @@ build name.Mekr = λ c d e. operator (op.Mekr c d (plus e))
 build name.Kfmrh = λ f g. operator (op.Kfmrh f g)
 build name.Mfkrh = λ l f. operator (op.Mfkrh l f)
 build name.Ringmv = λ l f w. operator (ring_move w l f)
-build name.Lamina = λ s ps. request.Lamina s ps
+build name.Lamina = λ s ps. request.Over (outline.Lamina s) ps
 build name.Block = λ s p dx dy dz. request.Give (command.Change (change.Block s p dx dy dz))
 build name.Sweep = λ f d. request.Give (command.Change (change.Sweep f d))
 build name.Glue = λ f g. request.Give (command.Change (change.Glue f g))

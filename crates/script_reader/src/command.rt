@@ -2,7 +2,7 @@
 ghost use Rattle.std.specs.Prelude.{◌≡◌};
 ghost use Rattle.script_reader.specs.Fault.{code_of};
 
-use super::polygon::Polygon;
+use super::polygon::{Outline, Polygon};
 use commands::Command;
 
 /// What a line of a script asks for. Numbers may be outside their ranges; who carries the command out tests them.
@@ -12,8 +12,8 @@ pub enum Request<'a> {
     Nothing,
     /// The listing of the model held.
     List,
-    /// The new solid of a lamina, and its polygon, whose points stay words of the line till it is made.
-    Lamina(u32, Polygon<'a>),
+    /// A change over points, which stay words of the line till it is made.
+    Over(Outline, Polygon<'a>),
     /// Any other command.
     Give(Command<'a>),
 }

@@ -31,5 +31,5 @@ pub use lines::{Found, Lines, NextLine};
 pub use name::{Name, is_operator};
 pub use operators::operator;
 pub use places::Words;
-pub use polygon::{Corners, Polygon};
+pub use polygon::{Corners, Outline, Polygon};
 pub use reading::arguments;

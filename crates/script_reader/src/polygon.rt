@@ -1,13 +1,14 @@
-//! The points of a lamina.
+//! The points of a line, and the changes that take them.
 ghost use Rattle.std.specs.Prelude.{◌≡◌};
 
 use super::command::Fault;
 use super::places::points;
 use arrayvec::ArrayVec;
+use commands::{Change, Points};
 use euler_operators::Point;
 use std::marker::Model;
 
-/// The points of a lamina, in order: at most 64.
+/// The points of a polygon, in order: at most 64.
 #[derive(Drop)]
 pub struct Corners {
     points: ArrayVec<Point, 64>,
@@ -57,7 +58,7 @@ impl Corners {
     }
 }
 
-/// The points of a lamina as the words at the end of its line: at most 64. A command holds these, and not the room for the points.
+/// The points of a polygon as the words at the end of their line: at most 64. A request holds these, and not the room for the points.
 #[derive(Drop)]
 pub struct Polygon<'a> {
     line: &'a [u8],
@@ -95,5 +96,27 @@ impl<'a> Polygon<'a> {
         ensures { result ≡ self.now }
     {
         points(self.line).unwrap()
+    }
+}
+
+/// What a change over points is but for these.
+#[derive(Clone, Copy, Debug, PartialEq, Eq)]
+pub enum Outline {
+    /// The new solid of a lamina.
+    Lamina(u32),
+}
+
+impl Outline {
+    ghost use Rattle.std.specs.Prelude.{◌≡◌};
+    ghost use Rattle.script_reader.specs.Polygon.{over};
+
+    /// The change over these points.
+    pub fn over(self, corners: &Corners) -> Change<'_>
+        ensures { result ≡ over self corners.now }
+    {
+        let points = Points::of(corners.points());
+        match self {
+            Outline::Lamina(solid) => Change::Lamina(solid, points),
+        }
     }
 }

@@ -7,7 +7,7 @@ use super::command::{Fault, Request};
 use super::name::Name;
 use super::operators::operator;
 use super::places::Words;
-use super::polygon::Polygon;
+use super::polygon::{Outline, Polygon};
 use commands::{Change, Command, Question};
 
 #[tactic(auto, unfolding(crate::specs::Grammar::arguments))]
@@ -16,7 +16,7 @@ fn lamina<'a>(words: &mut Words<'a>) -> Result<Request<'a>, Fault>
 {
     let solid = words.number()?;
     let polygon = Polygon::read(words.rest())?;
-    Ok(Request::Lamina(solid, polygon))
+    Ok(Request::Over(Outline::Lamina(solid), polygon))
 }
 
 #[tactic(auto, unfolding(crate::specs::Grammar::arguments))]

@@ -1,6 +1,6 @@
 -- A line is a call of a history, and a run tells one.
 use Rattle.std.proofs.Common.{◌≡◌, inl, inr, ℕ, suc, Bool, List, [], ◌∷◌, ◌++◌, length, Option, Ok, Err, refl, sym, ap, subst, ◌∙◌, arith, Result, IfOk, append-nil}
-use Rattle.script_running.specs.Common.{Answer, Call, Change, Fault, IsCall, IsConsistent, Journal, Lamina, Machine, Request, RunFault, Sound, Summary, after_call, after_calls, held, lines_of, new_journal, request_of, start, within_limit}
+use Rattle.script_running.specs.Common.{Answer, Call, Change, Fault, IsCall, IsConsistent, Journal, Machine, Request, RunFault, Sound, Summary, after_call, after_calls, held, lines_of, new_journal, over, request_of, start, within_limit}
 use Rattle.undo_journal.specs.Laws.{HistoriesAreConsistent}
 use Rattle.undo_journal.proofs.Journals.{same_machine}
 use Rattle.commands.specs.Calls.{CommandsAreCalls}
@@ -18,7 +18,7 @@ use Rattle.script_running.proofs.Counting.{one_more}
 obeys : CommandsAreCalls → (s t : Journal) (r : Request) (a : Answer) → Sound (held s.machine) → Obeys s r a t → IsCall s.machine t.machine
 obeys l s t request.Nothing a k h = stopped s.machine t.machine (same_machine h.1)
 obeys l s t request.List a k h = stopped s.machine t.machine (same_machine h.1)
-obeys l s t (request.Lamina n ps) a k h = l s t (Change (Lamina n ps)) h.0 k h.2
+obeys l s t (request.Over o ps) a k h = l s t (Change (over o ps)) h.0 k h.2
 obeys l s t (request.Give c) a k h = l s t c h.0 k h.2
 
 answers : CommandsAreCalls → (s t : Journal) (r : Result Request Fault) (a : Answer) → Sound (held s.machine) → Answers s r a t → IsCall s.machine t.machine

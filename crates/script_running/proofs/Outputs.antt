@@ -1,7 +1,7 @@
 -- Lines that are answered without `memory` are answered by their output.
 use Rattle.std.proofs.Common.{◌≡◌, inl, inr, ℕ, Bool, true, false, List, [], ◌∷◌, ◌++◌, refl, sym, ap, subst, ◌∙◌, arith, Option, Some, None, Ok, Err, ◌⊎◌, Result, if◌then◌else◌, append-nil}
 use Rattle.std.proofs.lemmas.Bool.{false≢true}
-use Rattle.script_running.specs.Common.{Answer, Ask, Change, Command, Fault, IsRecorded, Journal, Lamina, Machine, Model, Question, Redo, Refusal, Says, Request, Settled, Summary, TellsSession, Told, Undo, accepted, after_redo, after_undo, asked, request_of, held, made, recorded, value_or_refusal}
+use Rattle.script_running.specs.Common.{Answer, Ask, Change, Command, Fault, IsRecorded, Journal, Machine, Model, Question, Redo, Refusal, Says, Request, Settled, Summary, TellsSession, Told, Undo, accepted, after_redo, after_undo, asked, over, request_of, held, made, recorded, value_or_refusal}
 use Rattle.undo_journal.specs.declared.record.Record.{Record}
 use Rattle.undo_journal.proofs.Journals.{same_machine}
 use Rattle.commands.specs.declared.command.Question.TheVariants as question
@@ -49,7 +49,7 @@ gives_so s t c a (b, is, h) x = subst (λ (z : Answer). IsTurn z t (given s.mach
 obeys_so : (s t : Journal) (r : Request) (a : Answer) → Obeys s r a t → IsQuiet a → IsTurn a t (obeyed s.machine r)
 obeys_so s t request.Nothing a h x = (h.0, same_machine h.1)
 obeys_so s t request.List a h x = (h.0, same_machine h.1)
-obeys_so s t (request.Lamina n ps) a h x = gives_so s t (Change (Lamina n ps)) a h x
+obeys_so s t (request.Over o ps) a h x = gives_so s t (Change (over o ps)) a h x
 obeys_so s t (request.Give c) a h x = gives_so s t c a h x
 
 answers_so : (s t : Journal) (r : Result Request Fault) (a : Answer) → Answers s r a t → IsQuiet a → IsTurn a t (answered s.machine r)
@@ -95,7 +95,7 @@ gives_to s Redo = settled_to _ _ s (after_redo s) (λ (t : Journal). t ≡ after
 obeys_to : (s : Journal) (r : Request) → Leads (Obeys s r) (obeyed s.machine r)
 obeys_to s request.Nothing = (s, (refl, refl), refl, refl)
 obeys_to s request.List = (s, (refl, refl), refl, refl)
-obeys_to s (request.Lamina n ps) = gives_to s (Change (Lamina n ps))
+obeys_to s (request.Over o ps) = gives_to s (Change (over o ps))
 obeys_to s (request.Give c) = gives_to s c
 
 answers_to : (s : Journal) (r : Result Request Fault) → Leads (Answers s r) (answered s.machine r)

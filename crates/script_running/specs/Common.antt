@@ -3,7 +3,6 @@ pub use Rattle.commands.specs.Calls.{IsCall}
 pub use Rattle.commands.specs.Changes.{made, refusal_of}
 pub use Rattle.commands.specs.Telling.{Settled, TellsSession, asked, told_of, told_of_move, value_or_refusal}
 pub use Rattle.commands.specs.declared.command.Call.TheVariants.{Give}
-pub use Rattle.commands.specs.declared.command.Change.TheVariants.{Lamina}
 pub use Rattle.commands.specs.declared.command.Command.TheVariants.{Ask, Change, Redo, Undo}
 pub use Rattle.commands.specs.declared.command.Command.{Command}
 pub use Rattle.commands.specs.declared.command.Question.{Question}
@@ -17,6 +16,7 @@ unfoldable pub use Rattle.script_reader.specs.Grammar.{arguments}
 pub use Rattle.script_reader.specs.Lines.{lines_of, with_newlines}
 unfoldable pub use Rattle.script_reader.specs.Lines.{within_limit}
 pub use Rattle.script_reader.specs.Newline.{Lacks, has_newline}
+pub use Rattle.script_reader.specs.Polygon.{over}
 pub use Rattle.script_reader.specs.Script.{BreaksOff as EndsEarly, HasRead, to_come}
 pub use Rattle.script_reader.specs.State.{IsFresh, line_of, reader_of, taken_of, unread_of}
 pub use Rattle.script_reader.specs.declared.command.Fault.TheVariants.{LongLine, NotAscii}

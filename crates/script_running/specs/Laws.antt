@@ -1,6 +1,6 @@
 -- What lines are answered: as the calls that they are, and by one text where no memory is refused.
 use Rattle.std.specs.Prelude.{◌≡◌, ◌↔◌, ℕ, Bool, List, Option, Some, None, Ok}
-use Rattle.script_running.specs.Common.{Answer, Change, Command, Give, Journal, Lamina, Machine, Request, Session, Summary, Told, request_of}
+use Rattle.script_running.specs.Common.{Answer, Change, Command, Give, Journal, Machine, Request, Session, Summary, Told, over, request_of}
 use Rattle.commands.specs.Telling.{Tells}
 use Rattle.script_reader.specs.declared.command.Request.TheVariants as request
 use Rattle.script_running.specs.script_judging.Judging.{answer_when, Judges}
@@ -11,7 +11,7 @@ use Rattle.script_running.specs.Output.{output_from, summary_from}
 abbrev pub asked_for : Request → Option Command
 asked_for request.Nothing = None
 asked_for request.List = None
-asked_for (request.Lamina n ps) = Some (Change (Lamina n ps))
+asked_for (request.Over o ps) = Some (Change (over o ps))
 asked_for (request.Give c) = Some c
 
 abbrev pub AsksFor : List ℕ → Command → Type 0

@@ -1,6 +1,6 @@
 -- The output of a script, as a function of its lines: what they are answered where no memory is refused.
 use Rattle.std.specs.Prelude.{ℕ, Bool, List, [], ◌∷◌, ◌++◌, Option, Some, None, Result, Ok, Err, if◌then◌else◌}
-use Rattle.script_running.specs.Common.{Answer, Ask, Change, Command, Fault, Lamina, Listing, Machine, Redo, Refusal, Request, Silent, Summary, Undo, accepted, asked, held, made, redo, redo_refusal, refusal_of, request_of, start, undo, undo_refusal}
+use Rattle.script_running.specs.Common.{Answer, Ask, Change, Command, Fault, Listing, Machine, Redo, Refusal, Request, Silent, Summary, Undo, accepted, asked, held, made, over, redo, redo_refusal, refusal_of, request_of, start, undo, undo_refusal}
 use Rattle.script_reader.specs.declared.command.Request.TheVariants as request
 use Rattle.script_running.specs.script_judging.Judging.{done, refused, faulty, answer_when, answer_text, no_lines, one_line, counted}
 use Rattle.script_running.specs.Outs.{stops}
@@ -21,7 +21,7 @@ given s Redo = moved (redo_refusal s) s (redo s)
 abbrev pub obeyed : Machine → Request → Answer × Machine
 obeyed s request.Nothing = (Silent, s)
 obeyed s request.List = (Listing, s)
-obeyed s (request.Lamina n ps) = given s (Change (Lamina n ps))
+obeyed s (request.Over o ps) = given s (Change (over o ps))
 obeyed s (request.Give c) = given s c
 
 -- what a line asks for is obeyed, and a line with a fault is told it

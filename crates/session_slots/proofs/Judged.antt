@@ -2,6 +2,7 @@
 use Rattle.std.proofs.Common.{◌≡◌, ◌∙◌, Option, Some, None, Ok, Err, refl, sym, ap, Result}
 use Rattle.session_slots.specs.Common.{Refusal, Journal, request_of, Request, Fault, answer, face_refusal, solid_refusal, plane_of, is_flat, six_volume, counts, answer_when, Answer, Change, Question, Command, Call, Told, Stage, Settled, TellsSession, value_or_refusal, answer_after, Slot_makes, Slot_says, read, LinesAreJudged, Slot}
 use Rattle.undo_journal.specs.Machine.{held}
+use Rattle.script_reader.specs.Polygon.{over}
 use Rattle.script_running.specs.script_judging.Judging.{Gives, Answers}
 
 -- a session is told of no mark, and of no draft that it lacks: so its answer is kept
@@ -46,7 +47,7 @@ module _ (old new : Slot) (s : Journal) (is : old.stage ≡ Some (Stage.Session 
   judged (Err f) h = stayed _ h
   judged (Ok Request.Nothing) h = stayed _ h
   judged (Ok Request.List) h = stayed _ h
-  judged (Ok (Request.Lamina n ps)) h = given (Command.Change (Change.Lamina n ps)) h
+  judged (Ok (Request.Over o ps)) h = given (Command.Change (over o ps)) h
   judged (Ok (Request.Give c)) h = given c h
 
 pub lines_are_judged : LinesAreJudged

@@ -1,6 +1,7 @@
 -- What a line does to a slot: it is a call, or is answered by itself.
 use Rattle.std.specs.Prelude.{◌≡◌, ℕ, Bool, true, false, List, Option, Result, Ok, Err}
 use Rattle.session_slots.specs.Common.Below.{Request, Fault, request_of, faulty, unless_not_ascii, Answer, Change, Command, Call, Stage, Slot}
+use Rattle.script_reader.specs.Polygon.{over}
 use Rattle.session_slots.specs.Stages.{lacks}
 use Rattle.session_slots.specs.Slots.{Slot_makes, Counts_in}
 
@@ -16,7 +17,7 @@ changes c = gives (Command.Change c)
 abbrev pub said : Request → Spoken
 said Request.Nothing = tells Answer.Silent
 said Request.List = tells Answer.Listing
-said (Request.Lamina n ps) = changes (Change.Lamina n ps)
+said (Request.Over o ps) = changes (over o ps)
 said (Request.Give c) = gives c
 
 -- a line with a fault is told it

@@ -1,16 +1,17 @@
 //! Lines: each is a call that it spells, or is answered by itself.
 ghost use Rattle.std.specs.Prelude.{◌≡◌, Ok, true};
 ghost use Rattle.script_reader.specs.Grammar.{is_operator, arguments};
+ghost use Rattle.script_reader.specs.Polygon.{over};
 ghost use Rattle.session_slots.specs.Common.{faulty, unless_not_ascii, led, is_draft, gives, tells, changes, said_of, spoken, lacks_said, Unless_lacking, Slot_says, Slot_hears, Slot_notes};
 
 use crate::calls::{act_in, ask, lead_in, move_in};
 use crate::counted_stage::Way;
 use crate::slot::{Slot, counted_in, is_drafting};
-use commands::{Call, Change, Command, Points, Question};
+use commands::{Call, Change, Command, Question};
 use euler_operators::Op;
 use script_reader::{
-    Fault, Name, Opening, Polygon, Request, Words, arguments, is_ascii, is_long, is_operator,
-    opening_of, operator,
+    Fault, Name, Opening, Outline, Polygon, Request, Words, arguments, is_ascii, is_long,
+    is_operator, opening_of, operator,
 };
 use script_running::Answer;
 use solid_listing::Reply;
@@ -84,17 +85,13 @@ fn carry(alloc: Global, slot: &mut Slot, wanted: Change<'_>)
     move_in(alloc, slot, Call::Give(Command::Change(wanted)))
 }
 
-/// Makes a lamina of the points that its line has.
+/// Makes a change over the points that its line has.
 #[inline(never)]
-fn carry_lamina(alloc: Global, slot: &mut Slot, solid: u32, polygon: &Polygon<'_>)
-    ensures { Slot_says slot.old (changes (Change.Lamina solid polygon.now)) slot.new }
+fn carry_over(alloc: Global, slot: &mut Slot, outline: Outline, polygon: &Polygon<'_>)
+    ensures { Slot_says slot.old (changes (over outline polygon.now)) slot.new }
 {
     let corners = polygon.corners();
-    carry(
-        alloc,
-        slot,
-        Change::Lamina(solid, Points::of(corners.points())),
-    )
+    carry(alloc, slot, outline.over(&corners))
 }
 
 /// Undoes or redoes, but not in a draft: whether it is none.
@@ -130,7 +127,7 @@ fn obey(alloc: Global, slot: &mut Slot, line: &[u8], request: Request<'_>) -> bo
     match request {
         Request::Nothing => tell_nothing(slot, line),
         Request::List => tell(slot, Answer::Listing),
-        Request::Lamina(solid, polygon) => carry_lamina(alloc, slot, solid, &polygon),
+        Request::Over(outline, polygon) => carry_over(alloc, slot, outline, &polygon),
         Request::Give(command) => return give(alloc, slot, command),
     }
     true

@@ -1,6 +1,6 @@
 -- What a line is answered.
 use Rattle.std.specs.Prelude.{◌≡◌, ℕ, ◌+◌, ℤ, pos, List, [], ◌∷◌, Result, Ok, Err}
-use Rattle.script_running.specs.Common.{Answer, Change, Command, Fault, Journal, Lamina, Listing, Machine, Refusal, Says, Request, Silent, Summary, TellsSession, Told, request_of, held, listing, reply_text}
+use Rattle.script_running.specs.Common.{Answer, Change, Command, Fault, Journal, Listing, Machine, Refusal, Says, Request, Silent, Summary, TellsSession, Told, over, request_of, held, listing, reply_text}
 use Rattle.euler_operators.specs.Refusal as refusal
 use Rattle.solid_measure.specs.declared.solid_counts.Tally.{Tally}
 use Rattle.commands.specs.declared.command.Told.TheVariants as told
@@ -39,7 +39,7 @@ Gives s c a t = (b : Told) × (a ≡ answer_when b) × TellsSession s c b t
 abbrev pub Obeys : Journal → Request → Answer → Journal → Type 0
 Obeys s request.Nothing a t = (a ≡ Silent) × (t ≡ s)
 Obeys s request.List a t = (a ≡ Listing) × (t ≡ s)
-Obeys s (request.Lamina n ps) a t = Gives s (Change (Lamina n ps)) a t
+Obeys s (request.Over o ps) a t = Gives s (Change (over o ps)) a t
 Obeys s (request.Give c) a t = Gives s c a t
 
 -- what a line asks for is obeyed, and a line with a fault is told it

@@ -1,9 +1,10 @@
 //! Lines for which the session is moved: it is taken, and given back with the answer.
+ghost use Rattle.script_running.specs.Common.{over};
 ghost use Rattle.script_running.specs.script_judging.Judging.{Gives, Obeys, Judges};
 
 use crate::script_judging::judging::{Answer, answer_when};
-use commands::{Change, Command, Points, give};
-use script_reader::{Polygon, Request, read_line};
+use commands::{Command, give};
+use script_reader::{Outline, Polygon, Request, read_line};
 use solid_listing::Reply;
 use std::alloc::Global;
 use undo_journal::Session;
@@ -15,21 +16,16 @@ fn carry(alloc: Global, session: Session, wanted: Command<'_>) -> (Session, Answ
     (session, answer_when(told))
 }
 
-fn carry_lamina(
+fn carry_over(
     alloc: Global,
     session: Session,
-    solid: u32,
+    outline: Outline,
     polygon: &Polygon<'_>,
 ) -> (Session, Answer)
-    ensures { Gives session (Command.Change (Change.Lamina solid polygon.now)) result.1 result.0 }
+    ensures { Gives session (Command.Change (over outline polygon.now)) result.1 result.0 }
 {
     let corners = polygon.corners();
-    let points = Points::of(corners.points());
-    carry(
-        alloc,
-        session,
-        Command::Change(Change::Lamina(solid, points)),
-    )
+    carry(alloc, session, Command::Change(outline.over(&corners)))
 }
 
 /// Does what a line asks for, and gives the session back with the answer.
@@ -39,7 +35,7 @@ fn obey(alloc: Global, session: Session, request: Request<'_>) -> (Session, Answ
     match request {
         Request::Nothing => (session, Answer::Silent),
         Request::List => (session, Answer::Listing),
-        Request::Lamina(solid, polygon) => carry_lamina(alloc, session, solid, &polygon),
+        Request::Over(outline, polygon) => carry_over(alloc, session, outline, &polygon),
         Request::Give(wanted) => carry(alloc, session, wanted),
     }
 }
