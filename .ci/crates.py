@@ -68,15 +68,19 @@ def jobs() -> int:
     return min(os.cpu_count() or 1, 4)
 
 
-def rattle(verb: str, crate: Crate, more: List[str]) -> int:
-    """Calls `rattle check` or `rattle build` on a crate, over the libraries that lie there. Gives its status."""
-    words = [str(kit() / 'bin' / 'rattle'), verb, '--crate-name', crate.name, crate.root]
+def words(verb: str, crate: Crate) -> List[str]:
+    """The words of `rattle check` or `rattle build` on a crate, over the libraries that lie there. They are given in its folder."""
+    said = [str(kit() / 'bin' / 'rattle'), verb, '--crate-name', crate.name, crate.root]
     for library in ['std', *crate.libraries]:
         found = crates()[library].rlib if library in crates() else kit() / 'rlibs' / f'{library}.rlib'
-        words += ['--extern', f'{library}={found}']
+        said += ['--extern', f'{library}={found}']
     for folder in [kit() / 'rlibs', *(it.rlib.parent for it in below(crate))]:
-        words += ['-L', f'dependency={folder}']
-    words += ['--antt-project', str(kit() / 'rattle' / 'logic' / 'antt-project.json'), '--logic-built', str(kit() / 'logic_built')]
-    words += ['--links', f'{crate.name}=']
+        said += ['-L', f'dependency={folder}']
+    said += ['--antt-project', str(kit() / 'rattle' / 'logic' / 'antt-project.json'), '--logic-built', str(kit() / 'logic_built')]
+    return [*said, '--links', f'{crate.name}=']
+
+
+def rattle(verb: str, crate: Crate, more: List[str]) -> int:
+    """Calls `rattle` on a crate. Gives its status."""
     (crate.folder / 'out').mkdir(exist_ok=True)
-    return subprocess.run([*words, *more], cwd=crate.folder, stdin=subprocess.DEVNULL, check=False).returncode
+    return subprocess.run([*words(verb, crate), *more], cwd=crate.folder, stdin=subprocess.DEVNULL, check=False).returncode

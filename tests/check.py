@@ -62,6 +62,7 @@ def findings(folder: Path) -> Iterator[str]:
     """For each call what is wrong, or nothing."""
     copied(folder)
     yield complaint(folder, Run('as it is', f'{CRATE} --jobs 1', 0, 'logic=proved'))
+    yield complaint(folder, Run('from nothing, its slowest function named', f'{CRATE} --slowest 1', 0, f'the slowest:\n'))
     sources = folder / 'crates' / CRATE / 'src'
     kept = {path: path.read_text() for path in sources.rglob('*.rt')}
     edited(folder)
