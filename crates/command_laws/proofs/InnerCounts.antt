@@ -1,10 +1,10 @@
 -- What an operator makes of the counts of the solid in which it works.
-use Rattle.std.proofs.Common.{◌≡◌, ℕ, ◌+◌, ℤ, pos, ◌-ℤ◌, true, length, None, refl, sym, ap, subst, ◌∙◌, arith, true≢false, ne_eqb}
+use Rattle.std.proofs.Common.{◌≡◌, ℕ, ◌+◌, ℤ, pos, ◌-ℤ◌, true, length, None, sym, ap, subst, ◌∙◌, arith, true≢false, ne_eqb}
 use Rattle.std.proofs.lemmas.Int.{ints}
 use Rattle.euler_operators.specs.Common.{Corner, At, Lone, HalfEdge, Point, code, edge_of, Model, faces_of, Sound, first_false, effect, inverse, kemr, mef, mev_at, mev_lone, mfkrh}
 use Rattle.euler_operators.specs.Table as table
 use Rattle.euler_operators.specs.declared.Op.{Op}
-use Rattle.euler_operators.specs.declared.Op.TheVariants.{Mev, Kev, Mef, Kef, Kemr, Mekr, Kfmrh, Mfkrh}
+use Rattle.euler_operators.specs.declared.Op.TheVariants.{Mvfs, Kvfs, Mev, Kev, Mef, Kef, Kemr, Mekr, Kfmrh, Mfkrh, RingIn, RingOut, Outer, Merge, Part}
 use Rattle.euler_operators.proofs.Common.{row_some}
 use Rattle.euler_laws.specs.Laws.{size}
 use Rattle.euler_laws.proofs.Common.{effect_keeps_sound, inverse_goes, inverse_undoes, mapped_none, size-map_rows, size-put_new, size-put_old, size-remove, mfkrh_goes, kemr_goes, mef_goes, lone_goes, mev_goes, mixed_first, mixed_second}
@@ -90,72 +90,44 @@ module _ (op : Op) (M : Model) (sound : Sound M) (e : first_false M op ≡ None)
   back : (P : Model → Model → Type 0) → ((N : Model) (e : first_false N (inverse M op) ≡ None) → Sound N → P N (effect N (inverse M op))) → P (effect M op) M
   back P told = subst (P (effect M op)) (inverse_undoes M op sound e) (told (effect M op) (inverse_goes M op sound e) (effect_keeps_sound M op sound e))
 
-mev_counted : (c d : Corner) (h : HalfEdge) (v : ℕ) (p : Point) → Counted (Mev c d h v p)
-unfolding counts
-mev_counted c d h v p M sound e =
-    let q = shares (Mev c d h v p) M sound e refl in
-    let w = mev_grows c d h v p M sound e in
-    tally _ _ _ _ _ _ _ _ _ (omega (arith, q.0, w.0)) (omega (arith, q.1, w.1)) (omega (arith, q.2, w.2)) (omega (arith, q.2, q.3, w.2, w.3)) (omega (arith, ints, q.0, q.1, q.2, q.3, w.0, w.1, w.2, w.3))
+-- what each operator makes of the model before, or its inverse of the one after
+abbrev Grows : Op → Model → Model → Type 0
+Grows (Mev c d h v p) M N = Grown M N 1 1 0 0
+Grows (Kev h) M N = Grown N M 1 1 0 0
+Grows (Mef g k h f l) M N = Grown M N 0 1 1 1
+Grows (Kef h) M N = Grown N M 0 1 1 1
+Grows (Kemr h l) M N = Parted M N
+Grows (Mekr c d h) M N = Parted N M
+Grows (Kfmrh f g) M N = Grown N M 0 0 1 0
+Grows (Mfkrh l f) M N = Grown M N 0 0 1 0
+Grows op M N = Unit {0}
 
-kev_counted : (h : HalfEdge) → Counted (Kev h)
-unfolding counts inverse
-kev_counted h M sound e =
-    let q = shares (Kev h) M sound e refl in
-    let w = back (Kev h) M sound e (λ X Y. Grown X Y 1 1 0 0) (λ N go has. mev_grows _ _ h _ _ N has go) in
-    tally _ _ _ _ _ _ _ _ _ (omega (arith, q.0, w.0)) (omega (arith, q.1, w.1)) (omega (arith, q.2, w.2)) (omega (arith, q.2, q.3, w.2, w.3)) (omega (arith, ints, q.0, q.1, q.2, q.3, w.0, w.1, w.2, w.3))
+each_grows : (op : Op) (M : Model) → Sound M → first_false M op ≡ None → Grows op M (effect M op)
+unfolding inverse
+each_grows (Mev c d h v p) M sound e = mev_grows c d h v p M sound e
+each_grows (Kev h) M sound e = back (Kev h) M sound e (λ X Y. Grown X Y 1 1 0 0) (λ N go has. mev_grows _ _ h _ _ N has go)
+each_grows (Mef g k h f l) M sound e = mef_grows g k h f l M e
+each_grows (Kef h) M sound e = back (Kef h) M sound e (λ X Y. Grown X Y 0 1 1 1) (λ N go has. mef_grows _ _ h _ _ N go)
+each_grows (Kemr h l) M sound e = kemr_grows h l M e
+each_grows (Mekr c d h) M sound e = back (Mekr c d h) M sound e Parted (λ N go has. kemr_grows h _ N go)
+each_grows (Kfmrh f g) M sound e = back (Kfmrh f g) M sound e (λ X Y. Grown X Y 0 0 1 0) (λ N go has. mfkrh_grows _ g N go)
+each_grows (Mfkrh l f) M sound e = mfkrh_grows l f M e
+each_grows op M sound e = tt
 
-mef_counted : (g k h : HalfEdge) (f l : ℕ) → Counted (Mef g k h f l)
-unfolding counts
-mef_counted g k h f l M sound e =
-    let q = shares (Mef g k h f l) M sound e refl in
-    let w = mef_grows g k h f l M e in
-    tally _ _ _ _ _ _ _ _ _ (omega (arith, q.0, w.0)) (omega (arith, q.1, w.1)) (omega (arith, q.2, w.2)) (omega (arith, q.2, q.3, w.2, w.3)) (omega (arith, ints, q.0, q.1, q.2, q.3, w.0, w.1, w.2, w.3))
-
-kef_counted : (h : HalfEdge) → Counted (Kef h)
-unfolding counts inverse
-kef_counted h M sound e =
-    let q = shares (Kef h) M sound e refl in
-    let w = back (Kef h) M sound e (λ X Y. Grown X Y 0 1 1 1) (λ N go has. mef_grows _ _ h _ _ N go) in
-    tally _ _ _ _ _ _ _ _ _ (omega (arith, q.0, w.0)) (omega (arith, q.1, w.1)) (omega (arith, q.2, w.2)) (omega (arith, q.2, q.3, w.2, w.3)) (omega (arith, ints, q.0, q.1, q.2, q.3, w.0, w.1, w.2, w.3))
-
-kemr_counted : (h : HalfEdge) (l : ℕ) → Counted (Kemr h l)
-unfolding counts
-kemr_counted h l M sound e =
-    let q = shares (Kemr h l) M sound e refl in
-    let w = kemr_grows h l M e in
-    tally _ _ _ _ _ _ _ _ _ (omega (arith, q.0, w.0)) (omega (arith, q.1, w.1)) (omega (arith, q.2, w.2)) (omega (arith, q.2, q.3, w.2, w.3)) (omega (arith, ints, q.0, q.1, q.2, q.3, w.0, w.1, w.2, w.3))
-
-mekr_counted : (c d : Corner) (h : HalfEdge) → Counted (Mekr c d h)
-unfolding counts inverse
-mekr_counted c d h M sound e =
-    let q = shares (Mekr c d h) M sound e refl in
-    let w = back (Mekr c d h) M sound e Parted (λ N go has. kemr_grows h _ N go) in
-    tally _ _ _ _ _ _ _ _ _ (omega (arith, q.0, w.0)) (omega (arith, q.1, w.1)) (omega (arith, q.2, w.2)) (omega (arith, q.2, q.3, w.2, w.3)) (omega (arith, ints, q.0, q.1, q.2, q.3, w.0, w.1, w.2, w.3))
-
-mfkrh_counted : (l f : ℕ) → Counted (Mfkrh l f)
-unfolding counts
-mfkrh_counted l f M sound e =
-    let q = shares (Mfkrh l f) M sound e refl in
-    let w = mfkrh_grows l f M e in
-    tally _ _ _ _ _ _ _ _ _ (omega (arith, q.0, w.0)) (omega (arith, q.1, w.1)) (omega (arith, q.2, w.2)) (omega (arith, q.2, q.3, w.2, w.3)) (omega (arith, ints, q.0, q.1, q.2, q.3, w.0, w.1, w.2, w.3))
-
-kfmrh_counted : (f g : ℕ) → Counted (Kfmrh f g)
-unfolding counts inverse
-kfmrh_counted f g M sound e =
-    let q = shares (Kfmrh f g) M sound e refl in
-    let w = back (Kfmrh f g) M sound e (λ X Y. Grown X Y 0 0 1 0) (λ N go has. mfkrh_grows _ g N go) in
-    tally _ _ _ _ _ _ _ _ _ (omega (arith, q.0, w.0)) (omega (arith, q.1, w.1)) (omega (arith, q.2, w.2)) (omega (arith, q.2, q.3, w.2, w.3)) (omega (arith, ints, q.0, q.1, q.2, q.3, w.0, w.1, w.2, w.3))
-
+-- those that work in no solid come first, so that the clause below them is one for each other operator
 each_counted : (op : Op) → is_inner op ≡ true → Counted op
-each_counted (Mev c d h v p) i = mev_counted c d h v p
-each_counted (Kev h) i = kev_counted h
-each_counted (Mef g k h f l) i = mef_counted g k h f l
-each_counted (Kef h) i = kef_counted h
-each_counted (Kemr h l) i = kemr_counted h l
-each_counted (Mekr c d h) i = mekr_counted c d h
-each_counted (Kfmrh f g) i = kfmrh_counted f g
-each_counted (Mfkrh l f) i = mfkrh_counted l f
-each_counted op i = absurd (true≢false (sym i))
+unfolding counts
+each_counted (Mvfs s f l v p) i M sound e = absurd (true≢false (sym i))
+each_counted (Kvfs s) i M sound e = absurd (true≢false (sym i))
+each_counted (RingIn l f) i M sound e = absurd (true≢false (sym i))
+each_counted (RingOut l f) i M sound e = absurd (true≢false (sym i))
+each_counted (Outer l f) i M sound e = absurd (true≢false (sym i))
+each_counted (Merge s t) i M sound e = absurd (true≢false (sym i))
+each_counted (Part s t fs) i M sound e = absurd (true≢false (sym i))
+each_counted op i M sound e =
+    let q = shares op M sound e i in
+    let w = each_grows op M sound e in
+    tally _ _ _ _ _ _ _ _ _ (omega (arith, q.0, w.0)) (omega (arith, q.1, w.1)) (omega (arith, q.2, w.2)) (omega (arith, q.2, q.3, w.2, w.3)) (omega (arith, ints, q.0, q.1, q.2, q.3, w.0, w.1, w.2, w.3))
 
 pub operators_count : OperatorsCount
 operators_count M N op sound step i = ap (λ X. counts X (solid_in M op)) step.1 ∙ each_counted op i M sound step.0

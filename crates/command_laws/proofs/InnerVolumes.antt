@@ -67,23 +67,27 @@ record KeepsCorners (M N : Model) (p : Plane) : Type 0 where
   halves : (x : ℕ) → HasHalf N x → (HasHalf M x × (tail N x ≡ tail M x)) ⊎ (is_on p (point_of M (tail N x)) ≡ true)
   lones : (q v : ℕ) → content N q ≡ lone v → (content M q ≡ lone v) ⊎ (is_on p (point_of M v) ≡ true)
 
--- the faces ks, one of which is there, are met on plane p, and the others are left
-record AreMet (M N : Model) (p : Plane) (ks : List ℕ) : Type 0 where
-  before : Sound M
-  after : Sound N
-  on : LieOnPlane M p ks
+-- what an operator does to faces, corners and vertices, where the faces ks that it meets, one of which is there, lie on plane p
+record Meets (M N : Model) (p : Plane) (ks : List ℕ) : Type 0 where
   face : ℕ
   there : Has M.faces face
   listed : lists ks face ≡ true
-  left : (k : ℕ) → Has M.faces k → lists ks k ≡ false → HasLeft M N k
   rows : (k : ℕ) → lists ks k ≡ false → table.get N.faces k ≡ table.get M.faces k
   corners : KeepsCorners M N p
   vertices : N.vertices ≡ M.vertices
 
+-- and the others are left
+record AreMet (M N : Model) (p : Plane) (ks : List ℕ) : Type 0 where
+  before : Sound M
+  after : Sound N
+  on : LieOnPlane M p ks
+  left : (k : ℕ) → Has M.faces k → lists ks k ≡ false → HasLeft M N k
+  meets : Meets M N p ks
+
 module _ (M N : Model) (p : Plane) (ks : List ℕ) (w : AreMet M N p ks) where
   point_same : (v : ℕ) → point_of N v ≡ point_of M v
   unfolding point_of
-  point_same v = ap (λ t. unwrap_or (table.get t v) no_point) w.vertices
+  point_same v = ap (λ t. unwrap_or (table.get t v) no_point) w.meets.vertices
 
   -- a loop of a face that is left is of it still
   stays_left : (q : ℕ) → Has M.loops q → lists ks (face_of M q) ≡ false → (table.get N.loops q ≡ table.get M.loops q) × (lists ks (face_of N q) ≡ false)
@@ -92,7 +96,7 @@ module _ (M N : Model) (p : Plane) (ks : List ℕ) (w : AreMet M N p ks) where
       (row, ap (lists ks) (same_face M N q row) ∙ off)
 
   half_on : (x : ℕ) → HasHalf N x → lists ks (face_at N x) ≡ true → is_on p (point_of M (tail N x)) ≡ true
-  half_on x there m = elim (w.corners.halves x there) [
+  half_on x there m = elim (w.meets.corners.halves x there) [
     | inl was ↦ ap (λ v. is_on p (point_of M v)) was.1 ∙ start_was_on (loop_of M x) refl was.0 (lists ks (face_at M x)) refl
     | inr on ↦ on
   ] where
@@ -105,7 +109,7 @@ module _ (M N : Model) (p : Plane) (ks : List ℕ) (w : AreMet M N p ks) where
         absurd (true≢false (sym m ∙ ap (λ l. lists ks (face_of N l)) here ∙ s.1))
 
   lone_on : (q v : ℕ) → content N q ≡ lone v → lists ks (face_of N q) ≡ true → is_on p (point_of M v) ≡ true
-  lone_on q v is m = elim (w.corners.lones q v is) [
+  lone_on q v is m = elim (w.meets.corners.lones q v is) [
     | inl was ↦ lone_was_on was (lists ks (face_of M q)) refl
     | inr on ↦ on
   ] where
@@ -124,21 +128,21 @@ module _ (M N : Model) (p : Plane) (ks : List ℕ) (w : AreMet M N p ks) where
         | inr h ↦ ap (λ t. is_on p (point_of M t)) (sym h.2) ∙ half_on h.0 (item_there N w.after q h.0 h.1) (ap (lists ks) (ap (face_of N) (item_loop N w.after q h.0 h.1) ∙ of) ∙ m)
       ]
 
-  redrawn : AreRedrawn M N (λ k. p) (anchor M w.face) (met_in ks)
+  redrawn : AreRedrawn M N (λ k. p) (anchor M w.meets.face) (met_in ks)
   redrawn =
-      let at = parts M w.before p ks w.on w.face w.there w.listed in
-      let point = anchor_on M p w.face w.before w.there at.1 in
+      let at = parts M w.before p ks w.on w.meets.face w.meets.there w.meets.listed in
+      let point = anchor_on M p w.meets.face w.before w.meets.there at.1 in
       record {
         before = w.before;
         after = w.after;
         on = λ k there m. (w.on k there m, point);
         on_then = λ k there m. (λ i. at.0 i && all_on N p (corners N k) (λ v j. corner_on k v there m j) i, point);
         stays = λ k there off. let s = left_stands M N k w.before there (w.left k there off) in (s.there, s.solid, s.plane);
-        back = λ k there off. sym (ap is_some (w.rows k off)) ∙ there;
+        back = λ k there off. sym (ap is_some (w.meets.rows k off)) ∙ there;
       }
 
   met_keep_volumes : (u : ℕ) → six_volume N u ≡ six_volume M u
-  met_keep_volumes u = redrawn_keep_volumes M N (λ k. p) (anchor M w.face) (met_in ks) redrawn u
+  met_keep_volumes u = redrawn_keep_volumes M N (λ k. p) (anchor M w.meets.face) (met_in ks) redrawn u
 
 -- ---- what stays of the corners, operator by operator
 
@@ -204,15 +208,6 @@ walks_corners M N p same = record {
 }
 
 -- ---- each operator
-
--- what an operator does to faces, corners and vertices, where the faces ks that it meets lie on plane p
-record Meets (M N : Model) (p : Plane) (ks : List ℕ) : Type 0 where
-  face : ℕ
-  there : Has M.faces face
-  listed : lists ks face ≡ true
-  rows : (k : ℕ) → lists ks k ≡ false → table.get N.faces k ≡ table.get M.faces k
-  corners : KeepsCorners M N p
-  vertices : N.vertices ≡ M.vertices
 
 module _ (M : Model) (sound : Sound M) (p : Plane) where
   mef_meets : (g j h f l : ℕ) → MefGoes M g j h f l → LieOnPlane M p (face_at M g ∷ f ∷ []) → Meets M (mef M g j h f l) p (face_at M g ∷ f ∷ [])
@@ -303,18 +298,12 @@ each_meets op M p sound e i on = absurd (true≢false (sym i))
 
 pub operators_keep_volumes : OperatorsKeepVolumes
 operators_keep_volumes M N op p u sound step i on =
-    let w = each_meets op M p sound step.0 i on in
     ap (λ X. six_volume X u) step.1 ∙ met_keep_volumes M (effect M op) p (faces_met M op) (record {
       before = sound;
       after = effect_keeps_sound M op sound step.0;
       on = on;
-      face = w.face;
-      there = w.there;
-      listed = w.listed;
       left = λ k there off. each_left op M k sound step.0 i there off;
-      rows = w.rows;
-      corners = w.corners;
-      vertices = w.vertices;
+      meets = each_meets op M p sound step.0 i on;
     }) u
 
 inverse_leaves : (M : Model) (op : Op) → leaves_vertices op ≡ true → leaves_vertices (inverse M op) ≡ true
