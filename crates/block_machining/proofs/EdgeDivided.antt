@@ -2,41 +2,30 @@
 -- the block is still there after each, with its volume, and the planes and the areas of its faces.
 use Rattle.std.proofs.lemmas.Bool.{and_parts, false_from_ne_true, not-false}
 use Rattle.std.proofs.lemmas.Bool.Decides.{eqb_tells}
-use Rattle.std.proofs.Common.{sym, Bool, cond, nat_eq, ap, ◌∙◌, true, false, not, ◌&&◌, inl, inr, true≢false, subst, arith, ◌≡◌, ◌≢◌, ℕ, pos, None, Some, refl, [], ◌∷◌, map}
+use Rattle.std.proofs.Common.{sym, Bool, cond, nat_eq, ap, ◌∙◌, true, false, not, ◌&&◌, inl, inr, true≢false, subst, arith, ◌≡◌, ◌≢◌, ℕ, pos, None, refl, [], ◌∷◌, map}
 use Rattle.euler_operators.specs.declared.Op.{Op}
-use Rattle.euler_operators.specs.declared.Refusal.{Refusal}
 use Rattle.euler_operators.specs.Common.{Has, HasHalf, IsIn, Model, Point, Table, all_where, arc, code, edge_of, effect, face_at, first_false, get, is_on, kev, lists, mate, mev_at, minus, plus, Sound, solid_of, tail}
 use Rattle.euler_operators.specs.Table as table
 use Rattle.euler_operators.proofs.Common.{IsIn_one, mate_plus, none_all_where, plus_row, row_some, same_edge, same_solid}
 use Rattle.shapes.specs.Common.{finish, is_flat, plane_of, start}
 use Rattle.sweeps.specs.Measure.{normal, six_volume}
-use Rattle.sweeps.specs.PlainMachine.{Machine, act, act_refusal, held}
-use Rattle.command_laws.specs.Counted.{counts}
+use Rattle.sweeps.specs.PlainMachine.{Machine, act, held}
 use Rattle.command_laws.specs.Flat.{IsClosedFlat}
 use Rattle.command_laws.specs.LeftAlone.{StandsAsBefore}
-use Rattle.command_laws.specs.Operators.{AreOnLine, FanLeadsAlong, FanLiesFlat, FansKeepFlatFaces, FansKeepNormals, FansKeepShapes, FansKeepVolumes, IsStep, LiesWith, counted_on, is_inner, makes_vertex, meets_fan, moves_to, solid_in}
+use Rattle.command_laws.specs.Operators.{AreOnLine, FanLeadsAlong, FanLiesFlat, FansKeepFlatFaces, FansKeepNormals, FansKeepShapes, FansKeepVolumes, IsStep, LiesWith, makes_vertex, meets_fan, moves_to}
 use Rattle.block_machining.specs.Dividing.{IsBlockStill, IsFlatAsBefore, StayInPlanes, divided, division, rejoined, reunion}
 use Rattle.block_machining.specs.Machines.{blank}
-use Rattle.block_machining.specs.Undoing.{AreCounted}
-use Rattle.block_machining.proofs.Accepted.{for_no_reason}
+use Rattle.block_machining.proofs.Acting.{ActsInBlock}
 use Rattle.block_machining.proofs.AllElse.{stands_still}
 use Rattle.block_machining.proofs.Worked.{computed, one_of_two}
 
-division_accepted : first_false (held blank) division ≡ None
+pub division_acts : ActsInBlock blank division
 unfolding computed blank
-division_accepted = refl
+division_acts = record { accepted = refl; in_block = refl; inner = refl }
 
-division_in_block : solid_in (held blank) division ≡ 1
-unfolding computed blank
-division_in_block = refl
-
-reunion_accepted : first_false (held divided) reunion ≡ None
+pub reunion_acts : ActsInBlock divided reunion
 unfolding computed blank divided
-reunion_accepted = refl
-
-reunion_in_block : solid_in (held divided) reunion ≡ 1
-unfolding computed blank divided
-reunion_in_block = refl
+reunion_acts = record { accepted = refl; in_block = refl; inner = refl }
 
 -- the second takes the first back
 pub joined_again : held rejoined ≡ held blank
@@ -206,9 +195,7 @@ reunion_leads x there at apart =
 -- what is known of an operator that moves a fan at that edge, of the machine that takes it
 pub record MovesFan (known : Machine) (op : Op) : Type 0 where
   pub accepted : first_false (held known) op ≡ None
-  pub in_block : solid_in (held known) op ≡ 1
   pub moves : makes_vertex op ≡ true
-  pub inner : is_inner op ≡ true
   pub keeps_rows : (M N : Model) → N ≡ effect M op → (N.solids ≡ M.solids) × (N.faces ≡ M.faces)
   pub meets_no_other : (k : ℕ) → Has (held known).faces k → k ≢ 1 → k ≢ 4 → meets_fan (held known) op k ≡ false
   pub lies_flat : StayInPlanes (held blank) (held known) 1 → FanLiesFlat (held known) op (plane_of (held known))
@@ -216,10 +203,8 @@ pub record MovesFan (known : Machine) (op : Op) : Type 0 where
 
 pub division_moves : MovesFan blank division
 division_moves = record {
-  accepted = division_accepted;
-  in_block = division_in_block;
+  accepted = division_acts.accepted;
   moves = refl;
-  inner = refl;
   keeps_rows = division_keeps_rows;
   meets_no_other = division_meets_no_other;
   lies_flat = division_lies_flat;
@@ -228,52 +213,40 @@ division_moves = record {
 
 pub reunion_moves : MovesFan divided reunion
 reunion_moves = record {
-  accepted = reunion_accepted;
-  in_block = reunion_in_block;
+  accepted = reunion_acts.accepted;
   moves = refl;
-  inner = refl;
   keeps_rows = reunion_keeps_rows;
   meets_no_other = reunion_meets_no_other;
   lies_flat = reunion_lies_flat;
   leads = reunion_leads;
 }
 
-module _ (known : Machine) (op : Op) (w : MovesFan known op) (m : Machine) (is : m ≡ known) where
-  pub not_refused : (refusal : Refusal) → act_refusal m op ≡ Some refusal → ⊥
-  not_refused refusal = for_no_reason (act_refusal m op) refusal (ap (λ m. act_refusal m op) is ∙ w.accepted)
+module _ (known : Machine) (op : Op) (w : MovesFan known op) (m : Machine) (is : m ≡ known) (n : Machine) where
+  leads_along : FanLeadsAlong (held m) op
+  leads_along = subst (λ n. FanLeadsAlong (held n) op) (sym is) w.leads
 
-  module _ (n : Machine) where
-    -- what the block counts then
-    pub counts_told : AreCounted (held m) (held n) op → counts (held n) 1 ≡ counted_on op (counts (held m) 1)
-    counts_told counted =
-        let at : solid_in (held m) op ≡ 1 = ap (λ m. solid_in (held m) op) is ∙ w.in_block in
-        ap (counts (held n)) (sym at) ∙ counted.inner w.inner ∙ ap (λ s. counted_on op (counts (held m) s)) at
+  lies_on_planes : StayInPlanes (held blank) (held m) 1 → FanLiesFlat (held m) op (plane_of (held m))
+  lies_on_planes = subst (λ n. StayInPlanes (held blank) (held n) 1 → FanLiesFlat (held n) op (plane_of (held n))) (sym is) w.lies_flat
 
-    leads_along : FanLeadsAlong (held m) op
-    leads_along = subst (λ n. FanLeadsAlong (held n) op) (sym is) w.leads
+  unmet : (k : ℕ) → Has (held m).faces k → k ≢ 1 → k ≢ 4 → meets_fan (held m) op k ≡ false
+  unmet k there a b = ap (λ n. meets_fan (held n) op k) is ∙ w.meets_no_other k (subst (λ n. Has (held n).faces k) is there) a b
 
-    lies_on_planes : StayInPlanes (held blank) (held m) 1 → FanLiesFlat (held m) op (plane_of (held m))
-    lies_on_planes = subst (λ n. StayInPlanes (held blank) (held n) 1 → FanLiesFlat (held n) op (plane_of (held n))) (sym is) w.lies_flat
-
-    unmet : (k : ℕ) → Has (held m).faces k → k ≢ 1 → k ≢ 4 → meets_fan (held m) op k ≡ false
-    unmet k there a b = ap (λ n. meets_fan (held n) op k) is ∙ w.meets_no_other k (subst (λ n. Has (held n).faces k) is there) a b
-
-    -- by the laws of fans
-    pub still_after : FansKeepShapes → FansKeepVolumes → FansKeepNormals → FansKeepFlatFaces → Sound (held m) → n ≡ act m op → IsBlockStill (held m) → IsBlockStill (held n)
-    still_after keep_shapes keep_volumes keep_normals keep_flat sound made was =
-        let M : Model = held m in
-        let N : Model = held n in
-        let step : IsStep M op N = (ap (λ m. first_false (held m) op) is ∙ w.accepted, ap held made) in
-        let rows = w.keeps_rows M N step.1 in
-        let lie = lies_on_planes was.planes in
-        record {
-          there = ap (λ t. table.has t 1) rows.0 ∙ was.there;
-          volume = keep_volumes M N op (plane_of M) 1 sound step w.moves lie ∙ was.volume;
-          planes = stay_in_planes (held blank) M N 1 was.planes rows.1 (λ k. keep_flat M N op k sound step w.moves leads_along lie);
-          normals = λ k. keep_normals M N op k sound step w.moves leads_along ∙ was.normals k;
-          others = λ k there a b. let stood = was.others k there a b in
-              stands_still (held blank) M N k stood (keep_shapes M N op k sound step w.moves stood.there (unmet k stood.there a b));
-        }
+  -- by the laws of fans
+  pub still_after : FansKeepShapes → FansKeepVolumes → FansKeepNormals → FansKeepFlatFaces → Sound (held m) → n ≡ act m op → IsBlockStill (held m) → IsBlockStill (held n)
+  still_after keep_shapes keep_volumes keep_normals keep_flat sound made was =
+      let M : Model = held m in
+      let N : Model = held n in
+      let step : IsStep M op N = (ap (λ m. first_false (held m) op) is ∙ w.accepted, ap held made) in
+      let rows = w.keeps_rows M N step.1 in
+      let lie = lies_on_planes was.planes in
+      record {
+        there = ap (λ t. table.has t 1) rows.0 ∙ was.there;
+        volume = keep_volumes M N op (plane_of M) 1 sound step w.moves lie ∙ was.volume;
+        planes = stay_in_planes (held blank) M N 1 was.planes rows.1 (λ k. keep_flat M N op k sound step w.moves leads_along lie);
+        normals = λ k. keep_normals M N op k sound step w.moves leads_along ∙ was.normals k;
+        others = λ k there a b. let stood = was.others k there a b in
+            stands_still (held blank) M N k stood (keep_shapes M N op k sound step w.moves stood.there (unmet k stood.there a b));
+      }
 
 -- and before both it is the block
 pub block_itself : (m : Machine) → m ≡ blank → Has (held m).solids 1 → six_volume (held m) 1 ≡ pos 144 → IsClosedFlat (held m) 1 → IsBlockStill (held m)

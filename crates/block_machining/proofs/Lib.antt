@@ -1,4 +1,5 @@
 pub mod Accepted
+pub mod Acting
 pub mod AllElse
 pub mod Undone
 pub mod Worked

@@ -6,10 +6,10 @@ use Rattle.std.proofs.lemmas.Bool.{and_parts, not-true}
 use Rattle.std.proofs.lemmas.Bool.Decides.{eqb_tells}
 use Rattle.std.proofs.Common.{sym, Bool, Some, cond, nat_eq, ap, ◌∙◌, true, not, ◌&&◌, ◌⊎◌, inl, inr, List, true≢false, length, unwrap_or, get_or, subst, arith, ◌≡◌, ◌<◌, ℕ, ℤ, pos, neg_ℤ, None, false, refl, [], ◌∷◌}
 use Rattle.sweeps.specs.Measure.{six_volume}
-use Rattle.sweeps.specs.PlainMachine.{Machine, act, start, held}
+use Rattle.sweeps.specs.PlainMachine.{Machine, start, held}
 use Rattle.plane_split.specs.Machine.{plane_with, split_refusal}
 use Rattle.command_laws.specs.NewFaces.{all_moved, corner_points, last_face}
-use Rattle.command_laws.specs.Operators.{LieOnPlane, faces_met, is_spur, solid_in, spur_face}
+use Rattle.command_laws.specs.Operators.{LieOnPlane, faces_met, is_spur, spur_face}
 use Rattle.euler_operators.specs.declared.Op.TheVariants.{Kfmrh, Merge}
 use Rattle.euler_operators.specs.Common.{Has, Model, Plane, Point, LoopRow, dot, is_in_range, is_lone, lists, no_loop, first_false, rotate_to, canonical, rest, mate, code, half, edge_of, is_first, empty_model, content, tail, loop_of, face_of, solid_of, outer, arc, holds, after, before, point_of, conditions, has_rings, effect, inverse, mvfs, kvfs_at, mev_lone, mev_at, kev, mef, kef, kemr, mekr, kfmrh, mfkrh, ring_in, ring_out, take_outer, merge, part}
 use Rattle.solid_measure.specs.solid_counts.Counts.{counts}
@@ -18,7 +18,8 @@ use Rattle.shapes.specs.Common.{AreLeft, no_caps, Needed, Taken, is_plane_of, la
 use Rattle.euler_operators.specs.Table as table
 use Rattle.block_machining.specs.Cutting.{AreCapped, IsCapAt}
 use Rattle.block_machining.specs.Halving.{HasRoom}
-use Rattle.block_machining.specs.Machines.{blank, bossed, lengthened, merged, paired, parted, score, spur, stacked, triangular}
+use Rattle.block_machining.specs.Machines.{blank, bossed, lengthened, merged, paired, parted, score, scored, spur, stacked, triangular}
+use Rattle.block_machining.proofs.Acting.{ActsInBlock}
 
 -- opens the definitions that the machines compute by
 unfoldable pub computed : ℕ
@@ -102,14 +103,10 @@ paired_taken = refl
 pub glue_left : AreLeft (taken_in (held paired)) (record { faces = 0; loops = 0; edges = 1; vertices = 0 })
 glue_left = left paired _ _ paired_taken (record { faces = omega arith; loops = omega arith; edges = omega arith; vertices = omega arith })
 
--- the spur is accepted, and works in the block
-pub spur_accepted : first_false (held blank) spur ≡ None
+-- the spur is accepted, and acts in the block
+pub spur_acts : ActsInBlock blank spur
 unfolding computed blank
-spur_accepted = refl
-
-pub spur_in : solid_in (held blank) spur ≡ 1
-unfolding computed blank
-spur_in = refl
+spur_acts = record { accepted = refl; in_block = refl; inner = refl }
 
 -- it is a spur, and stands in another face than the side at the greatest x
 pub is_one_spur : (M : Model) → is_spur M spur ≡ true
@@ -155,16 +152,12 @@ capped M N d s t f g e each =
 
 -- ---- an edge across the top
 
-pub score_accepted : first_false (held blank) score ≡ None
+pub score_acts : ActsInBlock blank score
 unfolding computed blank
-score_accepted = refl
+score_acts = record { accepted = refl; in_block = refl; inner = refl }
 
-pub score_in : solid_in (held blank) score ≡ 1
-unfolding computed blank
-score_in = refl
-
-pub score_there : Has (held (act blank score)).solids 1
-unfolding computed blank
+pub score_there : Has (held scored).solids 1
+unfolding computed blank scored
 score_there = refl
 
 -- one of two numbers
@@ -199,13 +192,9 @@ pub merge_accepted : first_false (held stacked) (Merge 1 2) ≡ None
 unfolding computed blank stacked
 merge_accepted = refl
 
-pub ring_accepted : first_false (held merged) (Kfmrh 1 8) ≡ None
+pub ring_acts : ActsInBlock merged (Kfmrh 1 8)
 unfolding computed blank stacked merged
-ring_accepted = refl
-
-pub ring_in_solid : solid_in (held merged) (Kfmrh 1 8) ≡ 1
-unfolding computed blank stacked merged
-ring_in_solid = refl
+ring_acts = record { accepted = refl; in_block = refl; inner = refl }
 
 pub merged_is : six_volume (held merged) 1 ≡ pos 156
 unfolding computed blank stacked merged

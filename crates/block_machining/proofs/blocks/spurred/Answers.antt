@@ -1,26 +1,21 @@
-use Rattle.std.proofs.Common.{◌≡◌, ◌≢◌, suc, refl, subst, sym, ap, ◌∙◌}
+use Rattle.std.proofs.Common.{◌≢◌, suc, subst, sym, ap, ◌∙◌}
 use Rattle.std.proofs.lemmas.Bool.{eqb-false}
 use Rattle.euler_operators.specs.Common.{Model}
-use Rattle.sweeps.specs.PlainMachine.{act, act_refusal, held}
-use Rattle.command_laws.specs.Counted.{counts}
-use Rattle.command_laws.specs.Operators.{counted_on, solid_in, spur_face}
+use Rattle.sweeps.specs.PlainMachine.{act, held}
+use Rattle.command_laws.specs.Operators.{counted_on, spur_face}
 use Rattle.block_machining.specs.Machines.{blank, spur, spurred}
 use Rattle.block_machining.specs.Meeting.{near_side}
-use Rattle.block_machining.proofs.Accepted.{for_no_reason}
-use Rattle.block_machining.proofs.Worked.{is_one_spur, spur_accepted, spur_apart, spur_in}
+use Rattle.block_machining.proofs.Acting.{counts_told, not_refused}
+use Rattle.block_machining.proofs.Worked.{is_one_spur, spur_acts, spur_apart}
 use Rattle.block_machining.proofs.blocks.spurred.Goals as goal
 
 pub but_for_memory-requires : goal.but_for_memory-requires
-but_for_memory-requires c refusal is =
-    for_no_reason (act_refusal c.in_ok-session.session.machine spur) refusal (ap (λ m. act_refusal m spur) c.in_ok-session.ensures.made ∙ spur_accepted) (c.acted-session.ensures.refused refusal is)
+but_for_memory-requires c refusal is = not_refused spur_acts c.in_ok-session.ensures.made refusal (c.acted-session.ensures.refused refusal is)
 
 pub returns-clause-counts : goal.returns-clause-counts
 returns-clause-counts c =
-    let M : Model = held c.in_ok-session.session.machine in
-    let N : Model = held c.acted-session.result.0.machine in
-    let at : solid_in M spur ≡ 1 = ap (λ m. solid_in (held m) spur) c.in_ok-session.ensures.made ∙ spur_in in
-    let counted = rw c.in_ok-but_for_memory.ensures at c.acted-session.ensures.counted in
-    ap (counts N) (sym at) ∙ counted.inner refl ∙ ap (λ s. counted_on spur (counts M s)) at ∙ ap (counted_on spur) c.in_ok-session.ensures.counts
+    counts_told spur_acts c.in_ok-session.ensures.made c.acted-session.result.0.machine (rw c.in_ok-but_for_memory.ensures at c.acted-session.ensures.counted)
+    ∙ ap (counted_on spur) c.in_ok-session.ensures.counts
 
 pub returns-clause-depth : goal.returns-clause-depth
 returns-clause-depth c = (rw c.in_ok-but_for_memory.ensures at c.acted-session.ensures.undone).0 ∙ ap suc c.in_ok-session.ensures.depth

@@ -1,22 +1,20 @@
-use Rattle.std.proofs.Common.{◌≡◌, refl, sym, subst, ap, ◌∙◌}
-use Rattle.euler_operators.specs.Common.{Model}
+use Rattle.std.proofs.Common.{refl, sym, subst, ap, ◌∙◌}
 use Rattle.euler_operators.specs.declared.Op.{Op}
 use Rattle.euler_operators.specs.declared.Op.TheVariants.{Kfmrh}
 use Rattle.sweeps.specs.Measure.{six_volume}
-use Rattle.sweeps.specs.PlainMachine.{act, act_refusal, held}
+use Rattle.sweeps.specs.PlainMachine.{act, held}
 use Rattle.command_laws.specs.Counted.{counts}
-use Rattle.command_laws.specs.Operators.{LieOnPlane, counted_on, faces_met, solid_in}
+use Rattle.command_laws.specs.Operators.{LieOnPlane, counted_on, faces_met}
 use Rattle.block_machining.specs.Machines.{bossed}
-use Rattle.block_machining.proofs.Accepted.{for_no_reason}
-use Rattle.block_machining.proofs.Worked.{merged_counts, merged_is, ring_accepted, ring_in_solid, ring_lies, top_plane}
+use Rattle.block_machining.proofs.Acting.{counts_told, not_refused}
+use Rattle.block_machining.proofs.Worked.{merged_counts, merged_is, ring_acts, ring_lies, top_plane}
 use Rattle.block_machining.proofs.bosses.bossed.Goals as goal
 
 abbrev joined : Op
 joined = Kfmrh 1 8
 
 pub but_for_memory-requires : goal.but_for_memory-requires
-but_for_memory-requires c refusal is =
-    for_no_reason (act_refusal c.in_ok-session.session.machine joined) refusal (ap (λ m. act_refusal m joined) c.in_ok-session.ensures ∙ ring_accepted) (c.acted-session.ensures.refused refusal is)
+but_for_memory-requires c refusal is = not_refused ring_acts c.in_ok-session.ensures refusal (c.acted-session.ensures.refused refusal is)
 
 pub returns-clause-volume : goal.returns-clause-volume
 returns-clause-volume c =
@@ -26,11 +24,8 @@ returns-clause-volume c =
 
 pub returns-clause-counts : goal.returns-clause-counts
 returns-clause-counts c =
-    let M : Model = held c.in_ok-session.session.machine in
-    let N : Model = held c.acted-session.result.0.machine in
-    let at : solid_in M joined ≡ 1 = ap (λ m. solid_in (held m) joined) c.in_ok-session.ensures ∙ ring_in_solid in
-    let counted = rw c.in_ok-but_for_memory.ensures at c.acted-session.ensures.counted in
-    ap (counts N) (sym at) ∙ counted.inner refl ∙ ap (λ s. counted_on joined (counts M s)) at ∙ ap (λ m. counted_on joined (counts (held m) 1)) c.in_ok-session.ensures ∙ ap (counted_on joined) merged_counts
+    counts_told ring_acts c.in_ok-session.ensures c.acted-session.result.0.machine (rw c.in_ok-but_for_memory.ensures at c.acted-session.ensures.counted)
+    ∙ ap (λ m. counted_on joined (counts (held m) 1)) c.in_ok-session.ensures ∙ ap (counted_on joined) merged_counts
 
 pub returns-clause-made : goal.returns-clause-made
 unfolding bossed

@@ -3,11 +3,12 @@ use Rattle.sweeps.specs.PlainMachine.{act}
 use Rattle.command_laws.specs.Operators.{counted_on}
 use Rattle.block_machining.specs.Dividing.{divided, division}
 use Rattle.block_machining.specs.Machines.{blank}
-use Rattle.block_machining.proofs.EdgeDivided.{block_itself, counts_told, division_moves, not_refused, still_after}
+use Rattle.block_machining.proofs.Acting.{counts_told, not_refused}
+use Rattle.block_machining.proofs.EdgeDivided.{block_itself, division_acts, division_moves, still_after}
 use Rattle.block_machining.proofs.dividing.divided.Goals as goal
 
 pub but_for_memory-requires : goal.but_for_memory-requires
-but_for_memory-requires c refusal is = not_refused blank division division_moves c.in_ok-session.session.machine c.in_ok-session.ensures.made refusal (c.acted-session.ensures.refused refusal is)
+but_for_memory-requires c refusal is = not_refused division_acts c.in_ok-session.ensures.made refusal (c.acted-session.ensures.refused refusal is)
 
 pub returns-clause-still : goal.returns-clause-still
 returns-clause-still c =
@@ -19,7 +20,7 @@ returns-clause-still c =
 
 pub returns-clause-counts : goal.returns-clause-counts
 returns-clause-counts c =
-    counts_told blank division division_moves c.in_ok-session.session.machine c.in_ok-session.ensures.made c.acted-session.result.0.machine (rw c.in_ok-but_for_memory.ensures at c.acted-session.ensures.counted)
+    counts_told division_acts c.in_ok-session.ensures.made c.acted-session.result.0.machine (rw c.in_ok-but_for_memory.ensures at c.acted-session.ensures.counted)
     ∙ ap (counted_on division) c.in_ok-session.ensures.counts
 
 pub returns-clause-depth : goal.returns-clause-depth
