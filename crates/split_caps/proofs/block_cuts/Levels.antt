@@ -188,35 +188,29 @@ pub record IsAcross (w : Way) (q : Plane) (near far h : ℤ) : Type 0 where
   pub down : IsMet (pos (suc n)) (negsuc m) far near h
 
 module _ (w : Way) (q : Plane) (directed : direction q ≡ upper_direction w) (low high h : ℤ) (below : int_lt low h ≡ true) (above : int_lt h high ≡ true) where
-  -- the upper side towards greater coordinates
-  pub upward : ((x y z : ℤ) → height q (point x y z) ≡ coordinate_along w (point x y z) -ℤ h) → IsAcross w q low high h
-  upward tall = let m = under low h below in let n = past h high above in let e = m.1 in let f = n.1 in record {
-    level = λ c. c -ℤ h;
+  -- by levels that rise with the coordinate, where g is 1, or fall, where it is -1
+  across_at : (near far g : ℤ) (level : ℤ → ℤ) → ((x y z : ℤ) → height q (point x y z) ≡ level (coordinate_along w (point x y z))) → level h ≡ pos 0 →
+      (m : (m : ℕ) × (level near ≡ negsuc m)) (n : (n : ℕ) × (level far ≡ pos (suc n))) → ((a b : ℤ) → b -ℤ a ≡ g *ℤ (level b -ℤ level a)) → IsAcross w q near far h
+  across_at near far g level tall on m n slope = record {
+    level = level;
     tall = tall;
     directed = directed;
     m = m.0;
     n = n.0;
-    under = e;
-    over = f;
-    on = none_between h;
-    up = meets m.0 n.0 low high h (pos 1) (omega (arith, ints)) (omega (arith, ints));
-    down = meets_back m.0 n.0 high low h (pos 1) (omega (arith, ints)) (omega (arith, ints));
+    under = m.1;
+    over = n.1;
+    on = on;
+    up = meets m.0 n.0 near far h g (slope near h ∙ (λ i. g *ℤ (on i -ℤ m.1 i))) (slope near far ∙ (λ i. g *ℤ (n.1 i -ℤ m.1 i)));
+    down = meets_back m.0 n.0 far near h g (slope far h ∙ (λ i. g *ℤ (on i -ℤ n.1 i))) (slope far near ∙ (λ i. g *ℤ (m.1 i -ℤ n.1 i)));
   }
+
+  -- the upper side towards greater coordinates
+  pub upward : ((x y z : ℤ) → height q (point x y z) ≡ coordinate_along w (point x y z) -ℤ h) → IsAcross w q low high h
+  upward tall = across_at low high (pos 1) (λ c. c -ℤ h) tall (none_between h) (under low h below) (past h high above) (λ a b. omega (arith, ints))
 
   -- and towards smaller ones
   pub downward : ((x y z : ℤ) → height q (point x y z) ≡ h -ℤ coordinate_along w (point x y z)) → IsAcross w q high low h
-  downward tall = let m = under h high above in let n = past low h below in let e = m.1 in let f = n.1 in record {
-    level = λ c. h -ℤ c;
-    tall = tall;
-    directed = directed;
-    m = m.0;
-    n = n.0;
-    under = e;
-    over = f;
-    on = none_between h;
-    up = meets m.0 n.0 high low h (negsuc 0) (omega (arith, ints)) (omega (arith, ints));
-    down = meets_back m.0 n.0 low high h (negsuc 0) (omega (arith, ints)) (omega (arith, ints));
-  }
+  downward tall = across_at high low (negsuc 0) (λ c. h -ℤ c) tall (none_between h) (under h high above) (past low h below) (λ a b. omega (arith, ints))
 
 -- ---- the area round the section
 
