@@ -68,5 +68,4 @@ module _ (s : Plane) (p q : Point) where
 
   pub on_all : (t u v : Option ℤ) (x y z : ℤ) → t ≡ quotient p.x q.x → u ≡ quotient p.y q.y → v ≡ quotient p.z q.z → t ≡ Some x → u ≡ Some y → v ≡ Some z →
       is_coordinate x ≡ true → is_coordinate y ≡ true → is_coordinate z ≡ true → Some (record { x = held_short x; y = held_short y; z = held_short z }) ≡ cut_point s p q
-  on_all t u v x y z a b c d e f kx ky kz =
-      (λ i. Some (record { x = coordinate_is x kx i; y = coordinate_is y ky i; z = coordinate_is z kz i })) ∙ some_all (is_whole p.x q.x) (is_whole p.y q.y) (is_whole p.z q.z) (number p.x q.x) (number p.y q.y) (number p.z q.z) x y z (sym a ∙ d) (sym b ∙ e) (sym c ∙ f)
+  on_all t u v x y z a b c d e f kx ky kz = grind (arith, coordinate_is, some_all, p.x, q.x, p.y, q.y, p.z, q.z)

@@ -6,7 +6,7 @@ use Rattle.lattice.specs.declared.Point.{Point}
 use Rattle.lattice.specs.declared.Plane.{Plane}
 use Rattle.lattice.specs.Point.{is_coordinate, IsInRange}
 use Rattle.lattice.specs.Ranges.{IsWithin}
-use Rattle.lattice.specs.Vectors.{height, opposite, are_opposite, same_point, cut_between}
+use Rattle.lattice.specs.Vectors.{opposite, are_opposite, same_point, cut_between}
 use Rattle.lattice.proofs.Magnitudes.{coordinates, coordinate_within, product_within}
 
 -- ---- signs
@@ -62,9 +62,7 @@ back_quotient : (p q m n : ℤ) → m -ℤ n ≢ pos 0 → int_div (p *ℤ n -�
 back_quotient p q m n ne = (λ i. int_div (turned_difference (q *ℤ m) (p *ℤ n) i) (turned_difference m n i)) ∙ turned_quotient (q *ℤ m -ℤ p *ℤ n) (m -ℤ n) ne
 
 pub cut_back : (s : Plane) (p q : Point) → are_opposite s p q ≡ true → cut_between s q p ≡ cut_between s p q
-cut_back s p q o =
-    let one = back_quotient p.x q.x (height s p) (height s q) in let two = back_quotient p.y q.y (height s p) (height s q) in
-    grind (arith, opposite_apart (height s p) (height s q) o, one, p.x, q.x, two, p.y, q.y, back_quotient p.z q.z (height s p) (height s q), p.z, q.z)
+cut_back s p q o = grind (arith, back_quotient, p.x, q.x, p.y, q.y, opposite_apart, p.z, q.z)
 
 -- ---- in range
 
@@ -93,10 +91,7 @@ pub within_coordinate : (x : ℤ) → IsWithin 1000000000 x → is_coordinate x 
 within_coordinate x h = grind (arith, ints)
 
 cut_coordinate : (p q m n : ℤ) → is_coordinate p ≡ true → is_coordinate q ≡ true → opposite m n ≡ true → is_coordinate (int_div (q *ℤ m -ℤ p *ℤ n) (m -ℤ n)) ≡ true
-cut_coordinate p q m n cp cq o = within_coordinate (int_div (q *ℤ m -ℤ p *ℤ n) (m -ℤ n))
-    (quotient_within (q *ℤ m -ℤ p *ℤ n) (m -ℤ n) (cut_within q p m n (coordinate_within q cq) (coordinate_within p cp) o))
+cut_coordinate p q m n cp cq o = grind (arith, within_coordinate, quotient_within, cut_within, coordinate_within)
 
 pub cut_fits : (s : Plane) (p q : Point) → IsInRange p → IsInRange q → are_opposite s p q ≡ true → IsInRange (cut_between s p q)
-cut_fits s p q rp rq o =
-    let one = cut_coordinate p.x q.x (height s p) (height s q) in let two = cut_coordinate p.y q.y (height s p) (height s q) in
-    grind (arith, coordinates p rp, coordinates q rq, one, p.x, q.x, two, p.y, q.y, cut_coordinate p.z q.z (height s p) (height s q), p.z, q.z)
+cut_fits s p q rp rq o = grind (arith, cut_coordinate, p.x, q.x, p.y, q.y, coordinates, p.z, q.z)

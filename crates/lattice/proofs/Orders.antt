@@ -1,5 +1,5 @@
 -- The order of points.
-use Rattle.std.proofs.Common.{◌≡◌, ℤ, int_cmp, Ordering, Less, Equal, Greater, refl, ◌∙◌, arith, int_lt, ◌&&◌, ◌||◌, is_lt, is_eq, is_gt, int_eq}
+use Rattle.std.proofs.Common.{◌≡◌, ℤ, int_cmp, Ordering, Less, Equal, Greater, refl, arith, int_lt, ◌&&◌, ◌||◌, is_lt, is_eq, is_gt, int_eq}
 use Rattle.std.specs.Ordering.{ordering_then}
 use Rattle.lattice.specs.declared.Point.{Point}
 use Rattle.lattice.specs.Vectors.{lex_less}
@@ -31,5 +31,4 @@ pub equal_is : (m n : ℤ) → is_eq (int_cmp m n) ≡ int_eq m n
 equal_is m n = grind arith
 
 pub greater_is : (p q : Point) → is_gt (ordering_then (ordering_then (int_cmp p.x q.x) (int_cmp p.y q.y)) (int_cmp p.z q.z)) ≡ lex_less q p
-greater_is p q = after_greater (int_cmp p.x q.x) (int_cmp p.y q.y) (int_cmp p.z q.z)
-    ∙ (λ i. turned_greater p.x q.x i || (turned_equal p.x q.x i && (turned_greater p.y q.y i || (turned_equal p.y q.y i && turned_greater p.z q.z i))))
+greater_is p q = grind (arith, after_greater, p.x, q.x, p.y, q.y, p.z, q.z, turned_greater, turned_equal)
