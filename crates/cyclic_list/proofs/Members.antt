@@ -1,9 +1,9 @@
 -- What stands in lists that are made of others, and how many items they have.
-use Rattle.std.proofs.Common.{◌≡◌, ◌≢◌, ℕ, zero, suc, ◌+◌, ◌≤◌, ◌<◌, Bool, true, false, cond, List, [], ◌∷◌, ◌++◌, map, length, refl, sym, ap, ◌∙◌, arith, ◌⊎◌, inl, inr, filter, length-append}
+use Rattle.std.proofs.Common.{◌≡◌, ◌≢◌, ℕ, zero, suc, ◌+◌, ◌≤◌, ◌<◌, Bool, true, List, [], ◌∷◌, ◌++◌, map, length, refl, ap, arith, ◌⊎◌, inl, inr, filter, length-append}
 use Rattle.std.specs.List.{list_all}
 use Rattle.std.proofs.lemmas.Bool.{and_from}
 use Rattle.std.proofs.lemmas.Bool.Decides.{eqb_tells}
-use Rattle.cyclic_list.specs.Items.{count, tick, IsIn, IsApart, SameItems, head_or, before, after}
+use Rattle.cyclic_list.specs.Items.{count, IsIn, IsApart, SameItems, head_or, before, after}
 use Rattle.cyclic_list.proofs.Lists.{tick_same, tick_other, count-append, split_at}
 use Rattle.cyclic_list.proofs.Rotations.{IsIn_head}
 use Rattle.cyclic_list.proofs.Maps.{from_map}
@@ -74,13 +74,7 @@ count-filter p x (y ∷ ys) = grind (arith, count-filter p x ys)
 
 pub filter_passes : (p : ℕ → Bool) (x : ℕ) (xs : List ℕ) → IsIn x (filter p xs) → p x ≡ true
 filter_passes p x [] i = absurd (omega arith)
-filter_passes p x (y ∷ ys) i = passes_where_kept (p y) refl (filter_passes p x ys) i where
-  passes_where_kept : (b : Bool) → p y ≡ b → (IsIn x (filter p ys) → p x ≡ true) → IsIn x (cond b (y ∷ filter p ys) (filter p ys)) → p x ≡ true
-  passes_where_kept true e later i = elim (eqb_tells x y) [
-    | inl s ↦ ap p s.1 ∙ e
-    | inr s ↦ later (omega (arith, i, tick_other x y s.1))
-  ]
-  passes_where_kept false e later i = later i
+filter_passes p x (y ∷ ys) i = grind (arith, eqb_tells, tick_other, filter_passes p x ys)
 
 -- ---- lengths
 
@@ -103,10 +97,7 @@ length-numbers_below (suc n) = omega (arith, length-numbers_below n)
 in-numbers_below : (n x : ℕ) → x < n → IsIn x (numbers_below n)
 unfolding numbers_below
 in-numbers_below zero x l = absurd (omega arith)
-in-numbers_below (suc n) x l = elim (eqb_tells x n) [
-  | inl e ↦ omega (arith, ap (tick x) (sym e.1), tick_same x)
-  | inr e ↦ let i = in-numbers_below n x (omega (arith, e.1)) in omega (arith, i)
-]
+in-numbers_below (suc n) x l = grind (arith, eqb_tells, tick_same, in-numbers_below n x)
 
 -- a list without repeats of numbers below n has at most n items
 pub length_below : (n : ℕ) (xs : List ℕ) → IsApart xs → ((x : ℕ) → IsIn x xs → x < n) → length xs ≤ n
