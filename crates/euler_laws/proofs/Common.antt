@@ -1,5 +1,6 @@
 -- The lemmas of this crate that other crates cite, passed on from one place. Declares nothing.
 pub use Rattle.euler_laws.proofs.Cases.{effect_keeps_sound, inverse_goes, inverse_undoes}
+pub use Rattle.euler_laws.proofs.Growth.{Grown, Parted, kemr_grows, mef_grows, mev_grows, mfkrh_grows}
 pub use Rattle.euler_laws.proofs.Runs.{AreAccepted-append, AreAccepted-back, AreAccepted-front, Leads, all_taken, effects-append, effects_keep_sound, inverses_go, inverses_undo, leads_first, leads_none, leads_on, leads_one, leads_sound, next_goes, next_taken, some_taken}
 pub use Rattle.euler_laws.proofs.Sizes.{loops_are, mapped_none, rises_apart, rises_on, rises_over, size-map_rows, size-put_new, size-put_old, size-remove, size_parts}
 pub use Rattle.euler_laws.proofs.faces.Kfmrh.{KillGoes, MakeGoes, g_gone, kfmrh_accepted, kfmrh_goes, kill_face_else, kill_face_l, kill_outer, kill_same, kill_solid, l_face, mfkrh_accepted, mfkrh_goes, sound-kfmrh}
@@ -18,7 +19,7 @@ pub use Rattle.euler_laws.proofs.mef.MefUndo.{count-mef_new, count-mef_old, loop
 pub use Rattle.euler_laws.proofs.mekr.MekrSpots.{JoinGoes, MekrHolds, count_spot, join_goes, mekr_holds, ring_is}
 pub use Rattle.euler_laws.proofs.merge.Merge.{MergeGoes, OtherSolids, joined_same, joined_t, merge_accepted, merge_goes, merge_other, solid_new, sound-merge}
 pub use Rattle.euler_laws.proofs.merge.Part.{PartGoes, face_in, faces_known-there, in_faces, listed_in_solid, part_accepted, part_goes}
-pub use Rattle.euler_laws.proofs.mev.Mev.{MevHolds, lone_accepted, lone_goes, mev_accepted, mev_goes, mev_holds, mixed_first, mixed_second}
+pub use Rattle.euler_laws.proofs.mev.Mev.{lone_accepted, lone_goes, mev_accepted, mev_goes, mev_holds, mixed_first, mixed_second}
 pub use Rattle.euler_laws.proofs.mev.MevSound.{MevGoes, tails_of_row, walks}
 pub use Rattle.euler_laws.proofs.shared.Arcs.{arc_is, halves_of_edge}
 pub use Rattle.euler_laws.proofs.shared.Bounds.{half_below, ring_number, steps, steps_are}

@@ -6,7 +6,7 @@ use Rattle.euler_operators.specs.Table as table
 use Rattle.euler_operators.specs.Common.{map_rows, Model, face_of, solid_of, outer, is_number, Sound, Has, first_false, conditions, effect, inverse, kfmrh, mfkrh, loop_to_face}
 use Rattle.euler_operators.proofs.Common.{remove-put, no_row, row_elsewhere, solid_row, outer_row, nat_eq_itself}
 use Rattle.euler_operators.specs.declared.Op.TheVariants.{Kfmrh, Mfkrh}
-use Rattle.euler_laws.proofs.shared.Goes.{◌also◌, all_hold, none_refuses, not_false, taken}
+use Rattle.euler_laws.proofs.shared.Goes.{all_hold, none_refuses, taken}
 use Rattle.euler_laws.proofs.shared.Parts.{FaceSet, row_here, has_on, has_back, solid_other, outer_other, fit-put, fit-remove}
 use Rattle.euler_laws.proofs.shared.Faces.{SameWalks, LoopMoves, face_moved, face_kept, walks_same, old_outer, sound-moves, loop_home}
 use Rattle.euler_laws.proofs.shared.Rows.{put_again, face_there, no_rings_means, means_no_rings, never_outer, is_ring}
@@ -101,10 +101,7 @@ module _ (M : Model) (sound : Sound M) (f g : ℕ) (goes : KillGoes M f g) where
   -- mfkrh takes it back
   pub mfkrh-kfmrh : mfkrh N l g ≡ M
   unfolding mfkrh kfmrh
-  mfkrh-kfmrh = λ i. record M {
-    loops = loop_home M l f g l_face i;
-    faces = put_again M.faces g (record { solid = solid_of M g; outer = l }) (record { solid = solid_of N (face_of N l); outer = l }) (face_there M g goes.g_there) (λ j. record { solid = (ap (solid_of N) kill_face_l ∙ f_solid) j; outer = l }) i;
-  }
+  mfkrh-kfmrh = grind (arith, loop_home, l_face, put_again, face_there, goes.g_there, kill_face_l, f_solid)
 
 -- ---- mfkrh
 
@@ -141,10 +138,7 @@ module _ (M : Model) (sound : Sound M) (l f : ℕ) (goes : MakeGoes M l f) where
       | inl e ↦ inl (ap (outer P) e.1 ∙ outer_row P f _ (row_here make_set.rows), e.1)
       | inr e ↦ let b = has_back make_set.rows p e.1 t in inr (old_outer make_moves sound p b (outer_other make_set p e.1) (never_outer M sound l goes.is_ring p b))
     ];
-    in_solid = λ p t. elim (eqb_tells p f) [
-      | inl e ↦ subst (Has M.solids) (sym (ap (solid_of P) e.1 ∙ solid_row P f _ (row_here make_set.rows))) (sound.faces_of_solids _ home)
-      | inr e ↦ subst (Has M.solids) (sym (solid_other make_set p e.1)) (sound.faces_of_solids p (has_back make_set.rows p e.1 t))
-    ];
+    in_solid = grind (arith, eqb_tells, solid_row P f, row_here make_set.rows, sound.faces_of_solids, home, solid_other make_set, has_back make_set.rows);
     has_face = λ s t. let x = sound.solid_has_face s t in (x.0, face_on x.0 x.1, solid_other make_set x.0 (not_f x.0 x.1) ∙ x.2);
     solid_new = solid_row P f _ (row_here make_set.rows);
     solid_kept = λ q t a. solid_other make_set (face_of M q) (not_f _ (sound.loops_of_faces q t));
@@ -152,16 +146,10 @@ module _ (M : Model) (sound : Sound M) (l f : ℕ) (goes : MakeGoes M l f) where
   })
 
   pub kill_goes : KillGoes P (face_of M l) f
-  kill_goes = record {
-    f_there = face_on _ home;
-    g_there = f_there;
-    apart = not_f _ home;
-    one_solid = solid_other make_set _ (not_f _ home) ∙ sym (solid_row P f _ (row_here make_set.rows));
-    no_rings = λ q t e. outer_row P f _ (row_here make_set.rows) ∙ elim (eqb_tells q l) [
-      | inl a ↦ sym a.1
-      | inr a ↦ absurd (not_f _ (sound.loops_of_faces q (sym ((walks_same make_moves).loops q) ∙ t)) (sym (face_kept make_moves q a.1) ∙ e))
-    ];
-  }
+  kill_goes =
+      let outer_is = outer_row P f _ (row_here make_set.rows) in let solid_is = solid_row P f _ (row_here make_set.rows) in
+      let there = (walks_same make_moves).loops in let known = face_on _ home in let others = solid_other make_set in
+      grind (arith, outer_is, solid_is, there, known, others, eqb_tells, f_there, not_f, home, sound.loops_of_faces, face_kept make_moves)
 
   -- kfmrh takes it back
   pub kfmrh-mfkrh : kfmrh P (face_of M l) f ≡ M
@@ -175,35 +163,16 @@ module _ (M : Model) (sound : Sound M) (l f : ℕ) (goes : MakeGoes M l f) where
 
 pub kfmrh_goes : (M : Model) (f g : ℕ) → first_false M (Kfmrh f g) ≡ None → KillGoes M f g
 unfolding first_false conditions
-kfmrh_goes M f g e = let (_, (_, (f_known, (g_known, (faces_differ, (one_solid, (no_rings, _))))))) = all_hold (conditions M (Kfmrh f g)) e in record {
-  f_there = f_known;
-  g_there = g_known;
-  apart = eqb-false _ _ (not-true _ faces_differ);
-  one_solid = eqb-true _ _ one_solid;
-  no_rings = no_rings_means M g (not-true _ no_rings);
-}
+kfmrh_goes M f g e = grind (arith, all_hold (conditions M (Kfmrh f g)) e, eqb-false, eqb-true, not-true, no_rings_means)
 
 pub kfmrh_accepted : (N : Model) (f g : ℕ) → Sound N → KillGoes N f g → first_false N (Kfmrh f g) ≡ None
 unfolding first_false conditions
-kfmrh_accepted N f g sound goes = none_refuses (conditions N (Kfmrh f g)) (
-    sound.faces_fit f goes.f_there
-    also sound.faces_fit g goes.g_there
-    also goes.f_there
-    also goes.g_there
-    also not_false _ (ne_eqb _ _ goes.apart)
-    also eq-eqb _ _ goes.one_solid
-    also not_false _ (means_no_rings N g goes.no_rings)
-    also tt
-    )
+kfmrh_accepted N f g sound goes =
+    grind (arith, none_refuses, sound.faces_fit, goes, ne_eqb, eq-eqb, means_no_rings)
 
 pub mfkrh_goes : (M : Model) (l f : ℕ) → first_false M (Mfkrh l f) ≡ None → MakeGoes M l f
 unfolding first_false conditions
-mfkrh_goes M l f e = let (_, (face_number, (l_known, (face_free, (l_ring, _))))) = all_hold (conditions M (Mfkrh l f)) e in record {
-  l_there = l_known;
-  face_free = no_row _ (not-true _ face_free);
-  is_ring = is_ring M l l_ring;
-  face_fits = face_number;
-}
+mfkrh_goes M l f e = grind (arith, all_hold (conditions M (Mfkrh l f)) e, not-true, no_row, is_ring)
 
 pub mfkrh_accepted : (N : Model) (l f : ℕ) → Sound N → MakeGoes N l f → first_false N (Mfkrh l f) ≡ None
 unfolding first_false conditions

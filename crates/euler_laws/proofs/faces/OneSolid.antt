@@ -1,15 +1,14 @@
 -- A model, and the one with one more solid of one face, one lone loop and one vertex: where one is sound, the other is.
 use Rattle.std.proofs.Common.{◌≡◌, ◌≢◌, ℕ, List, [], Some, None, is_some, IsTrue, refl, sym, ap, ◌∙◌, subst, ◌⊎◌, inl, inr, arith}
 use Rattle.std.proofs.lemmas.Bool.Decides.{eqb_tells}
-use Rattle.std.proofs.lemmas.Option.{same_Some}
 use Rattle.euler_operators.specs.Common.{Point, IsInRange, mate, Model, lone, cycle, FaceRow, LoopRow, holds, tail, loop_of, content, cycle_of, face_of, solid_of, outer, after, is_number, Sound, Has, HasHalf, mvfs}
 use Rattle.euler_operators.specs.Table as table
 use Rattle.euler_operators.proofs.Common.{row_of, content_cycle, never_lone, mate_there, content_row, face_row as face_row_of, solid_row, outer_row, same_content, same_face, row_elsewhere}
-use Rattle.euler_laws.proofs.shared.Loops.{IsLoop, loop_sound, Walks, stands-walks, one_loop-walks, cycles-walks, ends_meet-walks, one_fan-walks, one_vertex}
+use Rattle.euler_laws.proofs.shared.Loops.{IsLoop, loop_sound, Walks, one_vertex}
 use Rattle.euler_laws.proofs.shared.Same.{solid_at}
 use Rattle.euler_laws.proofs.shared.Rings.{SameRings, half_back, tail_same, walks-rings, loop-rings, ends_differ-rings, tail-rings, edges_fit-rings}
 use Rattle.euler_laws.proofs.shared.Rows.{content_none}
-use Rattle.euler_laws.proofs.shared.Parts.{RowSet, FaceSet, row_here, row_other, has_on, has_back, solid_other, outer_other}
+use Rattle.euler_laws.proofs.shared.Parts.{RangesHold, sound_of, fit-put, points-put, RowSet, FaceSet, row_here, row_other, has_on, has_back, solid_other, outer_other}
 
 -- what the conditions of mvfs say
 pub record MvfsGoes (M : Model) (s f l v : ℕ) (p : Point) : Type 0 where
@@ -130,13 +129,12 @@ module _ {M : Model} {s f l v : ℕ} {p : Point} (goes : MvfsGoes M s f l v p) w
         let r : Has M.loops (loop_of M x) = ap is_some (row_of M sound x t) in
         ap (solid_at N) (loop-rings M N sound rings_on x t) ∙ ap (solid_of N) (face_of_other (loop_of M x) (not_l _ r)) ∙ solid_other faces_put _ (not_f _ (sound.loops_of_faces _ r))
 
+    ranges_on : RangesHold N
+    unfolding mvfs
+    ranges_on = grind (arith, sound, goes, fit-put, points-put)
+
     pub sound-mvfs : Sound N
-    sound-mvfs = record {
-      stands = stands-walks N (after M) walks_on;
-      only_edges = walks_on.only;
-      one_loop = one_loop-walks N (after M) walks_on;
-      cycles = cycles-walks N (after M) walks_on;
-      ends_meet = ends_meet-walks N (after M) walks_on;
+    sound-mvfs = sound_of N (after M) walks_on (record {
       tails_there = λ x t. subst (Has N.vertices) (sym (tail_same M N sound rings_on x)) (vertex_on _ (sound.tails_there x (half_old x t)));
       ends_differ = ends_differ-rings M N sound rings_on;
       lone_or_tail = λ w t. elim (eqb_tells w v) [
@@ -146,47 +144,20 @@ module _ {M : Model} {s f l v : ℕ} {p : Point} (goes : MvfsGoes M s f l v p) w
           | inr x ↦ inr (tail-rings M N sound rings_on w x)
         ]
       ];
-      lone_is_no_tail = λ q x t e. let o = half_old x t in elim (lone_cases q (tail N x) e) [
-        | inl a ↦ not_v (tail M x) (sound.tails_there x o) (sym (tail_same M N sound rings_on x) ∙ a.1)
-        | inr a ↦ sound.lone_is_no_tail q x o (a.0 ∙ ap lone (tail_same M N sound rings_on x))
-      ];
-      one_lone = λ a b w x y. elim (lone_cases a w x) [
-        | inl c ↦ elim (lone_cases b w y) [ inl d ↦ c.0 ∙ sym d.0 | inr d ↦ absurd (not_v w d.1 c.1) ]
-        | inr c ↦ elim (lone_cases b w y) [ inl d ↦ absurd (not_v w c.1 d.1) | inr d ↦ sound.one_lone a b w c.0 d.0 ]
-      ];
-      one_fan = one_fan-walks N (after M) walks_on;
-      loops_of_faces = λ q t. elim (eqb_tells q l) [
-        | inl e ↦ subst (Has N.faces) (sym (ap (face_of N) e.1 ∙ face_of_new)) (ap is_some (row_here faces_put.rows))
-        | inr e ↦ subst (Has N.faces) (sym (face_of_other q e.1)) (face_on _ (sound.loops_of_faces q (has_back loops_put q e.1 t)))
-      ];
-      outers_there = λ q t. elim (eqb_tells q f) [
-        | inl e ↦ let o : outer N q ≡ l = ap (outer N) e.1 ∙ outer_new in (subst (Has N.loops) (sym o) (ap is_some (row_here loops_put)), ap (face_of N) o ∙ face_of_new ∙ sym e.1)
-        | inr e ↦ let o = sound.outers_there q (has_back faces_put.rows q e.1 t) in
-            (subst (Has N.loops) (sym (outer_other faces_put q e.1)) (loop_on _ o.0), ap (face_of N) (outer_other faces_put q e.1) ∙ face_of_other _ (not_l _ o.0) ∙ o.1)
-      ];
-      lone_at_vertex = λ q w a. elim (lone_cases q w a) [
-        | inl e ↦ subst (Has N.vertices) (sym e.1) (ap is_some (row_here vertices_put))
-        | inr e ↦ vertex_on w e.1
-      ];
-      faces_of_solids = λ q t. elim (eqb_tells q f) [
-        | inl e ↦ subst (Has N.solids) (sym (ap (solid_of N) e.1 ∙ solid_of_new)) (ap is_some (row_here solids_put))
-        | inr e ↦ subst (Has N.solids) (sym (solid_other faces_put q e.1)) (solid_on _ (sound.faces_of_solids q (has_back faces_put.rows q e.1 t)))
-      ];
-      solid_has_face = λ n t. elim (eqb_tells n s) [
-        | inl e ↦ (f, ap is_some (row_here faces_put.rows), solid_of_new ∙ sym e.1)
-        | inr e ↦ let x = sound.solid_has_face n (has_back solids_put n e.1 t) in (x.0, face_on x.0 x.1, solid_other faces_put x.0 (not_f x.0 x.1) ∙ x.2)
-      ];
+      lone_is_no_tail = λ q x t e. let same = tail_same M N sound rings_on x in
+          grind (arith, same, half_old x t, lone_cases q (tail N x) e, not_v, sound.tails_there x, sound.lone_is_no_tail q x);
+      one_lone = λ a b w x y. grind (arith, lone_cases a w x, lone_cases b w y, not_v, sound.one_lone a b w);
+      lone_at_vertex = λ q w a. grind (arith, lone_cases q w a, row_here vertices_put, vertex_on w);
+    }) (record {
+      loops_of_faces = grind (arith, eqb_tells, face_of_new, row_here faces_put.rows, face_of_other, face_on, sound.loops_of_faces, has_back loops_put);
+      outers_there = let back = has_back faces_put.rows in let other = outer_other faces_put in
+          grind (arith, eqb_tells, outer_new, row_here loops_put, face_of_new, sound.outers_there, back, other, loop_on, face_of_other, not_l);
+      faces_of_solids = let back = has_back faces_put.rows in
+          grind (arith, eqb_tells, solid_of_new, row_here solids_put, solid_other faces_put, solid_on, sound.faces_of_solids, back);
+      solid_has_face = let other = solid_other faces_put in
+          grind (arith, eqb_tells, row_here faces_put.rows, solid_of_new, sound.solid_has_face, has_back solids_put, face_on, other, not_f);
       one_solid = λ x t. let o = half_old x t in solid_at_old x o ∙ sound.one_solid x o ∙ sym (solid_at_old (mate x) (mate_there M x o));
-      solids_fit = λ n t. elim (eqb_tells n s) [ inl e ↦ subst (λ y. IsTrue (is_number y)) (sym e.1) goes.solid_fits | inr e ↦ sound.solids_fit n (has_back solids_put n e.1 t) ];
-      faces_fit = λ n t. elim (eqb_tells n f) [ inl e ↦ subst (λ y. IsTrue (is_number y)) (sym e.1) goes.face_fits | inr e ↦ sound.faces_fit n (has_back faces_put.rows n e.1 t) ];
-      loops_fit = λ n t. elim (eqb_tells n l) [ inl e ↦ subst (λ y. IsTrue (is_number y)) (sym e.1) goes.loop_fits | inr e ↦ sound.loops_fit n (has_back loops_put n e.1 t) ];
-      edges_fit = edges_fit-rings M N sound rings_on;
-      vertices_fit = λ n t. elim (eqb_tells n v) [ inl e ↦ subst (λ y. IsTrue (is_number y)) (sym e.1) goes.vertex_fits | inr e ↦ sound.vertices_fit n (has_back vertices_put n e.1 t) ];
-      points_fit = λ w q at. elim (eqb_tells w v) [
-        | inl e ↦ subst IsInRange (same_Some _ _ (sym (row_here vertices_put) ∙ ap (table.get N.vertices) (sym e.1) ∙ at)) goes.point_fits
-        | inr e ↦ sound.points_fit w q (sym (row_other vertices_put w e.1) ∙ at)
-      ];
-    }
+    }) ranges_on
 
   -- ---- and back
 
@@ -227,13 +198,14 @@ module _ {M : Model} {s f l v : ℕ} {p : Point} (goes : MvfsGoes M s f l v p) w
           content_new_at : (x : ℕ) → HasHalf N x → loop_of N x ≡ l → lone v ≡ cycle (cycle_of N x)
           content_new_at x o z = sym content_new ∙ ap (content N) (sym z) ∙ content_cycle N sound x o
 
+    ranges_off : RangesHold M
+    ranges_off =
+        let solids = sound.solids_fit in let faces = sound.faces_fit in let loops = sound.loops_fit in let edges = edges_fit-rings N M sound rings_off in
+        let vertices = sound.vertices_fit in let points = sound.points_fit in
+        grind (arith, solids, solid_on, faces, face_on, loops, loop_on, edges, vertices, vertex_on, points, row_other vertices_put, not_v)
+
     pub sound-back : Sound M
-    sound-back = record {
-      stands = stands-walks M (after N) walks_off;
-      only_edges = walks_off.only;
-      one_loop = one_loop-walks M (after N) walks_off;
-      cycles = cycles-walks M (after N) walks_off;
-      ends_meet = ends_meet-walks M (after N) walks_off;
+    sound-back = sound_of M (after N) walks_off (record {
       tails_there = λ x t. subst (Has M.vertices) (sym (tail_off x)) (has_back vertices_put _ (never_v x t) (sound.tails_there x (half_new x t)));
       ends_differ = ends_differ-rings N M sound rings_off;
       lone_or_tail = λ w t. elim (sound.lone_or_tail w (vertex_on w t)) [
@@ -242,26 +214,14 @@ module _ {M : Model} {s f l v : ℕ} {p : Point} (goes : MvfsGoes M s f l v p) w
       ];
       lone_is_no_tail = λ q x t e. sound.lone_is_no_tail q x (half_new x t) ((lone_on q (tail M x) e).0 ∙ ap lone (tail_off x));
       one_lone = λ a b w x y. sound.one_lone a b w (lone_on a w x).0 (lone_on b w y).0;
-      one_fan = one_fan-walks M (after N) walks_off;
+      lone_at_vertex = λ q w e. let o = lone_on q w e in has_back vertices_put w o.1 (sound.lone_at_vertex q w o.0);
+    }) (record {
       loops_of_faces = λ q t. let k = face_of_other q (not_l q t) in
           has_back faces_put.rows (face_of M q) (no_ring q t) (subst (Has N.faces) k (sound.loops_of_faces q (loop_on q t)));
-      outers_there = λ q t.
-          let k = outer_other faces_put q (not_f q t) in
-          let o = sound.outers_there q (face_on q t) in
-          let a : outer N q ≢ l = λ z. not_f q t (sym o.1 ∙ ap (face_of N) z ∙ face_of_new) in
-          (subst (Has M.loops) k (has_back loops_put (outer N q) a o.0), ap (face_of M) (sym k) ∙ sym (face_of_other (outer N q) a) ∙ o.1);
-      lone_at_vertex = λ q w e. let o = lone_on q w e in has_back vertices_put w o.1 (sound.lone_at_vertex q w o.0);
-      faces_of_solids = λ q t. let k = solid_other faces_put q (not_f q t) in
-          has_back solids_put (solid_of M q) (no_face q t) (subst (Has N.solids) k (sound.faces_of_solids q (face_on q t)));
-      solid_has_face = λ n t.
-          let x = sound.solid_has_face n (solid_on n t) in
-          let a : x.0 ≢ f = λ z. not_s n t (sym x.2 ∙ ap (solid_of N) z ∙ solid_of_new) in
-          (x.0, has_back faces_put.rows x.0 a x.1, sym (solid_other faces_put x.0 a) ∙ x.2);
+      outers_there = λ q t. let outer_is = outer_other faces_put q in let back = has_back loops_put (outer N q) in
+          grind (arith, outer_is, sound.outers_there q, face_on q t, not_f q t, face_of_new, back, face_of_other (outer N q));
+      faces_of_solids = grind (arith, solid_other faces_put, not_f, has_back solids_put, no_face, sound.faces_of_solids, face_on);
+      solid_has_face = λ n t. let back = has_back faces_put.rows in
+          grind (arith, sound.solid_has_face n, solid_on n t, not_s n t, solid_of_new, back, solid_other faces_put);
       one_solid = λ x t. let o = half_new x t in solid_at_new x t ∙ sound.one_solid x o ∙ sym (solid_at_new (mate x) (mate_there M x t));
-      solids_fit = λ n t. sound.solids_fit n (solid_on n t);
-      faces_fit = λ n t. sound.faces_fit n (face_on n t);
-      loops_fit = λ n t. sound.loops_fit n (loop_on n t);
-      edges_fit = edges_fit-rings N M sound rings_off;
-      vertices_fit = λ n t. sound.vertices_fit n (vertex_on n t);
-      points_fit = λ w q at. sound.points_fit w q (row_other vertices_put w (not_v w (ap is_some at)) ∙ at);
-    }
+    }) ranges_off

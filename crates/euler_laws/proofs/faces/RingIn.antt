@@ -1,13 +1,13 @@
 -- RingIn, which takes a ring to another face of its solid: it keeps a sound model sound, and RingIn to the old face takes it back.
-use Rattle.std.proofs.Common.{◌≡◌, ◌≢◌, ℕ, nat_eq, None, refl, sym, ◌∙◌, subst, inr, List, [], ◌∷◌, arith, ne_eqb, eqb-true}
+use Rattle.std.proofs.Common.{◌≡◌, ◌≢◌, ℕ, nat_eq, None, refl, inr, List, [], ◌∷◌, arith, ne_eqb, eqb-true}
 use Rattle.std.proofs.lemmas.Bool.{not-true, eqb-false}
 use Rattle.euler_operators.specs.Table as table
 use Rattle.euler_operators.specs.Common.{Model, face_of, solid_of, outer, Sound, Has, Condition, never, AllHold, ring_and_face, first_false, conditions, effect, inverse, ring_in}
 use Rattle.euler_operators.specs.declared.Op.TheVariants.{RingIn}
 use Rattle.euler_operators.proofs.Common.{same_outer, same_solid, nat_eq_itself}
 use Rattle.euler_operators.specs.declared.Why.TheVariants.{SameFace}
-use Rattle.euler_laws.proofs.shared.Goes.{◌also◌, all_hold, all_hold-append, all_hold-front, all_hold-back, none_refuses, not_false}
-use Rattle.euler_laws.proofs.shared.Faces.{SameWalks, LoopMoves, face_moved, face_kept, walks_same, old_outer, sound-moves, loop_home}
+use Rattle.euler_laws.proofs.shared.Goes.{all_hold, all_hold-append, all_hold-front, all_hold-back, none_refuses, not_false}
+use Rattle.euler_laws.proofs.shared.Faces.{SameWalks, LoopMoves, faces_after, face_moved, face_kept, walks_same, old_outer, sound-moves, loop_home}
 use Rattle.euler_laws.proofs.shared.Rows.{never_outer, is_ring}
 use Rattle.euler_laws.proofs.shared.Lawful.{IsLawful}
 
@@ -45,16 +45,8 @@ module _ (M : Model) (sound : Sound M) (l f : ℕ) (goes : RingGoes M l f) where
 
   pub sound-ring_in : Sound N
   unfolding ring_in
-  sound-ring_in = sound-moves moves sound (record {
-    home = goes.f_there;
-    kept = λ q t a. sound.loops_of_faces q t;
-    outers = λ p t. inr (old_outer moves sound p t (outer_same p) (never_outer M sound l goes.is_ring p t));
-    in_solid = λ p t. subst (Has M.solids) (sym (solid_same p)) (sound.faces_of_solids p t);
-    has_face = λ s t. let x = sound.solid_has_face s t in (x.0, x.1, solid_same x.0 ∙ x.2);
-    solid_new = solid_same f ∙ sym goes.one_solid;
-    solid_kept = λ q t a. solid_same (face_of M q);
-    fit = sound.faces_fit;
-  })
+  sound-ring_in = sound-moves moves sound (faces_after sound (λ p. refl) solid_same goes.f_there goes.one_solid
+      (λ p t. inr (old_outer moves sound p t (outer_same p) (never_outer M sound l goes.is_ring p t))))
 
   -- what the way back asks
   pub back_goes : RingGoes N l (face_of M l)
@@ -83,13 +75,11 @@ of_another M l f = never (nat_eq (face_of M l) f) SameFace f ∷ []
 
 pub ring_in_goes : (M : Model) (l f : ℕ) → first_false M (RingIn l f) ≡ None → RingGoes M l f × (face_of M l ≢ f)
 unfolding first_false conditions
-ring_in_goes M l f e = let hold = all_hold (conditions M (RingIn l f)) e in
-    (ring_goes M l f (all_hold-front (ring_and_face M l f) (of_another M l f) hold), eqb-false _ _ (not-true _ (all_hold-back (ring_and_face M l f) (of_another M l f) hold).0))
+ring_in_goes M l f e = grind (arith, all_hold, ring_goes, all_hold-front, eqb-false, not-true, all_hold-back)
 
 pub ring_in_accepted : (N : Model) (l f : ℕ) → Sound N → RingGoes N l f → face_of N l ≢ f → first_false N (RingIn l f) ≡ None
 unfolding first_false conditions
-ring_in_accepted N l f sound goes apart = none_refuses (conditions N (RingIn l f))
-    (all_hold-append (ring_and_face N l f) (of_another N l f) (ring_holds N l f sound goes) (not_false _ (ne_eqb _ _ apart) also tt))
+ring_in_accepted N l f sound goes apart = grind (arith, none_refuses, all_hold-append, ring_holds, not_false, ne_eqb)
 
 pub ring_in_lawful : (l f : ℕ) → IsLawful (RingIn l f)
 unfolding effect inverse

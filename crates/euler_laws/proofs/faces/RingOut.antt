@@ -1,28 +1,14 @@
 -- RingOut and Outer, by which a ring becomes the outer loop of a face: they keep a sound model sound and take each other back.
-use Rattle.std.proofs.Common.{◌≡◌, ◌≢◌, ℕ, None, refl, sym, ap, ◌∙◌, subst, ◌⊎◌, inl, inr, arith}
+use Rattle.std.proofs.Common.{◌≡◌, ◌≢◌, ℕ, None, refl, sym, ap, ◌∙◌, subst, inl, inr, arith}
 use Rattle.std.proofs.lemmas.Bool.Decides.{eqb_tells}
 use Rattle.euler_operators.specs.Common.{Model, face_of, solid_of, outer, Sound, Has, first_false, conditions, effect, inverse, ring_out, take_outer}
 use Rattle.euler_operators.specs.declared.Op.TheVariants.{RingOut, Outer}
 use Rattle.euler_laws.proofs.shared.Goes.{all_hold, none_refuses}
 use Rattle.euler_laws.proofs.shared.Parts.{outer_other}
-use Rattle.euler_laws.proofs.shared.Faces.{LoopMoves, FacesAfter, OuterSet, face_moved, face_kept, walks_same, old_outer, sound-moves, loop_home, outer_set, has_face_same, solid_same, outer_new, outer_home}
+use Rattle.euler_laws.proofs.shared.Faces.{LoopMoves, faces_after, OuterSet, face_moved, face_kept, walks_same, old_outer, sound-moves, loop_home, outer_set, has_face_same, solid_same, outer_new, outer_home}
 use Rattle.euler_laws.proofs.faces.RingIn.{ring_goes, ring_holds, RingGoes}
 use Rattle.euler_laws.proofs.shared.Rows.{never_outer}
 use Rattle.euler_laws.proofs.shared.Lawful.{IsLawful}
-
--- where one face gets another outer loop, what is left to show is where the outer loops are
-faces_after : {M N : Model} {k f p l : ℕ} (sound : Sound M) → OuterSet M N p l → Has M.faces f → solid_of M (face_of M k) ≡ solid_of M f →
-    ((q : ℕ) → Has M.faces q → ((outer N q ≡ k) × (q ≡ f)) ⊎ ((outer N q ≢ k) × Has M.loops (outer N q) × (face_of M (outer N q) ≡ q))) → FacesAfter M N k f
-faces_after {M = M} {N = N} {f = f} sound set home one outers = record {
-  home = has_face_same set f ∙ home;
-  kept = λ q t a. has_face_same set (face_of M q) ∙ sound.loops_of_faces q t;
-  outers = λ q t. outers q (sym (has_face_same set q) ∙ t);
-  in_solid = λ q t. subst (Has M.solids) (sym (solid_same set q)) (sound.faces_of_solids q (sym (has_face_same set q) ∙ t));
-  has_face = λ s t. let x = sound.solid_has_face s t in (x.0, has_face_same set x.0 ∙ x.1, solid_same set x.0 ∙ x.2);
-  solid_new = solid_same set f ∙ sym one;
-  solid_kept = λ q t a. solid_same set (face_of M q);
-  fit = λ q t. sound.faces_fit q (sym (has_face_same set q) ∙ t);
-}
 
 module _ {M : Model} (sound : Sound M) {l f : ℕ} (goes : RingGoes M l f) where
   abbrev g : ℕ
@@ -50,21 +36,19 @@ module _ {M : Model} (sound : Sound M) {l f : ℕ} (goes : RingGoes M l f) where
   swaps = record { there = goes.f_there; faces = refl }
 
   pub sound-ring_out : Sound N
-  sound-ring_out = sound-moves moves sound (faces_after sound swaps goes.f_there goes.one_solid (λ p t. elim (eqb_tells p f) [
-    | inl e ↦ inl (ap (outer N) e.1 ∙ outer_new swaps, e.1)
-    | inr e ↦ inr (old_outer moves sound p t (outer_other (outer_set swaps) p e.1) (never_outer M sound l goes.is_ring p t))
-  ]))
+  sound-ring_out = sound-moves moves sound
+      (faces_after sound (has_face_same swaps) (solid_same swaps) goes.f_there goes.one_solid (λ p t. elim (eqb_tells p f) [
+        | inl e ↦ inl (ap (outer N) e.1 ∙ outer_new swaps, e.1)
+        | inr e ↦ inr (old_outer moves sound p t (outer_other (outer_set swaps) p e.1) (never_outer M sound l goes.is_ring p t))
+      ]))
 
   o_face : face_of N o ≡ f
   o_face = face_kept moves o o_l ∙ (sound.outers_there f goes.f_there).1
 
   pub out_back_goes : RingGoes N o g
-  out_back_goes = record {
-    l_there = (walks_same moves).loops o ∙ (sound.outers_there f goes.f_there).0;
-    f_there = has_face_same swaps g ∙ g_there;
-    one_solid = ap (solid_of N) o_face ∙ solid_same swaps f ∙ sym goes.one_solid ∙ sym (solid_same swaps g);
-    is_ring = λ e. o_l (sym (sym (outer_new swaps) ∙ ap (outer N) (sym o_face) ∙ e));
-  }
+  out_back_goes =
+      let one = (walks_same moves).loops o in let two = (sound.outers_there f goes.f_there).0 in let three = has_face_same swaps g in
+      grind (arith, one, two, three, g_there, o_face, solid_same swaps, goes.one_solid, o_l, outer_new swaps)
 
   pub take_outer-ring_out : take_outer N o g ≡ M
   unfolding take_outer ring_out
@@ -93,11 +77,12 @@ module _ {M : Model} (sound : Sound M) {l f : ℕ} (goes : RingGoes M l f) where
   z_free p t a e = a (sym (sound.outers_there p t).1 ∙ ap (face_of M) e ∙ z_there.1)
 
   pub sound-take_outer : Sound P
-  sound-take_outer = sound-moves takes sound (faces_after sound takes_over goes.f_there (ap (solid_of M) z_there.1 ∙ goes.one_solid) (λ p t. inr (elim (eqb_tells p g) [
-    | inl e ↦ let y : outer P p ≡ l = ap (outer P) e.1 ∙ (outer_new takes_over) in
-        (λ s. goes.is_ring (sym s ∙ y), subst (Has M.loops) (sym y) goes.l_there, ap (face_of M) y ∙ sym e.1)
-    | inr e ↦ old_outer takes sound p t (outer_other (outer_set takes_over) p e.1) (z_free p t e.1)
-  ])))
+  sound-take_outer = sound-moves takes sound
+      (faces_after sound (has_face_same takes_over) (solid_same takes_over) goes.f_there (ap (solid_of M) z_there.1 ∙ goes.one_solid) (λ p t. inr (elim (eqb_tells p g) [
+        | inl e ↦ let y : outer P p ≡ l = ap (outer P) e.1 ∙ (outer_new takes_over) in
+            (λ s. goes.is_ring (sym s ∙ y), subst (Has M.loops) (sym y) goes.l_there, ap (face_of M) y ∙ sym e.1)
+        | inr e ↦ old_outer takes sound p t (outer_other (outer_set takes_over) p e.1) (z_free p t e.1)
+      ])))
 
   pub outer_back_goes : RingGoes P z g
   outer_back_goes = record {
@@ -133,16 +118,8 @@ outer_accepted N l f sound goes = none_refuses (conditions N (Outer l f)) (ring_
 
 pub ring_out_lawful : (l f : ℕ) → IsLawful (RingOut l f)
 unfolding effect inverse
-ring_out_lawful l f M sound e = let w = ring_out_goes M l f e in let s = sound-ring_out sound w in record {
-  sound = s;
-  goes = outer_accepted (ring_out M l f) (outer M f) (face_of M l) s (out_back_goes sound w);
-  undone = take_outer-ring_out sound w;
-}
+ring_out_lawful l f M sound e = grind (arith, ring_out_goes, sound-ring_out, outer_accepted, out_back_goes, take_outer-ring_out)
 
 pub outer_lawful : (l f : ℕ) → IsLawful (Outer l f)
 unfolding effect inverse
-outer_lawful l f M sound e = let w = outer_goes_so M l f e in let s = sound-take_outer sound w in record {
-  sound = s;
-  goes = ring_out_accepted (take_outer M l f) (outer M (face_of M l)) (face_of M l) s (outer_back_goes sound w);
-  undone = ring_out-take_outer sound w;
-}
+outer_lawful l f M sound e = grind (arith, outer_goes_so, sound-take_outer, ring_out_accepted, outer_back_goes, ring_out-take_outer)

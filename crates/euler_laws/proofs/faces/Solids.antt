@@ -1,5 +1,5 @@
 -- mvfs and kvfs as operators: they keep a model sound, and each passes its conditions after the other and takes it back.
-use Rattle.std.proofs.Common.{◌≡◌, ℕ, true, false, not, nat_eq, ◌||◌, List, [], ◌∷◌, Some, None, unwrap_or, is_some, refl, sym, ap, ◌∙◌, subst, arith, inl, inr, true≢false, eq-eqb, eqb-true}
+use Rattle.std.proofs.Common.{◌≡◌, ℕ, true, false, not, nat_eq, ◌||◌, List, [], ◌∷◌, Some, None, unwrap_or, is_some, refl, sym, ap, ◌∙◌, subst, arith, true≢false, eq-eqb, eqb-true}
 use Rattle.std.proofs.lemmas.Bool.Decides.{nat_tests, eqb_tells}
 use Rattle.std.proofs.lemmas.Bool.{not-true, not-false}
 use Rattle.euler_operators.specs.Common.{Point, Model, lone, no_face, content, face_of, solid_of, outer, point_of, faces_of, rings_of, Sound, Has, first_false, conditions, bare_face, has_rings, is_empty, is_lone, lone_vertex, lists, effect, inverse, mvfs, kvfs_at, head_or_zero}
@@ -58,13 +58,7 @@ module _ {M : Model} (sound : Sound M) {s f : ℕ} (goes : KvfsGoes M s f) where
 
   pub mvfs-kvfs : mvfs K s f l v p ≡ M
   unfolding mvfs kvfs_at
-  mvfs-kvfs = λ i. record {
-    solids = put-remove M.solids s tt (solid_row M s goes.s_there) i;
-    faces = put-remove M.faces f (record { solid = s; outer = l }) face_row i;
-    loops = put-remove M.loops l (record { face = f; content = lone v }) row_l i;
-    edges = M.edges;
-    vertices = put-remove M.vertices v p (point_row M v (sound.lone_at_vertex l v goes.is_bare)) i;
-  }
+  mvfs-kvfs = grind (arith, put-remove, solid_row, goes.s_there, face_row, row_l, point_row, sound.lone_at_vertex, goes.is_bare)
 
   pub sound-kvfs : Sound K
   sound-kvfs = sound-back put_goes (subst Sound (sym mvfs-kvfs) sound)
@@ -84,18 +78,14 @@ module _ {M : Model} (sound : Sound M) {s f l v : ℕ} {p : Point} (goes : MvfsG
     s_there = ap is_some (row_here (more.solids_put goes));
     f_there = ap is_some (row_here (more.faces_put goes).rows);
     of_s = more.solid_of_new goes;
-    only = λ q t e. elim (eqb_tells q f) [
-      | inl a ↦ a.1
-      | inr a ↦ let o = has_back (more.faces_put goes).rows q a.1 t in
-          absurd (more.not_s goes (solid_of M q) (sound.faces_of_solids q o) (sym (solid_other (more.faces_put goes) q a.1) ∙ e))
-    ];
+    only =
+        let one = has_back (more.faces_put goes).rows in let two = solid_other (more.faces_put goes) in
+        grind (arith, eqb_tells, one, two, more.not_s goes, sound.faces_of_solids);
     no_rings =
         let one = has_back (more.loops_put goes) in
         grind (arith, more.outer_new goes, eqb_tells, one, more.loops_put goes, more.not_f goes, sound.loops_of_faces, more.face_of_other goes);
-    is_bare = bare ∙ ap lone (sym (ap lone_vertex bare));
-  } where
-    bare : content N (outer N f) ≡ lone v
-    bare = ap (content N) (more.outer_new goes) ∙ more.content_new goes
+    is_bare = grind (arith, more.outer_new goes, more.content_new goes);
+  }
 
   pub kvfs-mvfs : kvfs_at N s f ≡ M
   unfolding kvfs_at
@@ -125,13 +115,10 @@ kvfs_facts M s (f ∷ []) is there e =
       s_there = there;
       f_there = ap is_some x.1;
       of_s = ap (λ o. (unwrap_or o no_face).solid) x.1 ∙ eqb-true x.0.solid s x.2;
-      only = λ q t k. let row = row_some (table.get M.faces q) t in
-          only_one q (sym (ap (λ ns. lists ns q) is) ∙ passes_listed (λ _ row. nat_eq row.solid s) M.faces q row.0 row.1 (eq-eqb row.0.solid s (sym (ap (λ o. (unwrap_or o no_face).solid) row.1) ∙ k)));
+      only = grind (arith, is, row_some, passes_listed (λ _ row. nat_eq row.solid s) M.faces, nat_tests);
       no_rings = no_rings_means M f (ap not (and_first (is_empty (rings_of M f)) (is_lone (content M (outer M f))) e));
       is_bare = lone_is (content M (outer M f)) (and_second (is_empty (rings_of M f)) (is_lone (content M (outer M f))) e);
-    } where
-      only_one : (q : ℕ) → (nat_eq f q || false) ≡ true → q ≡ f
-      only_one q e = grind (arith, nat_tests)
+    }
 
 pub kvfs_goes : (M : Model) (s : ℕ) → first_false M (Kvfs s) ≡ None → KvfsGoes M s (head_or_zero (faces_of M s))
 unfolding first_false conditions
@@ -148,17 +135,7 @@ kvfs_accepted N s f sound goes =
 
 pub mvfs_goes : (M : Model) (s f l v : ℕ) (p : Point) → first_false M (Mvfs s f l v p) ≡ None → MvfsGoes M s f l v p
 unfolding first_false conditions
-mvfs_goes M s f l v p e = let (solid_number, (face_number, (loop_number, (vertex_number, (solid_free, (face_free, (loop_free, (vertex_free, (in_range, _))))))))) = all_hold (conditions M (Mvfs s f l v p)) e in record {
-  solid_free = no_row _ (not-true _ solid_free);
-  face_free = no_row _ (not-true _ face_free);
-  loop_free = no_row _ (not-true _ loop_free);
-  vertex_free = no_row _ (not-true _ vertex_free);
-  solid_fits = solid_number;
-  face_fits = face_number;
-  loop_fits = loop_number;
-  vertex_fits = vertex_number;
-  point_fits = in_range;
-}
+mvfs_goes M s f l v p e = grind (arith, all_hold (conditions M (Mvfs s f l v p)) e, not-true, no_row)
 
 -- mvfs keeps a sound model sound
 pub mvfs_accepted : (N : Model) (s f l v : ℕ) (p : Point) → MvfsGoes N s f l v p → first_false N (Mvfs s f l v p) ≡ None
@@ -169,12 +146,7 @@ mvfs_accepted N s f l v p goes =
 
 pub mvfs_lawful : (s f l v : ℕ) (p : Point) → IsLawful (Mvfs s f l v p)
 unfolding effect inverse
-mvfs_lawful s f l v p M sound e =
-    let w = mvfs_goes M s f l v p e in
-    let N : Model = mvfs M s f l v p in
-    let good = sound-mvfs w sound in
-    let goes = kill_goes sound w in
-    record { sound = good; goes = kvfs_accepted N s f good goes; undone = ap (λ ns. kvfs_at N s (head_or_zero ns)) (faces_one N s f goes) ∙ kvfs-mvfs sound w }
+mvfs_lawful s f l v p M sound e = grind (arith, mvfs_goes, sound-mvfs, kill_goes, kvfs_accepted, faces_one, kvfs-mvfs)
 
 pub kvfs_lawful : (s : ℕ) → IsLawful (Kvfs s)
 unfolding effect inverse

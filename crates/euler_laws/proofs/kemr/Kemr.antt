@@ -1,12 +1,11 @@
 -- kemr as an operator: it keeps a model sound, and mekr passes its conditions after it and takes it back.
-use Rattle.std.proofs.Common.{◌≡◌, ◌≢◌, ℕ, ◌≤◌, Bool, true, not, nat_eq, ◌&&◌, List, [], ◌∷◌, ◌++◌, Some, None, is_some, IsTrue, refl, sym, ap, ◌∙◌, subst, arith, ne_eqb, eq-eqb, eqb-true}
-use Rattle.std.proofs.lemmas.Bool.Decides.{nat_tests}
+use Rattle.std.proofs.Common.{◌≡◌, ◌≢◌, ℕ, ◌≤◌, true, List, [], ◌∷◌, ◌++◌, Some, None, is_some, IsTrue, refl, sym, ap, ◌∙◌, subst, arith, ne_eqb, eq-eqb, eqb-true}
 use Rattle.std.proofs.lemmas.Bool.{not-true}
-use Rattle.euler_operators.specs.Common.{count, IsIn, IsApart, head_or, canonical, rotate_to, between, beyond, HalfEdge, Corner, code, half, mate, edge_of, Model, cycle, LoopRow, items_of, tail, loop_of, content, cycle_of, face_of, outer, is_number, is_ring_of, Sound, Has, HasHalf, first_false, conditions, corner_tail, corner_loop, corner_list, corner_known, corner_lone, corner_number, is_lone, effect, inverse, kemr, mekr, corner_of, cycle_or_lone, edge_row}
-use Rattle.euler_operators.proofs.Common.{tick_same, rotate_to_canonical, canonical-rotate_to, ring_split, edge_of-code, code-half, mate-mate, mate_other, two_undone, no_row, row_of}
+use Rattle.euler_operators.specs.Common.{count, IsIn, IsApart, head_or, canonical, rotate_to, between, beyond, HalfEdge, Corner, code, half, mate, edge_of, Model, cycle, LoopRow, items_of, tail, loop_of, content, cycle_of, face_of, outer, is_number, Sound, Has, HasHalf, first_false, conditions, corner_tail, corner_loop, corner_list, corner_known, corner_lone, corner_number, is_lone, effect, inverse, kemr, mekr, corner_of, cycle_or_lone, edge_row}
+use Rattle.euler_operators.proofs.Common.{tick_same, rotate_to_canonical, canonical-rotate_to, ring_split, nat_eq_itself, edge_of-code, code-half, mate-mate, mate_other, two_undone, no_row, row_of}
 use Rattle.euler_operators.specs.Table as table
 use Rattle.euler_operators.specs.declared.Op.TheVariants.{Kemr, Mekr}
-use Rattle.euler_laws.proofs.shared.Goes.{◌also◌, all_hold, none_refuses, not_false, taken}
+use Rattle.euler_laws.proofs.shared.Goes.{all_hold, none_refuses, not_false, taken}
 use Rattle.euler_laws.proofs.shared.Parts.{outer_stays}
 use Rattle.euler_laws.proofs.shared.EdgeLess.{edge_gone, half_cases, tail_old}
 use Rattle.euler_laws.proofs.shared.TwoRows.{RowsSet, row_first, row_second, content_first, face_same}
@@ -55,32 +54,12 @@ pub record MekrGoes (N : Model) (c d : Corner) (h q l u w : ℕ) (ys xs : List �
 
 pub mekr_accepted : (N : Model) (c d : Corner) (h : HalfEdge) (q l u w : ℕ) (ys xs : List ℕ) → MekrGoes N c d (code h) q l u w ys xs → first_false N (Mekr c d h) ≡ None
 unfolding first_false conditions
-mekr_accepted N c d h q l u w ys xs goes = none_refuses (conditions N (Mekr c d h)) (
-    goes.first.fits
-    also goes.second.fits
-    also ap is_number (sym (edge_of-code h)) ∙ goes.edge_fits
-    also goes.first.known
-    also goes.second.known
-    also goes.first.bare
-    also goes.second.bare
-    also not_false _ (taken _ (ap (table.get N.edges) (sym (edge_of-code h)) ∙ goes.edge_free))
-    also not_false _ (ne_eqb _ _ (λ e. goes.loops_apart (sym goes.first.loop ∙ e ∙ goes.second.loop)))
-    also eq-eqb _ _ (ap (face_of N) goes.first.loop ∙ goes.one_face ∙ sym (ap (face_of N) goes.second.loop))
-    also ap (λ x. is_ring_of N (face_of N x) x) goes.second.loop ∙ ring (table.has N.loops l) (face_of N l) (outer N (face_of N l)) l goes.ring_there goes.no_outer
-    also not_false _ (ne_eqb _ _ (λ e. goes.ends_apart (sym goes.first.vertex ∙ e ∙ goes.second.vertex)))
-    also tt
-    ) where
-      ring : (b : Bool) (f o k : ℕ) → b ≡ true → o ≢ k → (b && nat_eq f f && not (nat_eq o k)) ≡ true
-      ring b f o k e n = grind (arith, nat_tests)
+mekr_accepted N c d h q l u w ys xs goes =
+    grind (arith, none_refuses, edge_of-code, goes, goes.first, goes.second, taken, not_false, ne_eqb, eq-eqb, nat_eq_itself)
 
 pub kemr_goes : (M : Model) (h : HalfEdge) (l : ℕ) → first_false M (Kemr h l) ≡ None → KemrGoes M (code h) l
 unfolding first_false conditions
-kemr_goes M h l e = let (_, (loop_number, (known, (loop_free, (one_loop, _))))) = all_hold (conditions M (Kemr h l)) e in record {
-  h_there = half_of M h known;
-  loop_free = no_row _ (not-true _ loop_free);
-  one_loop = eqb-true _ _ one_loop;
-  loop_fits = loop_number;
-}
+kemr_goes M h l e = grind (arith, all_hold (conditions M (Kemr h l)) e, half_of, not-true, no_row, eqb-true)
 
 module _ {M : Model} (sound : Sound M) {h l : ℕ} (goes : KemrGoes M h l) where
   abbrev pub N : Model

@@ -1,7 +1,7 @@
 -- A sound model stays sound under kemr.
-use Rattle.std.proofs.Common.{◌≡◌, ◌≢◌, ℕ, ◌+◌, List, [], ◌∷◌, Some, None, is_some, IsTrue, refl, sym, ap, ◌∙◌, subst, arith, ◌⊎◌, inl, inr}
+use Rattle.std.proofs.Common.{◌≡◌, ◌≢◌, ℕ, ◌+◌, List, [], ◌∷◌, Some, None, is_some, IsTrue, refl, sym, ap, ◌∙◌, subst, arith, ◌⊎◌, inl}
 use Rattle.std.proofs.lemmas.Bool.Decides.{eqb_tells}
-use Rattle.euler_operators.specs.Common.{count, tick, IsIn, head_or, canonical, between, beyond, IsRing, successor, after_kef, mate, edge_of, Model, LoopContent, cycle, LoopRow, items_of, tail, loop_of, content, face_of, cycle_of, after, solid_of, is_number, Sound, Has, HasHalf, StandsIn, IsCycle, IsLoneAt, kemr, cycle_or_lone}
+use Rattle.euler_operators.specs.Common.{count, tick, IsIn, head_or, canonical, between, beyond, IsRing, successor, after_kef, mate, edge_of, Model, LoopContent, cycle, LoopRow, items_of, tail, loop_of, content, face_of, cycle_of, after, is_number, Sound, Has, HasHalf, StandsIn, IsCycle, IsLoneAt, kemr, cycle_or_lone}
 use Rattle.euler_operators.proofs.Common.{count-append, tick_same, canonical-rotates, IsRotation-sym, count-rotate_to, IsRing-same, ring_split, IsRing-kemr, mate_other, row_elsewhere, in-holds, holds_in, cycle_there, cycle_sound, content_cycle, content_row, face_row, row_of, mate_there}
 use Rattle.euler_operators.specs.Table as table
 use Rattle.euler_laws.proofs.shared.Loops.{IsLoop, light, Walks}
@@ -146,10 +146,9 @@ module _ (M : Model) (sound : Sound M) (h l : ℕ) (goes : KemrGoes M h l) where
       (IsRing-same F (canonical Y) Y (IsRotation-sym Y (canonical Y) (canonical-rotates Y)) t.0, IsRing-same F (canonical X) X (IsRotation-sym X (canonical X) (canonical-rotates X)) t.1)
 
   two_loops : (q : ℕ) → OneOf r l q → Has N.loops q → IsLoop F (content N q)
-  two_loops q o there = elim o [
-    | inl e ↦ subst (IsLoop F) (sym (ap (content N) e ∙ content_first set)) (loop_or_lone F Y u (λ x. omega (arith, count_xs x, cyc.apart x)) parted.0)
-    | inr e ↦ subst (IsLoop F) (sym (ap (content N) e ∙ content_l)) (loop_or_lone F X w (λ x. omega (arith, count_xs x, cyc.apart x)) parted.1)
-  ]
+  two_loops q o there =
+      let one = loop_or_lone F Y u (λ x. omega (arith, count_xs x, cyc.apart x)) parted.0 in
+      grind (arith, o, content_first set, one, content_l, loop_or_lone F X w (λ x. omega (arith, count_xs x, cyc.apart x)) parted.1)
 
   other_ring : (hs : List ℕ) → Elsewhere sound rows hs → IsRing (after M) hs → IsRing F hs
   other_ring hs each t = let none = none_elsewhere sound rows hs each in ring_kef-other (after M) h m hs (none h (λ o. inl refl)) (none m (λ o. inl (sym goes.one_loop))) t
@@ -179,21 +178,13 @@ module _ (M : Model) (sound : Sound M) (h l : ℕ) (goes : KemrGoes M h l) where
   faces_stay = grind (arith, face_same set, not_l, eqb_tells, face_l, sound.loops_of_faces r has_r, has_r, has_same set, sound.outers_there)
 
   one_solid : (x : ℕ) → HasHalf N x → solid_at N (loop_of N x) ≡ solid_at N (loop_of N (mate x))
-  one_solid = one_solid-rows sound rows (solid_at M r)
-      (λ q o there. elim o [ inl e ↦ ap (solid_at N) e ∙ solid_kept sound faces_stay r has_r (ap is_some (row_first set)) | inr e ↦ ap (solid_at N) e ∙ ap (solid_of N) face_l ∙ solid_stays sound faces_stay (face_of M r) ])
-      (λ q o there. elim o [ inl e ↦ ap (solid_at M) e | inr e ↦ absurd (not_l q there e) ])
-      (λ q n there. solid_kept sound faces_stay q there (has_same set q n.1 ∙ there))
+  one_solid =
+      let one = solid_kept sound faces_stay r has_r in let two = solid_stays sound faces_stay (face_of M r) in
+      grind (arith, one_solid-rows sound rows (solid_at M r), one, two, row_first set, face_l, not_l, solid_kept sound faces_stay, has_same set)
 
   ranges : RangesHold N
   unfolding kemr
-  ranges = record {
-    solids_fit = sound.solids_fit;
-    faces_fit = sound.faces_fit;
-    loops_fit = fit-put _ (fit-map M.loops sound.loops_fit _) l _ goes.loop_fits;
-    edges_fit = fit-remove M.edges sound.edges_fit (edge_of h);
-    vertices_fit = sound.vertices_fit;
-    points_fit = sound.points_fit;
-  }
+  ranges = grind (arith, sound, fit-put, fit-map, fit-remove, goes.loop_fits)
 
   -- a sound model stays sound under kemr
   pub sound-kemr : Sound N

@@ -24,11 +24,7 @@ use Rattle.euler_laws.proofs.shared.Lawful.{IsLawful}
 
 pub kev_goes : (M : Model) (h : HalfEdge) → Sound M → first_false M (Kev h) ≡ None → KevGoes M (code h)
 unfolding first_false conditions
-kev_goes M h sound e = let (_, (known, (no_parallel, (end_open, _)))) = all_hold (conditions M (Kev h)) e in record {
-  h_there = half_of M h known;
-  no_parallel = none_parallel M (code h) sound.edges_fit (eqb-true _ _ no_parallel);
-  not_bare = ring_none (after M (mate (code h))) (code h) (after M (code h)) (mate (code h)) (not-true _ end_open);
-}
+kev_goes M h sound e = grind (arith, all_hold (conditions M (Kev h)) e, half_of, none_parallel, sound.edges_fit, eqb-true, ring_none, not-true)
 
 pub kev_accepted : (N : Model) (h : HalfEdge) → Sound N → KevGoes N (code h) → first_false N (Kev h) ≡ None
 unfolding first_false conditions

@@ -1,7 +1,7 @@
 -- A sound model stays sound under kev.
 use Rattle.std.proofs.Common.{◌≡◌, ◌≢◌, ℕ, ◌+◌, Bool, true, false, cond, nat_eq, ◌||◌, List, [], ◌++◌, Option, Some, None, unwrap_or, is_some, refl, sym, ap, ◌∙◌, subst, arith, ◌⊎◌, inl, inr, true≢false, option_map}
 use Rattle.std.proofs.lemmas.Bool.Decides.{nat_tests, eqb_tells}
-use Rattle.euler_operators.specs.Common.{count, tick, IsIn, IsApart, canonical, rest, IsRing, without, redirect, after_kev, mate, edge_of, is_first, tables, Model, LoopContent, lone, cycle, EdgeRow, items_of, holds, tail, loop_of, content, after, tail_in, no_edge, Sound, Has, HasHalf, StandsIn, IsTail, IsLoneAt, kev, without_edge, moved_tail, cycle_or_lone}
+use Rattle.euler_operators.specs.Common.{count, tick, IsIn, IsApart, canonical, rest, IsRing, without, redirect, after_kev, mate, edge_of, is_first, tables, Model, LoopContent, lone, cycle, EdgeRow, items_of, holds, tail, loop_of, content, after, tail_in, no_edge, Sound, Has, HasHalf, StandsIn, IsTail, IsLoneAt, kev, moved_tail, cycle_or_lone}
 use Rattle.euler_operators.proofs.Common.{count-append, tick_same, tick_other, IsIn_or_not, count-canonical, IsApart-canonical, count_at, without_none, mate_other, edge_of-mate, mate-mate, edges_apart, mate_edge_apart, row_elsewhere, in-holds, holds_in, holds-none, cycle_there, mate_there, or_true}
 use Rattle.euler_operators.specs.Table as table
 use Rattle.euler_laws.proofs.shared.Fans.{Fan, fan_of, half_after, loop_after, ring_reaches, two_reaches, none_in_fan}
@@ -110,13 +110,7 @@ module _ (M : Model) (sound : Sound M) (h : ℕ) (goes : KevGoes M h) where
 
   pub rewritten : Rewritten M N new
   unfolding kev
-  rewritten = record {
-    rewrite = without_edge h u;
-    is = refl;
-    contents = λ q row. elim (holds h row.content || holds m row.content) as (λ b. (cond b (record row { content = cycle_or_lone (out row.content) u }) row).content ≡ cond b (cycle_or_lone (out row.content) u) row.content) [ true ↦ refl | false ↦ refl ];
-    faces = λ q row. elim (holds h row.content || holds m row.content) as (λ b. (cond b (record row { content = cycle_or_lone (out row.content) u }) row).face ≡ row.face) [ true ↦ refl | false ↦ refl ];
-    none = back_none h u (cycle []) refl refl;
-  }
+  rewritten = grind (arith, back_none h u (cycle []))
 
   pub same : SameFaces M N
   unfolding kev
@@ -132,9 +126,7 @@ module _ (M : Model) (sound : Sound M) (h : ℕ) (goes : KevGoes M h) where
       grind (arith, content-N q, holds_in x (content N q) s, count_new x c, h_out c d, m_out c d, in-holds x c, count_kept x c)
 
   pub stay : (x q : ℕ) → x ≢ h → x ≢ m → StandsIn M x q → StandsIn N x q
-  stay x q a b s =
-      let c : LoopContent = content M q in
-      in-holds x (content N q) (subst (λ y. IsIn x (items_of y)) (sym (content-N q)) (omega (arith, holds_in x c s, count_new x c, count_kept x c a b)))
+  stay x q a b s = grind (arith, content-N q, in-holds x (content N q), holds_in x (content M q) s, count_new x (content M q), count_kept x (content M q) a b)
 
   -- ---- edges
 
@@ -247,15 +239,9 @@ module _ (M : Model) (sound : Sound M) (h : ℕ) (goes : KevGoes M h) where
 
   pub fans : (x : ℕ) → HasHalf N x → Fan F N (tail N x)
   fans x there = let o = half_cases x there in elim (eqb_tells (tail M x) w) [
-    | inl q ↦ elim (eqb_tells (after M m) h) [
-      | inl e ↦ absurd ((bare e.1 x o.0 o.1).1 q.1)
-      | inr e ↦ subst (Fan F N) (sym (tail_moved x o.0 o.1 q.1)) (fan_u e.1)
-    ]
+    | inl q ↦ subst (Fan F N) (sym (tail_moved x o.0 o.1 q.1)) (fan_u (λ e. (bare e x o.0 o.1).1 q.1))
     | inr q ↦ elim (eqb_tells (tail M x) u) [
-      | inl t ↦ elim (eqb_tells (after M m) h) [
-        | inl e ↦ absurd ((bare e.1 x o.0 o.1).0 t.1)
-        | inr e ↦ subst (Fan F N) (sym (tail_kept x o.0 o.1 q.1 ∙ t.1)) (fan_u e.1)
-      ]
+      | inl t ↦ subst (Fan F N) (sym (tail_kept x o.0 o.1 q.1 ∙ t.1)) (fan_u (λ e. (bare e x o.0 o.1).0 t.1))
       | inr t ↦ subst (Fan F N) (sym (tail_kept x o.0 o.1 q.1)) (fan_else x o.0 t.1 q.1)
     ]
   ]
@@ -291,19 +277,12 @@ module _ (M : Model) (sound : Sound M) (h : ℕ) (goes : KevGoes M h) where
   -- a loop that is emptied was h and its mate
   pub emptied : (q : ℕ) → IsIn h (items_of (content M q)) ⊎ IsIn m (items_of (content M q)) → out (content M q) ≡ [] → (q ≡ loop_of M h) × (after M m ≡ h)
   emptied q i e = elim i [
-    | inl a ↦
-        let lh : loop_of M h ≡ q = sound.one_loop h q (in-holds h (content M q) a) in
-        let to_m : after M h ≡ m = elim (next_in h goes.h_there lh) [ inl b ↦ absurd (h_on b) | inr b ↦ b ] in
-        let lm : loop_of M m ≡ q = ap (loop_of M) (sym to_m) ∙ loop_after M sound h goes.h_there ∙ lh in
-        (sym lh, elim (next_in m m_there lm) [ inl b ↦ b | inr b ↦ absurd (m_on b) ])
+    | inl a ↦ grind (arith, sound.one_loop h q (in-holds h (content M q) a), next_in h goes.h_there, h_on, loop_after M sound h goes.h_there, next_in m m_there, m_on)
     | inr a ↦
         grind (arith, sound.one_loop m q (in-holds m (content M q) a), next_in m m_there, m_on, loop_after M sound m m_there)
   ] where
     each : (x : ℕ) → IsIn x (items_of (content M q)) → (x ≡ h) ⊎ (x ≡ m)
-    each x j = elim (eqb_tells x h) [
-      | inl a ↦ inl a.1
-      | inr a ↦ elim (eqb_tells x m) [ inl b ↦ inr b.1 | inr b ↦ absurd (omega (arith, count_kept x (content M q) a.1 b.1, ap (count x) e)) ]
-    ]
+    each x j = grind (arith, eqb_tells x h, eqb_tells x m, count_kept x (content M q), e)
 
     next_in : (x : ℕ) → HasHalf M x → loop_of M x ≡ q → (after M x ≡ h) ⊎ (after M x ≡ m)
     next_in x t l = each (after M x) (subst (λ y. IsIn (after M x) (items_of (content M y))) (loop_after M sound x t ∙ l) (cycle_there M sound (after M x) (half_after M sound x t)))
@@ -338,15 +317,9 @@ module _ (M : Model) (sound : Sound M) (h : ℕ) (goes : KevGoes M h) where
 
   -- another half-edge at u, or the lone loop
   pub at_u : ((q : ℕ) × IsLoneAt N q u) ⊎ IsTail N u
-  at_u = elim (eqb_tells (after M m) h) [
-    | inl e ↦ inl (loop_of M h, lone_new e.1)
-    | inr e ↦
-        let y : ℕ = after M m in
-        let t : HasHalf M y = half_after M sound m m_there in
-        let s : tail M y ≡ u = sound.ends_meet m m_there ∙ ap (tail M) (mate-mate h) in
-        let a : edge_of y ≢ edge_of h = other_edge y e.1 (λ q. u_w (sym s ∙ ap (tail M) q)) in
-        inr (record { half = y; there = half_old y t a; starts = tail_kept y t a (λ q. u_w (sym s ∙ q)) ∙ s })
-  ]
+  at_u =
+      let one = half_after M sound m m_there in let two = sound.ends_meet m m_there in let three = eqb_tells (after M m) h in
+      grind (arith, three, lone_new, one, two, mate-mate h, other_edge (after M m), u_w, half_old (after M m), tail_kept (after M m))
 
   pub lone_or_tail-kev : (t : ℕ) → Has N.vertices t → ((q : ℕ) × IsLoneAt N q t) ⊎ IsTail N t
   lone_or_tail-kev t there = elim (eqb_tells t u) [
@@ -360,17 +333,9 @@ module _ (M : Model) (sound : Sound M) (h : ℕ) (goes : KevGoes M h) where
   ]
 
   pub lone_is_no_tail-kev : (q x : ℕ) → HasHalf N x → content N q ≢ lone (tail N x)
-  lone_is_no_tail-kev q x there is = grind (
-    arith,
-    half_cases x there,
-    lone_back q (tail N x) is,
-    sound.lone_is_no_tail q h goes.h_there,
-    goes.h_there,
-    tail_moved x (half_cases x there).0 (half_cases x there).1,
-    sound.lone_is_no_tail q x (half_cases x there).0,
-    tail_kept x (half_cases x there).0 (half_cases x there).1,
-    bare,
-  )
+  lone_is_no_tail-kev q x there is =
+      let o = half_cases x there in let one = sound.lone_is_no_tail q h goes.h_there in let two = sound.lone_is_no_tail q x o.0 in
+      grind (arith, o, lone_back q (tail N x) is, one, goes.h_there, tail_moved x o.0 o.1, two, tail_kept x o.0 o.1, bare)
 
   pub one_lone-kev : (a b t : ℕ) → IsLoneAt N a t → IsLoneAt N b t → a ≡ b
   one_lone-kev a b t x y =
@@ -398,14 +363,7 @@ module _ (M : Model) (sound : Sound M) (h : ℕ) (goes : KevGoes M h) where
 
   ranges : RangesHold N
   unfolding kev
-  ranges = record {
-    solids_fit = sound.solids_fit;
-    faces_fit = sound.faces_fit;
-    loops_fit = fit-map M.loops sound.loops_fit _;
-    edges_fit = fit-map _ (fit-remove M.edges sound.edges_fit (edge_of h)) _;
-    vertices_fit = fit-remove M.vertices sound.vertices_fit w;
-    points_fit = points-remove M.vertices sound.points_fit w;
-  }
+  ranges = grind (arith, sound, fit-map, fit-remove, points-remove)
 
   -- a sound model stays sound under kev
   pub sound-kev : Sound N

@@ -2,7 +2,7 @@
 use Rattle.std.proofs.Common.{◌≡◌, ◌≢◌, ℕ, ◌+◌, cond, nat_eq, List, [], ◌∷◌, ◌++◌, Some, refl, sym, ap, ◌∙◌, subst, arith, ◌⊎◌, inl, inr, is_some}
 use Rattle.std.proofs.lemmas.Bool.Decides.{eqb_tells}
 use Rattle.euler_operators.specs.Common.{count, tick, IsIn, IsApart, head_or, canonical, rotate_to, rest, between, beyond, successor, IsRing, IsRotation, IsPath, without, kev_ring, take_ring, mate, edge_of, Model, LoopContent, lone, cycle, items_of, tail, loop_of, content, after, round, point_of, cycle_of, Sound, Has, HasHalf, IsCycle, mev_at, kev, mev_lone}
-use Rattle.euler_operators.proofs.Common.{count-append, tick_same, tick_other, IsIn_or_not, count-before, count-canonical, IsApart-canonical, canonical-rotates, rotate_to_same, rotate_to_head, count-rotate_to, IsIn_successor, count_at, IsRing-same, rotation_at, IsPath-agree, ring_split, upto_once, canonical_from, mev-kev, put-take, apart_left, without_none, count-insert_before, mate_other, mate-mate, put-remove, in-holds, cycle_there, mate_there, cycle_sound, content_cycle, row_of}
+use Rattle.euler_operators.proofs.Common.{count-append, tick_same, tick_other, IsIn_or_not, count-before, count-canonical, IsApart-canonical, canonical-rotates, rotate_to_same, rotate_to_head, count-rotate_to, IsIn_successor, count_at, IsRing-same, rotation_at, IsPath-agree, ring_split, upto_once, canonical_from, mev-kev, put-take, apart_left, without_none, count-insert_before, mate_other, same_edge, mate-mate, put-remove, in-holds, cycle_there, mate_there, cycle_sound, content_cycle, row_of}
 use Rattle.euler_operators.specs.Table as table
 use Rattle.euler_laws.proofs.shared.Fans.{half_after, loop_after}
 use Rattle.euler_laws.proofs.shared.Loops.{put_before, put_there, put_none, put_lone, after-walks, count_out, light, none_else}
@@ -34,9 +34,7 @@ module _ (hs : List ℕ) (cy : IsCycle hs) (h m : ℕ) (hm : h ≢ m) where
     corners_in ne = grind (arith, count-canonical, tick_same, count-append)
 
     gone : (x : ℕ) → count x (kev_ring h m hs) + tick x h + tick x m ≡ count x hs
-    gone x = omega (arith, count-canonical x (xs' ++ ys'), count-append x xs' ys', ap (count x) (ring_split h m hs i j hm), count-append x (h ∷ xs') (m ∷ ys'), count-rotated x) where
-      count-rotated : (x : ℕ) → count x (rotate_to h hs) ≡ count x hs
-      count-rotated x = count-rotate_to x h hs
+    gone x = grind (arith, count-canonical, count-append, ring_split h m hs i j hm, count-rotate_to)
 
     pub both_back : ys' ≢ [] → (c d : ℕ) → d ≡ head_or m ys' → c ≡ head_or (head_or m ys') xs' →
         put_before d m (put_before c h (cycle (kev_ring h m hs))) ≡ cycle hs
@@ -139,11 +137,10 @@ module _ {M : Model} (sound : Sound M) {h : ℕ} (goes : KevGoes M h) where
     bare_loops = loops_again (kill.same M sound h goes) (lones.same sound-N lone_goes) bare_contents
 
     bare_tails : (x : ℕ) → HasHalf M x → tail L x ≡ tail M x
-    bare_tails x there = elim (eqb_tells (edge_of x) (edge_of h)) [
-      | inl e ↦ of_edge (λ y. tail L y ≡ tail M y) h x (tail-h (comes edge)) (tail-m (comes edge)) e.1
-      | inr e ↦ tail_old edge x (kill.half_old M sound h goes x there e.1)
-          ∙ kill.tail_kept M sound h goes x there e.1 (kill.bare M sound h goes bare x there e.1).1
-    ]
+    bare_tails x there =
+        let one = tail-h (comes edge) in let two = tail-m (comes edge) in let three = kill.half_old M sound h goes x there in
+        let four = kill.tail_kept M sound h goes x there in let five = kill.bare M sound h goes bare x there in
+        grind (arith, eqb_tells (edge_of x) (edge_of h), same_edge x h, one, two, three, four, five, tail_old edge x)
 
     pub mev_lone-kev : mev_lone (kev M h) l h w (point_of M w) ≡ M
     unfolding kev mev_lone
@@ -179,9 +176,8 @@ module _ {M : Model} (sound : Sound M) {h : ℕ} (goes : KevGoes M h) where
     c_new = elim c_cases [
       | inl e ↦ (subst (HasHalf N) (sym e.1) d_new.0, ap (tail N) e.1 ∙ d_new.1)
       | inr e ↦
-          let t = half_after M sound h goes.h_there in
-          let a : edge_of (after M h) ≢ edge_of h = kill.other_edge M sound h goes (after M h) (kill.h_on M sound h goes) e.0 in
-          (subst (HasHalf N) (sym e.1) (kill.half_old M sound h goes (after M h) t a), ap (tail N) e.1 ∙ kill.tail_moved M sound h goes (after M h) t a (sound.ends_meet h goes.h_there))
+          let t = half_after M sound h goes.h_there in let a = kill.other_edge M sound h goes (after M h) (kill.h_on M sound h goes) e.0 in
+          grind (arith, e, kill.half_old M sound h goes (after M h) t a, kill.tail_moved M sound h goes (after M h) t a, sound.ends_meet h goes.h_there)
     ]
 
     pub put_goes : MevGoes N c d h w (point_of M w)
@@ -235,33 +231,25 @@ module _ {M : Model} (sound : Sound M) {h : ℕ} (goes : KevGoes M h) where
                 ∙ both_back hs cy h m mate_apart i j ne c d de ce
             | inr j ↦
                 let ah : after M h ≡ successor hs h = after_in q h hs e i in
-                let hin : IsIn (after M h) hs = subst (λ y. IsIn y hs) (sym ah) (IsIn_successor h hs i) in
-                let ce : c ≡ successor hs h = elim c_cases [ inl s ↦ absurd (omega (arith, hin, ap (λ y. count y hs) s.0)) | inr s ↦ s.1 ∙ ah ] in
-                let dn : count d hs ≡ 0 = after_out q m hs e m_there j in
-                let out : count m (without h hs) ≡ 0 = omega (arith, count_out m h hs (λ s. mate_apart (sym s))) in
-                ap (λ y. put_before d m (put_before c h y))
-                (back_h h (tail M h) (cycle hs) i ∙ as_cycle (without m (without h hs)) (take_ring h hs) (tail M h) (ap canonical (without_none m (without h hs) out) ∙ taken_out hs cy.apart h i)
-                (some_item (successor hs h) (take_ring h hs) (in_take hs cy h i (λ s. kill.h_on M sound h goes (ah ∙ s)))))
-                ∙ ap (put_before d m) (ap (λ y. put_before y h (cycle (take_ring h hs))) ce ∙ one_back hs cy h m mate_apart i (λ s. kill.h_on M sound h goes (ah ∙ s)))
-                ∙ put_none d m (cycle hs) dn
+                let ne : successor hs h ≢ h = λ s. kill.h_on M sound h goes (ah ∙ s) in
+                let one = after_out q m hs e m_there j in let two = taken_out hs cy.apart h i in let three = without_none m (without h hs) in
+                let four = one_back hs cy h m mate_apart i ne in let five = some_item (successor hs h) (take_ring h hs) (in_take hs cy h i ne) in
+                let six = back_h h (tail M h) (cycle hs) i in let seven = count_out m h hs (λ s. mate_apart (sym s)) in
+                grind (arith, ah, one, two, three, four, five, six, seven, c_cases, IsIn_successor h hs i, as_cycle, put_none d m (cycle hs))
           ]
           | inr i ↦
               let ch : count (after M h) hs ≡ 0 = after_out q h hs e goes.h_there i in
               elim (IsIn_or_not m hs) [
                 | inl j ↦
                     let am : after M m ≡ successor hs m = after_in q m hs e j in
-                    let cn : count c hs ≡ 0 = elim c_cases [ inl s ↦ absurd (omega (arith, j, ch, ap (λ y. count y hs) s.0)) | inr s ↦ ap (λ y. count y hs) s.1 ∙ ch ] in
-                    let ct : count c (take_ring m hs) ≡ 0 = take_none hs cy m h (λ s. mate_apart (sym s)) c j cn in
-                    ap (λ y. put_before d m (put_before c h y))
-                    (back_m h (tail M h) (cycle hs) j ∙ as_cycle (without m (without h hs)) (take_ring m hs) (tail M h) (ap (λ y. canonical (without m y)) (without_none h hs i) ∙ taken_out hs cy.apart m j)
-                    (some_item (successor hs m) (take_ring m hs) (in_take hs cy m j (λ s. kill.m_on M sound h goes (am ∙ s)))))
-                    ∙ ap (put_before d m) (put_none c h (cycle (take_ring m hs)) ct)
-                    ∙ ap (λ y. put_before y m (cycle (take_ring m hs))) am ∙ one_back hs cy m h (λ s. mate_apart (sym s)) j (λ s. kill.m_on M sound h goes (am ∙ s))
+                    let ne : successor hs m ≢ m = λ s. kill.m_on M sound h goes (am ∙ s) in
+                    let one = taken_out hs cy.apart m j in let two = without_none h hs i in let three = take_none hs cy m h (λ s. mate_apart (sym s)) c j in
+                    let four = one_back hs cy m h (λ s. mate_apart (sym s)) j ne in
+                    let five = some_item (successor hs m) (take_ring m hs) (in_take hs cy m j ne) in let six = back_m h (tail M h) (cycle hs) j in
+                    grind (arith, am, ch, one, two, three, four, five, six, c_cases, as_cycle, put_none c h (cycle (take_ring m hs)))
                 | inr j ↦
                     let dn : count d hs ≡ 0 = after_out q m hs e m_there j in
-                    let cn : count c hs ≡ 0 = elim c_cases [ inl s ↦ ap (λ y. count y hs) s.1 ∙ dn | inr s ↦ ap (λ y. count y hs) s.1 ∙ ch ] in
-                    ap (λ y. put_before d m (put_before c h y)) (back_none h (tail M h) (cycle hs) i j)
-                    ∙ ap (put_before d m) (put_none c h (cycle hs) cn) ∙ put_none d m (cycle hs) dn
+                    grind (arith, dn, ch, c_cases, back_none h (tail M h) (cycle hs) i j, put_none c h (cycle hs), put_none d m (cycle hs))
               ]
         ] where
           same_head : (ys : List ℕ) → ys ≢ [] → head_or h ys ≡ head_or m ys
@@ -315,15 +303,9 @@ module _ {M : Model} (sound : Sound M) {h : ℕ} (goes : KevGoes M h) where
     -- c is the first of what moved, or d where nothing did
     c_first : (ts : List ℕ) → c ≡ head_or d (rest m vs)
     c_first ts = c_leads (rest m vs) killed_ring (omega (arith, count_at m m vs m_in, tick_same m, (kill.fan_killed M sound h goes).apart m)) where
-      to_m : round M m ≡ after M h
-      to_m = ap (after M) (mate-mate h)
-
       c_leads : (xs : List ℕ) → round M m ≡ head_or m xs → count m xs ≡ 0 → c ≡ head_or d xs
-      c_leads [] e n = elim c_cases [ inl s ↦ s.1 | inr s ↦ absurd (s.0 (sym to_m ∙ e)) ]
-      c_leads (x ∷ xs) e n = elim c_cases [
-        | inl s ↦ absurd (omega (arith, n, ap (tick m) (sym (sym to_m ∙ e) ∙ s.0), tick_same m))
-        | inr s ↦ s.1 ∙ sym to_m ∙ e
-      ]
+      c_leads [] e n = grind (arith, c_cases, mate-mate h)
+      c_leads (x ∷ xs) e n = grind (arith, c_cases, mate-mate h, tick_same m)
 
     pub moved_is : put.moved N sound-N c d h w (point_of M w) put_goes ≡ rest m vs
     moved_is =
@@ -355,18 +337,10 @@ module _ {M : Model} (sound : Sound M) {h : ℕ} (goes : KevGoes M h) where
 
     tails_old : (x : ℕ) → HasHalf M x → edge_of x ≢ edge_of h → tail K x ≡ tail M x
     tails_old x there a =
-        let o = kill.half_old M sound h goes x there a in
-        elim (eqb_tells (tail M x) w) [
-          | inl e ↦
-              let i : IsIn x (rest m vs) = omega (arith, count_at x m vs m_in, (kill.fan_killed M sound h goes).all x there e.1, tick_other x m (kill.not_m M sound h goes x a)) in
-              put.tail_moved N sound-N c d h w (point_of M w) put_goes x o (subst (IsIn x) (sym moved_is) i) ∙ sym e.1
-          | inr e ↦
-              let n : count x (rest m vs) ≡ 0 = elim (IsIn_or_not x (rest m vs)) [
-                | inl i ↦ absurd (e.1 ((kill.fan_killed M sound h goes).of_it x (omega (arith, count_at x m vs m_in))).1)
-                | inr z ↦ z
-              ] in
-              put.tail_kept N sound-N c d h w (point_of M w) put_goes x o (ap (count x) moved_is ∙ n) ∙ kill.tail_kept M sound h goes x there a e.1
-        ]
+        let f = kill.fan_killed M sound h goes in let o = kill.half_old M sound h goes x there a in let stays = kill.tail_kept M sound h goes x there a in
+        let back = put.tail_moved N sound-N c d h w (point_of M w) put_goes x o in let still = put.tail_kept N sound-N c d h w (point_of M w) put_goes x o in
+        let other = tick_other x m (kill.not_m M sound h goes x a) in let either = eqb_tells (tail M x) w in
+        grind (arith, either, stays, back, still, other, moved_is, IsIn_or_not x (rest m vs), count_at x m vs m_in, f.all x there, f.of_it x)
 
     tails : (x : ℕ) → HasHalf M x → tail K x ≡ tail M x
     tails x there = elim (eqb_tells (edge_of x) (edge_of h)) [

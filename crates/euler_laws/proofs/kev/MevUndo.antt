@@ -1,6 +1,6 @@
 -- mev at two half-edges is taken back by kev.
-use Rattle.std.proofs.Common.{◌≡◌, ◌≢◌, ℕ, ◌+◌, List, [], ◌∷◌, refl, sym, ap, ◌∙◌, arith, inl, inr, eq-eqb}
-use Rattle.euler_operators.specs.Common.{Point, count, tick, IsIn, IsApart, canonical, rotate_to, insert_before, without, led_over, put_ring, mate, edge_of, Model, LoopContent, lone, cycle, items_of, tail, content, after, Sound, Has, HasHalf, IsCycle, mev_at, kev, cycle_or_lone}
+use Rattle.std.proofs.Common.{◌≡◌, ◌≢◌, ℕ, List, [], ◌∷◌, refl, sym, ap, ◌∙◌, arith, inl, inr, eq-eqb}
+use Rattle.euler_operators.specs.Common.{Point, count, IsIn, canonical, insert_before, led_over, put_ring, mate, edge_of, Model, LoopContent, lone, cycle, items_of, tail, content, after, Sound, Has, HasHalf, IsCycle, mev_at, kev, cycle_or_lone}
 use Rattle.euler_operators.proofs.Common.{count-append, tick_same, tick_other, IsIn_or_not, count-canonical, IsApart-canonical, canonical_nil, count-rotate_to, kev-mev, take-put, apart_put, apart_mev, without_none, count-insert_before, mate_other, edge_of-mate, remove-put, mate_there}
 use Rattle.euler_operators.specs.Table as table
 use Rattle.euler_laws.proofs.shared.Loops.{put_before, put_there, put_none, put_lone, none_free, count_out, after-walks}
@@ -38,29 +38,15 @@ module _ (h g k t : ℕ) where
               let six = as_cycle in let seven = both_out in
               grind (arith, one, two, three, four, five, six, seven, IsApart-canonical, count-canonical, count-append, stay_in, both_in, back_h, kev-mev)
           | inr j ↦
-              let ys : List ℕ = put_ring h g hs in
-              let d : IsApart ys = IsApart-canonical (h ∷ rotate_to g hs) (apart_put h g hs nh cy.apart) in
-              let c : (x : ℕ) → count x ys ≡ tick x h + count x hs = λ x. omega (arith, count-canonical x (h ∷ rotate_to g hs), count-rotate_to x g hs) in
-              let hi : IsIn h ys = omega (arith, c h, tick_same h) in
-              let e : put_before k (mate h) (put_before g h (cycle hs)) ≡ cycle ys =
-              ap (put_before k (mate h)) (put_there g h (cycle hs) i ∙ ap cycle (put_in hs cy.apart g h i nh))
-              ∙ put_none k (mate h) (cycle ys) (omega (arith, c k, tick_other k h kh)) in
-              let nm' : count (mate h) (without h ys) ≡ 0 = omega (arith, count_out (mate h) h ys (λ s. hm (sym s)), c (mate h), tick_other (mate h) h (λ s. hm (sym s))) in
-              ap (without_both h t) e ∙ back_h h t (cycle ys) hi
-              ∙ as_cycle (without (mate h) (without h ys)) hs t (ap canonical (without_none (mate h) (without h ys) nm') ∙ taken_out ys d h hi ∙ take-put h g hs nh cy.apart ∙ cy.from_least) cy.some_item
+              let one = put_in hs cy.apart g h i nh in let two = taken_out (put_ring h g hs) in let three = take-put h g hs nh cy.apart in
+              let four = put_none k (mate h) in let five = count-rotate_to in let six = IsApart-canonical in let seven = apart_put in let eight = as_cycle in
+              grind (arith, cy, hm, one, two, three, four, five, six, seven, eight, put_there g h, back_h h t, without_none, count_out, count-canonical, tick_same, tick_other)
         ]
         | inr i ↦ elim (IsIn_or_not k hs) [
           | inl j ↦
-              let ys : List ℕ = put_ring (mate h) k hs in
-              let d : IsApart ys = IsApart-canonical (mate h ∷ rotate_to k hs) (apart_put (mate h) k hs nm cy.apart) in
-              let c : (x : ℕ) → count x ys ≡ tick x (mate h) + count x hs = λ x. omega (arith, count-canonical x (mate h ∷ rotate_to k hs), count-rotate_to x k hs) in
-              let mi : IsIn (mate h) ys = omega (arith, c (mate h), tick_same (mate h)) in
-              let e : put_before k (mate h) (put_before g h (cycle hs)) ≡ cycle ys =
-              ap (put_before k (mate h)) (put_none g h (cycle hs) i)
-              ∙ put_there k (mate h) (cycle hs) j ∙ ap cycle (put_in hs cy.apart k (mate h) j nm) in
-              let nh' : count h ys ≡ 0 = omega (arith, c h, tick_other h (mate h) hm) in
-              ap (without_both h t) e ∙ back_m h t (cycle ys) mi
-              ∙ as_cycle (without (mate h) (without h ys)) hs t (ap (λ xs. canonical (without (mate h) xs)) (without_none h ys nh') ∙ taken_out ys d (mate h) mi ∙ take-put (mate h) k hs nm cy.apart ∙ cy.from_least) cy.some_item
+              let one = put_in hs cy.apart k (mate h) j nm in let two = taken_out (put_ring (mate h) k hs) in let three = take-put (mate h) k hs nm cy.apart in
+              let four = put_none g h in let five = count-rotate_to in let six = IsApart-canonical in let seven = apart_put in let eight = as_cycle in
+              grind (arith, cy, hm, one, two, three, four, five, six, seven, eight, put_there k (mate h), back_m h t, without_none, count-canonical, tick_same, tick_other)
           | inr j ↦ ap (without_both h t) (ap (put_before k (mate h)) (put_none g h (cycle hs) i) ∙ put_none k (mate h) (cycle hs) j) ∙ back_none h t (cycle hs) nh nm
         ]
       ] where
@@ -84,16 +70,11 @@ module _ {M : Model} (sound : Sound M) {g k h v : ℕ} {p : Point} (goes : MevGo
   no_parallel-N : (x : ℕ) → HasHalf N x → edge_of x ≢ edge_of h → tail N x ≡ tail N h → tail N (mate x) ≢ tail N (mate h)
   no_parallel-N x there a e f = elim (half_cases new_edge x there) [
     | inl o ↦
-        let t = mate_there M x o in
-        let far : tail N (mate x) ≡ v = f ∙ tail-m new_edge in
-        let near : tail N x ≡ tail M g = e ∙ tail-h new_edge in
-        elim (IsIn_or_not (mate x) (put.moved M sound g k h v p goes)) [
-          | inl j ↦ elim (IsIn_or_not x (put.moved M sound g k h v p goes)) [
-            | inl i ↦ put.u_v M sound g k h v p goes (sym near ∙ put.tail_moved M sound g k h v p goes x o i)
-            | inr i ↦ sound.ends_differ x o (sym (put.tail_kept M sound g k h v p goes x o i) ∙ near ∙ sym (put.moved_old M sound g k h v p goes (mate x) j).1)
-          ]
-          | inr j ↦ put.never_v M sound g k h v p goes (mate x) t (sym (put.tail_kept M sound g k h v p goes (mate x) t j) ∙ far)
-        ]
+        let t = mate_there M x o in let moves = put.tail_moved M sound g k h v p goes x o in let stays = put.tail_kept M sound g k h v p goes x o in
+        let was = put.moved_old M sound g k h v p goes (mate x) in let mate_stays = put.tail_kept M sound g k h v p goes (mate x) t in
+        let never = put.never_v M sound g k h v p goes (mate x) t in let apart = put.u_v M sound g k h v p goes in
+        let arc = put.moved M sound g k h v p goes in let either = IsIn_or_not x arc in let mate_either = IsIn_or_not (mate x) arc in
+        grind (arith, either, mate_either, moves, stays, was, mate_stays, never, apart, sound.ends_differ x o, tail-m new_edge, tail-h new_edge)
     | inr d ↦ elim d [ inl q ↦ a (ap edge_of q) | inr q ↦ a (ap edge_of q ∙ edge_of-mate h) ]
   ]
 
@@ -120,16 +101,11 @@ module _ {M : Model} (sound : Sound M) {g k h v : ℕ} {p : Point} (goes : MevGo
 
   tails : (x : ℕ) → HasHalf M x → tail K x ≡ tail M x
   tails x there =
-      let o = half_old new_edge x there in
-      let a = edge_apart new_edge x there in
-      elim (IsIn_or_not x (put.moved M sound g k h v p goes)) [
-        | inl i ↦
-            kill.tail_moved N sound-N h kev_goes x o a (put.tail_moved M sound g k h v p goes x there i ∙ sym (tail-m new_edge))
-            ∙ tail-h new_edge ∙ sym (put.moved_old M sound g k h v p goes x i).1
-        | inr i ↦
-            let s = put.tail_kept M sound g k h v p goes x there i in
-            kill.tail_kept N sound-N h kev_goes x o a (λ e. put.never_v M sound g k h v p goes x there (sym s ∙ e ∙ tail-m new_edge)) ∙ s
-      ]
+      let moves = IsIn_or_not x (put.moved M sound g k h v p goes) in let o = half_old new_edge x there in let a = edge_apart new_edge x there in
+      let away = put.tail_moved M sound g k h v p goes x there in let was = put.moved_old M sound g k h v p goes x in
+      let stays = put.tail_kept M sound g k h v p goes x there in let never = put.never_v M sound g k h v p goes x there in
+      let back = kill.tail_moved N sound-N h kev_goes x o a in let still = kill.tail_kept N sound-N h kev_goes x o a in
+      grind (arith, moves, away, was, stays, never, back, still, tail-m new_edge, tail-h new_edge)
 
   vertices-back : K.vertices ≡ M.vertices
   unfolding kev mev_at

@@ -1,12 +1,12 @@
 -- kef as an operator: it keeps a model sound, and mef takes it back; and kef passes its conditions after mef and takes it back.
-use Rattle.std.proofs.Common.{◌≡◌, ℕ, true, None, is_some, refl, sym, ap, ◌∙◌, arith, ne_eqb, eq-eqb}
+use Rattle.std.proofs.Common.{◌≡◌, ℕ, None, is_some, refl, sym, ap, ◌∙◌, arith, ne_eqb, eq-eqb}
 use Rattle.std.proofs.lemmas.Bool.Decides.{eqb_tells}
 use Rattle.std.proofs.lemmas.Bool.{not-true, eqb-false}
-use Rattle.euler_operators.specs.Common.{mef_old, mef_new, kef_ring, HalfEdge, code, mate, edge_of, Model, cycle, items_of, loop_of, content, cycle_of, face_of, is_number, Sound, HasHalf, first_false, conditions, face_at, effect, inverse, mef, kef}
+use Rattle.euler_operators.specs.Common.{mef_old, mef_new, kef_ring, HalfEdge, code, mate, edge_of, Model, cycle, items_of, loop_of, content, cycle_of, face_of, Sound, first_false, conditions, face_at, effect, inverse, mef, kef}
 use Rattle.euler_operators.proofs.Common.{kef-mef, edge_of-code, code-half, remove-put, two_undone, row_of, cycle_sound}
 use Rattle.euler_operators.specs.Table as table
 use Rattle.euler_operators.specs.declared.Op.TheVariants.{Mef, Kef}
-use Rattle.euler_laws.proofs.shared.Goes.{◌also◌, all_hold, none_refuses, not_false, taken}
+use Rattle.euler_laws.proofs.shared.Goes.{all_hold, none_refuses, not_false, taken}
 use Rattle.euler_laws.proofs.shared.EdgeMore.{comes, half_h}
 use Rattle.euler_laws.proofs.shared.TwoRows.{content_first, face_same, has_same}
 use Rattle.euler_laws.proofs.mef.MefUndo.{loops-mef, no_h, no_m}
@@ -23,11 +23,7 @@ use Rattle.euler_laws.proofs.shared.Lawful.{IsLawful}
 
 pub kef_goes : (M : Model) (h : HalfEdge) → first_false M (Kef h) ≡ None → KefGoes M (code h)
 unfolding first_false conditions
-kef_goes M h e = let (_, (known, (faces_apart, (no_rings, _)))) = all_hold (conditions M (Kef h)) e in record {
-  h_there = half_of M h known;
-  faces_apart = eqb-false _ _ (not-true _ faces_apart);
-  no_rings = no_rings_means M (face_at M (mate (code h))) (not-true _ no_rings);
-}
+kef_goes M h e = grind (arith, all_hold (conditions M (Kef h)) e, half_of, not-true, eqb-false, no_rings_means)
 
 pub kef_accepted : (N : Model) (h : HalfEdge) → Sound N → KefGoes N (code h) → first_false N (Kef h) ≡ None
 unfolding first_false conditions
@@ -36,23 +32,8 @@ kef_accepted N h sound goes =
 
 pub mef_accepted : (N : Model) (g k h : HalfEdge) (f l : ℕ) → Sound N → MefGoes N (code g) (code k) (code h) f l → first_false N (Mef g k h f l) ≡ None
 unfolding first_false conditions
-mef_accepted N g k h f l sound goes = none_refuses (conditions N (Mef g k h f l)) (
-    fit g goes.g_there
-    also fit k goes.k_there
-    also ap is_number (sym (edge_of-code h)) ∙ goes.edge_fits
-    also goes.face_fits
-    also goes.loop_fits
-    also of_half N g goes.g_there
-    also of_half N k goes.k_there
-    also not_false _ (taken _ (ap (table.get N.edges) (sym (edge_of-code h)) ∙ goes.edge_free))
-    also not_false _ (taken _ goes.face_free)
-    also not_false _ (taken _ goes.loop_free)
-    also eq-eqb _ _ (sym goes.one_loop)
-    also not_false _ (ne_eqb _ _ goes.ends_apart)
-    also tt
-    ) where
-      fit : (x : HalfEdge) → HasHalf N (code x) → is_number x.edge ≡ true
-      fit x t = ap is_number (sym (edge_of-code x)) ∙ sound.edges_fit (edge_of (code x)) t
+mef_accepted N g k h f l sound goes =
+    grind (arith, none_refuses, edge_of-code, sound.edges_fit, goes, of_half, taken, not_false, ne_eqb, eq-eqb)
 
 -- ---- kef
 
@@ -113,8 +94,4 @@ module _ {M : Model} (sound : Sound M) {g k h f l : ℕ} (goes : MefGoes M g k h
 
 pub mef_lawful : (g k h : HalfEdge) (f l : ℕ) → IsLawful (Mef g k h f l)
 unfolding effect inverse
-mef_lawful g k h f l M sound e = let w = mef_goes M g k h f l e in let s = made.sound-mef sound w in record {
-  sound = s;
-  goes = kef_accepted (mef M (code g) (code k) (code h) f l) h s (made_goes M sound (code g) (code k) (code h) f l w);
-  undone = kef-after-mef sound w;
-}
+mef_lawful g k h f l M sound e = grind (arith, mef_goes, made.sound-mef, kef_accepted, made_goes, kef-after-mef)

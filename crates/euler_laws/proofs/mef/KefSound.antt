@@ -61,13 +61,10 @@ module _ (M : Model) (sound : Sound M) (h : ℕ) (goes : KefGoes M h) where
   m_in = cycle_there M sound m m_there
 
   pub apart_both : IsApart (xs ++ ys)
-  apart_both x = elim (IsIn_or_not x xs) [
-    | inl i ↦ elim (IsIn_or_not x ys) [
-      | inl j ↦ absurd (r_s (sym (sound.one_loop x r (in-holds x (content M r) i)) ∙ sound.one_loop x s (in-holds x (content M s) j)))
-      | inr j ↦ omega (arith, count-append x xs ys, (cycle_sound M sound h goes.h_there).apart x)
-    ]
-    | inr i ↦ omega (arith, count-append x xs ys, (cycle_sound M sound m m_there).apart x)
-  ]
+  apart_both x =
+      let one_r = sound.one_loop x r in let one_s = sound.one_loop x s in let holds_r = in-holds x (content M r) in let holds_s = in-holds x (content M s) in
+      let first = (cycle_sound M sound h goes.h_there).apart x in let second = (cycle_sound M sound m m_there).apart x in
+      grind (arith, IsIn_or_not x xs, IsIn_or_not x ys, r_s, one_r, one_s, holds_r, holds_s, first, second, count-append x xs ys)
 
   pub count_zs : (x : ℕ) → count x zs + tick x h + tick x m ≡ count x xs + count x ys
   count_zs x = omega (arith, count-canonical x (rest m ys ++ rest h xs), count-append x (rest m ys) (rest h xs), count_at x h xs h_in, count_at x m ys m_in)
@@ -139,13 +136,10 @@ module _ (M : Model) (sound : Sound M) (h : ℕ) (goes : KefGoes M h) where
   zs_item = grind (arith, goes.h_there, half_after M sound h goes.h_there, count-append (after M h) (rest m ys) (rest h xs), h_in, h_on)
 
   two_loops : (q : ℕ) → OneOf r s q → Has N.loops q → IsLoop F (content N q)
-  two_loops q o there = elim o [
-    | inl e ↦ subst (IsLoop F) (sym (ap (content N) e ∙ content_first set)) (
-      canonical_cycle (rest m ys ++ rest h xs) apart_zs zs_item.0 zs_item.1,
-      IsRing-kef (after M) h m xs ys apart_both h_in m_in (mate_other h) (light M sound r).1 (light M sound s).1,
-    )
-    | inr e ↦ absurd (not_s q there e)
-  ]
+  two_loops q o there =
+      let one = canonical_cycle (rest m ys ++ rest h xs) apart_zs zs_item.0 zs_item.1 in
+      let two = IsRing-kef (after M) h m xs ys apart_both h_in m_in (mate_other h) (light M sound r).1 (light M sound s).1 in
+      grind (arith, o, content_first set, one, two, not_s q there)
 
   other_ring : (hs : List ℕ) → Elsewhere sound rows hs → IsRing (after M) hs → IsRing F hs
   other_ring hs each t = let none = none_elsewhere sound rows hs each in ring_kef-other (after M) h m hs (none h (λ o. inl refl)) (none m (λ o. inr refl)) t
@@ -236,18 +230,12 @@ module _ (M : Model) (sound : Sound M) (h : ℕ) (goes : KefGoes M h) where
   tail_k = tail_old less k (other_edge k h h_on after_h) ∙ sound.ends_meet h goes.h_there
 
   pub put_goes : MefGoes N g k h f s
-  put_goes = record {
-    g_there = half_old less g (half_after M sound m m_there) (other_edge g h after_m m_on);
-    k_there = half_old less k (half_after M sound h goes.h_there) (other_edge k h h_on after_h);
-    edge_free = edge_gone less;
-    face_free = row_here face_set.rows;
-    loop_free = row_second set;
-    one_loop = loop_joined k (other_edge k h h_on after_h) (inl k_in) ∙ sym loop_g;
-    ends_apart = λ e. sound.ends_differ h goes.h_there (sym tail_g ∙ e ∙ tail_k);
-    edge_fits = sound.edges_fit (edge_of h) goes.h_there;
-    face_fits = sound.faces_fit f face_f;
-    loop_fits = sound.loops_fit s (ap is_some (row_of M sound m m_there));
-  }
+  put_goes =
+      let g_other = other_edge g h after_m m_on in let k_other = other_edge k h h_on after_h in
+      let g_old = half_old less g (half_after M sound m m_there) g_other in let k_old = half_old less k (half_after M sound h goes.h_there) k_other in
+      let k_loop = loop_joined k k_other (inl k_in) in let ends = sound.ends_differ h goes.h_there in
+      let edge = sound.edges_fit (edge_of h) goes.h_there in let face = sound.faces_fit f face_f in let row = sound.loops_fit s (ap is_some (row_of M sound m m_there)) in
+      grind (arith, g_old, k_old, k_loop, ends, edge, face, row, edge_gone less, row_here face_set.rows, row_second set, loop_g, tail_g, tail_k)
 
   abbrev K : Model
   K = mef N g k h f s

@@ -116,12 +116,10 @@ module _ {M : Model} (sound : Sound M) {g k h f l : ℕ} (goes : MefGoes M g k h
   two_rings = IsRing-mef h m g k xs apart_xs (mate_other h) h_not_listed mate_not_listed (after M) g_in k_in (light M sound r).1
 
   two_loops : (q : ℕ) → OneOf r l q → Has N.loops q → IsLoop F (content N q)
-  two_loops q o there = elim o [
-    | inl e ↦ subst (IsLoop F) (sym (ap (content N) e ∙ content_first set))
-        (canonical_cycle (h ∷ onward g k xs) (λ x. omega (arith, apart_two x, count-canonical x (h ∷ onward g k xs))) h (omega (arith, tick_same h)), two_rings.0)
-    | inr e ↦ subst (IsLoop F) (sym (ap (content N) e ∙ content_l))
-        (canonical_cycle (upto g k xs ++ m ∷ []) (λ x. omega (arith, apart_two x, count-canonical x (upto g k xs ++ m ∷ []))) m (omega (arith, count-append m (upto g k xs) (m ∷ []), tick_same m)), two_rings.1)
-  ]
+  two_loops q o there =
+      let one = canonical_cycle (h ∷ onward g k xs) (λ x. omega (arith, apart_two x, count-canonical x (h ∷ onward g k xs))) h in
+      let two = canonical_cycle (upto g k xs ++ m ∷ []) (λ x. omega (arith, apart_two x, count-canonical x (upto g k xs ++ m ∷ []))) m in
+      grind (arith, o, content_first set, one, content_l, two, two_rings, tick_same h, tick_same m, count-append m (upto g k xs) (m ∷ []))
 
   other_ring : (hs : List ℕ) → Elsewhere sound rows hs → IsRing (after M) hs → IsRing F hs
   other_ring hs each t =
@@ -191,14 +189,7 @@ module _ {M : Model} (sound : Sound M) {g k h f l : ℕ} (goes : MefGoes M g k h
 
   ranges : RangesHold N
   unfolding mef
-  ranges = record {
-    solids_fit = sound.solids_fit;
-    faces_fit = fit-put M.faces sound.faces_fit f _ goes.face_fits;
-    loops_fit = fit-put _ (fit-map M.loops sound.loops_fit _) l _ goes.loop_fits;
-    edges_fit = fit-put M.edges sound.edges_fit (edge_of h) _ goes.edge_fits;
-    vertices_fit = sound.vertices_fit;
-    points_fit = sound.points_fit;
-  }
+  ranges = grind (arith, sound, fit-put, fit-map, goes)
 
   -- a sound model stays sound under mef
   pub sound-mef : Sound N

@@ -228,14 +228,7 @@ module _ {M : Model} (sound : Sound M) {h q l u w : ℕ} {Y X : List ℕ} (goes 
 
   ranges : RangesHold N
   unfolding join_loops
-  ranges = record {
-    solids_fit = sound.solids_fit;
-    faces_fit = sound.faces_fit;
-    loops_fit = fit-remove _ (fit-put M.loops sound.loops_fit q _ (sound.loops_fit q goes.first.there)) l;
-    edges_fit = fit-put M.edges sound.edges_fit (edge_of h) _ goes.edge_fits;
-    vertices_fit = sound.vertices_fit;
-    points_fit = sound.points_fit;
-  }
+  ranges = grind (arith, sound, fit-put, fit-remove, goes.first.there, goes.edge_fits)
 
   -- a sound model stays sound under mekr
   pub sound-join : Sound N

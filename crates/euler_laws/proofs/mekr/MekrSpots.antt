@@ -51,22 +51,8 @@ pub record MekrHolds (M : Model) (c d : Corner) (h : HalfEdge) : Type 0 where
 
 pub mekr_holds : (M : Model) (c d : Corner) (h : HalfEdge) → Sound M → first_false M (Mekr c d h) ≡ None → MekrHolds M c d h
 unfolding first_false conditions
-mekr_holds M c d h sound e = let (_, (_, (edge_number, (c_known, (d_known, (c_lone, (d_lone, (edge_free, (loops_differ, (one_face, (d_ring, (tails_differ, _)))))))))))) = all_hold (conditions M (Mekr c d h)) e in record {
-  first_known = c_known;
-  second_known = d_known;
-  first_lone = c_lone;
-  second_lone = d_lone;
-  joins = record {
-    first = spot_of M sound c c_known c_lone;
-    second = spot_of M sound d d_known d_lone;
-    edge_free = ap (table.get M.edges) (edge_of-code h) ∙ no_row _ (not-true _ edge_free);
-    edge_fits = ap is_number (edge_of-code h) ∙ edge_number;
-    loops_apart = eqb-false _ _ (not-true _ loops_differ);
-    one_face = eqb-true _ _ one_face;
-    no_outer = is_ring M (corner_loop M d) d_ring;
-    ends_apart = eqb-false _ _ (not-true _ tails_differ);
-  };
-}
+mekr_holds M c d h sound e =
+    grind (arith, all_hold (conditions M (Mekr c d h)) e, spot_of M sound c, spot_of M sound d, edge_of-code, not-true, no_row, eqb-true, eqb-false, is_ring M)
 
 pub join_goes : (M : Model) (c d : Corner) (h : HalfEdge) → Sound M → first_false M (Mekr c d h) ≡ None →
     JoinGoes M (code h) (corner_loop M c) (corner_loop M d) (corner_tail M c) (corner_tail M d) (corner_list M c) (corner_list M d)

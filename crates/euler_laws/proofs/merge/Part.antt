@@ -152,12 +152,7 @@ module _ {M : Model} (sound : Sound M) {s t : ℕ} (goes : MergeGoes M s t) wher
 
   row_home : (q : ℕ) (row : FaceRow) → table.get M.faces q ≡ Some row →
       faces_to_solid (λ f _. lists (faces_of M t) f) t q (faces_to_solid (λ _ row. nat_eq row.solid t) s q row) ≡ row
-  row_home q row at = ap (λ b. cond b (record (cond (nat_eq row.solid t) (record row { solid = s }) row) { solid = t }) (cond (nat_eq row.solid t) (record row { solid = s }) row))
-      (listed_as (λ _ row. nat_eq row.solid t) M.faces q row at)
-      ∙ taken_back (nat_eq row.solid t) (λ e. eqb-true row.solid t e) where
-        taken_back : (b : Bool) → (b ≡ true → row.solid ≡ t) → cond b (record (cond b (record row { solid = s }) row) { solid = t }) (cond b (record row { solid = s }) row) ≡ row
-        taken_back true e = λ i. record { solid = sym (e refl) i; outer = row.outer }
-        taken_back false e = refl
+  row_home q row at = grind (arith, listed_as (λ _ row. nat_eq row.solid t) M.faces q row at, nat_tests)
 
   faces_home : (part J s t (faces_of M t)).faces ≡ M.faces
   unfolding merge part
@@ -191,10 +186,7 @@ faces_in-solid M s [] h f l = absurd (true≢false (sym l))
 faces_in-solid M s (g ∷ fs) h f l = elim (listed_cases g f fs l) [ inl e ↦ ap (solid_of M) e ∙ eqb-true _ _ h.0 | inr r ↦ faces_in-solid M s fs h.1 f r ]
 
 pub listed_in_solid : (M : Model) (s : ℕ) (fs : List ℕ) → AllHold (faces_known M fs ++ faces_in M s fs) → (f : ℕ) → lists fs f ≡ true → Has M.faces f × (solid_of M f ≡ s)
-listed_in_solid M s fs h f l = (
-  faces_known-there M fs (all_hold-front (faces_known M fs) (faces_in M s fs) h) f l,
-  faces_in-solid M s fs (all_hold-back (faces_known M fs) (faces_in M s fs) h) f l,
-)
+listed_in_solid M s fs h f l = grind (arith, faces_known-there, all_hold-front, faces_in-solid, all_hold-back)
 
 -- the four causes of a bad part
 or_false : (a b c d : Bool) → a ≡ false → b ≡ false → c ≡ false → d ≡ false → (a || b || c || d) ≡ false

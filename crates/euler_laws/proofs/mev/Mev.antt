@@ -5,7 +5,7 @@ use Rattle.euler_operators.specs.Common.{Point, IsInRange, HalfEdge, Corner, At,
 use Rattle.euler_operators.specs.Table as table
 use Rattle.euler_operators.proofs.Common.{edge_of-code, no_row}
 use Rattle.euler_operators.specs.declared.Op.TheVariants.{Mev}
-use Rattle.euler_laws.proofs.shared.Goes.{◌also◌, all_hold, none_refuses, not_false, taken}
+use Rattle.euler_laws.proofs.shared.Goes.{all_hold, none_refuses, not_false, taken}
 use Rattle.euler_laws.proofs.mev.MevSound.{MevGoes}
 use Rattle.euler_laws.proofs.mev.MevLoneSound.{LoneGoes}
 use Rattle.euler_laws.proofs.shared.Rows.{half_of, of_half, lone_is, is_lone_of}
@@ -25,37 +25,13 @@ pub record MevHolds (M : Model) (c d : Corner) (h : HalfEdge) (v : ℕ) (p : Poi
 
 pub mev_holds : (M : Model) (c d : Corner) (h : HalfEdge) (v : ℕ) (p : Point) → first_false M (Mev c d h v p) ≡ None → MevHolds M c d h v p
 unfolding first_false conditions
-mev_holds M c d h v p e = let (_, (_, (edge_number, (vertex_number, (c_known, (d_known, (c_lone, (d_lone, (edge_free, (vertex_free, (in_range, (one_tail, _)))))))))))) = all_hold (conditions M (Mev c d h v p)) e in record {
-  first_known = c_known;
-  second_known = d_known;
-  first_lone = c_lone;
-  second_lone = d_lone;
-  one_tail = eqb-true _ _ one_tail;
-  edge_free = ap (table.get M.edges) (edge_of-code h) ∙ no_row _ (not-true _ edge_free);
-  vertex_free = no_row _ (not-true _ vertex_free);
-  edge_fits = ap is_number (edge_of-code h) ∙ edge_number;
-  vertex_fits = vertex_number;
-  point_fits = in_range;
-}
+mev_holds M c d h v p e =
+    grind (arith, all_hold (conditions M (Mev c d h v p)) e, eqb-true, edge_of-code, not-true, no_row)
 
 -- where all that holds, and the corners' numbers are in range, none refuses
 mev_passes : (N : Model) (c d : Corner) (h : HalfEdge) (v : ℕ) (p : Point) → is_number (corner_number c) ≡ true → is_number (corner_number d) ≡ true → MevHolds N c d h v p → first_false N (Mev c d h v p) ≡ None
 unfolding first_false conditions
-mev_passes N c d h v p first_fits second_fits holds = none_refuses (conditions N (Mev c d h v p)) (
-    first_fits
-    also second_fits
-    also ap is_number (sym (edge_of-code h)) ∙ holds.edge_fits
-    also holds.vertex_fits
-    also holds.first_known
-    also holds.second_known
-    also holds.first_lone
-    also holds.second_lone
-    also not_false _ (taken _ (ap (table.get N.edges) (sym (edge_of-code h)) ∙ holds.edge_free))
-    also not_false _ (taken _ holds.vertex_free)
-    also holds.point_fits
-    also eq-eqb _ _ holds.one_tail
-    also tt
-    )
+mev_passes N c d h v p first_fits second_fits holds = grind (arith, none_refuses, edge_of-code, holds, taken, not_false, eq-eqb)
 
 pub mev_goes : (M : Model) (g k h : HalfEdge) (v : ℕ) (p : Point) → first_false M (Mev (At g) (At k) h v p) ≡ None → MevGoes M (code g) (code k) (code h) v p
 mev_goes M g k h v p e = let holds = mev_holds M (At g) (At k) h v p e in grind (arith, holds, half_of)
@@ -69,9 +45,7 @@ pub lone_goes : (M : Model) (l d : ℕ) (h : HalfEdge) (v : ℕ) (p : Point) →
 lone_goes M l d h v p e = let holds = mev_holds M (Lone l) (Lone d) h v p e in grind (arith, holds, lone_is)
 
 pub lone_accepted : (N : Model) (l : ℕ) (h : HalfEdge) (v u : ℕ) (p : Point) → Sound N → LoneGoes N l (code h) v u p → first_false N (Mev (Lone l) (Lone l) h v p) ≡ None
-lone_accepted N l h v u p sound goes =
-    let fits = sound.loops_fit l goes.loop_there in
-    mev_passes N (Lone l) (Lone l) h v p fits fits (grind (arith, goes, is_lone_of (content N l) u))
+lone_accepted N l h v u p sound goes = grind (arith, sound.loops_fit, goes.loop_there, mev_passes, is_lone_of)
 
 -- a corner at a half-edge and a lone one are never at one vertex
 pub mixed_first : (M : Model) (g : HalfEdge) (l : ℕ) (h : HalfEdge) (v : ℕ) (p : Point) → Sound M → first_false M (Mev (At g) (Lone l) h v p) ≡ None → ⊥

@@ -151,14 +151,7 @@ module _ {M : Model} (sound : Sound M) {l h v u : ℕ} {p : Point} (goes : LoneG
 
   ranges : RangesHold N
   unfolding mev_lone
-  ranges = record {
-    solids_fit = sound.solids_fit;
-    faces_fit = sound.faces_fit;
-    loops_fit = fit-put M.loops sound.loops_fit l _ (sound.loops_fit l goes.loop_there);
-    edges_fit = fit-put M.edges sound.edges_fit (edge_of h) _ goes.edge_fits;
-    vertices_fit = fit-put M.vertices sound.vertices_fit v p goes.vertex_fits;
-    points_fit = points-put M.vertices sound.points_fit v p goes.point_fits;
-  }
+  ranges = grind (arith, sound, fit-put, points-put, goes)
 
   -- no other edge ends at the new vertex
   pub no_parallel-lone : (x : ℕ) → HasHalf N x → edge_of x ≢ edge_of h → tail N x ≡ tail N h → tail N (mate x) ≢ tail N m

@@ -1,10 +1,10 @@
 -- A sound model stays sound under mev at two half-edges.
-use Rattle.std.proofs.Common.{◌≡◌, ◌≢◌, ℕ, ◌+◌, ◌≤◌, true, false, cond, nat_lt, List, [], ◌∷◌, Option, Some, None, unwrap_or, is_some, IsTrue, refl, sym, ap, ◌∙◌, subst, arith, ◌⊎◌, inl, inr, true≢false, option_map}
+use Rattle.std.proofs.Common.{◌≡◌, ◌≢◌, ℕ, ◌+◌, ◌≤◌, true, false, cond, nat_lt, List, ◌∷◌, Option, Some, None, unwrap_or, is_some, IsTrue, refl, sym, ap, ◌∙◌, subst, arith, ◌⊎◌, inl, inr, true≢false, option_map}
 use Rattle.std.proofs.lemmas.Bool.Decides.{nat_tests, eqb_tells}
 use Rattle.euler_operators.specs.Common.{Point, IsInRange, count, tick, IsIn, IsApart, canonical, upto, onward, IsRing, insert_before, led_over, after_mev, mate, edge_of, is_first, tables, Model, LoopContent, lone, cycle, LoopRow, EdgeRow, items_of, holds, tail, loop_of, content, after, arc, tail_in, no_edge, is_number, Sound, Has, HasHalf, StandsIn, IsLoneAt, mev_at, edge_row, with_before, with_tails}
 use Rattle.euler_operators.proofs.Common.{tick_same, tick_other, IsIn_or_not, mate_other, edge_of-mate, edges_apart, row_elsewhere, no_tail, in-holds, holds_in, cycle_there, mate_there}
 use Rattle.euler_operators.specs.Table as table
-use Rattle.euler_laws.proofs.shared.Fans.{Fan, fan_of}
+use Rattle.euler_laws.proofs.shared.Fans.{Fan, not_in_fan, fan_of}
 use Rattle.euler_laws.proofs.shared.Loops.{IsLoop, put_before, put_none, put_lone, lone_put, count_put_there, count_put_none, count_put_other, put_keeps, put_came, loop_put, loop_sound, none_free, none_else, Walks}
 use Rattle.euler_laws.proofs.shared.Arcs.{halves_of_edge, arc_is, fan_mev, fan_mev_other}
 use Rattle.euler_laws.proofs.shared.Same.{map_twice, mapped_some, Rewritten, content-new, face-same, loop-same, SameFaces, solid_at, solid_at-same, one_solid_round}
@@ -92,15 +92,11 @@ module _ (M : Model) (sound : Sound M) (g k h v : ℕ) (p : Point) (goes : MevGo
   pub new_edge : EdgeComes M N h u v
   new_edge = record { row = edge_there; others = λ e a. ap is_some (edge_mapped e a) ∙ mapped_some _ (table.get M.edges e); free = goes.edge_free; ends_apart = u_v }
 
-  -- nothing that isn't there stands in a fan
-  pub none_in_fan : {w : ℕ} (f : Fan (after M) M w) (x : ℕ) → (HasHalf M x → tail M x ≡ w → ⊥) → count x f.items ≡ 0
-  none_in_fan f x never = elim (IsIn_or_not x f.items) [ inl i ↦ absurd (never (f.of_it x i).0 (f.of_it x i).1) | inr n ↦ n ]
-
   pub h_fan : {w : ℕ} (f : Fan (after M) M w) → count h f.items ≡ 0
-  h_fan f = none_in_fan f h (λ t e. not_h new_edge h t refl)
+  h_fan f = not_in_fan (after M) M _ f h (λ t e. not_h new_edge h t refl)
 
   pub m_fan : {w : ℕ} (f : Fan (after M) M w) → count m f.items ≡ 0
-  m_fan f = none_in_fan f m (λ t e. not_m new_edge m t refl)
+  m_fan f = not_in_fan (after M) M _ f m (λ t e. not_m new_edge m t refl)
 
   -- ---- loops
 
@@ -109,9 +105,7 @@ module _ (M : Model) (sound : Sound M) (g k h v : ℕ) (p : Point) (goes : MevGo
 
   pub rewritten : Rewritten M N new
   unfolding mev_at
-  rewritten =
-      let one = map_twice (with_before k m) (with_before g h) M.loops in let two = put_none g h (cycle []) refl in
-      grind (arith, one, before_content k m, before_content g h, before_face k m, before_face g h, two, put_none k m (cycle []) refl)
+  rewritten = grind (arith, map_twice, put_none g h, put_none k, before_content k, before_content g h, before_face k, before_face g h)
 
   pub same : SameFaces M N
   unfolding mev_at
@@ -214,14 +208,8 @@ module _ (M : Model) (sound : Sound M) (g k h v : ℕ) (p : Point) (goes : MevGo
     items = m ∷ moved;
     apart = apart_with m moved (λ y. omega (arith, parts y)) (m_fan fan);
     ring = parted.0;
-    of_it = λ x i. elim (eqb_tells x m) [
-      | inl e ↦ (subst (HasHalf N) (sym e.1) (half_m new_edge), ap (tail N) e.1 ∙ tail-m new_edge)
-      | inr e ↦ let j : IsIn x moved = omega (arith, tick_other x m e.1) in let o = moved_old x j in (half_old new_edge x o.0, tail_moved x o.0 j)
-    ];
-    all = λ x there e. elim (half_cases new_edge x there) [
-      | inl o ↦ elim (IsIn_or_not x moved) [ inl j ↦ omega arith | inr z ↦ absurd (never_v x o (sym (tail_kept x o z) ∙ e)) ]
-      | inr d ↦ elim d [ inl q ↦ absurd (u_v (sym (tail-h new_edge) ∙ ap (tail N) (sym q) ∙ e)) | inr q ↦ omega (arith, ap (tick x) (sym q), tick_same x) ]
-    ];
+    of_it = grind (arith, eqb_tells, half_m new_edge, tail-m new_edge, tick_other, moved_old, half_old new_edge, tail_moved);
+    all = grind (arith, half_cases new_edge, IsIn_or_not, never_v, tail_kept, u_v, tail-h new_edge, tick_same);
   }
 
   pub fan_u : Fan F N u
@@ -233,13 +221,8 @@ module _ (M : Model) (sound : Sound M) (g k h v : ℕ) (p : Point) (goes : MevGo
       | inl e ↦ (subst (HasHalf N) (sym e.1) (half_h new_edge), ap (tail N) e.1 ∙ tail-h new_edge)
       | inr e ↦ let j : IsIn x left = omega (arith, tick_other x h e.1) in let o = fan.of_it x (omega (arith, parts x)) in (half_old new_edge x o.0, tail_kept x o.0 (omega (arith, parts x, fan.apart x)) ∙ o.1)
     ];
-    all = λ x there e. elim (half_cases new_edge x there) [
-      | inl o ↦ elim (IsIn_or_not x moved) [
-        | inl j ↦ absurd (u_v (sym e ∙ tail_moved x o j))
-        | inr z ↦ let i = fan.all x o (sym (tail_kept x o z) ∙ e) in omega (arith, parts x)
-      ]
-      | inr d ↦ elim d [ inl q ↦ omega (arith, ap (tick x) (sym q), tick_same x) | inr q ↦ absurd (u_v (sym e ∙ ap (tail N) q ∙ tail-m new_edge)) ]
-    ];
+    all = λ x there e. let d = half_cases new_edge x there in let one = tail_kept x in
+        grind (arith, d, IsIn_or_not x moved, tail_moved x, u_v, one, fan.all x, parts x, tick_same h, tail-m new_edge);
   }
 
   pub not_moved : (x : ℕ) → tail M x ≢ u → count x moved ≡ 0
@@ -248,13 +231,13 @@ module _ (M : Model) (sound : Sound M) (g k h v : ℕ) (p : Point) (goes : MevGo
   pub fan_else : (x : ℕ) → HasHalf M x → tail M x ≢ u → Fan F N (tail M x)
   fan_else x o a =
       let f = fan_of M sound x o in
-      let no_g : count g f.items ≡ 0 = none_in_fan f g (λ t e. a (sym e)) in
-      let no_k : count k f.items ≡ 0 = none_in_fan f k (λ t e. a (sym e ∙ goes.one_tail)) in
+      let no_g : count g f.items ≡ 0 = not_in_fan (after M) M _ f g (λ t e. a (sym e)) in
+      let no_k : count k f.items ≡ 0 = not_in_fan (after M) M _ f k (λ t e. a (sym e ∙ goes.one_tail)) in
       record {
         items = f.items;
         apart = f.apart;
         ring = fan_mev_other (after M) h g k (λ e. not_h new_edge k goes.k_there (sym e)) f.items f.apart (h_fan f) (m_fan f) f.ring no_g no_k;
-        of_it = λ y i. let t = f.of_it y i in (half_old new_edge y t.0, tail_kept y t.0 (not_moved y (λ e. a (sym t.1 ∙ e))) ∙ t.1);
+        of_it = grind (arith, f.of_it, half_old new_edge, tail_kept, not_moved);
         all = grind (arith, half_cases new_edge, new_edge, IsIn_or_not, never_v x o, tail_moved, f.all, tail_kept, tail-h new_edge, tail-m new_edge);
       }
 
@@ -317,14 +300,7 @@ module _ (M : Model) (sound : Sound M) (g k h v : ℕ) (p : Point) (goes : MevGo
 
   ranges : RangesHold N
   unfolding mev_at
-  ranges = record {
-    solids_fit = sound.solids_fit;
-    faces_fit = sound.faces_fit;
-    loops_fit = fit-map _ (fit-map M.loops sound.loops_fit _) _;
-    edges_fit = fit-put _ (fit-map M.edges sound.edges_fit _) (edge_of h) _ goes.edge_fits;
-    vertices_fit = fit-put M.vertices sound.vertices_fit v p goes.vertex_fits;
-    points_fit = points-put M.vertices sound.points_fit v p goes.point_fits;
-  }
+  ranges = grind (arith, sound, fit-put, fit-map, points-put, goes)
 
   -- a sound model stays sound under mev
   pub sound-mev : Sound N

@@ -199,8 +199,6 @@ module _ {M N : Model} {h : ℕ} (sound : Sound M) (less : OneLess M N h) where
       ];
       lone_is_no_tail = lone_is_no_tail-less;
       one_lone = one_lone-less;
-      lone_at_vertex = λ p v a. vertex_stays v (elim (old.lone_back p v a) [
-        | inl o ↦ sound.lone_at_vertex p v o
-        | inr d ↦ elim d [ inl o ↦ subst (Has M.vertices) (sym o.1) (sound.tails_there h less.there) | inr o ↦ subst (Has M.vertices) (sym o.1) (sound.tails_there m m_there) ]
-      ]);
+      lone_at_vertex = λ p v a. let one = sound.tails_there h less.there in let two = sound.tails_there m m_there in
+          grind (arith, old.lone_back p v a, sound.lone_at_vertex p v, one, two, vertex_stays v);
     }

@@ -2,17 +2,13 @@
 use Rattle.std.proofs.Common.{◌≡◌, ◌≢◌, ℕ, List, [], ◌∷◌, Some, None, is_some, sym, ap, ◌∙◌, subst, arith, ◌⊎◌, inl, inr}
 use Rattle.std.proofs.lemmas.Bool.Decides.{eqb_tells}
 use Rattle.euler_operators.specs.Common.{count, IsIn, IsRing, put_ring, after_mef, mate, edge_of, Model, tail, after, Sound, Has, HasHalf, IsTail, IsLoneAt, edge_row}
-use Rattle.euler_operators.proofs.Common.{IsRing-led_over_other, IsRing-splice_other, tick_same, tick_other, tick_le, IsIn_or_not, count-canonical, count-rotate_to, edge_of-mate, same_edge, mate-mate, tail_row, mate_there, get-put_here, get-put_other, row_elsewhere}
+use Rattle.euler_operators.proofs.Common.{IsRing-led_over_other, IsRing-splice_other, tick_same, tick_other, tick_le, count-canonical, count-rotate_to, edge_of-mate, same_edge, mate-mate, tail_row, mate_there, get-put_here, get-put_other, row_elsewhere}
 use Rattle.euler_operators.specs.Table as table
-use Rattle.euler_laws.proofs.shared.Fans.{Fan, fan_of}
+use Rattle.euler_laws.proofs.shared.Fans.{Fan, not_in_fan, fan_of}
 use Rattle.euler_laws.proofs.shared.Arcs.{fan_mef_first, fan_mef_second, fan_mef_other}
 use Rattle.euler_laws.proofs.shared.Rows.{tail_first, tail_second}
 use Rattle.euler_laws.proofs.shared.Parts.{VerticesHold}
 use Rattle.euler_laws.proofs.shared.Same.{same_tail}
-
--- what isn't of a fan doesn't stand in it
-pub not_in_fan : (next : ℕ → ℕ) (M : Model) (t : ℕ) (g : Fan next M t) (x : ℕ) → (HasHalf M x → tail M x ≢ t) → count x g.items ≡ 0
-not_in_fan next M t g x a = elim (IsIn_or_not x g.items) [ inl i ↦ absurd (a (g.of_it x i).0 (g.of_it x i).1) | inr n ↦ n ]
 
 -- the edge of h comes, from u to w; other edges are there as before
 pub record EdgeComes (M N : Model) (h u w : ℕ) : Type 0 where

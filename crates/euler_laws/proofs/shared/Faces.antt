@@ -1,13 +1,13 @@
 -- Operators that leave each loop's content, the edges and the vertices: what stays sound, and loops that change their face.
-use Rattle.std.proofs.Common.{◌≡◌, ℕ, Bool, true, false, cond, nat_eq, Some, is_some, refl, sym, ap, ◌∙◌, subst, ◌≢◌, ◌⊎◌, inl, inr, ne_eqb, eq-eqb, eqb-true}
+use Rattle.std.proofs.Common.{◌≡◌, ℕ, Bool, true, false, cond, nat_eq, Some, is_some, refl, sym, ap, ◌∙◌, subst, arith, ◌≢◌, ◌⊎◌, inl, inr, ne_eqb, eq-eqb, eqb-true}
 use Rattle.std.proofs.lemmas.Bool.Decides.{eqb_tells}
-use Rattle.euler_operators.specs.Common.{mate, map_rows, Model, lone, FaceRow, LoopRow, holds, tail, loop_of, content, face_of, solid_of, outer, after, Sound, Has, HasHalf, IsLoneAt, NumbersFit, loop_to_face, face_to_outer}
+use Rattle.euler_operators.specs.Common.{mate, map_rows, Model, lone, FaceRow, LoopRow, tail, loop_of, content, face_of, solid_of, outer, after, Sound, Has, HasHalf, IsLoneAt, NumbersFit, loop_to_face, face_to_outer}
 use Rattle.euler_operators.specs.Table as table
 use Rattle.euler_operators.proofs.Common.{map_same, map_one, mate_there, row_of, content_row, face_row, same_content, same_face, solid_row, outer_row}
-use Rattle.euler_laws.proofs.shared.Loops.{IsLoop, loop_sound, Walks, stands-walks, one_loop-walks, cycles-walks, ends_meet-walks, one_fan-walks}
+use Rattle.euler_laws.proofs.shared.Loops.{loop_sound, Walks}
 use Rattle.euler_laws.proofs.shared.Same.{map_twice, solid_at}
 use Rattle.euler_laws.proofs.shared.Rows.{loop_row, face_there}
-use Rattle.euler_laws.proofs.shared.Parts.{RowSet, row_here, row_other, has_same, FaceSet, solid_other}
+use Rattle.euler_laws.proofs.shared.Parts.{sound_of, RowSet, row_here, row_other, has_same, FaceSet, solid_other}
 use Rattle.euler_laws.proofs.shared.Rings.{SameRings, half_back, tail_same, walks-rings, loop-rings, ends_differ-rings, tail-rings, edges_fit-rings}
 
 pub record SameWalks (M N : Model) : Type 0 where
@@ -28,11 +28,7 @@ pub record FaceFacts (M N : Model) : Type 0 where
 
 module _ {M N : Model} (sound : Sound M) (same : SameWalks M N) where
   rings : SameRings M N
-  rings = record {
-    edges = same.edges;
-    stand = λ x q. ap (holds x) (same.contents q);
-    loops = λ q t. subst (IsLoop (after M)) (sym (same.contents q)) (loop_sound M sound q (sym (same.loops q) ∙ t));
-  }
+  rings = grind (arith, same.edges, same.contents, loop_sound M sound, same.loops)
 
   walks : Walks N (after M)
   walks = walks-rings M N sound rings
@@ -47,34 +43,20 @@ module _ {M N : Model} (sound : Sound M) (same : SameWalks M N) where
   lone_back q v e = sym (same.contents q) ∙ e
 
   pub sound-same : FaceFacts M N → Sound N
-  sound-same w = record {
-    stands = stands-walks N (after M) walks;
-    only_edges = walks.only;
-    one_loop = one_loop-walks N (after M) walks;
-    cycles = cycles-walks N (after M) walks;
-    ends_meet = ends_meet-walks N (after M) walks;
-    tails_there = λ x t. subst (Has N.vertices) (sym (tail_same M N sound rings x)) (has_vertex _ (sound.tails_there x (back x t)));
-    ends_differ = ends_differ-rings M N sound rings;
-    lone_or_tail = λ v t. elim (sound.lone_or_tail v (subst (λ y. Has y v) same.vertices t)) [
-      | inl a ↦ inl (a.0, same.contents a.0 ∙ a.1)
-      | inr x ↦ inr (tail-rings M N sound rings v x)
-    ];
-    lone_is_no_tail = λ q x t e. sound.lone_is_no_tail q x (back x t) (lone_back q (tail N x) e ∙ ap lone (tail_same M N sound rings x));
-    one_lone = λ a b v x y. sound.one_lone a b v (lone_back a v x) (lone_back b v y);
-    one_fan = one_fan-walks N (after M) walks;
-    loops_of_faces = λ q t. w.loops_of_faces q (sym (same.loops q) ∙ t);
-    outers_there = λ f t. let o = w.outers_there f t in (same.loops (outer N f) ∙ o.0, o.1);
-    lone_at_vertex = λ q v a. has_vertex v (sound.lone_at_vertex q v (lone_back q v a));
-    faces_of_solids = w.faces_of_solids;
-    solid_has_face = w.solid_has_face;
-    one_solid = λ x t. let o = back x t in ap (solid_at N) (loop-rings M N sound rings x o) ∙ w.one_solid x o ∙ sym (ap (solid_at N) (loop-rings M N sound rings (mate x) (mate_there M x o)));
-    solids_fit = w.solids_fit;
-    faces_fit = w.faces_fit;
-    loops_fit = λ q t. sound.loops_fit q (sym (same.loops q) ∙ t);
-    edges_fit = edges_fit-rings M N sound rings;
-    vertices_fit = λ v t. sound.vertices_fit v (subst (λ y. Has y v) same.vertices t);
-    points_fit = λ v p at. sound.points_fit v p (ap (λ t. table.get t v) (sym same.vertices) ∙ at);
-  }
+  sound-same w = sound_of N (after M) walks
+      (record {
+        tails_there = λ x t. subst (Has N.vertices) (sym (tail_same M N sound rings x)) (has_vertex _ (sound.tails_there x (back x t)));
+        ends_differ = ends_differ-rings M N sound rings;
+        lone_or_tail = grind (arith, same.vertices, same.contents, sound.lone_or_tail, tail-rings M N sound rings);
+        lone_is_no_tail = λ q x t e. sound.lone_is_no_tail q x (back x t) (lone_back q (tail N x) e ∙ ap lone (tail_same M N sound rings x));
+        one_lone = λ a b v x y. sound.one_lone a b v (lone_back a v x) (lone_back b v y);
+        lone_at_vertex = λ q v a. has_vertex v (sound.lone_at_vertex q v (lone_back q v a));
+      })
+      (grind (arith, w.loops_of_faces, w.outers_there, w.faces_of_solids, w.solid_has_face, same.loops, one_solid))
+      (let edges = edges_fit-rings M N sound rings in let vertices = sound.vertices_fit in let points = sound.points_fit in
+      grind (arith, w.solids_fit, w.faces_fit, sound.loops_fit, same.loops, edges, vertices, same.vertices, points)) where
+        one_solid : (x : ℕ) → HasHalf N x → solid_at N (loop_of N x) ≡ solid_at N (loop_of N (mate x))
+        one_solid x t = let o = back x t in ap (solid_at N) (loop-rings M N sound rings x o) ∙ w.one_solid x o ∙ sym (ap (solid_at N) (loop-rings M N sound rings (mate x) (mate_there M x o)))
 
 -- ---- one loop goes to another face
 
@@ -97,6 +79,21 @@ pub record FacesAfter (M N : Model) (l f : ℕ) : Type 0 where
   pub solid_kept : (q : ℕ) → Has M.loops q → q ≢ l → solid_of N (face_of M q) ≡ solid_of M (face_of M q)
   pub fit : NumbersFit N.faces
 
+-- where each face keeps its solid, what is left to show is where the outer loops are
+pub faces_after : {M N : Model} {l f : ℕ} → Sound M → ((p : ℕ) → table.has N.faces p ≡ table.has M.faces p) → ((p : ℕ) → solid_of N p ≡ solid_of M p) →
+    Has M.faces f → solid_of M (face_of M l) ≡ solid_of M f →
+    ((p : ℕ) → Has M.faces p → ((outer N p ≡ l) × (p ≡ f)) ⊎ ((outer N p ≢ l) × Has M.loops (outer N p) × (face_of M (outer N p) ≡ p))) → FacesAfter M N l f
+faces_after {M = M} {f = f} sound has solid home one outers = record {
+  home = has f ∙ home;
+  kept = λ q t a. has (face_of M q) ∙ sound.loops_of_faces q t;
+  outers = λ p t. outers p (sym (has p) ∙ t);
+  in_solid = λ p t. subst (Has M.solids) (sym (solid p)) (sound.faces_of_solids p (sym (has p) ∙ t));
+  has_face = λ s t. let x = sound.solid_has_face s t in (x.0, has x.0 ∙ x.1, solid x.0 ∙ x.2);
+  solid_new = solid f ∙ sym one;
+  solid_kept = λ q t a. solid (face_of M q);
+  fit = λ p t. sound.faces_fit p (sym (has p) ∙ t);
+}
+
 module _ {M N : Model} {l f : ℕ} (moves : LoopMoves M N l f) where
   rows : RowSet M.loops N.loops l (Some (record { face = f; content = content M l }))
   rows = record {
@@ -112,15 +109,9 @@ module _ {M N : Model} {l f : ℕ} (moves : LoopMoves M N l f) where
   face_kept q a = same_face M N q (row_other rows q a)
 
   pub walks_same : SameWalks M N
-  walks_same = record {
-    edges = moves.edges;
-    vertices = moves.vertices;
-    contents = λ q. elim (eqb_tells q l) [
-      | inl e ↦ ap (content N) e.1 ∙ content_row N l _ (row_here rows) ∙ sym (ap (content M) e.1)
-      | inr e ↦ same_content M N q (row_other rows q e.1)
-    ];
-    loops = has_same rows moves.there refl;
-  }
+  walks_same =
+      let one = content_row N l _ (row_here rows) in let two = same_content M N in let three = has_same rows moves.there refl in
+      grind (arith, moves.edges, moves.vertices, eqb_tells, one, two, row_other rows, three)
 
   module _ (sound : Sound M) where
     -- a face that keeps its outer loop, which is another than l
@@ -139,14 +130,8 @@ module _ {M N : Model} {l f : ℕ} (moves : LoopMoves M N l f) where
 
       pub sound-moves : Sound N
       sound-moves = sound-same sound walks_same (record {
-        loops_of_faces = λ q t. elim (eqb_tells q l) [
-          | inl e ↦ subst (Has N.faces) (sym (ap (face_of N) e.1 ∙ face_moved)) after.home
-          | inr e ↦ subst (Has N.faces) (sym (face_kept q e.1)) (after.kept q t e.1)
-        ];
-        outers_there = λ p t. elim (after.outers p t) [
-          | inl o ↦ (subst (Has M.loops) (sym o.0) moves.there, ap (face_of N) o.0 ∙ face_moved ∙ sym o.1)
-          | inr o ↦ (o.1, face_kept (outer N p) o.0 ∙ o.2)
-        ];
+        loops_of_faces = grind (arith, eqb_tells, face_moved, after.home, face_kept, after.kept);
+        outers_there = grind (arith, after.outers, moves.there, face_moved, face_kept);
         faces_of_solids = λ p t. subst (λ y. Has y (solid_of N p)) (sym moves.solids) (after.in_solid p t);
         solid_has_face = λ s t. after.has_face s (subst (λ y. Has y s) moves.solids t);
         one_solid = λ x t. solid_half x t ∙ sound.one_solid x t ∙ sym (solid_half (mate x) (mate_there M x t));
@@ -183,10 +168,7 @@ module _ {M N : Model} {p l : ℕ} (set : OuterSet M N p l) where
   has_face_same = has_same outer_set.rows set.there refl
 
   pub solid_same : (q : ℕ) → solid_of N q ≡ solid_of M q
-  solid_same q = elim (eqb_tells q p) [
-    | inl e ↦ ap (solid_of N) e.1 ∙ solid_row N p _ (row_here outer_set.rows) ∙ sym (ap (solid_of M) e.1)
-    | inr e ↦ solid_other outer_set q e.1
-  ]
+  solid_same q = grind (arith, eqb_tells, solid_row N p, row_here outer_set.rows, solid_other outer_set, outer_set)
 
   pub outer_new : outer N p ≡ l
   outer_new = outer_row N p _ (row_here outer_set.rows)

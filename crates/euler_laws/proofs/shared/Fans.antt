@@ -13,10 +13,7 @@ reaches_first : (next : ℕ → ℕ) (x z y : ℕ) → next x ≡ z → Reaches 
 reaches_first next x z y e p = reaches_trans next x z y (subst (Reaches next x) e (further here)) p
 
 path_reaches : (next : ℕ → ℕ) (x : ℕ) (xs : List ℕ) (d y : ℕ) → IsPath next (x ∷ xs) d → IsIn y (x ∷ xs) → Reaches next x y
-path_reaches next x [] d y p i = elim (eqb_tells y x) [
-  | inl e ↦ subst (Reaches next x) (sym e.1) here
-  | inr ne ↦ absurd (omega (arith, tick_other y x ne.1))
-]
+path_reaches next x [] d y p i = let e : y ≡ x = grind (arith, eqb_tells y x, tick_other y x) in subst (Reaches next x) (sym e) here
 path_reaches next x (z ∷ zs) d y p i = elim (eqb_tells y x) [
   | inl e ↦ subst (Reaches next x) (sym e.1) here
   | inr ne ↦ reaches_first next x z y p.0 (path_reaches next z zs d y p.1 (omega (arith, tick_other y x ne.1)))
@@ -75,8 +72,11 @@ pub record Fan (next : ℕ → ℕ) (M : Model) (v : ℕ) : Type 0 where
   pub all : (x : ℕ) → HasHalf M x → tail M x ≡ v → IsIn x items
 
 -- what doesn't start at the vertex stands not in its fan
+pub not_in_fan : (next : ℕ → ℕ) (M : Model) (t : ℕ) (g : Fan next M t) (x : ℕ) → (HasHalf M x → tail M x ≢ t) → count x g.items ≡ 0
+not_in_fan next M t g x a = elim (IsIn_or_not x g.items) [ inl i ↦ absurd (a (g.of_it x i).0 (g.of_it x i).1) | inr n ↦ n ]
+
 pub none_in_fan : (M : Model) {v : ℕ} (fan : Fan (after M) M v) (x : ℕ) → tail M x ≢ v → count x fan.items ≡ 0
-none_in_fan M fan x a = elim (IsIn_or_not x fan.items) [ inl i ↦ absurd (a (fan.of_it x i).1) | inr n ↦ n ]
+none_in_fan M {v = v} fan x a = not_in_fan (after M) M v fan x (λ t. a)
 
 module _ (M : Model) (sound : Sound M) where
   pub half_face : (z : ℕ) → HasHalf M z → Has M.faces (face_at M z)

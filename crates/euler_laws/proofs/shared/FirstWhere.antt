@@ -1,5 +1,5 @@
 -- The first number of a table whose row passes a test is the least one.
-use Rattle.std.proofs.Common.{◌≡◌, ℕ, ◌≤◌, Bool, true, false, cond, List, [], ◌∷◌, Some, refl, sym, ap, ◌∙◌, arith, true≢false, inl, inr}
+use Rattle.std.proofs.Common.{◌≡◌, ℕ, ◌≤◌, Bool, true, false, cond, List, [], ◌∷◌, Some, refl, sym, ◌∙◌, arith, true≢false, inl, inr}
 use Rattle.euler_operators.specs.Table as table
 use Rattle.euler_operators.specs.Common.{Table, first_where, all_where, first_in, all_in, lists, strictly_rises, head_or_zero}
 use Rattle.euler_laws.proofs.shared.Listed.{first_listed, listed_cases, listed_passes, passes_listed, all_where-rises}
@@ -29,7 +29,5 @@ module _ {X : Type 0} (p : ℕ → X → Bool) (t : Table X) where
 
   -- where one passes, the first passes and isn't greater
   pub first_passes : (q : ℕ) (y : X) → table.get t q ≡ Some y → p q y ≡ true → (lists (all_where p t) (first_where p t) ≡ true) × (first_where p t ≤ q)
-  first_passes q y at passes = head_is_before (all_where p t) (all_where-rises p t) first_is_head (passes_listed p t q y at passes) where
-    head_is_before : (ns : List ℕ) → strictly_rises ns ≡ true → first_where p t ≡ head_or_zero ns → lists ns q ≡ true → (lists ns (first_where p t) ≡ true) × (first_where p t ≤ q)
-    head_is_before [] r e l = absurd (true≢false (sym l))
-    head_is_before (m ∷ ns) r e l = (ap (lists (m ∷ ns)) e ∙ first_listed m ns, elim (listed_cases m q ns l) [ inl s ↦ omega (arith, e, s) | inr s ↦ omega (arith, e, rises_apart m q ns r s) ])
+  first_passes q y at passes =
+      grind (arith, all_where-rises p t, first_is_head, passes_listed p t q y at passes, true≢false, first_listed, listed_cases, rises_apart)

@@ -37,31 +37,7 @@ pub record RangesHold (N : Model) : Type 0 where
   pub points_fit : PointsFit N.vertices
 
 pub sound_of : (N : Model) (next : ℕ → ℕ) → Walks N next → VerticesHold N → FacesHold N → RangesHold N → Sound N
-sound_of N next walks vertices faces ranges = record {
-  stands = stands-walks N next walks;
-  only_edges = walks.only;
-  one_loop = one_loop-walks N next walks;
-  cycles = cycles-walks N next walks;
-  ends_meet = ends_meet-walks N next walks;
-  tails_there = vertices.tails_there;
-  ends_differ = vertices.ends_differ;
-  lone_or_tail = vertices.lone_or_tail;
-  lone_is_no_tail = vertices.lone_is_no_tail;
-  one_lone = vertices.one_lone;
-  one_fan = one_fan-walks N next walks;
-  loops_of_faces = faces.loops_of_faces;
-  outers_there = faces.outers_there;
-  lone_at_vertex = vertices.lone_at_vertex;
-  faces_of_solids = faces.faces_of_solids;
-  solid_has_face = faces.solid_has_face;
-  one_solid = faces.one_solid;
-  solids_fit = ranges.solids_fit;
-  faces_fit = ranges.faces_fit;
-  loops_fit = ranges.loops_fit;
-  edges_fit = ranges.edges_fit;
-  vertices_fit = ranges.vertices_fit;
-  points_fit = ranges.points_fit;
-}
+sound_of N next walks vertices faces ranges = grind (arith, cycles-walks, ends_meet-walks, one_fan-walks, stands-walks, walks.only, one_loop-walks)
 
 -- ---- ranges, where a row is put or taken away or rows are rewritten
 

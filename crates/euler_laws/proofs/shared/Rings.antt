@@ -1,5 +1,5 @@
 -- Two models with the same edges whose loops hold the same half-edges: what is known of the walks of one holds for the other.
-use Rattle.std.proofs.Common.{◌≡◌, ◌≢◌, ℕ, unwrap_or, sym, ap, ◌∙◌, subst}
+use Rattle.std.proofs.Common.{◌≡◌, ◌≢◌, ℕ, unwrap_or, sym, ap, ◌∙◌, subst, arith}
 use Rattle.euler_operators.specs.Common.{mate, edge_of, is_first, Model, holds, tail, tail_in, no_edge, loop_of, content, after, Sound, Has, HasHalf, StandsIn, IsTail, NumbersFit}
 use Rattle.euler_operators.specs.Table as table
 use Rattle.euler_laws.proofs.shared.Fans.{fan_of}
@@ -29,13 +29,7 @@ module _ (M N : Model) (sound : Sound M) (same : SameRings M N) where
     only = λ x q s. half_on x (sound.only_edges x q (stand_back x q s));
     placed = λ x t. (loop_of M x, same.stand x (loop_of M x) ∙ (sound.stands x (half_back x t)), λ q s. sym (sound.one_loop x q (stand_back x q s)));
     loops = same.loops;
-    fans = λ x t. let f = fan_of M sound x (half_back x t) in record {
-      items = f.items;
-      apart = f.apart;
-      ring = f.ring;
-      of_it = λ y i. let o = f.of_it y i in (half_on y o.0, tail_same y ∙ o.1 ∙ sym (tail_same x));
-      all = λ y u e. f.all y (half_back y u) (sym (tail_same y) ∙ e ∙ tail_same x);
-    };
+    fans = λ x t. let f = fan_of M sound x (half_back x t) in grind (arith, f, half_on, half_back, tail_same);
   }
 
   pub loop-rings : (x : ℕ) → HasHalf M x → loop_of N x ≡ loop_of M x

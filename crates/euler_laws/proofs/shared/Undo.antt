@@ -1,7 +1,7 @@
 -- Models that answer alike are equal; and lists that an operator and its inverse leave.
-use Rattle.std.proofs.Common.{◌≡◌, ◌≢◌, ℕ, ◌+◌, Bool, true, false, not, nat_eq, ◌&&◌, ◌||◌, List, ◌∷◌, Option, Some, None, unwrap_or, is_some, IsTrue, refl, sym, ap, ◌∙◌, arith, inl, inr, true≢false}
+use Rattle.std.proofs.Common.{◌≡◌, ◌≢◌, ℕ, ◌+◌, Bool, true, false, not, nat_eq, ◌&&◌, ◌||◌, List, ◌∷◌, Option, Some, None, unwrap_or, is_some, IsTrue, refl, sym, ap, ◌∙◌, arith, true≢false}
 use Rattle.std.proofs.lemmas.Bool.Decides.{nat_tests, eqb_tells}
-use Rattle.euler_operators.specs.Common.{count, tick, IsIn, IsApart, head_or, canonical, rotate_to, rest, between, successor, IsRotation, insert_before, without, mev_ring, kev_ring, put_ring, take_ring, mate, edge_of, is_first, plus, minus, same_table, Model, LoopRow, no_loop, EdgeRow, no_edge, tail_in, tail, content, face_of, is_number, Has, HasHalf, parallel}
+use Rattle.euler_operators.specs.Common.{count, IsIn, IsApart, head_or, canonical, rotate_to, rest, between, successor, IsRotation, insert_before, without, mev_ring, kev_ring, put_ring, take_ring, mate, edge_of, is_first, plus, minus, same_table, Model, LoopRow, no_loop, EdgeRow, no_edge, tail_in, tail, content, face_of, is_number, Has, HasHalf, parallel}
 use Rattle.euler_operators.proofs.Common.{count-append, tick_same, tick_other, canonical-rotates, canonical_same, rest_same, rotate_to_is, ring_split, apart_at, count-insert_before, insert_before-rotates, insert_before_same, mev_ring_is, without-rotates, kev_ring_is, plus_row, minus_row, mate_plus, mate_minus, first_where_zero, zero_first_where, row_some}
 use Rattle.euler_operators.proofs.Cuts.{IsIn_rest}
 use Rattle.euler_operators.specs.Table as table
@@ -85,10 +85,7 @@ module _ (hs : List ℕ) (d : IsApart hs) where
       let three = count-insert_before m g h hs i in let four = canonical_same (insert_before k m xs) in
       grind (arith, put_apart g h i nh, two, three, two_apart xs, four, insert_before_same k m xs, canonical-rotates xs, one) where
         two_apart : (xs : List ℕ) → IsApart xs → (k m : ℕ) → IsIn k xs → count m xs ≡ 0 → IsApart (insert_before k m xs)
-        two_apart xs dx k m i n x = elim (eqb_tells x m) [
-          | inl e ↦ omega (arith, count-insert_before x k m xs i, ap (λ y. count y xs) e.1, ap (tick x) (sym e.1), tick_same x)
-          | inr e ↦ omega (arith, count-insert_before x k m xs i, tick_other x m e.1, dx x)
-        ]
+        two_apart xs dx k m i n x = grind (arith, eqb_tells, count-insert_before, tick_same, tick_other)
 
   tail_of : {x y : ℕ} {xs ys : List ℕ} → x ∷ xs ≡ y ∷ ys → xs ≡ ys
   tail_of e = cc
