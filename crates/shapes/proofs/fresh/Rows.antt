@@ -1,7 +1,6 @@
 -- Tables to which rows are added at fresh numbers: what a search lists, and the greatest number.
-use Rattle.std.proofs.Common.{◌≡◌, ◌≢◌, ℕ, ◌≤◌, ◌<◌, Bool, true, false, cond, T, List, [], ◌∷◌, ◌++◌, Option, Some, None, refl, sym, ap, ◌∙◌, arith, is_some, true≢false, ◌⊎◌, inl, inr, nat_eq, nat_le, nat_cmp, is_lt, leb-true, leb-false}
+use Rattle.std.proofs.Common.{◌≡◌, ◌≢◌, ℕ, ◌≤◌, ◌<◌, Bool, true, false, cond, T, List, [], ◌∷◌, ◌++◌, Some, None, refl, sym, ap, ◌∙◌, arith, is_some, true≢false, ◌⊎◌, inl, inr, nat_eq, nat_cmp, is_lt}
 use Rattle.std.proofs.lemmas.Bool.Decides.{nat_tests, eqb_tells}
-use Rattle.std.specs.Ordering.{eq_by_cmp}
 use Rattle.std.specs.FinMap.Entries as entries
 use Rattle.std.specs.FinMap.Entries.{find, is_sorted, by_order}
 use Rattle.std.specs.Cmp.{unsigned_tied}
@@ -18,10 +17,7 @@ AllBelow n (e ∷ es) = (e.0 < n) × AllBelow n es
 
 pub all_in-append : {X : Type 0} (p : ℕ → X → Bool) (es fs : List (ℕ × X)) → all_in p (es ++ fs) ≡ all_in p es ++ all_in p fs
 all_in-append p [] fs = refl
-all_in-append p (e ∷ es) fs = elim (p e.0 e.1) as (λ b. cond b (e.0 ∷ all_in p (es ++ fs)) (all_in p (es ++ fs)) ≡ cond b (e.0 ∷ all_in p es) (all_in p es) ++ all_in p fs) [
-  | true ↦ ap (λ t. e.0 ∷ t) (all_in-append p es fs)
-  | false ↦ all_in-append p es fs
-]
+all_in-append p (e ∷ es) fs = grind (arith, all_in-append p es fs)
 
 greater_is : (k n : ℕ) → n < k → nat_cmp k n ≡ Greater
 greater_is k n h = grind (arith, nat_tests)
@@ -81,10 +77,7 @@ free_above t k above = ap is_some (none_above t k above)
 
 -- no number in use is above the greatest
 pub at_most_greatest : {X : Type 0} (t : Table X) (k : ℕ) → table.has t k ≡ true → k ≤ table.greatest t
-at_most_greatest t k there = elim (nat_le k (table.greatest t)) as (λ b. nat_le k (table.greatest t) ≡ b → k ≤ table.greatest t) [
-  | true ↦ λ e. leb-true k (table.greatest t) e
-  | false ↦ λ e. absurd (true≢false (sym there ∙ free_above t k (leb-false k (table.greatest t) e)))
-] refl
+at_most_greatest t k there = grind (arith, true≢false, free_above)
 
 -- a row that is found was put or was there
 pub get-put_cases : {X : Type 0} (t : Table X) (k : ℕ) (v : X) (q : ℕ) (x : X) → table.get (table.put t k v) q ≡ Some x → ((q ≡ k) × (x ≡ v)) ⊎ ((q ≢ k) × (table.get t q ≡ Some x))
@@ -95,10 +88,7 @@ get-put_cases t k v q x at = elim (eqb_tells q k) [
 
 found_greatest : {X : Type 0} (e : ℕ × X) (es : List (ℕ × X)) → is_some (find nat_cmp (greatest_in (e ∷ es)) (e ∷ es)) ≡ true
 found_greatest e [] = ap (λ c. is_some (cond c (Some e.1) None)) (unsigned_tied e.0 e.0 ∙ nat_eq_itself e.0)
-found_greatest e (f ∷ es) = either (eq_by_cmp nat_cmp (greatest_in (f ∷ es)) e.0) e.1 (find nat_cmp (greatest_in (f ∷ es)) (f ∷ es)) (found_greatest f es) where
-  either : {X : Type 0} (c : Bool) (x : X) (o : Option X) → is_some o ≡ true → is_some (cond c (Some x) o) ≡ true
-  either true x o i = refl
-  either false x o i = i
+found_greatest e (f ∷ es) = grind (arith, found_greatest f es)
 
 -- the greatest number is in use, where it isn't 0
 pub greatest_used : {X : Type 0} (t : Table X) → table.greatest t ≢ 0 → table.has t (table.greatest t) ≡ true
@@ -110,17 +100,4 @@ greatest_used {X = X} t some = greatest_found t.rows some where
 
 -- a number in use, or 0, that no number in use passes is the greatest
 pub greatest_is : {X : Type 0} (t : Table X) (n : ℕ) → (n ≢ 0 → table.has t n ≡ true) → ((k : ℕ) → n < k → table.has t k ≡ false) → table.greatest t ≡ n
-greatest_is t n used above = between (table.greatest t) n
-    (λ l. true≢false (sym (greatest_used t (not_zero (table.greatest t) n l)) ∙ above (table.greatest t) l))
-    (λ l. true≢false (sym (used (not_zero n (table.greatest t) l)) ∙ free_above t n l)) where
-      not_zero : (a b : ℕ) → b < a → a ≢ 0
-      not_zero a b l e = absurd (omega arith)
-
-      between : (a b : ℕ) → (b < a → ⊥) → (a < b → ⊥) → a ≡ b
-      between a b f g = elim (eqb_tells a b) [
-        | inl e ↦ e.1
-        | inr ne ↦ elim (nat_le a b) as (λ c. nat_le a b ≡ c → a ≡ b) [
-          | true ↦ λ e. absurd (g (grind (arith, nat_tests)))
-          | false ↦ λ e. absurd (f (grind (arith, nat_tests)))
-        ] refl
-      ]
+greatest_is t n used above = grind (arith, true≢false, greatest_used t, free_above t n, eqb_tells, nat_tests)

@@ -1,6 +1,6 @@
 -- Two faces of two solids whose items go back along each other: what follows in a sound model.
 use Rattle.std.proofs.Common.{◌≡◌, ◌≢◌, ℕ, List, [], ◌∷◌, ◌++◌, Some, None, is_some, IsTrue, sym, ap, ◌∙◌, arith, map, reverse}
-use Rattle.euler_operators.specs.Common.{count, IsIn, IsApart, canonical, successor, mate, Model, cycle, items_of, holds, tail, loop_of, content, face_of, solid_of, outer, cycle_of, after, is_number, Sound, Has, HasHalf, StandsIn}
+use Rattle.euler_operators.specs.Common.{IsIn, IsApart, canonical, mate, Model, cycle, items_of, holds, tail, loop_of, content, face_of, solid_of, outer, cycle_of, after, is_number, Sound, Has, HasHalf, StandsIn}
 use Rattle.euler_operators.proofs.Common.{count-append, tick_same, count-canonical, successor_inner, successor_last, count-reverse, content_row, face_row, in-holds, mate_there as half_mate, IsIn-map}
 use Rattle.euler_operators.specs.Table as table
 use Rattle.euler_laws.proofs.Common.{one_solid_round}
@@ -100,15 +100,9 @@ module _ (M : Model) (f g : ℕ) (partner_of : ℕ → ℕ) (hs : List ℕ) (x :
   pub meets : (ps : List ℕ) (h k : ℕ) (qs : List ℕ) → hs ≡ ps ++ h ∷ k ∷ qs → tail M k ≡ tail M (mate h)
   unfolding after
   meets ps h k qs e =
-      let i : IsIn h hs = omega (arith, ap (count h) e, count-append h ps (h ∷ k ∷ qs), tick_same h) in
-      let once : count h ps ≡ 0 = omega (arith, apart h, ap (count h) e, count-append h ps (h ∷ k ∷ qs), tick_same h) in
-      let next : after M h ≡ k = ap (λ q. successor q h) (cycle_f h i ∙ e) ∙ successor_inner h k ps qs once in
-      ap (tail M) (sym next) ∙ w.sound.ends_meet h (half_f h i)
+      grind (arith, count-append h ps (h ∷ k ∷ qs), tick_same h, apart h, cycle_f h, successor_inner h k ps qs, w.sound.ends_meet h, half_f h)
 
   pub meets_round : (k : ℕ) (ps : List ℕ) (h : ℕ) → hs ≡ (k ∷ ps) ++ h ∷ [] → tail M k ≡ tail M (mate h)
   unfolding after
   meets_round k ps h e =
-      let i : IsIn h hs = omega (arith, ap (count h) e, count-append h (k ∷ ps) (h ∷ []), tick_same h) in
-      let once : count h (k ∷ ps) ≡ 0 = omega (arith, apart h, ap (count h) e, count-append h (k ∷ ps) (h ∷ []), tick_same h) in
-      let next : after M h ≡ k = ap (λ q. successor q h) (cycle_f h i ∙ e) ∙ successor_last k h ps once in
-      ap (tail M) (sym next) ∙ w.sound.ends_meet h (half_f h i)
+      grind (arith, count-append h (k ∷ ps) (h ∷ []), tick_same h, apart h, cycle_f h, successor_last k h ps, w.sound.ends_meet h, half_f h)

@@ -1,7 +1,7 @@
 -- What it says that a glue isn't refused.
 use Rattle.std.proofs.Common.{◌≡◌, ◌≢◌, ℕ, suc, true, false, not, nat_eq, ◌&&◌, ◌||◌, List, [], ◌∷◌, ◌++◌, length, Some, None, unwrap_or, refl, sym, ap, ◌∙◌, subst, arith, true≢false, ◌⊎◌, inl, inr, map, reverse, eq-eqb, append-nil}
 use Rattle.std.proofs.lemmas.Bool.{not-true, not-false, eqb-false}
-use Rattle.euler_operators.specs.Common.{Point, same_point, origin, moved, cross, count, tick, IsIn, IsApart, head_or, last_or, canonical, IsPath, IsRing, IsRotation, successor, predecessor, rest, mate, Model, cycle, holds, content, face_of, solid_of, outer, tail, point_of, after, rings_of, Sound, Has, HasHalf, IsCycle, AllHold, first_refusal, is_lone, lists, has_rings}
+use Rattle.euler_operators.specs.Common.{Point, same_point, origin, moved, cross, count, IsIn, IsApart, head_or, last_or, canonical, IsPath, IsRing, IsRotation, successor, predecessor, rest, mate, Model, cycle, holds, content, face_of, solid_of, outer, tail, point_of, after, rings_of, Sound, Has, HasHalf, IsCycle, AllHold, first_refusal, is_lone, lists, has_rings}
 use Rattle.euler_operators.proofs.Common.{tick_same, canonical_same, canonical-rotates, count-canonical, IsApart-same, IsRotation-same, IsRotation-length, IsRing-same, IsIn_successor, IsIn_predecessor, successor_same, successor-predecessor, predecessor-successor, front_of, apart_at, rotation_at, next_is_successor, reverse-cons, reverse_at, count-reverse, successor-map, successor-reverse, mate-mate, mate_other, zero_first_where, in-holds, loop_number, and_first, first_fails, or_true, no_cons, IsIn-map, same_as}
 use Rattle.euler_operators.specs.Table as table
 use Rattle.euler_laws.proofs.Common.{all_hold, listed_as, IsIn-from_listed, loop_row, face_there, no_rings_means, not_lone_cycle, empty_is, IsLoop, loop_sound}
@@ -69,10 +69,9 @@ module _ (M : Model) (sound : Sound M) (g : ℕ) (there : Has M.faces g) (alone 
   unfolding normal
   two_thin u v e =
       let r : IsRing (after M) (u ∷ v ∷ []) = subst (IsRing (after M)) e (ring_l M sound (outer M g) gs has_l is) in
-      let in_u : IsIn u gs = omega (arith, ap (count u) e, tick_same u) in
-      let in_v : IsIn v gs = omega (arith, ap (count v) e, tick_same v) in
-      let first : finish M u ≡ start M v = sym (next_start M sound u (half_l M sound (outer M g) gs has_l is u in_u)) ∙ ap (start M) r.0 in
-      let second : finish M v ≡ start M u = sym (next_start M sound v (half_l M sound (outer M g) gs has_l is v in_v)) ∙ ap (start M) r.1.0 in
+      let old : (h : ℕ) → IsIn h (u ∷ v ∷ []) → HasHalf M h = λ h i. half_l M sound (outer M g) gs has_l is h (omega (arith, i, ap (count h) e)) in
+      let first : finish M u ≡ start M v = sym (next_start M sound u (old u (omega (arith, tick_same u)))) ∙ ap (start M) r.0 in
+      let second : finish M v ≡ start M u = sym (next_start M sound v (old v (omega (arith, tick_same v)))) ∙ ap (start M) r.1.0 in
       ap (area M) (boundary_is ∙ e)
       ∙ (λ i. moved (cross (start M u) (first i)) (moved (cross (start M v) (second i)) origin))
       ∙ there_and_back (start M u) (start M v)
@@ -151,19 +150,8 @@ pub glue_goes : (M : Model) (f g : ℕ) → glue_refusal M f g ≡ None → Glue
 unfolding glue_conditions early_glue_conditions
 glue_goes M f g accepted = named (all_hold (glue_conditions M f g) accepted) where
   named : AllHold (glue_conditions M f g) → GlueGoes M f g
-  named (_, (_, (f_known, (g_known, (one_solid, (rings_f, (rings_g, (lone, (bent, (twice_f, (twice_g, (matching, room)))))))))))) = record {
-    f_there = f_known;
-    g_there = g_known;
-    solids_apart = eqb-false (solid_of M f) (solid_of M g) (not-true _ one_solid);
-    ringless_f = not-true _ rings_f;
-    ringless_g = not-true _ rings_g;
-    none_lone = none_is_lone M _ (none_found (least_lone M _) lone);
-    none_bent = none_found (first_such (λ k. not (is_flat M k)) _) bent;
-    points_f = not-true _ twice_f;
-    points_g = not-true _ twice_g;
-    matches = matching;
-    left = numbers_are_left (taken_in M) _ room;
-  }
+  named (_, (_, (f_known, (g_known, (one_solid, (rings_f, (rings_g, (lone, (bent, (twice_f, (twice_g, (matching, room)))))))))))) =
+      grind (arith, eqb-false, not-true, none_is_lone M, none_found (least_lone M _) lone, none_found, numbers_are_left (taken_in M))
 
 module _ (M : Model) (f g : ℕ) (sound : Sound M) (accepted : glue_refusal M f g ≡ None) where
   abbrev s : ℕ
@@ -315,9 +303,7 @@ module _ (M : Model) (f g : ℕ) (sound : Sound M) (accepted : glue_refusal M f 
   thin : (a b : ℕ) (xs : List ℕ) → IsRing (after M) (a ∷ xs) → IsApart (a ∷ xs) → after M a ≡ b → after M b ≡ a → a ≢ b → length xs ≡ 1
   thin a b [] r d p q ne = absurd (ne (sym r.0 ∙ p))
   thin a b (c ∷ []) r d p q ne = refl
-  thin a b (c ∷ e ∷ xs) r d p q ne =
-      let same : a ≡ e = sym q ∙ ap (after M) (sym p ∙ r.0) ∙ r.1.0 in
-      absurd (omega (arith, d a, tick_same a, subst (λ z. tick a z ≡ 1) same (tick_same a)))
+  thin a b (c ∷ e ∷ xs) r d p q ne = let same : a ≡ e = sym q ∙ ap (after M) (sym p ∙ r.0) ∙ r.1.0 in absurd (grind (arith, d a, tick_same a, same))
 
   no_fold : (h k : ℕ) → IsIn h items_f → IsIn k items_f → mate (partner_of h) ≢ partner_of k
   no_fold h k i j e =

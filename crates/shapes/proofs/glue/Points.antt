@@ -1,7 +1,6 @@
 -- Lists of points: equal ones, none twice, one turned; and where a search finds the only such number.
-use Rattle.std.proofs.Common.{◌≡◌, ℕ, zero, suc, ℤ, pos, ◌+ℤ◌, ◌-ℤ◌, ◌*ℤ◌, Bool, true, false, cond, ◌&&◌, ◌||◌, List, [], ◌∷◌, ◌++◌, refl, sym, ap, ◌∙◌, arith, true≢false, inl, inr, Some, map, reverse, take, drop, length, int_eq, append-nil, take-append-drop}
+use Rattle.std.proofs.Common.{◌≡◌, ℕ, zero, suc, ℤ, pos, ◌+ℤ◌, ◌-ℤ◌, ◌*ℤ◌, Bool, true, false, ◌||◌, List, [], ◌∷◌, ◌++◌, refl, sym, ap, ◌∙◌, arith, true≢false, Some, map, reverse, take, drop, length, append-nil, take-append-drop}
 use Rattle.std.specs.List.{list_any}
-use Rattle.std.specs.Cmp.{signed_Decides}
 use Rattle.std.proofs.lemmas.Bool.Decides.{eqb_tells}
 use Rattle.std.proofs.lemmas.Bool.{and_parts, or_parts}
 use Rattle.std.proofs.lemmas.List.{map-append, reverse-append, reverse-reverse, take-map, drop-map}
@@ -12,10 +11,7 @@ use Rattle.shapes.specs.Common.{first_such, has_repeats, same_points, is_turned,
 -- ---- equal points
 
 pub same_is : (p q : Point) → same_point p q ≡ true → p ≡ q
-same_is p q e =
-    let a = and_parts (int_eq p.x q.x && int_eq p.y q.y) (int_eq p.z q.z) e in
-    let b = and_parts (int_eq p.x q.x) (int_eq p.y q.y) a.0 in
-    same_vector p q ((signed_Decides p.x q.x).0 b.0) ((signed_Decides p.y q.y).0 b.1) ((signed_Decides p.z q.z).0 a.1)
+same_is p q e = grind (arith, and_parts, p.x, q.x, p.y, q.y, p.z, q.z, same_vector)
 
 pub same_lists : (ps qs : List Point) → same_points ps qs ≡ true → ps ≡ qs
 same_lists [] [] e = refl
@@ -61,43 +57,25 @@ module _ (a : ℕ → Point) where
 
   any_in : (p : Point) (k : ℕ) (ks : List ℕ) → IsIn k ks → p ≡ a k → list_any (same_point p) (map a ks) ≡ true
   any_in p k [] i e = absurd (omega (arith, i))
-  any_in p k (j ∷ ks) i e = elim (eqb_tells k j) [
-    | inl s ↦ ap (λ b. b || list_any (same_point p) (map a ks)) (same_as p (a j) (e ∙ ap a s.1))
-    | inr ne ↦ ap (λ b. same_point p (a j) || b) (any_in p k ks (omega (arith, i, tick_other k j ne.1)) e) ∙ or_true (same_point p (a j))
-  ]
+  any_in p k (j ∷ ks) i e = grind (arith, eqb_tells, same_as, tick_other, or_true, any_in p k ks)
 
   -- where no point stands twice, the point tells the number
   pub once : (ks : List ℕ) → has_repeats (map a ks) ≡ false → (h k : ℕ) → IsIn h ks → IsIn k ks → a h ≡ a k → h ≡ k
   once [] r h k i j e = absurd (omega (arith, i))
   once (n ∷ ks) r h k i j e =
       let b = or_parts (list_any (same_point (a n)) (map a ks)) (has_repeats (map a ks)) r in
-      elim (eqb_tells h n) [
-        | inl p ↦ elim (eqb_tells k n) [
-          | inl q ↦ p.1 ∙ sym q.1
-          | inr q ↦ absurd (true≢false (sym (any_in (a n) k ks (omega (arith, j, tick_other k n q.1)) (ap a (sym p.1) ∙ e)) ∙ b.0))
-        ]
-        | inr p ↦ elim (eqb_tells k n) [
-          | inl q ↦ absurd (true≢false (sym (any_in (a n) h ks (omega (arith, i, tick_other h n p.1)) (ap a (sym q.1) ∙ sym e)) ∙ b.0))
-          | inr q ↦ once ks b.1 h k (omega (arith, i, tick_other h n p.1)) (omega (arith, j, tick_other k n q.1)) e
-        ]
-      ]
+      grind (arith, b, eqb_tells h n, eqb_tells k n, any_in (a n), true≢false, tick_other, once ks b.1 h k)
 
   -- of two lists with the same points each number has one in the other
   pub other_list : (xs ys : List ℕ) → map a xs ≡ map a ys → (x : ℕ) → IsIn x xs → (y : ℕ) × IsIn y ys × (a y ≡ a x)
   other_list [] ys e x i = absurd (omega (arith, i))
   other_list (z ∷ xs) [] e x i = absurd (no_points e)
-  other_list (z ∷ xs) (y ∷ ys) e x i = elim (eqb_tells x z) [
-    | inl s ↦ (y, omega (arith, tick_same y), sym (both_points e).0 ∙ ap a (sym s.1))
-    | inr ne ↦ let r = other_list xs ys (both_points e).1 x (omega (arith, i, tick_other x z ne.1)) in (r.0, omega (arith, r.1), r.2)
-  ]
+  other_list (z ∷ xs) (y ∷ ys) e x i = grind (arith, eqb_tells, tick_same, both_points, tick_other, other_list xs ys)
 
 -- a search finds the only number that passes
 pub such_is : (test : ℕ → Bool) (ks : List ℕ) (k : ℕ) → IsIn k ks → test k ≡ true → ((j : ℕ) → IsIn j ks → test j ≡ true → j ≡ k) → first_such test ks ≡ Some k
 such_is test [] k i t only = absurd (omega (arith, i))
-such_is test (n ∷ ks) k i t only = elim (test n) as (λ b. test n ≡ b → cond b (Some n) (first_such test ks) ≡ Some k) [
-  | true ↦ λ e. ap Some (only n (omega (arith, tick_same n)) e)
-  | false ↦ λ e. such_is test ks k (elim (eqb_tells k n) [ inl s ↦ absurd (true≢false (sym t ∙ ap test s.1 ∙ e)) | inr ne ↦ omega (arith, i, tick_other k n ne.1) ]) t (λ j q. only j (omega (arith, q)))
-] refl
+such_is test (n ∷ ks) k i t only = grind (arith, tick_same, eqb_tells, true≢false, tick_other, such_is test ks k)
 
 -- ---- there and back along one line
 

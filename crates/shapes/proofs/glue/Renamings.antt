@@ -1,10 +1,10 @@
 -- Renamings by lists of pairs, one pair more; and what they make of a ring.
-use Rattle.std.proofs.Common.{◌≡◌, ◌≢◌, ℕ, ◌+◌, Bool, true, false, cond, nat_eq, List, [], ◌∷◌, ◌++◌, Option, Some, None, is_some, unwrap_or, refl, sym, ap, ◌∙◌, subst, arith, true≢false, ◌⊎◌, inl, inr, map, option_map, ne_eqb}
-use Rattle.std.proofs.lemmas.Bool.Decides.{nat_tests, eqb_tells}
+use Rattle.std.proofs.Common.{◌≡◌, ◌≢◌, ℕ, ◌+◌, Bool, true, false, cond, nat_eq, List, [], ◌∷◌, ◌++◌, Option, Some, None, is_some, unwrap_or, refl, sym, ap, ◌∙◌, arith, true≢false, ◌⊎◌, inl, inr, map, option_map, ne_eqb}
+use Rattle.std.proofs.lemmas.Bool.Decides.{eqb_tells}
 use Rattle.std.proofs.lemmas.List.{map-append}
-use Rattle.euler_operators.specs.Common.{count, IsIn, IsApart, canonical, rest, Table, tables, Model, LoopContent, LoopRow, EdgeRow, lone, cycle, items_of, tail_in, no_edge, IsCycle, Sound}
+use Rattle.euler_operators.specs.Common.{count, IsIn, IsApart, canonical, rest, Table, Model, LoopContent, LoopRow, EdgeRow, lone, cycle, items_of, tail_in, no_edge, IsCycle, Sound}
 use Rattle.euler_operators.specs.Items.{before, after}
-use Rattle.euler_operators.proofs.Common.{count-append, tick_same, tick_other, split_at, count-before, canonical-rotates, rest_same, rest_parts, canonical_same, nat_eq_turned, nat_eq_itself, remove_turned, get-remove_other, content_row, IsIn_head, IsIn_rest}
+use Rattle.euler_operators.proofs.Common.{count-append, tick_same, tick_other, split_at, count-before, canonical-rotates, rest_same, rest_parts, canonical_same, nat_eq_turned, nat_eq_itself, remove_turned, get-remove_here, get-remove_other, content_row, IsIn_head, IsIn_rest}
 use Rattle.euler_operators.specs.Table as table
 use Rattle.shapes.specs.Common.{rewritten, rewritten_row, renamed, without_rows, renamed_tails, paired}
 
@@ -15,15 +15,7 @@ module _ (from to : ℕ → ℕ) where
   pub renamed_cases : (hs : List ℕ) (u : ℕ) →
       ((h : ℕ) × IsIn h hs × (from h ≡ u) × (renamed (paired from to hs) u ≡ to h)) ⊎ ((renamed (paired from to hs) u ≡ u) × ((h : ℕ) → IsIn h hs → from h ≢ u))
   renamed_cases [] u = inr (refl, λ h i. absurd (omega (arith, i)))
-  renamed_cases (k ∷ hs) u = elim (eqb_tells (from k) u) [
-    | inl e ↦ inl (k, omega (arith, tick_same k), e.1, ap (λ b. cond b (to k) (renamed (paired from to hs) u)) e.0)
-    | inr ne ↦
-        let skip : renamed (paired from to (k ∷ hs)) u ≡ renamed (paired from to hs) u = ap (λ b. cond b (to k) (renamed (paired from to hs) u)) ne.0 in
-        elim (renamed_cases hs u) [
-          | inl p ↦ inl (p.0, omega (arith, p.1), p.2, skip ∙ p.3)
-          | inr p ↦ inr (skip ∙ p.0, λ h i. elim (eqb_tells h k) [ inl e ↦ λ q. ne.1 (ap from (sym e.1) ∙ q) | inr e ↦ p.1 h (omega (arith, i, tick_other h k e.1)) ])
-        ]
-  ]
+  renamed_cases (k ∷ hs) u = grind (arith, eqb_tells, tick_same, tick_other, renamed_cases hs u)
 
   -- where no item starts at u, it stays
   pub renamed_not : (hs : List ℕ) (u : ℕ) → ((h : ℕ) → IsIn h hs → from h ≢ u) → renamed (paired from to hs) u ≡ u
@@ -33,30 +25,12 @@ module _ (from to : ℕ → ℕ) where
   pub renamed_more : (hs : List ℕ) (k : ℕ) → ((h : ℕ) → IsIn h hs → to h ≢ from k) → (u : ℕ) →
       renamed (paired from to (hs ++ k ∷ [])) u ≡ cond (nat_eq (renamed (paired from to hs) u) (from k)) (to k) (renamed (paired from to hs) u)
   renamed_more [] k none u = ap (λ b. cond b (to k) u) (nat_eq_turned (from k) u)
-  renamed_more (h ∷ hs) k none u = elim (eqb_tells (from h) u) [
-    | inl e ↦
-        ap (λ b. cond b (to h) (renamed (paired from to (hs ++ k ∷ [])) u)) e.0
-        ∙ sym (ap (λ v. cond (nat_eq v (from k)) (to k) v) (ap (λ b. cond b (to h) (renamed (paired from to hs) u)) e.0) ∙ ap (λ b. cond b (to k) (to h)) (ne_eqb (to h) (from k) (none h (omega (arith, tick_same h)))))
-    | inr ne ↦
-        ap (λ b. cond b (to h) (renamed (paired from to (hs ++ k ∷ [])) u)) ne.0
-        ∙ renamed_more hs k (λ j i. none j (omega (arith, i))) u
-        ∙ sym (ap (λ v. cond (nat_eq v (from k)) (to k) v) (ap (λ b. cond b (to h) (renamed (paired from to hs) u)) ne.0))
-  ]
+  renamed_more (h ∷ hs) k none u = grind (arith, eqb_tells, ne_eqb, tick_same, renamed_more hs k)
 
   -- the first item may as well come last, where no other starts where it does
   pub renamed_last : (hs : List ℕ) (k : ℕ) → ((h : ℕ) → IsIn h hs → from h ≢ from k) → (u : ℕ) → renamed (paired from to (k ∷ hs)) u ≡ renamed (paired from to (hs ++ k ∷ [])) u
   renamed_last [] k none u = refl
-  renamed_last (h ∷ hs) k none u = elim (eqb_tells (from h) u) [
-    | inl e ↦
-        let ne : nat_eq (from k) u ≡ false = ne_eqb (from k) u (λ q. none h (omega (arith, tick_same h)) (e.1 ∙ sym q)) in
-        ap (λ b. cond b (to k) (cond (nat_eq (from h) u) (to h) (renamed (paired from to hs) u))) ne
-        ∙ ap (λ b. cond b (to h) (renamed (paired from to hs) u)) e.0
-        ∙ sym (ap (λ b. cond b (to h) (renamed (paired from to (hs ++ k ∷ [])) u)) e.0)
-    | inr ne ↦
-        ap (λ b. cond (nat_eq (from k) u) (to k) (cond b (to h) (renamed (paired from to hs) u))) ne.0
-        ∙ renamed_last hs k (λ j i. none j (omega (arith, i))) u
-        ∙ sym (ap (λ b. cond b (to h) (renamed (paired from to (hs ++ k ∷ [])) u)) ne.0)
-  ]
+  renamed_last (h ∷ hs) k none u = grind (arith, eqb_tells, ne_eqb, tick_same, renamed_last hs k)
 
 -- ---- rows that go
 
@@ -70,18 +44,11 @@ without_first t (k ∷ ns) n = ap (λ s. without_rows s ns) (remove_turned t n k
 
 pub without_there : {X : Type 0} (t : Table X) (ns : List ℕ) (n : ℕ) → count n ns ≡ 0 → table.get (without_rows t ns) n ≡ table.get t n
 without_there t [] n c = refl
-without_there t (k ∷ ns) n c =
-    let ne : n ≢ k = λ e. omega (arith, c, tick_same n, subst (λ q. count n (q ∷ ns) ≡ 0) (sym e) c) in
-    without_there (table.remove t k) ns n (omega (arith, c, tick_other n k ne)) ∙ get-remove_other t k n ne
+without_there t (k ∷ ns) n c = grind (arith, tick_same, eqb_tells n k, tick_other n k, without_there (table.remove t k) ns n, get-remove_other t k n)
 
 pub without_gone : {X : Type 0} (t : Table X) (ns : List ℕ) (n : ℕ) → IsIn n ns → table.get (without_rows t ns) n ≡ None
 without_gone t [] n i = absurd (omega (arith, i))
-without_gone t (k ∷ ns) n i = elim (eqb_tells n k) [
-  | inl e ↦ ap (λ s. table.get s n) (without_first t ns k) ∙ gone (without_rows t ns) k n e.1
-  | inr e ↦ without_gone (table.remove t k) ns n (omega (arith, i, tick_other n k e.1))
-] where
-  gone : {X : Type 0} (t : Table X) (k n : ℕ) → n ≡ k → table.get (table.remove t k) n ≡ None
-  gone t k n e = grind (arith, nat_tests, tables)
+without_gone t (k ∷ ns) n i = grind (arith, eqb_tells n k, tick_other n k, without_first t ns k, get-remove_here, without_gone (table.remove t k) ns n)
 
 -- ---- one item of a ring replaced
 
@@ -94,10 +61,7 @@ map_agrees f g (x ∷ xs) e = λ i. e x i ∷ map_agrees f g xs e i
 
 pub replaced_none : (m h : ℕ) (xs : List ℕ) → count m xs ≡ 0 → map (replaced m h) xs ≡ xs
 replaced_none m h [] c = refl
-replaced_none m h (x ∷ xs) c = elim (eqb_tells x m) [
-  | inl e ↦ absurd (omega (arith, c, tick_same m, subst (λ q. count m (q ∷ xs) ≡ 0) e.1 c))
-  | inr e ↦ λ i. ap (λ b. cond b h x) e.0 i ∷ replaced_none m h xs (omega (arith, c)) i
-]
+replaced_none m h (x ∷ xs) c = grind (arith, eqb_tells, tick_same, replaced_none m h xs)
 
 -- the ring read from after m on, with h in m's place
 pub replaced_ring : (m h : ℕ) (xs : List ℕ) → IsApart xs → IsIn m xs → count h xs ≡ 0 → canonical (h ∷ rest m (canonical xs)) ≡ canonical (map (replaced m h) xs)

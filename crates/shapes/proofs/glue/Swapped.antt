@@ -1,7 +1,7 @@
 -- Rows of loops rewritten by a renaming, and by the same with one item replaced.
-use Rattle.std.proofs.Common.{◌≡◌, ℕ, List, [], ◌∷◌, Option, Some, None, refl, sym, ap, ◌∙◌, arith, map, option_map}
+use Rattle.std.proofs.Common.{◌≡◌, ℕ, List, [], ◌∷◌, refl, sym, ap, ◌∙◌, arith, map}
 use Rattle.std.proofs.lemmas.Bool.Decides.{nat_tests}
-use Rattle.euler_operators.specs.Common.{count, IsIn, IsApart, canonical, rest, Table, tables, same_table, get-map_rows, LoopContent, LoopRow, lone, cycle, items_of}
+use Rattle.euler_operators.specs.Common.{count, IsIn, IsApart, canonical, rest, Table, tables, same_table, LoopContent, LoopRow, lone, cycle, items_of}
 use Rattle.euler_operators.proofs.Common.{count-canonical}
 use Rattle.euler_operators.specs.Table as table
 use Rattle.shapes.specs.Common.{rewritten, rewritten_row}
@@ -32,12 +32,7 @@ module _ (old new : ℕ → ℕ) (m h : ℕ) (more : (u : ℕ) → new u ≡ rep
   -- where m is, h comes in its place
   pub content_turns : (c : LoopContent) (ns : List ℕ) → rewritten (map old) c ≡ cycle ns → IsApart ns → IsIn m ns → count h ns ≡ 0 → rewritten (map new) c ≡ cycle (canonical (h ∷ rest m ns))
   content_turns (lone v) ns e d i n = absurd (never_cycle v ns e)
-  content_turns (cycle cs) ns e d i n =
-      let is : canonical (map old cs) ≡ ns = same_cycle (canonical (map old cs)) ns e in
-      let counts : (y : ℕ) → count y (map old cs) ≡ count y ns = λ y. sym (count-canonical y (map old cs)) ∙ ap (count y) is in
-      ap cycle (ap canonical (map_more cs)
-      ∙ sym (replaced_ring m h (map old cs) (λ y. omega (arith, counts y, d y)) (omega (arith, counts m, i)) (counts h ∙ n))
-      ∙ ap (λ q. canonical (h ∷ rest m q)) is)
+  content_turns (cycle cs) ns e d i n = grind (arith, same_cycle, count-canonical, map_more, replaced_ring)
 
   pub row_turns : (p f : ℕ) (row : LoopRow) (ns : List ℕ) → rewritten_row (map old) p row ≡ record { face = f; content = cycle ns } → IsApart ns → IsIn m ns → count h ns ≡ 0 →
       rewritten_row (map new) p row ≡ record { face = f; content = cycle (canonical (h ∷ rest m ns)) }
@@ -46,10 +41,7 @@ module _ (old new : ℕ → ℕ) (m h : ℕ) (more : (u : ℕ) → new u ≡ rep
 -- ---- tables
 
 pub map_agree : {X : Type 0} (f g : ℕ → X → X) (t : Table X) → ((q : ℕ) (x : X) → f q x ≡ g q x) → table.map_rows f t ≡ table.map_rows g t
-map_agree {X = X} f g t e = same_table _ _ (λ q. get-map_rows f t q ∙ rows_agree q (table.get t q) ∙ sym (get-map_rows g t q)) where
-  rows_agree : (q : ℕ) (o : Option X) → option_map (f q) o ≡ option_map (g q) o
-  rows_agree q None = refl
-  rows_agree q (Some x) = ap Some (e q x)
+map_agree {X = X} f g t e = grind arith
 
 pub map_removed : {X : Type 0} (f : ℕ → X → X) (t : Table X) (n : ℕ) → table.map_rows f (table.remove t n) ≡ table.remove (table.map_rows f t) n
 map_removed f t n = same_table _ _ (λ q. grind (arith, nat_tests, tables))

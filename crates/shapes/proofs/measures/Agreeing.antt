@@ -1,5 +1,5 @@
 -- Faces on which two models agree: they keep their rings and their normals, and what they add to the six volumes.
-use Rattle.std.proofs.Common.{◌≡◌, ℕ, true, not, nat_eq, ◌&&◌, List, [], ◌∷◌, is_some, refl, sym, ap, ◌∙◌, subst, arith, ◌⊎◌, inl, inr, map, eqb-true, eq-eqb}
+use Rattle.std.proofs.Common.{◌≡◌, ℕ, true, List, [], ◌∷◌, refl, sym, ap, ◌∙◌, subst, arith, ◌⊎◌, inl, inr, map, eqb-true, eq-eqb}
 use Rattle.std.proofs.lemmas.Bool.{and_parts}
 use Rattle.euler_operators.specs.Common.{moved, dot, cross, count, IsIn, head_or, canonical, Model, LoopContent, lone, cycle, items_of, content, face_of, outer, point_of, rings_of, IsCycle, Has, lists, strictly_rises}
 use Rattle.euler_operators.proofs.Common.{count-canonical, from_map, face_row, IsIn_head, IsIn_rest, IsIn_first}
@@ -22,9 +22,7 @@ module _ (M N : Model) where
   -- so have loops, where each has
   pub areas_kept : (ls : List ℕ) → ((l : ℕ) → lists ls l ≡ true → area N (items_of (content N l)) ≡ area M (items_of (content M l))) → area N (items_in N ls) ≡ area M (items_in M ls)
   areas_kept [] same = refl
-  areas_kept (l ∷ ls) same = area-append N (items_of (content N l)) (items_in N ls)
-      ∙ (λ i. moved (same l (first_listed l ls) i) (areas_kept ls (λ q j. same q (rest_listed l q ls j)) i))
-      ∙ sym (area-append M (items_of (content M l)) (items_in M ls))
+  areas_kept (l ∷ ls) same = grind (arith, area-append, first_listed, rest_listed, areas_kept ls)
 
   -- a loop's first corner stays, where half-edges start where they did and vertices have their points
   pub corner_kept : (c : LoopContent) → ((h : ℕ) → start N h ≡ start M h) → ((v : ℕ) → point_of N v ≡ point_of M v) → point_of N (first_vertex N c) ≡ point_of M (first_vertex M c)
@@ -43,11 +41,7 @@ pub record AgreeOn (M N : Model) (k : ℕ) : Type 0 where
   pub areas : (l : ℕ) → lists (loops_of M k) l ≡ true → area N (items_of (content N l)) ≡ area M (items_of (content M l))
 
 rings_stay : (M N : Model) (k : ℕ) → outer N k ≡ outer M k → LoopsStay M N k → (l : ℕ) → lists (rings_of M k) l ≡ true → lists (rings_of N k) l ≡ true
-rings_stay M N k same stay l i =
-    let r = listed_passes (λ q row. nat_eq row.face k && not (nat_eq (outer M k) q)) M.loops l i in
-    let of = and_parts (nat_eq r.0.face k) (not (nat_eq (outer M k) l)) r.2 in
-    let now = stay l (ap is_some r.1) (face_row M l r.0 r.1 ∙ eqb-true r.0.face k of.0) in
-    passes_listed (λ q row. nat_eq row.face k && not (nat_eq (outer N k) q)) N.loops l _ (loop_row N l now.0) (λ j. eq-eqb (face_of N l) k now.1 j && (ap (λ o. not (nat_eq o l)) same ∙ of.1) j)
+rings_stay M N k same stay l i = grind (arith, listed_passes, and_parts, face_row, eqb-true, passes_listed, loop_row, eq-eqb)
 
 module _ {M N : Model} {k : ℕ} (agree : AgreeOn M N k) where
   pub rings_agree : rings_of N k ≡ rings_of M k
@@ -83,9 +77,7 @@ module _ {M N : Model} {swap : ℕ → ℕ} {l : ℕ} (w : IsReplaced M N swap l
 
   -- what stands there starts where an item did
   pub replaced_start : (h : ℕ) → IsIn h (items_of (content N l)) → (g : ℕ) × IsIn g (items_of (content M l)) × (start N h ≡ start M g)
-  replaced_start h i =
-      let r = in_content (content M l) h (omega (arith, i, ap (λ c. count h (items_of c)) w.content_is)) in
-      (r.0, r.1, ap (start N) r.2 ∙ (w.halves r.0 r.1).0)
+  replaced_start h i = grind (arith, in_content, w.content_is, w.halves)
 
   -- so its first corner lies where one did
   first_corner : (c : LoopContent) → content M l ≡ c → (point_of N (first_vertex N (rewritten (map swap) c)) ≡ point_of M (first_vertex M c))
@@ -118,10 +110,7 @@ module _ {M N : Model} {k : ℕ} (agree : AgreeOn M N k) {swap : ℕ → ℕ} (w
 
   -- a face that tells the same from each corner adds what it did
   pub volume_told : ((h : ℕ) → IsIn h (items_of (content M (outer M k))) → dot (start M h) (normal M k) ≡ volume_of M k) → volume_of N k ≡ volume_of M k
-  volume_told alike = ap (dot (anchor N k)) (normal_agrees agree) ∙ ap (λ p. dot p (normal M k)) (anchor_now ∙ ap (λ c. point_of N (first_vertex N c)) w.content_is) ∙ elim (first_corner w (content M (outer M k)) refl) [
-    | inl e ↦ ap (λ p. dot p (normal M k)) e
-    | inr r ↦ ap (λ p. dot p (normal M k)) r.2 ∙ alike r.0 r.1
-  ]
+  volume_told alike = grind (arith, normal_agrees agree, anchor_now, w.content_is, first_corner w)
 
   -- so does one in which nothing is replaced
   pub volume_stays : ((h : ℕ) → IsIn h (items_of (content M (outer M k))) → swap h ≡ h) → volume_of N k ≡ volume_of M k

@@ -70,8 +70,7 @@ module _ (M : Model) (s : Plane) where
 
   -- so for some loops
   pub loops_told : (ls : List ℕ) (r q : Point) → Sound M → is_plane_of M s (vertices_in M ls) ≡ true → is_on s r ≡ true → is_on s q ≡ true → dot r (area M (items_in M ls)) ≡ dot q (area M (items_in M ls))
-  loops_told ls r q sound on on_r on_q = let a = and_parts (not (same_point (direction s) origin)) (are_on M s (vertices_in M ls)) on in
-      told_alike (area M (items_in M ls)) r q (some_direction s a.0) (loops_flat sound ls a.1) on_r on_q
+  loops_told ls r q sound on on_r on_q = grind (arith, and_parts, told_alike, some_direction, loops_flat)
 
   -- and for a face
   pub face_told : (f : ℕ) (r q : Point) → Sound M → is_plane_of M s (corners M f) ≡ true → is_on s r ≡ true → is_on s q ≡ true → dot r (normal M f) ≡ dot q (normal M f)

@@ -1,5 +1,5 @@
 -- The areas of lists of half-edges and the volumes of lists of faces: the order doesn't matter, and the other halves of edges have the opposite area.
-use Rattle.std.proofs.Common.{◌≡◌, ℕ, ◌+◌, true, ℤ, pos, ◌+ℤ◌, ◌-ℤ◌, ◌*ℤ◌, neg_ℤ, List, [], ◌∷◌, ◌++◌, map, reverse, refl, sym, ap, ◌∙◌, arith, inl, inr}
+use Rattle.std.proofs.Common.{◌≡◌, ℕ, ◌+◌, true, ℤ, pos, ◌+ℤ◌, ◌-ℤ◌, ◌*ℤ◌, neg_ℤ, List, [], ◌∷◌, ◌++◌, map, reverse, refl, sym, ap, ◌∙◌, arith}
 use Rattle.std.proofs.lemmas.Bool.Decides.{eqb_tells}
 use Rattle.std.proofs.lemmas.Int.{ints}
 use Rattle.std.proofs.lemmas.List.Sorted.{IsPermutation-reverse}
@@ -38,9 +38,7 @@ none_left p = same_vector _ origin (none p.x) (none p.y) (none p.z) where
 
 -- a vector that is its own opposite
 pub own_opposite : (p : Point) → p ≡ negated p → p ≡ origin
-own_opposite p e = same_vector p origin (none p.x (ap (λ v. v.x) e)) (none p.y (ap (λ v. v.y) e)) (none p.z (ap (λ v. v.z) e)) where
-  none : (a : ℤ) → a ≡ neg_ℤ a → a ≡ pos 0
-  none a e = omega (arith, ints)
+own_opposite p e = grind (arith, same_vector, p.x, p.y, p.z, ints)
 
 exchanged : (p q r : Point) → moved p (moved q r) ≡ moved q (moved p r)
 exchanged p q r = same_vector _ _ (add_exchanged p.x q.x r.x) (add_exchanged p.y q.y r.y) (add_exchanged p.z q.z r.z)
@@ -136,10 +134,7 @@ same_volumes M N ks e = volume_is N ks ∙ unchanged (volume_of N) (volume_of M)
 
 -- an item stands among the other halves as often as its own other half stands in the list
 tick-mate : (x h : ℕ) → tick x (mate h) ≡ tick (mate x) h
-tick-mate x h = elim (eqb_tells x (mate h)) [
-  | inl e ↦ ap (λ k. tick k (mate h)) e.1 ∙ tick_same (mate h) ∙ sym (ap (λ k. tick k h) (ap mate e.1 ∙ mate-mate h) ∙ tick_same h)
-  | inr e ↦ tick_other x (mate h) e.1 ∙ sym (tick_other (mate x) h (λ s. e.1 (sym (mate-mate x) ∙ ap mate s)))
-]
+tick-mate x h = grind (arith, eqb_tells, tick_same, mate-mate, tick_other)
 
 pub count-mates : (x : ℕ) (hs : List ℕ) → count x (map mate hs) ≡ count (mate x) hs
 count-mates x [] = refl

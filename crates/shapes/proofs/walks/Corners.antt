@@ -1,7 +1,7 @@
 -- The corners of some loops and of some faces, loop by loop; and the half-edges of a solid.
-use Rattle.std.proofs.Common.{◌≡◌, ℕ, List, [], ◌∷◌, ◌++◌, refl, sym, ap, ◌∙◌, arith, inl, inr, append_assoc}
+use Rattle.std.proofs.Common.{◌≡◌, ℕ, List, [], ◌∷◌, ◌++◌, refl, sym, ap, ◌∙◌, arith, append_assoc}
 use Rattle.std.proofs.lemmas.Bool.Decides.{eqb_tells}
-use Rattle.euler_operators.specs.Common.{count, IsIn, IsApart, Model, items_of, content, loop_of, solid_of, Sound, HasHalf, face_at}
+use Rattle.euler_operators.specs.Common.{IsIn, IsApart, Model, items_of, content, loop_of, solid_of, Sound, HasHalf, face_at}
 use Rattle.euler_operators.proofs.Common.{count-append, tick_same, tick_other, IsIn_or_not, cycle_there, loop_there}
 use Rattle.shapes.specs.Common.{items_in, loops_of, vertices_on, vertices_in, corners, corners_in, loops_in}
 use Rattle.shapes.proofs.walks.FaceLoops.{different_items, items_counted, items_there}
@@ -19,18 +19,12 @@ corners_are M (f ∷ fs) = ap (λ vs. vertices_in M (loops_of M f) ++ vs) (corne
 -- a vertex on some loops is on one of them
 pub on_one : (M : Model) (ls : List ℕ) (v : ℕ) → IsIn v (vertices_in M ls) → (l : ℕ) × IsIn l ls × IsIn v (vertices_on M (content M l))
 on_one M [] v i = absurd (omega arith)
-on_one M (l ∷ ls) v i = elim (IsIn_or_not v (vertices_on M (content M l))) [
-  | inl j ↦ (l, omega (arith, tick_same l), j)
-  | inr n ↦ let r = on_one M ls v (omega (arith, i, n, count-append v (vertices_on M (content M l)) (vertices_in M ls))) in (r.0, omega (arith, r.1), r.2)
-]
+on_one M (l ∷ ls) v i = grind (arith, IsIn_or_not, tick_same, count-append, on_one M ls v)
 
 -- an item of the list of one loop stands in that of some loops with it
 pub in_some : (f : ℕ → List ℕ) (all : List ℕ → List ℕ) → ((l : ℕ) (ls : List ℕ) → all (l ∷ ls) ≡ f l ++ all ls) → (ls : List ℕ) (l x : ℕ) → IsIn l ls → IsIn x (f l) → IsIn x (all ls)
 in_some f all step [] l x i j = absurd (omega arith)
-in_some f all step (k ∷ ls) l x i j = elim (eqb_tells l k) [
-  | inl e ↦ omega (arith, ap (count x) (step k ls), count-append x (f k) (all ls), j, ap (λ m. count x (f m)) e.1)
-  | inr n ↦ omega (arith, ap (count x) (step k ls), count-append x (f k) (all ls), in_some f all step ls l x (omega (arith, i, tick_other l k n.1)) j)
-]
+in_some f all step (k ∷ ls) l x i j = grind (arith, eqb_tells, count-append, tick_other, in_some f all step ls l x)
 
 -- so does a vertex on one loop
 pub on_some : (M : Model) (ls : List ℕ) (l v : ℕ) → IsIn l ls → IsIn v (vertices_on M (content M l)) → IsIn v (vertices_in M ls)

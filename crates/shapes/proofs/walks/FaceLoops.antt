@@ -1,5 +1,5 @@
 -- The loops of a face, and the half-edges of some loops, are different ones; and the items of loops start at their vertices.
-use Rattle.std.proofs.Common.{◌≡◌, ℕ, ◌≤◌, ◌<◌, Bool, true, false, not, nat_eq, nat_le, ◌&&◌, List, [], ◌∷◌, ◌++◌, length, Some, is_some, refl, sym, ap, ◌∙◌, subst, arith, true≢false, inl, inr, unwrap_or, append_assoc}
+use Rattle.std.proofs.Common.{◌≡◌, ℕ, ◌≤◌, ◌<◌, Bool, true, false, not, nat_eq, ◌&&◌, List, [], ◌∷◌, ◌++◌, length, Some, is_some, refl, sym, ap, ◌∙◌, arith, true≢false, inl, inr, unwrap_or, append_assoc}
 use Rattle.std.proofs.lemmas.Bool.Decides.{nat_tests, eqb_tells}
 use Rattle.euler_operators.specs.Common.{count, tick, IsIn, IsApart, Model, LoopContent, lone, cycle, LoopRow, no_loop, items_of, content, tail, loop_of, outer, face_of, rings_of, is_ring_of, Sound, HasHalf, lists, strictly_rises}
 use Rattle.euler_operators.proofs.Common.{count-append, tick_same, tick_other, IsIn_or_not, IsIn-map, length_below, in-holds, row_some}
@@ -31,12 +31,7 @@ module _ (M : Model) where
 
   pub tail_in : (h l : ℕ) (ls : List ℕ) → IsIn l ls → IsIn h (items_of (content M l)) → IsIn (tail M h) (vertices_in M ls)
   tail_in h l [] i j = absurd (omega arith)
-  tail_in h l (k ∷ ls) i j = elim (eqb_tells l k) [
-    | inl s ↦ let now : IsIn (tail M h) (vertices_on M (content M k)) = subst (λ q. IsIn (tail M h) (vertices_on M (content M q))) s.1 (tail_on h (content M l) j) in
-        omega (arith, now, count-append (tail M h) (vertices_on M (content M k)) (vertices_in M ls))
-    | inr s ↦ let later : IsIn (tail M h) (vertices_in M ls) = tail_in h l ls (omega (arith, i, tick_other l k s.1)) j in
-        omega (arith, later, count-append (tail M h) (vertices_on M (content M k)) (vertices_in M ls))
-  ]
+  tail_in h l (k ∷ ls) i j = grind (arith, eqb_tells, tail_on, count-append, tick_other, tail_in h l ls)
 
 module _ (M : Model) (sound : Sound M) where
   one_item : (l x : ℕ) → count x (items_of (content M l)) ≤ tick (loop_of M x) l
@@ -52,10 +47,7 @@ module _ (M : Model) (sound : Sound M) where
 
   pub items_there : (ls : List ℕ) (x : ℕ) → IsIn x (items_in M ls) → HasHalf M x
   items_there [] x i = absurd (omega arith)
-  items_there (l ∷ ls) x i = elim (IsIn_or_not x (items_of (content M l))) [
-    | inl j ↦ half_in M sound l x j x j
-    | inr z ↦ items_there ls x (omega (arith, z, count-append x (items_of (content M l)) (items_in M ls)))
-  ]
+  items_there (l ∷ ls) x i = grind (arith, IsIn_or_not, half_in, count-append, items_there ls x)
 
   pub different_items : (ls : List ℕ) → IsApart ls → AreHalves M (items_in M ls)
   different_items ls a = record { apart = λ x. omega (arith, items_counted ls x, a (loop_of M x)); there = items_there ls }
@@ -85,22 +77,14 @@ module _ (M : Model) (sound : Sound M) where
       never_listed false e = refl
 
     pub loops_apart : (n : ℕ) → IsApart (loops_to M f n)
-    loops_apart n x = elim (eqb_tells x (outer M f)) [
-      | inl p ↦ omega (arith, ap (λ k. tick k (outer M f)) p.1, tick_same (outer M f), count_up_to x n (rings_of M f), ap (λ k. count k (rings_of M f)) p.1, none_counted (outer M f) (rings_of M f) not_outer)
-      | inr p ↦ omega (arith, tick_other x (outer M f) p.1, count_up_to x n (rings_of M f), counted_once x (rings_of M f) rings_rise)
-    ]
+    loops_apart n x = grind (arith, eqb_tells, tick_same, count_up_to, none_counted, not_outer, tick_other, counted_once, rings_rise)
 
     pub loops_of_apart : IsApart (loops_of M f)
     unfolding loops_of
-    loops_of_apart x = elim (eqb_tells x (outer M f)) [
-      | inl p ↦ omega (arith, ap (λ k. tick k (outer M f)) p.1, tick_same (outer M f), ap (λ k. count k (rings_of M f)) p.1, none_counted (outer M f) (rings_of M f) not_outer)
-      | inr p ↦ omega (arith, tick_other x (outer M f) p.1, counted_once x (rings_of M f) rings_rise)
-    ]
+    loops_of_apart x = grind (arith, eqb_tells, tick_same, none_counted, not_outer, tick_other, counted_once, rings_rise)
 
     ring_positive : (l : ℕ) → lists (rings_of M f) l ≡ true → 0 < l
-    ring_positive l i = number l (sound.loops_fit l (ring_there M f l (listed_ring l i)).0) where
-      number : (l : ℕ) → (nat_le 1 l && nat_le l 1000000) ≡ true → 0 < l
-      number l e = grind (arith, nat_tests)
+    ring_positive l i = grind (arith, sound.loops_fit l, ring_there M f l (listed_ring l i), listed_ring l i, nat_tests)
 
     pub loops_none : loops_to M f 0 ≡ outer M f ∷ []
     loops_none = ap (λ ls. outer M f ∷ ls) (up_to_none 0 (rings_of M f) ring_positive)

@@ -1,9 +1,8 @@
 -- The faces of a solid, and their loops.
-use Rattle.std.proofs.Common.{◌≡◌, ℕ, ◌≤◌, ◌<◌, true, nat_eq, nat_le, ◌&&◌, List, [], ◌∷◌, length, refl, ap, ◌∙◌, arith, inl, inr}
+use Rattle.std.proofs.Common.{◌≡◌, ℕ, ◌≤◌, ◌<◌, true, nat_eq, List, [], ◌∷◌, length, refl, ap, ◌∙◌, arith, inl, inr}
 use Rattle.std.proofs.lemmas.Bool.Decides.{nat_tests, eqb_tells}
 use Rattle.euler_operators.specs.Common.{count, tick, IsIn, IsApart, Model, outer, face_of, rings_of, faces_of, solid_of, Sound, Has, lists, strictly_rises}
 use Rattle.euler_operators.proofs.Common.{count-append, tick_same, IsIn_or_not, length_below}
-use Rattle.euler_operators.specs.Table as table
 use Rattle.euler_laws.proofs.Common.{first_listed, rest_listed, listed_cases, all_where-rises, IsIn-from_listed, listed-from_in, ring_there, outer_or_ring, ring_number, counted_once, up_to, up_to_none, count_up_to, listed_up_to, face_in, in_faces}
 use Rattle.shapes.specs.Common.{loops_of, loops_in}
 use Rattle.shapes.proofs.walks.FaceLoops.{listed_ring, ring_listed, loops_of_apart}
@@ -12,10 +11,7 @@ module _ (M : Model) (sound : Sound M) where
   -- a loop of a face names it
   pub face_of_loop : (f l : ℕ) → Has M.faces f → lists (loops_of M f) l ≡ true → Has M.loops l × (face_of M l ≡ f)
   unfolding loops_of
-  face_of_loop f l t i = elim (listed_cases (outer M f) l (rings_of M f) i) [
-    | inl e ↦ let o = sound.outers_there f t in (ap (table.has M.loops) e ∙ o.0, ap (face_of M) e ∙ o.1)
-    | inr r ↦ ring_there M f l (listed_ring M sound f l r)
-  ]
+  face_of_loop f l t i = grind (arith, listed_cases (outer M f) l (rings_of M f) i, sound.outers_there f t, ring_there M f l, listed_ring M sound f l)
 
   loop_of_face : (l : ℕ) → Has M.loops l → IsIn l (loops_of M (face_of M l))
   unfolding loops_of
@@ -25,10 +21,8 @@ module _ (M : Model) (sound : Sound M) where
   ])
 
   one_face : (f l : ℕ) → Has M.faces f → count l (loops_of M f) ≤ tick (face_of M l) f
-  one_face f l t = elim (IsIn_or_not l (loops_of M f)) [
-    | inl i ↦ let e = (face_of_loop f l t (listed-from_in l (loops_of M f) i)).1 in omega (arith, loops_of_apart M sound f l, ap (λ k. tick k f) e, tick_same f)
-    | inr z ↦ omega (arith, z)
-  ]
+  one_face f l t =
+      grind (arith, IsIn_or_not l (loops_of M f), face_of_loop f l t, listed-from_in l (loops_of M f), loops_of_apart M sound f l, tick_same f)
 
   -- all these are faces
   abbrev AreFaces : List ℕ → Type 0
@@ -66,9 +60,7 @@ module _ (M : Model) (sound : Sound M) where
     faces_rise = all_where-rises (λ _ row. nat_eq row.solid s) M.faces
 
     pub face_number : (f : ℕ) → Has M.faces f → (0 < f) × (f ≤ 1000000)
-    face_number f t = number f (sound.faces_fit f t) where
-      number : (f : ℕ) → (nat_le 1 f && nat_le f 1000000) ≡ true → (0 < f) × (f ≤ 1000000)
-      number f e = (grind (arith, nat_tests), grind (arith, nat_tests))
+    face_number f t = grind (arith, sound.faces_fit, nat_tests)
 
     -- the faces of the solid that don't pass n
     abbrev pub faces_to : ℕ → List ℕ
@@ -98,16 +90,11 @@ module _ (M : Model) (sound : Sound M) where
     all_loops_apart l = omega (arith, loops_counted (faces_of M s) l (λ f i. (listed_face f i).0), counted_once (face_of M l) (faces_of M s) faces_rise)
 
     pub loop_in_solid : (l : ℕ) → IsIn l solid_loops → Has M.loops l × (solid_of M (face_of M l) ≡ s)
-    loop_in_solid l i = (
-      loops_there (faces_of M s) l (λ f j. (listed_face f j).0) i,
-      (listed_face (face_of M l) (listed-from_in (face_of M l) (faces_of M s) (omega (arith, i, loops_counted (faces_of M s) l (λ f j. (listed_face f j).0))))).1,
-    )
+    loop_in_solid l i = grind (arith, loops_there, listed_face, listed-from_in, loops_counted)
 
     pub solid_has_loop : (l : ℕ) → Has M.loops l → solid_of M (face_of M l) ≡ s → IsIn l solid_loops
     solid_has_loop l t e = loops_held (faces_of M s) l t (IsIn-from_listed (face_of M l) (faces_of M s) (face_listed (face_of M l) (sound.loops_of_faces l t) e))
 
 -- different loops that are there are at most so many
 pub loops_short : (M : Model) → Sound M → (ls : List ℕ) → IsApart ls → ((l : ℕ) → IsIn l ls → Has M.loops l) → length ls ≤ 1000001
-loops_short M sound ls a t = length_below 1000001 ls a (λ l i. below l (ring_number M sound l (t l i))) where
-  below : (l : ℕ) → l ≤ 1000000 → l < 1000001
-  below l h = omega arith
+loops_short M sound ls a t = grind (arith, length_below, ring_number)
