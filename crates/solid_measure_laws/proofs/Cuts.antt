@@ -1,6 +1,6 @@
 -- Where a segment meets a plane: the point lies on the plane, and divides the segment as the heights of its ends.
 -- Cut there, the segment keeps its part of an area.
-use Rattle.std.proofs.Common.{◌≡◌, ◌≢◌, ◌⊎◌, inl, inr, ℕ, zero, suc, ◌+◌, ◌/◌, ◌%◌, ◌<◌, Bool, true, false, ◌&&◌, ℤ, pos, negsuc, ◌+ℤ◌, ◌-ℤ◌, ◌*ℤ◌, neg_ℤ, unsigned_abs, int_div, int_rem, refl, sym, ap, ◌∙◌, arith, true≢false, ◌*◌, cond, Some, None, int_eq}
+use Rattle.std.proofs.Common.{◌≡◌, ◌≢◌, ◌⊎◌, inl, inr, ℕ, zero, suc, ◌+◌, ◌/◌, ◌%◌, ◌<◌, Bool, true, ◌&&◌, ℤ, pos, negsuc, ◌+ℤ◌, ◌-ℤ◌, ◌*ℤ◌, neg_ℤ, unsigned_abs, int_div, int_rem, refl, sym, ap, ◌∙◌, arith, ◌*◌, cond, Some, None, int_eq}
 use Rattle.std.specs.Cmp.{signed_Decides}
 use Rattle.std.proofs.lemmas.Int.{ints, quot-rem, rem_below, unsigned_abs-mul}
 use Rattle.std.proofs.Math.Nat.{div-zero, zero-div, zero-mod}
@@ -13,9 +13,7 @@ use Rattle.solid_measure_laws.specs.Laws.{CutsMissNone}
 -- ---- one coordinate: from p to q, m and n the heights there, x the coordinate of the cut
 
 whole : (t w : ℤ) → int_eq (int_rem t w) (pos 0) ≡ true → int_div t w *ℤ (w) ≡ t
-whole t w e = none (int_div t w *ℤ w) (int_rem t w) t (quot-rem t w) ((signed_Decides (int_rem t w) (pos 0)).0 e) where
-  none : (a r t : ℤ) → a +ℤ r ≡ t → r ≡ pos 0 → a ≡ t
-  none a r t e z = omega (arith, ints)
+whole t w e = omega (arith, ints, quot-rem t w, (signed_Decides (int_rem t w) (pos 0)).0 e)
 
 pub spread : (x p w : ℤ) → (x -ℤ p) *ℤ w ≡ x *ℤ w -ℤ p *ℤ w
 spread x p w = rw (dif-parts x, dif-parts p, dif-parts w) (simp difs (same_dif _ _ _ _ (omega arith)))
@@ -52,6 +50,9 @@ level_part m n z e = rw (dif-parts m, dif-parts n, e ∙ number 0) (simp difs (s
 
 pub some_height : (m n : ℤ) → opposite m n ≡ true → (0 < unsigned_abs m) × (0 < unsigned_abs n)
 some_height m n e = grind (arith, ints)
+
+some_parts : (m n : ℕ) → 0 < m → pos (m + n) ≢ pos 0
+some_parts m n l e = absurd (omega (arith, l, ap unsigned_abs e))
 
 signs : (m n : ℤ) → opposite m n ≡ true →
     ((m ≡ pos (unsigned_abs m)) × (m -ℤ n ≡ pos (unsigned_abs m + unsigned_abs n))) ⊎ ((m ≡ neg_ℤ (pos (unsigned_abs m))) × (m -ℤ n ≡ neg_ℤ (pos (unsigned_abs m + unsigned_abs n))))
@@ -102,10 +103,7 @@ cut_area w k p q c some e =
 
 module _ (s : Plane) (p q : Point) (o : are_opposite s p q ≡ true) (cuts : cuts_lattice s p q ≡ true) where
   parts : (a b c : Bool) → (a && b && c) ≡ true → (a ≡ true) × (b ≡ true) × (c ≡ true)
-  parts true true true e = (refl, refl, refl)
-  parts true true false e = absurd (true≢false (sym e))
-  parts true false c e = absurd (true≢false (sym e))
-  parts false b c e = absurd (true≢false (sym e))
+  parts a b c e = grind (arith, e)
 
   abbrev m : ℤ
   m = height s p
@@ -153,9 +151,7 @@ module _ (s : Plane) (p q : Point) (o : are_opposite s p q ≡ true) (cuts : cut
 
   -- and cuts the step from p to q into two with the same area
   pub cut_keeps_area : moved (cross p (cut_between s p q)) (cross (cut_between s p q) q) ≡ cross p q
-  cut_keeps_area = cut_area (pos (unsigned_abs m + unsigned_abs n)) (pos (unsigned_abs m)) p q cut (some (unsigned_abs m) (unsigned_abs n) (some_height m n o).0) cut_divides where
-    some : (a b : ℕ) → 0 < a → pos (a + b) ≢ pos 0
-    some a b l e = absurd (omega (arith, l, ap unsigned_abs e))
+  cut_keeps_area = cut_area (pos (unsigned_abs m + unsigned_abs n)) (pos (unsigned_abs m)) p q cut (some_parts (unsigned_abs m) (unsigned_abs n) (some_height m n o).0) cut_divides
 
 -- ---- from the other end
 
@@ -177,13 +173,10 @@ quotient_turned (negsuc a) (pos (suc w)) = refl
 quotient_turned (negsuc a) (negsuc w) = refl
 
 same_size : (w : ℤ) → unsigned_abs (neg_ℤ w) ≡ unsigned_abs w
-same_size (pos zero) = refl
-same_size (pos (suc w)) = refl
-same_size (negsuc w) = refl
+same_size w = grind (arith, ints)
 
 twice_turned : (n : ℕ) → neg_ℤ (neg_ℤ (pos n)) ≡ pos n
-twice_turned zero = refl
-twice_turned (suc n) = refl
+twice_turned n = omega (arith, ints)
 
 remainder_turned : (a w : ℤ) → int_rem (neg_ℤ a) (neg_ℤ w) ≡ neg_ℤ (int_rem a w)
 remainder_turned (pos zero) w = ap (λ k. pos (0 % k)) (same_size w) ∙ ap pos (zero-mod (unsigned_abs w)) ∙ sym (ap (λ k. neg_ℤ (pos k)) (zero-mod (unsigned_abs w)))
@@ -222,18 +215,8 @@ no_times : (a b c : ℕ) → a * b ≡ c → c < b → a ≡ 0
 no_times zero b c e l = refl
 no_times (suc a) b c e l = absurd (omega (arith, e, l))
 
-no_product_left : (a b c : ℕ) → a * b ≡ c → a ≡ 0 → c ≡ 0
-no_product_left zero b c e z = omega (arith, e)
-no_product_left (suc a) b c e z = absurd (omega (arith, z))
-
 rest : (a b r t : ℤ) → a ≡ t → b +ℤ r ≡ t → a -ℤ b ≡ r
 rest a b r t e f = omega (arith, ints)
-
-no_gap : (a b : ℤ) → unsigned_abs (a -ℤ b) ≡ 0 → b ≡ a
-no_gap a b e = omega (arith, ints)
-
-no_size : (r : ℤ) → unsigned_abs r ≡ 0 → r ≡ pos 0
-no_size r e = omega (arith, ints)
 
 module _ (x w t : ℤ) (some : w ≢ pos 0) (e : x *ℤ w ≡ t) where
   left_over : (x -ℤ int_div t w) *ℤ w ≡ int_rem t w
@@ -246,10 +229,10 @@ module _ (x w t : ℤ) (some : w ≢ pos 0) (e : x *ℤ w ≡ t) where
   none_left = no_times (unsigned_abs (x -ℤ int_div t w)) (unsigned_abs w) (unsigned_abs (int_rem t w)) left_size (rem_below t w (grind (arith, ints)))
 
   quotient_is : int_div t w ≡ x
-  quotient_is = no_gap x (int_div t w) none_left
+  quotient_is = omega (arith, ints, none_left)
 
   remainder_is : int_rem t w ≡ pos 0
-  remainder_is = no_size (int_rem t w) (no_product_left (unsigned_abs (x -ℤ int_div t w)) (unsigned_abs w) (unsigned_abs (int_rem t w)) left_size none_left)
+  remainder_is = omega (arith, ints, left_size, ap (λ n. n * unsigned_abs w) none_left)
 
 -- ---- the heights along a line
 
@@ -292,9 +275,6 @@ coordinate_met w k p q x m n some e f = no_difference _ _ (no_product w (x *ℤ 
     (meet w p q x m n ∙ (λ i. e i *ℤ (m -ℤ n) -ℤ (q -ℤ p) *ℤ f i) ∙ even k (q -ℤ p) (m -ℤ n)) some)
 
 -- ---- the point
-
-some_parts : (m n : ℕ) → 0 < m → pos (m + n) ≢ pos 0
-some_parts m n l e = absurd (omega (arith, l, ap unsigned_abs e))
 
 pub cuts_miss_none : CutsMissNone
 cuts_miss_none s m n p q r o on d =

@@ -1,6 +1,6 @@
 -- A model moved: normals stay, and volumes grow by the sum of the normals along the way, which is nothing over a whole solid.
 -- A model with its loops run the other way: a solid with flat faces, turned inside out.
-use Rattle.std.proofs.Common.{◌≡◌, ◌≢◌, ℕ, nat_eq, ℤ, pos, ◌+ℤ◌, ◌-ℤ◌, ◌*ℤ◌, true, List, [], ◌∷◌, ◌++◌, Option, Some, None, is_some, unwrap_or, refl, sym, ap, ◌∙◌, arith, true≢false, ◌+◌, ◌≤◌, Bool, false, cond, not, ◌&&◌, map, inl, inr, reverse, neg_ℤ, option_map}
+use Rattle.std.proofs.Common.{◌≡◌, ◌≢◌, ℕ, nat_eq, ℤ, ◌+ℤ◌, ◌-ℤ◌, ◌*ℤ◌, true, List, [], ◌∷◌, ◌++◌, Option, Some, None, is_some, unwrap_or, refl, sym, ap, ◌∙◌, arith, true≢false, ◌+◌, Bool, false, cond, not, ◌&&◌, map, inl, inr, reverse, neg_ℤ, option_map}
 use Rattle.std.proofs.lemmas.Int.{ints}
 use Rattle.euler_operators.specs.Common.{Point, origin, moved, dot, cross, same_point, is_on, direction, IsIn, count, tick, SameItems, head_or, mate, get-map_rows, Model, LoopContent, lone, cycle, no_point, items_of, tail, content, outer, point_of, faces_of, has_half, holds, loop_of, face_of, solid_of, rings_of, LoopRow, no_loop, after, Sound, Has, HasHalf, lists, strictly_rises, canonical, IsRing, Plane}
 use Rattle.euler_operators.specs.Table as table
@@ -9,7 +9,7 @@ use Rattle.euler_laws.proofs.Common.{first_listed, rest_listed, listed_passes, l
 use Rattle.shapes.specs.Common.{start, finish, loops_of, items_in, boundary, vertices_on, corners, area, normal, anchor, first_vertex, volume_in, six_volume, plane_of, is_flat, towards, negated}
 use Rattle.shapes.proofs.Common.{area-append, area_kept, areas_kept, cross_nothing, begins, IsPathTo, loop_closed, items_there, area_same, area_mates, own_opposite, count-mates, area_back, moved_back, dot_back, list_parts, are_on, plane_told}
 use Rattle.solid_measure_laws.specs.Models.{shifted, normals_in, run_back, row_back, turned}
-use Rattle.std.proofs.lemmas.Bool.Decides.{nat_tests, eqb_tells}
+use Rattle.std.proofs.lemmas.Bool.Decides.{nat_tests}
 use Rattle.std.specs.List.{list_all}
 use Rattle.std.proofs.lemmas.Bool.{and_parts}
 use Rattle.std.proofs.lemmas.List.Sorted.{IsPermutation-reverse}
@@ -25,9 +25,7 @@ step_moved : (p q d a e : Point) → moved (cross (moved p d) (moved q d)) (move
 step_moved p q d a e = same_vector _ _ (step_part p.y p.z q.y q.z d.y d.z a.x e.y e.z) (step_part p.z p.x q.z q.x d.z d.x a.y e.z e.x) (step_part p.x p.y q.x q.y d.x d.y a.z e.x e.y)
 
 nowhere : (p : Point) → towards p p ≡ origin
-nowhere p = same_vector _ origin (none p.x) (none p.y) (none p.z) where
-  none : (a : ℤ) → a -ℤ a ≡ pos 0
-  none a = omega (arith, ints)
+nowhere p = same_vector _ origin (omega (arith, ints)) (omega (arith, ints)) (omega (arith, ints))
 
 -- nothing moved
 stays : (d e p : Point) → moved p (cross d (towards e e)) ≡ p
@@ -99,9 +97,7 @@ module _ (M : Model) (d : Point) where
     face_moved f there = (λ i. dot (anchor_moved f there i) (normal_kept f i)) ∙ dot_moved (anchor M f) d (normal M f)
 
     faces_moved : (fs : List ℕ) → ((f : ℕ) → lists fs f ≡ true → Has M.faces f) → volume_in N fs ≡ volume_in M fs +ℤ dot d (normals_in M fs)
-    faces_moved [] there = sym (dot_origin d) ∙ dot_turned origin d ∙ sym (nothing (dot d origin)) where
-      nothing : (a : ℤ) → pos 0 +ℤ a ≡ a
-      nothing a = omega (arith, ints)
+    faces_moved [] there = sym (dot_origin d) ∙ dot_turned origin d ∙ omega (arith, ints)
     faces_moved (f ∷ fs) there =
         (λ i. face_moved f (there f (first_listed f fs)) i +ℤ faces_moved fs (λ g j. there g (rest_listed f g fs j)) i)
         ∙ omega (arith, ints)
@@ -118,13 +114,7 @@ module _ (M : Model) (d : Point) where
 
 -- a rising list has once what it lists
 count_listed : (q : ℕ) (ns : List ℕ) → strictly_rises ns ≡ true → count q ns ≡ cond (lists ns q) 1 0
-count_listed q ns up = once_or_not (lists ns q) refl where
-  once : (n : ℕ) → n ≤ 1 → 1 ≤ n → n ≡ 1
-  once n l m = omega arith
-
-  once_or_not : (b : Bool) → lists ns q ≡ b → count q ns ≡ cond b 1 0
-  once_or_not true e = once (count q ns) (counted_once q ns up) (IsIn-from_listed q ns e)
-  once_or_not false e = none_counted q ns e
+count_listed q ns up = grind (arith, counted_once q ns up, IsIn-from_listed q ns, none_counted q ns)
 
 -- the half-edges of some faces
 abbrev pub halves_in : Model → List ℕ → List ℕ
@@ -145,10 +135,8 @@ module _ (M : Model) (sound : Sound M) where
     in_loop : (l : ℕ) → count x (items_of (content M l)) ≡ tick (loop_of M x) l
     in_loop l = elim (IsIn_or_not x (items_of (content M l))) [
       | inl i ↦ let e = sound.one_loop x l (in-holds x (content M l) i) in omega (arith, i, (light M sound l).0 x, ap (λ k. tick k l) e, tick_same l)
-      | inr z ↦ z ∙ sym (tick_other (loop_of M x) l (λ e. elsewhere (count x (items_of (content M l))) z (holds_in x (content M l) (sym (ap (λ k. holds x (content M k)) e) ∙ sound.stands x there))))
-    ] where
-      elsewhere : (n : ℕ) → n ≡ 0 → 1 ≤ n → ⊥
-      elsewhere n z i = absurd (omega arith)
+      | inr z ↦ z ∙ sym (tick_other (loop_of M x) l (λ e. let i = holds_in x (content M l) (sym (ap (λ k. holds x (content M k)) e) ∙ sound.stands x there) in omega (arith, z, i)))
+    ]
 
     in_loops : (ls : List ℕ) → count x (items_in M ls) ≡ count (loop_of M x) ls
     in_loops [] = refl
@@ -160,26 +148,9 @@ module _ (M : Model) (sound : Sound M) where
   loop_counted l f there face =
       ap (λ n. tick l (outer M f) + n) (count_listed l (rings_of M f) (all_where-rises (λ q row. nat_eq row.face f && not (nat_eq (outer M f) q)) M.loops)
       ∙ ap (λ b. cond b 1 0) (listed_as (λ q row. nat_eq row.face f && not (nat_eq (outer M f) q)) M.loops l _ (loop_row M l there)))
-      ∙ elim (eqb_tells l (outer M f)) [
-        | inl e ↦ outer_once l (outer M f) (face_of M l) f e.1 (ap (face_of M) e.1 ∙ (sound.outers_there f face).1)
-        | inr e ↦ ring_once l (outer M f) (face_of M l) f e.1
-      ] where
-        outer_once : (l o g f : ℕ) → l ≡ o → g ≡ f → tick l o + cond (nat_eq g f && not (nat_eq o l)) 1 0 ≡ tick g f
-        outer_once l o g f e s =
-            let a : nat_eq l o ≡ true = grind (arith, nat_tests) in
-            let b : nat_eq o l ≡ true = grind (arith, nat_tests) in
-            let c : nat_eq g f ≡ true = grind (arith, nat_tests) in
-            (λ i. cond (a i) 1 0 + cond (c i && not (b i)) 1 0) ∙ sym (ap (λ t. cond t 1 0) c)
-
-        alone : (t : Bool) → 0 + cond (t && true) 1 0 ≡ cond t 1 0
-        alone true = refl
-        alone false = refl
-
-        ring_once : (l o g f : ℕ) → l ≢ o → tick l o + cond (nat_eq g f && not (nat_eq o l)) 1 0 ≡ tick g f
-        ring_once l o g f ne =
-            let a : nat_eq l o ≡ false = grind (arith, nat_tests) in
-            let b : nat_eq o l ≡ false = grind (arith, nat_tests) in
-            (λ i. cond (a i) 1 0 + cond (nat_eq g f && not (b i)) 1 0) ∙ alone (nat_eq g f)
+      ∙ once l (outer M f) (face_of M l) f (λ e. ap (face_of M) e ∙ (sound.outers_there f face).1) where
+        once : (l o g f : ℕ) → (l ≡ o → g ≡ f) → tick l o + cond (nat_eq g f && not (nat_eq o l)) 1 0 ≡ tick g f
+        once l o g f own = grind (arith, nat_tests, own)
 
   -- so a half-edge stands once in the boundary of one face
   in_faces : (x : ℕ) (there : HasHalf M x) (fs : List ℕ) → ((f : ℕ) → lists fs f ≡ true → Has M.faces f) → count x (halves_in M fs) ≡ count (face_of M (loop_of M x)) fs
@@ -314,9 +285,7 @@ module _ (M : Model) where
     faces_inverted [] there flat = refl
     faces_inverted (f ∷ fs) there flat =
         let a = and_parts (is_flat M f) (list_all (is_flat M) fs) flat in
-        (λ i. face_inverted f (there f (first_listed f fs)) a.0 i +ℤ faces_inverted fs (λ g j. there g (rest_listed f g fs j)) a.1 i) ∙ both (dot (anchor M f) (normal M f)) (volume_in M fs) where
-          both : (a b : ℤ) → neg_ℤ a +ℤ neg_ℤ b ≡ neg_ℤ (a +ℤ b)
-          both a b = omega (arith, ints)
+        (λ i. face_inverted f (there f (first_listed f fs)) a.0 i +ℤ faces_inverted fs (λ g j. there g (rest_listed f g fs j)) a.1 i) ∙ omega (arith, ints)
 
     pub volume_inverted : (s : ℕ) → list_all (is_flat M) (faces_of M s) ≡ true → six_volume (turned M) s ≡ neg_ℤ (six_volume M s)
     unfolding six_volume turned
