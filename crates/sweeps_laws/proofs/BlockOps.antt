@@ -12,19 +12,19 @@ use Rattle.sweeps_laws.proofs.lamina.Blocks.{blocks_have_bases, bases_rise}
 use Rattle.sweeps_laws.proofs.prism.Accepted.{sweep_accepted, sweep_is_prism, prism_sound}
 
 module _ (M : Model) (s : ℕ) (p : Point) (dx dy dz : ℤ) (sound : Sound M) (e : block_refusal M s p dx dy dz ≡ None) where
-  abbrev base : Model
+  abbrev pub base : Model
   base = lamina_model M s (base_of p dx dy)
 
-  abbrev up : Point
+  abbrev pub up : Point
   up = vector (pos 0) (pos 0) dz
 
-  goes : lamina_refusal M s (base_of p dx dy) ≡ None
+  pub goes : lamina_refusal M s (base_of p dx dy) ≡ None
   goes = blocks_have_bases M s p dx dy dz e
 
-  base_sound : Sound base
+  pub base_sound : Sound base
   base_sound = lamina_is_sound M s (base_of p dx dy) sound goes
 
-  rise : prism_refusal base (lamina_face M) up ≡ None
+  pub rise : prism_refusal base (lamina_face M) up ≡ None
   rise = bases_rise M s p dx dy dz sound e
 
   led : Leads M (block_model M s p dx dy dz) (block_operators M s p dx dy dz)

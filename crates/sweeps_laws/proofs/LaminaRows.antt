@@ -4,7 +4,7 @@ use Rattle.std.proofs.lemmas.Bool.Decides.{eqb_tells, nat_tests}
 use Rattle.std.proofs.lemmas.List.{map-append}
 use Rattle.euler_operators.specs.Common.{Point, dot, Model, FaceRow, face_of, outer, solid_of, faces_of, cycle, LoopRow, EdgeRow, no_point, point_of, rings_of, items_of, tail, content, Has, lists, canonical, plus, minus, Table}
 use Rattle.euler_operators.specs.Table as table
-use Rattle.euler_operators.proofs.Common.{content_row, solid_row, face_row, outer_row, plus_tail_row, point_row, same_content, same_outer, add_none, add_assoc, total_to, same_total, area_at, sides_volume, nat_eq_itself, none_but, less_still, all_where_none, first_where_zero, get-put_here, get-put_other}
+use Rattle.euler_operators.proofs.Common.{content_row, solid_row, face_row, outer_row, plus_tail_row, point_row, same_content, same_outer, add_none, add_assoc, total_to, same_total, area_at, sides_volume, nat_eq_itself, less_still, first_where_zero, get-put_here, get-put_other}
 use Rattle.euler_laws.proofs.Common.{listed_passes, all_where-rises, passes_listed, face_there, same_tail, same_point}
 use Rattle.shapes.specs.Common.{Taken, numbers_after, area, normal, volume_in, six_volume, anchor, first_vertex, least_lone, items_in, vertices_in, vertices_on, corners, loops_of, lamina_at, with_path, with_points, with_ring}
 use Rattle.shapes.proofs.Common.{at_most_greatest, get-put_cases, all_where-put_last, area_kept, areas_kept, greatest-put_last, volume_of, same_volumes}
@@ -13,7 +13,7 @@ use Rattle.sweeps_laws.proofs.lamina.Lists.{numbers_last, plus_halves}
 use Rattle.sweeps_laws.proofs.swept.Filled.{filled, filled_search, filled_none}
 use Rattle.sweeps_laws.proofs.Loops.{area_sum, volume_last, side_is, faces_kept, faces_moved, from_at, to_at, normal_is, first_kept, face_loop_within}
 use Rattle.sweeps_laws.proofs.swept.Sides.{side_face, faces_grown, Keeps, start_kept, finish_kept}
-use Rattle.sweeps_laws.proofs.swept.Lifted.{IsPathOf, swept}
+use Rattle.sweeps_laws.proofs.swept.Lifted.{IsPathOf, swept, no_rings}
 use Rattle.sweeps_laws.proofs.swept.Bounds.{HasFree, faces_within, item_within, lone_within, loop_face_within, loops_within, outer_within, tail_within}
 
 pub six_volume_is : (M : Model) (s : ℕ) → six_volume M s ≡ volume_in M (faces_of M s)
@@ -78,30 +78,13 @@ module _ {M : Model} {c : Taken} (s : ℕ) (d : Point) {hs : List ℕ} {f l : �
 
 -- ---- the tables of a lamina
 
--- the first two numbers above k are different, and above all up to k
-pub one_or_two : (k n : ℕ) → n ≡ k + 1 → n ≡ k + 2 → ⊥
-one_or_two k n a b = absurd (omega arith)
-
-pub low_not_one : (k n : ℕ) → n ≤ k → n ≡ k + 1 → ⊥
-low_not_one k n a b = absurd (omega arith)
-
-apart_by : (e i j : ℕ) → i ≢ j → e + suc i ≢ e + suc j
-apart_by e i j ne q = ne (omega arith)
-
 pub path_new : (t : Table EdgeRow) (e v j i : ℕ) → i < j → table.get (with_path t e v j) (e + suc i) ≡ Some (record { plus_tail = v + suc i; minus_tail = v + suc i + 1 })
 path_new t e v zero i l = absurd (omega arith)
-path_new t e v (suc j) i l = elim (eqb_tells i j) [
-  | inl p ↦ subst (λ k. table.get (with_path t e v (suc j)) (e + suc k) ≡ Some (record { plus_tail = v + suc k; minus_tail = v + suc k + 1 })) (sym p.1)
-      (get-put_here (with_path t e v j) (e + suc j) (record { plus_tail = v + suc j; minus_tail = v + suc j + 1 }))
-  | inr p ↦ get-put_other (with_path t e v j) (e + suc j) (record { plus_tail = v + suc j; minus_tail = v + suc j + 1 }) (e + suc i) (apart_by e i j p.1) ∙ path_new t e v j i (less_still i j l p.1)
-]
+path_new t e v (suc j) i l = grind (arith, eqb_tells i j, get-put_here, get-put_other, path_new t e v j i)
 
 pub points_new : (t : Table Point) (v : ℕ) (ps : List Point) (j i : ℕ) → i < j → table.get (with_points t v ps j) (v + suc i) ≡ Some (get_or ps i no_point)
 points_new t v ps zero i l = absurd (omega (arith, l))
-points_new t v ps (suc j) i l = elim (eqb_tells i j) [
-  | inl p ↦ ap (λ k. table.get (with_points t v ps (suc j)) (v + suc k)) p.1 ∙ get-put_here (with_points t v ps j) (v + suc j) (get_or ps j no_point) ∙ ap (λ k. Some (get_or ps k no_point)) (sym p.1)
-  | inr p ↦ get-put_other (with_points t v ps j) (v + suc j) (get_or ps j no_point) (v + suc i) (apart_by v i j p.1) ∙ points_new t v ps j i (less_still i j l p.1)
-]
+points_new t v ps (suc j) i l = grind (arith, eqb_tells i j, get-put_here, get-put_other, points_new t v ps j i)
 
 pub no_lone : (b : Bool) (f g : ℕ) → f ≢ g → (b && (nat_eq f g || false)) ≡ false
 no_lone true f g ne = grind (arith, nat_tests)
@@ -188,11 +171,7 @@ module _ (M : Model) (c : Taken) (s : ℕ) (ps : List Point) where
     ]
 
     pub rings_one : rings_of drawn (c.face + 1) ≡ []
-    rings_one = all_where_none (λ q row. nat_eq row.face (c.face + 1) && not (nat_eq (outer drawn (c.face + 1)) q)) drawn.loops (λ q y at. none_but y.face (c.face + 1) (outer drawn (c.face + 1)) q (λ e. elim (loop_cases q y at) [
-      | inl p ↦ absurd (one_or_two c.face y.face e (ap (λ r. r.face) p.1))
-      | inr (inl p) ↦ outer_row drawn (c.face + 1) first_face face_one ∙ sym p.0
-      | inr (inr p) ↦ absurd (low_not_one c.face y.face p e)
-    ]))
+    rings_one = no_rings drawn (c.face + 1) (λ q y at e. grind (arith, e, loop_cases q y at, outer_row drawn (c.face + 1) first_face face_one))
 
     -- the corners of the first face are at the new vertices, in order
     pub corners_one : corners drawn (c.face + 1) ≡ numbers_after c.vertex (length ps)
@@ -202,15 +181,11 @@ module _ (M : Model) (c : Taken) (s : ℕ) (ps : List Point) where
         ∙ append-nil (map (tail drawn) (out c.edge (length ps))) ∙ tails_are (length ps) (omega arith)
 
     pub rings_two : rings_of drawn (c.face + 2) ≡ []
-    rings_two = all_where_none (λ q row. nat_eq row.face (c.face + 2) && not (nat_eq (outer drawn (c.face + 2)) q)) drawn.loops (λ q y at. none_but y.face (c.face + 2) (outer drawn (c.face + 2)) q (λ e. elim (loop_cases q y at) [
-      | inl p ↦ outer_row drawn (c.face + 2) second_face face_two ∙ sym p.0
-      | inr (inl p) ↦ absurd (one_or_two c.face y.face (ap (λ r. r.face) p.1) e)
-      | inr (inr p) ↦ absurd (omega (arith, p, e))
-    ]))
+    rings_two = no_rings drawn (c.face + 2) (λ q y at e. grind (arith, e, loop_cases q y at, outer_row drawn (c.face + 2) second_face face_two))
 
     -- no loop of the first face is lone
     pub none_lone : least_lone drawn ((c.face + 1) ∷ []) ≡ None
-    none_lone = grind (arith, first_where_zero, loop_cases, no_lone, low_not_one)
+    none_lone = grind (arith, first_where_zero, loop_cases, no_lone)
 
     -- a search of the faces, and of the loops
     pub faces_found : (p : ℕ → FaceRow → Bool) → table.all_where p drawn.faces ≡ (table.all_where p M.faces ++ cond (p (c.face + 1) first_face) ((c.face + 1) ∷ []) []) ++ cond (p (c.face + 2) second_face) ((c.face + 2) ∷ []) []

@@ -1,14 +1,13 @@
 -- The six volumes of a lamina: its two faces have opposite normals, and one is told from the first point, the other from the second.
-use Rattle.std.proofs.Common.{◌≡◌, ℕ, zero, suc, ◌+◌, ◌≤◌, ◌<◌, ℤ, pos, ◌+ℤ◌, ◌-ℤ◌, true, List, [], ◌∷◌, ◌++◌, refl, sym, ap, ◌∙◌, arith, inl, inr, append-nil, length, get_or, map, reverse}
-use Rattle.std.proofs.lemmas.Bool.Decides.{eqb_tells}
+use Rattle.std.proofs.Common.{◌≡◌, ℕ, zero, suc, ◌+◌, ◌≤◌, ◌<◌, ℤ, pos, ◌+ℤ◌, ◌-ℤ◌, true, List, [], ◌∷◌, ◌++◌, refl, sym, ap, ◌∙◌, arith, append-nil, length, get_or, map, reverse}
 use Rattle.std.proofs.lemmas.Int.{ints}
 use Rattle.euler_operators.specs.Common.{Point, dot, origin, moved, cross, count, IsIn, IsApart, head_or, canonical, mate, plus, minus, Model, cycle, no_point, items_of, tail, content, outer, point_of, faces_of, lists}
-use Rattle.euler_operators.proofs.Common.{content_row, outer_row, minus_tail_row, mate_plus, mate_minus, count-append, tick_same, tick_other, count-canonical, ring_area}
+use Rattle.euler_operators.proofs.Common.{content_row, outer_row, minus_tail_row, mate_plus, mate_minus, count-append, tick_same, count-canonical, ring_area}
 use Rattle.euler_laws.proofs.Common.{listed-from_in}
 use Rattle.shapes.specs.Common.{items_in, corners, start, finish, Taken, numbers_after, area, normal, anchor, first_vertex, is_flat, volume_in, six_volume, negated, lamina_at}
 use Rattle.shapes.proofs.Common.{dot_back, area_same, area_back, corner_told}
 use Rattle.sweeps_laws.specs.lamina.Path.{out, back}
-use Rattle.sweeps_laws.proofs.lamina.Lists.{out_first, plus_halves, minus_halves, back_apart, first_moved, canonical_first}
+use Rattle.sweeps_laws.proofs.lamina.Lists.{out_first, plus_halves, minus_halves, back_within, back_apart, first_moved, canonical_first}
 use Rattle.sweeps_laws.proofs.LaminaRows as rows
 use Rattle.sweeps_laws.proofs.swept.Bounds.{HasFree}
 use Rattle.sweeps_laws.proofs.Loops.{normal_is}
@@ -26,11 +25,7 @@ back_last e zero = refl
 back_last e (suc j) = ap (λ xs. minus (e + suc (suc j)) ∷ xs) (back_last e j)
 
 earlier_high : (e j y : ℕ) → IsIn y (earlier e j) → minus (e + 1) ≤ y
-earlier_high e zero y i = absurd (omega arith)
-earlier_high e (suc j) y i = elim (eqb_tells y (minus (e + suc (suc j)))) [
-  | inl p ↦ omega (arith, p.1)
-  | inr p ↦ earlier_high e j y (omega (arith, i, tick_other y (minus (e + suc (suc j))) p.1))
-]
+earlier_high e j y i = (back_within e (suc j) y (omega (arith, i, ap (count y) (back_last e j), count-append y (earlier e j) (minus (e + 1) ∷ [])))).0
 
 pub back_from_first : (e j : ℕ) → canonical (back e (suc j)) ≡ minus (e + 1) ∷ earlier e j
 back_from_first e j = ap canonical (back_last e j) ∙ first_moved (minus (e + 1)) (earlier e j) apart ∙ canonical_first (minus (e + 1)) (earlier e j) (earlier_high e j) where

@@ -142,14 +142,11 @@ module _ {M : Model} {c : Taken} (s : ℕ) (d : Point) {hs : List ℕ} {f l : �
   pub faces_moved : (ks : List ℕ) → strictly_rises ks ≡ true → lists ks f ≡ true → outer M f ≡ l → ((k : ℕ) → lists ks k ≡ true → (k ≤ c.face) × (k ≢ f → outer M k ≢ l)) →
       volume_in after ks ≡ volume_in M ks +ℤ dot d (normal M f)
   faces_moved [] up i e w = absurd (true≢false (sym i))
-  faces_moved (k ∷ ks) up i e w = elim (eqb_tells f k) [
-    | inl p ↦ (λ t. volume_moved k (w k (first_listed k ks)).0 (ap (outer M) (sym p.1) ∙ e) t +ℤ faces_kept ks (λ q j. ((w q (rest_listed k q ks j)).0, (w q (rest_listed k q ks j)).1 (omega (arith, p.1, rises_apart k q ks up j)))) t)
-        ∙ turned (volume_of M k) (dot d (normal M k)) (volume_in M ks) ∙ ap (λ j. volume_of M k +ℤ volume_in M ks +ℤ dot d (normal M j)) (sym p.1)
-    | inr p ↦ (λ t. volume_kept k (w k (first_listed k ks)).0 ((w k (first_listed k ks)).1 (λ x. p.1 (sym x))) t +ℤ faces_moved ks (rises_on k ks up) (rest_of k f ks i p.1) e (λ q j. w q (rest_listed k q ks j)) t)
+  faces_moved (k ∷ ks) up i e w = elim (listed_cases k f ks i) [
+    | inl p ↦ (λ t. volume_moved k (w k (first_listed k ks)).0 (ap (outer M) (sym p) ∙ e) t +ℤ faces_kept ks (λ q j. ((w q (rest_listed k q ks j)).0, (w q (rest_listed k q ks j)).1 (omega (arith, p, rises_apart k q ks up j)))) t)
+        ∙ turned (volume_of M k) (dot d (normal M k)) (volume_in M ks) ∙ ap (λ j. volume_of M k +ℤ volume_in M ks +ℤ dot d (normal M j)) (sym p)
+    | inr j ↦ (λ t. volume_kept k (w k (first_listed k ks)).0 ((w k (first_listed k ks)).1 (omega (arith, rises_apart k f ks up j))) t +ℤ faces_moved ks (rises_on k ks up) j e (λ q j. w q (rest_listed k q ks j)) t)
         ∙ sym (add_assoc (volume_of M k) (volume_in M ks) (dot d (normal M f)))
   ] where
     turned : (a b c : ℤ) → (a +ℤ b) +ℤ c ≡ (a +ℤ c) +ℤ b
     turned a b c = omega (arith, ints)
-
-    rest_of : (k f : ℕ) (ks : List ℕ) → lists (k ∷ ks) f ≡ true → f ≢ k → lists ks f ≡ true
-    rest_of k f ks i ne = elim (listed_cases k f ks i) [ inl e ↦ absurd (ne e) | inr j ↦ j ]

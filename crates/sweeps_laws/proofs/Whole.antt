@@ -1,7 +1,8 @@
 -- A whole face swept: its loops one after the other, each a closed path.
-use Rattle.std.proofs.Common.{◌≡◌, ◌≢◌, ℕ, zero, suc, ◌≤◌, ◌<◌, ℤ, pos, ◌+ℤ◌, ◌*ℤ◌, List, [], ◌∷◌, length, get_or, None, is_some, refl, sym, ap, subst, ◌∙◌, arith}
+use Rattle.std.proofs.Common.{◌≡◌, ◌≢◌, ℕ, zero, suc, ◌≤◌, ◌<◌, ℤ, pos, ◌+ℤ◌, ◌*ℤ◌, List, [], ◌∷◌, ◌++◌, length, get_or, None, is_some, refl, sym, ap, subst, ◌∙◌, arith}
 use Rattle.std.proofs.lemmas.Int.{ints}
-use Rattle.euler_operators.specs.Common.{Point, dot, tick, count, IsIn, IsPath, IsRing, mate, Model, LoopContent, cycle, items_of, tail, content, face_of, outer, solid_of, point_of, rings_of, after, Sound, Has, HasHalf}
+use Rattle.std.proofs.lemmas.List.{get_or_append_left, get_or_at}
+use Rattle.euler_operators.specs.Common.{Point, dot, head_or, tick, count, IsIn, IsPath, IsRing, mate, Model, LoopContent, cycle, items_of, tail, content, face_of, outer, solid_of, point_of, rings_of, after, Sound, Has, HasHalf}
 use Rattle.euler_operators.proofs.Common.{tick_same, IsIn-get_or, IsIn_head, IsIn_rest, in-holds, content_row, face_row, mate_there, dot_moved, dot_origin, dot_turned, twice_sum, three_times, add_none, add_assoc}
 use Rattle.euler_laws.proofs.Common.{loop_sound, IsLoop}
 use Rattle.shapes.specs.Common.{items_in, loops_of, Taken, growing, taken_in, next_place, prism_from, prism_model, prism_refusal, area, normal, six_volume}
@@ -19,21 +20,15 @@ use Rattle.sweeps_laws.proofs.prism.Whole.{Going}
 
 -- ---- places of a ring
 
-place_inner : (next : ℕ → ℕ) (xs : List ℕ) (e i : ℕ) → IsPath next xs e → suc i < length xs → next (get_or xs i 0) ≡ get_or xs (suc i) 0
-place_inner next [] e i p l = absurd (omega arith)
-place_inner next (x ∷ []) e i p l = absurd (omega arith)
-place_inner next (x ∷ y ∷ ys) e zero p l = p.0
-place_inner next (x ∷ y ∷ ys) e (suc i) p l = place_inner next (y ∷ ys) e i p.1 (omega (arith, l))
-
-place_last : (next : ℕ → ℕ) (xs : List ℕ) (e i : ℕ) → IsPath next xs e → suc i ≡ length xs → next (get_or xs i 0) ≡ e
-place_last next [] e i p l = absurd (omega arith)
-place_last next (x ∷ []) e zero p l = p.0
-place_last next (x ∷ []) e (suc i) p l = absurd (omega arith)
-place_last next (x ∷ y ∷ ys) e zero p l = absurd (omega arith)
-place_last next (x ∷ y ∷ ys) e (suc i) p l = place_last next (y ∷ ys) e i p.1 (omega (arith, l))
+-- each leads to the one after it, and the last to the end of the path
+place_after : (next : ℕ → ℕ) (xs : List ℕ) (e i : ℕ) → IsPath next xs e → i < length xs → next (get_or xs i 0) ≡ get_or (xs ++ e ∷ []) (suc i) 0
+place_after next [] e i p l = absurd (omega arith)
+place_after next (x ∷ []) e i p l = grind (arith, p.0)
+place_after next (x ∷ y ∷ ys) e zero p l = p.0
+place_after next (x ∷ y ∷ ys) e (suc i) p l = place_after next (y ∷ ys) e i p.1 (omega (arith, l))
 
 place_next : (next : ℕ → ℕ) (xs : List ℕ) (i : ℕ) → IsRing next xs → i < length xs → next (get_or xs i 0) ≡ get_or xs (next_place (length xs) i) 0
-place_next next xs i r l = grind (arith, head_is, next_cases, place_last, place_inner)
+place_next next xs i r l = grind (arith, head_is, next_cases, place_after next xs (head_or 0 xs) i r l, get_or_append_left xs (head_or 0 xs ∷ []) 0 (suc i), get_or_at xs (head_or 0 xs) [] 0 (suc i))
 
 some_items : (hs : List ℕ) → hs ≢ [] → 0 < length hs
 some_items [] ne = absurd (ne refl)

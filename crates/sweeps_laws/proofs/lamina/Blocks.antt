@@ -1,52 +1,28 @@
 -- Where a block can be made: the lamina of its base can be made, and then its first face can be swept up.
-use Rattle.std.proofs.Common.{◌≡◌, ◌≢◌, ℕ, zero, suc, ◌+◌, ◌*◌, ℤ, pos, negsuc, ◌+ℤ◌, Bool, true, false, cond, not, ◌&&◌, List, [], ◌∷◌, ◌++◌, Some, None, is_some, refl, sym, ap, ◌∙◌, subst, arith, true≢false, Option, length, int_le, int_eq}
+use Rattle.std.proofs.Common.{◌≡◌, ◌≢◌, ℕ, ◌+◌, ◌*◌, ℤ, pos, ◌+ℤ◌, true, false, cond, not, ◌&&◌, List, [], ◌∷◌, ◌++◌, Some, None, is_some, refl, sym, ap, ◌∙◌, subst, arith, Option, length, int_le}
 use Rattle.std.proofs.lemmas.Bool.{not-true}
 use Rattle.std.proofs.lemmas.Int.{ints}
-use Rattle.euler_operators.specs.Common.{Point, is_coordinate, is_in_range, origin, moved, same_point, Model, point_of, Sound, AllHold, Condition, need, never, first_refusal, is_number, numbers_in_range}
+use Rattle.euler_operators.specs.Common.{Point, is_coordinate, is_in_range, origin, moved, same_point, Model, point_of, Sound, Condition, need, never, first_refusal, is_number, numbers_in_range}
 use Rattle.euler_operators.specs.Table as table
 use Rattle.euler_operators.proofs.Common.{and_first, and_second, add_none}
 use Rattle.euler_operators.specs.declared.Why.TheVariants.{NoFace, ZeroSweep, LoneLoop, PointRange}
 use Rattle.euler_laws.proofs.Common.{◌also◌, all_hold, none_refuses}
-use Rattle.shapes.proofs.Common.{greatest-put_last, numbers_are_left, left_numbers_hold, number_fits}
+use Rattle.shapes.proofs.Common.{same_is, greatest-put_last, numbers_are_left, left_numbers_hold, number_fits}
 use Rattle.shapes.specs.Common.{AreLeft, corners, least_lone, Taken, taken_in, numbers_left, no_such, first_such, first_far, first_repeated, lamina_conditions, lamina_model, prism_conditions, prism_refusal, vector, base_of, block_conditions, block_refusal}
 use Rattle.sweeps_laws.specs.lamina.Laws.{BlocksHaveBases, BasesRise}
 use Rattle.sweeps_laws.specs.prism.Ready.{needed_for_sides}
 use Rattle.sweeps_laws.proofs.swept.Bounds.{HasFree, taken_free}
 use Rattle.sweeps_laws.proofs.LaminaRows as rows
-pub use Rattle.sweeps_laws.proofs.LaminaRows.{one_or_two, low_not_one}
 use Rattle.sweeps_laws.proofs.lamina.Steps.{greatest-with_path, greatest-with_points}
 
 -- ---- coordinates
 
 pub grown_other : (x u : ℤ) → int_le (pos 1) u ≡ true → x +ℤ u ≢ x
-grown_other x (pos zero) l e = absurd (true≢false (sym l))
-grown_other x (pos (suc n)) l e = absurd (omega (arith, ints))
-grown_other x (negsuc n) l e = absurd (true≢false (sym l))
+grown_other x u l e = grind (arith, ints)
 
-pub other_number : (x y : ℤ) → x ≢ y → int_eq x y ≡ false
-other_number x y ne = grind arith
-
-no_and : (a b : Bool) → (a && false && b) ≡ false
-no_and true b = refl
-no_and false b = refl
-
-no_end : (a b : Bool) → (a && b && false) ≡ false
-no_end true true = refl
-no_end true false = refl
-no_end false b = refl
-
-pub other_x : (p q : Point) → p.x ≢ q.x → same_point p q ≡ false
-other_x p q ne = ap (λ b. b && int_eq p.y q.y && int_eq p.z q.z) (other_number p.x q.x ne)
-
-pub other_y : (p q : Point) → p.y ≢ q.y → same_point p q ≡ false
-other_y p q ne = ap (λ b. int_eq p.x q.x && b && int_eq p.z q.z) (other_number p.y q.y ne) ∙ no_and (int_eq p.x q.x) (int_eq p.z q.z)
-
-other_z : (p q : Point) → p.z ≢ q.z → same_point p q ≡ false
-other_z p q ne = ap (λ b. int_eq p.x q.x && int_eq p.y q.y && b) (other_number p.z q.z ne) ∙ no_end (int_eq p.x q.x) (int_eq p.y q.y)
-
--- a height above 0 is no zero vector
-rise_other : (u : ℤ) → int_le (pos 1) u ≡ true → u ≢ pos 0
-rise_other u l e = absurd (true≢false (sym l ∙ ap (int_le (pos 1)) e))
+-- points of which one coordinate differs
+apart : (coordinate : Point → ℤ) (p q : Point) → coordinate p ≢ coordinate q → same_point p q ≡ false
+apart coordinate p q ne = elim (same_point p q) as (λ b. same_point p q ≡ b → b ≡ false) [ true ↦ λ e. absurd (ne (ap coordinate (same_is p q e))) | false ↦ λ e. refl ] refl
 
 in_range : (q : Point) (x y z : ℤ) → q.x ≡ x → q.y ≡ y → q.z ≡ z → is_coordinate x ≡ true → is_coordinate y ≡ true → is_coordinate z ≡ true → is_in_range q ≡ true
 in_range q x y z ex ey ez a b c = λ i. (ap is_coordinate ex ∙ a) i && ((ap is_coordinate ey ∙ b) i && (ap is_coordinate ez ∙ c) i)
@@ -64,18 +40,7 @@ pub record BlockGoes (M : Model) (s : ℕ) (p : Point) (dx dy dz : ℤ) : Type 0
 
 pub block_goes : (M : Model) (s : ℕ) (p : Point) (dx dy dz : ℤ) → block_refusal M s p dx dy dz ≡ None → BlockGoes M s p dx dy dz
 unfolding block_conditions
-block_goes M s p dx dy dz e = named (all_hold (block_conditions M s p dx dy dz) e) where
-  named : AllHold (block_conditions M s p dx dy dz) → BlockGoes M s p dx dy dz
-  named (number, (taken, (x_grows, (y_grows, (z_grows, (first, (last, room))))))) = record {
-    solid_fits = number;
-    solid_free = not-true _ taken;
-    long = x_grows;
-    wide = y_grows;
-    high = z_grows;
-    near = first;
-    far = last;
-    left = numbers_are_left (taken_in M) _ room;
-  }
+block_goes M s p dx dy dz e = grind (arith, all_hold (block_conditions M s p dx dy dz) e, not-true, numbers_are_left)
 
 -- the coordinates of the two corners that a block names are in range
 record Ranges (p : Point) (dx dy dz : ℤ) : Type 0 where
@@ -87,14 +52,7 @@ record Ranges (p : Point) (dx dy dz : ℤ) : Type 0 where
   qz : is_coordinate (p.z +ℤ dz) ≡ true
 
 ranges : (p : Point) (dx dy dz : ℤ) → is_in_range p ≡ true → is_in_range (moved p (vector dx dy dz)) ≡ true → Ranges p dx dy dz
-ranges p dx dy dz near far = record {
-  px = and_first (is_coordinate p.x) _ near;
-  py = and_first (is_coordinate p.y) _ (and_second (is_coordinate p.x) _ near);
-  pz = and_second (is_coordinate p.y) _ (and_second (is_coordinate p.x) _ near);
-  qx = and_first (is_coordinate (p.x +ℤ dx)) _ far;
-  qy = and_first (is_coordinate (p.y +ℤ dy)) _ (and_second (is_coordinate (p.x +ℤ dx)) _ far);
-  qz = and_second (is_coordinate (p.y +ℤ dy)) _ (and_second (is_coordinate (p.x +ℤ dx)) _ far);
-}
+ranges p dx dy dz near far = grind (arith, and_first, and_second, near, far)
 
 -- ---- the lamina of the base
 
@@ -119,15 +77,17 @@ blocks_have_bases M s p dx dy dz e =
     (in_range b (p.x +ℤ dx) p.y p.z refl (add_none p.y) (add_none p.z) r.qx r.py r.pz)
     (in_range g (p.x +ℤ dx) (p.y +ℤ dy) p.z refl refl (add_none p.z) r.qx r.qy r.pz)
     (in_range h p.x (p.y +ℤ dy) p.z (add_none p.x) refl (add_none p.z) r.px r.qy r.pz) in
-    let apart = none_repeated p b g h (other_x b p x_grows) (other_x g p x_grows) (other_y g b (λ t. y_grows (t ∙ add_none p.y)))
-    (other_y h p y_grows) (other_x h b (λ t. x_grows (sym t ∙ add_none p.x))) (other_x h g (λ t. x_grows (sym t ∙ add_none p.x))) in
+    let x : Point → ℤ = λ q. q.x in
+    let y : Point → ℤ = λ q. q.y in
+    let six = none_repeated p b g h (apart x b p x_grows) (apart x g p x_grows) (apart y g b (λ t. y_grows (t ∙ add_none p.y)))
+    (apart y h p y_grows) (apart x h b (λ t. x_grows (sym t ∙ add_none p.x))) (apart x h g (λ t. x_grows (sym t ∙ add_none p.x))) in
     let left : AreLeft (taken_in M) (record { faces = 2; loops = 2; edges = 4; vertices = 4 }) = record { faces = omega (arith, goes.left.faces); loops = omega (arith, goes.left.loops); edges = omega (arith, goes.left.edges); vertices = omega (arith, goes.left.vertices) } in
     none_refuses (lamina_conditions M s (base_of p dx dy)) (
     goes.solid_fits
     also ap not goes.solid_free
     also refl
     also ap (λ (o : Option ℕ). not (is_some o)) near
-    also ap (λ (o : Option ℕ). not (is_some o)) apart
+    also ap (λ (o : Option ℕ). not (is_some o)) six
     also left_numbers_hold (taken_in M) _ left
     )
 
@@ -162,10 +122,7 @@ module _ (M : Model) (sound : Sound M) (c : Taken) (is : c ≡ taken_in M) (s : 
 
   all_in_range : (d : Point) → is_in_range (moved a d) ≡ true → is_in_range (moved b d) ≡ true → is_in_range (moved g d) ≡ true → is_in_range (moved h d) ≡ true →
       first_such (λ v. not (is_in_range (moved (point_of base v) d))) base_vertices ≡ None
-  all_in_range d ra rb rg rh =
-      (λ i. cond (not (is_in_range (moved (rows.point_at M c s ps 0 (omega arith) i) d))) (Some (c.vertex + 1)) (cond (not (is_in_range (moved (rows.point_at M c s ps 1 (omega arith) i) d))) (Some (c.vertex + 2))
-      (cond (not (is_in_range (moved (rows.point_at M c s ps 2 (omega arith) i) d))) (Some (c.vertex + 3)) (cond (not (is_in_range (moved (rows.point_at M c s ps 3 (omega arith) i) d))) (Some (c.vertex + 4)) None))))
-      ∙ (λ i. cond (not (ra i)) (Some (c.vertex + 1)) (cond (not (rb i)) (Some (c.vertex + 2)) (cond (not (rg i)) (Some (c.vertex + 3)) (cond (not (rh i)) (Some (c.vertex + 4)) None))))
+  all_in_range d ra rb rg rh = grind (arith, rows.point_at M c s ps 0, rows.point_at M c s ps 1, rows.point_at M c s ps 2, rows.point_at M c s ps 3)
 
   base_left : AreLeft c (record { faces = 6; loops = 6; edges = 12; vertices = 8 }) → AreLeft (taken_in base) (needed_for_sides 4)
   unfolding taken_in
@@ -174,16 +131,14 @@ module _ (M : Model) (sound : Sound M) (c : Taken) (is : c ≡ taken_in M) (s : 
   rises : (d : Point) → same_point d origin ≡ false → is_in_range (moved a d) ≡ true → is_in_range (moved b d) ≡ true → is_in_range (moved g d) ≡ true → is_in_range (moved h d) ≡ true →
       AreLeft c (record { faces = 6; loops = 6; edges = 12; vertices = 8 }) → prism_refusal base (c.face + 1) d ≡ None
   unfolding prism_conditions
-  rises d apart ra rb rg rh left = ap (λ vs. first_refusal (swept_conditions d vs)) corners_are
+  rises d other ra rb rg rh left = ap (λ vs. first_refusal (swept_conditions d vs)) corners_are
       ∙ none_refuses (swept_conditions d base_vertices) (
-        number_fits (c.face + 1) (omega arith) (omega (arith, left.faces)),
-        (
-          rows.there_one M c s ps,
-          (
-            ap not apart,
-            (ap (λ (o : Option ℕ). not (is_some o)) (rows.none_lone M c s ps has_free), (ap (λ (o : Option ℕ). not (is_some o)) (all_in_range d ra rb rg rh), left_numbers_hold (taken_in base) (needed_for_sides 4) (base_left left))),
-          ),
-        ),
+      number_fits (c.face + 1) (omega arith) (omega (arith, left.faces))
+      also rows.there_one M c s ps
+      also ap not other
+      also ap (λ (o : Option ℕ). not (is_some o)) (rows.none_lone M c s ps has_free)
+      also ap (λ (o : Option ℕ). not (is_some o)) (all_in_range d ra rb rg rh)
+      also left_numbers_hold (taken_in base) (needed_for_sides 4) (base_left left)
       )
 
 pub bases_rise : BasesRise
@@ -195,7 +150,7 @@ bases_rise M s p dx dy dz sound e =
     let g : Point = moved p (vector dx dy (pos 0)) in
     let h : Point = moved p (vector (pos 0) dy (pos 0)) in
     let d : Point = vector (pos 0) (pos 0) dz in
-    rises M sound (taken_in M) refl s p b g h d (other_z d origin (rise_other dz goes.high))
+    rises M sound (taken_in M) refl s p b g h d (apart (λ q. q.z) d origin (λ e. grind (arith, ints, goes.high)))
     (in_range (moved p d) p.x p.y (p.z +ℤ dz) (add_none p.x) (add_none p.y) refl r.px r.py r.qz)
     (in_range (moved b d) (p.x +ℤ dx) p.y (p.z +ℤ dz) (add_none (p.x +ℤ dx)) (omega (arith, ints)) (omega (arith, ints)) r.qx r.py r.qz)
     (in_range (moved g d) (p.x +ℤ dx) (p.y +ℤ dy) (p.z +ℤ dz) (add_none (p.x +ℤ dx)) (add_none (p.y +ℤ dy)) (omega (arith, ints)) r.qx r.qy r.qz)

@@ -1,5 +1,5 @@
 -- The loop along a path and back, as a list.
-use Rattle.std.proofs.Common.{◌≡◌, ℕ, zero, suc, ◌+◌, ◌≤◌, ◌<◌, List, [], ◌∷◌, ◌++◌, refl, sym, ap, ◌∙◌, arith, inl, inr, map, reverse, append_assoc, append-nil}
+use Rattle.std.proofs.Common.{◌≡◌, ℕ, zero, suc, ◌+◌, ◌≤◌, List, [], ◌∷◌, ◌++◌, refl, sym, ap, ◌∙◌, arith, map, reverse, append_assoc, append-nil}
 use Rattle.std.proofs.lemmas.List.{map-append, reverse-append}
 use Rattle.std.proofs.lemmas.Bool.Decides.{eqb_tells}
 use Rattle.euler_operators.specs.Common.{count, IsIn, IsApart, least, rotate_to, canonical, plus, minus}
@@ -8,47 +8,32 @@ use Rattle.shapes.specs.Common.{numbers_after}
 use Rattle.sweeps_laws.specs.lamina.Path.{out, back}
 
 -- a list from its least item on is in its canonical form
+pub canonical_least : (x : ℕ) (zs : List ℕ) → least (x ∷ zs) ≡ x → canonical (x ∷ zs) ≡ x ∷ zs
+unfolding canonical
+canonical_least x zs e = ap (λ y. rotate_to y (x ∷ zs)) e ∙ rotate_to_head x zs
+
 least_first : (x : ℕ) (zs : List ℕ) → ((y : ℕ) → IsIn y zs → x ≤ y) → least (x ∷ zs) ≡ x
-least_first x zs low =
-    let at_most : least (x ∷ zs) ≤ x = least_with_le x zs x (IsIn_head x zs) in
-    let there : IsIn (least (x ∷ zs)) (x ∷ zs) = least_with_in x zs in
-    elim (eqb_tells (least (x ∷ zs)) x) [
-      | inl e ↦ e.1
-      | inr ne ↦ omega (arith, at_most, low (least (x ∷ zs)) (omega (arith, there, tick_other (least (x ∷ zs)) x ne.1)))
-    ]
+least_first x zs low = grind (arith, least_with_le x zs x (IsIn_head x zs), least_with_in x zs, tick_other (least (x ∷ zs)) x, low (least (x ∷ zs)))
 
 pub canonical_first : (x : ℕ) (zs : List ℕ) → ((y : ℕ) → IsIn y zs → x ≤ y) → canonical (x ∷ zs) ≡ x ∷ zs
-unfolding canonical
-canonical_first x zs low = ap (λ y. rotate_to y (x ∷ zs)) (least_first x zs low) ∙ rotate_to_head x zs
+canonical_first x zs low = canonical_least x zs (least_first x zs low)
 
 -- where items lie
 out_within : (e j x : ℕ) → IsIn x (out e j) → (plus (e + 1) ≤ x) × (x ≤ plus (e + j))
 out_within e zero x i = absurd (omega arith)
-out_within e (suc j) x i = elim (eqb_tells x (plus (e + suc j))) [
-  | inl p ↦ (omega (arith, p.1), omega (arith, p.1))
-  | inr p ↦ let w = out_within e j x (omega (arith, i, count-append x (out e j) (plus (e + suc j) ∷ []), tick_other x (plus (e + suc j)) p.1)) in (w.0, omega (arith, w.1))
-]
+out_within e (suc j) x i = grind (arith, i, count-append, tick_other, out_within e j x)
 
-back_within : (e j x : ℕ) → IsIn x (back e j) → (plus (e + 1) ≤ x) × (x ≤ minus (e + j))
+pub back_within : (e j x : ℕ) → IsIn x (back e j) → (minus (e + 1) ≤ x) × (x ≤ minus (e + j))
 back_within e zero x i = absurd (omega arith)
-back_within e (suc j) x i = elim (eqb_tells x (minus (e + suc j))) [
-  | inl p ↦ (omega (arith, p.1), omega (arith, p.1))
-  | inr p ↦ let w = back_within e j x (omega (arith, i, tick_other x (minus (e + suc j)) p.1)) in (w.0, omega (arith, w.1))
-]
-
-not_out : (e j x : ℕ) → plus (e + j) < x → count x (out e j) ≡ 0
-not_out e j x l = grind (arith, out_within)
-
-not_back : (e j x : ℕ) → minus (e + j) < x → count x (back e j) ≡ 0
-not_back e j x l = grind (arith, back_within)
+back_within e (suc j) x i = grind (arith, i, tick_other, back_within e j x)
 
 pub out_apart : (e j : ℕ) → IsApart (out e j)
 out_apart e zero x = grind arith
-out_apart e (suc j) x = grind (arith, eqb_tells, count-append, tick_le, not_out, tick_other, out_apart e j x)
+out_apart e (suc j) x = grind (arith, eqb_tells, count-append, tick_le, out_within e j x, tick_other, out_apart e j x)
 
 pub back_apart : (e j : ℕ) → IsApart (back e j)
 back_apart e zero x = grind arith
-back_apart e (suc j) x = grind (arith, eqb_tells, tick_le, not_back, tick_other, back_apart e j x)
+back_apart e (suc j) x = grind (arith, eqb_tells, tick_le, back_within e j x, tick_other, back_apart e j x)
 
 -- the plus halves after the first
 abbrev pub later : ℕ → ℕ → List ℕ
@@ -68,7 +53,7 @@ canonical_out e j ys low = grind (arith, out_first, canonical_first, later_high,
 
 -- the loop along a path, and the one along the next edge too
 pub path_read : (e j : ℕ) → canonical (out e (suc j) ++ back e (suc j)) ≡ out e (suc j) ++ back e (suc j)
-path_read e j = canonical_out e j (back e (suc j)) (λ y i. (back_within e (suc j) y i).0)
+path_read e j = canonical_out e j (back e (suc j)) (λ y i. omega (arith, (back_within e (suc j) y i).0))
 
 pub longer : (e j : ℕ) → canonical (out e (suc j) ++ plus (e + suc (suc j)) ∷ minus (e + suc (suc j)) ∷ back e (suc j)) ≡ out e (suc (suc j)) ++ back e (suc (suc j))
 longer e j = ap canonical (sym (append_assoc (out e (suc j)) (plus (e + suc (suc j)) ∷ []) (back e (suc (suc j))))) ∙ path_read e (suc j)

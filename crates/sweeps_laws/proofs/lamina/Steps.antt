@@ -1,5 +1,5 @@
 -- Each operator of a lamina is accepted, and leads from one model of the path to the next.
-use Rattle.std.proofs.Common.{◌≡◌, ℕ, zero, suc, ◌+◌, ◌≤◌, ◌<◌, true, List, [], ◌∷◌, ◌++◌, Some, None, unwrap_or, is_some, refl, sym, ap, ◌∙◌, arith, IsTrue, map, reverse, length, get_or, ◌-◌}
+use Rattle.std.proofs.Common.{◌≡◌, ℕ, zero, suc, ◌+◌, ◌≤◌, ◌<◌, List, [], ◌∷◌, ◌++◌, Some, None, unwrap_or, is_some, refl, sym, ap, ◌∙◌, arith, IsTrue, map, reverse, length, get_or, ◌-◌}
 use Rattle.euler_operators.specs.Common.{Point, IsInRange, canonical, code, mate, edge_of, plus, minus, Table, Model, cycle, EdgeRow, no_point, no_face, content, face_of, solid_of, tail, is_number, Sound, first_false, lone_vertex, effect, edge_row, mvfs, mev_lone, mef}
 use Rattle.euler_operators.specs.Table as table
 use Rattle.euler_operators.proofs.Common.{plus_row, mate_plus, content_row, face_row, plus_tail_row, minus_tail_row, get-put_here, get-put_other, put-put, canonical_same}
@@ -46,24 +46,6 @@ module _ (M : Model) (c : Taken) (s : ℕ) (ps : List Point) (n : ℕ) (goes : G
   above_face : table.greatest M.faces < c.face + 1
   above_face = omega (arith, goes.faces)
 
-  edge_free : (j i : ℕ) → j < i → table.get (with_path M.edges c.edge c.vertex j) (c.edge + i) ≡ None
-  edge_free j i l = none_above (with_path M.edges c.edge c.vertex j) (c.edge + i) (omega (arith, greatest-with_path M.edges c.edge c.vertex j goes.edges, l))
-
-  vertex_free : (j i : ℕ) → j < i → table.get (with_points M.vertices c.vertex ps j) (c.vertex + i) ≡ None
-  vertex_free j i l = none_above (with_points M.vertices c.vertex ps j) (c.vertex + i) (omega (arith, greatest-with_points M.vertices c.vertex ps j goes.vertices, l))
-
-  edge_fits : (i : ℕ) → 1 ≤ i → i ≤ n → is_number (c.edge + i) ≡ true
-  edge_fits i a b = number_fits (c.edge + i) (omega (arith, a)) (omega (arith, b, goes.left.edges))
-
-  vertex_fits : (i : ℕ) → 1 ≤ i → i ≤ n → is_number (c.vertex + i) ≡ true
-  vertex_fits i a b = number_fits (c.vertex + i) (omega (arith, a)) (omega (arith, b, goes.left.vertices))
-
-  face_fits : (i : ℕ) → 1 ≤ i → i ≤ 2 → is_number (c.face + i) ≡ true
-  face_fits i a b = number_fits (c.face + i) (omega (arith, a)) (omega (arith, b, goes.left.faces))
-
-  loop_fits : (i : ℕ) → 1 ≤ i → i ≤ 2 → is_number (c.loop + i) ≡ true
-  loop_fits i a b = number_fits (c.loop + i) (omega (arith, a)) (omega (arith, b, goes.left.loops))
-
   -- ---- the first point
 
   pub first_accepted : first_false M (first_point c s ps) ≡ None
@@ -71,11 +53,11 @@ module _ (M : Model) (c : Taken) (s : ℕ) (ps : List Point) (n : ℕ) (goes : G
     solid_free = goes.solid_free;
     face_free = none_above M.faces (c.face + 1) above_face;
     loop_free = none_above M.loops (c.loop + 1) (omega (arith, goes.loops));
-    vertex_free = vertex_free 0 1 (omega arith);
+    vertex_free = none_above M.vertices (c.vertex + 1) (omega (arith, goes.vertices));
     solid_fits = goes.solid_fits;
-    face_fits = face_fits 1 (omega arith) (omega arith);
-    loop_fits = loop_fits 1 (omega arith) (omega arith);
-    vertex_fits = vertex_fits 1 (omega arith) (omega (arith, goes.many));
+    face_fits = number_fits (c.face + 1) (omega arith) (omega (arith, goes.left.faces));
+    loop_fits = number_fits (c.loop + 1) (omega arith) (omega (arith, goes.left.loops));
+    vertex_fits = number_fits (c.vertex + 1) (omega arith) (omega (arith, goes.many, goes.left.vertices));
     point_fits = goes.points_fit 0 (omega (arith, goes.many));
   })
 
@@ -101,13 +83,13 @@ module _ (M : Model) (c : Taken) (s : ℕ) (ps : List Point) (n : ℕ) (goes : G
     solid_is = ap (λ o. (unwrap_or o no_face).solid) (get-put_here M.faces (c.face + 1) (record { solid = s; outer = c.loop + 1 }))
 
     -- the next edge and vertex are free
-    next_edge_free : (h : ℕ) → edge_of h ≡ c.edge + suc j → table.get (path_at M c s ps j).edges (edge_of h) ≡ None
+    next_edge_free : table.get (path_at M c s ps j).edges (c.edge + suc j) ≡ None
     unfolding path_at
-    next_edge_free h is = ap (table.get (with_path M.edges c.edge c.vertex j)) is ∙ edge_free j (suc j) (omega arith)
+    next_edge_free = none_above (with_path M.edges c.edge c.vertex j) (c.edge + suc j) (omega (arith, greatest-with_path M.edges c.edge c.vertex j goes.edges))
 
     next_vertex_free : table.get (path_at M c s ps j).vertices (c.vertex + suc (suc j)) ≡ None
     unfolding path_at
-    next_vertex_free = vertex_free (suc j) (suc (suc j)) (omega arith)
+    next_vertex_free = none_above (with_points M.vertices c.vertex ps (suc j)) (c.vertex + suc (suc j)) (omega (arith, greatest-with_points M.vertices c.vertex ps (suc j) goes.vertices))
 
   -- ---- the second point
 
@@ -116,10 +98,10 @@ module _ (M : Model) (c : Taken) (s : ℕ) (ps : List Point) (n : ℕ) (goes : G
   second_goes = record {
     is_lone = content_is 0;
     loop_there = ap is_some (loop_is 0);
-    edge_free = next_edge_free 0 (plus (c.edge + 1)) (plus_row (c.edge + 1)).0;
+    edge_free = ap (table.get (path_at M c s ps 0).edges) (plus_row (c.edge + 1)).0 ∙ next_edge_free 0;
     vertex_free = next_vertex_free 0;
-    edge_fits = ap is_number (plus_row (c.edge + 1)).0 ∙ edge_fits 1 (omega arith) (omega (arith, goes.many));
-    vertex_fits = vertex_fits 2 (omega arith) (omega (arith, goes.many));
+    edge_fits = ap is_number (plus_row (c.edge + 1)).0 ∙ number_fits (c.edge + 1) (omega arith) (omega (arith, goes.many, goes.left.edges));
+    vertex_fits = number_fits (c.vertex + 2) (omega arith) (omega (arith, goes.many, goes.left.vertices));
     point_fits = goes.points_fit 1 (omega (arith, goes.many));
   }
 
@@ -162,10 +144,6 @@ module _ (M : Model) (c : Taken) (s : ℕ) (ps : List Point) (n : ℕ) (goes : G
     abbrev p : Point
     p = get_or ps (suc (suc j)) no_point
 
-    u_free : table.get P.edges u ≡ None
-    unfolding path_at
-    u_free = edge_free (suc j) (suc (suc j)) (omega arith)
-
     turn_tail : tail P g ≡ c.vertex + suc (suc j)
     unfolding path_at
     turn_tail = minus_tail_row P (c.edge + suc j) _ (last_row M.edges c.edge c.vertex j) ∙ omega arith
@@ -177,15 +155,15 @@ module _ (M : Model) (c : Taken) (s : ℕ) (ps : List Point) (n : ℕ) (goes : G
       pub further_accepted : suc (suc j) < n → first_false P (next_point c ps (suc j)) ≡ None
       unfolding code
       further_accepted l = mev_accepted P (second_half (c.edge + suc j)) (second_half (c.edge + suc j)) (first_half u) v p sound
-          (spur_goes P (c.loop + 1) (c.face + 1) (out c.edge (suc j)) (back c.edge j) g u v p around u_free (next_vertex_free (suc j))
-          (edge_fits (suc (suc j)) (omega arith) (omega (arith, l))) (vertex_fits (suc (suc (suc j))) (omega arith) (omega (arith, l))) (goes.points_fit (suc (suc j)) l))
+          (spur_goes P (c.loop + 1) (c.face + 1) (out c.edge (suc j)) (back c.edge j) g u v p around (next_edge_free (suc j)) (next_vertex_free (suc j))
+          (number_fits u (omega arith) (omega (arith, l, goes.left.edges))) (number_fits v (omega arith) (omega (arith, l, goes.left.vertices))) (goes.points_fit (suc (suc j)) l))
 
       one_on : c.vertex + suc (suc (suc j)) ≡ c.vertex + suc (suc j) + 1
       one_on = omega arith
 
       pub further_made : effect P (next_point c ps (suc j)) ≡ path_at M c s ps (suc (suc j))
       unfolding effect code path_at
-      further_made = mev_here P (c.loop + 1) (c.face + 1) (out c.edge (suc j)) (back c.edge j) g u v p around u_free ∙ (λ i. record {
+      further_made = mev_here P (c.loop + 1) (c.face + 1) (out c.edge (suc j)) (back c.edge j) g u v p around (next_edge_free (suc j)) ∙ (λ i. record {
         solids = table.put M.solids s tt;
         faces = table.put M.faces (c.face + 1) (record { solid = s; outer = c.loop + 1 });
         loops = (put-put M.loops (c.loop + 1) (record { face = c.face + 1; content = path_content c (suc j) }) (record { face = c.face + 1; content = cycle (canonical (out c.edge (suc j) ++ plus u ∷ minus u ∷ back c.edge (suc j))) }) ∙ ap (λ xs. table.put M.loops (c.loop + 1) (record { face = c.face + 1; content = cycle xs })) (longer c.edge j)) i;
@@ -219,8 +197,9 @@ module _ (M : Model) (c : Taken) (s : ℕ) (ps : List Point) (n : ℕ) (goes : G
     pub last_accepted : n ≡ suc (suc j) → first_false (path_at M c s ps (suc j)) (last_edge c (suc j)) ≡ None
     unfolding code
     last_accepted all = mef_accepted (path_at M c s ps (suc j)) (second_half (c.edge + suc j)) (first_half (c.edge + 1)) (first_half (u j)) (c.face + 2) (c.loop + 2) sound
-        (chord_goes (path_at M c s ps (suc j)) (c.loop + 1) (c.face + 1) (g j) (plus (c.edge + 1)) (back c.edge j) (later c.edge j) (u j) (c.face + 2) (c.loop + 2) turned (u_free j) second_loop_free second_face_free
-        (λ e. absurd (omega (arith, e, turn_tail j, start_tail))) (edge_fits (suc (suc j)) (omega arith) (omega (arith, all))) (face_fits 2 (omega arith) (omega arith)) (loop_fits 2 (omega arith) (omega arith)))
+        (chord_goes (path_at M c s ps (suc j)) (c.loop + 1) (c.face + 1) (g j) (plus (c.edge + 1)) (back c.edge j) (later c.edge j) (u j) (c.face + 2) (c.loop + 2) turned (next_edge_free (suc j)) second_loop_free second_face_free
+        (λ e. absurd (omega (arith, e, turn_tail j, start_tail))) (number_fits (u j) (omega arith) (omega (arith, all, goes.left.edges)))
+        (number_fits (c.face + 2) (omega arith) (omega (arith, goes.left.faces))) (number_fits (c.loop + 2) (omega arith) (omega (arith, goes.left.loops))))
 
     -- the lamina over n points
     abbrev pub closed_at : ℕ → Model
@@ -244,7 +223,7 @@ module _ (M : Model) (c : Taken) (s : ℕ) (ps : List Point) (n : ℕ) (goes : G
 
     closes : mef (path_at M c s ps (suc j)) (g j) (plus (c.edge + 1)) (plus (u j)) (c.face + 2) (c.loop + 2) ≡ closed_at (suc (suc j))
     unfolding path_at
-    closes = mef_here (path_at M c s ps (suc j)) (c.loop + 1) (c.face + 1) (g j) (plus (c.edge + 1)) (back c.edge j) (later c.edge j) (u j) (c.face + 2) (c.loop + 2) turned (u_free j) second_loop_free ∙ (λ i. record {
+    closes = mef_here (path_at M c s ps (suc j)) (c.loop + 1) (c.face + 1) (g j) (plus (c.edge + 1)) (back c.edge j) (later c.edge j) (u j) (c.face + 2) (c.loop + 2) turned (next_edge_free (suc j)) second_loop_free ∙ (λ i. record {
       solids = table.put M.solids s tt;
       faces = table.put (table.put M.faces (c.face + 1) (record { solid = s; outer = c.loop + 1 })) (c.face + 2) (record { solid = solid_is (suc j) i; outer = c.loop + 2 });
       loops = table.put ((put-put M.loops (c.loop + 1) (record { face = c.face + 1; content = path_content c (suc j) }) (record { face = c.face + 1; content = cycle (canonical (plus (u j) ∷ plus (c.edge + 1) ∷ later c.edge j)) }) ∙ ap (λ xs. table.put M.loops (c.loop + 1) (record { face = c.face + 1; content = cycle xs })) out_is) i) (c.loop + 2) (record { face = c.face + 2; content = cycle (back_is i) });

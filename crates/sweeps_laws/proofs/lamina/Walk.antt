@@ -1,5 +1,5 @@
 -- From the conditions of a lamina: its operators in order, and the model that they leave.
-use Rattle.std.proofs.Common.{◌≡◌, ℕ, zero, suc, ◌+◌, ◌<◌, true, false, cond, List, [], ◌∷◌, ◌++◌, Some, None, is_some, refl, ap, subst, ◌∙◌, arith, true≢false, length, get_or, ◌-◌, leb-true}
+use Rattle.std.proofs.Common.{◌≡◌, ℕ, zero, suc, ◌+◌, ◌<◌, true, List, [], ◌∷◌, ◌++◌, None, refl, subst, ◌∙◌, arith, length, get_or, ◌-◌, leb-true}
 use Rattle.std.proofs.lemmas.Bool.{not-true}
 use Rattle.euler_operators.specs.Common.{Point, is_in_range, Model, no_point, Sound, first_false, effect}
 use Rattle.euler_operators.proofs.Common.{no_row}
@@ -13,14 +13,8 @@ use Rattle.sweeps_laws.proofs.lamina.Steps.{Goes, first_accepted, first_made, se
 -- where no point is too far, each is in range
 none_far : (i : ℕ) (ps : List Point) → first_far i ps ≡ None → (k : ℕ) → k < length ps → is_in_range (get_or ps k no_point) ≡ true
 none_far i [] e k l = absurd (omega (arith, l))
-none_far i (p ∷ ps) e k l =
-    elim (is_in_range p) as (λ b. is_in_range p ≡ b → cond b (first_far (i + 1) ps) (Some (i + 1)) ≡ None → is_in_range (get_or (p ∷ ps) k no_point) ≡ true) [
-      | true ↦ λ t e. near_at k (λ m. none_far (i + 1) ps e m) t l
-      | false ↦ λ t e. absurd (true≢false (ap is_some e))
-    ] refl e where
-      near_at : (k : ℕ) → ((m : ℕ) → m < length ps → is_in_range (get_or ps m no_point) ≡ true) → is_in_range p ≡ true → k < length (p ∷ ps) → is_in_range (get_or (p ∷ ps) k no_point) ≡ true
-      near_at zero rest t l = t
-      near_at (suc m) rest t l = rest m (omega (arith, l))
+none_far i (p ∷ ps) e zero l = grind (arith, e)
+none_far i (p ∷ ps) e (suc k) l = grind (arith, e, none_far (i + 1) ps)
 
 -- what the conditions say
 pub lamina_goes : (M : Model) (s : ℕ) (ps : List Point) → Sound M → lamina_refusal M s ps ≡ None → Goes M (taken_in M) s ps (length ps)

@@ -1,19 +1,18 @@
 -- A whole loop swept: the first item raised, the rounds, and the last side closed.
-use Rattle.std.proofs.Common.{◌≡◌, ◌≢◌, ℕ, zero, suc, ◌+◌, ◌-◌, ◌≤◌, ◌<◌, List, [], ◌∷◌, ◌++◌, length, Some, None, refl, sym, ap, ◌∙◌, subst, arith, inl, inr, get_or, drop}
-use Rattle.std.proofs.lemmas.Bool.Decides.{nat_tests, eqb_tells}
+use Rattle.std.proofs.Common.{◌≡◌, ◌≢◌, ℕ, zero, suc, ◌+◌, ◌-◌, ◌≤◌, ◌<◌, List, [], ◌∷◌, ◌++◌, length, Some, None, refl, sym, ap, ◌∙◌, subst, arith, get_or, drop}
+use Rattle.std.proofs.lemmas.Bool.Decides.{nat_tests}
 use Rattle.std.proofs.lemmas.List.{drop_all}
 use Rattle.euler_operators.specs.Common.{Point, moved, IsIn, canonical, plus, minus, Table, tables, same_table, Model, cycle, tail, solid_of, Sound, first_false, effect}
 use Rattle.euler_operators.proofs.Common.{count-append, tick_other, canonical_same, IsIn-get_or, get-put_here, get-put_other, plus_tail_row, minus_tail_row}
 use Rattle.euler_operators.specs.Table as table
-use Rattle.euler_operators.specs.declared.Op.{Op}
 use Rattle.euler_laws.specs.Laws.{AreAccepted, effects}
 use Rattle.euler_laws.proofs.Common.{effect_keeps_sound, Leads, leads_one, leads_on, leads_sound, Around, apart_xs}
 use Rattle.shapes.specs.Common.{start, Taken, riser, top_edge, top_items, next_place, with_side, with_sides, lifted}
 use Rattle.sweeps_laws.specs.prism.Part.{lifted_part, prism_part}
 use Rattle.sweeps_laws.specs.prism.SweepOps.{raise, close, close_last, rounds, loop_ops}
 use Rattle.sweeps_laws.proofs.prism.Steps.{with_chord, mev_does, mev_fits, mef_does, mef_fits}
-use Rattle.sweeps_laws.proofs.prism.Sides.{fits, riser_is, next_last, two_items, from_least, drop_next, loop_within, part_loop, part_edge_free, part_face_free, part_loop_free, part_riser, part_solid, round_accepted, round_is}
-use Rattle.sweeps_laws.proofs.swept.Numbers.{top_cases}
+use Rattle.sweeps_laws.proofs.prism.Sides.{fits, next_last, two_items, from_least, drop_next, loop_within, part_loop, part_edge_free, part_face_free, part_loop_free, part_riser, part_solid, round_accepted, round_is}
+use Rattle.sweeps_laws.proofs.swept.Numbers.{riser_cases, top_cases}
 use Rattle.sweeps_laws.specs.prism.Ready.{Ready}
 use Rattle.sweeps_laws.proofs.lamina.Lists.{canonical_first}
 
@@ -24,15 +23,16 @@ tops_head e n (suc i) = let h = tops_head e n i in (h.0 ++ plus (top_edge e n (s
 
 tops_above : (e n i y : ℕ) → 2 ≤ n → IsIn y (top_items e n i) → plus (top_edge e n 0) ≤ y
 tops_above e n zero y two h = absurd (omega arith)
-tops_above e n (suc i) y two h = elim (eqb_tells y (plus (top_edge e n i))) [
-  | inl p ↦ let s : y ≡ plus (top_edge e n i) = p.1 in omega (arith, top_cases e n 0, top_cases e n i)
-  | inr p ↦ tops_above e n i y two (omega (arith, h, count-append y (top_items e n i) (plus (top_edge e n i) ∷ []), tick_other y (plus (top_edge e n i)) p.1))
-]
+tops_above e n (suc i) y two h = grind (arith, top_cases e n 0, top_cases e n i, count-append, tick_other, tops_above e n i y)
 
 put_last_over : {X : Type 0} (t : Table X) (l r : ℕ) (a x y : X) → l ≢ r → table.put (table.put (table.put t l a) l x) r y ≡ table.put (table.put t r y) l x
 put_last_over t l r a x y ne = same_table _ _ (λ q. grind (arith, nat_tests, tables))
 
 module _ (M : Model) (c : Taken) (f l : ℕ) (d : Point) (hs : List ℕ) (w : Ready M c f l d hs) where
+  -- the model with the loop swept
+  abbrev swept : Model
+  swept = lifted (with_sides c (solid_of M f) d hs (length hs) M) f l (top_items c.edge (length hs) (length hs))
+
   -- ---- the first item
 
   abbrev first_item : ℕ
@@ -88,7 +88,7 @@ module _ (M : Model) (c : Taken) (f l : ℕ) (d : Point) (hs : List ℕ) (w : Re
   first_top (suc i) lt =
       let two = two_items M c f l d hs w in
       get-put_other _ _ _ (top_edge c.edge (length hs) 0) (λ s. omega (arith, top_cases c.edge (length hs) 0, top_cases c.edge (length hs) (suc i)))
-      ∙ get-put_other _ _ _ (top_edge c.edge (length hs) 0) (λ s. omega (arith, top_cases c.edge (length hs) 0, riser_is c.edge (suc i)))
+      ∙ get-put_other _ _ _ (top_edge c.edge (length hs) 0) (λ s. omega (arith, top_cases c.edge (length hs) 0, riser_cases c.edge (suc i)))
       ∙ first_top i (omega arith)
 
   -- ---- the last side, over item j + 1
@@ -152,8 +152,8 @@ module _ (M : Model) (c : Taken) (f l : ℕ) (d : Point) (hs : List ℕ) (w : Re
     two = two_items M c f l d hs w
 
     t_free : table.get P.edges t ≡ None
-    t_free = part_edge_free w (suc j) t (λ e. omega (arith, last, top_cases c.edge (length hs) (suc j), riser_is c.edge (suc j)))
-        (λ i lt. ((λ e. omega (arith, last, top_cases c.edge (length hs) (suc j), riser_is c.edge i)), (λ e. omega (arith, last, top_cases c.edge (length hs) (suc j), top_cases c.edge (length hs) i))))
+    t_free = part_edge_free w (suc j) t (λ e. omega (arith, last, top_cases c.edge (length hs) (suc j), riser_cases c.edge (suc j)))
+        (λ i lt. ((λ e. omega (arith, last, top_cases c.edge (length hs) (suc j), riser_cases c.edge i)), (λ e. omega (arith, last, top_cases c.edge (length hs) (suc j), top_cases c.edge (length hs) i))))
         (omega (arith, top_cases c.edge (length hs) (suc j)))
 
     r_other : l ≢ r
@@ -167,7 +167,7 @@ module _ (M : Model) (c : Taken) (f l : ℕ) (d : Point) (hs : List ℕ) (w : Re
 
     first_row : table.get P.edges (top_edge c.edge (length hs) 0) ≡ Some (record { plus_tail = c.vertex + 1 + 0; minus_tail = c.vertex + 1 + next_place (length hs) 0 })
     unfolding prism_part
-    first_row = get-put_other _ _ _ (top_edge c.edge (length hs) 0) (λ e. omega (arith, two, top_cases c.edge (length hs) 0, riser_is c.edge (suc j))) ∙ first_top j (omega (arith, last))
+    first_row = get-put_other _ _ _ (top_edge c.edge (length hs) 0) (λ e. omega (arith, two, top_cases c.edge (length hs) 0, riser_cases c.edge (suc j))) ∙ first_top j (omega (arith, last))
 
     tail_k : tail P k ≡ c.vertex + 1 + 0
     tail_k = plus_tail_row P (top_edge c.edge (length hs) 0) _ first_row
@@ -226,28 +226,19 @@ module _ (M : Model) (c : Taken) (f l : ℕ) (d : Point) (hs : List ℕ) (w : Re
     unfolding prism_part with_side
     made = λ i. record { solids = W.solids; faces = faces_are i; loops = loops_are i; edges = edges_are i; vertices = W.vertices }
 
-    last_accepted : AreAccepted P (close_last c (length hs) (suc j) ∷ [])
-    last_accepted = (accepted, tt)
-
-    last_is : effects P (close_last c (length hs) (suc j) ∷ []) ≡ lifted (with_sides c (solid_of M f) d hs (length hs) M) f l (top_items c.edge (length hs) (length hs))
-    last_is = cc (does, made)
+    last_leads : Leads P swept (close_last c (length hs) (suc j) ∷ [])
+    last_leads = leads_one P swept (close_last c (length hs) (suc j)) accepted (cc (does, made))
 
   -- the operators of a loop sweep it
-  abbrev Swept : List Op → Type 0
-  Swept ops = AreAccepted M ops × (effects M ops ≡ lifted (with_sides c (solid_of M f) d hs (length hs) M) f l (top_items c.edge (length hs) (length hs)))
+  leads_at : (j : ℕ) → suc (suc j) ≡ length hs → Leads M swept (rounds M c d hs (suc j) ++ close_last c (length hs) (suc j) ∷ [])
+  leads_at j last = let r : Rounds (suc j) = rounds_go (suc j) (omega (arith, last)) in
+      leads_on M (prism_part c f l d hs (suc j) M) swept (rounds M c d hs (suc j)) (close_last c (length hs) (suc j) ∷ []) r (last_leads j last (part_sound (suc j) r))
 
-  swept_at : (j : ℕ) → suc (suc j) ≡ length hs → Swept (rounds M c d hs (suc j) ++ close_last c (length hs) (suc j) ∷ [])
-  swept_at j last =
-      let r : Rounds (suc j) = rounds_go (suc j) (omega (arith, last)) in
-      let s : Sound (prism_part c f l d hs (suc j) M) = part_sound (suc j) r in
-      let led = leads_on M (prism_part c f l d hs (suc j) M) (lifted (with_sides c (solid_of M f) d hs (length hs) M) f l (top_items c.edge (length hs) (length hs))) (rounds M c d hs (suc j)) (close_last c (length hs) (suc j) ∷ []) r
-      (record { accepted = last_accepted j last s; made = last_is j last s }) in
-      (led.accepted, led.made)
-
-  pub loop_swept : Swept (loop_ops M c d hs)
-  loop_swept =
+  pub loop_leads : Leads M swept (loop_ops M c d hs)
+  loop_leads =
       let two : 2 ≤ length hs = two_items M c f l d hs w in
-      let j : ℕ = length hs - 2 in
-      let last : suc (suc (length hs - 2)) ≡ length hs = omega arith in
       let is : suc (length hs - 2) ≡ length hs - 1 = omega arith in
-      subst (λ i. Swept (rounds M c d hs i ++ close_last c (length hs) i ∷ [])) is (swept_at (length hs - 2) last)
+      subst (λ i. Leads M swept (rounds M c d hs i ++ close_last c (length hs) i ∷ [])) is (leads_at (length hs - 2) (omega arith))
+
+  pub loop_swept : AreAccepted M (loop_ops M c d hs) × (effects M (loop_ops M c d hs) ≡ swept)
+  loop_swept = (loop_leads.accepted, loop_leads.made)

@@ -1,16 +1,18 @@
 -- One round of the sweep of a loop: the numbers that it takes, what the sides leave as it was, an item raised and the side before it closed.
-use Rattle.std.proofs.Common.{◌≡◌, ◌≢◌, ℕ, zero, suc, ◌+◌, ◌*◌, ◌≤◌, ◌<◌, cond, List, [], ◌∷◌, length, is_some, unwrap_or, IsTrue, refl, sym, ap, ◌∙◌, subst, arith, ◌⊎◌, ◌++◌, Some, None, eq-eqb, ne_eqb, get_or, drop, append_assoc}
-use Rattle.std.proofs.lemmas.Bool.{cases_eq}
+use Rattle.std.proofs.Common.{◌≡◌, ◌≢◌, ℕ, suc, ◌+◌, ◌≤◌, ◌<◌, cond, List, [], ◌∷◌, length, is_some, IsTrue, refl, sym, ap, ◌∙◌, subst, arith, ◌++◌, Some, None, eq-eqb, ne_eqb, get_or, drop, append_assoc}
 use Rattle.std.proofs.lemmas.Bool.Decides.{nat_tests}
-use Rattle.euler_operators.specs.Common.{Point, IsIn, canonical, successor, edge_of, is_first, plus, minus, Model, cycle, items_of, holds, tail, tail_in, no_edge, no_face, no_point, content, solid_of, point_of, loop_of, after, cycle_of, is_number, Has, HasHalf, Sound, moved, Table, tables, same_table, first_false, effect}
-use Rattle.euler_operators.proofs.Common.{tick_same, successor_head, content_row, face_row, in-holds, minus_tail_row, get-put_other, in_use_within, get-put_here, put_turned, canonical_same, IsIn-get_or}
+use Rattle.euler_operators.specs.Common.{Point, IsIn, canonical, successor, edge_of, plus, minus, Model, cycle, items_of, holds, tail, content, solid_of, loop_of, after, cycle_of, is_number, Has, HasHalf, Sound, moved, Table, tables, same_table, first_false, effect}
+use Rattle.euler_operators.proofs.Common.{tick_same, successor_head, content_row, face_row, in-holds, minus_tail_row, get-put_other, same_solid, in_use_within, get-put_here, put_turned, canonical_same, IsIn-get_or}
 use Rattle.euler_operators.specs.Table as table
 use Rattle.shapes.specs.Common.{start, Taken, riser, top_edge, next_place, with_side, with_sides, top_items}
-use Rattle.sweeps_laws.proofs.swept.Numbers.{top_cases}
+use Rattle.sweeps_laws.proofs.swept.Bounds.{HasFree, tail_within}
+use Rattle.sweeps_laws.proofs.swept.Filled.{filled_other}
+use Rattle.sweeps_laws.proofs.swept.Numbers.{riser_cases, riser_above, top_cases}
+use Rattle.sweeps_laws.proofs.swept.Sides.{Keeps, start_kept, faces_grown, loops_grown, vertices_grown, edges_other, edges_kept, vertices_kept, keeps_grown}
 use Rattle.sweeps_laws.specs.prism.Ready.{Ready}
 use Rattle.std.proofs.lemmas.List.{drop_more}
 use Rattle.euler_laws.specs.Laws.{AreAccepted, effects}
-use Rattle.euler_laws.proofs.Common.{effect_keeps_sound, Around, apart_xs}
+use Rattle.euler_laws.proofs.Common.{effect_keeps_sound, same_tail, same_point, Around, apart_xs}
 use Rattle.sweeps_laws.specs.prism.Part.{lifted_part, prism_part}
 use Rattle.sweeps_laws.specs.prism.SweepOps.{raise, close}
 use Rattle.sweeps_laws.proofs.prism.Steps.{with_spur, with_chord, mev_does, mev_fits, mef_does, mef_fits}
@@ -19,9 +21,6 @@ use Rattle.sweeps_laws.proofs.prism.Steps.{with_spur, with_chord, mev_does, mev_
 
 pub fits : (n : ℕ) → 1 ≤ n → n ≤ 1000000 → IsTrue (is_number n)
 fits n a b = grind (arith, nat_tests)
-
-pub riser_is : (e i : ℕ) → ((i ≡ 0) × (riser e i ≡ e + 1)) ⊎ ((1 ≤ i) × (riser e i ≡ e + 2 * i))
-riser_is e i = grind (arith, cases_eq, eq-eqb, ne_eqb)
 
 pub next_inner : (n i : ℕ) → i + 1 < n → next_place n i ≡ suc i
 next_inner n i h = ap (λ b. cond b 0 (i + 1)) (ne_eqb (i + 1) n (λ s. omega arith)) ∙ omega arith
@@ -64,48 +63,30 @@ module _ (M : Model) (c : Taken) (f l : ℕ) (d : Point) (hs : List ℕ) (w : Re
 
   -- ---- what the sides leave
 
+  pub has_free : HasFree M c
+  has_free = record { sound = w.sound; free = w.free }
+
   pub sides_edges : (i q : ℕ) → ((j : ℕ) → j < i → (q ≢ riser c.edge j) × (q ≢ top_edge c.edge (length hs) j)) → table.get (with_sides c (solid_of M f) d hs i M).edges q ≡ table.get M.edges q
-  unfolding with_side
-  sides_edges zero q o = refl
-  sides_edges (suc i) q o =
-      let h = o i (omega arith) in
-      get-put_other _ _ _ q h.1 ∙ get-put_other _ _ _ q h.0 ∙ sides_edges i q (λ j lt. o j (omega arith))
+  sides_edges = edges_other M c (solid_of M f) d hs
 
   pub sides_faces : (i q : ℕ) → ((j : ℕ) → j < i → q ≢ c.face + 1 + j) → table.get (with_sides c (solid_of M f) d hs i M).faces q ≡ table.get M.faces q
-  unfolding with_side
-  sides_faces zero q o = refl
-  sides_faces (suc i) q o = get-put_other _ _ _ q (o i (omega arith)) ∙ sides_faces i q (λ j lt. o j (omega arith))
+  sides_faces i q o = ap (λ t. table.get t q) (faces_grown M c (solid_of M f) d hs i) ∙ filled_other M.faces c.face _ i q o
 
   pub sides_loops : (i q : ℕ) → ((j : ℕ) → j < i → q ≢ c.loop + 1 + j) → table.get (with_sides c (solid_of M f) d hs i M).loops q ≡ table.get M.loops q
-  unfolding with_side
-  sides_loops zero q o = refl
-  sides_loops (suc i) q o = get-put_other _ _ _ q (o i (omega arith)) ∙ sides_loops i q (λ j lt. o j (omega arith))
+  sides_loops i q o = ap (λ t. table.get t q) (loops_grown M c (solid_of M f) d hs i) ∙ filled_other M.loops c.loop _ i q o
 
   pub sides_vertices : (i q : ℕ) → ((j : ℕ) → j < i → q ≢ c.vertex + 1 + j) → table.get (with_sides c (solid_of M f) d hs i M).vertices q ≡ table.get M.vertices q
-  unfolding with_side
-  sides_vertices zero q o = refl
-  sides_vertices (suc i) q o = get-put_other _ _ _ q (o i (omega arith)) ∙ sides_vertices i q (λ j lt. o j (omega arith))
+  sides_vertices i q o = ap (λ t. table.get t q) (vertices_grown M c (solid_of M f) d hs i) ∙ filled_other M.vertices c.vertex _ i q o
 
   pub old_edge : (i q : ℕ) → Has M.edges q → table.get (with_sides c (solid_of M f) d hs i M).edges q ≡ table.get M.edges q
-  old_edge i q there = let b : q ≤ c.edge = in_use_within M.edges c.edge w.free.edges q there in
-      sides_edges i q (λ j lt. ((λ s. omega (arith, riser_is c.edge j)), (λ s. omega (arith, top_cases c.edge (length hs) j))))
-
-  pub old_tail : (i h : ℕ) → HasHalf M h → tail (with_sides c (solid_of M f) d hs i M) h ≡ tail M h
-  unfolding tail
-  old_tail i h there = ap (λ o. tail_in (unwrap_or o no_edge) (is_first h)) (old_edge i (edge_of h) there)
-
-  pub old_point : (i v : ℕ) → Has M.vertices v → point_of (with_sides c (solid_of M f) d hs i M) v ≡ point_of M v
-  unfolding point_of
-  old_point i v there = let b : v ≤ c.vertex = in_use_within M.vertices c.vertex w.free.vertices v there in
-      ap (λ o. unwrap_or o no_point) (sides_vertices i v (λ j lt s. omega arith))
+  old_edge i q there = edges_kept M c (solid_of M f) d hs i q (in_use_within M.edges c.edge w.free.edges q there)
 
   pub old_start : (i h : ℕ) → HasHalf M h → start (with_sides c (solid_of M f) d hs i M) h ≡ start M h
-  old_start i h there = ap (point_of (with_sides c (solid_of M f) d hs i M)) (old_tail i h there) ∙ old_point i (tail M h) (w.sound.tails_there h there)
+  old_start i h there = start_kept (keeps_grown M c (solid_of M f) d hs i) (tail_within has_free) h (in_use_within M.edges c.edge w.free.edges (edge_of h) there)
 
   pub old_solid : (i : ℕ) → solid_of (with_sides c (solid_of M f) d hs i M) f ≡ solid_of M f
-  unfolding solid_of
   old_solid i = let b : f ≤ c.face = in_use_within M.faces c.face w.free.faces f face_there in
-      ap (λ o. (unwrap_or o no_face).solid) (sides_faces i f (λ j lt s. omega arith))
+      same_solid M (with_sides c (solid_of M f) d hs i M) f (sides_faces i f (λ j lt s. omega arith))
 
 -- ---- an item is raised, and the side before it closed
 
@@ -140,10 +121,12 @@ module _ {M : Model} {c : Taken} {f l : ℕ} {d : Point} {hs : List ℕ} (w : Re
   unfolding prism_part
   part_loop_free i q above = let b = loop_within in get-put_other _ _ _ q (λ s. omega arith) ∙ sides_loops M c f l d hs w i q (λ j lt s. omega arith) ∙ w.free.loops q (omega arith)
 
-  pub part_tail : (i h : ℕ) → HasHalf M h → tail (prism_part c f l d hs i M) h ≡ tail M h
-  unfolding prism_part tail
-  part_tail i h there = let b : edge_of h ≤ c.edge = in_use_within M.edges c.edge w.free.edges (edge_of h) there in
-      ap (λ o. tail_in (unwrap_or o no_edge) (is_first h)) (get-put_other _ _ _ (edge_of h) (λ s. omega (arith, riser_is c.edge i))) ∙ old_tail M c f l d hs w i h there
+  pub part_keeps : (i : ℕ) → Keeps M (prism_part c f l d hs i M) c.edge c.vertex
+  unfolding prism_part
+  part_keeps i = record {
+    tails = λ h m. same_tail M (prism_part c f l d hs i M) h (get-put_other _ _ _ (edge_of h) (λ e. omega (arith, m, e, riser_above c.edge i)) ∙ edges_kept M c (solid_of M f) d hs i (edge_of h) m);
+    points = λ v m. same_point M (prism_part c f l d hs i M) v (get-put_other _ _ _ v (λ e. omega (arith, m, e)) ∙ vertices_kept M c (solid_of M f) d hs i v m);
+  }
 
   pub part_riser : (i : ℕ) → table.get (prism_part c f l d hs i M).edges (riser c.edge i) ≡ Some (record { plus_tail = tail (with_sides c (solid_of M f) d hs i M) (get_or hs i 0); minus_tail = c.vertex + 1 + i })
   unfolding prism_part
@@ -219,23 +202,23 @@ module _ {M : Model} {c : Taken} {f l : ℕ} {d : Point} {hs : List ℕ} (w : Re
 
     -- the new edges
     u_new : (j : ℕ) → j < suc i → (u ≢ riser c.edge j) × (u ≢ top_edge c.edge (length hs) j)
-    u_new j lt = ((λ e. omega (arith, riser_is c.edge (suc i), riser_is c.edge j)), (λ e. omega (arith, riser_is c.edge (suc i), top_cases c.edge (length hs) j)))
+    u_new j lt = ((λ e. omega (arith, riser_cases c.edge (suc i), riser_cases c.edge j)), (λ e. omega (arith, riser_cases c.edge (suc i), top_cases c.edge (length hs) j)))
 
     t_new : (j : ℕ) → j < i → (t ≢ riser c.edge j) × (t ≢ top_edge c.edge (length hs) j)
-    t_new j lt = ((λ e. omega (arith, top_cases c.edge (length hs) i, riser_is c.edge j)), (λ e. omega (arith, top_cases c.edge (length hs) i, top_cases c.edge (length hs) j)))
+    t_new j lt = ((λ e. omega (arith, top_cases c.edge (length hs) i, riser_cases c.edge j)), (λ e. omega (arith, top_cases c.edge (length hs) i, top_cases c.edge (length hs) j)))
 
     t_riser : t ≢ riser c.edge i
-    t_riser e = omega (arith, top_cases c.edge (length hs) i, riser_is c.edge i)
+    t_riser e = omega (arith, top_cases c.edge (length hs) i, riser_cases c.edge i)
 
     t_u : t ≢ u
-    t_u e = omega (arith, top_cases c.edge (length hs) i, riser_is c.edge (suc i))
+    t_u e = omega (arith, top_cases c.edge (length hs) i, riser_cases c.edge (suc i))
 
     u_free : table.get P.edges u ≡ None
-    u_free = part_edge_free i u (u_new i (omega arith)).0 (λ j lt. u_new j (omega arith)) (omega (arith, riser_is c.edge (suc i)))
+    u_free = part_edge_free i u (u_new i (omega arith)).0 (λ j lt. u_new j (omega arith)) (omega (arith, riser_cases c.edge (suc i)))
 
     accepted0 : first_false P (raise M c d hs (suc i)) ≡ None
     accepted0 = mev_fits P l f (a ∷ T ++ b ∷ h ∷ []) D g u v (moved (start M g) d) around0 u_free (part_vertex_free i v (omega arith))
-        (fits u (omega (arith, riser_is c.edge (suc i))) (omega (arith, riser_is c.edge (suc i), w.left.edges, below)))
+        (fits u (omega (arith, riser_cases c.edge (suc i))) (omega (arith, riser_cases c.edge (suc i), w.left.edges, below)))
         (fits v (omega arith) (omega (arith, w.left.vertices, below)))
         (w.points_fit g g_in)
 
@@ -313,10 +296,10 @@ module _ {M : Model} {c : Taken} {f l : ℕ} {d : Point} {hs : List ℕ} (w : Re
     edges_are : N2.edges ≡ (prism_part c f l d hs (suc i) M).edges
     unfolding prism_part with_side
     edges_are =
-        let there : HasHalf M g = half_there M c f l d hs w g g_in in
+        let m : edge_of g ≤ c.edge = in_use_within M.edges c.edge w.free.edges (edge_of g) (half_there M c f l d hs w g g_in) in
         put_turned _ u t _ _ (λ e. t_u (sym e))
         ∙ (λ j. table.put (table.put P.edges t (record { plus_tail = tail_b j; minus_tail = (tail_u ∙ ap (λ k. c.vertex + 1 + k) (sym next_is)) j })) u
-        (record { plus_tail = (part_tail i g there ∙ sym (old_tail M c f l d hs w (suc i) g there)) j; minus_tail = v }))
+        (record { plus_tail = ((part_keeps i).tails g m ∙ sym ((keeps_grown M c (solid_of M f) d hs (suc i)).tails g m)) j; minus_tail = v }))
 
     pub round_accepted : AreAccepted (prism_part c f l d hs i M) (raise M c d hs (suc i) ∷ close c (length hs) i ∷ [])
     round_accepted = (accepted0, (subst (λ X. first_false X (close c (length hs) i) ≡ None) (sym first) accepted1, tt))

@@ -1,15 +1,17 @@
 -- The steps of a loop's sweep, as they are taken one after the other.
-use Rattle.std.proofs.Common.{◌≡◌, ◌≢◌, ℕ, suc, ◌+◌, ◌-◌, ◌≤◌, ◌<◌, List, [], ◌∷◌, length, None, is_some, true≢false, unwrap_or, sym, ap, ◌∙◌, subst, arith, get_or}
-use Rattle.euler_operators.specs.Common.{Point, IsInRange, moved, IsIn, At, edge_of, half, plus, Model, no_point, point_of, tail, HasHalf, first_false, effect}
+use Rattle.std.proofs.Common.{◌≡◌, ℕ, suc, ◌+◌, ◌-◌, ◌≤◌, ◌<◌, List, [], ◌∷◌, length, None, is_some, sym, ap, ◌∙◌, subst, arith, get_or}
+use Rattle.euler_operators.specs.Common.{Point, IsInRange, moved, IsIn, At, edge_of, half, plus, Model, HasHalf, first_false, effect}
 use Rattle.euler_operators.proofs.Common.{IsIn-get_or, get-put_other, in_use_within}
-use Rattle.euler_operators.specs.Table as table
 use Rattle.euler_operators.specs.declared.Op.TheVariants.{Mev}
 use Rattle.euler_laws.specs.Laws.{AreAccepted, effects}
 use Rattle.euler_laws.proofs.Common.{effects-append, AreAccepted-back}
 use Rattle.shapes.specs.Common.{start, Taken, riser}
 use Rattle.sweeps_laws.specs.prism.Part.{prism_part}
 use Rattle.sweeps_laws.specs.prism.SweepOps.{raise_item, raise, close, close_last, rounds, loop_ops}
-use Rattle.sweeps_laws.proofs.prism.Sides.{riser_is, half_there, old_edge, sides_vertices, part_tail}
+use Rattle.sweeps_laws.proofs.prism.Sides.{has_free, half_there, old_edge, part_keeps}
+use Rattle.sweeps_laws.proofs.swept.Bounds.{tail_within}
+use Rattle.sweeps_laws.proofs.swept.Numbers.{riser_cases}
+use Rattle.sweeps_laws.proofs.swept.Sides.{start_kept}
 use Rattle.sweeps_laws.proofs.prism.Loops.{rounds_go, loop_swept}
 use Rattle.sweeps_laws.specs.prism.Ready.{Ready}
 
@@ -22,15 +24,10 @@ module _ (M : Model) (c : Taken) (f l : ℕ) (d : Point) (hs : List ℕ) (w : Re
   unfolding prism_part
   part_half i h there =
       let b : edge_of h ≤ c.edge = in_use_within M.edges c.edge w.free.edges (edge_of h) there in
-      ap is_some (get-put_other _ _ _ (edge_of h) (λ s. omega (arith, riser_is c.edge i)) ∙ old_edge M c f l d hs w i (edge_of h) there) ∙ there
-
-  part_point : (i v : ℕ) → table.get M.vertices v ≢ None → point_of (prism_part c f l d hs i M) v ≡ point_of M v
-  unfolding prism_part point_of
-  part_point i v there = ap (λ o. unwrap_or o no_point) (get-put_other _ _ _ v (λ s. there (w.free.vertices v (omega arith))) ∙ sides_vertices M c f l d hs w i v (λ j lt s. there (w.free.vertices v (omega arith))))
+      ap is_some (get-put_other _ _ _ (edge_of h) (λ s. omega (arith, riser_cases c.edge i)) ∙ old_edge M c f l d hs w i (edge_of h) there) ∙ there
 
   part_start : (i h : ℕ) → HasHalf M h → start (prism_part c f l d hs i M) h ≡ start M h
-  part_start i h there = ap (point_of (prism_part c f l d hs i M)) (part_tail w i h there)
-      ∙ part_point i (tail M h) (λ none. true≢false (sym (w.sound.tails_there h there) ∙ ap is_some none))
+  part_start i h there = start_kept (part_keeps w i) (tail_within (has_free M c f l d hs w)) h (in_use_within M.edges c.edge w.free.edges (edge_of h) there)
 
   module _ (i : ℕ) (lt : i < length hs) where
     pub turn_half : (h : ℕ) → IsIn h hs → HasHalf (N i) h

@@ -6,13 +6,13 @@ use Rattle.euler_operators.proofs.Common.{tick_same, IsIn-get_or, content_row, f
 use Rattle.euler_operators.specs.Table as table
 use Rattle.euler_operators.specs.declared.Op.{Op}
 use Rattle.euler_operators.specs.declared.Op.TheVariants.{Mev}
-use Rattle.euler_laws.specs.Laws.{AreAccepted, effects}
-use Rattle.euler_laws.proofs.Common.{Leads, leads_none, leads_on, effects_keep_sound}
+use Rattle.euler_laws.specs.Laws.{effects}
+use Rattle.euler_laws.proofs.Common.{Leads, leads_none, leads_on, leads_sound}
 use Rattle.shapes.specs.Common.{AreFree, AreLeft, start, vertices_on, vertices_in, Taken, riser, top_items, with_sides, lifted, raised, raised_over, prism_from}
 use Rattle.sweeps_laws.specs.prism.SweepOps.{close, close_last, rounds, loop_ops, taken_after, ops_from}
-use Rattle.sweeps_laws.proofs.prism.Sides.{riser_is, old_edge, old_start, sides_edges, sides_faces, sides_loops, sides_vertices, two_items, loop_within}
-use Rattle.sweeps_laws.proofs.prism.Loops.{loop_swept}
-use Rattle.sweeps_laws.proofs.swept.Numbers.{top_cases}
+use Rattle.sweeps_laws.proofs.prism.Sides.{old_edge, old_start, sides_edges, sides_faces, sides_loops, sides_vertices, two_items, loop_within}
+use Rattle.sweeps_laws.proofs.prism.Loops.{loop_leads}
+use Rattle.sweeps_laws.proofs.swept.Numbers.{riser_cases, top_cases}
 use Rattle.sweeps_laws.specs.prism.Ready.{Ready, needed_for_sides}
 
 -- N has grown out of M by sweeping some loops of face f along d; ls are the other ones
@@ -49,12 +49,7 @@ module _ (M N : Model) (c : Taken) (f l : ℕ) (d : Point) (ls : List ℕ) (g : 
     sound = g.sound;
     at = g.rows l (IsIn_head l ls);
     free = g.free;
-    left = record {
-      faces = omega (arith, g.left.faces, corners_are);
-      loops = omega (arith, g.left.loops, corners_are);
-      edges = omega (arith, g.left.edges, corners_are);
-      vertices = omega (arith, g.left.vertices, corners_are);
-    };
+    left = grind (arith, corners_are, g.left);
     points_fit = λ h i. subst (λ p. IsInRange (moved p d)) (sym (g.starts h (g.items_there l (IsIn_head l ls) h i))) (g.points_fit l (IsIn_head l ls) h i);
   }
 
@@ -69,11 +64,8 @@ module _ (M N : Model) (c : Taken) (f l : ℕ) (d : Point) (ls : List ℕ) (g : 
   ops_are = ap (λ ops. ops ++ close_last c (length hs) (length hs - 1) ∷ [])
       (same_rounds M N c d hs (λ i lt. sym (g.starts (get_or hs i 0) (g.items_there l (IsIn_head l ls) (get_or hs i 0) (IsIn-get_or hs i 0 lt)))) (length hs - 1) (let s = some_items in omega arith))
 
-  accepted : AreAccepted N (loop_ops M c d hs)
-  accepted = subst (AreAccepted N) (sym ops_are) (loop_swept N c f l d hs ready).0
-
-  swept : effects N (loop_ops M c d hs) ≡ N'
-  swept = ap (effects N) ops_are ∙ (loop_swept N c f l d hs ready).1
+  led : Leads N N' (loop_ops M c d hs)
+  led = subst (Leads N N') (sym ops_are) (loop_leads N c f l d hs ready)
 
   loop_after : (k : ℕ) → IsIn k ls → table.get N'.loops k ≡ table.get N.loops k
   loop_after k i =
@@ -83,19 +75,14 @@ module _ (M N : Model) (c : Taken) (f l : ℕ) (d : Point) (ls : List ℕ) (g : 
   pub next : Going M N' (taken_after c (length hs)) f d ls
   unfolding tail point_of
   next = record {
-    sound = subst Sound swept (effects_keep_sound N (loop_ops M c d hs) g.sound accepted);
+    sound = leads_sound N N' (loop_ops M c d hs) g.sound led;
     free = record {
       faces = λ q a. sides_faces N c f l d hs ready (length hs) q (λ j lt s. omega arith) ∙ g.free.faces q (omega arith);
       loops = λ q a. get-put_other _ l _ q (λ s. omega (arith, loop_within ready)) ∙ sides_loops N c f l d hs ready (length hs) q (λ j lt s. omega arith) ∙ g.free.loops q (omega arith);
-      edges = λ q a. sides_edges N c f l d hs ready (length hs) q (λ j lt. ((λ s. omega (arith, riser_is c.edge j)), (λ s. omega (arith, top_cases c.edge (length hs) j)))) ∙ g.free.edges q (omega arith);
+      edges = λ q a. sides_edges N c f l d hs ready (length hs) q (λ j lt. ((λ s. omega (arith, riser_cases c.edge j)), (λ s. omega (arith, top_cases c.edge (length hs) j)))) ∙ g.free.edges q (omega arith);
       vertices = λ q a. sides_vertices N c f l d hs ready (length hs) q (λ j lt s. omega arith) ∙ g.free.vertices q (omega arith);
     };
-    left = record {
-      faces = omega (arith, g.left.faces, corners_are);
-      loops = omega (arith, g.left.loops, corners_are);
-      edges = omega (arith, g.left.edges, corners_are);
-      vertices = omega (arith, g.left.vertices, corners_are);
-    };
+    left = grind (arith, corners_are, g.left);
     halves = λ h there. ap is_some (old_edge N c f l d hs ready (length hs) (edge_of h) (g.halves h there)) ∙ g.halves h there;
     starts = λ h there. old_start N c f l d hs ready (length hs) h (g.halves h there) ∙ g.starts h there;
     apart = λ x. omega (arith, g.apart x);
@@ -118,7 +105,7 @@ module _ (M N : Model) (c : Taken) (f l : ℕ) (d : Point) (ls : List ℕ) (g : 
 
   module _ (X : Model) (x : X ≡ effects N (loop_ops N c d (items_of (content N l)))) where
     is_swept : X ≡ N'
-    is_swept = x ∙ ap (λ ks. effects N (loop_ops N c d ks)) same_items ∙ (loop_swept N c f l d hs ready).1
+    is_swept = x ∙ ap (λ ks. effects N (loop_ops N c d ks)) same_items ∙ (loop_leads N c f l d hs ready).made
 
     pub turn_next : Going M X (taken_after c (length (items_of (content N l)))) f d ls
     turn_next = subst (λ Y. Going M Y (taken_after c (length (items_of (content N l)))) f d ls) (sym is_swept) (subst (λ ks. Going M N' (taken_after c (length ks)) f d ls) (sym same_items) next)
@@ -160,6 +147,5 @@ loops_swept M N c f d [] g = leads_none N
 loops_swept M N c f d (l ∷ ls) g =
     let hs : List ℕ = items_of (content M l) in
     let more : List Op = ops_from M d (taken_after c (length hs)) ls in
-    leads_on N (N' M N c f l d ls g) (prism_from f d (record { model = N; taken = c }) (l ∷ ls)).model (loop_ops M c d hs) more
-    (record { accepted = accepted M N c f l d ls g; made = swept M N c f l d ls g })
+    leads_on N (N' M N c f l d ls g) (prism_from f d (record { model = N; taken = c }) (l ∷ ls)).model (loop_ops M c d hs) more (led M N c f l d ls g)
     (subst (λ X. Leads (N' M N c f l d ls g) X more) (ap (λ q. (prism_from f d q ls).model) (sym (raised_is M N c f l d ls g))) (loops_swept M (N' M N c f l d ls g) (taken_after c (length hs)) f d ls (next M N c f l d ls g)))

@@ -1,9 +1,9 @@
 -- In a sound model the numbers that rows name lie within those taken, where all above these are free.
-use Rattle.std.proofs.Common.{◌≡◌, ℕ, ◌≤◌, ◌<◌, Bool, true, false, Option, Some, None, is_some, unwrap_or, refl, arith, inl, inr, true≢false}
+use Rattle.std.proofs.Common.{◌≡◌, ℕ, ◌≤◌, ◌<◌, Bool, true, false, None, unwrap_or, refl, ap, ◌∙◌, arith, inl, inr}
 use Rattle.std.proofs.lemmas.Bool.Decides.{eqb_tells}
-use Rattle.euler_operators.specs.Common.{IsIn, Table, edge_of, is_first, Model, lone, FaceRow, LoopRow, EdgeRow, no_face, no_loop, no_edge, items_of, tail, tail_in, content, face_of, outer, Sound}
+use Rattle.euler_operators.specs.Common.{IsIn, Table, edge_of, is_first, Model, lone, no_face, no_loop, no_edge, items_of, tail, tail_in, content, face_of, outer, Sound}
 use Rattle.euler_operators.specs.Table as table
-use Rattle.euler_operators.proofs.Common.{in-holds, in_use_within}
+use Rattle.euler_operators.proofs.Common.{in-holds, in_use_within, no_row}
 use Rattle.shapes.specs.Common.{AreFree, Taken, taken_in}
 use Rattle.shapes.proofs.Common.{greatest_used, none_above}
 
@@ -19,30 +19,21 @@ taken_free M sound = record { sound = sound; free = record { faces = none_above 
 
 -- ---- rows that aren't there
 
-outer_none : (o : Option FaceRow) → is_some o ≡ false → (unwrap_or o no_face).outer ≡ 0
-outer_none None e = refl
-outer_none (Some row) e = absurd (true≢false e)
-
-face_none : (o : Option LoopRow) → is_some o ≡ false → (unwrap_or o no_loop).face ≡ 0
-face_none None e = refl
-face_none (Some row) e = absurd (true≢false e)
-
-tail_none : (o : Option EdgeRow) (b : Bool) → is_some o ≡ false → tail_in (unwrap_or o no_edge) b ≡ 0
-tail_none None true e = refl
-tail_none None false e = refl
-tail_none (Some row) b e = absurd (true≢false e)
+no_tail : (b : Bool) → tail_in no_edge b ≡ 0
+no_tail true = refl
+no_tail false = refl
 
 no_outer : (M : Model) (k : ℕ) → table.has M.faces k ≡ false → outer M k ≡ 0
 unfolding outer
-no_outer M k e = outer_none (table.get M.faces k) e
+no_outer M k e = ap (λ o. (unwrap_or o no_face).outer) (no_row (table.get M.faces k) e)
 
 no_loop_face : (M : Model) (q : ℕ) → table.has M.loops q ≡ false → face_of M q ≡ 0
 unfolding face_of
-no_loop_face M q e = face_none (table.get M.loops q) e
+no_loop_face M q e = ap (λ o. (unwrap_or o no_loop).face) (no_row (table.get M.loops q) e)
 
 no_edge_tail : (M : Model) (h : ℕ) → table.has M.edges (edge_of h) ≡ false → tail M h ≡ 0
 unfolding tail
-no_edge_tail M h e = tail_none (table.get M.edges (edge_of h)) (is_first h) e
+no_edge_tail M h e = ap (λ o. tail_in (unwrap_or o no_edge) (is_first h)) (no_row (table.get M.edges (edge_of h)) e) ∙ no_tail (is_first h)
 
 -- a number that is used where there is a row, and is 0 where there is none
 used_or_none : (a g : ℕ) (b : Bool) → (b ≡ true → a ≤ g) → (b ≡ false → a ≡ 0) → a ≤ g

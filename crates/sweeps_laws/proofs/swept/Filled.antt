@@ -1,24 +1,16 @@
 -- Tables with rows put at the numbers after a, one after the other, and with one row rewritten.
-use Rattle.std.proofs.Common.{◌≡◌, ◌≢◌, ℕ, zero, suc, ◌+◌, ◌≤◌, ◌<◌, Bool, true, false, cond, nat_le, [], ◌∷◌, ◌++◌, Some, refl, sym, ap, subst, ◌∙◌, arith, ◌⊎◌, inl, inr, append-nil, leb-true}
-use Rattle.std.proofs.lemmas.Bool.Decides.{nat_tests, eqb_tells}
+use Rattle.std.proofs.Common.{◌≡◌, ◌≢◌, ℕ, zero, suc, ◌+◌, ◌-◌, ◌≤◌, ◌<◌, Bool, false, cond, [], ◌∷◌, ◌++◌, Some, refl, ap, ◌∙◌, arith, ◌⊎◌, inl, inr, append-nil}
+use Rattle.std.proofs.lemmas.Bool.Decides.{eqb_tells}
 use Rattle.euler_operators.specs.Table as table
 use Rattle.euler_operators.specs.Common.{Table}
-use Rattle.euler_operators.proofs.Common.{get-put_here, get-put_other, less_still}
+use Rattle.euler_operators.proofs.Common.{at_most_or_above, get-put_here, get-put_other}
 use Rattle.shapes.proofs.Common.{all_where-put_last, greatest-put_last}
 
 -- a number is at most a, one of the n after a, or above these
 pub place_cases : (q a n : ℕ) → (q ≤ a) ⊎ (((i : ℕ) × (i < n) × (q ≡ a + 1 + i)) ⊎ (a + n < q))
-place_cases q a zero = elim (nat_le q a) as (λ b. nat_le q a ≡ b → (q ≤ a) ⊎ (((i : ℕ) × (i < 0) × (q ≡ a + 1 + i)) ⊎ (a + 0 < q))) [
-  | true ↦ λ e. inl (leb-true q a e)
-  | false ↦ λ e. inr (inr (grind (arith, nat_tests, e)))
-] refl
-place_cases q a (suc n) = elim (place_cases q a n) [
+place_cases q a n = elim (at_most_or_above q a) [
   | inl l ↦ inl l
-  | inr (inl i) ↦ inr (inl (i.0, omega (arith, i.1), i.2))
-  | inr (inr m) ↦ elim (eqb_tells q (a + 1 + n)) [
-    | inl e ↦ inr (inl (n, omega arith, e.1))
-    | inr e ↦ inr (inr (omega (arith, m, e.1)))
-  ]
+  | inr m ↦ elim (at_most_or_above q (a + n)) [ inl l ↦ inr (inl (q - (a + 1), omega (arith, l, m), omega (arith, m))) | inr o ↦ inr (inr o) ]
 ]
 
 module _ {X : Type 0} (t : Table X) (a : ℕ) (x : ℕ → X) where
@@ -26,22 +18,20 @@ module _ {X : Type 0} (t : Table X) (a : ℕ) (x : ℕ → X) where
   filled zero = t
   filled (suc n) = table.put (filled n) (a + 1 + n) (x n)
 
+  -- other numbers answer as they did
+  pub filled_other : (n q : ℕ) → ((i : ℕ) → i < n → q ≢ a + 1 + i) → table.get (filled n) q ≡ table.get t q
+  filled_other zero q o = refl
+  filled_other (suc n) q o = get-put_other (filled n) (a + 1 + n) (x n) q (o n (omega arith)) ∙ filled_other n q (λ i l. o i (omega (arith, l)))
+
   pub filled_old : (n q : ℕ) → q ≤ a → table.get (filled n) q ≡ table.get t q
-  filled_old zero q l = refl
-  filled_old (suc n) q l = get-put_other (filled n) (a + 1 + n) (x n) q (omega (arith, l)) ∙ filled_old n q l
+  filled_old n q l = filled_other n q (λ i m e. omega (arith, l, e))
 
   pub filled_new : (n i : ℕ) → i < n → table.get (filled n) (a + 1 + i) ≡ Some (x i)
   filled_new zero i l = absurd (omega arith)
-  filled_new (suc n) i l = elim (eqb_tells i n) [
-    | inl e ↦ subst (λ k. table.get (filled (suc n)) (a + 1 + k) ≡ Some (x k)) (sym e.1) (get-put_here (filled n) (a + 1 + n) (x n))
-    | inr e ↦ get-put_other (filled n) (a + 1 + n) (x n) (a + 1 + i) (other a n i e.1) ∙ filled_new n i (less_still i n l e.1)
-  ] where
-    other : (a n i : ℕ) → i ≢ n → a + 1 + i ≢ a + 1 + n
-    other a n i ne e = ne (omega arith)
+  filled_new (suc n) i l = grind (arith, eqb_tells i n, get-put_here, get-put_other, filled_new n i)
 
   pub filled_past : (n q : ℕ) → a + n < q → table.get (filled n) q ≡ table.get t q
-  filled_past zero q l = refl
-  filled_past (suc n) q l = get-put_other (filled n) (a + 1 + n) (x n) q (omega (arith, l)) ∙ filled_past n q (omega (arith, l))
+  filled_past n q l = filled_other n q (λ i m e. omega (arith, l, m, e))
 
   module _ (free : table.greatest t ≤ a) where
     pub filled_greatest : (n : ℕ) → table.greatest (filled n) ≤ a + n

@@ -1,13 +1,13 @@
 -- One loop of a face swept: what the readers answer of the model after.
-use Rattle.std.proofs.Common.{◌≡◌, ◌≢◌, ℕ, ◌+◌, ◌≤◌, ◌<◌, true, false, cond, not, nat_eq, ◌&&◌, List, [], ◌∷◌, ◌++◌, length, get_or, Some, is_some, refl, sym, ap, subst, ◌∙◌, arith, inl, inr, append-nil, ne_eqb, Bool}
+use Rattle.std.proofs.Common.{◌≡◌, ◌≢◌, ℕ, ◌+◌, ◌≤◌, ◌<◌, true, false, cond, not, nat_eq, ◌&&◌, List, [], ◌∷◌, length, get_or, Some, is_some, refl, sym, ap, subst, ◌∙◌, arith, inl, inr, ne_eqb, Bool}
 use Rattle.std.proofs.lemmas.Bool.Decides.{nat_tests, eqb_tells}
-use Rattle.euler_operators.specs.Common.{Point, moved, IsIn, least, from, canonical, rotate_to, edge_of, plus, minus, map_rows, Model, cycle, LoopRow, items_of, tail, content, face_of, outer, solid_of, point_of, rings_of, Has}
-use Rattle.euler_operators.specs.Items.{before}
-use Rattle.euler_operators.proofs.Common.{from_at, before_at, IsIn-get_or, map_one, all_where_none, all_where-map, get-put_here, get-put_other, content_row, face_row, outer_row, plus_tail_row, minus_tail_row, same_content, same_face, same_outer, same_solid, in_use_within, none_but}
+use Rattle.euler_operators.specs.Common.{Point, moved, IsIn, least, canonical, edge_of, plus, minus, map_rows, Model, cycle, LoopRow, items_of, tail, content, face_of, outer, solid_of, point_of, rings_of, Has}
+use Rattle.euler_operators.proofs.Common.{IsIn-get_or, map_one, all_where_none, all_where-map, get-put_here, get-put_other, content_row, face_row, outer_row, plus_tail_row, minus_tail_row, same_content, same_face, same_outer, same_solid, in_use_within, none_but}
 use Rattle.euler_operators.specs.Table as table
 use Rattle.euler_laws.proofs.Common.{loop_row}
 use Rattle.shapes.specs.Common.{start, finish, Taken, riser, top_edge, top_items, next_place, lifted}
 use Rattle.shapes.proofs.Common.{at_most_greatest}
+use Rattle.sweeps_laws.proofs.lamina.Lists.{canonical_least}
 use Rattle.sweeps_laws.proofs.swept.Filled.{place_cases, filled, filled_old, filled_new, filled_past, filled_none, same_search}
 use Rattle.sweeps_laws.proofs.swept.Numbers.{riser_above, top_above, next_within}
 use Rattle.sweeps_laws.proofs.swept.Bounds.{HasFree, item_within, loop_face_within, loops_within, tail_within}
@@ -23,18 +23,14 @@ pub record IsPathOf (M : Model) (f l : ℕ) (hs : List ℕ) : Type 0 where
 
 -- ---- what rows say
 
--- a list that begins with its least item is read from there
-canonical_least : (h : ℕ) (hs : List ℕ) → least (h ∷ hs) ≡ h → canonical (h ∷ hs) ≡ h ∷ hs
-unfolding canonical rotate_to
-canonical_least h hs e = ap (λ m. from m (h ∷ hs) ++ before m (h ∷ hs)) e ∙ (λ i. from_at h [] hs refl i ++ before_at h [] hs refl i) ∙ append-nil (h ∷ hs)
+-- a face whose loops are all its outer one has no rings
+pub no_rings : (M : Model) (k : ℕ) → ((q : ℕ) (y : LoopRow) → table.get M.loops q ≡ Some y → y.face ≡ k → outer M k ≡ q) → rings_of M k ≡ []
+no_rings M k all = all_where_none (λ q row. nat_eq row.face k && not (nat_eq (outer M k) q)) M.loops (λ q y at. none_but y.face k (outer M k) q (all q y at))
 
-below_plus : (h e r : ℕ) → edge_of h ≤ e → e < r → h < plus r
+-- the half-edges of a later edge are greater
+below : (h e r : ℕ) → edge_of h ≤ e → e < r → (h < plus r) × (h < minus r)
 unfolding edge_of
-below_plus h e r l m = omega arith
-
-below_minus : (h e r : ℕ) → edge_of h ≤ e → e < r → h < minus r
-unfolding edge_of
-below_minus h e r l m = omega arith
+below h e r l m = (omega arith, omega arith)
 
 least_first : (h a b g : ℕ) → h < a → h < b → h < g → least (h ∷ a ∷ b ∷ g ∷ []) ≡ h
 least_first h a b g l m n = omega arith
@@ -52,7 +48,7 @@ module _ (M : Model) (c : Taken) (s : ℕ) (d : Point) (hs : List ℕ) (f l : �
   point_lifted v = refl
 
   pub keeps_swept : Keeps M swept c.edge c.vertex
-  keeps_swept = let k = keeps_grown M c s d hs (length hs) (omega arith) in record {
+  keeps_swept = let k = keeps_grown M c s d hs (length hs) in record {
     tails = λ h m. tail_lifted h ∙ k.tails h m;
     points = λ w m. point_lifted w ∙ k.points w m;
   }
@@ -61,9 +57,6 @@ module _ (M : Model) (c : Taken) (s : ℕ) (d : Point) (hs : List ℕ) (f l : �
 
   pub face_old : (k : ℕ) → k ≤ c.face → table.get swept.faces k ≡ table.get M.faces k
   face_old k m = ap (λ t. table.get t k) (faces_grown M c s d hs (length hs)) ∙ filled_old M.faces c.face (side_face M c s d hs) (length hs) k m
-
-  pub face_past : (k : ℕ) → c.face + length hs < k → table.get swept.faces k ≡ table.get M.faces k
-  face_past k m = ap (λ t. table.get t k) (faces_grown M c s d hs (length hs)) ∙ filled_past M.faces c.face (side_face M c s d hs) (length hs) k m
 
   pub outer_new : (i : ℕ) → i < length hs → outer swept (c.face + 1 + i) ≡ c.loop + 1 + i
   outer_new i m = outer_row swept (c.face + 1 + i) (side_face M c s d hs i)
@@ -95,10 +88,7 @@ module _ (M : Model) (c : Taken) (s : ℕ) (d : Point) (hs : List ℕ) (f l : �
         ∙ filled_new M.loops c.loop (side_loop M c s d hs) (length hs) i m
 
     pub face_of_old : (q : ℕ) → q ≤ c.loop → face_of swept q ≡ face_of M q
-    face_of_old q m = elim (eqb_tells q l) [
-      | inl e ↦ subst (λ k. face_of swept k ≡ face_of M k) (sym e.1) (face_row swept l lifted_row loop_here ∙ sym r.of_face)
-      | inr e ↦ same_face M swept q (loop_old q e.1 m)
-    ]
+    face_of_old q m = grind (arith, eqb_tells q l, face_row swept l lifted_row loop_here, r.of_face, same_face M swept q, loop_old q)
 
     pub face_of_new : (i : ℕ) → i < length hs → face_of swept (c.loop + 1 + i) ≡ c.face + 1 + i
     face_of_new i m = face_row swept (c.loop + 1 + i) (side_loop M c s d hs i) (loop_new i m)
@@ -112,9 +102,6 @@ module _ (M : Model) (c : Taken) (s : ℕ) (d : Point) (hs : List ℕ) (f l : �
     pub content_old : (q : ℕ) → q ≢ l → q ≤ c.loop → content swept q ≡ content M q
     content_old q ne m = same_content M swept q (loop_old q ne m)
 
-    pub content_past : (q : ℕ) → c.loop + length hs < q → content swept q ≡ content M q
-    content_past q m = same_content M swept q (loop_past q (λ e. absurd (omega (arith, within))) m)
-
     pub items_within : (i : ℕ) → i < length hs → edge_of (item M c s d hs i) ≤ c.edge
     items_within i m = item_within b (item M c s d hs i) l (subst (λ x. IsIn (item M c s d hs i) (items_of x)) (sym r.content) (IsIn-get_or hs i 0 m))
 
@@ -122,9 +109,9 @@ module _ (M : Model) (c : Taken) (s : ℕ) (d : Point) (hs : List ℕ) (f l : �
     side_read i m = let h = item M c s d hs i in let j = next_place (length hs) i in
         canonical_least h (plus (riser c.edge j) ∷ minus (top_edge c.edge (length hs) i) ∷ minus (riser c.edge i) ∷ [])
         (least_first h (plus (riser c.edge j)) (minus (top_edge c.edge (length hs) i)) (minus (riser c.edge i))
-        (below_plus h c.edge (riser c.edge j) (items_within i m) (riser_above c.edge j))
-        (below_minus h c.edge (top_edge c.edge (length hs) i) (items_within i m) (top_above c.edge (length hs) i m))
-        (below_minus h c.edge (riser c.edge i) (items_within i m) (riser_above c.edge i)))
+        (below h c.edge (riser c.edge j) (items_within i m) (riser_above c.edge j)).0
+        (below h c.edge (top_edge c.edge (length hs) i) (items_within i m) (top_above c.edge (length hs) i m)).1
+        (below h c.edge (riser c.edge i) (items_within i m) (riser_above c.edge i)).1)
 
     pub content_new : (i : ℕ) → i < length hs → content swept (c.loop + 1 + i) ≡ cycle (side_items M c s d hs i)
     content_new i m = content_row swept (c.loop + 1 + i) (side_loop M c s d hs i) (loop_new i m) ∙ ap cycle (side_read i m)
@@ -135,10 +122,10 @@ module _ (M : Model) (c : Taken) (s : ℕ) (d : Point) (hs : List ℕ) (f l : �
     rewrite q row = cond (nat_eq q l) (record { face = row.face; content = cycle (top_items c.edge (length hs) (length hs)) }) row
 
     rewrite_other : (q : ℕ) (row : LoopRow) → q ≢ l → rewrite q row ≡ row
-    rewrite_other q row ne = let e : nat_eq q l ≡ false = grind (arith, nat_tests) in ap (λ b. cond b (record { face = row.face; content = cycle (top_items c.edge (length hs) (length hs)) }) row) e
+    rewrite_other q row ne = grind (arith, nat_tests)
 
     rewrite_here : (row : LoopRow) → rewrite l row ≡ record { face = row.face; content = cycle (top_items c.edge (length hs) (length hs)) }
-    rewrite_here row = let e : nat_eq l l ≡ true = grind (arith, nat_tests) in ap (λ b. cond b (record { face = row.face; content = cycle (top_items c.edge (length hs) (length hs)) }) row) e
+    rewrite_here row = grind (arith, nat_tests)
 
     rewrite_face : (q : ℕ) (row : LoopRow) → (rewrite q row).face ≡ row.face
     rewrite_face q row = elim (nat_eq q l) as (λ b. (cond b (record { face = row.face; content = cycle (top_items c.edge (length hs) (length hs)) }) row).face ≡ row.face) [ true ↦ refl | false ↦ refl ]
@@ -162,12 +149,11 @@ module _ (M : Model) (c : Taken) (s : ℕ) (d : Point) (hs : List ℕ) (f l : �
         ∙ filled_none M.loops c.loop (side_loop M c s d hs) (loops_within b) (is_ring k) (length hs) (λ i. ap (λ t. t && not (nat_eq (outer M k) (c.loop + 1 + i))) (ne_eqb (c.face + 1 + i) k (λ e. absurd (omega (arith, m, e)))))
 
     pub rings_new : (i : ℕ) → i < length hs → rings_of swept (c.face + 1 + i) ≡ []
-    rings_new i m = all_where_none (λ q row. nat_eq row.face (c.face + 1 + i) && not (nat_eq (outer swept (c.face + 1 + i)) q)) swept.loops
-        (λ q y at. none_but y.face (c.face + 1 + i) (outer swept (c.face + 1 + i)) q (λ e. outer_new i m ∙ (elim (place_cases q c.loop (length hs)) [
-          | inl o ↦ absurd (omega (arith, sym (face_of_old q o) ∙ (face_row swept q y at ∙ e), loop_face_within b q))
-          | inr (inl j) ↦ omega (arith, sym (face_of_new j.0 j.1) ∙ ap (face_of swept) (sym j.2) ∙ (face_row swept q y at ∙ e)) ∙ sym j.2
-          | inr (inr p) ↦ absurd (omega (arith, sym (face_of_past q p) ∙ (face_row swept q y at ∙ e), loop_face_within b q))
-        ])))
+    rings_new i m = no_rings swept (c.face + 1 + i) (λ q y at e. let is = face_row swept q y at ∙ e in outer_new i m ∙ (elim (place_cases q c.loop (length hs)) [
+      | inl o ↦ absurd (omega (arith, sym (face_of_old q o) ∙ is, loop_face_within b q))
+      | inr (inl j) ↦ omega (arith, sym (face_of_new j.0 j.1) ∙ ap (face_of swept) (sym j.2) ∙ is) ∙ sym j.2
+      | inr (inr p) ↦ absurd (omega (arith, sym (face_of_past q p) ∙ is, loop_face_within b q))
+    ]))
 
     -- ---- where the new half-edges start and end
 

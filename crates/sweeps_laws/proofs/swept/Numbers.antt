@@ -1,5 +1,5 @@
 -- The numbers of the edges that a sweep of a loop makes, and their half-edges. e is the greatest edge before, n the number of items.
-use Rattle.std.proofs.Common.{◌≡◌, ◌≢◌, ℕ, ◌+◌, ◌*◌, ◌≤◌, ◌<◌, cond, ap, arith, ◌⊎◌, inl, inr}
+use Rattle.std.proofs.Common.{◌≡◌, ◌≢◌, ℕ, ◌+◌, ◌*◌, ◌<◌, cond, ap, arith, ◌⊎◌, inl, inr}
 use Rattle.std.proofs.lemmas.Bool.Decides.{eqb_tells}
 use Rattle.shapes.specs.Common.{riser, top_edge, next_place}
 
@@ -16,18 +16,12 @@ next_cases n i = elim (eqb_tells (i + 1) n) [ inl p ↦ inl (p.1, ap (λ b. cond
 pub next_within : (n i : ℕ) → i < n → next_place n i < n
 next_within n i l = grind (arith, next_cases)
 
--- they are new, within twice n more, and no two are the same
+-- they are new, and no two are the same
 pub riser_above : (e i : ℕ) → e < riser e i
 riser_above e i = grind (arith, riser_cases)
 
 pub top_above : (e n i : ℕ) → i < n → e < top_edge e n i
 top_above e n i l = elim (top_cases e n i) [ inl p ↦ omega (arith, p.1) | inr p ↦ omega (arith, p.1) ]
-
-pub riser_most : (e n i : ℕ) → i < n → riser e i ≤ e + 2 * n
-riser_most e n i l = elim (riser_cases e i) [ inl p ↦ omega (arith, p.1) | inr p ↦ omega (arith, p.1) ]
-
-pub top_most : (e n i : ℕ) → i < n → top_edge e n i ≤ e + 2 * n
-top_most e n i l = grind (arith, top_cases)
 
 pub riser_apart : (e i j : ℕ) → i ≢ j → riser e i ≢ riser e j
 riser_apart e i j ne s = grind (arith, riser_cases)
@@ -37,5 +31,3 @@ top_apart e n i j l m ne s = grind (arith, top_cases)
 
 pub riser_no_top : (e n i j : ℕ) → i < n → j < n → riser e i ≢ top_edge e n j
 riser_no_top e n i j l m s = grind (arith, riser_cases, top_cases)
-
--- ---- tests

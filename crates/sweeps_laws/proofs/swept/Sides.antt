@@ -1,12 +1,12 @@
 -- The tables of a model to which the sides over some items have been added.
-use Rattle.std.proofs.Common.{◌≡◌, ℕ, zero, suc, ◌+◌, ◌≤◌, ◌<◌, List, [], ◌∷◌, length, get_or, Some, refl, sym, ap, subst, ◌∙◌, arith, inl, inr}
+use Rattle.std.proofs.Common.{◌≡◌, ◌≢◌, ℕ, zero, suc, ◌+◌, ◌≤◌, ◌<◌, List, [], ◌∷◌, length, get_or, Some, refl, sym, ap, subst, ◌∙◌, arith}
 use Rattle.std.proofs.lemmas.Bool.Decides.{eqb_tells}
 use Rattle.euler_operators.specs.Common.{Point, moved, canonical, mate, edge_of, plus, minus, Model, cycle, FaceRow, LoopRow, EdgeRow, tail, point_of}
 use Rattle.euler_operators.specs.Table as table
-use Rattle.euler_operators.proofs.Common.{edge_of-mate, point_row, get-put_here, get-put_other, less_still}
+use Rattle.euler_operators.proofs.Common.{edge_of-mate, point_row, get-put_here, get-put_other}
 use Rattle.shapes.specs.Common.{start, finish, Taken, riser, top_edge, next_place, with_side, with_sides}
 use Rattle.sweeps_laws.proofs.swept.Filled.{filled, filled_old, filled_new}
-use Rattle.sweeps_laws.proofs.swept.Numbers.{riser_above, top_above, riser_apart, top_apart, riser_no_top}
+use Rattle.sweeps_laws.proofs.swept.Numbers.{riser_above, top_cases, riser_apart, top_apart, riser_no_top}
 use Rattle.euler_laws.proofs.Common.{same_tail, same_point}
 
 -- edges up to e and vertices up to v answer as they did
@@ -61,53 +61,43 @@ module _ (M : Model) (c : Taken) (s : ℕ) (d : Point) (hs : List ℕ) where
   loops_grown zero = refl
   loops_grown (suc n) = refl ∙ ap (λ t. table.put t (c.loop + 1 + n) (side_loop n)) (loops_grown n)
 
-  vertices_grown : (n : ℕ) → (grown n).vertices ≡ filled M.vertices c.vertex side_point n
+  pub vertices_grown : (n : ℕ) → (grown n).vertices ≡ filled M.vertices c.vertex side_point n
   unfolding with_side
   vertices_grown zero = refl
   vertices_grown (suc n) = refl ∙ ap (λ t. table.put t (c.vertex + 1 + n) (side_point n)) (vertices_grown n)
 
-  edges_kept : (n q : ℕ) → n ≤ length hs → q ≤ c.edge → table.get (grown n).edges q ≡ table.get M.edges q
-  edges_kept zero q m l = refl
-  edges_kept (suc n) q m l = ap (λ t. table.get t q) (edges_step n)
-      ∙ get-put_other (table.put (grown n).edges (riser c.edge n) (side_riser n)) (top_edge c.edge (length hs) n) (side_top n) q (omega (arith, l, top_above c.edge (length hs) n m))
-      ∙ get-put_other (grown n).edges (riser c.edge n) (side_riser n) q (omega (arith, l, riser_above c.edge n))
-      ∙ edges_kept n q (omega (arith, m)) l
+  -- numbers that none of the new edges has
+  pub edges_other : (n q : ℕ) → ((j : ℕ) → j < n → (q ≢ riser c.edge j) × (q ≢ top_edge c.edge (length hs) j)) → table.get (grown n).edges q ≡ table.get M.edges q
+  unfolding with_side
+  edges_other zero q o = refl
+  edges_other (suc n) q o = let h = o n (omega arith) in get-put_other _ _ _ q h.1 ∙ get-put_other _ _ _ q h.0 ∙ edges_other n q (λ j l. o j (omega (arith, l)))
 
-  vertices_kept : (n w : ℕ) → w ≤ c.vertex → table.get (grown n).vertices w ≡ table.get M.vertices w
+  pub edges_kept : (n q : ℕ) → q ≤ c.edge → table.get (grown n).edges q ≡ table.get M.edges q
+  edges_kept n q l = edges_other n q (λ j m. ((λ e. omega (arith, l, e, riser_above c.edge j)), (λ e. omega (arith, l, e, top_cases c.edge (length hs) j))))
+
+  pub vertices_kept : (n w : ℕ) → w ≤ c.vertex → table.get (grown n).vertices w ≡ table.get M.vertices w
   vertices_kept n w l = ap (λ t. table.get t w) (vertices_grown n) ∙ filled_old M.vertices c.vertex side_point n w l
 
   -- what was there before is kept
-  pub keeps_grown : (n : ℕ) → n ≤ length hs → Keeps M (grown n) c.edge c.vertex
-  keeps_grown n m = grind (arith, same_tail, edges_kept, same_point, vertices_kept)
+  pub keeps_grown : (n : ℕ) → Keeps M (grown n) c.edge c.vertex
+  keeps_grown n = grind (arith, same_tail, edges_kept, same_point, vertices_kept)
 
   riser_grown : (n i : ℕ) → n ≤ length hs → i < n → table.get (grown n).edges (riser c.edge i) ≡ Some (side_riser i)
   riser_grown zero i m l = absurd (omega arith)
-  riser_grown (suc n) i m l = ap (λ t. table.get t (riser c.edge i)) (edges_step n)
-      ∙ get-put_other (table.put (grown n).edges (riser c.edge n) (side_riser n)) (top_edge c.edge (length hs) n) (side_top n) (riser c.edge i) (riser_no_top c.edge (length hs) i n (omega (arith, l, m)) m)
-      ∙ elim (eqb_tells i n) [
-        | inl e ↦ subst (λ k. table.get (table.put (grown n).edges (riser c.edge n) (side_riser n)) (riser c.edge k) ≡ Some (side_riser k)) (sym e.1) (get-put_here (grown n).edges (riser c.edge n) (side_riser n))
-        | inr e ↦ get-put_other (grown n).edges (riser c.edge n) (side_riser n) (riser c.edge i) (riser_apart c.edge i n e.1) ∙ riser_grown n i (omega (arith, m)) (less_still i n l e.1)
-      ]
+  riser_grown (suc n) i m l = grind (arith, eqb_tells i n, edges_step n, get-put_here, get-put_other, riser_apart c.edge i n, riser_no_top c.edge (length hs) i n, riser_grown n i)
 
   top_grown : (n i : ℕ) → n ≤ length hs → i < n → table.get (grown n).edges (top_edge c.edge (length hs) i) ≡ Some (side_top i)
   top_grown zero i m l = absurd (omega arith)
-  top_grown (suc n) i m l = ap (λ t. table.get t (top_edge c.edge (length hs) i)) (edges_step n)
-      ∙ elim (eqb_tells i n) [
-        | inl e ↦ subst (λ k. table.get (table.put (table.put (grown n).edges (riser c.edge n) (side_riser n)) (top_edge c.edge (length hs) n) (side_top n)) (top_edge c.edge (length hs) k) ≡ Some (side_top k)) (sym e.1)
-            (get-put_here (table.put (grown n).edges (riser c.edge n) (side_riser n)) (top_edge c.edge (length hs) n) (side_top n))
-        | inr e ↦ get-put_other (table.put (grown n).edges (riser c.edge n) (side_riser n)) (top_edge c.edge (length hs) n) (side_top n) (top_edge c.edge (length hs) i) (top_apart c.edge (length hs) i n (omega (arith, l, m)) m e.1)
-            ∙ get-put_other (grown n).edges (riser c.edge n) (side_riser n) (top_edge c.edge (length hs) i) (λ p. riser_no_top c.edge (length hs) n i m (omega (arith, l, m)) (sym p))
-            ∙ top_grown n i (omega (arith, m)) (less_still i n l e.1)
-      ]
+  top_grown (suc n) i m l = grind (arith, eqb_tells i n, edges_step n, get-put_here, get-put_other, top_apart c.edge (length hs) i n, riser_no_top c.edge (length hs) n i, top_grown n i)
 
   module _ (items : (i : ℕ) → i < length hs → edge_of (item i) ≤ c.edge) (bounded : (h : ℕ) → tail M h ≤ c.vertex) where
     -- the rows of the new edges and vertices, once all sides are there
     pub riser_row : (i : ℕ) → i < length hs → table.get (grown (length hs)).edges (riser c.edge i) ≡ Some (record { plus_tail = tail M (item i); minus_tail = c.vertex + 1 + i })
-    riser_row i l = riser_grown (length hs) i (omega arith) l ∙ ap (λ v. Some (record { plus_tail = v; minus_tail = c.vertex + 1 + i })) ((keeps_grown i (omega (arith, l))).tails (item i) (items i l))
+    riser_row i l = riser_grown (length hs) i (omega arith) l ∙ ap (λ v. Some (record { plus_tail = v; minus_tail = c.vertex + 1 + i })) ((keeps_grown i).tails (item i) (items i l))
 
     pub top_row : (i : ℕ) → i < length hs → table.get (grown (length hs)).edges (top_edge c.edge (length hs) i) ≡ Some (side_top i)
     top_row i l = top_grown (length hs) i (omega arith) l
 
     pub point_grown : (i : ℕ) → i < length hs → point_of (grown (length hs)) (c.vertex + 1 + i) ≡ moved (start M (item i)) d
     point_grown i l = point_row (grown (length hs)) (c.vertex + 1 + i) (side_point i) (ap (λ t. table.get t (c.vertex + 1 + i)) (vertices_grown (length hs)) ∙ filled_new M.vertices c.vertex side_point (length hs) i l)
-        ∙ ap (λ p. moved p d) (start_kept (keeps_grown i (omega (arith, l))) bounded (item i) (items i l))
+        ∙ ap (λ p. moved p d) (start_kept (keeps_grown i) bounded (item i) (items i l))
