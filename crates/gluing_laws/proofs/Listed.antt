@@ -1,5 +1,5 @@
 -- How often a number stands in what a search lists. The volumes of lists of faces are passed on.
-use Rattle.std.proofs.Common.{◌≡◌, ℕ, ◌≤◌, Bool, true, false, cond, List, Option, Some, None, refl, sym, ◌∙◌, arith}
+use Rattle.std.proofs.Common.{◌≡◌, ℕ, Bool, true, cond, List, Option, Some, None, sym, ◌∙◌, arith}
 use Rattle.euler_operators.specs.Common.{count, SameItems, Table, lists, strictly_rises}
 use Rattle.euler_operators.specs.Table as table
 use Rattle.euler_laws.proofs.Common.{listed_passes, listed_as, all_where-rises, IsIn-from_listed, listed-from_in, within, counted_once, none_counted}
@@ -9,10 +9,7 @@ pub use Rattle.shapes.proofs.measures.Sums.{volume_of, volume_append, volume_sam
 
 -- rising lists with the same items are one
 pub rising_same : (xs ys : List ℕ) → strictly_rises xs ≡ true → strictly_rises ys ≡ true → SameItems xs ys → xs ≡ ys
-rising_same xs ys r s e =
-    let a = within xs ys r s (λ q i. listed-from_in q ys (omega (arith, e q, IsIn-from_listed q xs i))) in
-    let b = within ys xs s r (λ q i. listed-from_in q xs (omega (arith, e q, IsIn-from_listed q ys i))) in
-    a.1 (omega (arith, a.0, b.0))
+rising_same xs ys r s e = grind (arith, within xs ys r s, within ys xs s r, listed-from_in, IsIn-from_listed)
 
 -- ---- searches
 
@@ -25,13 +22,7 @@ passed p k None = 0
 passed p k (Some x) = one_if (p k x)
 
 count_listed : (q : ℕ) (ns : List ℕ) → strictly_rises ns ≡ true → count q ns ≡ one_if (lists ns q)
-count_listed q ns up = listed_once (lists ns q) refl where
-  once : (n : ℕ) → n ≤ 1 → 1 ≤ n → n ≡ 1
-  once n l m = omega arith
-
-  listed_once : (b : Bool) → lists ns q ≡ b → count q ns ≡ one_if b
-  listed_once true e = once (count q ns) (counted_once q ns up) (IsIn-from_listed q ns e)
-  listed_once false e = none_counted q ns e
+count_listed q ns up = grind (arith, counted_once, IsIn-from_listed, none_counted)
 
 pub count_where : {X : Type 0} (p : ℕ → X → Bool) (t : Table X) (k : ℕ) → count k (table.all_where p t) ≡ passed p k (table.get t k)
 count_where {X = X} p t k = grind (arith, count_listed, all_where-rises, listed_passes, listed_as)

@@ -1,7 +1,7 @@
 -- The glued solid: its other faces measure what they did, and the two that go added nothing together.
-use Rattle.std.proofs.Common.{◌≡◌, ◌≢◌, ℕ, true, false, cond, nat_eq, Bool, List, [], ◌∷◌, Option, Some, None, unwrap_or, refl, sym, ap, subst, ◌∙◌, arith, inl, inr, ◌+◌, ℤ, pos, ◌+ℤ◌, neg_ℤ, ◌++◌, map, is_some, true≢false, ◌⊎◌, option_map, ne_eqb, eq-eqb, eqb-true}
+use Rattle.std.proofs.Common.{◌≡◌, ◌≢◌, ℕ, true, false, cond, nat_eq, Bool, List, [], ◌∷◌, Option, Some, None, unwrap_or, refl, sym, ap, ◌∙◌, arith, inl, ◌+◌, ℤ, pos, ◌+ℤ◌, neg_ℤ, ◌++◌, map, is_some, true≢false, ◌⊎◌, option_map, ne_eqb, eq-eqb, eqb-true}
 use Rattle.std.proofs.lemmas.Bool.Decides.{nat_tests, eqb_tells}
-use Rattle.euler_operators.specs.Common.{dot, count, IsIn, head_or, SameItems, successor, Table, tables, get-map_rows, Model, lone, cycle, FaceRow, LoopRow, no_face, no_loop, items_of, tail, content, face_of, outer, solid_of, point_of, rings_of, faces_of, after, cycle_of, Has, StandsIn, lists, faces_to_solid, mate}
+use Rattle.euler_operators.specs.Common.{dot, count, IsIn, head_or, SameItems, successor, Table, tables, get-map_rows, Model, lone, cycle, FaceRow, LoopRow, no_face, no_loop, items_of, tail, content, face_of, outer, solid_of, point_of, rings_of, faces_of, after, Has, lists, faces_to_solid, mate}
 use Rattle.euler_operators.proofs.Common.{tick_same, tick_other, count-append, canonical_nil, IsIn_head, in-holds, face_row, item_loop, IsIn_some_head, IsIn_successor, moved_none, none_added}
 use Rattle.euler_operators.specs.Table as table
 use Rattle.euler_laws.proofs.Common.{listed-from_in, listed_passes, listed_as, face_there, solid_either, mapped_some, loop_row}
@@ -69,9 +69,7 @@ module _ {M N : Model} {f g : ℕ} {partner_of : ℕ → ℕ} {hs gs : List ℕ}
   content_is l a b = ap (λ o. (unwrap_or o no_loop).content) (row_else l a b) ∙ content_in l (table.get M.loops l)
 
   pub each_swapped : (l : ℕ) → l ≢ outer M g → (y : ℕ) → IsIn y (items_of (content M l)) → StaysHere (swap y) y
-  each_swapped l b y i =
-      let s : StandsIn M y l = in-holds y (content M l) i in
-      seams.swapped w n y (w.sound.only_edges y l s) (λ e. b (sym (w.sound.one_loop y l s) ∙ e))
+  each_swapped l b y i = grind (arith, in-holds y (content M l) i, seams.swapped w n y, w.sound.only_edges y l, w.sound.one_loop y l)
 
   replaced : (l : ℕ) → Has M.loops l → l ≢ outer M f → l ≢ outer M g → IsReplaced M N swap l
   replaced l there a b = record {
@@ -162,10 +160,8 @@ module _ {M N : Model} {f g : ℕ} {partner_of : ℕ → ℕ} {hs gs : List ℕ}
   item_ends : (h : ℕ) → IsIn h hs → dot (finish M h) (normal M f) ≡ volume_of M f
   unfolding after
   item_ends h i =
-      let cycle_is : cycle_of M h ≡ hs = ap (λ l. items_of (content M l)) (seams.loop_f w h i) ∙ ap items_of w.first in
-      let next : after M h ≡ successor hs h = ap (λ q. successor q h) cycle_is in
-      ap (λ v. dot (point_of M v) (normal M f)) (sym (w.sound.ends_meet h (seams.half_f w h i)) ∙ ap (tail M) next)
-      ∙ item_told M f (successor hs h) (w.flat f w.f_there (inl refl)) (subst (λ c. IsIn (successor hs h) (items_of c)) (sym w.first) (IsIn_successor h hs i))
+      let next : after M h ≡ successor hs h = ap (λ q. successor q h) (ap (λ l. items_of (content M l)) (seams.loop_f w h i) ∙ ap items_of w.first) in
+      grind (arith, next, w.sound.ends_meet h (seams.half_f w h i), item_told M f (successor hs h) (w.flat f w.f_there (inl refl)), w.first, IsIn_successor h hs i)
 
   some_of_g : gs ≢ []
   some_of_g = (w.sound.cycles (outer M g) gs (w.sound.outers_there g w.g_there).0 w.second).some_item
@@ -212,10 +208,7 @@ module _ {M N : Model} {f g : ℕ} {partner_of : ℕ → ℕ} {hs gs : List ℕ}
   both_rows k (Some row) = ap (λ v. one_if (nat_eq v s)) (solid_either (nat_eq row.solid t) row s) ∙ of_both row.solid s t w.solids_apart
 
   at_other : (k : ℕ) → k ≢ f → k ≢ g → SameAt k
-  at_other k a b =
-      let now : count k (faces_of N s) ≡ passed (of s) k (table.get M.faces k) + passed (of t) k (table.get M.faces k) =
-      count_where (of s) N.faces k ∙ ap (passed (of s) k) (other_face k a b) ∙ both_rows k (table.get M.faces k) in
-      omega (arith, tick_other k f a, tick_other k g b, now, count_where (of s) M.faces k, count_where (of t) M.faces k, count-append k (faces_of M s) (faces_of M t))
+  at_other k a b = grind (arith, passed, count_where, other_face, both_rows, tick_other, count-append)
 
   -- the faces of both solids but the two
   same_faces : SameItems (f ∷ g ∷ faces_of N s) (faces_of M s ++ faces_of M t)
@@ -246,21 +239,15 @@ module _ {M N : Model} {f g : ℕ} {partner_of : ℕ → ℕ} {hs gs : List ℕ}
 
   module _ (u : ℕ) (not_s : u ≢ solid_of M f) (not_t : u ≢ solid_of M g) where
     face_gone : (k : ℕ) → table.get faces_left k ≡ None → Has M.faces k → solid_of M k ≢ u → passed (of u) k (table.get N.faces k) ≡ passed (of u) k (table.get M.faces k)
-    face_gone k e there ne = ap (passed (of u) k) (face_at_row k ∙ ap (option_map (to_s k)) e)
-        ∙ sym (ap (passed (of u) k) (face_there M k there) ∙ ap one_if (ne_eqb (solid_of M k) u ne))
+    face_gone k e there ne = grind (arith, passed, face_at_row, face_there, one_if, ne_eqb)
 
     row_kept : (k : ℕ) (o : Option FaceRow) → passed (of u) k (option_map (to_s k) o) ≡ passed (of u) k o
     row_kept k None = refl
     row_kept k (Some row) = ap (λ v. one_if (nat_eq v u)) (solid_either (nat_eq row.solid (solid_of M g)) row (solid_of M f)) ∙ of_neither row.solid (solid_of M f) (solid_of M g) u not_s not_t
 
     faces_are : faces_of N u ≡ faces_of M u
-    faces_are = same_search (of u) (of u) N.faces M.faces (λ k. elim (eqb_tells k f) [
-      | inl e ↦ face_gone k (grind (arith, nat_tests, tables)) (ap (table.has M.faces) e.1 ∙ w.f_there) (λ q. not_s (sym q ∙ ap (solid_of M) e.1))
-      | inr a ↦ elim (eqb_tells k g) [
-        | inl e ↦ face_gone k (grind (arith, nat_tests, tables)) (ap (table.has M.faces) e.1 ∙ w.g_there) (λ q. not_t (sym q ∙ ap (solid_of M) e.1))
-        | inr b ↦ ap (passed (of u) k) (other_face k a.1 b.1) ∙ row_kept k (table.get M.faces k)
-      ]
-    ])
+    faces_are = same_search (of u) (of u) N.faces M.faces (λ k. let other = other_face k in let row = row_kept k (table.get M.faces k) in
+        grind (arith, eqb_tells k f, eqb_tells k g, face_gone k, w.f_there, w.g_there, not_s, not_t, other, row, left_f, left_g))
 
     module _ (k : ℕ) (there : Has M.faces k) (is_of : solid_of M k ≡ u) where
       not_f : k ≢ f

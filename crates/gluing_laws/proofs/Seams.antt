@@ -1,6 +1,6 @@
 -- Two faces of two solids along which these are glued: what follows in a sound model, and what the glued model holds.
-use Rattle.std.proofs.Common.{◌≡◌, ◌≢◌, ℕ, nat_eq, List, [], true, sym, ap, ◌∙◌, arith, ◌⊎◌, unwrap_or, inl, inr, map, option_map}
-use Rattle.euler_operators.specs.Common.{IsIn, SameItems, count, mate, edge_of, Model, cycle, holds, tail, loop_of, content, face_of, solid_of, outer, rings_of, no_point, point_of, Sound, Has, HasHalf, StandsIn, faces_to_solid, get-map_rows}
+use Rattle.std.proofs.Common.{◌≡◌, ◌≢◌, ℕ, nat_eq, List, [], true, sym, ap, ◌∙◌, arith, ◌⊎◌, inl, inr, map, option_map}
+use Rattle.euler_operators.specs.Common.{IsIn, SameItems, count, mate, edge_of, Model, cycle, holds, tail, loop_of, content, face_of, solid_of, outer, rings_of, point_of, Sound, Has, HasHalf, StandsIn, faces_to_solid, get-map_rows}
 use Rattle.euler_operators.proofs.Common.{from_map, in-holds, mate_there, IsIn-map, IsIn_or_not, mate-mate, edge_of-mate, same_edge}
 use Rattle.euler_operators.specs.Table as table
 use Rattle.euler_laws.proofs.Common.{one_solid_round}
@@ -117,8 +117,7 @@ module _ {M N : Model} {f g : ℕ} {partner_of : ℕ → ℕ} {hs gs : List ℕ}
   -- a vertex at which no partner starts keeps its point
   pub point_kept : (v : ℕ) → ((h : ℕ) → IsIn h hs → from_tail h ≢ v) → point_of N v ≡ point_of M v
   unfolding point_of
-  point_kept v none =
-      ap (λ o. unwrap_or o no_point) (ap (λ t. table.get t v) n.vertices ∙ without_there M.vertices (map from_tail hs) v (not_moved v none))
+  point_kept v none = grind (arith, n.vertices, without_there, not_moved)
 
   end_kept : (h : ℕ) → IsIn h hs → point_of N (to_tail h) ≡ finish M h
   end_kept h i = point_kept (to_tail h) (λ k j. never_met w (mate h) (partner_of k)
@@ -162,10 +161,8 @@ module _ {M N : Model} {f g : ℕ} {partner_of : ℕ → ℕ} {hs gs : List ℕ}
   pub swapped : (y : ℕ) → HasHalf M y → loop_of M y ≢ outer M g → Stays (swap y) y
   swapped y there other = elim (renamed_cases (λ h. mate (partner_of h)) (λ h. h) hs y) [
     | inl p ↦
-        let k = both_kept p.0 (half_f w p.0 p.1) (item_left p.0 p.1) in (
-          ap (start N) p.3 ∙ k.0 ∙ sym (w.ends p.0 p.1) ∙ ap (start M) p.2,
-          ap (finish N) p.3 ∙ k.1 ∙ sym (w.starts p.0 p.1) ∙ ap (start M) (sym (mate-mate (partner_of p.0))) ∙ ap (finish M) p.2,
-        )
+        let kept = both_kept p.0 (half_f w p.0 p.1) (item_left p.0 p.1) in
+        grind (arith, p, kept, w.starts p.0 p.1, w.ends p.0 p.1, mate-mate (partner_of p.0))
     | inr p ↦
         let k = both_kept y there (edge_left y (λ h i e. other (ap (loop_of M) e ∙ loop_g w (partner_of h) (partner_in w h i))) (λ h i e. p.1 h i (sym e))) in
         (ap (start N) p.0 ∙ k.0, ap (finish N) p.0 ∙ k.1)

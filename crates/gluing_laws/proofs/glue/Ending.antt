@@ -68,15 +68,7 @@ module _ (M : Model) (f g : ℕ) (partner_of : ℕ → ℕ) (hs : List ℕ) (x :
   face_else : (p : ℕ) → p ≢ l → Has N.loops p → face_of N p ≢ f
   face_else p ne there is = from (table.get (table.remove (table.remove M.loops l) r) p) refl where
     kept_back : (row : LoopRow) → table.get (table.remove (table.remove M.loops l) r) p ≡ Some row → table.get M.loops p ≡ Some row
-    kept_back row at = elim (eqb_tells p r) [
-      | inl e ↦ absurd (true≢false (sym (ap is_some at) ∙ ap is_some (gone_r e.1)))
-      | inr nr ↦ sym (still nr.1) ∙ at
-    ] where
-      gone_r : p ≡ r → table.get (table.remove (table.remove M.loops l) r) p ≡ None
-      gone_r e = grind (arith, nat_tests, tables)
-
-      still : p ≢ r → table.get (table.remove (table.remove M.loops l) r) p ≡ table.get M.loops p
-      still nr = grind (arith, nat_tests, tables)
+    kept_back row at = grind (arith, nat_tests, tables)
 
     from : (o : Option LoopRow) → table.get (table.remove (table.remove M.loops l) r) p ≡ o → ⊥
     from None e = true≢false (sym there ∙ ap is_some (stages.at_kept M f g partner_of hs x h done (h ∷ []) w p ne ∙ ap (option_map _) e))
@@ -137,9 +129,7 @@ module _ (M : Model) (f g : ℕ) (partner_of : ℕ → ℕ) (hs : List ℕ) (x :
   put_gone t a b u v ne free = same_table _ _ (λ n. grind (arith, nat_tests, tables))
 
   free_l : table.get (table.map_rows (rewritten_row (map swap)) kept) l ≡ None
-  free_l = get-map_rows (rewritten_row (map swap)) kept l ∙ ap (option_map (rewritten_row (map swap) l)) gone_l where
-    gone_l : table.get kept l ≡ None
-    gone_l = grind (arith, nat_tests, tables)
+  free_l = grind (arith, get-map_rows (rewritten_row (map swap)) kept l, nat_tests, tables)
 
   loops_after : (kef N m).loops ≡ X.loops
   loops_after = kill.loops_are N w.sound m goes
@@ -183,8 +173,7 @@ module _ (M : Model) (f g : ℕ) (partner_of : ℕ → ℕ) (hs : List ℕ) (x :
   -- the solids are glued
   pub ending_is : effect N (Kef (half m)) ≡ X
   unfolding effect kef glued_part
-  ending_is = ap (kef N) (code-half m)
-      ∙ (λ i. record { solids = X.solids; faces = faces_after i; loops = loops_after i; edges = edges_after i; vertices = vertices_after i })
+  ending_is = grind (arith, code-half, faces_after, loops_after, edges_after, vertices_after)
 
 -- ---- the pairs as the definition of a glue has them
 

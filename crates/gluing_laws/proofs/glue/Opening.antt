@@ -1,5 +1,5 @@
 -- The first four operators of a glue: the solids become one, and the two loops one loop.
-use Rattle.std.proofs.Common.{◌≡◌, ◌≢◌, ℕ, true, false, cond, nat_eq, Bool, List, [], ◌∷◌, ◌++◌, Option, Some, None, is_some, refl, sym, ap, ◌∙◌, subst, arith, true≢false, map, reverse, ne_eqb, eq-eqb}
+use Rattle.std.proofs.Common.{◌≡◌, ◌≢◌, ℕ, cond, nat_eq, List, [], ◌∷◌, ◌++◌, Some, None, is_some, refl, sym, ap, ◌∙◌, subst, arith, true≢false, map, reverse, ne_eqb, eq-eqb}
 use Rattle.std.proofs.lemmas.Bool.Decides.{nat_tests}
 use Rattle.std.proofs.lemmas.List.{map-append, reverse-append}
 use Rattle.euler_operators.specs.Common.{count, IsIn, IsApart, canonical, rest, successor, without, mate, edge_of, half, plus, minus, Table, tables, same_table, At, Model, FaceRow, LoopRow, EdgeRow, cycle, items_of, tail, tail_in, face_of, solid_of, outer, is_number, Sound, HasHalf, first_false, effect, merge, kfmrh, mekr, kev, faces_to_solid, loop_to_face, moved_tail, edge_row}
@@ -293,16 +293,7 @@ module _ (M : Model) (f g : ℕ) (partner_of : ℕ → ℕ) (h : ℕ) (mid : Lis
   kept = table.remove (table.remove M.loops l) r
 
   kept_there : (q : ℕ) (row : LoopRow) → table.get kept q ≡ Some row → table.get M.loops q ≡ Some row
-  kept_there q row at = from (table.get M.loops q) (kept_row q) at where
-    kept_row : (q : ℕ) → table.get kept q ≡ cond (nat_eq q r) None (cond (nat_eq q l) None (table.get M.loops q))
-    kept_row q = grind (arith, nat_tests, tables)
-
-    from : (o : Option LoopRow) → table.get kept q ≡ cond (nat_eq q r) None (cond (nat_eq q l) None o) → table.get kept q ≡ Some row → o ≡ Some row
-    from o e a = still_there (nat_eq q r) (nat_eq q l) (sym e ∙ a) where
-      still_there : (b c : Bool) → cond b None (cond c None o) ≡ Some row → o ≡ Some row
-      still_there true c z = absurd (true≢false (sym (ap is_some z)))
-      still_there false true z = absurd (true≢false (sym (ap is_some z)))
-      still_there false false z = z
+  kept_there q row at = grind (arith, nat_tests, tables)
 
   loops_then : C.loops ≡ X.loops
   unfolding glued_part

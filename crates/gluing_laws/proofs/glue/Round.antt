@@ -95,8 +95,7 @@ module _ {N : Model} {l f g h k : ℕ} {qs : List ℕ} {x s r : ℕ} (c : Closes
   A_plus = tail_row A (plus x) new_edge (ap (table.get A.edges) edge_plus ∙ get-put_here N.edges x new_edge) ∙ ap (tail_in new_edge) (plus_row x).1
 
   A_minus : tail A (minus x) ≡ tail N k
-  A_minus = tail_row A (minus x) new_edge (ap (table.get A.edges) edge_minus ∙ get-put_here N.edges x new_edge)
-      ∙ ap (tail_in new_edge) (minus_row x).1
+  A_minus = grind (arith, tail_row A (minus x) new_edge, edge_minus, get-put_here N.edges x new_edge, minus_row x)
 
   -- ---- kev
 

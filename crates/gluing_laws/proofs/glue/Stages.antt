@@ -85,10 +85,7 @@ module _ (M : Model) (f g : ℕ) (partner_of : ℕ → ℕ) (hs : List ℕ) (x l
 
   -- what is left is as it was
   pub still : (y : ℕ) → HasHalf N y → table.get (without_rows M.edges gone) (edge_of y) ≡ table.get M.edges (edge_of y)
-  still y there = elim (IsIn_or_not (edge_of y) gone) [
-    | inl i ↦ absurd (true≢false (sym there ∙ ap is_some (edge_row (edge_of y) ∙ ap (option_map _) (without_gone M.edges gone (edge_of y) i))))
-    | inr n ↦ without_there M.edges gone (edge_of y) n
-  ]
+  still y there = grind (arith, IsIn_or_not, true≢false, edge_row, without_gone, without_there)
 
   pub half_back : (y : ℕ) → HasHalf N y → HasHalf M y
   half_back y there = ap is_some (sym (still y there)) ∙ sym (mapped_some _ (table.get (without_rows M.edges gone) (edge_of y))) ∙ ap is_some (sym (edge_row (edge_of y))) ∙ there
@@ -98,15 +95,10 @@ module _ (M : Model) (f g : ℕ) (partner_of : ℕ → ℕ) (hs : List ℕ) (x l
   tail_is y there = ap (λ o. tail_in (unwrap_or o no_edge) (is_first y)) (edge_row (edge_of y) ∙ ap (option_map _) (still y there)) ∙ tail_renamed (paired (λ h. tail M (partner_of h)) (λ h. tail M (mate h)) (last ∷ done)) (table.get M.edges (edge_of y)) (edge_of y) (is_first y) (half_back y there)
 
   pub edge_free : table.get N.edges x ≡ None
-  edge_free = edge_row x ∙ ap (option_map _) (elim (IsIn_or_not x gone) [
-    | inl i ↦ without_gone M.edges gone x i
-    | inr n ↦ without_there M.edges gone x n ∙ w.facing.edge_free
-  ])
+  edge_free = grind (arith, edge_row, IsIn_or_not, without_gone, without_there, w.facing.edge_free)
 
   pub face_free : table.get N.faces g ≡ None
-  face_free = ap (λ t. table.get t g) faces_are ∙ get-map_rows _ (table.remove M.faces g) g ∙ ap (option_map _) removed where
-    removed : table.get (table.remove M.faces g) g ≡ None
-    removed = grind (arith, nat_tests, tables)
+  face_free = grind (arith, faces_are, get-map_rows, nat_tests, tables)
 
   -- an item that isn't glued yet, and its partner, start where they did
   pub tail_here : (h : ℕ) → IsIn h more → HasHalf N h → tail N h ≡ tail M h
@@ -149,12 +141,8 @@ module _ (M : Model) (f g : ℕ) (partner_of : ℕ → ℕ) (hs : List ℕ) (x l
     pub mate_else : q ≢ l
     mate_else e =
         let stands : StandsIn N m l = subst (StandsIn N m) e (w.sound.stands m m_there) in
-        let here : IsIn m (seam partner_of more) = omega (
-          arith,
-          holds_in m (content N l) stands,
-          ap (λ c. count m (items_of c)) (content_row N l _ (at_l)),
-          count-canonical m (seam partner_of more),
-        ) in
+        let held = ap (λ c. count m (items_of c)) (content_row N l _ at_l) in
+        let here : IsIn m (seam partner_of more) = omega (arith, holds_in m (content N l) stands, held, count-canonical m (seam partner_of more)) in
         elim (IsIn_or_not m more) [
           | inl j ↦ w.facing.solids_apart (sym (facing.side_f M f g partner_of hs x w.facing m (all_in m j))
               ∙ facing.side_mate M f g partner_of hs x w.facing (partner_of h) (facing.half_g M f g partner_of hs x w.facing h h_in) ∙ facing.side_g M f g partner_of hs x w.facing h h_in)

@@ -176,5 +176,4 @@ module _ (M : Model) (f g : ℕ) (partner_of : ℕ → ℕ) (hs : List ℕ) (x l
 
   pub turn_is : effects N (closing (partner_of h) k x g r) ≡ X
   unfolding glued_part
-  turn_is = (closing_leads closes).made
-      ∙ (λ i. record { solids = X.solids; faces = X.faces; loops = loops_next i; edges = edges_next i; vertices = vertices_next i })
+  turn_is = grind (arith, closing_leads closes, closes, loops_next, edges_next, vertices_next)
