@@ -6,21 +6,20 @@ use Rattle.arena_rows.specs.declared.rows.LoopCell.{LoopCell}
 use Rattle.arena_rows.specs.declared.rows.StoredContent.TheVariants.{Empty, At}
 use Rattle.boundary_model.specs.Table.{Table, get, put, remove, tabulate}
 use Rattle.raw_cells.specs.Rows.{row_at}
-use Rattle.arena_rows.specs.Common.{ArenaRows, table_of, Store, loosened, Spots, live, next, label, ring, spliced, labelled, AreRings, store_of, RowsAreTied, stored_content, loop_row, AreLoops, StandsAt, cut, cut_loose, cut_to, join, join_loops, join_loose, loose_ring, loose_row, codes, held_row, Fits}
-use Rattle.boundary_model.specs.Model.{Model, LoopRow, cycle}
+use Rattle.arena_rows.specs.Common.{ArenaRows, table_of, Store, loosened, Spots, live, next, label, ring, spliced, labelled, store_of, RowsAreTied, stored_content, loop_row, StandsAt, cut, cut_loose, cut_to, join, join_loops, join_loose, loose_ring, loose_row, codes, held_row, Fits}
+use Rattle.boundary_model.specs.Model.{LoopRow, cycle}
 use Rattle.boundary_model.specs.Items.{IsIn}
 use Rattle.boundary_model.specs.Rings.{cut_left, cut_right, joined, successor, predecessor}
 use Rattle.boundary_model.proofs.Rings.{successor-predecessor}
 use Rattle.boundary_model.proofs.Members.{IsIn_one}
 use Rattle.arena_rows.proofs.ring_spots_laws.SpotLaws.{ring_same, next_in_ring}
 use Rattle.boundary_model.specs.Model.{has_half, loop_of, items_of, content, cycle_of, before}
-use Rattle.boundary_model.proofs.Tables.{row_some}
-use Rattle.arena_rows.proofs.Views.{has-row, row_not_zero, table_of-put}
+use Rattle.arena_rows.proofs.Views.{row_not_zero, table_of-put}
 use Rattle.arena_rows.proofs.Writes.{IsRefilled, refilled_here, refilled_elsewhere, refilled_some, refilled_fits}
-use Rattle.arena_rows.proofs.Stands.{half_there, loop_of_is, cycle_of_is, content_row, face_row_of, loose_key_is, loose_ring_is, next_successor}
+use Rattle.arena_rows.proofs.Stands.{half_there, loop_of_is, cycle_of_is, face_row_of, loose_key_is, loose_ring_is, next_successor}
 use Rattle.arena_rows.proofs.Tellings.{Makes, store_is, tied_as, content_alike, same_loop, loops_table_rows}
 use Rattle.arena_rows.proofs.Cutting.{CutFacts, JoinFacts, rings2, live2, AreLoops-cut, loose-cut_to, loose-cut_loose, edges-cut, kept2, ring_of_left, ring_of_right, apart_rows, jrings2, jlive2, jedges, jkept, jring_of, loose-join_loops, loose-join_loose, AreLoops-join}
-use Rattle.arena_rows.proofs.Filling.{loops_refilled}
+use Rattle.arena_rows.proofs.Filling.{loops_refilled, bare_row}
 
 -- loop l, if it is one, is empty, and the others are as they were
 record IsEmptied (loops rows : List (Option LoopCell)) (l : ℕ) : Type 0 where
@@ -30,48 +29,41 @@ record IsEmptied (loops rows : List (Option LoopCell)) (l : ℕ) : Type 0 where
   same : (q : ℕ) → q ≢ l → row_at rows q ≡ row_at loops q
 
 module _ (arena : ArenaRows) (tied : RowsAreTied arena) where
-  abbrev spots : Spots
-  spots = arena.spots
+  open arena use {spots}
+  open tied use {rings, loops_tied as are}
 
   abbrev store : Store
   store = store_of arena
 
-  abbrev model : Model
-  model = store.model
+  open store use {model}
 
-  abbrev rings : AreRings spots
-  rings = tied.rings
-
-  abbrev are : AreLoops spots arena.loops
-  are = tied.loops_tied
-
-  pub cut_facts : (a b l : ℕ) → has_half model a ≡ true → has_half model b ≡ true → loop_of model a ≢ 0 → loop_of model b ≡ loop_of model a → a ≢ b → (l ≢ 0 → (is_some (get model.loops l) ≡ true) × (items_of (content model l) ≡ [])) → CutFacts spots arena.loops a b l
-  cut_facts a b l ha hb looped one apart free =
-      let at = half_there arena tied a ha in
-      let bt = half_there arena tied b hb in
+  pub cut_facts : (a b l : ℕ) → record { a_there : has_half model a ≡ true; b_there : has_half model b ≡ true; looped : loop_of model a ≢ 0; together : loop_of model b ≡ loop_of model a; apart : a ≢ b; free : l ≢ 0 → (is_some (get model.loops l) ≡ true) × (items_of (content model l) ≡ []) } →
+      CutFacts spots arena.loops a b l
+  cut_facts a b l is =
+      let at = half_there arena tied a is.a_there in
+      let bt = half_there arena tied b is.b_there in
       let ea = loop_of_is arena tied a at in
       let eb = loop_of_is arena tied b bt in
       record {
         a_there = at;
         b_there = bt;
-        looped = λ z. looped (ea ∙ z);
-        one = sym eb ∙ one ∙ ea;
-        apart = apart;
-        free = λ n. let f = free n in let r = row_some (row_at arena.loops l) (has-row (loop_row spots) arena.loops l f.0) in
-            record { cell = r.0; here = r.1; bare = ap items_of (sym (content_row arena tied l r.0 r.1)) ∙ f.1 };
+        looped = λ z. is.looped (ea ∙ z);
+        one = sym eb ∙ is.together ∙ ea;
+        apart = is.apart;
+        free = λ n. bare_row arena tied l (is.free n).0 (is.free n).1;
       }
 
-  pub join_facts : (a b : ℕ) → has_half model a ≡ true → has_half model b ≡ true → loop_of model a ≢ 0 → loop_of model b ≢ loop_of model a → JoinFacts spots a b
-  join_facts a b ha hb looped other =
-      let at = half_there arena tied a ha in
-      let bt = half_there arena tied b hb in
+  pub join_facts : (a b : ℕ) → record { a_there : has_half model a ≡ true; b_there : has_half model b ≡ true; looped : loop_of model a ≢ 0; apart : loop_of model b ≢ loop_of model a } → JoinFacts spots a b
+  join_facts a b is =
+      let at = half_there arena tied a is.a_there in
+      let bt = half_there arena tied b is.b_there in
       let ea = loop_of_is arena tied a at in
       let eb = loop_of_is arena tied b bt in
-      record { a_there = at; b_there = bt; looped = λ z. looped (ea ∙ z); other = λ z. other (eb ∙ z ∙ sym ea) }
+      record { a_there = at; b_there = bt; looped = λ z. is.looped (ea ∙ z); other = λ z. is.apart (eb ∙ z ∙ sym ea) }
 
   -- the row of the loop of a labelled code is there
-  pub row_of : (h : ℕ) → live spots h ≡ true → label spots h ≢ 0 → is_some (row_at arena.loops (label spots h)) ≡ true
-  row_of h a n = ap is_some (are.stands h a n).here
+  pub row_of : (h l : ℕ) → live spots h ≡ true → label spots h ≢ 0 → label spots h ≡ l → is_some (row_at arena.loops l) ≡ true
+  row_of h l a n e = ap (λ q. is_some (row_at arena.loops q)) (sym e) ∙ ap is_some (are.stands h a n).here
 
   module _ (a b l : ℕ) (g : CutFacts spots arena.loops a b l) where
     abbrev cutted : Spots

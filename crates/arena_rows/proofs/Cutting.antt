@@ -32,17 +32,8 @@ pub record JoinFacts (sp : Spots) (a b : ℕ) : Type 0 where
   pub other : label sp b ≢ label sp a
 
 module _ (arena : ArenaRows) (tied : RowsAreTied arena) where
-  abbrev spots : Spots
-  spots = arena.spots
-
-  abbrev loops : List (Option LoopCell)
-  loops = arena.loops
-
-  abbrev rings : AreRings spots
-  rings = tied.rings
-
-  abbrev are : AreLoops spots loops
-  are = tied.loops_tied
+  open arena use {spots, loops}
+  open tied use {rings, loops_tied as are}
 
   module _ (a b l : ℕ) (g : CutFacts spots loops a b l) where
     abbrev label_a : ℕ

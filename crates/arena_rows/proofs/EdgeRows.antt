@@ -8,20 +8,14 @@ use Rattle.boundary_model.specs.Table.{get, tabulate}
 use Rattle.arena_rows.proofs.ring_spots_laws.SpotTables.{loose_alike, loose_same}
 use Rattle.arena_rows.proofs.Tellings.{loops_same, loops_kept, Makes, store_is, tied_as}
 use Rattle.arena_rows.proofs.ring_spots_laws.SpotLaws.{AreRings-set_tail, live-set_tail, label-set_tail, ring-set_tail}
-use Rattle.arena_rows.proofs.ring_spots_laws.EdgeSpots.{IsFree, edges_tail, w_plus, w_minus, w_other, w_old, w_cases, old_ring, w_rings, w_label, w_loose, w_edges, s_other, s_left, s_ring, s_rings, s_label, s_named, s_loose, s_edges, ring_of_plus, ring_of_minus}
+use Rattle.arena_rows.proofs.ring_spots_laws.EdgeSpots.{IsFree, edges_tail, w_plus, w_minus, w_other, w_old, w_cases, old_ring, w_rings, w_label, w_loose, w_edges, s_other, s_left, s_ring, s_rings, s_label, s_named, s_loose, s_edges, alone_ring}
 
 module _ (arena : ArenaRows) (tied : RowsAreTied arena) where
-  abbrev spots : Spots
-  spots = arena.spots
+  open arena use {spots}
+  open tied use {rings, loops_tied as are}
 
   abbrev store : Store
   store = store_of arena
-
-  abbrev rings : AreRings spots
-  rings = tied.rings
-
-  abbrev are : AreLoops spots arena.loops
-  are = tied.loops_tied
 
   module _ (h v : ℕ) (a : live spots h ≡ true) where
     abbrev moved : Spots
@@ -66,10 +60,10 @@ module _ (arena : ArenaRows) (tied : RowsAreTied arena) where
     less = asleep (asleep spots (plus e)) (minus e)
 
     one_plus : ring spots (plus e) ≡ plus e ∷ []
-    one_plus = ring_of_plus spots rings e at_plus at_minus
+    one_plus = alone_ring spots rings (plus e) at_plus
 
     one_minus : ring spots (minus e) ≡ minus e ∷ []
-    one_minus = ring_of_minus spots rings e at_plus at_minus
+    one_minus = alone_ring spots rings (minus e) at_minus
 
     s_loops : AreLoops less arena.loops
     s_loops = loops_kept spots less arena.loops are tied.loops_fit.no_zero

@@ -67,11 +67,15 @@ next_number s kind used same n (Some m) next = (next.0, same m ∙ next.1, λ k 
 
 -- ---- a number in use has its room
 
-pub row_has_room : {X : Type 0} (rows : List (Option X)) (n : ℕ) → Fits rows → is_some (row_at rows n) ≡ true → within n (length rows - 1) ≡ true
+row_has_room : {X : Type 0} (rows : List (Option X)) (n : ℕ) → Fits rows → is_some (row_at rows n) ≡ true → within n (length rows - 1) ≡ true
 row_has_room rows n fits h =
     let some = row_not_zero rows n fits h in
     let below = row_within rows n h in
     grind (arith, nat_tests)
+
+-- what a test of a row tells
+pub has_told : {X Y : Type 0} (f : X → Y) (rows : List (Option X)) (n : ℕ) (has : Bool) → Fits rows → has ≡ is_some (row_at rows n) → record { used : has ≡ is_some (get (table_of f rows) n); room : has ≡ true → within n (length rows - 1) ≡ true }
+has_told f rows n has fits is = record { used = is ∙ sym (has_is f rows n); room = λ h. row_has_room rows n fits (sym is ∙ h) }
 
 pub edge_keeps_room : (sp : Spots) → AreRings sp → live sp 0 ≢ true → (known : ℕ → Bool) → ((c : ℕ) → live sp c ≡ true → known c ≡ true) → (e : ℕ) → nat_le e 1000000 && live sp (plus e) ≡ true → is_some (get (tabulate (edge_room known) edges_end) e) ≡ true
 edge_keeps_room sp R zero known awake e h =

@@ -2,18 +2,19 @@
 use Rattle.std.proofs.lemmas.Bool.Decides.{eqb_tells}
 use Rattle.boundary_model.specs.Items.{count, IsIn}
 use Rattle.boundary_model.proofs.Lists.{IsIn_or_not}
-use Rattle.boundary_model.proofs.Tables.{get-put_here}
+use Rattle.boundary_model.proofs.Tables.{get-put_here, row_some}
 use Rattle.arena_rows.specs.declared.rows.LoopCell.{LoopCell}
 use Rattle.arena_rows.specs.declared.rows.StoredContent.{StoredContent}
 use Rattle.arena_rows.specs.declared.rows.StoredContent.TheVariants.{Empty, Lone, At}
 use Rattle.boundary_model.specs.Table.{get, put, remove, tabulate}
 use Rattle.raw_cells.specs.Rows.{row_at}
-use Rattle.boundary_model.specs.Model.{Model, cycle}
+use Rattle.boundary_model.specs.Model.{cycle}
 use Rattle.arena_rows.specs.Common.{ArenaRows, Store, loosened, Spots, live, label, ring, labelled, AreRings, store_of, RowsAreTied, stored_content, loop_row, HasEntry, AreLoops, StandsAt, clear, fill, held_row, table_of, codes, edge_row, loose_row}
 use Rattle.std.proofs.Common.{unwrap_or, ◌≡◌, ◌≢◌, ℕ, true, List, [], Option, is_some, refl, sym, ap, subst, ◌∙◌, arith, inl, inr}
 use Rattle.boundary_model.specs.Model.{no_loop}
 use Rattle.boundary_model.specs.Model.{items_of, content, face_of}
 use Rattle.arena_rows.specs.Store.{with_loop}
+use Rattle.arena_rows.proofs.Views.{has-row}
 use Rattle.arena_rows.proofs.Writes.{IsRefilled, refilled_here, refilled_elsewhere, refilled_some, refilled_fits, IsBare, none_in_bare, tied_loops, store_loops, IsKept, IsTold, told_at, loops_told}
 use Rattle.arena_rows.proofs.Stands.{content_row, face_row_of, loose_key_is, loose_ring_is}
 use Rattle.arena_rows.proofs.ring_spots_laws.SpotTables.{loose_none, loose_alike, loose_removed, edges_same, tails-labelled}
@@ -21,20 +22,24 @@ use Rattle.arena_rows.proofs.Tellings.{loose_added, loops_table, same_loop, Tied
 use Rattle.arena_rows.proofs.ring_spots_laws.SpotLaws.{live-labelled, label-labelled_in, label-labelled_out, ring-labelled, AreRings-labelled}
 
 module _ (arena : ArenaRows) (tied : RowsAreTied arena) where
-  abbrev spots : Spots
-  spots = arena.spots
+  open arena use {spots}
 
   abbrev store : Store
   store = store_of arena
 
-  abbrev model : Model
-  model = store.model
+  open store use {model}
 
   -- the table where loop l gets other content, and the rings of the other loops stay
   pub loops_refilled : (new : Spots) (rows : List (Option LoopCell)) (l : ℕ) (x : StoredContent) (w : IsRefilled arena.loops rows l x) → ((q c : ℕ) → q ≢ l → live spots c ≡ true → label spots c ≡ q → ring new c ≡ ring spots c) →
       table_of (loop_row new) rows ≡ put model.loops l (held_row model l (stored_content new x))
   loops_refilled new rows l x w kept = loops_table spots new arena.loops rows tied.loops_tied l _ w.is kept
       ∙ ap (λ f. put model.loops l (record { face = f; content = stored_content new x })) (sym (face_row_of arena tied l w.cell w.found))
+
+  -- a loop that holds no half-edge
+  pub bare_row : (l : ℕ) → is_some (get model.loops l) ≡ true → items_of (content model l) ≡ [] → IsBare spots arena.loops l
+  bare_row l there bare =
+      let row = row_some (row_at arena.loops l) (has-row (loop_row spots) arena.loops l there) in
+      record { cell = row.0; here = row.1; bare = sym (ap items_of (content_row arena tied l row.0 row.1)) ∙ bare }
 
   -- the ring of d gets label n
   module _ (d n : ℕ) (there : live spots d ≡ true) where
@@ -107,9 +112,9 @@ module _ (arena : ArenaRows) (tied : RowsAreTied arena) where
         ∙ ap (λ c. loosened (items_of c) store.loose) (sym (content_row arena tied l w.cell w.found ∙ ap (stored_content spots) stored))))
 
   -- loop l, which holds no half-edge, gets other content without one
-  module _ (l : ℕ) (rows : List (Option LoopCell)) (x : StoredContent) (w : IsRefilled arena.loops rows l x) (bare : items_of (stored_content spots w.cell.stored) ≡ []) where
+  module _ (l : ℕ) (rows : List (Option LoopCell)) (x : StoredContent) (w : IsRefilled arena.loops rows l x) (bare : items_of (content model l) ≡ []) where
     empty : IsBare spots arena.loops l
-    empty = record { cell = w.cell; here = w.found; bare = bare }
+    empty = record { cell = w.cell; here = w.found; bare = sym (ap items_of (content_row arena tied l w.cell w.found)) ∙ bare }
 
     pub bare_as : HasEntry spots l x → TiedAs (record arena { loops = rows }) (record store { model = with_loop model l (stored_content spots x) })
     bare_as free = record {
@@ -121,18 +126,21 @@ module _ (arena : ArenaRows) (tied : RowsAreTied arena) where
       is = store_loops arena tied rows _ w.len (loops_refilled spots rows l x w (λ q c _ _ _. refl));
     }
 
-    pub clear_bare_as : x ≡ Empty → TiedAs (record arena { loops = rows }) (clear store l)
-    unfolding clear
-    clear_bare_as e =
-        let b = bare_as (subst (HasEntry spots l) (sym e) tt) in
-        record {
-          tied = b.tied;
-          is = b.is ∙ ap (λ h. record store { model = with_loop model l (stored_content spots h) }) e
-              ∙ ap (λ hs. record store { model = with_loop model l (cycle []); loose = loosened hs store.loose }) (sym (ap items_of (content_row arena tied l w.cell w.found) ∙ bare));
-        }
+  -- where its row stands at none, it is cleared so
+  pub clear_bare_as : (l : ℕ) (rows : List (Option LoopCell)) (w : IsRefilled arena.loops rows l Empty) → ((c : ℕ) → w.cell.stored ≡ At c → ⊥) → TiedAs (record arena { loops = rows }) (clear store l)
+  unfolding clear
+  clear_bare_as l rows w none =
+      let bare = ap items_of (content_row arena tied l w.cell w.found) ∙ stands_at_none w.cell.stored none in
+      let b = bare_as l rows Empty w bare tt in
+      record { tied = b.tied; is = b.is ∙ ap (λ hs. record store { model = with_loop model l (cycle []); loose = loosened hs store.loose }) (sym bare) }
+    where
+      stands_at_none : (stored : StoredContent) → ((c : ℕ) → stored ≡ At c → ⊥) → items_of (stored_content spots stored) ≡ []
+      stands_at_none Empty n = refl
+      stands_at_none (Lone v) n = refl
+      stands_at_none (At c) n = absurd (n c refl)
 
   -- loop l takes the loose ring of h
-  module _ (l : ℕ) (rows : List (Option LoopCell)) (h : ℕ) (w : IsRefilled arena.loops rows l (At h)) (bare : items_of (stored_content spots w.cell.stored) ≡ []) (there : live spots h ≡ true) (loose : label spots h ≡ 0) where
+  module _ (l : ℕ) (rows : List (Option LoopCell)) (h : ℕ) (w : IsRefilled arena.loops rows l (At h)) (bare : items_of (content model l) ≡ []) (there : live spots h ≡ true) (loose : label spots h ≡ 0) where
     l_real : l ≢ 0
     l_real = refilled_some w tied.loops_fit
 
@@ -162,11 +170,6 @@ module _ (arena : ArenaRows) (tied : RowsAreTied arena) where
         (loops_refilled filled rows l (At h) w (λ q c _ _ _. ring_same h l there c) ∙ ap (λ hs. put model.loops l (held_row model l (cycle hs))) (ring_same h l there h ∙ sym (loose_ring_is arena tied h there loose)))
         (loose_removed spots filled tied.rings (rings_after h l there) h there (λ x i. loose_none filled x (λ y. l_real (sym (label_in h l there x i) ∙ y))) (alike h l there)
         ∙ ap (remove store.loose) (sym (loose_key_is arena tied h there loose))))
-
-pub bare_of : (sp : Spots) (stored : StoredContent) → ((c : ℕ) → stored ≡ At c → ⊥) → items_of (stored_content sp stored) ≡ []
-bare_of sp Empty n = refl
-bare_of sp (Lone v) n = refl
-bare_of sp (At c) n = absurd (n c refl)
 
 pub has-clear : (s : Store) (l : ℕ) → is_some (get (clear s l).model.loops l) ≡ true
 unfolding clear

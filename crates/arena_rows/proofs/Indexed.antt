@@ -1,5 +1,5 @@
 -- What stands beside the rows: what it says of the model, and what keeps it.
-use Rattle.std.proofs.Common.{◌≡◌, ◌≢◌, ℕ, ◌+◌, ◌≤◌, Bool, true, false, cond, not, nat_eq, ◌&&◌, List, [], length, Option, Some, None, is_some, unwrap_or, refl, sym, ap, ◌∙◌, arith, true≢false, eq-eqb, ne_eqb, inl, inr}
+use Rattle.std.proofs.Common.{◌≡◌, ◌≢◌, ℕ, ◌+◌, ◌-◌, ◌≤◌, ◌<◌, Bool, true, false, cond, not, nat_eq, ◌&&◌, List, [], length, Option, Some, None, is_some, refl, sym, ap, ◌∙◌, arith, true≢false, eq-eqb, ne_eqb, inl, inr}
 use Rattle.std.proofs.lemmas.Bool.Decides.{eqb_tells}
 use Rattle.boundary_model.proofs.Members.{same_length}
 use Rattle.boundary_model.proofs.Tables.{passes, count-all_where}
@@ -7,15 +7,16 @@ use Rattle.boundary_model.specs.Items.{count, tick}
 use Rattle.boundary_model.proofs.Lists.{tick_same, tick_other}
 use Rattle.boundary_model.specs.Table as table
 use Rattle.boundary_model.specs.Table.{Table, get, all_where, same_table, get-put, get-remove}
-use Rattle.boundary_model.specs.Model.{rings_of, outer, no_face}
-use Rattle.arena_rows.specs.Common.{ArenaRows, IsWhole, Owners, no_owners, put, take, owned, OwnersHaveGrown, Spots, map_row, table_of, names, store_of, face_row, loop_row, solid_numbers, face_numbers, AreIndexed}
+use Rattle.boundary_model.specs.Model.{rings_of, outer}
+use Rattle.arena_rows.specs.Common.{ArenaRows, Fits, IsWhole, Owners, no_owners, put, take, owned, OwnersHaveGrown, Spots, map_row, table_of, names, store_of, face_row, loop_row, solid_numbers, face_numbers, AreIndexed, within}
 use Rattle.arena_rows.proofs.owner_chains_laws.Counting.{more}
 use Rattle.arena_rows.specs.declared.rows.FaceCell.{FaceCell}
 use Rattle.arena_rows.specs.declared.rows.LoopCell.{LoopCell}
 use Rattle.arena_rows.specs.declared.rows.StoredContent.{StoredContent}
 use Rattle.raw_cells.specs.Rows.{row_at}
 use Rattle.arena_rows.proofs.Writes.{IsRefilled}
-use Rattle.arena_rows.proofs.Views.{get-table_of, read_row, table_of-same, table_of-put, table_of-remove, table_of-empty}
+use Rattle.arena_rows.proofs.Stands.{outer_row_of}
+use Rattle.arena_rows.proofs.Views.{get-table_of, table_of-same, table_of-put, table_of-remove, table_of-empty, fits_within, row_within, row_not_zero, not_zero}
 
 -- ---- what it says
 
@@ -81,10 +82,9 @@ module _ (sp : Spots) (loops : List (Option LoopCell)) (f out : ℕ) where
 -- what the loops of a face say of its rings
 pub rings_counted : (arena : ArenaRows) (ss fs : Owners) → IsWhole arena ss fs →
     (f : ℕ) (cell : FaceCell) → row_at arena.faces f ≡ Some cell → (b : Bool) → names f (row_at arena.loops cell.outer) ≡ b → length (owned f fs.owner_of) ≡ cond b 1 0 + length (rings_of (store_of arena).model f)
-unfolding outer
 rings_counted arena ss fs whole f cell found b e =
     let M = (store_of arena).model in
-    let o : outer M f ≡ cell.outer = ap (λ r. (unwrap_or r no_face).outer) (read_row face_row arena.faces f cell found) in
+    let o = outer_row_of arena whole.tied f cell found in
     ap (λ t. length (owned f t)) whole.indexed.of_faces ∙ ring_count_is arena.spots arena.loops f (outer M f) b (ap (λ n. names f (row_at arena.loops n)) o ∙ e)
 
 -- ---- what keeps it
@@ -103,40 +103,6 @@ put_after t n o = same_table _ _ (λ q. get-put (table.remove t n) n o q ∙ eli
   | inl p ↦ ap (λ b. cond b (Some o) (get (table.remove t n) q)) p.0 ∙ sym (get-put t n o q ∙ ap (λ b. cond b (Some o) (get t q)) p.0)
   | inr p ↦ ap (λ b. cond b (Some o) (get (table.remove t n) q)) p.0 ∙ get-remove t n q ∙ ap (λ b. cond b None (get t q)) p.0 ∙ sym (get-put t n o q ∙ ap (λ b. cond b (Some o) (get t q)) p.0)
 ])
-
--- what the owners of rows say of one of them
-module _ {X : Type 0} (g : X → ℕ) (rows : List (Option X)) (os : Owners) (of_rows : os.owner_of ≡ table_of g rows) (n : ℕ) where
-  pub owner_free : is_some (row_at rows n) ≡ false → get os.owner_of n ≡ None
-  owner_free free = ap (λ t. get t n) of_rows ∙ get-table_of g rows n ∙ map_row-none (row_at rows n) free where
-    map_row-none : (o : Option X) → is_some o ≡ false → map_row g o ≡ None
-    map_row-none None e = refl
-    map_row-none (Some x) e = absurd (true≢false e)
-
-  pub owner_there : is_some (row_at rows n) ≡ true → is_some (get os.owner_of n) ≡ true
-  owner_there there = ap (λ t. is_some (get t n)) of_rows ∙ ap is_some (get-table_of g rows n) ∙ map_row-some (row_at rows n) there where
-    map_row-some : (o : Option X) → is_some o ≡ true → is_some (map_row g o) ≡ true
-    map_row-some None e = e
-    map_row-some (Some x) e = refl
-
-  pub owner_taken : (new : Owners) → new ≡ take os n → get new.owner_of n ≡ None
-  owner_taken new is = ap (λ (t : Owners). get t.owner_of n) is ∙ get-remove os.owner_of n n ∙ ap (λ b. cond b None (get os.owner_of n)) (eq-eqb n n refl)
-
-  -- the owners, where a row is written: a new one, none, or one of another owner
-  module _ (rows' : List (Option X)) where
-    owners_new : (x : X) → ((q : ℕ) → row_at rows' q ≡ cond (nat_eq q n) (Some x) (row_at rows q)) → table.put os.owner_of n (g x) ≡ table_of g rows'
-    owners_new x is = ap (λ t. table.put t n (g x)) of_rows ∙ sym (table_of-put g rows rows' n x is)
-
-    owners_gone : ((q : ℕ) → row_at rows' q ≡ cond (nat_eq q n) None (row_at rows q)) → table.remove os.owner_of n ≡ table_of g rows'
-    owners_gone is = ap (λ t. table.remove t n) of_rows ∙ sym (table_of-remove g rows rows' n is)
-
-    pub after_put : (new : Owners) (x : X) → new ≡ put os n (g x) → ((q : ℕ) → row_at rows' q ≡ cond (nat_eq q n) (Some x) (row_at rows q)) → new.owner_of ≡ table_of g rows'
-    after_put new x e is = ap (λ (t : Owners). t.owner_of) e ∙ owners_new x is
-
-    pub after_take : (new : Owners) → new ≡ take os n → ((q : ℕ) → row_at rows' q ≡ cond (nat_eq q n) None (row_at rows q)) → new.owner_of ≡ table_of g rows'
-    after_take new e is = ap (λ (t : Owners). t.owner_of) e ∙ owners_gone is
-
-    pub after_move : (between new : Owners) (x : X) → between ≡ take os n → new ≡ put between n (g x) → ((q : ℕ) → row_at rows' q ≡ cond (nat_eq q n) (Some x) (row_at rows q)) → new.owner_of ≡ table_of g rows'
-    after_move between new x e f is = ap (λ (t : Owners). t.owner_of) f ∙ ap (λ (t : Owners). table.put t.owner_of n (g x)) e ∙ put_after os.owner_of n (g x) ∙ owners_new x is
 
 pub grown_none : (os : Owners) → OwnersHaveGrown os os
 grown_none os = record { same = refl; owners = omega arith; items = omega arith }
@@ -157,6 +123,59 @@ ends_move os between new n o e f = record { owners = ap (λ (t : Owners). t.owne
 
 pub ends_same : (os : Owners) → HasSameEnds os os
 ends_same os = record { owners = refl; items = refl }
+
+-- what `put` of the owners asks of an item and its owner
+abbrev pub CanPut : Owners → ℕ → ℕ → Type 0
+CanPut os n o = record { owner_room : o < os.owners_end; room : n < os.items_end; some : n ≢ 0; free : get os.owner_of n ≡ None }
+
+-- what the owners of rows say of one of them
+module _ {X : Type 0} (g : X → ℕ) (rows : List (Option X)) (os : Owners) (of_rows : os.owner_of ≡ table_of g rows) (n : ℕ) where
+  pub owner_free : is_some (row_at rows n) ≡ false → get os.owner_of n ≡ None
+  owner_free free = ap (λ t. get t n) of_rows ∙ get-table_of g rows n ∙ map_row-none (row_at rows n) free where
+    map_row-none : (o : Option X) → is_some o ≡ false → map_row g o ≡ None
+    map_row-none None e = refl
+    map_row-none (Some x) e = absurd (true≢false e)
+
+  pub owner_there : is_some (row_at rows n) ≡ true → is_some (get os.owner_of n) ≡ true
+  owner_there there = ap (λ t. is_some (get t n)) of_rows ∙ ap is_some (get-table_of g rows n) ∙ map_row-some (row_at rows n) there where
+    map_row-some : (o : Option X) → is_some o ≡ true → is_some (map_row g o) ≡ true
+    map_row-some None e = e
+    map_row-some (Some x) e = refl
+
+  pub owner_taken : (new : Owners) → new ≡ take os n → get new.owner_of n ≡ None
+  owner_taken new is = ap (λ (t : Owners). get t.owner_of n) is ∙ get-remove os.owner_of n n ∙ ap (λ b. cond b None (get os.owner_of n)) (eq-eqb n n refl)
+
+  -- under an owner that has its room a new item can be put, and one that was taken
+  module _ {Y : Type 0} (owners : List (Option Y)) (o : ℕ) (owners_reach : length owners ≤ os.owners_end) (items_reach : length rows ≤ os.items_end) (owner_room : within o (length owners - 1) ≡ true) where
+    pub can_put_new : within n (length rows - 1) ≡ true → is_some (row_at rows n) ≡ false → CanPut os n o
+    can_put_new room free =
+        let owner = fits_within owners o owner_room in
+        let item = fits_within rows n room in
+        record { owner_room = omega arith; room = omega arith; some = not_zero n _ room; free = owner_free free }
+
+    pub can_put_again : (new : Owners) → new ≡ take os n → Fits rows → is_some (row_at rows n) ≡ true → CanPut new n o
+    can_put_again new is fits there =
+        let owner = fits_within owners o owner_room in
+        let item = row_within rows n there in
+        let ends = ends_take os new n is in
+        record { owner_room = omega (arith, ends.owners); room = omega (arith, ends.items); some = row_not_zero rows n fits there; free = owner_taken new is }
+
+  -- the owners, where a row is written: a new one, none, or one of another owner
+  module _ (rows' : List (Option X)) where
+    owners_new : (x : X) → ((q : ℕ) → row_at rows' q ≡ cond (nat_eq q n) (Some x) (row_at rows q)) → table.put os.owner_of n (g x) ≡ table_of g rows'
+    owners_new x is = ap (λ t. table.put t n (g x)) of_rows ∙ sym (table_of-put g rows rows' n x is)
+
+    owners_gone : ((q : ℕ) → row_at rows' q ≡ cond (nat_eq q n) None (row_at rows q)) → table.remove os.owner_of n ≡ table_of g rows'
+    owners_gone is = ap (λ t. table.remove t n) of_rows ∙ sym (table_of-remove g rows rows' n is)
+
+    pub after_put : (new : Owners) (x : X) → new ≡ put os n (g x) → ((q : ℕ) → row_at rows' q ≡ cond (nat_eq q n) (Some x) (row_at rows q)) → new.owner_of ≡ table_of g rows'
+    after_put new x e is = ap (λ (t : Owners). t.owner_of) e ∙ owners_new x is
+
+    pub after_take : (new : Owners) → new ≡ take os n → ((q : ℕ) → row_at rows' q ≡ cond (nat_eq q n) None (row_at rows q)) → new.owner_of ≡ table_of g rows'
+    after_take new e is = ap (λ (t : Owners). t.owner_of) e ∙ owners_gone is
+
+    pub after_move : (between new : Owners) (x : X) → between ≡ take os n → new ≡ put between n (g x) → ((q : ℕ) → row_at rows' q ≡ cond (nat_eq q n) (Some x) (row_at rows q)) → new.owner_of ≡ table_of g rows'
+    after_move between new x e f is = ap (λ (t : Owners). t.owner_of) f ∙ ap (λ (t : Owners). table.put t.owner_of n (g x)) e ∙ put_after os.owner_of n (g x) ∙ owners_new x is
 
 module _ (solids : List (Option Bool)) (faces : List (Option FaceCell)) (loops : List (Option LoopCell)) (ss fs : Owners) (indexed : AreIndexed solids faces loops ss fs) where
   -- the loops' faces stay, or change with what stands beside them
@@ -188,8 +207,8 @@ module _ (solids : List (Option Bool)) (faces : List (Option FaceCell)) (loops :
   pub indexed_same_faces : (new : List (Option FaceCell)) → length new ≡ length faces → solid_numbers new ≡ solid_numbers faces → AreIndexed solids new loops ss fs
   indexed_same_faces new len e = indexed_faces new ss len (ends_same ss) (indexed.of_solids ∙ sym e)
 
-  pub indexed_solids : (new : List (Option Bool)) → length new ≡ length solids → AreIndexed new faces loops ss fs
-  indexed_solids new len = record { of_solids = indexed.of_solids; of_faces = indexed.of_faces; solid_owners = omega (arith, indexed.solid_owners, len); face_owners = indexed.face_owners; face_items = indexed.face_items; loop_items = indexed.loop_items }
+  pub indexed_solids : (new : List (Option Bool)) → length new ≤ ss.owners_end → AreIndexed new faces loops ss fs
+  indexed_solids new reach = record { of_solids = indexed.of_solids; of_faces = indexed.of_faces; solid_owners = reach; face_owners = indexed.face_owners; face_items = indexed.face_items; loop_items = indexed.loop_items }
 
   -- no number loses its room
   pub indexed_grown : (ss' fs' : Owners) → OwnersHaveGrown ss ss' → OwnersHaveGrown fs fs' → AreIndexed solids faces loops ss' fs'

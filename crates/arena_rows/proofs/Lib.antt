@@ -12,4 +12,4 @@ pub mod Indexed
 pub mod Nexts
 pub mod owner_chains_laws
 pub mod ring_spots_laws
-pub use Rattle.raw_ring.proofs.Mapping as RawMapping
+pub mod Common

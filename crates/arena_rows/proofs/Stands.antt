@@ -1,39 +1,40 @@
 -- What the model says, by the nodes.
-use Rattle.arena_rows.proofs.ring_spots_laws.SpotTables.{half_is, half_live, row_live, edges_at, key_is, got_loose}
-use Rattle.std.proofs.Common.{◌≡◌, ◌≢◌, ℕ, true, false, cond, [], Option, Some, None, unwrap_or, refl, sym, ap, subst, ◌∙◌, arith, inl, inr}
+use Rattle.arena_rows.proofs.ring_spots_laws.SpotTables.{edge_below, half_is, half_live, row_live, edges_at, key_is, got_loose}
+use Rattle.std.proofs.Common.{◌≡◌, ◌≢◌, ◌≤◌, ℕ, true, false, cond, [], Option, Some, None, unwrap_or, refl, sym, ap, subst, ◌∙◌, arith, inl, inr}
 use Rattle.std.proofs.lemmas.Bool.Decides.{eqb_tells}
 use Rattle.std.proofs.lemmas.Option.{same_Some}
 use Rattle.boundary_model.specs.Items.{IsIn, head_or}
 use Rattle.boundary_model.specs.Rings.{successor, predecessor}
 use Rattle.boundary_model.proofs.Rings.{next_is_successor, predecessor-successor}
+use Rattle.arena_rows.specs.declared.rows.FaceCell.{FaceCell}
 use Rattle.arena_rows.specs.declared.rows.LoopCell.{LoopCell}
 use Rattle.arena_rows.specs.declared.rows.StoredContent.{StoredContent}
 use Rattle.arena_rows.specs.declared.rows.StoredContent.TheVariants.{Empty, Lone, At}
-use Rattle.boundary_model.specs.HalfEdge.{plus, minus, edge_of, is_first}
+use Rattle.boundary_model.specs.HalfEdge.{code, plus, minus, edge_of, is_first}
+use Rattle.boundary_model.specs.declared.HalfEdge.{HalfEdge}
 use Rattle.boundary_model.specs.Table.{get}
 use Rattle.raw_cells.specs.Rows.{row_at}
-use Rattle.arena_rows.specs.Common.{ArenaRows, map_row, Store, loose_key, loose_ring, Spots, live, next, label, tail_at, ring, AreRings, store_of, RowsAreTied, stored_content, loop_row, HasEntry}
-use Rattle.boundary_model.specs.Model.{Model, lone, cycle, LoopRow, holds, items_of, has_half, tail, tail_in, loop_of, content, face_of, cycle_of, after, before, no_loop, no_edge}
+use Rattle.arena_rows.specs.Common.{ArenaRows, map_row, Store, loose_key, loose_ring, live, next, label, tail_at, ring, store_of, RowsAreTied, stored_content, face_row, loop_row, HasEntry}
+use Rattle.boundary_model.specs.Model.{lone, cycle, LoopRow, holds, items_of, has_half, tail, tail_in, loop_of, content, solid_of, outer, face_of, cycle_of, after, before, no_face, no_loop, no_edge}
 use Rattle.boundary_model.proofs.Tables.{first_where_is, first_where_zero}
 use Rattle.boundary_model.proofs.Models.{holds_in, in-holds}
-use Rattle.arena_rows.proofs.Views.{get-table_of}
+use Rattle.arena_rows.proofs.Views.{get-table_of, read_row}
 use Rattle.arena_rows.proofs.ring_spots_laws.SpotLaws.{ring_same, next_in_ring}
 
 module _ (arena : ArenaRows) (tied : RowsAreTied arena) where
-  abbrev spots : Spots
-  spots = arena.spots
-
-  abbrev rings : AreRings spots
-  rings = tied.rings
+  open arena use {spots}
+  open tied use {rings}
 
   abbrev store : Store
   store = store_of arena
 
-  abbrev model : Model
-  model = store.model
+  open store use {model}
 
   pub half_there : (h : ℕ) → has_half model h ≡ true → live spots h ≡ true
   half_there h e = half_live spots rings h e
+
+  pub edge_fits : (h : HalfEdge) → has_half model (code h) ≡ true → h.edge ≤ 1000000
+  edge_fits h there = edge_below h (rings.bound (code h) (half_there (code h) there))
 
   pub tail_is : (h : ℕ) → live spots h ≡ true → tail model h ≡ tail_at spots h
   unfolding tail
@@ -93,11 +94,19 @@ module _ (arena : ArenaRows) (tied : RowsAreTied arena) where
 
   pub content_row : (l : ℕ) (cell : LoopCell) → row_at arena.loops l ≡ Some cell → content model l ≡ stored_content spots cell.stored
   unfolding content
-  content_row l cell at = ap (λ o. (unwrap_or o no_loop).content) (get-table_of (loop_row spots) arena.loops l ∙ ap (map_row (loop_row spots)) at)
+  content_row l cell at = ap (λ o. (unwrap_or o no_loop).content) (read_row (loop_row spots) arena.loops l cell at)
 
   pub face_row_of : (l : ℕ) (cell : LoopCell) → row_at arena.loops l ≡ Some cell → face_of model l ≡ cell.face
   unfolding face_of
-  face_row_of l cell at = ap (λ o. (unwrap_or o no_loop).face) (get-table_of (loop_row spots) arena.loops l ∙ ap (map_row (loop_row spots)) at)
+  face_row_of l cell at = ap (λ o. (unwrap_or o no_loop).face) (read_row (loop_row spots) arena.loops l cell at)
+
+  pub solid_row_of : (f : ℕ) (cell : FaceCell) → row_at arena.faces f ≡ Some cell → solid_of model f ≡ cell.solid
+  unfolding solid_of
+  solid_row_of f cell at = ap (λ o. (unwrap_or o no_face).solid) (read_row face_row arena.faces f cell at)
+
+  pub outer_row_of : (f : ℕ) (cell : FaceCell) → row_at arena.faces f ≡ Some cell → outer model f ≡ cell.outer
+  unfolding outer
+  outer_row_of f cell at = ap (λ o. (unwrap_or o no_face).outer) (read_row face_row arena.faces f cell at)
 
   pub loose_key_is : (h : ℕ) → live spots h ≡ true → label spots h ≡ 0 → loose_key store h ≡ head_or 0 (ring spots h)
   unfolding loose_key
@@ -116,19 +125,19 @@ module _ (arena : ArenaRows) (tied : RowsAreTied arena) where
       let i : IsIn h (ring spots r) = subst (λ z. IsIn z (ring spots r)) e (next_in_ring spots rings r a) in
       sym (predecessor-successor r (ring spots r) o.apart o.item) ∙ ap (predecessor (ring spots r)) (sym (next_successor r a) ∙ e) ∙ ap (λ hs. predecessor hs h) (sym (ring_same spots rings r h a i))
 
-  pub after_is : (h : ℕ) → live spots h ≡ true → loop_of model h ≢ 0 → next spots h ≡ after model h
+  pub after_is : (h : ℕ) → has_half model h ≡ true → loop_of model h ≢ 0 → next spots h ≡ after model h
   unfolding after
-  after_is h a n = next_successor h a ∙ ap (λ hs. successor hs h) (sym (cycle_of_is h a (λ z. n (loop_of_is h a ∙ z))))
+  after_is h there n = let a = half_there h there in next_successor h a ∙ ap (λ hs. successor hs h) (sym (cycle_of_is h a (λ z. n (loop_of_is h a ∙ z))))
 
-  pub loose_after : (h : ℕ) → live spots h ≡ true → loop_of model h ≡ 0 → next spots h ≡ successor (loose_ring store h) h
-  loose_after h a z = next_successor h a ∙ ap (λ hs. successor hs h) (sym (loose_ring_is h a (sym (loop_of_is h a) ∙ z)))
+  pub loose_after : (h : ℕ) → has_half model h ≡ true → loop_of model h ≡ 0 → next spots h ≡ successor (loose_ring store h) h
+  loose_after h there z = let a = half_there h there in next_successor h a ∙ ap (λ hs. successor hs h) (sym (loose_ring_is h a (sym (loop_of_is h a) ∙ z)))
 
-  pub before_is : (h r : ℕ) → live spots h ≡ true → live spots r ≡ true → next spots r ≡ h → loop_of model h ≢ 0 → r ≡ before model h
+  pub before_is : (h r : ℕ) → has_half model h ≡ true → live spots r ≡ true → next spots r ≡ h → loop_of model h ≢ 0 → r ≡ before model h
   unfolding before
-  before_is h r a b e n = prev_predecessor h r b e ∙ ap (λ hs. predecessor hs h) (sym (cycle_of_is h a (λ z. n (loop_of_is h a ∙ z))))
+  before_is h r there b e n = let a = half_there h there in prev_predecessor h r b e ∙ ap (λ hs. predecessor hs h) (sym (cycle_of_is h a (λ z. n (loop_of_is h a ∙ z))))
 
-  pub loose_before : (h r : ℕ) → live spots h ≡ true → live spots r ≡ true → next spots r ≡ h → loop_of model h ≡ 0 → r ≡ predecessor (loose_ring store h) h
-  loose_before h r a b e z = prev_predecessor h r b e ∙ ap (λ hs. predecessor hs h) (sym (loose_ring_is h a (sym (loop_of_is h a) ∙ z)))
+  pub loose_before : (h r : ℕ) → has_half model h ≡ true → live spots r ≡ true → next spots r ≡ h → loop_of model h ≡ 0 → r ≡ predecessor (loose_ring store h) h
+  loose_before h r there b e z = let a = half_there h there in prev_predecessor h r b e ∙ ap (λ hs. predecessor hs h) (sym (loose_ring_is h a (sym (loop_of_is h a) ∙ z)))
 
   pub entry_in : (l c : ℕ) (cell : LoopCell) → row_at arena.loops l ≡ Some cell → cell.stored ≡ At c → IsIn c (ring spots c)
   entry_in l c cell at e = (rings.rings c (subst (HasEntry spots l) e (tied.loops_tied.entries l cell at)).0).item

@@ -25,6 +25,16 @@ pub record IsRefilled (rows new : List (Option LoopCell)) (l : ℕ) (x : StoredC
   pub len : length new ≡ length rows
   pub is : (q : ℕ) → row_at new q ≡ cond (nat_eq q l) (Some (record { face = cell.face; stored = x })) (row_at rows q)
 
+-- by a read of its row and a write, under the number n that is l
+abbrev pub refilled_at : {old new : List (Option LoopCell)} {l n : ℕ} {x : StoredContent} (cell : LoopCell) → l ≡ n → row_at old n ≡ Some cell →
+    record { rows : (q : ℕ) → row_at new q ≡ cond (nat_eq q n) (Some (record { face = cell.face; stored = x })) (row_at old q); len : length new ≡ length old } → IsRefilled old new l x
+refilled_at {old} {new} {l} {n} {x} cell e found set = record {
+  cell = cell;
+  found = ap (row_at old) e ∙ found;
+  len = set.len;
+  is = λ q. set.rows q ∙ ap (λ k. cond (nat_eq q k) (Some (record { face = cell.face; stored = x })) (row_at old q)) (sym e);
+}
+
 module _ {rows new : List (Option LoopCell)} {l : ℕ} {x : StoredContent} (w : IsRefilled rows new l x) where
   pub refilled_here : row_at new l ≡ Some (record { face = w.cell.face; stored = x })
   refilled_here = row_here rows new l _ w.is

@@ -2,7 +2,7 @@
 use Rattle.std.proofs.Common.{◌≡◌, ◌≢◌, ℕ, ◌≤◌, ◌<◌, Bool, true, false, cond, nat_lt, nat_le, ◌&&◌, List, [], ◌∷◌, Option, Some, None, is_some, unwrap_or, refl, sym, ap, subst, ◌∙◌, arith, true≢false, eq-eqb, ne_eqb, ◌⊎◌, inl, inr}
 use Rattle.std.proofs.lemmas.Bool.Decides.{nat_tests, eqb_tells}
 use Rattle.std.proofs.lemmas.Bool.{false_from_ne_true}
-use Rattle.raw_ring.specs.Rings.{Spot, or_zero, of_spot, ring_of_one}
+use Rattle.raw_ring.specs.Rings.{RingMap, Spot, spot, next_of, or_zero, of_spot, ring_of_one}
 use Rattle.boundary_model.specs.Items.{IsIn, head_or}
 use Rattle.boundary_model.proofs.Lists.{tick_le}
 use Rattle.boundary_model.proofs.Rotations.{IsIn_head, canonical_one}
@@ -14,6 +14,7 @@ use Rattle.boundary_model.proofs.Tests.{and_first, and_second}
 use Rattle.boundary_model.proofs.Members.{IsIn_one}
 use Rattle.arena_rows.specs.Common.{Spots, codes, edges_end, live, next, label, tail_at, ring, map_spot, woken, asleep, IsRingOf, AreRings, edge_row, both_tails, loose_row, edge_room}
 use Rattle.arena_rows.specs.ring_spots.Spots.{set_tail}
+use Rattle.arena_rows.proofs.ring_spots_laws.RingMaps.{next_some}
 use Rattle.arena_rows.proofs.ring_spots_laws.SpotLaws.{AreRings-set_tail, live-set_tail, ring_kept, ring_of, ring_same, next_in_ring}
 use Rattle.arena_rows.proofs.ring_spots_laws.SpotTables.{half_is, row_live, edges_at, loose_row_is, loose_at, loose_row_means, loose_dead, loose_kept, codes_are, edge_has, edge_has_room}
 
@@ -213,64 +214,67 @@ module _ (sp : Spots) (R : AreRings sp) where
           ap is_some (s_other (mate c) n m) ∙ R.mates c l.2;
     }
 
+  -- a loose code that is alone in its ring
+  module _ (k : ℕ) (at : get (tabulate (loose_row sp) codes) k ≡ Some (k ∷ [])) where
+    alone_code : (live sp k ≡ true) × (label sp k ≡ 0) × (head_or 0 (ring sp k) ≡ k) × (ring sp k ≡ k ∷ [])
+    alone_code = loose_row_means sp R k (k ∷ []) (sym (loose_at sp R k) ∙ at)
+
+    pub alone_ring : ring sp k ≡ k ∷ []
+    alone_ring = alone_code.3
+
+    alone_next : next sp k ≡ k
+    alone_next = IsIn_one k (next sp k) (subst (IsIn (next sp k)) alone_ring (next_in_ring sp R k alone_code.0))
+
   -- an edge whose two half-edges are loose, each alone
   module _ (e : ℕ) (at_plus : get (tabulate (loose_row sp) codes) (plus e) ≡ Some (plus e ∷ [])) (at_minus : get (tabulate (loose_row sp) codes) (minus e) ≡ Some (minus e ∷ [])) where
     abbrev less : Spots
     less = asleep (asleep sp (plus e)) (minus e)
 
-    t_plus : (live sp (plus e) ≡ true) × (label sp (plus e) ≡ 0) × (head_or 0 (ring sp (plus e)) ≡ plus e) × (ring sp (plus e) ≡ plus e ∷ [])
-    t_plus = loose_row_means sp R (plus e) (plus e ∷ []) (sym (loose_at sp R (plus e)) ∙ at_plus)
+    one_plus : ring sp (plus e) ≡ plus e ∷ []
+    one_plus = alone_ring (plus e) at_plus
 
-    t_minus : (live sp (minus e) ≡ true) × (label sp (minus e) ≡ 0) × (head_or 0 (ring sp (minus e)) ≡ minus e) × (ring sp (minus e) ≡ minus e ∷ [])
-    t_minus = loose_row_means sp R (minus e) (minus e ∷ []) (sym (loose_at sp R (minus e)) ∙ at_minus)
-
-    pub ring_of_plus : ring sp (plus e) ≡ plus e ∷ []
-    ring_of_plus = t_plus.3
-
-    pub ring_of_minus : ring sp (minus e) ≡ minus e ∷ []
-    ring_of_minus = t_minus.3
-
-    pub alone_plus : next sp (plus e) ≡ plus e
-    alone_plus = IsIn_one (plus e) (next sp (plus e)) (subst (IsIn (next sp (plus e))) t_plus.3 (next_in_ring sp R (plus e) t_plus.0))
-
-    pub alone_minus : next sp (minus e) ≡ minus e
-    alone_minus = IsIn_one (minus e) (next sp (minus e)) (subst (IsIn (next sp (minus e))) t_minus.3 (next_in_ring sp R (minus e) t_minus.0))
-
-    pub live_plus : live sp (plus e) ≡ true
-    live_plus = t_plus.0
-
-    pub live_minus : live sp (minus e) ≡ true
-    live_minus = t_minus.0
+    one_minus : ring sp (minus e) ≡ minus e ∷ []
+    one_minus = alone_ring (minus e) at_minus
 
     pub s_label : (x : ℕ) → x ≢ plus e → x ≢ minus e → label less x ≡ label sp x
-    s_label x n m = ap (λ o. or_zero (of_spot (λ s. s.label) o)) (s_other e t_plus.3 t_minus.3 x n m)
+    s_label x n m = ap (λ o. or_zero (of_spot (λ s. s.label) o)) (s_other e one_plus one_minus x n m)
 
     -- a labelled code is neither
     pub s_named : (x : ℕ) → label sp x ≢ 0 → (x ≢ plus e) × (x ≢ minus e)
-    s_named x n = (λ q. n (ap (label sp) q ∙ t_plus.1), λ q. n (ap (label sp) q ∙ t_minus.1))
+    s_named x n = (λ q. n (ap (label sp) q ∙ (alone_code (plus e) at_plus).1), λ q. n (ap (label sp) q ∙ (alone_code (minus e) at_minus).1))
 
     s_loose_old : (k : ℕ) → k ≢ plus e → k ≢ minus e → loose_row less k ≡ loose_row sp k
-    s_loose_old k n m = loose_kept sp less k (ap is_some (s_other e t_plus.3 t_minus.3 k n m)) (λ h. (s_label k n m, (s_ring e t_plus.3 t_minus.3 k h n m).0))
+    s_loose_old k n m = loose_kept sp less k (ap is_some (s_other e one_plus one_minus k n m)) (λ h. (s_label k n m, (s_ring e one_plus one_minus k h n m).0))
 
     abbrev loose2 : Table (List ℕ)
     loose2 = remove (tabulate (loose_row sp) codes) (plus e)
 
     pub s_loose : tabulate (loose_row less) codes ≡ remove loose2 (minus e)
-    s_loose = same_table (tabulate (loose_row less) codes) (remove loose2 (minus e)) (λ k. loose_at less (s_rings e t_plus.3 t_minus.3) k ∙ elim (eqb_tells k (minus e)) [
-      | inl p ↦ ap (loose_row less) p.1 ∙ loose_dead less (minus e) (ap is_some (s_minus e t_plus.3 t_minus.3)) ∙ sym (get-remove loose2 (minus e) k ∙ ap (λ b. cond b None (get loose2 k)) p.0)
+    s_loose = same_table (tabulate (loose_row less) codes) (remove loose2 (minus e)) (λ k. loose_at less (s_rings e one_plus one_minus) k ∙ elim (eqb_tells k (minus e)) [
+      | inl p ↦ ap (loose_row less) p.1 ∙ loose_dead less (minus e) (ap is_some (s_minus e one_plus one_minus)) ∙ sym (get-remove loose2 (minus e) k ∙ ap (λ b. cond b None (get loose2 k)) p.0)
       | inr p ↦ elim (eqb_tells k (plus e)) [
-        | inl r ↦ ap (loose_row less) r.1 ∙ loose_dead less (plus e) (ap is_some (s_plus e t_plus.3 t_minus.3)) ∙ sym (get-remove loose2 (minus e) k ∙ ap (λ b. cond b None (get loose2 k)) p.0 ∙ get-remove (tabulate (loose_row sp) codes) (plus e) k ∙ ap (λ b. cond b None (get (tabulate (loose_row sp) codes) k)) r.0)
+        | inl r ↦ ap (loose_row less) r.1 ∙ loose_dead less (plus e) (ap is_some (s_plus e one_plus one_minus)) ∙ sym (get-remove loose2 (minus e) k ∙ ap (λ b. cond b None (get loose2 k)) p.0 ∙ get-remove (tabulate (loose_row sp) codes) (plus e) k ∙ ap (λ b. cond b None (get (tabulate (loose_row sp) codes) k)) r.0)
         | inr r ↦ s_loose_old k r.1 p.1 ∙ sym (loose_at sp R k) ∙ sym (get-remove loose2 (minus e) k ∙ ap (λ b. cond b None (get loose2 k)) p.0 ∙ get-remove (tabulate (loose_row sp) codes) (plus e) k ∙ ap (λ b. cond b None (get (tabulate (loose_row sp) codes) k)) r.0)
       ]
     ])
 
     pub s_edges : tabulate (edge_row less) codes ≡ remove (tabulate (edge_row sp) codes) e
-    s_edges = same_table (tabulate (edge_row less) codes) (remove (tabulate (edge_row sp) codes) e) (λ k. edges_at less (s_rings e t_plus.3 t_minus.3) k ∙ elim (eqb_tells k e) [
-      | inl p ↦ ap (edge_row less) p.1 ∙ (λ i. both_tails (s_plus e t_plus.3 t_minus.3 i) (less (minus e))) ∙ sym (get-remove (tabulate (edge_row sp) codes) e k ∙ ap (λ b. cond b None (get (tabulate (edge_row sp) codes) k)) p.0)
+    s_edges = same_table (tabulate (edge_row less) codes) (remove (tabulate (edge_row sp) codes) e) (λ k. edges_at less (s_rings e one_plus one_minus) k ∙ elim (eqb_tells k e) [
+      | inl p ↦ ap (edge_row less) p.1 ∙ (λ i. both_tails (s_plus e one_plus one_minus i) (less (minus e))) ∙ sym (get-remove (tabulate (edge_row sp) codes) e k ∙ ap (λ b. cond b None (get (tabulate (edge_row sp) codes) k)) p.0)
       | inr p ↦
-          (λ i. both_tails (s_other e t_plus.3 t_minus.3 (plus k) (λ q. p.1 (omega arith)) (λ q. omega arith) i) (s_other e t_plus.3 t_minus.3 (minus k) (λ q. omega arith) (λ q. p.1 (omega arith)) i))
+          (λ i. both_tails (s_other e one_plus one_minus (plus k) (λ q. p.1 (omega arith)) (λ q. omega arith) i) (s_other e one_plus one_minus (minus k) (λ q. omega arith) (λ q. p.1 (omega arith)) i))
           ∙ sym (edges_at sp R k) ∙ sym (get-remove (tabulate (edge_row sp) codes) e k ∙ ap (λ b. cond b None (get (tabulate (edge_row sp) codes) k)) p.0)
     ])
+
+-- such an edge can be taken
+pub edge_alone : (m : RingMap) (R : AreRings (spot m)) (e : ℕ) → (get (tabulate (loose_row (spot m)) codes) (plus e) ≡ Some (plus e ∷ [])) → (get (tabulate (loose_row (spot m)) codes) (minus e) ≡ Some (minus e ∷ [])) →
+    record { limit : e ≤ 1000000; first : next_of m (plus e) ≡ Some (plus e); second : next_of m (minus e) ≡ Some (minus e) }
+edge_alone m R e at_plus at_minus =
+    let below = R.bound (plus e) (alone_code (spot m) R (plus e) at_plus).0 in
+    record { limit = omega (arith, codes_are); first = next_alone (plus e) at_plus; second = next_alone (minus e) at_minus }
+  where
+    next_alone : (k : ℕ) → get (tabulate (loose_row (spot m)) codes) k ≡ Some (k ∷ []) → next_of m k ≡ Some k
+    next_alone k at = next_some m k (alone_code (spot m) R k at).0 ∙ ap Some (alone_next (spot m) R k at)
 
 -- what the room of a free edge says
 pub record IsFree (sp : Spots) (known : ℕ → Bool) (e : ℕ) : Type 0 where

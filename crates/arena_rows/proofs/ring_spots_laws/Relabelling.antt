@@ -11,7 +11,7 @@ use Rattle.boundary_model.proofs.Rings.{orbit_from}
 use Rattle.boundary_model.proofs.Places.{walk_to_more}
 use Rattle.arena_rows.specs.Common.{Spots, codes, live, next, ring, is_in, map_spot, labelled, AreRings, PartlyLabelled}
 use Rattle.boundary_model.proofs.Members.{length_below}
-use Rattle.arena_rows.proofs.ring_spots_laws.SpotLaws.{either, next-labelled, live-labelled, next_in_ring, ring_same, is_in-yes, is_in-no, next-label, live-map}
+use Rattle.arena_rows.proofs.ring_spots_laws.SpotLaws.{either, next-labelled, live-labelled, next_in_ring, ring_same, is_in-yes, is_in-no, part-kept, live-map}
 
 -- the walk round a ring meets its items
 pub walk_items : (sp : Spots) (R : AreRings sp) (from n : ℕ) → live sp from ≡ true → n ≡ codes → (x : ℕ) → count x (walk_to (next sp) from from n) ≡ count x (ring sp from)
@@ -109,4 +109,4 @@ label_step m new h l q e = ap is_some (known_step m new h l e q) ∙ either is_s
 
 pub next_step : (m new : RingMap) (h l : ℕ) → new ≡ set_label m h l → {n : ℕ} → next (spot m) h ≡ n → (x : ℕ) → next_of new h ≡ Some x → n ≡ x
 next_step m new h l e {n = n} was x is = sym (sym (ap or_zero is) ∙ ap (λ o. or_zero (of_spot (λ s. s.next) o)) (known_step m new h l e h)
-    ∙ either (λ o. or_zero (of_spot (λ s. s.next) o)) (nat_eq h h) _ _ _ (next-label l (spot m h)) refl ∙ was)
+    ∙ either (λ o. or_zero (of_spot (λ s. s.next) o)) (nat_eq h h) _ _ _ (part-kept _ _ (λ s. refl) (spot m h)) refl ∙ was)

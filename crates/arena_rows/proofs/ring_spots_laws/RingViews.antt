@@ -31,19 +31,15 @@ module _ (rows : List (Option Label)) (m : RingMap) where
   pub seen_label : (q : ℕ) → live (spot m) q ≡ true → label (spot (map_in_loops rows m)) q ≡ loop_at rows (label (spot m) q)
   seen_label q a = ap (λ (s : Spots). label s q) (spot-loops rows m) ∙ label-loops rows (spot m) q a
 
-  same_links : (o : Option Spot) → of_spot (λ s. s.next) (map_spot (with_loop rows) o) ≡ of_spot (λ s. s.next) o
-  same_links None = refl
-  same_links (Some s) = refl
-
-  same_tails : (o : Option Spot) → of_spot (λ s. s.tail) (map_spot (with_loop rows) o) ≡ of_spot (λ s. s.tail) o
-  same_tails None = refl
-  same_tails (Some s) = refl
+  same_part : (g : Spot → ℕ) → ((s : Spot) → g (with_loop rows s) ≡ g s) → (o : Option Spot) → of_spot g (map_spot (with_loop rows) o) ≡ of_spot g o
+  same_part g same None = refl
+  same_part g same (Some s) = ap Some (same s)
 
   pub seen_next : (q : ℕ) → next_of (map_in_loops rows m) q ≡ next_of m q
-  seen_next q = ap (λ (s : Spots). of_spot (λ (t : Spot). t.next) (s q)) (spot-loops rows m) ∙ same_links (spot m q)
+  seen_next q = ap (λ (s : Spots). of_spot (λ (t : Spot). t.next) (s q)) (spot-loops rows m) ∙ same_part _ (λ s. refl) (spot m q)
 
   pub seen_tail : (q : ℕ) → tail_of (map_in_loops rows m) q ≡ tail_of m q
-  seen_tail q = ap (λ (s : Spots). of_spot (λ (t : Spot). t.tail) (s q)) (spot-loops rows m) ∙ same_tails (spot m q)
+  seen_tail q = ap (λ (s : Spots). of_spot (λ (t : Spot). t.tail) (s q)) (spot-loops rows m) ∙ same_part _ (λ s. refl) (spot m q)
 
   pub seen_label_of : (q l : ℕ) → live (spot m) q ≡ true → l ≡ loop_at rows (label (spot m) q) → label_of (map_in_loops rows m) q ≡ Some l
   seen_label_of q l a e = ap (λ (s : Spots). of_spot (λ (t : Spot). t.label) (s q)) (spot-loops rows m) ∙ label-with_loop (spot m q) a e where

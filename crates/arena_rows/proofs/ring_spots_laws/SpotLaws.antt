@@ -68,29 +68,13 @@ pub live-map : (f : Spot → Spot) (o : Option Spot) → is_some (map_spot f o) 
 live-map f None = refl
 live-map f (Some s) = refl
 
-pub next-label : (l : ℕ) (o : Option Spot) → or_zero (of_spot (λ s. s.next) (map_spot (λ s. record s { label = l }) o)) ≡ or_zero (of_spot (λ s. s.next) o)
-next-label l None = refl
-next-label l (Some s) = refl
+pub part-kept : (f : Spot → Spot) (g : Spot → ℕ) → ((s : Spot) → g (f s) ≡ g s) → (o : Option Spot) → or_zero (of_spot g (map_spot f o)) ≡ or_zero (of_spot g o)
+part-kept f g same None = refl
+part-kept f g same (Some s) = same s
 
-next-tail : (t : ℕ) (o : Option Spot) → or_zero (of_spot (λ s. s.next) (map_spot (λ s. record s { tail = t }) o)) ≡ or_zero (of_spot (λ s. s.next) o)
-next-tail t None = refl
-next-tail t (Some s) = refl
-
-label-tail : (t : ℕ) (o : Option Spot) → or_zero (of_spot (λ s. s.label) (map_spot (λ s. record s { tail = t }) o)) ≡ or_zero (of_spot (λ s. s.label) o)
-label-tail t None = refl
-label-tail t (Some s) = refl
-
-label-link : (n : ℕ) (o : Option Spot) → or_zero (of_spot (λ s. s.label) (map_spot (λ s. record s { next = n }) o)) ≡ or_zero (of_spot (λ s. s.label) o)
-label-link n None = refl
-label-link n (Some s) = refl
-
-label-label : (l : ℕ) (o : Option Spot) → is_some o ≡ true → or_zero (of_spot (λ s. s.label) (map_spot (λ s. record s { label = l }) o)) ≡ l
-label-label l None e = absurd (true≢false (sym e))
-label-label l (Some s) e = refl
-
-next-link : (n : ℕ) (o : Option Spot) → is_some o ≡ true → or_zero (of_spot (λ s. s.next) (map_spot (λ s. record s { next = n }) o)) ≡ n
-next-link n None e = absurd (true≢false (sym e))
-next-link n (Some s) e = refl
+part-new : (f : Spot → Spot) (g : Spot → ℕ) (x : ℕ) → ((s : Spot) → g (f s) ≡ x) → (o : Option Spot) → is_some o ≡ true → or_zero (of_spot g (map_spot f o)) ≡ x
+part-new f g x is None e = absurd (true≢false (sym e))
+part-new f g x is (Some s) e = is s
 
 -- either branch
 pub either : {X Y : Type 0} (f : X → Y) (b : Bool) (x y : X) (z : Y) → f x ≡ z → f y ≡ z → f (cond b x y) ≡ z
@@ -108,19 +92,19 @@ module _ (sp : Spots) where
   live-set_tail c t x = either is_some (nat_eq x c) _ _ _ (live-map _ (sp x)) refl
 
   pub next-set_tail : (c t x : ℕ) → next (set_tail sp c t) x ≡ next sp x
-  next-set_tail c t x = either (λ o. or_zero (of_spot (λ s. s.next) o)) (nat_eq x c) _ _ _ (next-tail t (sp x)) refl
+  next-set_tail c t x = either (λ o. or_zero (of_spot (λ s. s.next) o)) (nat_eq x c) _ _ _ (part-kept _ _ (λ s. refl) (sp x)) refl
 
   pub label-set_tail : (c t x : ℕ) → label (set_tail sp c t) x ≡ label sp x
-  label-set_tail c t x = either (λ o. or_zero (of_spot (λ s. s.label) o)) (nat_eq x c) _ _ _ (label-tail t (sp x)) refl
+  label-set_tail c t x = either (λ o. or_zero (of_spot (λ s. s.label) o)) (nat_eq x c) _ _ _ (part-kept _ _ (λ s. refl) (sp x)) refl
 
   pub live-labelled : (l : ℕ) (hs : List ℕ) (x : ℕ) → live (labelled sp l hs) x ≡ live sp x
   live-labelled l hs x = either is_some (is_in x hs) _ _ _ (live-map _ (sp x)) refl
 
   pub next-labelled : (l : ℕ) (hs : List ℕ) (x : ℕ) → next (labelled sp l hs) x ≡ next sp x
-  next-labelled l hs x = either (λ o. or_zero (of_spot (λ s. s.next) o)) (is_in x hs) _ _ _ (next-label l (sp x)) refl
+  next-labelled l hs x = either (λ o. or_zero (of_spot (λ s. s.next) o)) (is_in x hs) _ _ _ (part-kept _ _ (λ s. refl) (sp x)) refl
 
   pub label-labelled_in : (l : ℕ) (hs : List ℕ) (x : ℕ) → IsIn x hs → live sp x ≡ true → label (labelled sp l hs) x ≡ l
-  label-labelled_in l hs x i a = ap (λ b. or_zero (of_spot (λ s. s.label) (cond b (map_spot (λ s. record s { label = l }) (sp x)) (sp x)))) (is_in-yes x hs i) ∙ label-label l (sp x) a
+  label-labelled_in l hs x i a = ap (λ b. or_zero (of_spot (λ s. s.label) (cond b (map_spot (λ s. record s { label = l }) (sp x)) (sp x)))) (is_in-yes x hs i) ∙ part-new _ _ l (λ s. refl) (sp x) a
 
   pub label-labelled_out : (l : ℕ) (hs : List ℕ) (x : ℕ) → count x hs ≡ 0 → label (labelled sp l hs) x ≡ label sp x
   label-labelled_out l hs x n = ap (λ b. or_zero (of_spot (λ s. s.label) (cond b (map_spot (λ s. record s { label = l }) (sp x)) (sp x)))) (is_in-no x hs n)
@@ -129,10 +113,10 @@ module _ (sp : Spots) where
   live-spliced a b x = live-map _ (sp x)
 
   pub label-spliced : (a b x : ℕ) → label (spliced sp a b) x ≡ label sp x
-  label-spliced a b x = label-link _ (sp x)
+  label-spliced a b x = part-kept _ _ (λ s. refl) (sp x)
 
   pub next-spliced : (a b x : ℕ) → live sp x ≡ true → next (spliced sp a b) x ≡ splice (next sp) a b x
-  next-spliced a b x h = next-link _ (sp x) h
+  next-spliced a b x h = part-new _ _ _ (λ s. refl) (sp x) h
 
 -- ---- the rings stay rings
 

@@ -47,23 +47,17 @@ returns-then-row-label-clause-spots c = seen-cut_alone _ _ _ _ _ _ _ c.splice.en
 pub returns-then-row-label-clause-known : goal.returns-then-row-label-clause-known
 returns-then-row-label-clause-known c = c.give_up_label.ensures.known ∙ c.splice.ensures.known
 
-pub returns-else-row-label-clause-whole : goal.returns-else-row-label-clause-whole
-returns-else-row-label-clause-whole c =
-    let g = off (goal.at.returns-else-row-label-clause-whole c).Start in
+pub returns-else-row-label : goal.returns-else-row-label
+returns-else-row-label c =
+    let g = off (goal.at.returns-else-row-label c).Start in
     let whole = labelled_off _ _ _ c.requires.whole c.args.a c.args.b (IsLive-next _ _ _ c.requires.follows) (ap or_zero c.requires.follows) c.requires.apart _ _ c.splice.ensures.spots c.splice.ensures.known _ (ap (λ (r : Label). r.own) c.row_of-row.ensures)
     (λ e. c.if-row-label.false (e ∙ ap or_zero c.label.ensures)) (c.requires.whole.table.codes_there _ (live_known _ _ g.b_there)) in
-    labelled_alike _ _ _ _ (subst (λ k. AreLabelled (spot c.set_label.new.rings) k c.args.labels.now) (sym c.set_label.ensures.known)
-    (subst (λ s. AreLabelled s (contains_key c.splice.new.rings) c.args.labels.now) (sym c.set_label.ensures.spots) whole))
-    c.stand_for_own.ensures.own c.stand_for_own.ensures.holder c.stand_for_own.ensures.there
-
-pub returns-else-row-label-clause-spots : goal.returns-else-row-label-clause-spots
-returns-else-row-label-clause-spots c =
-    let g = off (goal.at.returns-else-row-label-clause-spots c).Start in
-    let whole = labelled_off _ _ _ c.requires.whole c.args.a c.args.b (IsLive-next _ _ _ c.requires.follows) (ap or_zero c.requires.follows) c.requires.apart _ _ c.splice.ensures.spots c.splice.ensures.known _ (ap (λ (r : Label). r.own) c.row_of-row.ensures)
-    (λ e. c.if-row-label.false (e ∙ ap or_zero c.label.ensures)) (c.requires.whole.table.codes_there _ (live_known _ _ g.b_there)) in
-    seen-cut_alone _ _ _ _ _ _ _ c.splice.ensures.spots
-    (seen-apart (spot c.splice.new.rings) _ c.args.labels.now c.args.labels.now c.args.b _ (subst AreRings (sym c.splice.ensures.spots) g.rings) (ap (λ (s : Spots). live s c.args.b) c.splice.ensures.spots ∙ g.live_cut) whole
-    c.args.l _ _ c.set_label.ensures.spots refl c.stand_for_own.ensures.loops)
-
-pub returns-else-row-label-clause-known : goal.returns-else-row-label-clause-known
-returns-else-row-label-clause-known c = c.set_label.ensures.known ∙ c.splice.ensures.known
+    record {
+      whole = labelled_alike _ _ _ _ (subst (λ k. AreLabelled (spot c.set_label.new.rings) k c.args.labels.now) (sym c.set_label.ensures.known)
+          (subst (λ s. AreLabelled s (contains_key c.splice.new.rings) c.args.labels.now) (sym c.set_label.ensures.spots) whole))
+          c.stand_for_own.ensures.own c.stand_for_own.ensures.holder c.stand_for_own.ensures.there;
+      spots = seen-cut_alone _ _ _ _ _ _ _ c.splice.ensures.spots
+          (seen-apart (spot c.splice.new.rings) _ c.args.labels.now c.args.labels.now c.args.b _ (subst AreRings (sym c.splice.ensures.spots) g.rings) (ap (λ (s : Spots). live s c.args.b) c.splice.ensures.spots ∙ g.live_cut) whole
+          c.args.l _ _ c.set_label.ensures.spots refl c.stand_for_own.ensures.loops);
+      known = c.set_label.ensures.known ∙ c.splice.ensures.known;
+    }

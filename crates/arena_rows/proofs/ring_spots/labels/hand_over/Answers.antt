@@ -14,14 +14,10 @@ tie-requires-2-clause-code c = ap (λ (t : ℕ → Bool). t c.args.code) c.tie.e
 pub tie-requires-2-clause-label : goal.tie-requires-2-clause-label
 tie-requires-2-clause-label c = ap (λ (t : ℕ → Bool). t c.args.label) c.tie.ensures.there ∙ c.requires.label
 
-pub returns-clause-own : goal.returns-clause-own
-returns-clause-own c q = c.tie-2.ensures.own q ∙ ap (cond (nat_eq q c.args.code) c.args.label) (c.tie.ensures.own q ∙ (λ i. cond (nat_eq q (c.holder-before.ensures i)) (c.own-other.ensures i) (own c.args.labels.now q)))
-
-pub returns-clause-holder : goal.returns-clause-holder
-returns-clause-holder c q = c.tie-2.ensures.holder q ∙ ap (cond (nat_eq q c.args.label) c.args.code) (c.tie.ensures.holder q ∙ (λ i. cond (nat_eq q (c.own-other.ensures i)) (c.holder-before.ensures i) (holder c.args.labels.now q)))
-
-pub returns-clause-loops : goal.returns-clause-loops
-returns-clause-loops c = c.tie-2.ensures.loops ∙ c.tie.ensures.loops
-
-pub returns-clause-there : goal.returns-clause-there
-returns-clause-there c = c.tie-2.ensures.there ∙ c.tie.ensures.there
+pub returns : goal.returns
+returns c = record {
+  own = λ q. c.tie-2.ensures.own q ∙ ap (cond (nat_eq q c.args.code) c.args.label) (c.tie.ensures.own q ∙ (λ i. cond (nat_eq q (c.holder-before.ensures i)) (c.own-other.ensures i) (own c.args.labels.now q)));
+  holder = λ q. c.tie-2.ensures.holder q ∙ ap (cond (nat_eq q c.args.label) c.args.code) (c.tie.ensures.holder q ∙ (λ i. cond (nat_eq q (c.own-other.ensures i)) (c.holder-before.ensures i) (holder c.args.labels.now q)));
+  loops = c.tie-2.ensures.loops ∙ c.tie.ensures.loops;
+  there = c.tie-2.ensures.there ∙ c.tie.ensures.there;
+}

@@ -26,24 +26,21 @@ next-h-requires c =
     label_step c.round.rings c.set_label.new.self c.round.h c.args.l c.round.h c.set_label.ensures
     ∙ partly_live _ _ _ _ _ c.round.invariant.done c.round.h ∙ (c.requires.rings.rings c.args.from c.requires.there).awake c.round.h c.round.invariant.here
 
-pub returns-then-h-from-clause-spots : goal.returns-then-h-from-clause-spots
-returns-then-h-from-clause-spots c =
-    partly_last (spot c.args.rings.now) (spot c.round.rings) (spot c.set_label.new.self) c.args.l c.args.from c.round.h c.next-h.result (codes - c.round.counter) (ring (spot c.args.rings.now) c.args.from) (omega (arith, codes_are)) c.round.invariant.done
-    (known_step c.round.rings c.set_label.new.self c.round.h c.args.l c.set_label.ensures)
-    (next_step c.round.rings c.set_label.new.self c.round.h c.args.l c.set_label.ensures (partly_next _ _ _ _ _ c.round.invariant.done c.round.h) c.next-h.result c.next-h.ensures.next) c.if-h-from.true
-
-pub returns-then-h-from-clause-known : goal.returns-then-h-from-clause-known
-returns-then-h-from-clause-known c = ap (λ (m : RingMap). contains_key m) c.set_label.ensures ∙ (λ i q. known-with c.round.rings c.round.h (λ s. record s { label = c.args.l }) q i) ∙ c.round.invariant.known
-
-pub returns-then-h-from-clause-missed : goal.returns-then-h-from-clause-missed
-returns-then-h-from-clause-missed c = λ m. elim (IsIn_or_not c.args.sought (ring (spot c.args.rings.now) c.args.from)) [
-  | inl i ↦
-      let out = not_met c.round.met c.round.h c.args.sought m in
-      absurd (missed_last (next (spot c.args.rings.now)) c.args.from c.round.h c.next-h.result (codes - c.round.counter) c.args.sought
-      (next_step c.round.rings c.set_label.new.self c.round.h c.args.l c.set_label.ensures (partly_next _ _ _ _ _ c.round.invariant.done c.round.h) c.next-h.result c.next-h.ensures.next) out.1
-      (omega (arith, codes_are)) c.if-h-from.true (c.round.invariant.missed out.0 i))
-  | inr n ↦ n
-]
+pub returns-then-h-from : goal.returns-then-h-from
+returns-then-h-from c =
+    let goes = next_step c.round.rings c.set_label.new.self c.round.h c.args.l c.set_label.ensures (partly_next _ _ _ _ _ c.round.invariant.done c.round.h) c.next-h.result c.next-h.ensures.next in
+    record {
+      spots = partly_last (spot c.args.rings.now) (spot c.round.rings) (spot c.set_label.new.self) c.args.l c.args.from c.round.h c.next-h.result (codes - c.round.counter) (ring (spot c.args.rings.now) c.args.from) (omega (arith, codes_are)) c.round.invariant.done
+          (known_step c.round.rings c.set_label.new.self c.round.h c.args.l c.set_label.ensures) goes c.if-h-from.true;
+      known = ap (λ (m : RingMap). contains_key m) c.set_label.ensures ∙ (λ i q. known-with c.round.rings c.round.h (λ s. record s { label = c.args.l }) q i) ∙ c.round.invariant.known;
+      missed = λ m. elim (IsIn_or_not c.args.sought (ring (spot c.args.rings.now) c.args.from)) [
+        | inl i ↦
+            let out = not_met c.round.met c.round.h c.args.sought m in
+            absurd (missed_last (next (spot c.args.rings.now)) c.args.from c.round.h c.next-h.result (codes - c.round.counter) c.args.sought goes out.1
+            (omega (arith, codes_are)) c.if-h-from.true (c.round.invariant.missed out.0 i))
+        | inr n ↦ n
+      ];
+    }
 
 pub round-preserved : goal.round-preserved
 round-preserved c = record {

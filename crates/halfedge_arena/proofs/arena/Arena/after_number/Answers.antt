@@ -2,9 +2,7 @@ use Rattle.arena_rows.specs.RawRings.{spot}
 use Rattle.boundary_model.specs.declared.Kind.TheVariants.{Solid, Face, Loop, Edge, Vertex}
 use Rattle.arena_rows.specs.RawRows.{has_row}
 use Rattle.arena_rows.specs.Common.{solid_row, face_row, loop_row, is_edge}
-use Rattle.arena_rows.proofs.ring_spots_laws.SpotTables.{edge_has}
-use Rattle.arena_rows.proofs.Views.{has_is}
-use Rattle.arena_rows.proofs.Empty.{next_number}
+use Rattle.arena_rows.proofs.Common.{edge_has, has_is, next_number}
 use Rattle.halfedge_arena.proofs.arena.Arena.after_number.Goals as goal
 
 pub returns-in-Solid : goal.returns-in-Solid

@@ -1,4 +1,4 @@
-use Rattle.arena_rows.proofs.Nexts.{next_face}
+use Rattle.arena_rows.proofs.Common.{next_face}
 use Rattle.halfedge_arena.proofs.arena.Arena.face_after.Goals as goal
 
 pub returns : goal.returns

@@ -1,5 +1,5 @@
 use Rattle.arena_rows.specs.Common.{solid_row, face_row, loop_row}
-use Rattle.arena_rows.proofs.Empty.{greatest_row, greatest_edge}
+use Rattle.arena_rows.proofs.Common.{greatest_row, greatest_edge}
 use Rattle.halfedge_arena.proofs.arena.Arena.greatest.Goals as goal
 
 pub returns-in-Solid : goal.returns-in-Solid

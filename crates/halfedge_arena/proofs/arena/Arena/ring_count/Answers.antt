@@ -1,11 +1,9 @@
 use Rattle.std.proofs.Common.{sym, ◌∙◌, arith, true, false}
-use Rattle.arena_rows.specs.Common.{face_row}
-use Rattle.arena_rows.proofs.Views.{has-row}
-use Rattle.arena_rows.proofs.Indexed.{rings_counted}
+use Rattle.arena_rows.proofs.Common.{has-row, rings_counted}
 use Rattle.halfedge_arena.proofs.arena.Arena.ring_count.Goals as goal
 
 pub known-outer-requires : goal.known-outer-requires
-known-outer-requires c = (has-row face_row _ _ (rw (← c.self.view_is) at c.requires))
+known-outer-requires c = (has-row _ _ _ (rw (← c.self.view_is) at c.requires))
 
 pub overflow_sub-result : goal.overflow_sub-result
 overflow_sub-result c =

@@ -1,32 +1,29 @@
-use Rattle.std.proofs.Common.{ap, sym, ◌∙◌, ◌≡◌, true}
-use Rattle.arena_rows.specs.RawRings.{or_zero, spot}
+use Rattle.std.proofs.Common.{ap, sym, ◌∙◌}
+use Rattle.arena_rows.specs.RawRings.{or_zero}
 use Rattle.boundary_model.specs.HalfEdge.{code}
-use Rattle.arena_rows.proofs.RawMapping.{IsLive-next}
-use Rattle.arena_rows.specs.Common.{live}
+use Rattle.arena_rows.proofs.Common.{IsLive-next, edge_fits, half_there, tail_is, before_is, loose_before}
 use Rattle.boundary_model.proofs.Halves.{code-half}
-use Rattle.arena_rows.proofs.ring_spots_laws.SpotTables.{edge_below}
-use Rattle.arena_rows.proofs.Stands.{half_there, tail_is, before_is, loose_before}
 use Rattle.halfedge_arena.proofs.arena.Arena.tail_and_prev.Goals as goal
 
 pub code-requires : goal.code-requires
-code-requires c = edge_below c.args.h (c.self.invariant.tied.rings.bound _ (half_there _ c.self.invariant.tied _ (rw (← c.self.view_is) at c.requires)))
+code-requires c = edge_fits _ c.self.invariant.tied _ (rw (← c.self.view_is) at c.requires)
 
 pub tail_and_prev-tail-requires : goal.tail_and_prev-tail-requires
 tail_and_prev-tail-requires c = rw c.code.ensures (half_there _ c.self.invariant.tied _ (rw (← c.self.view_is) at c.requires))
 
 pub returns-clause-tail : goal.returns-clause-tail
 returns-clause-tail c =
-    let there : live (spot c.self.inside.rings) (code c.args.h) ≡ true = half_there _ c.self.invariant.tied _ (rw (← c.self.view_is) at c.requires) in
+    let there = half_there _ c.self.invariant.tied _ (rw (← c.self.view_is) at c.requires) in
     rw (← c.self.view_is) (sym (tail_is _ c.self.invariant.tied _ there ∙ ap or_zero (rw c.code.ensures at c.tail_and_prev-tail.ensures.tail)))
 
 pub returns-clause-in_loop : goal.returns-clause-in_loop
 returns-clause-in_loop c =
-    let there : live (spot c.self.inside.rings) (code c.args.h) ≡ true = half_there _ c.self.invariant.tied _ (rw (← c.self.view_is) at c.requires) in
     let from = rw c.code.ensures at c.tail_and_prev-tail.ensures.prev in
-    rw (← c.self.view_is) (λ n. ap code c.of_code.ensures ∙ code-half _ ∙ before_is _ c.self.invariant.tied _ _ there (IsLive-next c.self.inside.rings _ _ from) (ap or_zero from) n)
+    let told = before_is _ c.self.invariant.tied _ _ (rw (← c.self.view_is) at c.requires) (IsLive-next c.self.inside.rings _ _ from) (ap or_zero from) in
+    rw (← c.self.view_is) (λ n. ap code c.of_code.ensures ∙ code-half _ ∙ told n)
 
 pub returns-clause-loose : goal.returns-clause-loose
 returns-clause-loose c =
-    let there : live (spot c.self.inside.rings) (code c.args.h) ≡ true = half_there _ c.self.invariant.tied _ (rw (← c.self.view_is) at c.requires) in
     let from = rw c.code.ensures at c.tail_and_prev-tail.ensures.prev in
-    rw (← c.self.view_is) (λ z. ap code c.of_code.ensures ∙ code-half _ ∙ loose_before _ c.self.invariant.tied _ _ there (IsLive-next c.self.inside.rings _ _ from) (ap or_zero from) z)
+    let told = loose_before _ c.self.invariant.tied _ _ (rw (← c.self.view_is) at c.requires) (IsLive-next c.self.inside.rings _ _ from) (ap or_zero from) in
+    rw (← c.self.view_is) (λ z. ap code c.of_code.ensures ∙ code-half _ ∙ told z)

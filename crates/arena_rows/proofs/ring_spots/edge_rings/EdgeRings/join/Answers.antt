@@ -5,24 +5,20 @@ use Rattle.arena_rows.proofs.ring_spots_laws.RingViews.{seen_live, seen_label, s
 use Rattle.arena_rows.proofs.ring_spots_laws.LiveEdges.{edges_joined}
 use Rattle.arena_rows.proofs.ring_spots.edge_rings.EdgeRings.join.Goals as goal
 
-pub join-requires-clause-a : goal.join-requires-clause-a
-join-requires-clause-a c = sym (seen_live c.self.inside.labels c.self.inside.rings c.args.a) ∙ (rw (← c.self.view_is) at c.requires.a)
-
-pub join-requires-clause-b : goal.join-requires-clause-b
-join-requires-clause-b c = sym (seen_live c.self.inside.labels c.self.inside.rings c.args.b) ∙ (rw (← c.self.view_is) at c.requires.b)
-
-pub join-requires-clause-apart : goal.join-requires-clause-apart
-join-requires-clause-apart c e =
+pub join-requires : goal.join-requires
+join-requires c =
     let a = sym (seen_live c.self.inside.labels c.self.inside.rings c.args.a) ∙ (rw (← c.self.view_is) at c.requires.a) in
     let b = sym (seen_live c.self.inside.labels c.self.inside.rings c.args.b) ∙ (rw (← c.self.view_is) at c.requires.b) in
     let other : label (spot (map_in_loops c.self.inside.labels c.self.inside.rings)) c.args.b ≢ label (spot (map_in_loops c.self.inside.labels c.self.inside.rings)) c.args.a = rw (← c.self.view_is) at c.requires.apart in
-    other (seen_label c.self.inside.labels c.self.inside.rings c.args.b b ∙ e ∙ sym (seen_label c.self.inside.labels c.self.inside.rings c.args.a a))
-
-pub join-requires-clause-kept : goal.join-requires-clause-kept
-join-requires-clause-kept c =
-    let there = sym (seen_live c.self.inside.labels c.self.inside.rings c.args.a) ∙ (rw (← c.self.view_is) at c.requires.a) in
     let kept : label (spot (map_in_loops c.self.inside.labels c.self.inside.rings)) c.args.a ≡ c.args.kept = rw (← c.self.view_is) at c.requires.kept in
-    sym kept ∙ seen_label c.self.inside.labels c.self.inside.rings c.args.a there
+    let label_a = seen_label c.self.inside.labels c.self.inside.rings c.args.a a in
+    record {
+      whole = c.self.invariant.labelled;
+      a = a;
+      b = b;
+      apart = λ e. other (seen_label c.self.inside.labels c.self.inside.rings c.args.b b ∙ e ∙ sym label_a);
+      kept = sym kept ∙ label_a;
+    }
 
 pub invariant_of-self : goal.invariant_of-self
 invariant_of-self c =

@@ -15,15 +15,6 @@ invariant_of-self-2 c = record {
       (λ q n m. seen_known c.room_edge.new.labels c.room_edge.new.rings q ∙ c.room_edge.ensures.only q n m ∙ sym (seen_known c.self.inside.labels c.self.inside.rings q));
 }
 
-pub returns-clause-spots : goal.returns-clause-spots
-returns-clause-spots c = rw (← c.self.view_is) (seen_as (λ (s : Spots). s) c.self.inside.labels c.room_edge.new.labels c.self.inside.rings c.room_edge.new.rings c.room_edge.ensures.spots)
-
-pub returns-clause-kept : goal.returns-clause-kept
-returns-clause-kept c = rw (← c.self.view_is) (λ q k. seen_known c.room_edge.new.labels c.room_edge.new.rings q ∙ c.room_edge.ensures.kept q (sym (seen_known c.self.inside.labels c.self.inside.rings q) ∙ k))
-
-pub returns-clause-ok : goal.returns-clause-ok
-returns-clause-ok c = seen_ok c.room_edge.new.labels c.room_edge.new.rings c.args.e c.room_edge.result c.room_edge.ensures.ok
-
 pub returns-in_err-reach-clause-known : goal.returns-in_err-reach-clause-known
 returns-in_err-reach-clause-known c = λ there.
     let m = c.args.self.now in
@@ -31,9 +22,14 @@ returns-in_err-reach-clause-known c = λ there.
     let first : contains_key m (plus c.args.e) ≡ true = and_first _ _ keys in
     absurd (false≢true (c.in_err-reach.ensures.known (c.self.invariant.edges.room c.args.e c.requires (rw (← c.self.view_is) at first))))
 
-pub returns-clause-known : goal.returns-clause-known
-returns-clause-known c = λ there.
-    let m = c.args.self.now in
-    let keys : contains_key m (plus c.args.e) && contains_key m (minus c.args.e) ≡ true = and_second (nat_lt 0 c.args.e) _ there in
-    let known : (q : ℕ) → contains_key m q ≡ true → contains_key c.self.inside.rings q ≡ true = λ q k. sym (seen_known c.self.inside.labels c.self.inside.rings q) ∙ (rw (← c.self.view_is) at k) in
-    c.room_edge.ensures.known (known _ (and_first _ _ keys)) (known _ (and_second _ _ keys))
+pub returns : goal.returns
+returns c = record {
+  spots = rw (← c.self.view_is) (seen_as (λ (s : Spots). s) c.self.inside.labels c.room_edge.new.labels c.self.inside.rings c.room_edge.new.rings c.room_edge.ensures.spots);
+  kept = rw (← c.self.view_is) (λ q k. seen_known c.room_edge.new.labels c.room_edge.new.rings q ∙ c.room_edge.ensures.kept q (sym (seen_known c.self.inside.labels c.self.inside.rings q) ∙ k));
+  ok = seen_ok c.room_edge.new.labels c.room_edge.new.rings c.args.e c.room_edge.result c.room_edge.ensures.ok;
+  known = λ there.
+      let m = c.args.self.now in
+      let keys : contains_key m (plus c.args.e) && contains_key m (minus c.args.e) ≡ true = and_second (nat_lt 0 c.args.e) _ there in
+      let known : (q : ℕ) → contains_key m q ≡ true → contains_key c.self.inside.rings q ≡ true = λ q k. sym (seen_known c.self.inside.labels c.self.inside.rings q) ∙ (rw (← c.self.view_is) at k) in
+      c.room_edge.ensures.known (known _ (and_first _ _ keys)) (known _ (and_second _ _ keys));
+}
