@@ -78,30 +78,16 @@ bad_is M s fs are rises some = grind (arith, all_listed, all_where-rises, face_t
 
 -- ---- the conditions of part, part by part
 
+-- what is asked of the two solids and of the listed faces
+abbrev pub solids_and_faces : Model → ℕ → ℕ → List ℕ → List Condition
+solids_and_faces M s t fs = need (table.has M.solids s) NoSolid s ∷ never (table.has M.solids t) SolidTaken t ∷ faces_known M fs ++ faces_in M s fs
+
 module _ (M : Model) (s t : ℕ) (fs : List ℕ) (front : verdict (first_refusal (numbers_in_range (s ∷ t ∷ []))) ≡ Ok tt) where
-  abbrev solids : List Condition
-  solids = need (table.has M.solids s) NoSolid s ∷ never (table.has M.solids t) SolidTaken t ∷ []
-
   pub list_refused : (e : Refusal) → verdict (first_refusal (numbers_in_range fs)) ≡ Err e → verdict (first_refusal (parts_known M s t fs)) ≡ Err e
-  list_refused e is = part_refuses (numbers_in_range (s ∷ t ∷ fs)) (solids ++ (faces_known M fs ++ faces_in M s fs)) e
-      (part_holds (numbers_in_range (s ∷ t ∷ [])) (numbers_in_range fs) front ∙ is)
+  list_refused e is = part_refuses (numbers_in_range (s ∷ t ∷ fs)) (solids_and_faces M s t fs) e (part_holds (numbers_in_range (s ∷ t ∷ [])) (numbers_in_range fs) front ∙ is)
 
-  module _ (listed : verdict (first_refusal (numbers_in_range fs)) ≡ Ok tt) where
-    numbers_held : verdict (first_refusal (parts_known M s t fs)) ≡ verdict (first_refusal (solids ++ (faces_known M fs ++ faces_in M s fs)))
-    numbers_held = part_holds (numbers_in_range (s ∷ t ∷ fs)) (solids ++ (faces_known M fs ++ faces_in M s fs)) (part_holds (numbers_in_range (s ∷ t ∷ [])) (numbers_in_range fs) front ∙ listed)
-
-    pub solid_refused : table.has M.solids s ≡ false → verdict (first_refusal (parts_known M s t fs)) ≡ Err (record { why = NoSolid; number = s })
-    solid_refused no_solid = numbers_held ∙ ap (λ b. verdict (cond b (first_refusal (never (table.has M.solids t) SolidTaken t ∷ (faces_known M fs ++ faces_in M s fs))) (Some (record { why = NoSolid; number = s })))) no_solid
-
-    module _ (has_solid : table.has M.solids s ≡ true) where
-      solid_held : verdict (first_refusal (parts_known M s t fs)) ≡ verdict (first_refusal (never (table.has M.solids t) SolidTaken t ∷ (faces_known M fs ++ faces_in M s fs)))
-      solid_held = numbers_held ∙ ap (λ b. verdict (cond b (first_refusal (never (table.has M.solids t) SolidTaken t ∷ (faces_known M fs ++ faces_in M s fs))) (Some (record { why = NoSolid; number = s })))) has_solid
-
-      pub taken_refused : table.has M.solids t ≡ true → verdict (first_refusal (parts_known M s t fs)) ≡ Err (record { why = SolidTaken; number = t })
-      taken_refused taken = solid_held ∙ ap (λ b. verdict (cond (not b) (first_refusal (faces_known M fs ++ faces_in M s fs)) (Some (record { why = SolidTaken; number = t })))) taken
-
-      pub faces_left : table.has M.solids t ≡ false → verdict (first_refusal (parts_known M s t fs)) ≡ verdict (first_refusal (faces_known M fs ++ faces_in M s fs))
-      faces_left free = solid_held ∙ ap (λ b. verdict (cond (not b) (first_refusal (faces_known M fs ++ faces_in M s fs)) (Some (record { why = SolidTaken; number = t })))) free
+  pub numbers_held : verdict (first_refusal (numbers_in_range fs)) ≡ Ok tt → verdict (first_refusal (parts_known M s t fs)) ≡ verdict (first_refusal (solids_and_faces M s t fs))
+  numbers_held listed = part_holds (numbers_in_range (s ∷ t ∷ fs)) (solids_and_faces M s t fs) (part_holds (numbers_in_range (s ∷ t ∷ [])) (numbers_in_range fs) front ∙ listed)
 
 -- faces that are known are there, and faces that are in the solid are of it
 verdict_holds : (cs : List Condition) → verdict (first_refusal cs) ≡ Ok tt → AllHold cs
@@ -118,7 +104,7 @@ module _ (M : Model) (s t : ℕ) (fs : List ℕ) where
 
   part_is : conditions M (Part s t fs) ≡ parts_known M s t fs ++ bad
   unfolding conditions
-  part_is = sym (append_assoc (numbers_in_range (s ∷ t ∷ fs)) (need (table.has M.solids s) NoSolid s ∷ never (table.has M.solids t) SolidTaken t ∷ faces_known M fs ++ faces_in M s fs) bad)
+  part_is = sym (append_assoc (numbers_in_range (s ∷ t ∷ fs)) (solids_and_faces M s t fs) bad)
 
   pub part_refused : (e : Refusal) → verdict (first_refusal (parts_known M s t fs)) ≡ Err e → verdict (first_false M (Part s t fs)) ≡ Err e
   unfolding first_false
@@ -137,8 +123,6 @@ pub not_empty : (fs : List ℕ) → length fs ≢ 0 → is_empty fs ≡ false
 not_empty [] ne = absurd (ne refl)
 not_empty (f ∷ fs) ne = refl
 
-pub bad_all : (M : Model) (s : ℕ) (fs : List ℕ) → AreFacesOf M s fs → strictly_rises fs ≡ true → is_empty fs ≡ false → length fs ≡ length (faces_of M s) → true ≡ is_bad_part M s fs
-bad_all M s fs are rises some e = sym (bad_is M s fs are rises some ∙ ap (λ b. b || not (nat_eq (torn_edge M fs) 0)) (eq-eqb (length fs) (length (faces_of M s)) e))
-
-pub bad_torn : (M : Model) (s : ℕ) (fs : List ℕ) → AreFacesOf M s fs → strictly_rises fs ≡ true → is_empty fs ≡ false → length fs ≢ length (faces_of M s) → not (nat_eq (torn_edge M fs) 0) ≡ is_bad_part M s fs
-bad_torn M s fs are rises some ne = sym (bad_is M s fs are rises some ∙ ap (λ b. b || not (nat_eq (torn_edge M fs) 0)) (ne_eqb (length fs) (length (faces_of M s)) ne))
+-- by whether they are all faces of the solid
+pub bad_by_count : (M : Model) (s : ℕ) (fs : List ℕ) → AreFacesOf M s fs → strictly_rises fs ≡ true → is_empty fs ≡ false → (all : Bool) → nat_eq (length fs) (length (faces_of M s)) ≡ all → (all || not (nat_eq (torn_edge M fs) 0)) ≡ is_bad_part M s fs
+bad_by_count M s fs are rises some all e = sym (bad_is M s fs are rises some ∙ ap (λ b. b || not (nat_eq (torn_edge M fs) 0)) e)

@@ -1,11 +1,11 @@
 -- What a sound model has: the things that its half-edges name.
-use Rattle.std.proofs.Common.{◌≡◌, ◌≢◌, ℕ, ◌/◌, Bool, true, false, cond, not, nat_eq, ◌&&◌, [], refl, sym, ap, ◌∙◌, arith, ne_eqb}
+use Rattle.std.proofs.Common.{◌≡◌, ◌≢◌, ℕ, ◌/◌, Bool, true, false, cond, not, nat_eq, ◌&&◌, [], refl, sym, ap, ◌∙◌, arith}
 use mathlib.Core.Bool.{beq}
 use Rattle.std.proofs.lemmas.Bool.Decides.{nat_tests}
 use Rattle.euler_operators.specs.Common.{HalfEdge, code, edge_of, mate, Model, cycle, content, loop_of, tail, Sound, Has, HasHalf}
 use Rattle.euler_operators.specs.Table as table
 use Rattle.euler_conditions.specs.Ends.{leads_to, lesser}
-use Rattle.euler_operators.proofs.Common.{edge_of-code, edge_of-mate, number_real, loop_there, and_false}
+use Rattle.euler_operators.proofs.Common.{edge_of-code, edge_of-mate, number_real, loop_there}
 
 pub in_a_loop : (M : Model) → Sound M → (x : ℕ) → HasHalf M x → loop_of M x ≢ 0
 in_a_loop M sound x t = number_real _ (sound.loops_fit _ (loop_there M sound x t))
@@ -28,20 +28,7 @@ and_true : (b : Bool) → b && true ≡ b
 and_true true = refl
 and_true false = refl
 
--- whether g, which leads to the far end, does it by another edge
-leads_far : (M : Model) (h g far t : ℕ) → t ≡ tail M (mate g) → t ≡ far → not (nat_eq (g / 2) (h / 2)) ≡ leads_to M h far g
-unfolding edge_of
-leads_far M h g far t at end = grind (arith, nat_tests, and_true (not (nat_eq (g / 2) (h / 2))))
-
--- the least edge that was found, where g leads to the far end, and where it leads elsewhere
+-- the least edge that was found, where g leads to the far end
 pub found_then : (M : Model) (h g far old least t : ℕ) → t ≡ tail M (mate g) → t ≡ far → least ≡ cond (nat_eq (g / 2) (h / 2)) old (lesser old (g / 2)) → least ≡ cond (leads_to M h far g) (lesser old (edge_of g)) old
 unfolding edge_of
-found_then M h g far old least t at end e = e ∙ other_way (nat_eq (g / 2) (h / 2)) ∙ ap (λ b. cond b (lesser old (g / 2)) old) (leads_far M h g far t at end) where
-  other_way : (b : Bool) → cond b old (lesser old (g / 2)) ≡ cond (not b) (lesser old (g / 2)) old
-  other_way true = refl
-  other_way false = refl
-
-pub found_else : (M : Model) (h g far old t : ℕ) → t ≡ tail M (mate g) → t ≢ far → old ≡ cond (leads_to M h far g) (lesser old (edge_of g)) old
-found_else M h g far old t at ne = sym (
-    ap (λ b. cond (not (nat_eq (edge_of g) (edge_of h)) && b) (lesser old (edge_of g)) old) (ne_eqb (tail M (mate g)) far (λ e. ne (at ∙ e)))
-    ∙ ap (λ b. cond b (lesser old (edge_of g)) old) (and_false (not (nat_eq (edge_of g) (edge_of h)))))
+found_then M h g far old least t at end e = grind (arith, nat_tests, and_true (not (nat_eq (g / 2) (h / 2))), e)

@@ -76,28 +76,22 @@ module _ (M : Model) (sound : Sound M) (h : ℕ) (there : HasHalf M h) where
   leads : (x : ℕ) → nat_eq (edge_of x) (edge_of h) ≡ false → tail M (mate x) ≡ far → leads_to M h far x ≡ true
   leads x other e = and_from (not (nat_eq (edge_of x) (edge_of h))) (nat_eq (tail M (mate x)) far) (ap not other) (eq-eqb (tail M (mate x)) far e)
 
-  -- an edge beside h was met
+  -- an edge beside h was met, by its half-edge x that starts where h does
+  met_by : (x e near other : ℕ) → HasHalf M x → edge_of x ≡ e → nat_eq e (edge_of h) ≡ false → tail M x ≡ near → tail M (mate x) ≡ other → nat_eq near (tail M h) && nat_eq other far ≡ true →
+      (x : ℕ) × IsIn x whole × (edge_of x ≡ e) × (leads_to M h far x ≡ true)
+  met_by x e near other t edge apart start end b =
+      let q = and_parts _ _ b in
+      (x, in_whole x t (start ∙ eqb-true near (tail M h) q.0), edge, leads x (ap (λ k. nat_eq k (edge_of h)) edge ∙ apart) (end ∙ eqb-true other far q.1))
+
   beside_met : (e : ℕ) (row : EdgeRow) → table.get M.edges e ≡ Some row → Beside e row ≡ true → (x : ℕ) × IsIn x whole × (edge_of x ≡ e) × (leads_to M h far x ≡ true)
   beside_met e row at b =
       let parts = and_parts _ _ b in
-      let other : nat_eq e (edge_of h) ≡ false = not-true (nat_eq e (edge_of h)) parts.0 in
+      let apart : nat_eq e (edge_of h) ≡ false = not-true (nat_eq e (edge_of h)) parts.0 in
+      let has : table.has M.edges e ≡ true = ap is_some at in
       elim (or_cases _ _ parts.1) [
-        | inl p ↦
-            let q = and_parts _ _ p in
-            let has : HasHalf M (plus e) = ap (table.has M.edges) (plus_row e).0 ∙ ap is_some at in (
-              plus e,
-              in_whole (plus e) has (plus_tail_row M e row at ∙ eqb-true row.plus_tail (tail M h) q.0),
-              (plus_row e).0,
-              leads (plus e) (ap (λ k. nat_eq k (edge_of h)) (plus_row e).0 ∙ other) (ap (tail M) (mate_plus e) ∙ minus_tail_row M e row at ∙ eqb-true row.minus_tail far q.1),
-            )
-        | inr p ↦
-            let q = and_parts _ _ p in
-            let has : HasHalf M (minus e) = ap (table.has M.edges) (minus_row e).0 ∙ ap is_some at in (
-              minus e,
-              in_whole (minus e) has (minus_tail_row M e row at ∙ eqb-true row.minus_tail (tail M h) q.1),
-              (minus_row e).0,
-              leads (minus e) (ap (λ k. nat_eq k (edge_of h)) (minus_row e).0 ∙ other) (ap (tail M) (mate_minus e) ∙ plus_tail_row M e row at ∙ eqb-true row.plus_tail far q.0),
-            )
+        | inl p ↦ met_by (plus e) e _ _ (ap (table.has M.edges) (plus_row e).0 ∙ has) (plus_row e).0 apart (plus_tail_row M e row at) (ap (tail M) (mate_plus e) ∙ minus_tail_row M e row at) p
+        | inr p ↦ met_by (minus e) e _ _ (ap (table.has M.edges) (minus_row e).0 ∙ has) (minus_row e).0 apart (minus_tail_row M e row at) (ap (tail M) (mate_minus e) ∙ plus_tail_row M e row at)
+            (and_from (nat_eq row.minus_tail (tail M h)) (nat_eq row.plus_tail far) (and_parts _ _ p).1 (and_parts _ _ p).0)
       ]
 
   -- what was met and leads to the far end is of an edge beside h

@@ -1,3 +1,4 @@
+#![tactic(auto, unfolding(euler_operators::specs::Conditions::conditions, euler_operators::specs::Conditions::first_false))]
 //! The conditions of the operators that kill an edge or a face.
 ghost use Rattle.std.specs.Prelude.{◌≡◌, true};
 ghost use Rattle.euler_operators.specs.Common.{bare_face, first_false, verdict, faces_of};
@@ -26,7 +27,6 @@ fn is_bare(arena: &Arena, solid: u32) -> bool
 ///
 /// Refused, in this order: NumberRange; NoSolid; NotBare, where the solid has more than one face, a ring or an edge. It walks
 /// over nothing.
-#[tactic(auto, unfolding(euler_operators::specs::Conditions::conditions, euler_operators::specs::Conditions::first_false))]
 #[inline(always)]
 pub(crate) fn check_kvfs(arena: &Arena, solid: u32) -> Result<(), Refusal>
     requires { IsReady arena.now }
@@ -46,7 +46,6 @@ pub(crate) fn check_kvfs(arena: &Arena, solid: u32) -> Result<(), Refusal>
 ///
 /// Refused, in this order: NumberRange; NoEdge; ParallelEdge with the least other edge of the same two ends; KeptEndBare with
 /// the kept vertex, where only this edge leaves it and others leave the killed one. It walks once round the kept vertex.
-#[tactic(auto, unfolding(euler_operators::specs::Conditions::conditions, euler_operators::specs::Conditions::first_false))]
 #[inline(always)]
 pub(crate) fn check_kev(arena: &Arena, gone: HalfEdge) -> Result<(), Refusal>
     requires { IsReady arena.now }
@@ -69,7 +68,6 @@ pub(crate) fn check_kev(arena: &Arena, gone: HalfEdge) -> Result<(), Refusal>
 /// Whether kef can be done: an edge goes with the face on the other side.
 ///
 /// Refused, in this order: NumberRange; NoEdge; SameFace; HasRings with the face that would go. It walks over nothing.
-#[tactic(auto, unfolding(euler_operators::specs::Conditions::conditions, euler_operators::specs::Conditions::first_false))]
 #[inline(always)]
 pub(crate) fn check_kef(arena: &Arena, gone: HalfEdge) -> Result<(), Refusal>
     requires { IsReady arena.now }
@@ -94,7 +92,6 @@ pub(crate) fn check_kef(arena: &Arena, gone: HalfEdge) -> Result<(), Refusal>
 ///
 /// Refused, in this order: NumberRange; NoEdge; LoopTaken; DifferentLoops with the loop of the other half. It walks over
 /// nothing.
-#[tactic(auto, unfolding(euler_operators::specs::Conditions::conditions, euler_operators::specs::Conditions::first_false))]
 #[inline(always)]
 pub(crate) fn check_kemr(arena: &Arena, gone: HalfEdge, ring: u32) -> Result<(), Refusal>
     requires { IsReady arena.now }
@@ -118,7 +115,6 @@ pub(crate) fn check_kemr(arena: &Arena, gone: HalfEdge, ring: u32) -> Result<(),
 ///
 /// Refused, in this order: NumberRange; NoFace of the kept face, then of the killed one; SameFace; DifferentSolids with the
 /// killed face's solid; HasRings with the killed face. It walks over nothing.
-#[tactic(auto, unfolding(euler_operators::specs::Conditions::conditions, euler_operators::specs::Conditions::first_false))]
 #[inline(always)]
 pub(crate) fn check_kfmrh(arena: &Arena, kept: u32, killed: u32) -> Result<(), Refusal>
     requires { IsReady arena.now }

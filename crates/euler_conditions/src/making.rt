@@ -1,3 +1,4 @@
+#![tactic(auto, unfolding(euler_operators::specs::Conditions::conditions, euler_operators::specs::Conditions::first_false))]
 //! The conditions of the operators that make an edge or a face.
 ghost use Rattle.std.specs.Prelude.{◌≡◌};
 ghost use Rattle.euler_operators.specs.Common.{first_false, verdict};
@@ -12,7 +13,6 @@ use halfedge_arena::Arena;
 ///
 /// Refused, in this order: NumberRange; SolidTaken, FaceTaken, LoopTaken, VertexTaken with the number in use; PointRange with
 /// the vertex.
-#[tactic(auto, unfolding(euler_operators::specs::Conditions::conditions, euler_operators::specs::Conditions::first_false))]
 #[inline(always)]
 pub(crate) fn check_mvfs(
     arena: &Arena,
@@ -48,7 +48,6 @@ pub(crate) fn check_mvfs(
 ///
 /// Refused, in this order: NumberRange; NoEdge or NoLoop of each corner; NotLone of each corner; EdgeTaken; VertexTaken;
 /// PointRange with the vertex; DifferentTails with the second corner's vertex. It walks over nothing.
-#[tactic(auto, unfolding(euler_operators::specs::Conditions::conditions, euler_operators::specs::Conditions::first_false))]
 #[inline(always)]
 pub(crate) fn check_mev(
     arena: &Arena,
@@ -87,7 +86,6 @@ pub(crate) fn check_mev(
 ///
 /// Refused, in this order: NumberRange; NoEdge of each corner; EdgeTaken; FaceTaken; LoopTaken; DifferentLoops with the second
 /// corner's loop; SameTail with the vertex. It walks over nothing.
-#[tactic(auto, unfolding(euler_operators::specs::Conditions::conditions, euler_operators::specs::Conditions::first_false))]
 #[inline(always)]
 pub(crate) fn check_mef(
     arena: &Arena,
@@ -131,7 +129,6 @@ pub(crate) fn check_mef(
 ///
 /// Refused, in this order: NumberRange; NoEdge or NoLoop of each corner; NotLone of each corner; EdgeTaken; SameLoop;
 /// DifferentFaces with the second corner's face; NotRing with its loop; SameTail with the vertex. It walks over nothing.
-#[tactic(auto, unfolding(euler_operators::specs::Conditions::conditions, euler_operators::specs::Conditions::first_false))]
 #[inline(always)]
 pub(crate) fn check_mekr(
     arena: &Arena,
@@ -168,7 +165,6 @@ pub(crate) fn check_mekr(
 /// Whether mfkrh can be done: a ring becomes the outer loop of a new face.
 ///
 /// Refused, in this order: NumberRange; NoLoop; FaceTaken; NotRing. It walks over nothing.
-#[tactic(auto, unfolding(euler_operators::specs::Conditions::conditions, euler_operators::specs::Conditions::first_false))]
 #[inline(always)]
 pub(crate) fn check_mfkrh(arena: &Arena, ring: u32, face: u32) -> Result<(), Refusal>
     requires { IsReady arena.now }

@@ -1,3 +1,4 @@
+#![tactic(auto, unfolding(euler_operators::specs::Conditions::conditions, euler_operators::specs::Conditions::first_false))]
 //! The conditions of the operators that move rings and faces.
 ghost use Rattle.std.specs.Prelude.{◌≡◌};
 ghost use Rattle.euler_operators.specs.Common.{first_false, first_refusal, ring_and_face, verdict};
@@ -34,7 +35,6 @@ fn ring_and_face(arena: &Arena, ring: u32, face: u32) -> Result<(), Refusal>
 ///
 /// Refused, in this order: NumberRange; NoLoop; NoFace; DifferentSolids with the face's solid; NotRing; SameFace. It walks over
 /// nothing.
-#[tactic(auto, unfolding(euler_operators::specs::Conditions::conditions, euler_operators::specs::Conditions::first_false))]
 #[inline(always)]
 pub(crate) fn check_ring_in(arena: &Arena, ring: u32, face: u32) -> Result<(), Refusal>
     requires { IsReady arena.now }
@@ -50,7 +50,6 @@ pub(crate) fn check_ring_in(arena: &Arena, ring: u32, face: u32) -> Result<(), R
 /// Whether a ring can become the outer loop of a face of its solid, whose outer loop becomes a ring of that face.
 ///
 /// Refused, in this order: NumberRange; NoLoop; NoFace; DifferentSolids with the face's solid; NotRing. It walks over nothing.
-#[tactic(auto, unfolding(euler_operators::specs::Conditions::conditions, euler_operators::specs::Conditions::first_false))]
 #[inline(always)]
 pub(crate) fn check_ring_out(arena: &Arena, ring: u32, face: u32) -> Result<(), Refusal>
     requires { IsReady arena.now }
@@ -62,7 +61,6 @@ pub(crate) fn check_ring_out(arena: &Arena, ring: u32, face: u32) -> Result<(), 
 /// Whether a ring can become the outer loop of its face, whose outer loop becomes a ring of a face of the solid.
 ///
 /// Refused, in this order: NumberRange; NoLoop; NoFace; DifferentSolids with the face's solid; NotRing. It walks over nothing.
-#[tactic(auto, unfolding(euler_operators::specs::Conditions::conditions, euler_operators::specs::Conditions::first_false))]
 #[inline(always)]
 pub(crate) fn check_outer(arena: &Arena, ring: u32, face: u32) -> Result<(), Refusal>
     requires { IsReady arena.now }
@@ -74,7 +72,6 @@ pub(crate) fn check_outer(arena: &Arena, ring: u32, face: u32) -> Result<(), Ref
 /// Whether all faces of one solid can go to another.
 ///
 /// Refused, in this order: NumberRange; NoSolid of the kept solid, then of the other; SameSolid. It walks over nothing.
-#[tactic(auto, unfolding(euler_operators::specs::Conditions::conditions, euler_operators::specs::Conditions::first_false))]
 #[inline(always)]
 pub(crate) fn check_merge(arena: &Arena, kept: u32, gone: u32) -> Result<(), Refusal>
     requires { IsReady arena.now }

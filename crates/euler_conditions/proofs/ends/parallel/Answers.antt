@@ -37,9 +37,8 @@ round_code-g-requires-clause-there c = c.round.invariant.0.there
 pub returns-then-g-code : goal.returns-then-g-code
 returns-then-g-code c =
     let M = c.args.arena.now.model in let h : ℕ = c.code-code.result in
-    step_closed M c.requires.ready.sound h (ap (has_half M) c.code-code.ensures ∙ half_of M c.args.h c.requires.there) c.tail_of_code-far.result (c.tail_of_code-far.ensures ∙ ap (tail M) c.mate_code-mate.ensures)
-    c.round.least c.seen-least.result c.round.g c.round_code-g.result (steps - c.round.counter) (steps - (c.round.counter + 1)) c.round.invariant.0 (omega (arith, steps_are))
-    c.seen-least.ensures c.round_code-g.ensures.round c.if-g-code.true ∙ ap (parallel M) c.code-code.ensures
+    step_closed M c.requires.ready.sound h (ap (has_half M) c.code-code.ensures ∙ half_of M c.args.h c.requires.there) _ (c.tail_of_code-far.ensures ∙ ap (tail M) c.mate_code-mate.ensures)
+    _ _ _ _ _ (steps - (c.round.counter + 1)) c.round.invariant.0 (omega (arith, steps_are)) c.seen-least.ensures c.round_code-g.ensures.round c.if-g-code.true ∙ ap (parallel M) c.code-code.ensures
 
 pub seen-opposite_least-requires : goal.seen-opposite_least-requires
 seen-opposite_least-requires c = c.round.invariant.1.there
@@ -51,21 +50,18 @@ pub returns-then-opposite-mate : goal.returns-then-opposite-mate
 returns-then-opposite-mate c =
     let M = c.args.arena.now.model in let h : ℕ = c.code-code.result in let m : ℕ = c.mate_code-mate.result in
     let t = ap (has_half M) c.code-code.ensures ∙ half_of M c.args.h c.requires.there in
-    step_closed M c.requires.ready.sound m (mate_there M h m t c.mate_code-mate.ensures) c.tail_of_code-near.result (c.tail_of_code-near.ensures ∙ ap (tail M) (sym (ap mate c.mate_code-mate.ensures ∙ mate-mate h)))
-    c.round.opposite_least c.seen-opposite_least.result c.round.opposite c.round_code-opposite.result (steps - c.round.counter) (steps - (c.round.counter + 1)) c.round.invariant.1 (omega (arith, steps_are))
-    c.seen-opposite_least.ensures c.round_code-opposite.ensures.round c.if-opposite-mate.true
+    step_closed M c.requires.ready.sound m (mate_there M h m t c.mate_code-mate.ensures) _ (c.tail_of_code-near.ensures ∙ ap (tail M) (sym (ap mate c.mate_code-mate.ensures ∙ mate-mate h)))
+    _ _ _ _ _ (steps - (c.round.counter + 1)) c.round.invariant.1 (omega (arith, steps_are)) c.seen-opposite_least.ensures c.round_code-opposite.ensures.round c.if-opposite-mate.true
     ∙ ap (parallel M) c.mate_code-mate.ensures ∙ parallel_turned M h ∙ ap (parallel M) c.code-code.ensures
 
 pub round-preserved : goal.round-preserved
 round-preserved c =
     let M = c.args.arena.now.model in let h : ℕ = c.code-code.result in let m : ℕ = c.mate_code-mate.result in
     let t = ap (has_half M) c.code-code.ensures ∙ half_of M c.args.h c.requires.there in (
-      step_more M c.requires.ready.sound h t c.tail_of_code-far.result (c.tail_of_code-far.ensures ∙ ap (tail M) c.mate_code-mate.ensures)
-          c.round.least c.seen-least.result c.round.g c.round_code-g.result (steps - c.round.counter) (steps - (c.round.counter + 1)) c.round.invariant.0 (omega (arith, steps_are))
-          c.seen-least.ensures c.round_code-g.ensures.round c.if-g-code.false c.round_code-g.ensures.there,
-      step_more M c.requires.ready.sound m (mate_there M h m t c.mate_code-mate.ensures) c.tail_of_code-near.result (c.tail_of_code-near.ensures ∙ ap (tail M) (sym (ap mate c.mate_code-mate.ensures ∙ mate-mate h)))
-          c.round.opposite_least c.seen-opposite_least.result c.round.opposite c.round_code-opposite.result (steps - c.round.counter) (steps - (c.round.counter + 1)) c.round.invariant.1 (omega (arith, steps_are))
-          c.seen-opposite_least.ensures c.round_code-opposite.ensures.round c.if-opposite-mate.false c.round_code-opposite.ensures.there,
+      step_more M c.requires.ready.sound h t _ (c.tail_of_code-far.ensures ∙ ap (tail M) c.mate_code-mate.ensures)
+          _ _ _ _ _ (steps - (c.round.counter + 1)) c.round.invariant.0 (omega (arith, steps_are)) c.seen-least.ensures c.round_code-g.ensures.round c.if-g-code.false c.round_code-g.ensures.there,
+      step_more M c.requires.ready.sound m (mate_there M h m t c.mate_code-mate.ensures) _ (c.tail_of_code-near.ensures ∙ ap (tail M) (sym (ap mate c.mate_code-mate.ensures ∙ mate-mate h)))
+          _ _ _ _ _ (steps - (c.round.counter + 1)) c.round.invariant.1 (omega (arith, steps_are)) c.seen-opposite_least.ensures c.round_code-opposite.ensures.round c.if-opposite-mate.false c.round_code-opposite.ensures.there,
     )
 
 pub returns : goal.returns

@@ -1,7 +1,7 @@
 use Rattle.std.proofs.Common.{ap, ◌∙◌}
 use Rattle.euler_operators.specs.Common.{has_half, tail}
 use Rattle.euler_operators.proofs.Common.{mate_there}
-use Rattle.euler_conditions.proofs.Known.{found_then, found_else}
+use Rattle.euler_conditions.proofs.Known.{found_then}
 use Rattle.euler_conditions.proofs.ends.seen.Goals as goal
 
 pub tail_of_code-requires : goal.tail_of_code-requires
@@ -11,8 +11,3 @@ pub returns-then-tail_of_code-far : goal.returns-then-tail_of_code-far
 returns-then-tail_of_code-far c =
     let M = c.args.arena.now.model in
     found_then M c.args.code c.args.other c.args.far c.args.least c.met.result c.tail_of_code.result (c.tail_of_code.ensures ∙ ap (tail M) c.mate_code.ensures) c.if-tail_of_code-far.true c.met.ensures
-
-pub returns-else-tail_of_code-far : goal.returns-else-tail_of_code-far
-returns-else-tail_of_code-far c =
-    let M = c.args.arena.now.model in
-    found_else M c.args.code c.args.other c.args.far c.args.least c.tail_of_code.result (c.tail_of_code.ensures ∙ ap (tail M) c.mate_code.ensures) c.if-tail_of_code-far.false
