@@ -1,5 +1,5 @@
 -- The faces of a solid, met in the order of their numbers.
-use Rattle.std.proofs.Common.{◌≡◌, ◌≢◌, ℕ, ◌<◌, ◌≤◌, Bool, true, false, cond, nat_eq, nat_lt, T, ◌&&◌, List, [], ◌∷◌, ◌++◌, append-nil, Some, None, is_some, unwrap_or, refl, sym, ap, ◌∙◌, arith, true≢false, inl, inr, nat_cmp}
+use Rattle.std.proofs.Common.{◌≡◌, ◌≢◌, ℕ, ◌<◌, ◌≤◌, Bool, true, false, cond, nat_eq, nat_lt, T, ◌&&◌, List, [], ◌∷◌, ◌++◌, append-nil, Some, None, is_some, unwrap_or, refl, sym, ap, ◌∙◌, arith, inl, inr, nat_cmp}
 use Rattle.std.specs.FinMap.Entries.{find, is_sorted}
 use Rattle.std.proofs.lemmas.Bool.Decides.{nat_tests, eqb_tells}
 use Rattle.std.proofs.lemmas.Bool.{and_parts, false_from_ne_true}
@@ -88,22 +88,13 @@ module _ (M : Model) (n : ℕ) where
       (λ k y at passes. least k y at (and_parts (nat_lt last k) (nat_eq y.solid n) passes).0 (and_parts (nat_lt last k) (nat_eq y.solid n) passes).1)
       ∙ ap (λ (ks : List ℕ). m ∷ ks) (agree (λ k row. nat_lt m k && (nat_lt last k && nat_eq row.solid n)) (λ k row. nat_lt m k && nat_eq row.solid n) M.faces (λ k y at. shorter last m k (nat_eq y.solid n) l)) where
         shorter : (last m k : ℕ) (b : Bool) → last < m → (nat_lt m k && (nat_lt last k && b)) ≡ (nat_lt m k && b)
-        shorter last m k b l = elim (nat_lt m k) as (λ t. nat_lt m k ≡ t → (t && (nat_lt last k && b)) ≡ (t && b)) [
-          | true ↦ λ t. let u : nat_lt last k ≡ true = grind (arith, nat_tests) in ap (λ c. c && b) u
-          | false ↦ λ t. refl
-        ] refl
+        shorter last m k b l = grind (arith, nat_tests)
 
         least : (k : ℕ) (y : FaceRow) → get M.faces k ≡ Some y → nat_lt last k ≡ true → nat_eq y.solid n ≡ true → m ≤ k
-        least k y at up same = elim (nat_lt k m) as (λ t. nat_lt k m ≡ t → m ≤ k) [
-          | true ↦ λ t. absurd (true≢false (sym (row_tells k y at ∙ same) ∙ next.2 k (grind (arith, nat_tests)) (grind (arith, nat_tests))))
-          | false ↦ λ t. grind (arith, nat_tests)
-        ] refl
+        least k y at up same = grind (arith, nat_tests, row_tells k y at, next.2 k)
 
   pub no_faces : (last : ℕ) → IsNextFace M n last None → faces_above last ≡ []
-  no_faces last next = all_where_none (λ k row. nat_lt last k && nat_eq row.solid n) M.faces (λ k y at. elim (nat_lt last k) as (λ t. nat_lt last k ≡ t → (t && nat_eq y.solid n) ≡ false) [
-    | true ↦ λ t. sym (row_tells k y at) ∙ next k (grind (arith, nat_tests))
-    | false ↦ λ t. refl
-  ] refl)
+  no_faces last next = all_where_none (λ k row. nat_lt last k && nat_eq row.solid n) M.faces (λ k y at. grind (arith, nat_tests, row_tells k y at, next k))
 
   pub all_faces : NumbersFit M.faces → faces_above 0 ≡ faces_of M n
   all_faces fit = agree (λ k row. nat_lt 0 k && nat_eq row.solid n) (λ k row. nat_eq row.solid n) M.faces (λ k y at. ap (λ b. b && nat_eq y.solid n) (positive k (fit k (ap is_some at)))) where
@@ -113,8 +104,3 @@ module _ (M : Model) (n : ℕ) where
 -- a list to which nothing is left to add
 pub all_met : (fs gs all : List ℕ) → fs ++ gs ≡ all → gs ≡ [] → fs ≡ all
 all_met fs gs all e none = sym (append-nil fs) ∙ ap (λ ks. fs ++ ks) (sym none) ∙ e
-
--- a list with an item is not empty
-pub some_listed : (fs gs : List ℕ) (m : ℕ) → fs ++ m ∷ gs ≡ [] → ⊥
-some_listed [] gs m e = cc
-some_listed (f ∷ fs) gs m e = cc

@@ -1,6 +1,7 @@
 -- The numbers that an accepted operator makes lie in range, and room that is made one number after another.
-use Rattle.std.proofs.Common.{◌≡◌, ℕ, ◌≤◌, true, List, [], ◌∷◌, None, refl, sym, ap, ◌∙◌, arith}
+use Rattle.std.proofs.Common.{◌≡◌, ℕ, ◌≤◌, true, List, [], ◌∷◌, None, Result, OnOk, IsOk, refl, sym, ap, ◌∙◌, arith}
 use Rattle.std.proofs.lemmas.Bool.Decides.{nat_tests}
+use Rattle.std.proofs.lemmas.Result.{on_ok_weaker}
 use Rattle.euler_operators.specs.Common.{HalfEdge, code, edge_of, Kind, Model, Sound, is_number, first_false}
 use Rattle.euler_conditions.specs.Store.{Store, HasGrown}
 use Rattle.euler_operators.specs.declared.Op.{Op}
@@ -39,9 +40,22 @@ least n e = grind (arith, nat_tests)
 pub grown_same : (s : Store) → HasGrown s s
 grown_same s = record { model = refl; loose = refl; kept = λ kind n h. h }
 
-pub grown_more : (r s t : Store) → HasGrown r s → HasGrown s t → HasGrown r t
+grown_more : (r s t : Store) → HasGrown r s → HasGrown s t → HasGrown r t
 grown_more r s t g h = record { model = h.model ∙ g.model; loose = h.loose ∙ g.loose; kept = λ kind n there. h.kept kind n (g.kept kind n there) }
 
 pub room_kept : (s t : Store) (ks : List (Kind × ℕ)) → KeepsRoom s t → AllRoom s ks → AllRoom t ks
 room_kept s t [] keeps all = tt
 room_kept s t (k ∷ ks) keeps all = (keeps k.0 k.1 all.0, room_kept s t ks keeps all.1)
+
+-- what a call says that makes the room of some numbers: nothing else changes, and it fails only where some room wasn't there
+abbrev pub MakesRoom : {E : Type 0} → Result (Unit {0}) E → Store → Store → List (Kind × ℕ) → Type 0
+MakesRoom result s t ks = record { grown : HasGrown s t; ok : OnOk result (AllRoom t ks); known : AllRoom s ks → IsOk result }
+
+-- the room of one number is made, and then that of the others
+pub makes_more : {E : Type 0} (result : Result (Unit {0}) E) (r s t : Store) (k : Kind × ℕ) (ks : List (Kind × ℕ)) →
+    HasGrown r s → AllRoom s (k ∷ []) → MakesRoom result s t ks → MakesRoom result r t (k ∷ ks)
+makes_more result r s t k ks grown there others = record {
+  grown = grown_more r s t grown others.grown;
+  ok = on_ok_weaker result (λ room. (others.grown.kept k.0 k.1 there.0, room)) others.ok;
+  known = λ all. others.known (room_kept r s ks grown.kept all.1);
+}

@@ -77,10 +77,7 @@ module _ (s : Store) (kept gone : ℕ) where
 pub no_face_left : (M : Model) (n : ℕ) → is_face_of M n 0 ≡ false → IsNextFace M n 0 None → faces_of M n ≡ []
 no_face_left M n none next = all_where_none (λ _ row. nat_eq row.solid n) M.faces (λ k row at. sym (row_tells M n k row at) ∙ never k) where
   never : (k : ℕ) → is_face_of M n k ≡ false
-  never k = elim (eqb_tells k 0) [
-    | inl e ↦ ap (is_face_of M n) e.1 ∙ none
-    | inr e ↦ next k (omega (arith, e.1))
-  ]
+  never k = grind (arith, eqb_tells k 0, none, next k)
 
 -- 0 is no face
 pub no_zero_face : (M : Model) (n : ℕ) → Sound M → is_face_of M n 0 ≡ false

@@ -1,6 +1,7 @@
 -- The first items of the two parts of a ring that is cut at two of its items.
-use Rattle.std.proofs.Common.{◌≡◌, ◌≢◌, ℕ, cond, nat_eq, List, [], ◌∷◌, ◌++◌, sym, ap, ◌∙◌, arith, ne_eqb}
-use Rattle.euler_operators.specs.Common.{count, tick, IsIn, IsApart, head_or, rotate_to, rest, between, beyond, successor, At, Lone, half, corner_of}
+use Rattle.std.proofs.Common.{◌≡◌, ◌≢◌, ℕ, cond, nat_eq, List, [], ◌∷◌, ◌++◌, sym, ap, ◌∙◌, arith}
+use Rattle.std.proofs.lemmas.Bool.Decides.{eqb_tells}
+use Rattle.euler_operators.specs.Common.{count, IsIn, IsApart, head_or, rotate_to, rest, between, beyond, successor, At, Lone, half, corner_of}
 use Rattle.euler_operators.specs.Items.{before}
 use Rattle.euler_operators.proofs.Common.{count-append, count-before, before_at, tick_same, tick_other, rest_same, rotate_to-rotates, rest_at, ring_split, apart_split, nat_eq_itself}
 use Rattle.euler_laws.proofs.Common.{after_first}
@@ -8,9 +9,7 @@ use Rattle.euler_laws.proofs.Common.{after_first}
 -- the corner of a list that stands before b, by the item that comes next
 corner_cases : (xs : List ℕ) (b l : ℕ) → count b xs ≡ 0 → corner_of xs l ≡ cond (nat_eq (head_or b xs) b) (Lone l) (At (half (head_or b xs)))
 corner_cases [] b l n = sym (ap (λ t. cond t (Lone l) (At (half b))) (nat_eq_itself b))
-corner_cases (x ∷ xs) b l n = sym (ap (λ t. cond t (Lone l) (At (half x))) (ne_eqb x b (apart x b xs n))) where
-  apart : (x b : ℕ) (xs : List ℕ) → count b (x ∷ xs) ≡ 0 → x ≢ b
-  apart x b xs n e = absurd (omega (arith, n, ap (tick b) e, tick_same b))
+corner_cases (x ∷ xs) b l n = grind (arith, eqb_tells x b, tick_same b)
 
 module _ (hs : List ℕ) (d : IsApart hs) (a b : ℕ) (i : IsIn a hs) (j : IsIn b hs) (ne : a ≢ b) where
   pub corner_between : (l : ℕ) → corner_of (between a b hs) l ≡ cond (nat_eq (successor hs a) b) (Lone l) (At (half (successor hs a)))

@@ -1,7 +1,7 @@
 -- An operator that was applied leaves a sound model, in which its inverse is accepted and gives the model before.
-use Rattle.std.proofs.Common.{◌≡◌, ℕ, List, refl, sym, ap, ◌∙◌}
+use Rattle.std.proofs.Common.{◌≡◌, ℕ, List, ap, ◌∙◌}
 use Rattle.euler_operators.specs.Common.{Kind, Solid, Face, Loop, Edge, Vertex, Model, first_false, effect, inverse}
-use Rattle.euler_conditions.specs.Store.{Store, has_room}
+use Rattle.euler_conditions.specs.Store.{Store}
 use Rattle.euler_operators.specs.declared.Op.{Op}
 use Rattle.euler_laws.proofs.Common.{effect_keeps_sound, inverse_goes, inverse_undoes}
 use Rattle.euler_conditions.specs.Ready.{IsReady, AllRoom, HasRoomFor, Accepts, after, made}
@@ -12,15 +12,12 @@ pub ready_after : (s : Store) (o : Op) → Accepts s o → IsReady (after s o)
 ready_after s o ok = record { sound = effect_keeps_sound s.model o ok.ready.sound ok.holds; bare = ok.ready.bare }
 
 -- another model leaves each room
-pub same_room : (s : Store) (M : Model) (kind : Kind) (n : ℕ) → has_room s kind n ≡ has_room (record s { model = M }) kind n
-same_room s M Solid n = refl
-same_room s M Face n = refl
-same_room s M Loop n = refl
-same_room s M Edge n = refl
-same_room s M Vertex n = refl
-
 pub keeps_room : (s : Store) (M : Model) → KeepsRoom s (record s { model = M })
-keeps_room s M kind n there = sym (same_room s M kind n) ∙ there
+keeps_room s M Solid n there = there
+keeps_room s M Face n there = there
+keeps_room s M Loop n there = there
+keeps_room s M Edge n there = there
+keeps_room s M Vertex n there = there
 
 pub room_after : (s : Store) (o : Op) (ks : List (Kind × ℕ)) → AllRoom s ks → AllRoom (after s o) ks
 room_after s o ks all = room_kept s (after s o) ks (keeps_room s (effect s.model o)) all

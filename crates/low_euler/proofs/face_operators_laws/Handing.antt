@@ -16,13 +16,9 @@ given fs n = faces_to_solid (λ f _. lists fs f) n
 pub has_given : (t : Table FaceRow) (fs : List ℕ) (n q : ℕ) → table.has (map_rows (given fs n) t) q ≡ table.has t q
 has_given t fs n q = ap is_some (get-map_rows (given fs n) t q) ∙ mapped_some (given fs n q) (table.get t q)
 
-or_assoc : (a b c : Bool) → (a || (b || c)) ≡ ((a || b) || c)
-or_assoc true b c = refl
-or_assoc false b c = refl
-
 lists-push : (fs : List ℕ) (f q : ℕ) → lists (fs ++ f ∷ []) q ≡ (lists fs q || nat_eq f q)
 lists-push [] f q = or_false (nat_eq f q)
-lists-push (g ∷ fs) f q = ap (λ b. nat_eq g q || b) (lists-push fs f q) ∙ or_assoc (nat_eq g q) (lists fs q) (nat_eq f q)
+lists-push (g ∷ fs) f q = grind (arith, lists-push fs f q)
 
 apart : (a b : ℕ) → a ≢ b → nat_eq b a ≡ false
 apart a b e = grind (arith, nat_tests)

@@ -1,7 +1,7 @@
 -- What kef's writers make of a store, one after another.
-use Rattle.std.proofs.Common.{◌≡◌, ◌≢◌, ℕ, ◌+◌, true, List, [], ◌∷◌, ◌++◌, Some, is_some, refl, sym, ap, ◌∙◌, subst, arith}
-use Rattle.euler_operators.specs.Common.{count, IsIn, IsApart, head_or, canonical, rest, joined, HalfEdge, code, mate, edge_of, Table, Model, LoopContent, LoopRow, cycle, items_of, content, face_of, loop_of, cycle_of, tail, after as after_half, has_half, Sound, face_at, effect, kef, cycle_or_lone}
-use Rattle.euler_operators.proofs.Common.{count-append, tick_same, count-canonical, count_at, count-joined, mate_other, row_of, number_real}
+use Rattle.std.proofs.Common.{◌≡◌, ◌≢◌, ℕ, ◌+◌, true, List, [], ◌∷◌, ◌++◌, Some, is_some, sym, ap, ◌∙◌, subst, arith}
+use Rattle.euler_operators.specs.Common.{count, IsIn, IsApart, head_or, canonical, rest, joined, HalfEdge, code, mate, edge_of, Table, LoopContent, LoopRow, cycle, items_of, content, face_of, loop_of, cycle_of, tail, after as after_half, has_half, face_at, effect, kef}
+use Rattle.euler_operators.proofs.Common.{count-append, tick_same, count-canonical, count_at, count-joined, no_cons, both_empty, mate_other, row_of}
 use Rattle.euler_operators.specs.Table as table
 use Rattle.euler_operators.specs.declared.Op.TheVariants.{Kef}
 use Rattle.euler_conditions.specs.Ready.{Accepts, after}
@@ -9,25 +9,16 @@ use Rattle.euler_laws.proofs.mef.KefSound as laws
 use Rattle.euler_laws.proofs.Common.{KefGoes, kef_goes, cycle_filled}
 use Rattle.euler_conditions.specs.Store.{Store, join, take_edge, take_loop, take_face}
 use Rattle.low_euler.specs.steps.Steps.{IsStanding, take_out, kill_edge}
-use Rattle.low_euler.proofs.steps_laws.StoreSteps.{remove-put_same}
 use Rattle.low_euler.proofs.steps_laws.RingSteps.{rest_joined, rest_both}
 use Rattle.low_euler.proofs.steps_laws.TwoLoops as two
-use Rattle.low_euler.proofs.steps_laws.TwoLoops.{TwoLoops, Fits}
-use Rattle.low_euler.proofs.steps_laws.LooseRings.{pair, edge_gone, halves_back}
-use Rattle.low_euler.proofs.steps_laws.SoundLoops.{sound_loops}
-
-left_filled : (ys zs : List ℕ) → ys ≢ [] → ys ++ zs ≢ []
-left_filled [] zs ne e = ne refl
-left_filled (y ∷ ys) zs ne e = no_cons y (ys ++ zs) e where
-  no_cons : (x : ℕ) (q : List ℕ) → x ∷ q ≡ [] → ⊥
-  no_cons x q e = cc
-
-right_filled : (ys zs : List ℕ) (h : ℕ) → ys ++ h ∷ zs ≢ []
-right_filled ys zs h e = absurd (omega (arith, ap (count h) e, count-append h ys (h ∷ zs), tick_same h))
+use Rattle.low_euler.proofs.steps_laws.TwoLoops.{TwoLoops, Fits, CanJoin}
+use Rattle.low_euler.proofs.steps_laws.LooseRings.{pair, edge_gone}
+use Rattle.low_euler.proofs.steps_laws.SoundLoops.{two_loops}
+use Rattle.low_euler.proofs.steps_laws.LoopsApart.{placed_of}
 
 module _ (s : Store) (half : HalfEdge) (ok : Accepts s (Kef half)) where
-  abbrev M : Model
-  M = s.model
+  open s use {model as M}
+  open ok.ready use {sound, bare}
 
   abbrev h : ℕ
   h = code half
@@ -46,12 +37,6 @@ module _ (s : Store) (half : HalfEdge) (ok : Accepts s (Kef half)) where
 
   abbrev ys : List ℕ
   ys = cycle_of M m
-
-  sound : Sound M
-  sound = ok.ready.sound
-
-  bare : s.loose ≡ table.empty
-  bare = ok.ready.bare
 
   pub goes : KefGoes M h
   goes = kef_goes M half ok.holds
@@ -75,21 +60,12 @@ module _ (s : Store) (half : HalfEdge) (ok : Accepts s (Kef half)) where
   abbrev pub made : Store
   made = take_face loopless (face_at M m)
 
-  -- what the readers and the join ask
+  -- what the readers ask
   pub mate_there : (n : ℕ) → n ≡ m → has_half M n ≡ true
   mate_there n e = ap (has_half M) e ∙ laws.m_there M sound h goes
 
   pub gone_there : (n : ℕ) → n ≡ l → table.has M.loops n ≡ true
   gone_there n e = ap (table.has M.loops) e ∙ ap is_some l_row
-
-  r_real : r ≢ 0
-  r_real = number_real r (sound.loops_fit r (ap is_some r_row))
-
-  pub looped : r ≢ 0
-  looped = r_real
-
-  pub loops_apart : (n : ℕ) → n ≡ m → loop_of M n ≢ r
-  loops_apart n e same = laws.r_s M sound h goes (sym (sym (ap (loop_of M) e) ∙ same))
 
   -- the two loops, and the half-edges in them
   mate_is_other : m ≢ h
@@ -99,7 +75,7 @@ module _ (s : Store) (half : HalfEdge) (ok : Accepts s (Kef half)) where
   all = xs ++ ys
 
   loops : TwoLoops M r l (face_of M r) (face_of M l) all
-  loops = sound_loops M sound r l (laws.r_s M sound h goes) r_real (number_real l (sound.loops_fit l (ap is_some l_row)))
+  loops = two_loops M (placed_of M sound) r l (laws.r_s M sound h goes) (sound.loops_fit r (ap is_some r_row)) (sound.loops_fit l (ap is_some l_row))
 
   abbrev state : LoopContent → LoopContent → Table (List ℕ) → Store
   state c d z = two.state loops s.room c d z
@@ -130,6 +106,9 @@ module _ (s : Store) (half : HalfEdge) (ok : Accepts s (Kef half)) where
   fits_one : Fits all (cycle xs) (cycle ys)
   fits_one = record { some = λ x. omega (arith, count-append x xs ys) }
 
+  pub join_asks : (n : ℕ) → n ≡ m → CanJoin s h n
+  join_asks n e = two.join_asks loops s.room table.empty fits_one h m h_in m_in s n before_is e
+
   fits_two : Fits all (cycle as_join) (cycle [])
   fits_two = record { some = λ x. omega (arith, count-append x xs ys, count-joined h m xs ys once h_in m_in x) }
 
@@ -149,9 +128,8 @@ module _ (s : Store) (half : HalfEdge) (ok : Accepts s (Kef half)) where
 
   first_is : take_out one m ≡ state (cycle kept) (cycle []) (table.put table.empty m (m ∷ []))
   first_is = ap (λ t. take_out t m) one_is
-      ∙ two.take_out_r loops s.room table.empty fits_two m m_joined
-      ∙ ap (λ q. state (cycle_or_lone q (tail M m)) (cycle []) (table.put table.empty m (m ∷ []))) (rest_joined h m xs ys once h_in m_in)
-      ∙ ap (λ c. state c (cycle []) (table.put table.empty m (m ∷ []))) (cycle_filled (B ++ h ∷ A) (tail M m) (right_filled B A h))
+      ∙ two.take_out_r loops s.room table.empty fits_two m m_joined (rest_joined h m xs ys once h_in m_in)
+      ∙ ap (λ c. state c (cycle []) (table.put table.empty m (m ∷ []))) (cycle_filled (B ++ h ∷ A) (tail M m) (λ e. no_cons h A (both_empty B _ e).1))
 
   count_kept : (x : ℕ) → count x kept ≡ count x B + count x (h ∷ A)
   count_kept x = count-canonical x (B ++ h ∷ A) ∙ count-append x B (h ∷ A)
@@ -168,12 +146,11 @@ module _ (s : Store) (half : HalfEdge) (ok : Accepts s (Kef half)) where
 
   some_follow : A ++ B ≢ []
   unfolding after_half
-  some_follow = left_filled A B (λ e. laws.m_on M sound h goes (ap (head_or m) e))
+  some_follow e = laws.m_on M sound h goes (ap (head_or m) (both_empty A B e).0)
 
   second_is : take_out (take_out one m) h ≡ state (cycle (canonical (A ++ B))) (cycle []) (pair m h mate_is_other)
   second_is = ap (λ t. take_out t h) first_is
-      ∙ two.take_out_r loops s.room (table.put table.empty m (m ∷ [])) fits_three h h_kept
-      ∙ ap (λ q. state (cycle_or_lone q (tail M h)) (cycle []) (pair m h mate_is_other)) (rest_both h m xs ys once h_in m_in)
+      ∙ two.take_out_r loops s.room (table.put table.empty m (m ∷ [])) fits_three h h_kept (rest_both h m xs ys once h_in m_in)
       ∙ ap (λ c. state c (cycle []) (pair m h mate_is_other)) (cycle_filled (A ++ B) (tail M h) some_follow)
 
   -- what the loop that goes asks
@@ -185,14 +162,14 @@ module _ (s : Store) (half : HalfEdge) (ok : Accepts s (Kef half)) where
 
   edgeless_is : edgeless ≡ less joined_loops table.empty
   unfolding take_edge
-  edgeless_is = ap (λ t. take_edge t (edge_of h)) second_is ∙ ap (less joined_loops) (edge_gone m h mate_is_other (edge_of h) (halves_back h))
+  edgeless_is = ap (λ t. take_edge t (edge_of h)) second_is ∙ ap (less joined_loops) (edge_gone h mate_is_other)
 
   pub gone_bare : (p : Store) (n : ℕ) → n ≡ l → p ≡ edgeless → (table.has p.model.loops n ≡ true) × (items_of (content p.model n) ≡ [])
   gone_bare p n en e = two.emptied_l loops (cycle (canonical (A ++ B))) p.model n en (ap (λ (t : Store). t.model.loops) (e ∙ edgeless_is))
 
   loopless_is : loopless ≡ less (table.remove (table.put M.loops r (record { face = face_of M r; content = cycle (canonical (A ++ B)) })) l) table.empty
   loopless_is = ap (λ t. take_loop t l) edgeless_is
-      ∙ ap (λ t. less t table.empty) (remove-put_same (table.put M.loops r (record { face = face_of M r; content = cycle (canonical (A ++ B)) })) l (record { face = face_of M l; content = cycle [] }))
+      ∙ ap (λ t. less t table.empty) (two.gone_l loops (cycle (canonical (A ++ B))) (cycle []))
 
   face_there : table.has M.faces (face_at M m) ≡ true
   face_there = sound.loops_of_faces l (ap is_some l_row)

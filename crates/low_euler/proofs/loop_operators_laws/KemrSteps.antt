@@ -1,7 +1,7 @@
 -- What kemr's writers make of a store, one after another.
-use Rattle.std.proofs.Common.{◌≡◌, ◌≢◌, ℕ, ◌+◌, true, cond, List, [], ◌∷◌, ◌++◌, is_some, unwrap_or, sym, ap, ◌∙◌, subst, arith, ne_eqb}
-use Rattle.euler_operators.specs.Common.{count, tick, IsIn, IsApart, between, beyond, cut_left, cut_right, HalfEdge, code, mate, edge_of, Table, Model, LoopContent, LoopRow, cycle, items_of, content, face_of, loop_of, cycle_of, tail, no_loop, Sound, face_at, effect, kemr, cycle_or_lone}
-use Rattle.euler_operators.proofs.Common.{count-append, count-canonical, count-cut, IsIn-cut, mate_other, put_same, row_of, number_real}
+use Rattle.std.proofs.Common.{◌≡◌, ◌≢◌, ℕ, ◌+◌, true, cond, List, [], ◌∷◌, is_some, sym, ap, ◌∙◌, subst, arith, ne_eqb}
+use Rattle.euler_operators.specs.Common.{count, tick, IsIn, IsApart, between, beyond, cut_left, cut_right, HalfEdge, code, mate, edge_of, Table, LoopContent, LoopRow, cycle, face_of, loop_of, cycle_of, tail, face_at, effect, kemr, cycle_or_lone}
+use Rattle.euler_operators.proofs.Common.{count-canonical, count-cut, IsIn-cut, mate_other, put_same, row_of}
 use Rattle.euler_operators.specs.Table as table
 use Rattle.euler_operators.specs.declared.Op.TheVariants.{Kemr}
 use Rattle.euler_conditions.specs.Ready.{Accepts, after}
@@ -12,12 +12,13 @@ use Rattle.low_euler.specs.steps.Steps.{IsStanding, take_out, kill_edge}
 use Rattle.low_euler.proofs.steps_laws.RingSteps.{rest_left, rest_right}
 use Rattle.low_euler.proofs.steps_laws.TwoLoops as two
 use Rattle.low_euler.proofs.steps_laws.TwoLoops.{TwoLoops, Fits, CanCut}
-use Rattle.low_euler.proofs.steps_laws.LooseRings.{pair, edge_gone, halves_back}
-use Rattle.low_euler.proofs.steps_laws.SoundLoops.{sound_loops}
+use Rattle.low_euler.proofs.steps_laws.LooseRings.{pair, edge_gone}
+use Rattle.low_euler.proofs.steps_laws.SoundLoops.{two_loops, with_none}
+use Rattle.low_euler.proofs.steps_laws.LoopsApart.{placed_of}
 
 module _ (s : Store) (half : HalfEdge) (l : ℕ) (ok : Accepts s (Kemr half l)) where
-  abbrev M : Model
-  M = s.model
+  open s use {model as M}
+  open ok.ready use {sound, bare}
 
   abbrev h : ℕ
   h = code half
@@ -36,12 +37,6 @@ module _ (s : Store) (half : HalfEdge) (l : ℕ) (ok : Accepts s (Kemr half l)) 
 
   abbrev Y : List ℕ
   Y = beyond h m xs
-
-  sound : Sound M
-  sound = ok.ready.sound
-
-  bare : s.loose ≡ table.empty
-  bare = ok.ready.bare
 
   pub goes : KemrGoes M h l
   goes = kemr_goes M half l ok.holds
@@ -73,24 +68,12 @@ module _ (s : Store) (half : HalfEdge) (l : ℕ) (ok : Accepts s (Kemr half l)) 
   once : IsApart xs
   once = (laws.cyc M sound h l goes).apart
 
-  mate_apart : h ≢ m
-  mate_apart = mate_other h
-
   m_h : m ≢ h
   m_h e = mate_other h (sym e)
 
-  l_none : content M l ≡ cycle []
-  unfolding content
-  l_none = ap (λ o. (unwrap_or o no_loop).content) goes.loop_free
-
-  abbrev all : List ℕ
-  all = xs ++ items_of (content M l)
-
-  loops : TwoLoops M r l (face_of M r) (face_of M r) all
-  loops = sound_loops M sound r l (laws.r_l M sound h l goes) (number_real r (sound.loops_fit r loop_there)) (number_real l goes.loop_fits)
-
-  count_all : (x : ℕ) → count x all ≡ count x xs
-  count_all x = omega (arith, count-append x xs (items_of (content M l)), ap (λ c. count x (items_of c)) l_none)
+  loops : TwoLoops M r l (face_of M r) (face_of M r) xs
+  loops = subst (TwoLoops M r l (face_of M r) (face_of M r)) (with_none M r l goes.loop_free)
+      (two_loops M (placed_of M sound) r l (laws.r_l M sound h l goes) (sound.loops_fit r loop_there) goes.loop_fits)
 
   abbrev state : LoopContent → LoopContent → Table (List ℕ) → Store
   state c d z = two.state loops s.room c d z
@@ -107,25 +90,25 @@ module _ (s : Store) (half : HalfEdge) (l : ℕ) (ok : Accepts s (Kemr half l)) 
       (sym (put_same M.loops r (record { face = face_of M r; content = cycle xs }) (row_of M sound h goes.h_there)))
       ∙ ap (state (cycle xs) (cycle [])) bare
 
-  fits_one : Fits all (cycle xs) (cycle [])
-  fits_one = record { some = λ x. omega (arith, count_all x) }
+  fits_one : Fits xs (cycle xs) (cycle [])
+  fits_one = record { some = λ x. omega arith }
 
-  fits_two : Fits all (cycle left) (cycle right)
-  fits_two = record { some = λ x. omega (arith, count_all x, count-cut h m xs once h_in m_in mate_apart x) }
+  fits_two : Fits xs (cycle left) (cycle right)
+  fits_two = record { some = λ x. omega (arith, count-cut h m xs once h_in m_in (mate_other h) x) }
 
   pub cut_asks : (p : Store) (n : ℕ) → p ≡ looped → n ≡ m → CanCut p h n l
-  cut_asks p n e en = two.cut_asks loops s.room table.empty fits_one h m h_in m_in mate_apart p n (e ∙ looped_is) en
+  cut_asks p n e en = two.cut_asks loops s.room table.empty fits_one h m h_in m_in (mate_other h) p n (e ∙ looped_is) en
 
   parted_is : parted ≡ state (cycle left) (cycle right) table.empty
-  parted_is = ap (λ b. cond b (cut_loose looped h m) (cut_to looped h m l)) (ne_eqb l 0 (number_real l goes.loop_fits))
+  parted_is = ap (λ b. cond b (cut_loose looped h m) (cut_to looped h m l)) (ne_eqb l 0 loops.second_real)
       ∙ ap (λ t. cut_to t h m l) looped_is
       ∙ two.cut_parts loops s.room table.empty fits_one h m h_in
 
   h_left : IsIn h left
-  h_left = (IsIn-cut h m xs once h_in m_in mate_apart).0
+  h_left = (IsIn-cut h m xs once h_in m_in (mate_other h)).0
 
   m_right : IsIn m right
-  m_right = (IsIn-cut h m xs once h_in m_in mate_apart).1
+  m_right = (IsIn-cut h m xs once h_in m_in (mate_other h)).1
 
   -- what the edge that is killed asks
   pub m_parted : IsStanding parted.model m
@@ -133,10 +116,9 @@ module _ (s : Store) (half : HalfEdge) (l : ℕ) (ok : Accepts s (Kemr half l)) 
 
   first_is : take_out parted m ≡ state (cycle left) (cycle_or_lone X (tail M m)) (table.put table.empty m (m ∷ []))
   first_is = ap (λ t. take_out t m) parted_is
-      ∙ two.take_out_l loops s.room table.empty fits_two m m_right
-      ∙ ap (λ q. state (cycle left) (cycle_or_lone q (tail M m)) (table.put table.empty m (m ∷ []))) (rest_right h m xs once h_in m_in mate_apart)
+      ∙ two.take_out_l loops s.room table.empty fits_two m m_right (rest_right h m xs once h_in m_in (mate_other h))
 
-  fits_three : Fits all (cycle left) (cycle_or_lone X (tail M m))
+  fits_three : Fits xs (cycle left) (cycle_or_lone X (tail M m))
   fits_three = record { some = λ x. omega (arith, count_or_lone x X (tail M m), fits_two.some x, count_right x) } where
     count_right : (x : ℕ) → count x right ≡ tick x m + count x X
     count_right x = count-canonical x (m ∷ X)
@@ -146,8 +128,7 @@ module _ (s : Store) (half : HalfEdge) (l : ℕ) (ok : Accepts s (Kemr half l)) 
 
   second_is : take_out (take_out parted m) h ≡ state (cycle_or_lone Y (tail M h)) (cycle_or_lone X (tail M m)) (pair m h m_h)
   second_is = ap (λ t. take_out t h) first_is
-      ∙ two.take_out_r loops s.room (table.put table.empty m (m ∷ [])) fits_three h h_left
-      ∙ ap (λ q. state (cycle_or_lone q (tail M h)) (cycle_or_lone X (tail M m)) (pair m h m_h)) (rest_left h m xs once h_in m_in mate_apart)
+      ∙ two.take_out_r loops s.room (table.put table.empty m (m ∷ [])) fits_three h h_left (rest_left h m xs once h_in m_in (mate_other h))
 
   abbrev with_loops : Table LoopRow → Store
   with_loops t = record s { model = record M { loops = t; edges = table.remove M.edges (edge_of h) } }
@@ -156,5 +137,5 @@ module _ (s : Store) (half : HalfEdge) (l : ℕ) (ok : Accepts s (Kemr half l)) 
   pub made_is : made ≡ after s (Kemr half l)
   unfolding effect kemr take_edge
   made_is = ap (λ t. take_edge t (edge_of h)) second_is
-      ∙ ap (λ z. record s { model = record (two.holding loops (cycle_or_lone Y (tail M h)) (cycle_or_lone X (tail M m))) { edges = table.remove M.edges (edge_of h) }; loose = z }) (edge_gone m h m_h (edge_of h) (halves_back h) ∙ sym bare)
+      ∙ ap (λ z. record s { model = record (two.holding loops (cycle_or_lone Y (tail M h)) (cycle_or_lone X (tail M m))) { edges = table.remove M.edges (edge_of h) }; loose = z }) (edge_gone h m_h ∙ sym bare)
       ∙ ap with_loops (sym (laws.loops_are M sound h l goes))

@@ -1,7 +1,8 @@
 -- What mef's writers make of a store, one after another.
-use Rattle.std.proofs.Common.{◌≡◌, ◌≢◌, ℕ, ◌+◌, true, false, cond, List, [], ◌∷◌, ◌++◌, Some, None, is_some, unwrap_or, sym, ap, ◌∙◌, subst, arith, ne_eqb}
-use Rattle.euler_operators.specs.Common.{count, tick, IsIn, IsApart, cut_right, put_ring, mef_old, mef_new, HalfEdge, At, code, mate, edge_of, Table, Model, LoopRow, cycle, items_of, content, face_of, solid_of, loop_of, cycle_of, before, tail, no_loop, Sound, face_at, effect, mef, edge_row}
-use Rattle.euler_operators.proofs.Common.{count-append, tick_same, mate_other, edge_of-code, put_same, row_of, cycle_there, cycle_sound, number_real}
+use Rattle.std.proofs.Common.{◌≡◌, ◌≢◌, ℕ, true, false, cond, List, [], ◌∷◌, Some, is_some, sym, ap, ◌∙◌, subst, arith, ne_eqb}
+use Rattle.std.proofs.lemmas.Bool.Decides.{nat_tests}
+use Rattle.euler_operators.specs.Common.{count, IsIn, IsApart, cut_right, put_ring, mef_old, mef_new, HalfEdge, At, code, mate, edge_of, Table, tables, Model, LoopRow, cycle, items_of, content, face_of, solid_of, loop_of, cycle_of, before, tail, face_at, effect, mef, edge_row}
+use Rattle.euler_operators.proofs.Common.{tick_same, mate_other, edge_of-code, put_same, row_elsewhere, row_of, cycle_there, cycle_sound}
 use Rattle.euler_operators.specs.Table as table
 use Rattle.euler_operators.specs.declared.Op.TheVariants.{Mef}
 use Rattle.euler_conditions.specs.Ready.{Accepts, after}
@@ -11,13 +12,13 @@ use Rattle.low_euler.specs.steps.Steps.{IsStanding, IsUnused, with_edge, put_bef
 use Rattle.low_euler.proofs.steps_laws.RingSteps.{cut_old, cut_new, count_put}
 use Rattle.low_euler.proofs.steps_laws.TwoLoops as two
 use Rattle.low_euler.proofs.steps_laws.TwoLoops.{TwoLoops, Fits, CanCut}
-use Rattle.low_euler.proofs.steps_laws.LooseRings.{pair, pair_singles, get_first, left_second, pair_gone, singles_remove, key_is}
-use Rattle.low_euler.proofs.steps_laws.SoundLoops.{edged_loops, none_first, none_second}
-use Rattle.low_euler.proofs.steps_laws.LoopsApart.{content-same}
+use Rattle.low_euler.proofs.steps_laws.LooseRings.{pair, pair_singles, get_first, left_second, pair_gone, singles_remove}
+use Rattle.low_euler.proofs.steps_laws.SoundLoops.{edged_loops, with_none}
+use Rattle.low_euler.proofs.steps_laws.LoopsApart.{placed_of, unused_of}
 
 module _ (s : Store) (first second half : HalfEdge) (f l : ℕ) (ok : Accepts s (Mef first second half f l)) where
-  abbrev M : Model
-  M = s.model
+  open s use {model as M}
+  open ok.ready use {sound, bare}
 
   abbrev g : ℕ
   g = code first
@@ -27,12 +28,6 @@ module _ (s : Store) (first second half : HalfEdge) (f l : ℕ) (ok : Accepts s 
 
   abbrev h : ℕ
   h = code half
-
-  sound : Sound M
-  sound = ok.ready.sound
-
-  bare : s.loose ≡ table.empty
-  bare = ok.ready.bare
 
   pub goes : MefGoes M g k h f l
   goes = mef_goes M first second half f l ok.holds
@@ -75,49 +70,28 @@ module _ (s : Store) (first second half : HalfEdge) (f l : ℕ) (ok : Accepts s 
   abbrev pub made : Store
   made = put_face parted f (solid_of M (face_at M g)) l
 
-  -- what each call leaves
-  pub was_edged : (p : Store) (a b : ℕ) → p ≡ looped → a ≡ tail M g → b ≡ tail M k → with_edge p h a b ≡ edged
-  was_edged p a b e ea eb = ap (λ t. with_edge t h a b) e ∙ ap (λ v. with_edge looped h v b) ea ∙ ap (with_edge looped h (tail M g)) eb
-
+  -- what the call leaves
   pub was_second : (p q : Store) (a b : ℕ) → p ≡ looped → a ≡ tail M g → b ≡ tail M k → q ≡ make_edge p (At first) (At second) h a b → q ≡ second_in
-  was_second p q a b e ea eb d = d ∙ ap (λ t. put_before (put_before t g h) k m) (was_edged p a b e ea eb)
+  was_second p q a b e ea eb d = d ∙ (λ i. put_before (put_before (with_edge (e i) h (ea i) (eb i)) g h) k m)
 
   -- the two loops, and the half-edges in them
   r_row : table.get M.loops r ≡ Some (record { face = face_of M r; content = cycle xs })
   r_row = row_of M sound g goes.g_there
 
-  r_l : r ≢ l
-  r_l e = no_row (sym r_row ∙ ap (table.get M.loops) e ∙ goes.loop_free) where
-    no_row : {x : LoopRow} → Some x ≡ None → ⊥
-    no_row e = cc
-
-  pub r_real : r ≢ 0
-  r_real = number_real r (sound.loops_fit r (ap is_some r_row))
-
-  l_real : l ≢ 0
-  l_real = number_real l goes.loop_fits
-
-  l_none : content M l ≡ cycle []
-  unfolding content
-  l_none = ap (λ o. (unwrap_or o no_loop).content) goes.loop_free
-
   abbrev N : Model
   N = record M { edges = table.put M.edges (edge_of h) (edge_row h (tail M g) (tail M k)) }
 
   abbrev all : List ℕ
-  all = h ∷ m ∷ (xs ++ items_of (content M l))
+  all = h ∷ m ∷ xs
 
-  loops : TwoLoops N r l (face_of M r) f all
-  loops = edged_loops M sound r l r_l r_real l_real h (edge_row h (tail M g) (tail M k)) goes.edge_free
+  -- neither half-edge of the new edge stands anywhere
+  free : IsUnused s h
+  free = unused_of s (placed_of M sound) bare h (tail M g) (tail M k) goes.edge_free
 
-  count_all : (x : ℕ) → count x all ≡ tick x h + tick x m + count x xs
-  count_all x = omega (arith, count-append x xs (items_of (content M l)), ap (λ c. count x (items_of c)) l_none)
-
-  no_h : count h xs ≡ 0
-  no_h = none_first M sound r l r_l r_real l_real h (edge_row h (tail M g) (tail M k)) goes.edge_free r
-
-  no_m : count m xs ≡ 0
-  no_m = none_second M sound r l r_l r_real l_real h (edge_row h (tail M g) (tail M k)) goes.edge_free r
+  pub loops : TwoLoops N r l (face_of M r) f all
+  loops = subst (λ ys. TwoLoops N r l (face_of M r) f (h ∷ m ∷ ys)) (with_none M r l goes.loop_free)
+      (edged_loops M (placed_of M sound) r l (row_elsewhere M.loops r l loop_there goes.loop_free) (sound.loops_fit r loop_there) goes.loop_fits
+      h (edge_row h (tail M g) (tail M k)) free.first free.second)
 
   g_in : IsIn g xs
   g_in = cycle_there M sound g goes.g_there
@@ -125,7 +99,7 @@ module _ (s : Store) (first second half : HalfEdge) (f l : ℕ) (ok : Accepts s 
   k_in : IsIn k xs
   k_in = subst (λ q. IsIn k (items_of (content M q))) goes.one_loop (cycle_there M sound k goes.k_there)
 
-  g_k : g ≢ k
+  pub g_k : g ≢ k
   g_k e = goes.ends_apart (ap (tail M) e)
 
   abbrev pair_h : Table (List ℕ)
@@ -150,29 +124,22 @@ module _ (s : Store) (first second half : HalfEdge) (f l : ℕ) (ok : Accepts s 
       ∙ ap (λ z. state xs [] (table.put (table.put z h (h ∷ [])) m (m ∷ []))) bare
 
   fits_one : Fits all (cycle xs) (cycle [])
-  fits_one = record { some = λ x. omega (arith, count_all x) }
+  fits_one = record { some = λ x. omega arith }
 
   fits_two : Fits all (cycle ys) (cycle [])
-  fits_two = record { some = λ x. omega (arith, count_all x, count_put x h g xs) }
+  fits_two = record { some = λ x. omega (arith, count_put x h g xs) }
 
   fits_three : Fits all (cycle zs) (cycle [])
-  fits_three = record { some = λ x. omega (arith, count_all x, count_put x h g xs, count_put x m k ys) }
-
-  h_all : IsIn h all
-  h_all = omega (arith, tick_same h)
-
-  m_all : IsIn m all
-  m_all = omega (arith, tick_same m)
+  fits_three = record { some = λ x. omega (arith, count_put x h g xs, count_put x m k ys) }
 
   -- what the new edge asks
-  nowhere_looped : (x : ℕ) → IsIn x all → count x xs ≡ 0 → (q : ℕ) → count x (items_of (content looped.model q)) ≡ 0
-  unfolding put_loop
-  nowhere_looped x i n q = ap (λ c. count x (items_of c)) (content-same (state xs [] pair_h).model looped.model loops_looped q)
-      ∙ two.nowhere loops fits_one x i (omega (arith, n)) q
+  nothing_new : (x q : ℕ) → count x (items_of (content M q)) ≡ 0 → count x (items_of (content looped.model q)) ≡ 0
+  unfolding put_loop content
+  nothing_new x q none = grind (arith, nat_tests, tables, none)
 
   pub unused : IsUnused looped h
   unfolding put_loop
-  unused = record { bare = bare; first = nowhere_looped h h_all no_h; second = nowhere_looped m m_all no_m }
+  unused = record { bare = bare; first = λ q. nothing_new h q (free.first q); second = λ q. nothing_new m q (free.second q) }
 
   pub edge_room : table.has looped.room.edges half.edge ≡ true
   unfolding put_loop
@@ -190,13 +157,9 @@ module _ (s : Store) (first second half : HalfEdge) (f l : ℕ) (ok : Accepts s 
   unfolding before
   before_first n e = e ∙ sym (ap (λ (t : Store). before t.model g) edged_is ∙ two.before_r loops fits_one g g_in)
 
-  pub corners_apart : k ≢ g
-  corners_apart e = g_k (sym e)
-
   first_is : first_in ≡ state ys [] (table.remove pair_h h)
   first_is = ap (λ t. put_before t g h) edged_is
-      ∙ two.put_before_r loops s.room pair_h fits_one g h g_in
-      ∙ ap (λ q. state ys [] (table.remove pair_h q)) (key_is (state xs [] pair_h) h (pair_singles h m (mate_other h)) (get_first h m (mate_other h)))
+      ∙ two.put_before_r loops s.room pair_h fits_one g h g_in (pair_singles h m (mate_other h)) (get_first h m (mate_other h))
 
   k_in_two : IsIn k ys
   k_in_two = omega (arith, k_in, count_put k h g xs)
@@ -207,7 +170,7 @@ module _ (s : Store) (first second half : HalfEdge) (f l : ℕ) (ok : Accepts s 
   second_is : second_in ≡ state zs [] table.empty
   second_is = ap (λ t. put_before t k m) first_is
       ∙ two.put_before_r loops s.room (table.remove pair_h h) fits_two k m k_in_two
-      ∙ ap (λ q. state zs [] (table.remove (table.remove pair_h h) q)) (key_is (state ys [] (table.remove pair_h h)) m (singles_remove pair_h h (pair_singles h m (mate_other h))) (left_second h m (mate_other h)))
+      (singles_remove pair_h h (pair_singles h m (mate_other h))) (left_second h m (mate_other h))
       ∙ ap (λ z. state zs [] z) (pair_gone h m (mate_other h))
 
   h_in : IsIn h zs
@@ -220,11 +183,11 @@ module _ (s : Store) (first second half : HalfEdge) (f l : ℕ) (ok : Accepts s 
   cut_asks p n e en = two.cut_asks loops s.room table.empty fits_three h m h_in m_in (mate_other h) p n (e ∙ second_is) en
 
   parted_is : parted ≡ state (mef_old h g k xs) (mef_new m g k xs) table.empty
-  parted_is = ap (λ b. cond b (cut_loose second_in h m) (cut_to second_in h m l)) (ne_eqb l 0 l_real)
+  parted_is = ap (λ b. cond b (cut_loose second_in h m) (cut_to second_in h m l)) (ne_eqb l 0 loops.second_real)
       ∙ ap (λ t. cut_to t h m l) second_is
       ∙ two.cut_parts loops s.room table.empty fits_three h m h_in
-      ∙ ap (λ q. state q (cut_right h m zs) table.empty) (cut_old h m g k xs apart_xs g_in k_in g_k (mate_other h) no_h no_m)
-      ∙ ap (λ q. state (mef_old h g k xs) q table.empty) (cut_new h m g k xs apart_xs g_in k_in g_k (mate_other h) no_h no_m) where
+      ∙ ap (λ q. state q (cut_right h m zs) table.empty) (cut_old h m g k xs apart_xs g_in k_in g_k (mate_other h) (free.first r) (free.second r))
+      ∙ ap (λ q. state (mef_old h g k xs) q table.empty) (cut_new h m g k xs apart_xs g_in k_in g_k (mate_other h) (free.first r) (free.second r)) where
         apart_xs : IsApart xs
         apart_xs = (cycle_sound M sound g goes.g_there).apart
 

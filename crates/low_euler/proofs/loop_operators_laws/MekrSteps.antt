@@ -1,18 +1,18 @@
 -- What mekr's writers make of a store, one after another.
 use Rattle.std.proofs.Common.{◌≡◌, ◌≢◌, ℕ, ◌+◌, true, false, List, [], ◌∷◌, ◌++◌, Some, is_some, refl, sym, ap, ◌∙◌, subst, arith, true≢false}
-use Rattle.euler_operators.specs.Common.{count, tick, IsIn, IsApart, canonical, rotate_to, joined, HalfEdge, Corner, At, Lone, code, mate, edge_of, Table, Model, LoopContent, lone, cycle, items_of, content, face_of, loop_of, cycle_of, has_half, Sound, corner_known, corner_lone, corner_loop, corner_tail, corner_list, is_lone, effect, mekr, edge_row}
-use Rattle.euler_operators.proofs.Common.{count-append, tick_same, count-canonical, canonical_one, apart_front, rest_canonical, mate_other, edge_of-code, cycle_there, number_real}
+use Rattle.euler_operators.specs.Common.{count, tick, IsIn, IsApart, canonical, rotate_to, joined, HalfEdge, Corner, At, Lone, code, mate, edge_of, Table, Model, LoopContent, lone, cycle, items_of, content, face_of, loop_of, cycle_of, has_half, corner_known, corner_lone, corner_loop, corner_tail, corner_list, is_lone, effect, mekr, edge_row}
+use Rattle.euler_operators.proofs.Common.{count-append, tick_same, count-canonical, canonical_one, apart_front, rest_canonical, mate_other, edge_of-code, cycle_there}
 use Rattle.euler_operators.specs.Table as table
 use Rattle.euler_operators.specs.declared.Op.TheVariants.{Mekr}
 use Rattle.euler_conditions.specs.Ready.{Accepts, after}
 use Rattle.euler_laws.proofs.Common.{half_of, loop_row, JoinGoes, MekrHolds, mekr_holds, count_spot}
 use Rattle.euler_conditions.specs.Store.{Store, with_loop, fill, join, take_loop}
 use Rattle.low_euler.specs.steps.Steps.{IsStanding, IsUnused, IsCorner, CanTake, with_edge, put_before, put_at, make_edge}
-use Rattle.low_euler.proofs.steps_laws.StoreSteps.{remove-put_same}
 use Rattle.low_euler.proofs.steps_laws.TwoLoops as two
-use Rattle.low_euler.proofs.steps_laws.TwoLoops.{TwoLoops, Fits}
+use Rattle.low_euler.proofs.steps_laws.TwoLoops.{TwoLoops, Fits, CanJoin}
 use Rattle.low_euler.proofs.steps_laws.LooseRings.{AreSingles, pair, pair_singles, get_first, left_second, pair_gone, singles_remove, key_is, ring_is}
-use Rattle.low_euler.proofs.steps_laws.SoundLoops.{edged_loops, none_first, none_second}
+use Rattle.low_euler.proofs.steps_laws.SoundLoops.{edged_loops}
+use Rattle.low_euler.proofs.steps_laws.LoopsApart.{placed_of, unused_of}
 
 -- the two corners, by the conditions
 corner_there : (M : Model) (c : Corner) → (corner_known M c).holds ≡ true → (corner_lone M c).holds ≡ true → IsCorner M c
@@ -24,8 +24,8 @@ none_in_lone (lone v) e = refl
 none_in_lone (cycle hs) e = absurd (true≢false (sym e))
 
 module _ (s : Store) (first second : Corner) (half : HalfEdge) (ok : Accepts s (Mekr first second half)) where
-  abbrev M : Model
-  M = s.model
+  open s use {model as M}
+  open ok.ready use {sound, bare}
 
   abbrev h : ℕ
   h = code half
@@ -50,12 +50,6 @@ module _ (s : Store) (first second : Corner) (half : HalfEdge) (ok : Accepts s (
 
   abbrev X : List ℕ
   X = corner_list M second
-
-  sound : Sound M
-  sound = ok.ready.sound
-
-  bare : s.loose ≡ table.empty
-  bare = ok.ready.bare
 
   holds : MekrHolds M first second half
   holds = mekr_holds M first second half sound ok.holds
@@ -85,12 +79,9 @@ module _ (s : Store) (first second : Corner) (half : HalfEdge) (ok : Accepts s (
   abbrev pub made : Store
   made = take_loop one l
 
-  -- what each call leaves
-  pub was_edged : (a b : ℕ) → a ≡ u → b ≡ w → with_edge s h a b ≡ edged
-  was_edged a b ea eb = ap (λ v. with_edge s h v b) ea ∙ ap (with_edge s h u) eb
-
+  -- what the call leaves
   pub was_second : (q : Store) (a b : ℕ) → a ≡ u → b ≡ w → q ≡ make_edge s first second h a b → q ≡ second_in
-  was_second q a b ea eb d = d ∙ ap (λ t. put_at (put_at t first h) second m) (was_edged a b ea eb)
+  was_second q a b ea eb d = d ∙ (λ i. put_at (put_at (with_edge s h (ea i) (eb i)) first h) second m)
 
   -- the two loops, and the half-edges in them
   abbrev C : LoopContent
@@ -99,29 +90,18 @@ module _ (s : Store) (first second : Corner) (half : HalfEdge) (ok : Accepts s (
   abbrev D : LoopContent
   D = content M l
 
-  r_l : r ≢ l
-  r_l = goes.loops_apart
-
-  r_real : r ≢ 0
-  r_real = number_real r (sound.loops_fit r goes.first.there)
-
-  l_real : l ≢ 0
-  l_real = number_real l (sound.loops_fit l goes.second.there)
-
   abbrev N : Model
   N = record M { edges = table.put M.edges (edge_of h) (edge_row h u w) }
 
   abbrev all : List ℕ
   all = h ∷ m ∷ (items_of C ++ items_of D)
 
+  pub unused : IsUnused s h
+  unused = unused_of s (placed_of M sound) bare h u w goes.edge_free
+
   loops : TwoLoops N r l (face_of M r) (face_of M l) all
-  loops = edged_loops M sound r l r_l r_real l_real h (edge_row h u w) goes.edge_free
-
-  no_h : (q : ℕ) → count h (items_of (content M q)) ≡ 0
-  no_h = none_first M sound r l r_l r_real l_real h (edge_row h u w) goes.edge_free
-
-  no_m : (q : ℕ) → count m (items_of (content M q)) ≡ 0
-  no_m = none_second M sound r l r_l r_real l_real h (edge_row h u w) goes.edge_free
+  loops = edged_loops M (placed_of M sound) r l goes.loops_apart (sound.loops_fit r goes.first.there) (sound.loops_fit l goes.second.there)
+      h (edge_row h u w) unused.first unused.second
 
   count_all : (x : ℕ) → count x all ≡ tick x h + tick x m + count x (items_of C) + count x (items_of D)
   count_all x = omega (arith, count-append x (items_of C) (items_of D))
@@ -148,9 +128,6 @@ module _ (s : Store) (first second : Corner) (half : HalfEdge) (ok : Accepts s (
 
   fits_one : Fits all C D
   fits_one = record { some = λ x. omega (arith, count_all x) }
-
-  pub unused : IsUnused s h
-  unused = record { bare = bare; first = no_h; second = no_m }
 
   pub edge_free : table.has M.edges half.edge ≡ false
   edge_free = ap (table.has M.edges) (sym (edge_of-code half)) ∙ ap is_some goes.edge_free
@@ -235,18 +212,8 @@ module _ (s : Store) (first second : Corner) (half : HalfEdge) (ok : Accepts s (
 
   -- ---- the join
 
-  pub h_stands : (p : Store) → p ≡ second_in → IsStanding p.model h
-  h_stands p e = subst (λ (t : Store). IsStanding t.model h) (sym (e ∙ second_is))
-      (two.standing_r loops fits_three h h_in)
-
-  pub m_stands : (p : Store) (n : ℕ) → n ≡ m → p ≡ second_in → IsStanding p.model n
-  m_stands p n en e = subst (IsStanding p.model) (sym en) (subst (λ (t : Store). IsStanding t.model m) (sym (e ∙ second_is))
-      (two.standing_l loops fits_three m m_in))
-
-  pub loops_apart : (p : Store) (n : ℕ) → n ≡ m → p ≡ second_in → loop_of p.model n ≢ loop_of p.model h
-  loops_apart p n en e = subst (λ k. loop_of p.model k ≢ loop_of p.model h) (sym en) (subst (λ (t : Store). loop_of t.model m ≢ loop_of t.model h) (sym (e ∙ second_is))
-      (λ same. r_l (sym (two.loop_r loops fits_three h h_in) ∙ sym same
-      ∙ two.loop_l loops fits_three m m_in)))
+  pub join_asks : (p : Store) (n : ℕ) → p ≡ second_in → n ≡ m → CanJoin p h n
+  join_asks p n e en = two.join_asks loops s.room table.empty fits_three h m h_in m_in p n (e ∙ second_is) en
 
   abbrev ring : List ℕ
   ring = canonical ((h ∷ X) ++ m ∷ Y)
@@ -254,10 +221,10 @@ module _ (s : Store) (first second : Corner) (half : HalfEdge) (ok : Accepts s (
   ring_joined : joined h m ys xs ≡ ring
   ring_joined = (λ i. canonical ((h ∷ rest_canonical m X apart_X i) ++ m ∷ rest_canonical h Y apart_Y i)) where
     apart_X : IsApart (m ∷ X)
-    apart_X = apart_front m X (sym (count_D m) ∙ no_m l) goes.second.apart
+    apart_X = apart_front m X (sym (count_D m) ∙ unused.second l) goes.second.apart
 
     apart_Y : IsApart (h ∷ Y)
-    apart_Y = apart_front h Y (sym (count_C h) ∙ no_h r) goes.first.apart
+    apart_Y = apart_front h Y (sym (count_C h) ∙ unused.first r) goes.first.apart
 
   one_is : one ≡ state (cycle ring) (cycle []) table.empty
   one_is = ap (λ t. join t h m) second_is
@@ -273,5 +240,5 @@ module _ (s : Store) (first second : Corner) (half : HalfEdge) (ok : Accepts s (
   pub made_is : made ≡ after s (Mekr first second half)
   unfolding effect mekr
   made_is = ap (λ t. take_loop t l) one_is
-      ∙ ap (λ t. record { model = record N { loops = t }; loose = table.empty; room = s.room }) (remove-put_same (table.put M.loops r (record { face = face_of M r; content = cycle ring })) l (record { face = face_of M l; content = cycle [] }))
+      ∙ ap (λ t. record { model = record N { loops = t }; loose = table.empty; room = s.room }) (two.gone_l loops (cycle ring) (cycle []))
       ∙ ap (λ z. record { model = record N { loops = table.remove (table.put M.loops r (record { face = face_of M r; content = cycle ring })) l }; loose = z; room = s.room }) (sym bare)

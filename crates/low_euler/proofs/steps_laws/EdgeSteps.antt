@@ -1,8 +1,8 @@
 -- What is loose while an edge is made between two corners, and once it is killed.
-use Rattle.std.proofs.Common.{◌≡◌, ◌≢◌, ℕ, true, List, [], ◌∷◌, Some, is_some, unwrap_or, refl, sym, ap, ◌∙◌, subst, arith, inl, inr, ◌⊎◌}
-use Rattle.std.proofs.lemmas.Bool.Decides.{nat_tests, eqb_tells}
-use Rattle.euler_operators.specs.Common.{count, put_ring, Corner, At, Lone, code, mate, edge_of, plus, minus, Table, tables, Model, cycle, items_of, no_loop, content, face_of, has_half, loop_of, cycle_of, edge_row}
-use Rattle.euler_operators.proofs.Common.{tick_other, mate_other, edge_of-mate, get-put_here, get-put_other}
+use Rattle.std.proofs.Common.{◌≡◌, ◌≢◌, ℕ, true, List, [], ◌∷◌, Some, is_some, refl, sym, ap, ◌∙◌, subst, arith}
+use Rattle.std.proofs.lemmas.Bool.Decides.{nat_tests}
+use Rattle.euler_operators.specs.Common.{count, put_ring, Corner, At, Lone, code, mate, edge_of, plus, minus, Table, tables, Model, cycle, items_of, content, has_half, loop_of, cycle_of, edge_row}
+use Rattle.euler_operators.proofs.Common.{tick_other, mate_other, edge_of-mate, get-put_here}
 use Rattle.euler_operators.specs.Table as table
 use Rattle.euler_conditions.specs.Store.{Store, with_loop, loose_key, loose_ring, fill}
 use Rattle.low_euler.specs.steps.Steps.{IsLoose, IsUnused, with_edge, put_before, take_out, put_at}
@@ -13,11 +13,7 @@ use Rattle.low_euler.proofs.steps_laws.LooseRings.{AreSingles, pair, pair_single
 none_with : (M : Model) (l m : ℕ) (ring : List ℕ) → count m ring ≡ 0 → ((q : ℕ) → count m (items_of (content M q)) ≡ 0) →
     (q : ℕ) → count m (items_of (content (with_loop M l (cycle ring)) q)) ≡ 0
 unfolding content
-none_with M l m ring n none q = elim (eqb_tells q l) [
-  | inl e ↦ ap (λ k. count m (items_of (content (with_loop M l (cycle ring)) k))) e.1
-      ∙ ap (λ o. count m (items_of (unwrap_or o no_loop).content)) (get-put_here M.loops l (record { face = face_of M l; content = cycle ring })) ∙ n
-  | inr e ↦ ap (λ o. count m (items_of (unwrap_or o no_loop).content)) (get-put_other M.loops l (record { face = face_of M l; content = cycle ring }) q e.1) ∙ none q
-]
+none_with M l m ring n none q = grind (arith, nat_tests, tables, n, none q)
 
 module _ (s : Store) (h a b : ℕ) (unused : IsUnused s h) where
   abbrev E : Store
@@ -115,20 +111,10 @@ module _ (s : Store) (h a b : ℕ) (unused : IsUnused s h) where
 
 -- ---- an edge that is killed
 
-two_alone : (t : Table (List ℕ)) (a b x : ℕ) → a ≢ b → (x ≡ a) ⊎ (x ≡ b) → table.get (table.put (table.put t a (a ∷ [])) b (b ∷ [])) x ≡ Some (x ∷ [])
-two_alone t a b x ne e = elim e [ inl q ↦ grind (arith, nat_tests, tables, q, ne) | inr q ↦ grind (arith, nat_tests, tables, q) ]
-
 abbrev left_loose_by : Store → ℕ → Table (List ℕ)
 left_loose_by s h = (take_out (take_out s (mate h)) h).loose
 
 -- its half-edges are loose, each alone
 pub both_out : (s : Store) (h e : ℕ) → e ≡ edge_of h → (table.get (left_loose_by s h) (plus e) ≡ Some (plus e ∷ [])) × (table.get (left_loose_by s h) (minus e) ≡ Some (minus e ∷ []))
 unfolding take_out
-both_out s h e is =
-    let m : ℕ = mate h in
-    let ne : m ≢ h = λ q. mate_other h (sym q) in
-    let at : (x : ℕ) → (x ≡ m) ⊎ (x ≡ h) → table.get (table.put (table.put s.loose m (m ∷ [])) h (h ∷ [])) x ≡ Some (x ∷ []) = λ x q. two_alone s.loose m h x ne q in
-    elim (halves_of h) [
-      | inl q ↦ (at (plus e) (inr (ap plus is ∙ q.0)), at (minus e) (inl (ap minus is ∙ q.1)))
-      | inr q ↦ (at (plus e) (inl (ap plus is ∙ q.0)), at (minus e) (inr (ap minus is ∙ q.1)))
-    ]
+both_out s h e is = (grind (arith, nat_tests, tables, halves_of h, mate_other h), grind (arith, nat_tests, tables, halves_of h, mate_other h))

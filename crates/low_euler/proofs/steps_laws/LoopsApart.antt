@@ -1,11 +1,13 @@
 -- Models of which the loops hold half-edges that are there, each once and in one loop: what stays so where one half-edge goes into a
 -- loop or leaves one, and where an edge is made.
-use Rattle.std.proofs.Common.{◌≡◌, ◌≢◌, ℕ, ◌+◌, Bool, true, false, cond, List, [], ◌∷◌, Option, Some, None, is_some, unwrap_or, refl, sym, ap, ◌∙◌, subst, arith, ◌⊎◌, inl, inr, true≢false, option_map}
-use Rattle.std.proofs.lemmas.Bool.Decides.{eqb_tells}
-use Rattle.euler_operators.specs.Common.{count, tick, IsIn, IsApart, canonical, rest, predecessor, put_ring, insert_before, without, mate, edge_of, Model, EdgeRow, LoopContent, cycle, LoopRow, no_loop, items_of, holds, loop_of, content, face_of, cycle_of, before, tail, Sound, HasHalf, StandsIn, edge_row, where_held, with_before, cycle_or_lone}
-use Rattle.euler_operators.proofs.Common.{tick_same, tick_other, tick_le, IsIn_or_not, IsIn_predecessor, count-canonical, canonical_nil, without_none, edge_of-mate, map_one, get-put_here, get-put_other, holds_in, in-holds, holds-none, content_row, held_row}
+use Rattle.std.proofs.Common.{◌≡◌, ◌≢◌, ℕ, ◌+◌, Bool, true, false, cond, List, [], ◌∷◌, Some, None, refl, sym, ap, ◌∙◌, subst, arith, ◌⊎◌, inl, inr, true≢false, option_map}
+use Rattle.std.proofs.lemmas.Bool.{false_from_ne_true}
+use Rattle.std.proofs.lemmas.Bool.Decides.{nat_tests, eqb_tells}
+use Rattle.euler_operators.specs.Common.{count, tick, IsIn, IsApart, canonical, rest, predecessor, put_ring, insert_before, without, mate, edge_of, tables, Model, EdgeRow, LoopContent, cycle, LoopRow, items_of, holds, loop_of, content, face_of, cycle_of, before, tail, Sound, HasHalf, StandsIn, edge_row, where_held, with_before, cycle_or_lone}
+use Rattle.euler_operators.proofs.Common.{tick_same, tick_other, tick_le, IsIn_or_not, IsIn_predecessor, count-canonical, canonical_nil, without_none, edge_of-mate, map_one, get-put_other, holds_in, in-holds, holds-none, content_row, held_row, no_row, same_content, same_face}
 use Rattle.euler_operators.specs.Table as table
 use Rattle.euler_laws.proofs.Common.{count_out, count_gone, apart_out, light, loop_at, Rewritten, content-new, face-same, count_or_lone, put_in, taken_out}
+use Rattle.euler_laws.proofs.shared.Rows.{content_none}
 use Rattle.euler_laws.proofs.shared.Same as same
 use Rattle.euler_conditions.specs.Store.{Store, with_loop}
 use Rattle.low_euler.specs.steps.Steps.{LoopsStandApart, IsStanding, IsLoose, IsUnused, with_edge, put_before, take_out}
@@ -21,20 +23,15 @@ placed_of M sound = record {
   only = sound.only_edges;
   apart = λ l. (light M sound l).0;
   one_loop = sound.one_loop;
-  no_zero = none (table.get M.loops 0) (λ t. true≢false (sym (sound.loops_fit 0 t)));
-} where
-  none : (o : Option LoopRow) → (is_some o ≡ true → ⊥) → o ≡ None
-  none None f = refl
-  none (Some x) f = absurd (f refl)
+  no_zero = no_row (table.get M.loops 0) (false_from_ne_true (table.has M.loops 0) (λ t. true≢false (sym (sound.loops_fit 0 t))));
+}
 
 module _ (M N : Model) (same : N.loops ≡ M.loops) where
   pub content-same : (q : ℕ) → content N q ≡ content M q
-  unfolding content
-  content-same q = ap (λ t. (unwrap_or (table.get t q) no_loop).content) same
+  content-same q = same_content M N q (ap (λ t. table.get t q) same)
 
   pub face_of-same : (q : ℕ) → face_of N q ≡ face_of M q
-  unfolding face_of
-  face_of-same q = ap (λ t. (unwrap_or (table.get t q) no_loop).face) same
+  face_of-same q = same_face M N q (ap (λ t. table.get t q) same)
 
   pub loop_of-same : (x : ℕ) → loop_of N x ≡ loop_of M x
   unfolding loop_of
@@ -59,28 +56,18 @@ module _ (M N : Model) (same : N.loops ≡ M.loops) where
   }
 
 module _ (M : Model) (placed : LoopsStandApart M) where
-  content_zero : content M 0 ≡ cycle []
-  unfolding content
-  content_zero = ap (λ o. (unwrap_or o no_loop).content) placed.no_zero
-
   zero_empty : (h l : ℕ) → l ≡ 0 → StandsIn M h l → ⊥
-  zero_empty h l e s = omega (arith, holds_in h (content M l) s, ap (λ q. count h (items_of (content M q))) e, ap (λ c. count h (items_of c)) content_zero)
+  zero_empty h l e s = omega (arith, holds_in h (content M l) s, ap (λ q. count h (items_of (content M q))) e, ap (λ c. count h (items_of c)) (content_none M 0 placed.no_zero))
 
   pub never_zero : (h : ℕ) → HasLoop M h → loop_of M h ≢ 0
   never_zero h s e = zero_empty h (loop_of M h) e s
 
   -- a half-edge whose edge isn't there stands nowhere
   pub free_none : (h : ℕ) → table.get M.edges (edge_of h) ≡ None → (q : ℕ) → count h (items_of (content M q)) ≡ 0
-  free_none h free q = elim (IsIn_or_not h (items_of (content M q))) [
-    | inl i ↦ absurd (true≢false (sym (placed.only h q (in-holds h (content M q) i)) ∙ ap is_some free))
-    | inr n ↦ n
-  ]
+  free_none h free q = grind (arith, IsIn_or_not h (items_of (content M q)), in-holds h (content M q), placed.only h q)
 
   elsewhere : (g q : ℕ) (row : LoopRow) → q ≢ loop_of M g → table.get M.loops q ≡ Some row → holds g row.content ≡ false
-  elsewhere g q row ne at = elim (holds g row.content) as (λ b. holds g row.content ≡ b → b ≡ false) [
-    | true ↦ λ e. absurd (ne (sym (placed.one_loop g q (ap (holds g) (content_row M q row at) ∙ e))))
-    | false ↦ λ e. refl
-  ] refl
+  elsewhere g q row ne at = false_from_ne_true (holds g row.content) (λ e. ne (sym (placed.one_loop g q (ap (holds g) (content_row M q row at) ∙ e))))
 
   -- a rewriting of the loop of g puts one row
   pub in_its_loop : (g : ℕ) (new : List ℕ → LoopContent) → HasLoop M g →
@@ -109,37 +96,6 @@ module _ (M : Model) (placed : LoopsStandApart M) where
     before_near = placed.one_loop (before M g) (loop_of M g) (before_stands g s);
   }
 
--- what a rewriting of g's loop leaves in each
-module _ (M N : Model) (g : ℕ) (new : List ℕ → LoopContent) (is : N.loops ≡ table.map_rows (where_held g new) M.loops) where
-  where_content : (b : Bool) (row : LoopRow) → (cond b (record row { content = new (items_of row.content) }) row).content ≡ cond b (new (items_of row.content)) row.content
-  where_content true row = refl
-  where_content false row = refl
-
-  where_face : (b : Bool) (row : LoopRow) → (cond b (record row { content = new (items_of row.content) }) row).face ≡ row.face
-  where_face true row = refl
-  where_face false row = refl
-
-  rewritten : Rewritten M N (λ c. cond (holds g c) (new (items_of c)) c)
-  rewritten = record {
-    rewrite = where_held g new;
-    is = is;
-    contents = λ _ row. where_content (holds g row.content) row;
-    faces = λ _ row. where_face (holds g row.content) row;
-    none = ap (λ b. cond b (new []) (cycle [])) (holds-none g (cycle []) refl);
-  }
-
-  pub content-where : (q : ℕ) → content N q ≡ cond (holds g (content M q)) (new (items_of (content M q))) (content M q)
-  content-where = content-new M N (λ c. cond (holds g c) (new (items_of c)) c) rewritten
-
-  pub face-where : (q : ℕ) → face_of N q ≡ face_of M q
-  face-where = face-same M N (λ c. cond (holds g c) (new (items_of c)) c) rewritten
-
-  pub has-where : (q : ℕ) → table.has N.loops q ≡ table.has M.loops q
-  has-where = same.loop-same M N (λ c. cond (holds g c) (new (items_of c)) c) rewritten
-
-  pub zero-where : table.get M.loops 0 ≡ None → table.get N.loops 0 ≡ None
-  zero-where e = ap (λ t. table.get t 0) is ∙ table.get-map_rows (where_held g new) M.loops 0 ∙ ap (option_map (where_held g new 0)) e
-
 -- ---- a half-edge put into a loop
 
 -- h, which stood nowhere, comes to loop l
@@ -155,10 +111,9 @@ module _ (M : Model) (placed : LoopsStandApart M) (l h : ℕ) (ring : List ℕ) 
   hs q = items_of (content M q)
 
   count_in : (x q : ℕ) → ((q ≡ l) × (count x (items_of (content N q)) ≡ tick x h + count x (hs q))) ⊎ (count x (items_of (content N q)) ≡ count x (hs q))
-  unfolding content
   count_in x q = elim (eqb_tells q l) [
     | inl e ↦ inl (e.1, ap (λ k. count x (items_of (content N k))) e.1 ∙ ap (λ c. count x (items_of c)) (content_written M l (cycle ring)) ∙ counts x ∙ sym (ap (λ k. tick x h + count x (hs k)) e.1))
-    | inr e ↦ inr (ap (λ o. count x (items_of (unwrap_or o no_loop).content)) (get-put_other M.loops l row q e.1))
+    | inr e ↦ inr (ap (λ c. count x (items_of c)) (same_content M N q (get-put_other M.loops l row q e.1)))
   ]
 
   pub put_keeps : (x q : ℕ) → StandsIn M x q → StandsIn N x q
@@ -174,13 +129,7 @@ module _ (M : Model) (placed : LoopsStandApart M) (l h : ℕ) (ring : List ℕ) 
   stood x q ne t = in-holds x (content M q) (elim (count_in x q) [ inl a ↦ omega (arith, holds_in x (content N q) t, a.1, tick_other x h ne) | inr a ↦ omega (arith, holds_in x (content N q) t, a) ])
 
   once : (q : ℕ) → IsApart (items_of (content N q))
-  once q x = elim (count_in x q) [
-    | inl a ↦ elim (eqb_tells x h) [
-      | inl e ↦ omega (arith, a.1, tick_le x h, ap (λ y. count y (hs q)) e.1, nowhere q)
-      | inr e ↦ omega (arith, a.1, tick_other x h e.1, placed.apart q x)
-    ]
-    | inr a ↦ omega (arith, a, placed.apart q x)
-  ]
+  once q x = grind (arith, count_in x q, eqb_tells x h, tick_le x h, tick_other x h, nowhere q, placed.apart q x)
 
   pub placed_with : LoopsStandApart N
   placed_with = record {
@@ -228,10 +177,7 @@ module _ (s : Store) (placed : LoopsStandApart s.model) (g h : ℕ) (stands : Ha
 -- ---- a new edge
 
 pub half-put : (M : Model) (e : ℕ) (row : EdgeRow) (x : ℕ) → HasHalf M x → HasHalf (record M { edges = table.put M.edges e row }) x
-half-put M e row x t = elim (eqb_tells (edge_of x) e) [
-  | inl a ↦ ap (table.has (table.put M.edges e row)) a.1 ∙ ap is_some (get-put_here M.edges e row)
-  | inr a ↦ ap is_some (get-put_other M.edges e row (edge_of x) a.1) ∙ t
-]
+half-put M e row x t = grind (arith, nat_tests, tables)
 
 module _ (s : Store) (placed : LoopsStandApart s.model) (bare : s.loose ≡ table.empty) (h a b : ℕ) (free : table.get s.model.edges (edge_of h) ≡ None) where
   abbrev E : Store
@@ -262,8 +208,7 @@ same_or_lone (y ∷ ys) [] v e = absurd (omega (arith, ap (count y) (e ∙ canon
 same_or_lone (y ∷ ys) (z ∷ zs) v e = ap cycle e
 
 module _ (s : Store) (placed : LoopsStandApart s.model) (h : ℕ) (stands : HasLoop s.model h) where
-  abbrev K : Model
-  K = s.model
+  open s use {model as K}
 
   abbrev O : Model
   O = (take_out s h).model
@@ -281,20 +226,40 @@ module _ (s : Store) (placed : LoopsStandApart s.model) (h : ℕ) (stands : HasL
       ap (λ c. table.put K.loops r (record { face = face_of K r; content = c })) (same_or_lone (rest h (cycle_of K h)) (without h (cycle_of K h)) (tail K h) (sym (taken_out (cycle_of K h) (placed.apart r) h h_in)))
       ∙ sym (in_its_loop K placed h out stands)
 
+  -- what that leaves in each loop
+  abbrev left : LoopContent → LoopContent
+  left c = cond (holds h c) (out (items_of c)) c
+
+  left_content : (b : Bool) (x : LoopRow) → (cond b (record x { content = out (items_of x.content) }) x).content ≡ cond b (out (items_of x.content)) x.content
+  left_content true x = refl
+  left_content false x = refl
+
+  left_face : (b : Bool) (x : LoopRow) → (cond b (record x { content = out (items_of x.content) }) x).face ≡ x.face
+  left_face true x = refl
+  left_face false x = refl
+
+  rewritten : Rewritten K O left
+  rewritten = record {
+    rewrite = where_held h out;
+    is = loops_out;
+    contents = λ _ x. left_content (holds h x.content) x;
+    faces = λ _ x. left_face (holds h x.content) x;
+    none = ap (λ b. cond b (out []) (cycle [])) (holds-none h (cycle []) refl);
+  }
+
   pub content-O : (q : ℕ) → content O q ≡ cond (holds h (content K q)) (out (items_of (content K q))) (content K q)
-  content-O q = content-where K O h out loops_out q
+  content-O = content-new K O left rewritten
 
   pub face-O : (q : ℕ) → face_of O q ≡ face_of K q
-  face-O q = face-where K O h out loops_out q
+  face-O = face-same K O left rewritten
 
   pub has-O : (q : ℕ) → table.has O.loops q ≡ table.has K.loops q
-  has-O q = has-where K O h out loops_out q
+  has-O = same.loop-same K O left rewritten
 
   count_O : (x q : ℕ) → count x (items_of (content O q)) ≡ count x (without h (items_of (content K q)))
-  count_O x q = ap (λ c. count x (items_of c)) (content-O q) ∙ elim (IsIn_or_not h (items_of (content K q))) [
-    | inl i ↦ ap (λ b. count x (items_of (cond b (out (items_of (content K q))) (content K q)))) (in-holds h (content K q) i) ∙ count_or_lone x (without h (items_of (content K q))) (tail K h)
-    | inr n ↦ ap (λ b. count x (items_of (cond b (out (items_of (content K q))) (content K q)))) (holds-none h (content K q) n) ∙ sym (ap (count x) (without_none h (items_of (content K q)) n))
-  ]
+  count_O x q =
+      let xs : List ℕ = items_of (content K q) in
+      grind (arith, content-O q, IsIn_or_not h xs, in-holds h (content K q), holds-none h (content K q), count_or_lone x (without h xs) (tail K h), without_none h xs)
 
   taken_came : (x q : ℕ) → StandsIn O x q → (x ≢ h) × StandsIn K x q
   taken_came x q t =
@@ -311,7 +276,7 @@ module _ (s : Store) (placed : LoopsStandApart s.model) (h : ℕ) (stands : HasL
     only = λ x q t. placed.only x q (taken_came x q t).1;
     apart = λ q x. omega (arith, count_O x q, apart_out h (items_of (content K q)) (placed.apart q) x);
     one_loop = λ x q t. loop_at O x q t (λ p u. sym (placed.one_loop x p (taken_came x p u).1) ∙ placed.one_loop x q (taken_came x q t).1);
-    no_zero = zero-where K O h out loops_out placed.no_zero;
+    no_zero = ap (λ t. table.get t 0) loops_out ∙ table.get-map_rows (where_held h out) K.loops 0 ∙ ap (option_map (where_held h out 0)) placed.no_zero;
   }
 
   pub loop-taken : (x : ℕ) → x ≢ h → HasLoop K x → HasLoop O x

@@ -1,7 +1,6 @@
 -- Tables of loose rings of one half-edge each.
-use Rattle.std.proofs.Common.{◌≡◌, ◌≢◌, ℕ, cond, List, [], ◌∷◌, Some, None, unwrap_or, sym, ap, ◌∙◌, arith, ◌⊎◌, inl, inr}
+use Rattle.std.proofs.Common.{◌≡◌, ◌≢◌, ℕ, List, [], ◌∷◌, Some, None, unwrap_or, sym, ap, ◌∙◌, arith, ◌⊎◌, inl, inr}
 use Rattle.std.proofs.lemmas.Bool.Decides.{nat_tests, eqb_tells}
-use Rattle.std.proofs.lemmas.Option.{same_Some}
 use Rattle.euler_operators.specs.Common.{count, IsIn, mate, edge_of, plus, minus, Table, tables, same_table, cycle, holds}
 use Rattle.euler_operators.proofs.Common.{tick_same, tick_other, mate_cases, first_where_is, in-holds, holds_in}
 use Rattle.euler_operators.specs.Table as table
@@ -18,20 +17,10 @@ pub singles_empty : AreSingles table.empty
 singles_empty k ks at = absurd (none_some ks (sym (table.get-empty k) ∙ at))
 
 pub singles_put : (z : Table (List ℕ)) (h : ℕ) → AreSingles z → AreSingles (table.put z h (h ∷ []))
-singles_put z h each k ks at =
-    let g = table.get-put z h (h ∷ []) k in
-    elim (eqb_tells k h) [
-      | inl e ↦ same_Some _ _ (sym at ∙ g ∙ ap (λ b. cond b (Some (h ∷ [])) (table.get z k)) e.0) ∙ ap (λ x. x ∷ []) (sym e.1)
-      | inr e ↦ each k ks (sym (g ∙ ap (λ b. cond b (Some (h ∷ [])) (table.get z k)) e.0) ∙ at)
-    ]
+singles_put z h each k ks at = grind (arith, nat_tests, tables, each k ks)
 
 pub singles_remove : (z : Table (List ℕ)) (h : ℕ) → AreSingles z → AreSingles (table.remove z h)
-singles_remove z h each k ks at =
-    let g = table.get-remove z h k in
-    elim (eqb_tells k h) [
-      | inl e ↦ absurd (none_some ks (sym (g ∙ ap (λ b. cond b None (table.get z k)) e.0) ∙ at))
-      | inr e ↦ each k ks (sym (g ∙ ap (λ b. cond b None (table.get z k)) e.0) ∙ at)
-    ]
+singles_remove z h each k ks at = grind (arith, nat_tests, tables, each k ks)
 
 module _ (s : Store) (h : ℕ) (each : AreSingles s.loose) (at : table.get s.loose h ≡ Some (h ∷ [])) where
   one_item : (q : ℕ) (hs : List ℕ) → hs ≡ q ∷ [] → IsIn h hs → q ≡ h
@@ -65,20 +54,12 @@ module _ (a b : ℕ) (ne : a ≢ b) where
   pub pair_gone : table.remove (table.remove pair a) b ≡ table.empty
   pair_gone = same_table _ _ (λ q. grind (arith, nat_tests, tables))
 
-  pub pair_gone_back : table.remove (table.remove pair b) a ≡ table.empty
-  pair_gone_back = same_table _ _ (λ q. grind (arith, nat_tests, tables))
-
-  -- where they are the two half-edges of an edge
-  module _ (e : ℕ) (halves : ((plus e ≡ a) × (minus e ≡ b)) ⊎ ((plus e ≡ b) × (minus e ≡ a))) where
-    pub edge_gone : table.remove (table.remove pair (plus e)) (minus e) ≡ table.empty
-    edge_gone = elim halves [
-      | inl h ↦ (λ i. table.remove (table.remove pair (h.0 i)) (h.1 i)) ∙ pair_gone
-      | inr h ↦ (λ i. table.remove (table.remove pair (h.0 i)) (h.1 i)) ∙ pair_gone_back
-    ]
+-- ---- the two half-edges of an edge
 
 pub halves_of : (h : ℕ) → ((plus (edge_of h) ≡ h) × (minus (edge_of h) ≡ mate h)) ⊎ ((plus (edge_of h) ≡ mate h) × (minus (edge_of h) ≡ h))
 unfolding edge_of
 halves_of h = elim (mate_cases h) [ inl p ↦ inl (omega arith, omega arith) | inr p ↦ inr (omega arith, omega arith) ]
 
-pub halves_back : (h : ℕ) → ((plus (edge_of h) ≡ mate h) × (minus (edge_of h) ≡ h)) ⊎ ((plus (edge_of h) ≡ h) × (minus (edge_of h) ≡ mate h))
-halves_back h = elim (halves_of h) [ inl p ↦ inr p | inr p ↦ inl p ]
+-- both are taken away
+pub edge_gone : (h : ℕ) (ne : mate h ≢ h) → table.remove (table.remove (pair (mate h) h ne) (plus (edge_of h))) (minus (edge_of h)) ≡ table.empty
+edge_gone h ne = same_table _ _ (λ q. grind (arith, nat_tests, tables, halves_of h))

@@ -1,7 +1,6 @@
 -- What the arena's writers make of a store, where an edge is made and where one half-edge goes into a loop or leaves one.
-use Rattle.std.proofs.Common.{◌≡◌, ◌≢◌, ℕ, Bool, true, false, cond, not, List, [], ◌∷◌, is_some, refl, sym, ap, ◌∙◌, subst, arith, eq-eqb}
-use Rattle.std.proofs.lemmas.Bool.Decides.{nat_tests}
-use Rattle.euler_operators.specs.Common.{IsIn, rest, cut_left, cut_right, joined, take_ring, mate, edge_of, is_first, plus, minus, code, HalfEdge, Table, tables, same_table, Model, EdgeRow, LoopContent, LoopRow, lone, cycle, items_of, content, face_of, has_half, loop_of, cycle_of, before, tail, edge_row, cycle_or_lone}
+use Rattle.std.proofs.Common.{◌≡◌, ◌≢◌, ℕ, Bool, true, false, cond, not, List, [], ◌∷◌, is_some, refl, sym, ap, ◌∙◌, subst, eq-eqb}
+use Rattle.euler_operators.specs.Common.{IsIn, rest, cut_left, cut_right, joined, take_ring, mate, edge_of, is_first, plus, minus, code, HalfEdge, Model, EdgeRow, LoopContent, LoopRow, lone, cycle, items_of, content, face_of, has_half, loop_of, cycle_of, before, tail, edge_row, cycle_or_lone}
 use Rattle.euler_operators.specs.Table as table
 use Rattle.euler_operators.proofs.Common.{plus_row, mate_plus, mate_minus, mate-mate, mate_other, edge_of-mate, is_first-mate, get-put_here, put-put, put_turned, content_row, face_row, holds_in, held_row, in_no_loop}
 use Rattle.euler_laws.proofs.Common.{cycle_filled}
@@ -9,9 +8,6 @@ use Rattle.euler_conditions.specs.Store as store
 use Rattle.euler_conditions.specs.Store.{Store, with_loop, with_lone, loosened, loose_key, loose_ring, join, join_loose, join_loops, cut, cut_loose, clear}
 use Rattle.low_euler.specs.steps.Steps.{IsStanding, IsLoose, with_edge, put_before, take_out}
 use Rattle.low_euler.proofs.steps_laws.RingSteps.{joined_before, cut_keeps, cut_takes, follows, nothing_follows, alone_list}
-
-pub remove-put_same : {X : Type 0} (t : Table X) (n : ℕ) (x : X) → table.remove (table.put t n x) n ≡ table.remove t n
-remove-put_same t n x = same_table _ _ (λ q. grind (arith, nat_tests, tables))
 
 -- ---- a new edge
 
@@ -72,12 +68,14 @@ module _ (M : Model) (r : ℕ) (c : LoopContent) where
 -- ---- half-edges that go in and out
 
 -- x, which is alone in a loose ring, can be joined to the loop of n
-pub record JoinsAlone (s : Store) (n x : ℕ) : Type 0 where
-  pub a_there : has_half s.model n ≡ true
-  pub b_there : has_half s.model x ≡ true
-  pub looped : loop_of s.model n ≢ 0
-  pub loose : loop_of s.model x ≡ 0
-  pub alone : loose_ring s x ≡ x ∷ []
+abbrev pub JoinsAlone : Store → ℕ → ℕ → Type 0
+JoinsAlone s n x = record {
+  a_there : has_half s.model n ≡ true;
+  b_there : has_half s.model x ≡ true;
+  looped : loop_of s.model n ≢ 0;
+  loose : loop_of s.model x ≡ 0;
+  alone : loose_ring s x ≡ x ∷ [];
+}
 
 -- a half-edge that is alone, joined after p, which stands in loop r
 module _ (s : Store) (p r h : ℕ) (there : has_half s.model p ≡ true) (near : loop_of s.model p ≡ r) (real : r ≢ 0) (loose : IsLoose s h) where
@@ -108,8 +106,7 @@ module _ (s : Store) (p r h : ℕ) (there : has_half s.model p ≡ true) (near :
   was_joined q t n x e en ex d = d ∙ ap (λ z. join z n x) e ∙ ap (λ y. join s y x) en ∙ ap (join s p) ex
 
 module _ (s : Store) (g : ℕ) (stands : IsStanding s.model g) where
-  abbrev M : Model
-  M = s.model
+  open s use {model as M}
 
   abbrev r : ℕ
   r = loop_of M g

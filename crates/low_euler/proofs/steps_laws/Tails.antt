@@ -1,9 +1,9 @@
 -- A walk round a vertex from one half-edge up to before another, which lets each that it meets start elsewhere.
 use Rattle.std.proofs.Common.{◌≡◌, ◌≢◌, ℕ, ◌+◌, ◌<◌, ◌≤◌, Bool, true, false, cond, nat_lt, List, [], ◌∷◌, ◌++◌, length, Option, Some, None, is_some, unwrap_or, refl, sym, ap, ◌∙◌, subst, arith, inl, inr, true≢false, ne_eqb, option_map}
 use Rattle.std.proofs.lemmas.Bool.Decides.{nat_tests, eqb_tells}
-use Rattle.euler_operators.specs.Common.{count, tick, IsIn, IsApart, head_or, rest, successor, rotate_to, upto, IsRing, HalfEdge, code, mate, edge_of, is_first, plus, minus, Table, same_table, Model, EdgeRow, no_edge, tail_in, tail, loop_of, after, round, arc, content, items_of, Sound, HasHalf, StandsIn, with_tails}
+use Rattle.euler_operators.specs.Common.{count, tick, IsIn, IsApart, head_or, rest, successor, rotate_to, upto, IsRing, HalfEdge, code, mate, edge_of, is_first, plus, minus, Table, tables, same_table, Model, EdgeRow, no_edge, tail_in, tail, loop_of, after, round, arc, content, items_of, Sound, HasHalf, with_tails}
 use Rattle.euler_operators.specs.Items.{before as before_item}
-use Rattle.euler_operators.proofs.Common.{tick_same, tick_other, next_is_successor, IsIn_successor, rotation_at, count_at, apart_at, rotate_to_is, rotate_to_same, rotate_at, upto_itself, plus_row, minus_row, edge_of-code, map_same, row_some, get-put_here, get-put_other, held_row, mate_there as half_mate}
+use Rattle.euler_operators.proofs.Common.{tick_same, tick_other, next_is_successor, IsIn_successor, rotation_at, count_at, apart_at, rotate_to_is, rotate_to_same, rotate_at, upto_itself, plus_row, minus_row, edge_of-code, map_same, row_some, get-put_here, get-put_other, number_real, loop_there, mate_there as half_mate}
 use Rattle.euler_operators.specs.Table as table
 use Rattle.euler_laws.proofs.Common.{steps_are, half_below, Fan, fan_of, mapped_some, tails_of_row, halves_of_edge, arc_is}
 use Rattle.euler_conditions.specs.Store.{Store, set_tail}
@@ -24,10 +24,7 @@ module _ (next : ℕ → ℕ) (ws : List ℕ) (d : IsApart ws) (r : IsRing next 
       ∙ ap (λ q. x ∷ q) (sym (ap (before_item k) turned ∙ before_front (y ∷ rs) kx)) where
         before_front : (q : List ℕ) → IsIn k q → before_item k (q ++ x ∷ []) ≡ before_item k q
         before_front [] t = absurd (omega arith)
-        before_front (z ∷ q) t = elim (eqb_tells k z) [
-          | inl e ↦ ap (λ b. cond b [] (z ∷ before_item k (q ++ x ∷ []))) e.0 ∙ sym (ap (λ b. cond b [] (z ∷ before_item k q)) e.0)
-          | inr e ↦ ap (λ b. cond b [] (z ∷ before_item k (q ++ x ∷ []))) e.0 ∙ ap (λ u. z ∷ u) (before_front q (omega (arith, tick_other k z e.1))) ∙ sym (ap (λ b. cond b [] (z ∷ before_item k q)) e.0)
-        ]
+        before_front (z ∷ q) t = grind (arith, eqb_tells k z, tick_other k z, before_front q)
 
   rest_cases : (q : List ℕ) → rest x ws ≡ q → upto x k ws ≡ x ∷ upto (head_or x q) k ws
   rest_cases [] e = absurd (omega (arith, count_at k x ws i, tick_other k x (λ t. ne (sym t)), ap (count k) e))
@@ -48,9 +45,7 @@ row_with x v row = cond (is_first x) (record row { plus_tail = v }) (record row 
 
 -- one more is listed
 listed_here : (n : ℕ) (xs : List ℕ) (v a : ℕ) → cond (nat_lt 0 (count n xs)) v v ≡ cond (nat_lt 0 (tick n n + count n xs)) v a
-listed_here n xs v a =
-    let one : nat_lt 0 (tick n n + count n xs) ≡ true = let t : tick n n ≡ 1 = tick_same n in grind (arith, nat_tests, t) in
-    cond_same (nat_lt 0 (count n xs)) v ∙ sym (ap (λ b. cond b v a) one)
+listed_here n xs v a = grind (arith, nat_tests, tick_same n)
 
 listed_past : (n x : ℕ) (xs : List ℕ) (v a : ℕ) → n ≢ x → cond (nat_lt 0 (count n xs)) v a ≡ cond (nat_lt 0 (tick n x + count n xs)) v a
 listed_past n x xs v a ne = let t : count n xs ≡ tick n x + count n xs = omega (arith, tick_other n x ne) in ap (λ k. cond (nat_lt 0 k) v a) t
@@ -116,8 +111,7 @@ pub come_first : (s : Store) (g k v : ℕ) → HasHalf s.model g → tail s.mode
 come_first s g k v there e = record { here = there; one_tail = sym e; kept = refl; halves = λ _. refl; ends = refl }
 
 module _ (s now : Store) (g k x v : ℕ) (sound : Sound s.model) (k_there : HasHalf s.model k) (w : HasCome s now g k x v) where
-  abbrev M : Model
-  M = s.model
+  open s use {model as M}
 
   fan : Fan (after M) M (tail M k)
   fan = fan_of M sound k k_there
@@ -155,20 +149,13 @@ module _ (s now : Store) (g k x v : ℕ) (sound : Sound s.model) (k_there : HasH
 
   set_halves : (e : ℕ) → table.has (set_tail now x v).model.edges e ≡ table.has M.edges e
   unfolding set_tail
-  set_halves e = elim (eqb_tells e (edge_of x)) [
-    | inl a ↦ ap (table.has (set_row now.model.edges x v)) a.1 ∙ ap is_some (get-put_here now.model.edges (edge_of x) set_to) ∙ sym (ap (table.has M.edges) a.1 ∙ w.here)
-    | inr a ↦ ap is_some (get-put_other now.model.edges (edge_of x) set_to e a.1) ∙ w.halves e
-  ] where
-    set_to : EdgeRow
-    set_to = row_with x v (unwrap_or (table.get now.model.edges (edge_of x)) no_edge)
+  set_halves e = grind (arith, nat_tests, tables, w.here, w.halves e)
 
   pub mate_there : HasHalf (set_tail now x v).model (mate x)
   mate_there = set_halves (edge_of (mate x)) ∙ half_mate M x w.here
 
   mate_loop : loop_of M (mate x) ≢ 0
-  mate_loop e = zero_loop (loop_of M (mate x)) e (sound.stands (mate x) (half_mate M x w.here)) where
-    zero_loop : (l : ℕ) → l ≡ 0 → StandsIn M (mate x) l → ⊥
-    zero_loop l e s = true≢false (sym (sound.loops_fit 0 (ap is_some (held_row M (mate x) 0 (subst (StandsIn M (mate x)) e s)))))
+  mate_loop = number_real (loop_of M (mate x)) (sound.loops_fit (loop_of M (mate x)) (loop_there M sound (mate x) (half_mate M x w.here)))
 
   mate_looped : loop_of (set_tail now x v).model (mate x) ≢ 0
   mate_looped e = mate_loop (sym (loop_of-same M (set_tail now x v).model set_loops (mate x)) ∙ e)
@@ -210,11 +197,8 @@ module _ (s now : Store) (g k x v : ℕ) (sound : Sound s.model) (k_there : HasH
     next_was = next_in (λ e. mate_looped (sym (ap (λ (u : Store). loop_of u.model n) set ∙ ap (loop_of (set_tail now x v).model) mate_is) ∙ e))
         ∙ ap (λ (u : Store). after u.model n) set ∙ ap (after (set_tail now x v).model) mate_is ∙ next_is
 
-    pub next_shorter : length (arc M y k) < length (arc M x k)
-    next_shorter = subst (λ z. length (arc M z k) < length (arc M x k)) (sym next_was) (shorter ne)
-
-    pub come_next : HasCome s q g k y v
-    come_next = subst (λ u. HasCome s u g k y v) (sym set) (subst (λ z. HasCome s (set_tail now x v) g k z v) (sym next_was) (come_on ne))
+    pub come_next : HasCome s q g k y v × (length (arc M y k) < length (arc M x k))
+    come_next = subst (λ z. HasCome s q g k z v × (length (arc M z k) < length (arc M x k))) (sym next_was) (subst (λ u. HasCome s u g k (round M x) v) (sym set) (come_on ne), shorter ne)
 
 -- ---- what stays where tails move
 

@@ -1,12 +1,13 @@
 -- Stores that differ in the contents of two loops only: what the readers answer there, and what the steps make of them.
 use Rattle.std.proofs.Common.{◌≡◌, ◌≢◌, ℕ, ◌+◌, ◌≤◌, true, cond, List, [], ◌∷◌, Some, is_some, unwrap_or, sym, ap, ◌∙◌, subst, arith, ◌⊎◌, inl, inr, ne_eqb}
 use Rattle.std.proofs.lemmas.Bool.Decides.{nat_tests, eqb_tells}
-use Rattle.euler_operators.specs.Common.{count, IsIn, IsApart, rest, predecessor, cut_left, cut_right, joined, put_ring, Table, tables, Model, LoopContent, LoopRow, cycle, holds, items_of, content, face_of, has_half, loop_of, cycle_of, before, tail, no_loop, HasHalf, StandsIn, cycle_or_lone}
-use Rattle.euler_operators.proofs.Common.{IsIn_or_not, IsIn_predecessor, put-put, put_turned, put_same, content_row, face_row, in-holds, holds_in}
+use Rattle.euler_operators.specs.Common.{count, IsIn, IsApart, rest, predecessor, cut_left, cut_right, joined, put_ring, Table, tables, same_table, Model, LoopContent, LoopRow, cycle, holds, items_of, content, face_of, has_half, loop_of, cycle_of, before, tail, no_loop, HasHalf, StandsIn, cycle_or_lone}
+use Rattle.euler_operators.proofs.Common.{IsIn_predecessor, put-put, put_turned, put_same, content_row, face_row, same_content, in-holds, holds_in}
 use Rattle.euler_operators.specs.Table as table
 use Rattle.euler_laws.proofs.Common.{loop_at}
-use Rattle.euler_conditions.specs.Store.{Store, Extents, loose_key, join, join_loose, join_loops, cut_to}
+use Rattle.euler_conditions.specs.Store.{Store, Extents, join, join_loose, join_loops, cut_to}
 use Rattle.low_euler.specs.steps.Steps.{IsStanding, put_before, take_out}
+use Rattle.low_euler.proofs.steps_laws.LooseRings.{AreSingles, key_is}
 
 -- two loops of a model, which get the faces fr and fl, and half-edges that stand in no other loop
 pub record TwoLoops (N : Model) (r l fr fl : ℕ) (all : List ℕ) : Type 0 where
@@ -21,14 +22,25 @@ pub record TwoLoops (N : Model) (r l fr fl : ℕ) (all : List ℕ) : Type 0 wher
 pub record Fits (all : List ℕ) (c d : LoopContent) : Type 0 where
   pub some : (x : ℕ) → count x (items_of c) + count x (items_of d) ≤ count x all
 
+-- the loops of a and b can be joined
+abbrev pub CanJoin : Store → ℕ → ℕ → Type 0
+CanJoin s a b = record {
+  a_there : has_half s.model a ≡ true;
+  b_there : has_half s.model b ≡ true;
+  looped : loop_of s.model a ≢ 0;
+  apart : loop_of s.model b ≢ loop_of s.model a;
+}
+
 -- a loop can be cut at a and b, and what stands from b on goes to loop l
-pub record CanCut (s : Store) (a b l : ℕ) : Type 0 where
-  pub a_there : has_half s.model a ≡ true
-  pub b_there : has_half s.model b ≡ true
-  pub looped : loop_of s.model a ≢ 0
-  pub together : loop_of s.model b ≡ loop_of s.model a
-  pub apart : a ≢ b
-  pub free : (table.has s.model.loops l ≡ true) × (items_of (content s.model l) ≡ [])
+abbrev pub CanCut : Store → ℕ → ℕ → ℕ → Type 0
+CanCut s a b l = record {
+  a_there : has_half s.model a ≡ true;
+  b_there : has_half s.model b ≡ true;
+  looped : loop_of s.model a ≢ 0;
+  together : loop_of s.model b ≡ loop_of s.model a;
+  apart : a ≢ b;
+  free : l ≢ 0 → (table.has s.model.loops l ≡ true) × (items_of (content s.model l) ≡ []);
+}
 
 module _ {N : Model} {r l fr fl : ℕ} {all : List ℕ} (loops : TwoLoops N r l fr fl all) where
   abbrev pub row_r : LoopContent → LoopRow
@@ -72,6 +84,10 @@ module _ {N : Model} {r l fr fl : ℕ} {all : List ℕ} (loops : TwoLoops N r l 
   pub held_before : (c d : LoopContent) → table.get N.loops r ≡ Some (row_r c) → table.get N.loops l ≡ Some (row_l d) → (holding c d).loops ≡ N.loops
   held_before c d a b = ap (λ t. table.put t l (row_l d)) (put_same N.loops r (row_r c) a) ∙ put_same N.loops l (row_l d) b
 
+  -- the second loop taken away
+  pub gone_l : (c d : LoopContent) → table.remove (holding c d).loops l ≡ table.remove (table.put N.loops r (row_r c)) l
+  gone_l c d = same_table _ _ (λ q. grind (arith, nat_tests, tables))
+
   -- the second loop, once it holds none
   pub emptied_l : (c : LoopContent) (P : Model) (n : ℕ) → n ≡ l → P.loops ≡ (holding c (cycle [])).loops → (table.has P.loops n ≡ true) × (items_of (content P n) ≡ [])
   unfolding content
@@ -85,8 +101,7 @@ module _ {N : Model} {r l fr fl : ℕ} {all : List ℕ} (loops : TwoLoops N r l 
     P = holding c d
 
     content_else : (q : ℕ) → q ≢ r → q ≢ l → content P q ≡ content N q
-    unfolding content
-    content_else q a b = ap (λ o. (unwrap_or o no_loop).content) (get_else N.loops (row_r c) (row_l d) q a b)
+    content_else q a b = same_content N P q (get_else N.loops (row_r c) (row_l d) q a b)
 
     count_else : (x q : ℕ) → IsIn x all → q ≢ r → q ≢ l → count x (items_of (content P q)) ≡ 0
     count_else x q i a b = ap (λ k. count x (items_of k)) (content_else q a b) ∙ loops.others x q i a b
@@ -110,12 +125,6 @@ module _ {N : Model} {r l fr fl : ℕ} {all : List ℕ} (loops : TwoLoops N r l 
     pub loop_l : (x : ℕ) → IsIn x (items_of d) → loop_of P x ≡ l
     loop_l x i = loop_at P x l (ap (holds x) (content_l c d) ∙ in-holds x d i)
         (λ q t. elim (found x q (omega (arith, fits.some x, i)) t) [ inl a ↦ absurd (omega (arith, fits.some x, loops.once x, i, a.1)) | inr b ↦ b.0 ])
-
-    pub nowhere : (x : ℕ) → IsIn x all → count x (items_of c) + count x (items_of d) ≡ 0 → (q : ℕ) → count x (items_of (content P q)) ≡ 0
-    nowhere x i n q = elim (IsIn_or_not x (items_of (content P q))) [
-      | inl j ↦ absurd (elim (found x q i (in-holds x (content P q) j)) [ inl a ↦ omega (arith, n, a.1) | inr b ↦ omega (arith, n, b.1) ])
-      | inr none ↦ none
-    ]
 
     pub cycle_r : (x : ℕ) → IsIn x (items_of c) → cycle_of P x ≡ items_of c
     cycle_r x i = ap (λ q. items_of (content P q)) (loop_r x i) ∙ ap items_of (content_r c d)
@@ -168,22 +177,26 @@ module _ {N : Model} {r l fr fl : ℕ} {all : List ℕ} (loops : TwoLoops N r l 
         ∙ ap (λ t. record { model = record N { loops = t }; loose = z; room = R }) (put_l c d e)
 
     module _ {c d : LoopContent} (z : Table (List ℕ)) (fits : Fits all c d) where
-      pub put_before_r : (g h : ℕ) → IsIn g (items_of c) → put_before (state c d z) g h ≡ state (cycle (put_ring h g (items_of c))) d (table.remove z (loose_key (state c d z) h))
+      -- h, which is loose alone, put before g
+      pub put_before_r : (g h : ℕ) → IsIn g (items_of c) → AreSingles z → table.get z h ≡ Some (h ∷ []) →
+          put_before (state c d z) g h ≡ state (cycle (put_ring h g (items_of c))) d (table.remove z h)
       unfolding put_before
-      put_before_r g h i =
-          ap (λ hs. state_r c d (loop_of (holding c d) g) (face_of (holding c d) (loop_of (holding c d) g)) (cycle (put_ring h g hs)) (table.remove z (loose_key (state c d z) h))) (cycle_r fits g i)
-          ∙ new_r c d (cycle (put_ring h g (items_of c))) (table.remove z (loose_key (state c d z) h)) (loop_of (holding c d) g) (loop_r fits g i)
+      put_before_r g h i each at =
+          (λ k. state_r c d (loop_of (holding c d) g) (face_of (holding c d) (loop_of (holding c d) g)) (cycle (put_ring h g (cycle_r fits g i k)))
+          (table.remove z (key_is (state c d z) h each at k)))
+          ∙ new_r c d (cycle (put_ring h g (items_of c))) (table.remove z h) (loop_of (holding c d) g) (loop_r fits g i)
 
-      taken : (h : ℕ) (hs : List ℕ) → cycle_of (holding c d) h ≡ hs →
-          take_out (state c d z) h ≡ state_r c d (loop_of (holding c d) h) (face_of (holding c d) (loop_of (holding c d) h)) (cycle_or_lone (rest h hs) (tail N h)) (table.put z h (h ∷ []))
+      -- h taken out, which qs follow in its ring
+      taken : (h : ℕ) {hs qs : List ℕ} → cycle_of (holding c d) h ≡ hs → rest h hs ≡ qs →
+          take_out (state c d z) h ≡ state_r c d (loop_of (holding c d) h) (face_of (holding c d) (loop_of (holding c d) h)) (cycle_or_lone qs (tail N h)) (table.put z h (h ∷ []))
       unfolding take_out tail
-      taken h hs e = ap (λ ring. state_r c d (loop_of (holding c d) h) (face_of (holding c d) (loop_of (holding c d) h)) (cycle_or_lone (rest h ring) (tail N h)) (table.put z h (h ∷ []))) e
+      taken h e f = ap (λ ring. state_r c d (loop_of (holding c d) h) (face_of (holding c d) (loop_of (holding c d) h)) (cycle_or_lone ring (tail N h)) (table.put z h (h ∷ []))) (ap (rest h) e ∙ f)
 
-      pub take_out_r : (h : ℕ) → IsIn h (items_of c) → take_out (state c d z) h ≡ state (cycle_or_lone (rest h (items_of c)) (tail N h)) d (table.put z h (h ∷ []))
-      take_out_r h i = taken h (items_of c) (cycle_r fits h i) ∙ new_r c d (cycle_or_lone (rest h (items_of c)) (tail N h)) (table.put z h (h ∷ [])) (loop_of (holding c d) h) (loop_r fits h i)
+      pub take_out_r : (h : ℕ) {qs : List ℕ} → IsIn h (items_of c) → rest h (items_of c) ≡ qs → take_out (state c d z) h ≡ state (cycle_or_lone qs (tail N h)) d (table.put z h (h ∷ []))
+      take_out_r h {qs} i e = taken h (cycle_r fits h i) e ∙ new_r c d (cycle_or_lone qs (tail N h)) (table.put z h (h ∷ [])) (loop_of (holding c d) h) (loop_r fits h i)
 
-      pub take_out_l : (h : ℕ) → IsIn h (items_of d) → take_out (state c d z) h ≡ state c (cycle_or_lone (rest h (items_of d)) (tail N h)) (table.put z h (h ∷ []))
-      take_out_l h i = taken h (items_of d) (cycle_l fits h i) ∙ new_l c d (cycle_or_lone (rest h (items_of d)) (tail N h)) (table.put z h (h ∷ [])) (loop_of (holding c d) h) (loop_l fits h i)
+      pub take_out_l : (h : ℕ) {qs : List ℕ} → IsIn h (items_of d) → rest h (items_of d) ≡ qs → take_out (state c d z) h ≡ state c (cycle_or_lone qs (tail N h)) (table.put z h (h ∷ []))
+      take_out_l h {qs} i e = taken h (cycle_l fits h i) e ∙ new_l c d (cycle_or_lone qs (tail N h)) (table.put z h (h ∷ [])) (loop_of (holding c d) h) (loop_l fits h i)
 
     abbrev state_2 : LoopContent → LoopContent → ℕ → LoopRow → ℕ → LoopRow → Table (List ℕ) → Store
     state_2 c d q x k y z = record { model = record N { loops = table.put (table.put (holding c d).loops q x) k y }; loose = z; room = R }
@@ -213,7 +226,17 @@ module _ {N : Model} {r l fr fl : ℕ} {all : List ℕ} (loops : TwoLoops N r l 
       looped = (standing_r fits a i).looped;
       together = loop_r fits b j ∙ sym (loop_r fits a i);
       apart = ne;
-      free = (ap is_some (get_l N.loops (row_r (cycle xs)) (row_l (cycle []))), ap items_of (content_l (cycle xs) (cycle [])));
+      free = λ _. (ap is_some (get_l N.loops (row_r (cycle xs)) (row_l (cycle []))), ap items_of (content_l (cycle xs) (cycle [])));
+    }))
+
+    -- what the join asks
+    pub join_asks : {xs ys : List ℕ} (z : Table (List ℕ)) → Fits all (cycle xs) (cycle ys) → (a b : ℕ) → IsIn a xs → IsIn b ys →
+        (p : Store) (n : ℕ) → p ≡ state (cycle xs) (cycle ys) z → n ≡ b → CanJoin p a n
+    join_asks z fits a b i j p n e en = subst (λ k. CanJoin p a k) (sym en) (subst (λ t. CanJoin t a b) (sym e) (record {
+      a_there = (standing_r fits a i).there;
+      b_there = (standing_l fits b j).there;
+      looped = (standing_r fits a i).looped;
+      apart = λ same. loops.apart (sym (loop_r fits a i) ∙ sym same ∙ loop_l fits b j);
     }))
 
     -- the two loops become one, and the second is empty

@@ -1,6 +1,6 @@
 -- An edge made at two half-edges by the writers of an arena.
 use Rattle.std.proofs.Common.{◌≡◌, ◌≢◌, ℕ, false, None, is_some, sym, ap, ◌∙◌}
-use Rattle.euler_operators.specs.Common.{Point, HalfEdge, At, code, mate, edge_of, Model, loop_of, before, tail, arc, Sound, effect, mev_at, with_before, with_tails, edge_row}
+use Rattle.euler_operators.specs.Common.{Point, HalfEdge, At, code, mate, edge_of, loop_of, before, tail, arc, effect, mev_at, with_before, with_tails, edge_row}
 use Rattle.euler_operators.specs.Table as table
 use Rattle.euler_operators.proofs.Common.{edge_of-code}
 use Rattle.euler_operators.specs.declared.Op.TheVariants.{Mev}
@@ -14,14 +14,11 @@ use Rattle.low_euler.proofs.steps_laws.EdgeSteps.{first_loose, second_loose}
 use Rattle.low_euler.proofs.steps_laws.Tails.{loops-tails, loose-tails, half-tails, free-tails}
 
 module _ (s : Store) (from to half : HalfEdge) (v : ℕ) (p : Point) (ok : Accepts s (Mev (At from) (At to) half v p)) where
-  sound : Sound s.model
-  sound = ok.ready.sound
+  open s use {model as M}
+  open ok.ready use {sound}
 
   pub goes : MevGoes s.model (code from) (code to) (code half) v p
   goes = mev_goes s.model from to half v p ok.holds
-
-  abbrev M : Model
-  M = s.model
 
   abbrev g : ℕ
   g = code from
@@ -47,10 +44,6 @@ module _ (s : Store) (from to half : HalfEdge) (v : ℕ) (p : Point) (ok : Accep
 
   abbrev first_in : Store
   first_in = put_before edged g h
-
-  -- what each call leaves
-  pub was_edged : (q : Store) (a : ℕ) → q ≡ moved → a ≡ u → with_edge q h a v ≡ edged
-  was_edged q a e ea = ap (λ t. with_edge t h a v) e ∙ ap (λ x. with_edge moved h x v) ea
 
   -- what the new edge asks
   edge_none : table.get moved.model.edges (edge_of h) ≡ None

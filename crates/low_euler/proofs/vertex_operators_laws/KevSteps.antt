@@ -1,7 +1,7 @@
 -- An edge and the vertex at its far end killed by the writers of an arena.
-use Rattle.std.proofs.Common.{◌≡◌, ◌≢◌, ℕ, true, false, cond, nat_eq, nat_lt, List, [], ◌∷◌, ◌++◌, None, is_some, unwrap_or, refl, sym, ap, subst, ◌∙◌, arith, ◌⊎◌, inl, inr}
+use Rattle.std.proofs.Common.{◌≡◌, ◌≢◌, ℕ, true, false, cond, nat_eq, nat_lt, List, [], ◌∷◌, ◌++◌, None, unwrap_or, refl, sym, ap, subst, ◌∙◌, arith, ◌⊎◌, inl, inr}
 use Rattle.std.proofs.lemmas.Bool.Decides.{nat_tests, eqb_tells}
-use Rattle.euler_operators.specs.Common.{count, IsIn, IsApart, canonical, rest, rotate_to, successor, predecessor, without, HalfEdge, code, mate, edge_of, is_first, plus, minus, Model, LoopContent, cycle, no_edge, items_of, holds, tail, tail_in, loop_of, face_of, content, after, round, arc, Sound, HasHalf, effect, kev, cycle_or_lone}
+use Rattle.euler_operators.specs.Common.{count, IsIn, IsApart, canonical, rest, rotate_to, successor, predecessor, without, HalfEdge, code, mate, edge_of, is_first, plus, minus, Model, LoopContent, cycle, no_edge, items_of, holds, tail, tail_in, loop_of, face_of, content, after, round, arc, HasHalf, effect, kev, cycle_or_lone}
 use Rattle.euler_operators.specs.Items.{before as before_item, after as after_item}
 use Rattle.euler_operators.proofs.Common.{tick_other, IsIn_or_not, next_is_successor, IsIn_successor, predecessor-successor, count_at, count-canonical, IsApart-canonical, canonical-rotates, rest_same, without_none, count-without, upto_once, mate_other, mate-mate, get-remove_here, get-remove_other, in-holds, holds-none, cycle_there, mate_there as half_mate}
 use Rattle.euler_operators.specs.Table as table
@@ -12,7 +12,7 @@ use Rattle.euler_conditions.specs.Store.{Store, take_edge, take_vertex}
 use Rattle.euler_conditions.specs.Ready.{Accepts, after as after_op}
 use Rattle.low_euler.specs.steps.Steps.{LoopsStandApart, IsStanding, take_out, kill_edge, with_tails_at}
 use Rattle.low_euler.proofs.steps_laws.RingSteps.{upto_before}
-use Rattle.low_euler.proofs.steps_laws.LooseRings.{edge_gone as both_gone, halves_back}
+use Rattle.low_euler.proofs.steps_laws.LooseRings.{edge_gone as both_gone}
 use Rattle.low_euler.proofs.steps_laws.LoopsApart.{HasLoop, placed_of, placed-same, loop-same, content-same, face_of-same, never_zero, standing_of, same_or_lone, placed-taken, loop-taken, content-O, face-O, has-O}
 use Rattle.low_euler.proofs.steps_laws.Tails.{cond_same, loops-tails, half-tails, edges-tails, tail-tails}
 
@@ -27,17 +27,7 @@ out_past x z zs e = let t : nat_eq x z ≡ false = grind (arith, nat_tests, e) i
 -- two are taken out in either order
 out_turned : (x y : ℕ) (zs : List ℕ) → without x (without y zs) ≡ without y (without x zs)
 out_turned x y [] = refl
-out_turned x y (z ∷ zs) = elim (eqb_tells x z) [
-  | inl a ↦ elim (eqb_tells y z) [
-    | inl b ↦ ap (λ q. without q (without y (z ∷ zs))) (a.1 ∙ sym b.1) ∙ ap (λ q. without y (without q (z ∷ zs))) (b.1 ∙ sym a.1)
-    | inr b ↦ ap (without x) (out_past y z zs b.1) ∙ out_here x z (without y zs) a.1 ∙ ap (without y) (sym (out_here x z zs a.1))
-  ]
-  | inr a ↦ elim (eqb_tells y z) [
-    | inl b ↦ ap (without x) (out_here y z zs b.1) ∙ sym (ap (without y) (out_past x z zs a.1) ∙ out_here y z (without x zs) b.1)
-    | inr b ↦ ap (without x) (out_past y z zs b.1) ∙ out_past x z (without y zs) a.1 ∙ ap (λ q. z ∷ q) (out_turned x y zs)
-        ∙ sym (ap (without y) (out_past x z zs a.1) ∙ out_past y z (without x zs) b.1)
-  ]
-]
+out_turned x y (z ∷ zs) = grind (arith, eqb_tells x z, eqb_tells y z, out_here x z, out_here y z, out_past x z, out_past y z, out_turned x y zs)
 
 -- ---- half-edges taken out of what a loop holds
 
@@ -80,8 +70,8 @@ less_neither : (h m u w : ℕ) (c : LoopContent) → count h (items_of c) ≡ 0 
 less_neither h m u w c a b = ap (less h u) (less_none m w c b) ∙ less_none h u c a
 
 module _ (s : Store) (half : HalfEdge) (ok : Accepts s (Kev half)) where
-  abbrev M : Model
-  M = s.model
+  open s use {model as M}
+  open ok.ready use {sound, bare}
 
   abbrev h : ℕ
   h = code half
@@ -98,30 +88,24 @@ module _ (s : Store) (half : HalfEdge) (ok : Accepts s (Kev half)) where
   abbrev arc' : List ℕ
   arc' = arc s.model (after s.model (code half)) (mate (code half))
 
-  sound : Sound s.model
-  sound = ok.ready.sound
-
-  goes : KevGoes s.model (code half)
-  goes = kev_goes s.model half ok.ready.sound ok.holds
+  pub goes : KevGoes s.model (code half)
+  goes = kev_goes s.model half sound ok.holds
 
   placed_M : LoopsStandApart M
   placed_M = placed_of M sound
 
   -- what the readers and the walk ask
-  pub half_there : HasHalf s.model (code half)
-  half_there = goes.h_there
-
   pub mate_there : HasHalf s.model (mate (code half))
-  mate_there = half_mate M h half_there
+  mate_there = half_mate M h goes.h_there
 
   pub half_looped : loop_of s.model (code half) ≢ 0
-  half_looped = never_zero M placed_M h (sound.stands h half_there)
+  half_looped = never_zero M placed_M h (sound.stands h goes.h_there)
 
   pub following_there : HasHalf s.model (after s.model (code half))
-  following_there = half_after M sound h half_there
+  following_there = half_after M sound h goes.h_there
 
   pub one_tail : tail s.model (mate (code half)) ≡ tail s.model (after s.model (code half))
-  one_tail = sym (sound.ends_meet h half_there)
+  one_tail = sym (sound.ends_meet h goes.h_there)
 
   -- the steps
   abbrev pub moved : Store
@@ -153,7 +137,7 @@ module _ (s : Store) (half : HalfEdge) (ok : Accepts s (Kev half)) where
   placed_first = placed-taken moved placed_moved m mate_in
 
   half_in : HasLoop first_out.model h
-  half_in = loop-taken moved placed_moved m mate_in h (mate_other h) (loop-same M moved.model loops_moved h (sound.stands h half_there))
+  half_in = loop-taken moved placed_moved m mate_in h (mate_other h) (loop-same M moved.model loops_moved h (sound.stands h goes.h_there))
 
   pub half_stands : IsStanding first_out.model h
   half_stands = standing_of first_out.model placed_first h half_in
@@ -198,11 +182,7 @@ module _ (s : Store) (half : HalfEdge) (ok : Accepts s (Kev half)) where
   edge_none = get-remove_here moved.model.edges (edge_of h)
 
   has_edge : (e : ℕ) → table.has G.edges e ≡ table.has (kev M h).edges e
-  has_edge e = elim (eqb_tells e (edge_of h)) [
-    | inl a ↦ ap (table.has G.edges) a.1 ∙ ap is_some edge_none ∙ sym (ap (table.has (kev M h).edges) a.1 ∙ ap is_some (edge_gone M sound h goes))
-    | inr a ↦ ap is_some (edge_other e a.1 ∙ edges-tails s arc' u e) ∙ mapped_some _ (table.get M.edges e)
-        ∙ sym (ap is_some (edge_mapped M sound h goes e a.1) ∙ mapped_some _ (table.get M.edges e))
-  ]
+  has_edge e = grind (arith, eqb_tells e (edge_of h), edge_none, edge_gone M sound h goes, edge_other e, edges-tails s arc' u e, edge_mapped M sound h goes e, mapped_some)
 
   tail_G : (x : ℕ) → edge_of x ≢ edge_of h → tail G x ≡ tail moved.model x
   unfolding tail
@@ -221,7 +201,7 @@ module _ (s : Store) (half : HalfEdge) (ok : Accepts s (Kev half)) where
   -- h starts where it did
   tail_first : tail first_out.model h ≡ u
   unfolding take_out tail
-  tail_first = tail-tails s arc' u h half_there ∙ cond_same (nat_lt 0 (count h arc')) u
+  tail_first = tail-tails s arc' u h goes.h_there ∙ cond_same (nat_lt 0 (count h arc')) u
 
   loops_edgeless : G.loops ≡ (take_out first_out h).model.loops
   unfolding take_edge
@@ -243,7 +223,7 @@ module _ (s : Store) (half : HalfEdge) (ok : Accepts s (Kev half)) where
   not_alone : (q : ℕ) → IsIn m (items_of (content M q)) → without m (items_of (content M q)) ≢ []
   not_alone q a e =
       let y = emptied M sound h goes q (inr a) (sym (out_turned h m (items_of (content M q))) ∙ ap (without h) e) in
-      let i : IsIn h (items_of (content M q)) = subst (λ l. IsIn h (items_of (content M l))) (sym y.0) (cycle_there M sound h half_there) in
+      let i : IsIn h (items_of (content M q)) = subst (λ l. IsIn h (items_of (content M l))) (sym y.0) (cycle_there M sound h goes.h_there) in
       omega (arith, i, count-without h m (items_of (content M q)) a, ap (count h) e, tick_other h m (mate_other h))
 
   content_made : (q : ℕ) → content G q ≡ content (kev M h) q
@@ -258,8 +238,8 @@ module _ (s : Store) (half : HalfEdge) (ok : Accepts s (Kev half)) where
   loose_made : edgeless.loose ≡ s.loose
   unfolding take_edge take_out with_tails_at
   loose_made =
-      ap (λ z. table.remove (table.remove (table.put (table.put z m (m ∷ [])) h (h ∷ [])) (plus (edge_of h))) (minus (edge_of h))) ok.ready.bare
-      ∙ both_gone m h (λ e. mate_other h (sym e)) (edge_of h) (halves_back h) ∙ sym ok.ready.bare
+      ap (λ z. table.remove (table.remove (table.put (table.put z m (m ∷ [])) h (h ∷ [])) (plus (edge_of h))) (minus (edge_of h))) bare
+      ∙ both_gone h (λ e. mate_other h (sym e)) ∙ sym bare
 
   -- together they are kev
   pub made_is : take_vertex edgeless w ≡ after_op s (Kev half)

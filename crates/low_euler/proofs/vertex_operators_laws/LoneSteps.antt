@@ -1,6 +1,6 @@
 -- An edge made at a lone loop by the writers of an arena.
 use Rattle.std.proofs.Common.{◌≡◌, ◌≢◌, ℕ, ◌+◌, true, false, List, [], ◌∷◌, is_some, refl, sym, ap, subst, ◌∙◌, arith, true≢false}
-use Rattle.euler_operators.specs.Common.{Point, count, tick, canonical, put_ring, HalfEdge, At, Lone, code, mate, Model, cycle, items_of, loop_of, cycle_of, face_of, content, is_number, StandsIn, lone_vertex, is_lone, effect, mev_lone}
+use Rattle.euler_operators.specs.Common.{Point, count, tick, canonical, put_ring, HalfEdge, At, Lone, code, mate, cycle, items_of, loop_of, cycle_of, face_of, content, is_number, StandsIn, lone_vertex, is_lone, effect, mev_lone}
 use Rattle.euler_operators.proofs.Common.{tick_other, tick_le, apart_front, rotate_to_head, canonical_same, mate_other, edge_of-code}
 use Rattle.euler_operators.specs.Table as table
 use Rattle.euler_operators.specs.declared.Op.TheVariants.{Mev}
@@ -14,11 +14,11 @@ use Rattle.low_euler.proofs.steps_laws.LoopsApart.{placed_of, placed-same, place
 use Rattle.low_euler.proofs.steps_laws.EdgeSteps.{first_key, first_ring, first_loose, second_key, none_loose}
 
 module _ (s : Store) (l : ℕ) (half : HalfEdge) (v : ℕ) (p : Point) (ok : Accepts s (Mev (Lone l) (Lone l) half v p)) where
+  open s use {model as M}
+  open ok.ready use {sound, bare}
+
   pub goes : LoneGoes s.model l (code half) v (lone_vertex (content s.model l)) p
   goes = lone_goes s.model l l half v p ok.holds
-
-  abbrev M : Model
-  M = s.model
 
   abbrev h : ℕ
   h = code half
@@ -42,19 +42,15 @@ module _ (s : Store) (l : ℕ) (half : HalfEdge) (v : ℕ) (p : Point) (ok : Acc
   abbrev first_in : Store
   first_in = fill edged l h
 
-  -- what each call leaves
-  pub was_edged : (q : Store) (a : ℕ) → q ≡ begun → a ≡ u → with_edge q h a v ≡ edged
-  was_edged q a e ea = ap (λ t. with_edge t h a v) e ∙ ap (λ x. with_edge begun h x v) ea
-
   -- what the new edge asks
   pub edge_free : table.has begun.model.edges half.edge ≡ false
   edge_free = ap is_some (ap (table.get M.edges) (sym (edge_of-code half)) ∙ goes.edge_free)
 
   placed : LoopsStandApart begun.model
-  placed = placed-same M begun.model refl (λ x t. t) (placed_of M ok.ready.sound)
+  placed = placed-same M begun.model refl (λ x t. t) (placed_of M sound)
 
   pub unused : IsUnused begun h
-  unused = unused_of begun placed ok.ready.bare h u v goes.edge_free
+  unused = unused_of begun placed bare h u v goes.edge_free
 
   pub lone_takes : CanTake edged.model (Lone l)
   unfolding with_edge content
@@ -69,13 +65,13 @@ module _ (s : Store) (l : ℕ) (half : HalfEdge) (v : ℕ) (p : Point) (ok : Acc
   first_is = λ i. record edged { model = with_loop edged.model l (cycle (first_ring begun h u v unused i)); loose = table.remove edged.loose (first_key begun h u v unused i) }
 
   l_real : l ≢ 0
-  l_real e = true≢false (sym (ok.ready.sound.loops_fit l goes.loop_there) ∙ ap is_number e)
+  l_real e = true≢false (sym (sound.loops_fit l goes.loop_there) ∙ ap is_number e)
 
   alone : IsLoose edged h
   alone = first_loose begun h u v unused
 
   placed_edged : LoopsStandApart edged.model
-  placed_edged = placed-edge begun placed ok.ready.bare h u v goes.edge_free
+  placed_edged = placed-edge begun placed bare h u v goes.edge_free
 
   count_filled : (x : ℕ) → count x (h ∷ []) ≡ tick x h + count x (items_of (content edged.model l))
   count_filled x = omega (arith, ap (count x) lone_takes.1)

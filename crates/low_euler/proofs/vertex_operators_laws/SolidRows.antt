@@ -1,6 +1,6 @@
 -- A solid with one face and one vertex, made and killed by the writers of an arena.
 use Rattle.std.proofs.Common.{◌≡◌, ℕ, true, [], ◌∷◌, Some, None, is_some, unwrap_or, sym, ap, subst, ◌∙◌}
-use Rattle.euler_operators.specs.Common.{Point, Table, Model, LoopRow, lone, cycle, items_of, no_loop, outer, face_of, faces_of, content, first_false, is_lone, lone_vertex, effect, mvfs, kvfs_at, head_or_zero}
+use Rattle.euler_operators.specs.Common.{Point, Table, Model, LoopRow, lone, cycle, items_of, no_loop, outer, face_of, faces_of, content, first_false, lone_vertex, effect, mvfs, kvfs_at, head_or_zero}
 use Rattle.euler_operators.specs.Table as table
 use Rattle.euler_operators.specs.declared.Op.TheVariants.{Mvfs, Kvfs}
 use Rattle.euler_operators.proofs.Common.{get-put_here, put-put}
@@ -39,29 +39,14 @@ pub has_one_face : (M : Model) (n : ℕ) → first_false M (Kvfs n) ≡ None →
 has_one_face M n e = ap (λ fs. is_some (only_item fs)) (faces_one M n (head_or_zero (faces_of M n)) (kvfs_goes M n e))
 
 module _ (s : Store) (n f : ℕ) (ready : IsReady s) (holds : first_false s.model (Kvfs n) ≡ None) (is : only_item (faces_of s.model n) ≡ Some f) where
-  abbrev M : Model
-  M = s.model
-
   faces_are : faces_of s.model n ≡ f ∷ []
   faces_are = one_face (faces_of s.model n) f is
 
-  goes : KvfsGoes s.model n f
+  pub goes : KvfsGoes s.model n f
   goes = subst (KvfsGoes s.model n) (ap head_or_zero faces_are) (kvfs_goes s.model n holds)
-
-  pub face_there : table.has s.model.faces f ≡ true
-  face_there = goes.f_there
-
-  pub solid_there : table.has s.model.solids n ≡ true
-  solid_there = goes.s_there
 
   pub outer_there : table.has s.model.loops (outer s.model f) ≡ true
   outer_there = (ready.sound.outers_there f goes.f_there).0
-
-  pub outer_lone : is_lone (content s.model (outer s.model f)) ≡ true
-  outer_lone = ap is_lone goes.is_bare
-
-  pub outer_bare : items_of (content s.model (outer s.model f)) ≡ []
-  outer_bare = ap items_of goes.is_bare
 
   pub vertex_there : table.has s.model.vertices (lone_vertex (content s.model (outer s.model f))) ≡ true
   vertex_there = ready.sound.lone_at_vertex (outer s.model f) (lone_vertex (content s.model (outer s.model f))) goes.is_bare
@@ -69,4 +54,4 @@ module _ (s : Store) (n f : ℕ) (ready : IsReady s) (holds : first_false s.mode
   -- the writers make what kvfs makes
   pub kvfs_made : take_solid (take_face (take_loop (take_vertex s (lone_vertex (content s.model (outer s.model f)))) (outer s.model f)) f) n ≡ after s (Kvfs n)
   unfolding effect kvfs_at
-  kvfs_made = ap (λ q. record s { model = kvfs_at M n q }) (sym (ap head_or_zero faces_are))
+  kvfs_made = ap (λ q. record s { model = kvfs_at s.model n q }) (sym (ap head_or_zero faces_are))

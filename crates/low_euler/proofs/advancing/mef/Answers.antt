@@ -1,18 +1,17 @@
-use Rattle.euler_operators.specs.declared.Op.TheVariants.{Mef, Kef}
 use Rattle.low_euler.proofs.Made.{made_fit}
 use Rattle.low_euler.proofs.Stepped.{accepted_grown, stepped_grown, mef_back}
 use Rattle.low_euler.proofs.advancing.mef.Goals as goal
 
 pub room_for_three-requires : goal.room_for_three-requires
-room_for_three-requires c = made_fit _ (Mef c.args.from c.args.to c.args.half c.args.face c.args.outer) c.requires.ready.sound c.requires.accepted
+room_for_three-requires c = made_fit _ _ c.requires.ready.sound c.requires.accepted
 
 pub mef-requires : goal.mef-requires
-mef-requires c = accepted_grown c.args.arena.now c.room_for_three.new.arena (Mef c.args.from c.args.to c.args.half c.args.face c.args.outer) c.requires.ready c.requires.accepted c.in_ok-room_for_three.ensures.grown c.in_ok-room_for_three.ensures.ok
+mef-requires c = accepted_grown _ _ _ c.requires.ready c.requires.accepted c.in_ok-room_for_three.ensures.grown c.in_ok-room_for_three.ensures.ok
 
 pub returns-clause-stepped : goal.returns-clause-stepped
 returns-clause-stepped c =
-    stepped_grown c.args.arena.now c.room_for_three.new.arena c.mef.new.arena (Mef c.args.from c.args.to c.args.half c.args.face c.args.outer) (Kef c.args.half) c.requires.ready c.requires.accepted c.in_ok-room_for_three.ensures.grown c.in_ok-room_for_three.ensures.ok
-    c.mef.ensures (mef_back _ c.args.from c.args.to c.args.half c.args.face c.args.outer) tt
+    stepped_grown _ _ _ _ _ c.requires.ready c.requires.accepted c.in_ok-room_for_three.ensures.grown c.in_ok-room_for_three.ensures.ok
+    c.mef.ensures (mef_back _ _ _ _ _ _) tt
 
 pub returns-clause-inverse : goal.returns-clause-inverse
-returns-clause-inverse c = mef_back _ c.args.from c.args.to c.args.half c.args.face c.args.outer
+returns-clause-inverse c = mef_back _ _ _ _ _ _

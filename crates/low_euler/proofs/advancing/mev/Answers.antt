@@ -1,18 +1,17 @@
-use Rattle.euler_operators.specs.declared.Op.TheVariants.{Mev, Kev}
 use Rattle.low_euler.proofs.Made.{made_fit}
 use Rattle.low_euler.proofs.Stepped.{accepted_grown, stepped_grown, mev_back}
 use Rattle.low_euler.proofs.advancing.mev.Goals as goal
 
 pub room_for_two-requires : goal.room_for_two-requires
-room_for_two-requires c = made_fit _ (Mev c.args.from c.args.to c.args.half c.args.vertex c.args.point) c.requires.ready.sound c.requires.accepted
+room_for_two-requires c = made_fit _ _ c.requires.ready.sound c.requires.accepted
 
 pub mev-requires : goal.mev-requires
-mev-requires c = accepted_grown c.args.arena.now c.room_for_two.new.arena (Mev c.args.from c.args.to c.args.half c.args.vertex c.args.point) c.requires.ready c.requires.accepted c.in_ok-room_for_two.ensures.grown c.in_ok-room_for_two.ensures.ok
+mev-requires c = accepted_grown _ _ _ c.requires.ready c.requires.accepted c.in_ok-room_for_two.ensures.grown c.in_ok-room_for_two.ensures.ok
 
 pub returns-clause-stepped : goal.returns-clause-stepped
 returns-clause-stepped c =
-    stepped_grown c.args.arena.now c.room_for_two.new.arena c.mev.new.arena (Mev c.args.from c.args.to c.args.half c.args.vertex c.args.point) (Kev c.args.half) c.requires.ready c.requires.accepted c.in_ok-room_for_two.ensures.grown c.in_ok-room_for_two.ensures.ok
-    c.mev.ensures (mev_back _ c.args.from c.args.to c.args.half c.args.vertex c.args.point) tt
+    stepped_grown _ _ _ _ _ c.requires.ready c.requires.accepted c.in_ok-room_for_two.ensures.grown c.in_ok-room_for_two.ensures.ok
+    c.mev.ensures (mev_back _ _ _ _ _ _) tt
 
 pub returns-clause-inverse : goal.returns-clause-inverse
-returns-clause-inverse c = mev_back _ c.args.from c.args.to c.args.half c.args.vertex c.args.point
+returns-clause-inverse c = mev_back _ _ _ _ _ _

@@ -20,9 +20,7 @@ pub in_use-requires : goal.in_use-requires
 in_use-requires c = of_half c.args.arena.now.model c.args.h (kef_goes c.args.arena.now.model c.args.h c.requires.accepted).h_there
 
 pub in_use-requires-2 : goal.in_use-requires-2
-in_use-requires-2 c =
-    let M = c.args.arena.now.model in
-    ap (table.has M.faces) c.face_of-face.ensures ∙ c.requires.ready.sound.loops_of_faces c.loop_of-killed.result c.loop_of-killed.ensures.there
+in_use-requires-2 c = ap (table.has _) c.face_of-face.ensures ∙ c.requires.ready.sound.loops_of_faces _ c.loop_of-killed.ensures.there
 
 pub returns-clause-is : goal.returns-clause-is
 returns-clause-is c =

@@ -6,12 +6,10 @@ use Rattle.euler_laws.proofs.Common.{outer_goes_so}
 use Rattle.low_euler.proofs.inverse.outer.Goals as goal
 
 pub face_of-home-requires : goal.face_of-home-requires
-face_of-home-requires c = (outer_goes_so c.args.arena.now.model c.args.ring c.args.face c.requires.accepted).l_there
+face_of-home-requires c = (outer_goes_so _ _ _ c.requires.accepted).l_there
 
 pub outer-old-requires : goal.outer-old-requires
-outer-old-requires c =
-    let M = c.args.arena.now.model in
-    ap (table.has M.faces) c.face_of-home.ensures ∙ c.requires.ready.sound.loops_of_faces c.args.ring (outer_goes_so M c.args.ring c.args.face c.requires.accepted).l_there
+outer-old-requires c = ap (table.has _) c.face_of-home.ensures ∙ c.requires.ready.sound.loops_of_faces _ (outer_goes_so _ _ _ c.requires.accepted).l_there
 
 pub returns-clause-is : goal.returns-clause-is
 unfolding inverse

@@ -1,7 +1,6 @@
 use Rattle.std.specs.Prelude.{[], ◌∷◌}
 use Rattle.std.proofs.lemmas.Bool.{false≢true}
-use Rattle.std.proofs.lemmas.Result.{on_ok_weaker}
-use Rattle.low_euler.proofs.Made.{grown_more, room_kept}
+use Rattle.low_euler.proofs.Made.{makes_more}
 use Rattle.low_euler.proofs.making.room_for_three.Goals as goal
 
 pub room_for_one-requires : goal.room_for_one-requires
@@ -13,11 +12,7 @@ room_for_two-requires c = c.requires.1
 pub returns-in_err-room_for_one-clause-known : goal.returns-in_err-room_for_one-clause-known
 returns-in_err-room_for_one-clause-known c = λ all. absurd (false≢true (c.in_err-room_for_one.ensures.known (all.0, tt)))
 
-pub returns-clause-grown : goal.returns-clause-grown
-returns-clause-grown c = grown_more _ _ _ c.in_ok-room_for_one.ensures.grown c.room_for_two.ensures.grown
-
-pub returns-clause-ok : goal.returns-clause-ok
-returns-clause-ok c = on_ok_weaker c.room_for_two.result (λ others. (c.room_for_two.ensures.grown.kept c.args.first.0 c.args.first.1 c.in_ok-room_for_one.ensures.ok.0, others)) c.room_for_two.ensures.ok
-
-pub returns-clause-known : goal.returns-clause-known
-returns-clause-known c = λ all. c.room_for_two.ensures.known (room_kept c.args.arena.now c.room_for_one.new.arena (c.args.second ∷ c.args.third ∷ []) c.in_ok-room_for_one.ensures.grown.kept all.1)
+pub returns : goal.returns
+returns c =
+    makes_more _ _ _ _ c.args.first (c.args.second ∷ c.args.third ∷ [])
+    c.in_ok-room_for_one.ensures.grown c.in_ok-room_for_one.ensures.ok c.room_for_two.ensures

@@ -1,7 +1,8 @@
 use Rattle.std.proofs.Common.{◌++◌, ◌∷◌, [], List, ℕ, sym, ap, subst, ◌∙◌, append_assoc}
 use Rattle.euler_operators.specs.Common.{faces_of}
+use Rattle.euler_operators.proofs.Common.{no_cons, both_empty}
 use Rattle.euler_conditions.specs.Store.{IsNextFace}
-use Rattle.low_euler.proofs.Faces.{faces_above, next_faces, no_faces, all_faces, all_met, some_listed}
+use Rattle.low_euler.proofs.Faces.{faces_above, next_faces, no_faces, all_faces, all_met}
 use Rattle.low_euler.proofs.moving.faces_of.Goals as goal
 
 pub faces-init : goal.faces-init
@@ -27,5 +28,5 @@ pub returns-in_err-push-clause-none : goal.returns-in_err-push-clause-none
 returns-in_err-push-clause-none c = λ none.
     let M = c.args.arena.now.model in
     let next = subst (IsNextFace M c.args.solid c.faces.last) c.in-Some.is c.face_after.ensures in
-    absurd (some_listed c.faces.faces (faces_above M c.args.solid c.in-Some.face) c.in-Some.face
-    (ap (λ ks. c.faces.faces ++ ks) (sym (next_faces M c.args.solid c.faces.last c.in-Some.face next)) ∙ c.faces.invariant ∙ none))
+    let listed = ap (λ ks. c.faces.faces ++ ks) (sym (next_faces M c.args.solid c.faces.last c.in-Some.face next)) ∙ c.faces.invariant ∙ none in
+    absurd (no_cons _ _ (both_empty c.faces.faces _ listed).1)

@@ -1,8 +1,9 @@
 use Rattle.std.proofs.Common.{is_some, ap, ◌∙◌}
 use Rattle.euler_operators.specs.Table as table
 use Rattle.euler_operators.specs.Common.{Table, put, FaceRow, face_of, solid_of, Has, effect, mfkrh}
+use Rattle.euler_operators.proofs.Common.{get-put_here}
 use Rattle.euler_conditions.specs.Store.{Store, put_face, set_face}
-use Rattle.low_euler.proofs.face_operators_laws.Swaps.{loop_given, face_put}
+use Rattle.low_euler.proofs.face_operators_laws.Swaps.{loop_given}
 use Rattle.euler_laws.proofs.Common.{mfkrh_goes}
 use Rattle.low_euler.proofs.face_operators.rings.mfkrh.Goals as goal
 
@@ -10,9 +11,7 @@ pub face_of-requires : goal.face_of-requires
 face_of-requires c = (mfkrh_goes c.args.arena.now.model c.args.ring c.args.made c.requires.holds).l_there
 
 pub solid_of-solid-requires : goal.solid_of-solid-requires
-solid_of-solid-requires c =
-    let M = c.args.arena.now.model in
-    ap (table.has M.faces) c.face_of.ensures ∙ c.requires.ready.sound.loops_of_faces c.args.ring (mfkrh_goes M c.args.ring c.args.made c.requires.holds).l_there
+solid_of-solid-requires c = ap (table.has _) c.face_of.ensures ∙ c.requires.ready.sound.loops_of_faces _ (mfkrh_goes _ _ _ c.requires.holds).l_there
 
 pub put_face-requires-clause-free : goal.put_face-requires-clause-free
 put_face-requires-clause-free c = ap is_some (mfkrh_goes c.args.arena.now.model c.args.ring c.args.made c.requires.holds).face_free
@@ -29,7 +28,7 @@ give_loop-requires-clause-there c =
 
 pub give_loop-requires-clause-face : goal.give_loop-requires-clause-face
 give_loop-requires-clause-face c =
-    ap (λ (s : Store). table.has s.model.faces c.args.made) c.put_face.ensures ∙ face_put c.args.arena.now.model.faces c.args.made (record { solid = c.solid_of-solid.result; outer = c.args.ring })
+    ap (λ (s : Store). table.has s.model.faces c.args.made) c.put_face.ensures ∙ ap is_some (get-put_here c.args.arena.now.model.faces c.args.made _)
 
 pub returns : goal.returns
 unfolding effect mfkrh

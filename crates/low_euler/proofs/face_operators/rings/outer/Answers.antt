@@ -10,14 +10,10 @@ pub face_of-home-requires : goal.face_of-home-requires
 face_of-home-requires c = (outer_goes_so c.args.arena.now.model c.args.ring c.args.face c.requires.holds).l_there
 
 pub outer-old-requires : goal.outer-old-requires
-outer-old-requires c =
-    let M = c.args.arena.now.model in
-    ap (table.has M.faces) c.face_of-home.ensures ∙ c.requires.ready.sound.loops_of_faces c.args.ring (outer_goes_so M c.args.ring c.args.face c.requires.holds).l_there
+outer-old-requires c = ap (table.has _) c.face_of-home.ensures ∙ c.requires.ready.sound.loops_of_faces _ (outer_goes_so _ _ _ c.requires.holds).l_there
 
 pub set_outer-requires : goal.set_outer-requires
-set_outer-requires c =
-    let M = c.args.arena.now.model in
-    ap (table.has M.faces) c.face_of-home.ensures ∙ c.requires.ready.sound.loops_of_faces c.args.ring (outer_goes_so M c.args.ring c.args.face c.requires.holds).l_there
+set_outer-requires c = ap (table.has _) c.face_of-home.ensures ∙ c.requires.ready.sound.loops_of_faces _ (outer_goes_so _ _ _ c.requires.holds).l_there
 
 pub give_loop-requires-clause-there : goal.give_loop-requires-clause-there
 give_loop-requires-clause-there c =

@@ -12,12 +12,7 @@ pub face_of-face-requires : goal.face_of-face-requires
 face_of-face-requires c = steps.gone_there _ _ c.requires _ (c.loop_of-killed.ensures ∙ ap (loop_of c.args.arena.now.model) c.mate-mate.ensures)
 
 pub join-requires : goal.join-requires
-join-requires c = record {
-  a_there = (steps.goes _ _ c.requires).h_there;
-  b_there = steps.mate_there _ _ c.requires _ c.mate-mate.ensures;
-  looped = steps.looped _ _ c.requires;
-  apart = steps.loops_apart _ _ c.requires _ c.mate-mate.ensures;
-}
+join-requires c = steps.join_asks _ _ c.requires _ c.mate-mate.ensures
 
 pub kill_edge-requires : goal.kill_edge-requires
 kill_edge-requires c =

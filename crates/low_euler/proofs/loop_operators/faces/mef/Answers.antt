@@ -2,7 +2,7 @@ use Rattle.std.proofs.Common.{◌≡◌, true, false, is_some, sym, ap, ◌∙�
 use Rattle.euler_operators.specs.Common.{code, before, face_of, solid_of}
 use Rattle.euler_operators.specs.Table as table
 use Rattle.euler_conditions.specs.Store.{Store, cut, put_face}
-use Rattle.low_euler.specs.steps.Steps.{IsStanding, IsUnused, put_before}
+use Rattle.low_euler.specs.steps.Steps.{IsStanding, IsUnused, with_edge, put_before}
 use Rattle.low_euler.proofs.loop_operators_laws.MefSteps as steps
 use Rattle.low_euler.proofs.loop_operators.faces.mef.Goals as goal
 
@@ -33,22 +33,21 @@ put_loop-requires-clause-free c = ap is_some (steps.goes _ _ _ _ _ _ c.requires)
 
 pub make_edge_after-requires : goal.make_edge_after-requires
 make_edge_after-requires c =
-    let edged = sym (steps.was_edged _ _ _ _ _ _ c.requires _ _ _ c.put_loop.ensures c.tail_and_prev-start.ensures.tail c.tail-end.ensures) in
+    let edged = sym (λ i. with_edge (c.put_loop.ensures i) (code c.args.half) (c.tail_and_prev-start.ensures.tail i) (c.tail-end.ensures i)) in
     record {
       room = subst (λ (t : Store). table.has t.room.edges c.args.half.edge ≡ true) (sym c.put_loop.ensures) (steps.edge_room _ _ _ _ _ _ c.requires);
       free = subst (λ (t : Store). table.has t.model.edges c.args.half.edge ≡ false) (sym c.put_loop.ensures) (steps.edge_free _ _ _ _ _ _ c.requires);
       unused = subst (λ t. IsUnused t (code c.args.half)) (sym c.put_loop.ensures) (steps.unused _ _ _ _ _ _ c.requires);
-      last = subst (λ (t : Store). code c.tail_and_prev-start.result.1 ≡ before t.model (code c.args.first)) edged (steps.before_first _ _ _ _ _ _ c.requires _ (c.tail_and_prev-start.ensures.in_loop (steps.r_real _ _ _ _ _ _ c.requires)));
+      last = subst (λ (t : Store). code c.tail_and_prev-start.result.1 ≡ before t.model (code c.args.first)) edged (steps.before_first _ _ _ _ _ _ c.requires _ (c.tail_and_prev-start.ensures.in_loop (steps.loops _ _ _ _ _ _ c.requires).first_real));
       first = subst (λ (t : Store). IsStanding t.model (code c.args.first)) edged (steps.g_stands _ _ _ _ _ _ c.requires);
       second = subst (λ t. IsStanding (put_before t (code c.args.first) (code c.args.half)).model (code c.args.second)) edged (steps.k_stands _ _ _ _ _ _ c.requires);
-      apart = λ e. absurd (steps.corners_apart _ _ _ _ _ _ c.requires e);
+      apart = λ e. absurd (steps.g_k _ _ _ _ _ _ c.requires (sym e));
     }
 
 pub cut-requires : goal.cut-requires
 cut-requires c =
     let e1 = steps.was_second _ _ _ _ _ _ c.requires _ _ _ _ c.put_loop.ensures c.tail_and_prev-start.ensures.tail c.tail-end.ensures c.make_edge_after.ensures in
-    let asks = steps.cut_asks _ _ _ _ _ _ c.requires _ _ e1 c.mate.ensures in
-    record { a_there = asks.a_there; b_there = asks.b_there; looped = asks.looped; together = asks.together; apart = asks.apart; free = λ _. asks.free }
+    steps.cut_asks _ _ _ _ _ _ c.requires _ _ e1 c.mate.ensures
 
 pub put_face-requires : goal.put_face-requires
 put_face-requires c =

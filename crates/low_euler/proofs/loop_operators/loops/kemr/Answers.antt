@@ -23,8 +23,7 @@ put_loop-requires-clause-free c = ap is_some (steps.goes _ _ _ c.requires).loop_
 pub cut-requires : goal.cut-requires
 cut-requires c =
     let e1 = c.put_loop.ensures ∙ ap (put_loop c.args.arena.now c.args.ring) (c.face_of-face.ensures ∙ ap (face_of c.args.arena.now.model) c.loop_of.ensures) in
-    let asks = steps.cut_asks _ _ _ c.requires _ _ e1 c.mate.ensures in
-    record { a_there = asks.a_there; b_there = asks.b_there; looped = asks.looped; together = asks.together; apart = asks.apart; free = λ _. asks.free }
+    steps.cut_asks _ _ _ c.requires _ _ e1 c.mate.ensures
 
 pub kill_edge-requires : goal.kill_edge-requires
 kill_edge-requires c =

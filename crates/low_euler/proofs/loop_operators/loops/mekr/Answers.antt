@@ -1,7 +1,7 @@
 use Rattle.std.proofs.Common.{sym, subst, ◌∙◌}
 use Rattle.euler_operators.specs.Common.{code}
 use Rattle.euler_conditions.specs.Store.{Store, join, take_loop}
-use Rattle.low_euler.specs.steps.Steps.{CanTake, put_at}
+use Rattle.low_euler.specs.steps.Steps.{CanTake, with_edge, put_at}
 use Rattle.low_euler.proofs.loop_operators_laws.MekrSteps as steps
 use Rattle.low_euler.proofs.loop_operators.loops.mekr.Goals as goal
 
@@ -16,7 +16,7 @@ loop_at-ring-requires c = steps.second_there _ _ _ _ c.requires
 
 pub make_edge-requires : goal.make_edge-requires
 make_edge-requires c =
-    let edged = sym (steps.was_edged _ _ _ _ c.requires _ _ c.tail_at-start.ensures c.tail_at-end.ensures) in
+    let edged = sym (λ i. with_edge c.args.arena.now (code c.args.half) (c.tail_at-start.ensures i) (c.tail_at-end.ensures i)) in
     record {
       room = c.requires.room.0;
       free = steps.edge_free _ _ _ _ c.requires;
@@ -28,12 +28,7 @@ make_edge-requires c =
 pub join-requires : goal.join-requires
 join-requires c =
     let e1 = steps.was_second _ _ _ _ c.requires _ _ _ c.tail_at-start.ensures c.tail_at-end.ensures c.make_edge.ensures in
-    record {
-      a_there = (steps.h_stands _ _ _ _ c.requires _ e1).there;
-      b_there = (steps.m_stands _ _ _ _ c.requires _ _ c.mate.ensures e1).there;
-      looped = (steps.h_stands _ _ _ _ c.requires _ e1).looped;
-      apart = steps.loops_apart _ _ _ _ c.requires _ _ c.mate.ensures e1;
-    }
+    steps.join_asks _ _ _ _ c.requires _ _ e1 c.mate.ensures
 
 pub take_loop-requires : goal.take_loop-requires
 take_loop-requires c =

@@ -6,13 +6,13 @@ use Rattle.low_euler.proofs.vertex_operators_laws.KevSteps as steps
 use Rattle.low_euler.proofs.vertex_operators.edges.kev.Goals as goal
 
 pub tail-kept-requires : goal.tail-kept-requires
-tail-kept-requires c = steps.half_there _ _ c.requires
+tail-kept-requires c = (steps.goes _ _ c.requires).h_there
 
 pub tail-killed-requires : goal.tail-killed-requires
 tail-killed-requires c = ap (has_half c.args.arena.now.model) c.mate-mate.ensures ∙ steps.mate_there _ _ c.requires
 
 pub next-following-requires : goal.next-following-requires
-next-following-requires c = steps.half_there _ _ c.requires
+next-following-requires c = (steps.goes _ _ c.requires).h_there
 
 pub move_tails-requires : goal.move_tails-requires
 move_tails-requires c =

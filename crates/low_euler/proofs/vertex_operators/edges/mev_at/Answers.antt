@@ -2,7 +2,7 @@ use Rattle.std.proofs.Common.{◌≡◌, ap, sym, subst, ◌∙◌}
 use Rattle.euler_operators.specs.Common.{code, mate, before}
 use Rattle.euler_operators.specs.Table as table
 use Rattle.euler_conditions.specs.Store.{Store, Extents, within, put_vertex}
-use Rattle.low_euler.specs.steps.Steps.{LoopsStandApart, IsStanding, IsUnused, put_before}
+use Rattle.low_euler.specs.steps.Steps.{LoopsStandApart, IsStanding, IsUnused, with_edge, put_before}
 use Rattle.low_euler.proofs.steps_laws.Tails.{room-tails}
 use Rattle.low_euler.proofs.vertex_operators_laws.CornerSteps as steps
 use Rattle.low_euler.proofs.vertex_operators.edges.mev_at.Goals as goal
@@ -27,7 +27,7 @@ put_vertex-requires c = record {
 pub make_edge_after-requires : goal.make_edge_after-requires
 make_edge_after-requires c =
     let e1 = c.put_vertex.ensures ∙ ap (λ t. put_vertex t c.args.vertex c.args.point) c.move_tails.ensures in
-    let edged = sym (steps.was_edged _ _ _ _ _ _ c.requires _ _ e1 c.tail_and_prev-old.ensures.tail) in
+    let edged = sym (λ i. with_edge (e1 i) (code c.args.half) (c.tail_and_prev-old.ensures.tail i) c.args.vertex) in
     record {
       room = ap (λ (t : Store). table.has t.room.edges c.args.half.edge) e1 ∙ ap (λ (r : Extents). table.has r.edges c.args.half.edge) (room-tails _ _ _) ∙ c.requires.room.0;
       free = ap (λ (t : Store). table.has t.model.edges c.args.half.edge) e1 ∙ steps.edge_free _ _ _ _ _ _ c.requires;
@@ -42,5 +42,5 @@ pub returns : goal.returns
 returns c =
     let e1 = c.put_vertex.ensures ∙ ap (λ t. put_vertex t c.args.vertex c.args.point) c.move_tails.ensures in
     c.make_edge_after.ensures
-    ∙ ap (λ t. put_before (put_before t (code c.args.from) (code c.args.half)) (code c.args.to) (mate (code c.args.half))) (steps.was_edged _ _ _ _ _ _ c.requires _ _ e1 c.tail_and_prev-old.ensures.tail)
+    ∙ (λ i. put_before (put_before (with_edge (e1 i) (code c.args.half) (c.tail_and_prev-old.ensures.tail i) c.args.vertex) (code c.args.from) (code c.args.half)) (code c.args.to) (mate (code c.args.half)))
     ∙ steps.made_is _ _ _ _ _ _ c.requires

@@ -2,7 +2,7 @@ use Rattle.std.proofs.Common.{ap, sym, subst, ◌∙◌}
 use Rattle.euler_operators.specs.Common.{code, mate, Lone}
 use Rattle.euler_operators.specs.Table as table
 use Rattle.euler_conditions.specs.Store.{Store, fill}
-use Rattle.low_euler.specs.steps.Steps.{IsStanding, IsUnused, CanTake, put_before}
+use Rattle.low_euler.specs.steps.Steps.{IsStanding, IsUnused, CanTake, with_edge, put_before}
 use Rattle.low_euler.proofs.vertex_operators_laws.LoneSteps as steps
 use Rattle.low_euler.proofs.vertex_operators.edges.mev_lone.Goals as goal
 
@@ -14,7 +14,7 @@ put_vertex-requires-clause-range c = (steps.goes _ _ _ _ _ c.requires).point_fit
 
 pub make_edge-requires : goal.make_edge-requires
 make_edge-requires c =
-    let edged = sym (steps.was_edged _ _ _ _ _ c.requires _ _ c.put_vertex.ensures c.lone_vertex-old.ensures) in
+    let edged = sym (λ i. with_edge (c.put_vertex.ensures i) (code c.args.half) (c.lone_vertex-old.ensures i) c.args.vertex) in
     record {
       room = ap (λ (t : Store). table.has t.room.edges c.args.half.edge) c.put_vertex.ensures ∙ c.requires.room.0;
       free = ap (λ (t : Store). table.has t.model.edges c.args.half.edge) c.put_vertex.ensures ∙ steps.edge_free _ _ _ _ _ c.requires;
@@ -26,5 +26,5 @@ make_edge-requires c =
 pub returns : goal.returns
 returns c =
     c.make_edge.ensures
-    ∙ ap (λ t. put_before (fill t c.args.l (code c.args.half)) (code c.args.half) (mate (code c.args.half))) (steps.was_edged _ _ _ _ _ c.requires _ _ c.put_vertex.ensures c.lone_vertex-old.ensures)
+    ∙ (λ i. put_before (fill (with_edge (c.put_vertex.ensures i) (code c.args.half) (c.lone_vertex-old.ensures i) c.args.vertex) c.args.l (code c.args.half)) (code c.args.half) (mate (code c.args.half)))
     ∙ steps.made_is _ _ _ _ _ c.requires
