@@ -7,7 +7,7 @@ use Rattle.undo_journal.specs.declared.record.Record.{Record}
 use Rattle.undo_journal.specs.Machine.{depth, ahead, accepted, back_to, forth_to, undo, redo}
 use Rattle.undo_journal.specs.Journal.{Journal}
 use Rattle.undo_journal.specs.Recorded.{models, model_at}
-use Rattle.undo_journal.specs.Sessions.{models_back, models_ahead, past_of, future_of, machine_of, Leads, AllLead, gone_forth, IsJournal}
+use Rattle.undo_journal.specs.Sessions.{models_back, models_ahead, past_of, future_of, machine_of, LeadsBothWays, AllLead, gone_forth, IsJournal}
 
 -- the same session holds the same machine
 pub same_machine : {t s : Journal} → t ≡ s → t.machine ≡ s.machine
@@ -63,9 +63,8 @@ lead-append A [] more a b = b
 lead-append A (r ∷ rs) more a b = (a.0, lead-append (effects A r.forward) rs more a.1 b)
 
 lead-take : (A : Model) (n : ℕ) (rs : List Record) → AllLead A rs → AllLead A (take n rs)
-lead-take A zero rs a = tt
-lead-take A (suc n) [] a = tt
 lead-take A (suc n) (r ∷ rs) a = (a.0, lead-take (effects A r.forward) n rs a.1)
+lead-take A n rs a = tt
 
 forth-append : (A : Model) (rs more : List Record) → gone_forth A (rs ++ more) ≡ gone_forth (gone_forth A rs) more
 forth-append A [] more = refl
@@ -86,15 +85,15 @@ at_is A d [] (suc i) h = absurd (omega arith)
 at_is A d (r ∷ rs) (suc i) h = at_is (effects A r.forward) d rs i (omega arith)
 
 -- each record leads from the model at its place to the next
-lead_at : (A : Model) (rs : List Record) (i : ℕ) (r : Record) → i < length rs → r ≡ get_or rs i r → AllLead A rs → Leads (gone_forth A (take i rs)) r (gone_forth A (take (suc i) rs))
+lead_at : (A : Model) (rs : List Record) (i : ℕ) (r : Record) → i < length rs → r ≡ get_or rs i r → AllLead A rs → LeadsBothWays (gone_forth A (take i rs)) r (gone_forth A (take (suc i) rs))
 lead_at A [] i r h e lead = absurd (omega arith)
-lead_at A (q ∷ rs) zero r h e lead = subst (λ (x : Record). Leads A x (effects A q.forward)) (sym e) lead.0
+lead_at A (q ∷ rs) zero r h e lead = subst (λ (x : Record). LeadsBothWays A x (effects A q.forward)) (sym e) lead.0
 lead_at A (q ∷ rs) (suc i) r h e lead = lead_at (effects A q.forward) rs i r (omega arith) e lead.1
 
-lead_next : (records : List Record) (i : ℕ) (r : Record) → i < length records → r ≡ get_or records i r → AllLead empty_model records → Leads (gone_forth empty_model (take i records)) r (gone_forth empty_model (take (i + 1) records))
+lead_next : (records : List Record) (i : ℕ) (r : Record) → i < length records → r ≡ get_or records i r → AllLead empty_model records → LeadsBothWays (gone_forth empty_model (take i records)) r (gone_forth empty_model (take (i + 1) records))
 lead_next records i r h e lead =
     let next : suc i ≡ i + 1 = omega arith in
-    subst (λ (n : ℕ). Leads (gone_forth empty_model (take i records)) r (gone_forth empty_model (take n records))) next (lead_at empty_model records i r h e lead)
+    subst (λ (n : ℕ). LeadsBothWays (gone_forth empty_model (take i records)) r (gone_forth empty_model (take n records))) next (lead_at empty_model records i r h e lead)
 
 -- the models that a session stands for
 pub models_are : (M : Model) (records : List Record) (place : ℕ) → IsJournal M records place → models (machine_of M records place) ≡ empty_model ∷ models_ahead empty_model records
@@ -115,7 +114,7 @@ unfolding future_of
 future_length M records place = ahead-length M (drop place records) ∙ length-drop place records
 
 -- two places beside each other, and the record between them
-module _ (A N : Model) (records : List Record) (i : ℕ) (r : Record) (within : i < length records) (is : r ≡ get_or records i r) (leads : Leads A r N) where
+module _ (A N : Model) (records : List Record) (i : ℕ) (r : Record) (within : i < length records) (is : r ≡ get_or records i r) (leads : LeadsBothWays A r N) where
   turned : reverse (take (i + 1) records) ≡ r ∷ reverse (take i records)
   turned = ap reverse (take_more records i r within) ∙ ap (λ (x : Record). reverse (take i records ++ x ∷ [])) (sym is) ∙ reverse-append (take i records) (r ∷ [])
 
@@ -150,15 +149,15 @@ module _ (M : Model) (records : List Record) (place : ℕ) (kept : IsJournal M r
   model_at_is : (i : ℕ) → i ≤ length records → model_at (machine_of M records place) i ≡ gone_forth empty_model (take i records)
   model_at_is i h = ap (λ (Ms : List Model). get_or Ms i empty_model) (models_are M records place kept) ∙ at_is empty_model empty_model records i h
 
-  pub leads_at : (i : ℕ) (r : Record) → i < length records → r ≡ get_or records i r → Leads (model_at (machine_of M records place) i) r (model_at (machine_of M records place) (i + 1))
+  pub leads_at : (i : ℕ) (r : Record) → i < length records → r ≡ get_or records i r → LeadsBothWays (model_at (machine_of M records place) i) r (model_at (machine_of M records place) (i + 1))
   leads_at i r h e =
-      subst (λ (X : Model). Leads X r (model_at (machine_of M records place) (i + 1))) (sym (model_at_is i (omega arith)))
-      (subst (λ (X : Model). Leads (gone_forth empty_model (take i records)) r X) (sym (model_at_is (i + 1) (omega arith)))
+      subst (λ (X : Model). LeadsBothWays X r (model_at (machine_of M records place) (i + 1))) (sym (model_at_is i (omega arith)))
+      (subst (λ (X : Model). LeadsBothWays (gone_forth empty_model (take i records)) r X) (sym (model_at_is (i + 1) (omega arith)))
       (lead_next records i r h e kept.lead))
 
   -- the record at the place leads on from the model held
-  leads_next : (r : Record) → place < length records → r ≡ get_or records place r → Leads M r (gone_forth empty_model (take (place + 1) records))
-  leads_next r h e = subst (λ (X : Model). Leads X r (gone_forth empty_model (take (place + 1) records))) (sym kept.held) (lead_next records place r h e kept.lead)
+  leads_next : (r : Record) → place < length records → r ≡ get_or records place r → LeadsBothWays M r (gone_forth empty_model (take (place + 1) records))
+  leads_next r h e = subst (λ (X : Model). LeadsBothWays X r (gone_forth empty_model (take (place + 1) records))) (sym kept.held) (lead_next records place r h e kept.lead)
 
   pub goes_on : (r : Record) → place < length records → r ≡ get_or records place r → AreAccepted M r.forward
   goes_on r h e = (leads_next r h e).forward_goes
@@ -169,7 +168,7 @@ module _ (M : Model) (records : List Record) (place : ℕ) (kept : IsJournal M r
   pub place_redone : (r : Record) → place < length records → r ≡ get_or records place r → machine_of (effects M r.forward) records (place + 1) ≡ redo (machine_of M records place)
   place_redone r h e =
       let leads = leads_next r h e in
-      place_on M (effects M r.forward) records place r h e (subst (Leads M r) (sym leads.forward) leads)
+      place_on M (effects M r.forward) records place r h e (subst (LeadsBothWays M r) (sym leads.forward) leads)
 
   -- a record more, in the place of those ahead
   front : length (take place records) ≡ place
@@ -181,17 +180,17 @@ module _ (M : Model) (records : List Record) (place : ℕ) (kept : IsJournal M r
   whole : (r : Record) → take (place + 1) (take place records ++ r ∷ []) ≡ take place records ++ r ∷ []
   whole r = take_all (place + 1) (take place records ++ r ∷ []) (omega (arith, long r))
 
-  pub journal_more : (r : Record) (N : Model) → Leads M r N → IsJournal N (take place records ++ r ∷ []) (place + 1)
+  pub journal_more : (r : Record) (N : Model) → LeadsBothWays M r N → IsJournal N (take place records ++ r ∷ []) (place + 1)
   journal_more r N leads = record {
     placed = omega (arith, long r);
     lead = lead-append empty_model (take place records) (r ∷ []) (lead-take empty_model place records kept.lead)
-        (subst (λ (X : Model). Leads X r (effects X r.forward)) kept.held (subst (λ (X : Model). Leads M r X) (sym leads.forward) leads), tt);
+        (subst (λ (X : Model). LeadsBothWays X r (effects X r.forward)) kept.held (subst (λ (X : Model). LeadsBothWays M r X) (sym leads.forward) leads), tt);
     held = sym leads.forward ∙ ap (λ (X : Model). effects X r.forward) kept.held
         ∙ sym (forth-append empty_model (take place records) (r ∷ []))
         ∙ ap (gone_forth empty_model) (sym (whole r));
   }
 
-  past_more : (r : Record) (N : Model) → Leads M r N → past_of N (take place records ++ r ∷ []) (place + 1) ≡ M ∷ past_of M records place
+  past_more : (r : Record) (N : Model) → LeadsBothWays M r N → past_of N (take place records ++ r ∷ []) (place + 1) ≡ M ∷ past_of M records place
   unfolding past_of
   past_more r N leads =
       ap (λ (rs : List Record). models_back N (reverse rs)) (whole r)
@@ -202,18 +201,18 @@ module _ (M : Model) (records : List Record) (place : ℕ) (kept : IsJournal M r
   unfolding future_of
   future_more r N = ap (models_ahead N) (drop_all (place + 1) (take place records ++ r ∷ []) (omega (arith, long r)))
 
-  pub machine_more : (r : Record) (N : Model) → Leads M r N → machine_of N (take place records ++ r ∷ []) (place + 1) ≡ accepted (machine_of M records place) N
+  pub machine_more : (r : Record) (N : Model) → LeadsBothWays M r N → machine_of N (take place records ++ r ∷ []) (place + 1) ≡ accepted (machine_of M records place) N
   machine_more r N leads =
       ap (λ (Ms : List Model). record { past = Ms; present = N; future = future_of N (take place records ++ r ∷ []) (place + 1) }) (past_more r N leads)
       ∙ ap (λ (Ms : List Model). record { past = M ∷ past_of M records place; present = N; future = Ms }) (future_more r N)
 
 -- the record before the place leads back
 module _ (M : Model) (records : List Record) (place : ℕ) (before : 0 < place) (kept : IsJournal M records place) (r : Record) (is : r ≡ get_or records (place - 1) r) where
-  leads_to : Leads (gone_forth empty_model (take (place - 1) records)) r M
+  leads_to : LeadsBothWays (gone_forth empty_model (take (place - 1) records)) r M
   leads_to =
       let next : place - 1 + 1 ≡ place = omega arith in
-      subst (λ (X : Model). Leads (gone_forth empty_model (take (place - 1) records)) r X) (sym kept.held)
-      (subst (λ (n : ℕ). Leads (gone_forth empty_model (take (place - 1) records)) r (gone_forth empty_model (take n records))) next
+      subst (λ (X : Model). LeadsBothWays (gone_forth empty_model (take (place - 1) records)) r X) (sym kept.held)
+      (subst (λ (n : ℕ). LeadsBothWays (gone_forth empty_model (take (place - 1) records)) r (gone_forth empty_model (take n records))) next
       (lead_next records (place - 1) r (let h = kept.placed in omega arith) is kept.lead))
 
   pub goes_back : AreAccepted M r.back
@@ -225,7 +224,7 @@ module _ (M : Model) (records : List Record) (place : ℕ) (before : 0 < place) 
   pub place_undone : machine_of (effects M r.back) records (place - 1) ≡ undo (machine_of M records place)
   place_undone =
       let next : place - 1 + 1 ≡ place = omega arith in
-      place_back (effects M r.back) M records (place - 1) r (let h = kept.placed in omega arith) is (subst (λ (X : Model). Leads X r M) (sym leads_to.back) leads_to)
+      place_back (effects M r.back) M records (place - 1) r (let h = kept.placed in omega arith) is (subst (λ (X : Model). LeadsBothWays X r M) (sym leads_to.back) leads_to)
       ∙ ap (λ (n : ℕ). undo (machine_of M records n)) next
 
 -- a session of no command

@@ -11,7 +11,7 @@ use Rattle.low_euler.specs.Ready.{IsReady}
 use Rattle.undo_journal.specs.declared.record.Record.{Record}
 use Rattle.undo_journal.specs.Journal.{new_journal}
 use Rattle.low_euler.specs.Room.{IsStepped, KeepsRoom}
-use Rattle.undo_journal.specs.Sessions.{past_of, future_of, journal_of, Leads, IsJournal, AllHaveRoom, RecordsHaveRoom, IsKept, opened, command_of, each_inverse, IsDrafted, all_after}
+use Rattle.undo_journal.specs.Sessions.{past_of, future_of, journal_of, LeadsBothWays, IsJournal, AllHaveRoom, RecordsHaveRoom, IsKept, opened, command_of, each_inverse, IsDrafted, all_after}
 use Rattle.undo_journal.proofs.Consistent.{journal_consistent}
 use Rattle.undo_journal.proofs.Marks.{each-append, rest_goes_back, rest_undone, front_opened, front_leads, front_paired}
 use Rattle.undo_journal.proofs.Journals.{journal_start, journal_more, journal_on, journal_back}
@@ -40,7 +40,7 @@ pub drafted_grown : (s t : Store) (records : List Record) (place : ℕ) (forward
 drafted_grown s t records place forward back grown kept = record {
   ready = ready_grown s t grown kept.ready;
   journal = subst (λ (M : Model). IsJournal (opened M back) records place) (sym grown.model) kept.journal;
-  leads = subst (λ (M : Model). Leads (opened M back) (command_of forward back) M) (sym grown.model) kept.leads;
+  leads = subst (λ (M : Model). LeadsBothWays (opened M back) (command_of forward back) M) (sym grown.model) kept.leads;
   paired = subst (λ (M : Model). back ≡ each_inverse (opened M back) forward) (sym grown.model) kept.paired;
   room = records_kept s t records grown.kept kept.room;
   forward_room = ops_kept s t forward grown.kept kept.forward_room;
@@ -48,7 +48,7 @@ drafted_grown s t records place forward back grown kept = record {
 }
 
 -- a record more, in the place of those ahead
-pub kept_more : (A : Model) (t : Store) (records : List Record) (place : ℕ) (r : Record) → IsJournal A records place → RecordsHaveRoom t records → IsReady t → Leads A r t.model → AllHaveRoom t r.forward → AllHaveRoom t r.back → IsKept t (take place records ++ r ∷ []) (place + 1)
+pub kept_more : (A : Model) (t : Store) (records : List Record) (place : ℕ) (r : Record) → IsJournal A records place → RecordsHaveRoom t records → IsReady t → LeadsBothWays A r t.model → AllHaveRoom t r.forward → AllHaveRoom t r.back → IsKept t (take place records ++ r ∷ []) (place + 1)
 kept_more A t records place r journal room ready leads forward back = record {
   ready = ready;
   journal = journal_more A records place journal r t.model leads;
@@ -56,8 +56,8 @@ kept_more A t records place r journal room ready leads forward back = record {
 }
 
 -- an operator and its inverse
-pub one_leads : (M N : Model) (o : Op) → Sound M → first_false M o ≡ None → N ≡ effect M o → Leads M (record { forward = o ∷ []; back = inverse M o ∷ [] }) N
-one_leads M N o sound goes is = subst (λ (X : Model). Leads M (record { forward = o ∷ []; back = inverse M o ∷ [] }) X) (sym is) (record {
+pub one_leads : (M N : Model) (o : Op) → Sound M → first_false M o ≡ None → N ≡ effect M o → LeadsBothWays M (record { forward = o ∷ []; back = inverse M o ∷ [] }) N
+one_leads M N o sound goes is = subst (λ (X : Model). LeadsBothWays M (record { forward = o ∷ []; back = inverse M o ∷ [] }) X) (sym is) (record {
   forward_goes = (goes, tt);
   forward = refl;
   back_goes = (inverse_goes M o sound goes, tt);
@@ -80,7 +80,7 @@ module _ (M N : Model) (forward back : List Op) (o : Op) (sound : Sound M) (goes
   pub opened_same : opened N (back ++ inverse M o ∷ []) ≡ opened M back
   opened_same = ap (effects N) turned ∙ ap (λ (X : Model). effects X (reverse back)) returns
 
-  longer_leads : Leads (opened M back) (command_of forward back) M → Leads (opened M back) (record { forward = forward ++ o ∷ []; back = inverse M o ∷ reverse back }) N
+  longer_leads : LeadsBothWays (opened M back) (command_of forward back) M → LeadsBothWays (opened M back) (record { forward = forward ++ o ∷ []; back = inverse M o ∷ reverse back }) N
   longer_leads leads = record {
     forward_goes = AreAccepted-append (opened M back) forward (o ∷ []) leads.forward_goes (ap (λ (X : Model). first_false X o) leads.forward ∙ goes, tt);
     forward = effects-append (opened M back) forward (o ∷ []) ∙ ap (λ (X : Model). effect X o) leads.forward ∙ sym is;
@@ -88,10 +88,10 @@ module _ (M N : Model) (forward back : List Op) (o : Op) (sound : Sound M) (goes
     back = ap (λ (X : Model). effects X (reverse back)) returns;
   }
 
-  pub draft_leads : Leads (opened M back) (command_of forward back) M → Leads (opened N (back ++ inverse M o ∷ [])) (command_of (forward ++ o ∷ []) (back ++ inverse M o ∷ [])) N
+  pub draft_leads : LeadsBothWays (opened M back) (command_of forward back) M → LeadsBothWays (opened N (back ++ inverse M o ∷ [])) (command_of (forward ++ o ∷ []) (back ++ inverse M o ∷ [])) N
   draft_leads leads =
-      subst (λ (X : Model). Leads X (command_of (forward ++ o ∷ []) (back ++ inverse M o ∷ [])) N) (sym opened_same)
-      (subst (λ (xs : List Op). Leads (opened M back) (record { forward = forward ++ o ∷ []; back = xs }) N) (sym turned) (longer_leads leads))
+      subst (λ (X : Model). LeadsBothWays X (command_of (forward ++ o ∷ []) (back ++ inverse M o ∷ [])) N) (sym opened_same)
+      (subst (λ (xs : List Op). LeadsBothWays (opened M back) (record { forward = forward ++ o ∷ []; back = xs }) N) (sym turned) (longer_leads leads))
 
   pub longer_paired : effects (opened M back) forward ≡ M → back ≡ each_inverse (opened M back) forward → back ++ inverse M o ∷ [] ≡ each_inverse (opened N (back ++ inverse M o ∷ [])) (forward ++ o ∷ [])
   longer_paired made paired =
@@ -152,8 +152,8 @@ module _ (s : Store) (records : List Record) (place : ℕ) (forward back : List 
     drafted_back = record {
       ready = ready;
       journal = subst (λ (M : Model). IsJournal M records place) (sym same_start) kept.journal;
-      leads = subst (λ (M : Model). Leads M (command_of (take n forward) (take n back)) t.model) (sym same_start)
-          (subst (λ (M : Model). Leads started (command_of (take n forward) (take n back)) M) (sym made) (front_leads started s.model forward back n started_sound kept.leads.forward_goes kept.leads.forward kept.paired));
+      leads = subst (λ (M : Model). LeadsBothWays M (command_of (take n forward) (take n back)) t.model) (sym same_start)
+          (subst (λ (M : Model). LeadsBothWays started (command_of (take n forward) (take n back)) M) (sym made) (front_leads started s.model forward back n started_sound kept.leads.forward_goes kept.leads.forward kept.paired));
       paired = front_paired started s.model forward back n started_sound kept.leads.forward_goes kept.leads.forward kept.paired ∙ ap (λ (M : Model). each_inverse M (take n forward)) (sym same_start);
       room = records_kept s t records keeps kept.room;
       forward_room = ops-take t n forward (ops_kept s t forward keeps kept.forward_room);

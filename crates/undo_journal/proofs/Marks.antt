@@ -5,7 +5,7 @@ use Rattle.euler_operators.specs.Common.{Model, Sound, effect, inverse}
 use Rattle.euler_operators.specs.declared.Op.{Op}
 use Rattle.euler_laws.specs.Laws.{effects, AreAccepted, inverses}
 use Rattle.euler_laws.proofs.Common.{effects-append, AreAccepted-front, AreAccepted-back, effects_keep_sound, inverses_undo, inverses_go}
-use Rattle.undo_journal.specs.Sessions.{Leads, opened, command_of, each_inverse}
+use Rattle.undo_journal.specs.Sessions.{LeadsBothWays, opened, command_of, each_inverse}
 use Rattle.undo_journal.specs.Machine.{held}
 use Rattle.undo_journal.specs.Journal.{DraftJournal, after_step, IsMark, IsFurther, back_at}
 
@@ -20,14 +20,12 @@ each-length M [] = refl
 each-length M (o ∷ ops) = ap suc (each-length (effect M o) ops)
 
 pub each-take : (M : Model) (n : ℕ) (ops : List Op) → take n (each_inverse M ops) ≡ each_inverse M (take n ops)
-each-take M zero ops = refl
-each-take M (suc n) [] = refl
 each-take M (suc n) (o ∷ ops) = ap (λ (xs : List Op). inverse M o ∷ xs) (each-take (effect M o) n ops)
+each-take M n ops = refl
 
 pub each-drop : (M : Model) (n : ℕ) (ops : List Op) → drop n (each_inverse M ops) ≡ each_inverse (effects M (take n ops)) (drop n ops)
-each-drop M zero ops = refl
-each-drop M (suc n) [] = refl
 each-drop M (suc n) (o ∷ ops) = each-drop (effect M o) n ops
+each-drop M n ops = refl
 
 pub each-reverse : (M : Model) (ops : List Op) → reverse (each_inverse M ops) ≡ inverses M ops
 each-reverse M [] = refl
@@ -76,7 +74,7 @@ module _ (A M : Model) (forward back : List Op) (n : ℕ) (sound : Sound A) (goe
   pub front_opened : opened at_mark (take n back) ≡ A
   front_opened = ap (effects at_mark) front_inverses ∙ inverses_undo A (take n forward) sound front_goes
 
-  pub front_leads : Leads A (command_of (take n forward) (take n back)) at_mark
+  pub front_leads : LeadsBothWays A (command_of (take n forward) (take n back)) at_mark
   front_leads = record {
     forward_goes = front_goes;
     forward = refl;

@@ -35,9 +35,8 @@ ops-reverse s [] a = tt
 ops-reverse s (o ∷ xs) a = subst (AllHaveRoom s) (sym (reverse-append (o ∷ []) xs)) (ops-append s (reverse xs) (o ∷ []) (ops-reverse s xs a.1) (a.0, tt))
 
 pub ops-take : (s : Store) (n : ℕ) (xs : List Op) → AllHaveRoom s xs → AllHaveRoom s (take n xs)
-ops-take s zero xs a = tt
-ops-take s (suc n) [] a = tt
 ops-take s (suc n) (o ∷ xs) a = (a.0, ops-take s n xs a.1)
+ops-take s n xs a = tt
 
 pub ops-drop : (s : Store) (n : ℕ) (xs : List Op) → AllHaveRoom s xs → AllHaveRoom s (drop n xs)
 ops-drop s zero xs a = a
@@ -49,9 +48,8 @@ records-append s [] ys a b = b
 records-append s (r ∷ xs) ys a b = (a.0, a.1, records-append s xs ys a.2 b)
 
 pub records-take : (s : Store) (n : ℕ) (rs : List Record) → RecordsHaveRoom s rs → RecordsHaveRoom s (take n rs)
-records-take s zero rs a = tt
-records-take s (suc n) [] a = tt
 records-take s (suc n) (r ∷ rs) a = (a.0, a.1, records-take s n rs a.2)
+records-take s n rs a = tt
 
 pub record_room : (s : Store) (rs : List Record) (i : ℕ) (r : Record) → i < length rs → r ≡ get_or rs i r → RecordsHaveRoom s rs → AllHaveRoom s r.forward × AllHaveRoom s r.back
 record_room s [] i r h e a = absurd (omega arith)

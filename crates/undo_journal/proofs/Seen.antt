@@ -10,7 +10,7 @@ use Rattle.undo_journal.specs.Journal.{Journal, DraftJournal, recorded, after_ac
 use Rattle.undo_journal.specs.Recorded.{model_at}
 use Rattle.low_euler.specs.Ready.{IsReady}
 use Rattle.low_euler.specs.Room.{IsStepped}
-use Rattle.undo_journal.specs.Sessions.{machine_of, journal_of, Leads, IsKept, opened, draft_of, command_of, IsDrafted, all_after}
+use Rattle.undo_journal.specs.Sessions.{machine_of, journal_of, LeadsBothWays, IsKept, opened, draft_of, command_of, IsDrafted, all_after}
 use Rattle.undo_journal.proofs.Journals.{depth_is, ahead_is, leads_at, machine_more, place_undone, place_redone}
 use Rattle.undo_journal.proofs.Kept.{one_leads, opened_same, same_start, made}
 use Rattle.undo_journal.proofs.Marks.{each-length}
@@ -44,8 +44,8 @@ module _ (s : Store) (records : List Record) (place : ℕ) (j : Journal) (kept :
   pub more_ahead : (n : ℕ) → n ≡ ahead j.machine → 0 < n → place < length records
   more_ahead n is h = let a : length records - place ≡ ahead j.machine = ahead_seen in omega (arith, a, is, h)
 
-  pub leads_seen : (i : ℕ) (r : Record) → i < length records → r ≡ get_or records i r → Leads (model_at j.machine i) r (model_at j.machine (i + 1))
-  leads_seen i r h is = subst (λ (x : Machine). Leads (model_at x i) r (model_at x (i + 1))) machine_seen (leads_at s.model records place kept.journal i r h is)
+  pub leads_seen : (i : ℕ) (r : Record) → i < length records → r ≡ get_or records i r → LeadsBothWays (model_at j.machine i) r (model_at j.machine (i + 1))
+  leads_seen i r h is = subst (λ (x : Machine). LeadsBothWays (model_at x i) r (model_at x (i + 1))) machine_seen (leads_at s.model records place kept.journal i r h is)
 
   -- the records after one more, which a session and a caller tell alike
   recorded_seen : (r : Record) → take place records ++ r ∷ [] ≡ recorded j r

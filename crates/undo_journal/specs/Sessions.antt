@@ -34,7 +34,7 @@ abbrev pub journal_of : Model → List Record → ℕ → Journal
 journal_of M records place = record { machine = machine_of M records place; records = records }
 
 -- the record takes one model to another, and back, each operator accepted in its turn
-pub record Leads (M : Model) (r : Record) (N : Model) : Type 0 where
+pub record LeadsBothWays (M : Model) (r : Record) (N : Model) : Type 0 where
   pub forward_goes : AreAccepted M r.forward
   pub forward : effects M r.forward ≡ N
   pub back_goes : AreAccepted N r.back
@@ -43,7 +43,7 @@ pub record Leads (M : Model) (r : Record) (N : Model) : Type 0 where
 -- each record leads from the model before it to the one after it, A before the first
 abbrev pub AllLead : Model → List Record → Type 0
 AllLead A [] = Unit {0}
-AllLead A (r ∷ rs) = Leads A r (effects A r.forward) × AllLead (effects A r.forward) rs
+AllLead A (r ∷ rs) = LeadsBothWays A r (effects A r.forward) × AllLead (effects A r.forward) rs
 
 -- the model to which some records lead from A
 abbrev pub gone_forth : Model → List Record → Model
@@ -92,7 +92,7 @@ each_inverse M (o ∷ os) = inverse M o ∷ each_inverse (effect M o) os
 pub record IsDrafted (s : Store) (records : List Record) (place : ℕ) (forward back : List Op) : Type 0 where
   pub ready : IsReady s
   pub journal : IsJournal (opened s.model back) records place
-  pub leads : Leads (opened s.model back) (command_of forward back) s.model
+  pub leads : LeadsBothWays (opened s.model back) (command_of forward back) s.model
   pub paired : back ≡ each_inverse (opened s.model back) forward
   pub room : RecordsHaveRoom s records
   pub forward_room : AllHaveRoom s forward

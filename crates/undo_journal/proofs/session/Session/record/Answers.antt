@@ -1,7 +1,7 @@
 use Rattle.std.proofs.Common.{◌<◌, ◌+◌, length, arith, ap, ◌∙◌, List, slice_index_or}
 use Rattle.undo_journal.specs.declared.record.Record.{Record}
 use Rattle.undo_journal.specs.Recorded.{model_at}
-use Rattle.undo_journal.specs.Sessions.{Leads}
+use Rattle.undo_journal.specs.Sessions.{LeadsBothWays}
 use Rattle.undo_journal.proofs.Seen.{within, leads_seen, records_seen}
 use Rattle.undo_journal.proofs.session.Session.record.Goals as goal
 
@@ -10,7 +10,7 @@ index-requires c =
     let h : c.args.index < length c.self.inside.records.items = within _ _ _ _ c.self.invariant c.self.view_is c.args.index c.requires in
     omega (arith, h, c.self.inside.records.ok.0)
 
-leads : (c : goal.After-index) → Leads (model_at c.args.self.now.machine c.args.index) c.index.result.now (model_at c.args.self.now.machine (c.args.index + 1))
+leads : (c : goal.After-index) → LeadsBothWays (model_at c.args.self.now.machine c.args.index) c.index.result.now (model_at c.args.self.now.machine (c.args.index + 1))
 leads c = leads_seen _ _ _ _ c.self.invariant c.self.view_is c.args.index _ (within _ _ _ _ c.self.invariant c.self.view_is c.args.index c.requires) c.index.ensures
 
 pub returns-clause-forward_goes : goal.returns-clause-forward_goes
