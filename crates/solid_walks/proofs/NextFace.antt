@@ -1,11 +1,11 @@
 -- The walk over the faces of a solid, from each to the next.
-use Rattle.std.proofs.Common.{◌≡◌, ℕ, ◌≤◌, ◌<◌, true, false, nat_eq, ◌&&◌, [], ◌∷◌, ◌++◌, Some, None, sym, ap, ◌∙◌, true≢false, inl, inr, eq-eqb, eqb-true}
+use Rattle.std.proofs.Common.{◌≡◌, ℕ, ◌≤◌, true, nat_eq, ◌&&◌, [], ◌∷◌, ◌++◌, Some, None, ap, ◌∙◌, eq-eqb, eqb-true}
 use Rattle.std.proofs.lemmas.Bool.{and_parts}
 use Rattle.euler_operators.specs.Table as table
 use Rattle.euler_operators.specs.Common.{Model, faces_of, solid_of, Sound, Has, lists}
-use Rattle.euler_operators.proofs.Common.{at_most_or_above}
 use Rattle.euler_laws.proofs.Common.{up_to_all, up_to_next}
 use Rattle.euler_conditions.specs.Store.{IsNextFace, is_face_of}
+use Rattle.solid_walks.proofs.NextRing.{not_less}
 use Rattle.shapes.proofs.Common.{listed_face, face_listed, faces_rise, face_number, faces_to}
 
 module _ (M : Model) (sound : Sound M) (s : ℕ) where
@@ -21,11 +21,7 @@ module _ (M : Model) (sound : Sound M) (s : ℕ) where
   pub faces_more : (last f : ℕ) → IsNextFace M s last (Some f) → faces_to M sound s f ≡ faces_to M sound s last ++ f ∷ []
   faces_more last f next =
       let t = face_is f next.1 in
-      up_to_next last f (faces_of M s) (faces_rise M sound s) (face_listed M sound s f t.0 t.1) next.0 (λ k i l. not_before k (is_face k i) (next.2 k l)) where
-        not_before : (k : ℕ) → is_face_of M s k ≡ true → (k < f → is_face_of M s k ≡ false) → f ≤ k
-        not_before k e none = elim (at_most_or_above f k) [ inl b ↦ b | inr b ↦ absurd (true≢false (sym e ∙ none b)) ]
+      up_to_next last f (faces_of M s) (faces_rise M sound s) (face_listed M sound s f t.0 t.1) next.0 (λ k i l. not_less f k (is_face k i) (next.2 k l))
 
   pub faces_all : (last : ℕ) → IsNextFace M s last None → faces_to M sound s last ≡ faces_of M s
-  faces_all last none = up_to_all last (faces_of M s) (λ k i. not_after k (is_face k i)) where
-    not_after : (k : ℕ) → is_face_of M s k ≡ true → k ≤ last
-    not_after k e = elim (at_most_or_above k last) [ inl b ↦ b | inr b ↦ absurd (true≢false (sym e ∙ none k b)) ]
+  faces_all last none = up_to_all last (faces_of M s) (λ k i. not_less k last (is_face k i) (none k))

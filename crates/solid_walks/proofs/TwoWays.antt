@@ -15,6 +15,10 @@ pub before_after : (M : Model) → Sound M → (x : ℕ) → HasHalf M x → bef
 unfolding before after
 before_after M sound x t = ap (λ l. predecessor (items_of (content M l)) (successor (cycle_of M x) x)) (loop_after M sound x t) ∙ predecessor-successor x (cycle_of M x) (cycle_sound M sound x t).apart (cycle_there M sound x t)
 
+-- x stands at the vertex of h
+abbrev pub IsAt : Model → ℕ → ℕ → Type 0
+IsAt M h x = HasHalf M x × (tail M x ≡ tail M h)
+
 -- the walk has come to a on one side and to b on the other. The half-edges between are unseen, at most n
 pub record Unseen (M : Model) (h a b n : ℕ) : Type 0 where
   pub between : List ℕ
@@ -22,11 +26,9 @@ pub record Unseen (M : Model) (h a b n : ℕ) : Type 0 where
   pub apart : IsApart between
   pub not_ahead : count a between ≡ 0
   pub not_behind : count b between ≡ 0
-  pub at_vertex : (x : ℕ) → IsIn x between → HasHalf M x × (tail M x ≡ tail M h)
-  pub ahead_there : HasHalf M a
-  pub ahead_here : tail M a ≡ tail M h
-  pub behind_there : HasHalf M b
-  pub behind_here : tail M b ≡ tail M h
+  pub at_vertex : (x : ℕ) → IsIn x between → IsAt M h x
+  pub ahead : IsAt M h a
+  pub behind : IsAt M h b
   pub seen : (x : ℕ) → HasHalf M x → tail M x ≡ tail M h → (edge_of h ≤ edge_of x) ⊎ IsIn x between
   pub short : length between ≤ n
 
@@ -58,7 +60,7 @@ module _ (M : Model) (sound : Sound M) (h : ℕ) (there : HasHalf M h) where
       let same : (x : ℕ) → tick x h + count x ys ≡ count x xs = λ x. count_at x h xs i in
       let d : IsApart ys = λ x. omega (arith, same x, fan.apart x) in
       let once : count h ys ≡ 0 = omega (arith, same h, fan.apart h, tick_same h) in
-      let of_it : (x : ℕ) → IsIn x ys → HasHalf M x × (tail M x ≡ tail M h) = λ x j. fan.of_it x (omega (arith, same x, j)) in
+      let of_it : (x : ℕ) → IsIn x ys → IsAt M h x = λ x j. fan.of_it x (omega (arith, same x, j)) in
       record {
         between = ys;
         path = IsRing-same (round M) xs (h ∷ ys) (rotation_at h xs i) fan.ring;
@@ -66,10 +68,8 @@ module _ (M : Model) (sound : Sound M) (h : ℕ) (there : HasHalf M h) where
         not_ahead = once;
         not_behind = once;
         at_vertex = of_it;
-        ahead_there = there;
-        ahead_here = refl;
-        behind_there = there;
-        behind_here = refl;
+        ahead = (there, refl);
+        behind = (there, refl);
         seen = λ x t e. elim (eqb_tells x h) [ inl s ↦ inl (omega (arith, ap edge_of s.1)) | inr n ↦ inr (omega (arith, same x, fan.all x t e, tick_other x h n.1)) ];
         short = length_below steps ys d (λ x j. half_below M sound x (of_it x j).0);
       }
@@ -84,21 +84,16 @@ module _ (M : Model) (sound : Sound M) (h : ℕ) (there : HasHalf M h) where
     empty [] l = refl
     empty (x ∷ xs) l = absurd (omega arith)
 
-  -- what the walk's next step ahead finds, and what it leaves
-  record NextAhead (a b n : ℕ) (w : Unseen M h a b n) : Type 0 where
-    left : List ℕ
-    split : w.between ≡ round M a ∷ left
-
-  record NextBehind (a b n : ℕ) (w : Unseen M h a b n) : Type 0 where
-    left : List ℕ
-    split : w.between ≡ left ++ mate (before M b) ∷ []
-
   module _ (a b n : ℕ) (w : Unseen M h a b n) where
-    ahead_cases : ((w.between ≡ []) × (round M a ≡ b)) ⊎ NextAhead a b n w
+    -- what the walk's next step ahead finds, and what it leaves
+    abbrev AheadCases : Type 0
+    AheadCases = ((w.between ≡ []) × (round M a ≡ b)) ⊎ ((left : List ℕ) × (w.between ≡ round M a ∷ left))
+
+    ahead_cases : AheadCases
     ahead_cases = next_on_path w.between refl w.path where
-      next_on_path : (xs : List ℕ) → w.between ≡ xs → IsPath (round M) (a ∷ xs) b → ((w.between ≡ []) × (round M a ≡ b)) ⊎ NextAhead a b n w
+      next_on_path : (xs : List ℕ) → w.between ≡ xs → IsPath (round M) (a ∷ xs) b → AheadCases
       next_on_path [] e p = inl (e, p.0)
-      next_on_path (x ∷ xs) e p = inr (record { left = xs; split = e ∙ ap (λ y. y ∷ xs) (sym p.0) })
+      next_on_path (x ∷ xs) e p = inr (xs, e ∙ ap (λ y. y ∷ xs) (sym p.0))
 
     -- one comes back to where the walk goes ahead from, or to the last unseen one
     back_is : mate (before M b) ≡ last_or a w.between
@@ -109,58 +104,60 @@ module _ (M : Model) (sound : Sound M) (h : ℕ) (there : HasHalf M h) where
         let t : HasHalf M l = last_there w.between refl in
         ap (λ x. mate (before M x)) (sym e) ∙ ap mate (before_after M sound (mate l) (mate_there M l t)) ∙ mate-mate l where
           last_there : (xs : List ℕ) → w.between ≡ xs → HasHalf M (last_or a xs)
-          last_there [] e = w.ahead_there
+          last_there [] e = w.ahead.0
           last_there (x ∷ xs) e = let p = front_of x xs in (w.at_vertex (last_or x xs) (omega (arith, ap (count (last_or x xs)) e, ap (count (last_or x xs)) p.1, count-append (last_or x xs) p.0 (last_or x xs ∷ []), tick_same (last_or x xs)))).0
 
-    behind_cases : ((w.between ≡ []) × (mate (before M b) ≡ a)) ⊎ NextBehind a b n w
+    -- and its next step back
+    abbrev BehindCases : Type 0
+    BehindCases = ((w.between ≡ []) × (mate (before M b) ≡ a)) ⊎ ((left : List ℕ) × (w.between ≡ left ++ mate (before M b) ∷ []))
+
+    behind_cases : BehindCases
     behind_cases = last_behind w.between refl where
-      last_behind : (xs : List ℕ) → w.between ≡ xs → ((w.between ≡ []) × (mate (before M b) ≡ a)) ⊎ NextBehind a b n w
+      last_behind : (xs : List ℕ) → w.between ≡ xs → BehindCases
       last_behind [] e = inl (e, back_is ∙ ap (last_or a) e)
-      last_behind (x ∷ xs) e = let f = front_of x xs in inr (record { left = f.0; split = e ∙ f.1 ∙ ap (λ y. f.0 ++ y ∷ []) (sym (back_is ∙ ap (last_or a) e)) })
+      last_behind (x ∷ xs) e = let f = front_of x xs in inr (f.0, e ∙ f.1 ∙ ap (λ y. f.0 ++ y ∷ []) (sym (back_is ∙ ap (last_or a) e)))
 
     -- ---- a step ahead
 
     pub met_ahead : round M a ≡ b → leads M h ≡ true
     met_ahead e = elim ahead_cases [
       | inl z ↦ none_unseen a b n w z.0
-      | inr s ↦ absurd (no_first b (round M a) s.left e (sym (ap (count b) s.split) ∙ w.not_behind))
+      | inr s ↦ absurd (no_first b (round M a) s.0 e (sym (ap (count b) s.1) ∙ w.not_behind))
     ]
 
-    first_unseen : (s : NextAhead a b n w) → HasHalf M (round M a) × (tail M (round M a) ≡ tail M h)
-    first_unseen s = w.at_vertex (round M a) (omega (arith, ap (count (round M a)) s.split, tick_same (round M a)))
+    first_unseen : (left : List ℕ) → w.between ≡ round M a ∷ left → IsAt M h (round M a)
+    first_unseen left e = w.at_vertex (round M a) (omega (arith, ap (count (round M a)) e, tick_same (round M a)))
 
     -- neither end of the walk is of a lesser edge
     ahead_least : edge_of h ≤ edge_of a
-    ahead_least = elim (w.seen a w.ahead_there w.ahead_here) [ inl l ↦ l | inr i ↦ absurd (omega (arith, i, w.not_ahead)) ]
+    ahead_least = elim (w.seen a w.ahead.0 w.ahead.1) [ inl l ↦ l | inr i ↦ absurd (omega (arith, i, w.not_ahead)) ]
 
     behind_least : edge_of h ≤ edge_of b
-    behind_least = elim (w.seen b w.behind_there w.behind_here) [ inl l ↦ l | inr i ↦ absurd (omega (arith, i, w.not_behind)) ]
+    behind_least = elim (w.seen b w.behind.0 w.behind.1) [ inl l ↦ l | inr i ↦ absurd (omega (arith, i, w.not_behind)) ]
 
     pub lesser_ahead : edge_of (round M a) < edge_of h → leads M h ≡ false
     lesser_ahead l = elim ahead_cases [
       | inl z ↦ absurd (omega (arith, l, behind_least, ap edge_of z.1))
-      | inr s ↦ let v = first_unseen s in leads_false M h (round M a) v.0 v.1 l
+      | inr s ↦ let v = first_unseen s.0 s.1 in leads_false M h (round M a) v.0 v.1 l
     ]
 
     pub step_ahead : (k : ℕ) → n ≡ k + 1 → round M a ≢ b → edge_of h ≤ edge_of (round M a) → Unseen M h (round M a) b k
     step_ahead k m ne l = elim ahead_cases [
       | inl z ↦ absurd (ne z.1)
-      | inr s ↦ let c : (x : ℕ) → count x w.between ≡ tick x (round M a) + count x s.left = λ x. ap (count x) s.split in record {
-        between = s.left;
-        path = (subst (λ q. IsPath (round M) (a ∷ q) b) s.split w.path).1;
+      | inr s ↦ let c : (x : ℕ) → count x w.between ≡ tick x (round M a) + count x s.0 = λ x. ap (count x) s.1 in record {
+        between = s.0;
+        path = (subst (λ q. IsPath (round M) (a ∷ q) b) s.1 w.path).1;
         apart = λ x. omega (arith, c x, w.apart x);
         not_ahead = omega (arith, c (round M a), w.apart (round M a), tick_same (round M a));
         not_behind = omega (arith, c b, w.not_behind);
         at_vertex = λ x i. w.at_vertex x (omega (arith, c x, i));
-        ahead_there = (first_unseen s).0;
-        ahead_here = (first_unseen s).1;
-        behind_there = w.behind_there;
-        behind_here = w.behind_here;
+        ahead = first_unseen s.0 s.1;
+        behind = w.behind;
         seen = λ x t e. elim (w.seen x t e) [
           | inl q ↦ inl q
           | inr i ↦ elim (eqb_tells x (round M a)) [ inl q ↦ inl (omega (arith, l, ap edge_of q.1)) | inr q ↦ inr (omega (arith, c x, i, tick_other x (round M a) q.1)) ]
         ];
-        short = omega (arith, m, w.short, ap (λ (q : List ℕ). length q) s.split);
+        short = omega (arith, m, w.short, ap (λ (q : List ℕ). length q) s.1);
       }
     ]
 
@@ -169,42 +166,40 @@ module _ (M : Model) (sound : Sound M) (h : ℕ) (there : HasHalf M h) where
     pub met_behind : mate (before M b) ≡ a → leads M h ≡ true
     met_behind e = elim behind_cases [
       | inl z ↦ none_unseen a b n w z.0
-      | inr s ↦ absurd (omega (arith, w.not_ahead, ap (count a) s.split, count-append a s.left (mate (before M b) ∷ []), ap (tick a) e, tick_same a))
+      | inr s ↦ absurd (omega (arith, w.not_ahead, ap (count a) s.1, count-append a s.0 (mate (before M b) ∷ []), ap (tick a) e, tick_same a))
     ]
 
-    last_unseen : (s : NextBehind a b n w) → HasHalf M (mate (before M b)) × (tail M (mate (before M b)) ≡ tail M h)
-    last_unseen s = let x = mate (before M b) in w.at_vertex x (omega (arith, ap (count x) s.split, count-append x s.left (x ∷ []), tick_same x))
+    last_unseen : (left : List ℕ) → w.between ≡ left ++ mate (before M b) ∷ [] → IsAt M h (mate (before M b))
+    last_unseen left e = let x = mate (before M b) in w.at_vertex x (omega (arith, ap (count x) e, count-append x left (x ∷ []), tick_same x))
 
     pub lesser_behind : edge_of (mate (before M b)) < edge_of h → leads M h ≡ false
     lesser_behind l = elim behind_cases [
       | inl z ↦ absurd (omega (arith, l, ahead_least, ap edge_of z.1))
-      | inr s ↦ let v = last_unseen s in leads_false M h (mate (before M b)) v.0 v.1 l
+      | inr s ↦ let v = last_unseen s.0 s.1 in leads_false M h (mate (before M b)) v.0 v.1 l
     ]
 
     pub step_behind : mate (before M b) ≢ a → edge_of h ≤ edge_of (mate (before M b)) → Unseen M h a (mate (before M b)) n
     step_behind ne l = elim behind_cases [
       | inl z ↦ absurd (ne z.1)
-      | inr s ↦ let y : ℕ = mate (before M b) in let c : (x : ℕ) → count x w.between ≡ count x s.left + tick x y = λ x. omega (arith, ap (count x) s.split, count-append x s.left (y ∷ [])) in record {
-        between = s.left;
-        path = IsPath-left (round M) (a ∷ s.left) (y ∷ []) b (subst (λ q. IsPath (round M) (a ∷ q) b) s.split w.path);
+      | inr s ↦ let y : ℕ = mate (before M b) in let c : (x : ℕ) → count x w.between ≡ count x s.0 + tick x y = λ x. omega (arith, ap (count x) s.1, count-append x s.0 (y ∷ [])) in record {
+        between = s.0;
+        path = IsPath-left (round M) (a ∷ s.0) (y ∷ []) b (subst (λ q. IsPath (round M) (a ∷ q) b) s.1 w.path);
         apart = λ x. omega (arith, c x, w.apart x);
         not_ahead = omega (arith, c a, w.not_ahead);
         not_behind = omega (arith, c y, w.apart y, tick_same y);
         at_vertex = λ x i. w.at_vertex x (omega (arith, c x, i));
-        ahead_there = w.ahead_there;
-        ahead_here = w.ahead_here;
-        behind_there = (last_unseen s).0;
-        behind_here = (last_unseen s).1;
+        ahead = w.ahead;
+        behind = last_unseen s.0 s.1;
         seen = λ x t e. elim (w.seen x t e) [
           | inl q ↦ inl q
           | inr i ↦ elim (eqb_tells x y) [ inl q ↦ inl (omega (arith, l, ap edge_of q.1)) | inr q ↦ inr (omega (arith, c x, i, tick_other x y q.1)) ]
         ];
-        short = omega (arith, w.short, ap (λ (q : List ℕ). length q) s.split, length-append s.left (y ∷ []));
+        short = omega (arith, w.short, ap (λ (q : List ℕ). length q) s.1, length-append s.0 (y ∷ []));
       }
     ]
 
   pub faced_there : (a b n : ℕ) → Facing M h a b n → HasHalf M b
-  faced_there a b n w = subst (HasHalf M) (sym w.comes) (mate_there M (before M w.last) (before_there M sound w.last w.walk.behind_there))
+  faced_there a b n w = subst (HasHalf M) (sym w.comes) (mate_there M (before M w.last) (before_there M sound w.last w.walk.behind.0))
 
   pub met_back : (a b n : ℕ) → Facing M h a b n → b ≡ a → leads M h ≡ true
   met_back a b n w e = met_behind a w.last n w.walk (sym w.comes ∙ e)

@@ -1,6 +1,5 @@
 -- A walk round a ring, from an item on until it is met again.
-use Rattle.std.proofs.Common.{◌≡◌, ◌≢◌, ℕ, ◌≤◌, min, List, [], ◌∷◌, ◌++◌, refl, sym, ap, subst, ◌∙◌, arith, append_assoc, is_some, inl, inr, ne_eqb}
-use Rattle.std.proofs.lemmas.Bool.{cases_lt}
+use Rattle.std.proofs.Common.{◌≡◌, ◌≢◌, ℕ, ◌≤◌, min, List, [], ◌∷◌, ◌++◌, refl, sym, ap, ◌∙◌, arith, append_assoc, is_some, ne_eqb}
 use Rattle.euler_operators.specs.Common.{count, IsIn, IsApart, head_or, least, rotate_to, canonical, successor, rest, Model, content, loop_of, cycle_of, Sound, HasHalf, StandsIn}
 use Rattle.euler_operators.specs.Items.{before, after}
 use Rattle.euler_operators.proofs.Common.{count-append, tick_same, split_at, count-before, before_of, after_of, least_le, least_in, rotate_to-rotates, IsApart-rotate_to, count-rotate_to, rotate_to_is, successor_at, successor_same, IsIn_successor, in-holds, held_row, cycle_there, cycle_sound, number_real}
@@ -132,7 +131,4 @@ items_left_is M sound h next there = rw (ne_eqb next 0 (code_real M sound next t
 
 -- the lesser of two items is one
 pub lesser_in : (xs : List ℕ) (a b c : ℕ) → c ≡ min a b → IsIn a xs → IsIn b xs → IsIn c xs
-lesser_in xs a b c e i j = elim (cases_lt a b) [
-  | inl l ↦ let s : a ≡ c = omega (arith, e) in subst (λ k. IsIn k xs) s i
-  | inr l ↦ let s : b ≡ c = omega (arith, e) in subst (λ k. IsIn k xs) s j
-]
+lesser_in xs a b c e i j = grind (arith, e, i, j)

@@ -1,7 +1,6 @@
 -- What an arena answers as a walk goes from a face of a solid to the next.
-use Rattle.std.proofs.Common.{◌≡◌, ℕ, ◌<◌, Bool, true, ◌&&◌, ◌||◌, nat_eq, List, [], ◌∷◌, Option, Some, None, is_some, unwrap_or, refl, sym, ◌∙◌, arith}
-use Rattle.std.proofs.lemmas.Bool.Decides.{nat_tests}
-use Rattle.euler_operators.specs.Common.{get, has, Model, FaceRow, no_face, solid_of, faces_of, Sound, Has, lists, IsIn}
+use Rattle.std.proofs.Common.{◌≡◌, ℕ, ◌<◌, Bool, true, ◌&&◌, ◌||◌, nat_eq, [], ◌∷◌, Option, Some, None, is_some, unwrap_or, refl, sym, ◌∙◌}
+use Rattle.euler_operators.specs.Common.{get, has, Model, FaceRow, no_face, solid_of, faces_of, Sound, Has, IsIn}
 use Rattle.euler_operators.proofs.Common.{and_first, one_or_more}
 use Rattle.euler_conditions.specs.Store.{IsNextFace, is_face_of}
 use Rattle.euler_laws.proofs.Common.{listed-from_in}
@@ -9,10 +8,6 @@ use Rattle.shapes.specs.Common.{faces_of_both, loops_of}
 use Rattle.shapes.proofs.Common.{listed_face, face_of_loop}
 use Rattle.solid_walks.proofs.face_walks_laws.Above.{above, member, AllAbove, Rising, all_above, next_above, none_above, all_above_members}
 use Rattle.solid_walks.proofs.face_walks_laws.TableWalks.{passes, rising_passing, member_passing}
-
-pub lists_member : (ks : List ℕ) (k : ℕ) → lists ks k ≡ member k ks
-lists_member [] k = refl
-lists_member (x ∷ xs) k = let e : nat_eq x k ≡ nat_eq k x = grind (arith, nat_tests) in λ i. e i || lists_member xs k i
 
 module _ (M : Model) where
   abbrev of_solid : ℕ → ℕ → FaceRow → Bool
@@ -53,12 +48,6 @@ module _ (M : Model) where
 
     pub faces_positive : (s : ℕ) → AllAbove 0 (faces_of M s)
     faces_positive s = all_above_members 0 (faces_of M s) (λ k m. face_positive k (and_first (has M.faces k) (nat_eq (solid_of M k) s) (sym (member_faces s k) ∙ m)))
-
-    pub both_positive : (s t : ℕ) → AllAbove 0 (faces_of_both M s t)
-    both_positive s t = all_above_members 0 (faces_of_both M s t) (λ k m. face_positive k (there k (get M.faces k) (sym (member_passing (of_either s t) M.faces k) ∙ m))) where
-      there : (k : ℕ) (o : Option FaceRow) → passes (of_either s t) k o ≡ true → is_some o ≡ true
-      there k None e = e
-      there k (Some row) e = refl
 
     pub faces_from_zero : (s : ℕ) → above 0 (faces_of M s) ≡ faces_of M s
     faces_from_zero s = all_above 0 (faces_of M s) (faces_positive s)

@@ -1,5 +1,5 @@
 -- Half-edges, their codes, and the test for equal ones.
-use Rattle.std.proofs.Common.{◌≡◌, ◌≢◌, ℕ, true, false, ◌&&◌, nat_eq, ap, sym, ◌∙◌, arith, refl, true≢false}
+use Rattle.std.proofs.Common.{◌≡◌, ◌≢◌, ℕ, true, false, ◌&&◌, nat_eq, ap, sym, ◌∙◌, arith, refl}
 use mathlib.Core.Bool.{beq}
 use Rattle.std.proofs.lemmas.Bool.Decides.{nat_tests}
 use Rattle.std.proofs.lemmas.Bool.{and_parts}
@@ -27,7 +27,4 @@ codes_same g h e =
     λ i. code (record { edge = edges i; first = firsts i })
 
 pub codes_differ : (g h : HalfEdge) → nat_eq g.edge h.edge && beq g.first h.first ≡ false → code g ≢ code h
-codes_differ g h e same =
-    let s = same_code g h same in
-    let one : nat_eq h.edge h.edge ≡ true = grind (arith, nat_tests) in
-    true≢false (sym (ap (λ (k : HalfEdge). nat_eq k.edge h.edge && beq k.first h.first) s ∙ ap (λ b. b && beq h.first h.first) one ∙ beq_itself h.first) ∙ e)
+codes_differ g h e same = grind (arith, nat_tests, beq_itself, same_code g h same, e)

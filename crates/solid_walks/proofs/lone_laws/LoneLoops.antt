@@ -1,36 +1,18 @@
 -- The least lone loop of a face, of some faces, of two solids.
-use Rattle.std.proofs.Common.{◌≡◌, ℕ, Bool, true, false, not, ◌&&◌, ◌||◌, nat_eq, List, [], ◌∷◌, Option, Some, None, is_some, unwrap_or, refl, sym, ap, ◌∙◌, arith, inl, inr, length}
-use Rattle.std.proofs.lemmas.Bool.Decides.{nat_tests, eqb_tells}
+use Rattle.std.proofs.Common.{◌≡◌, ℕ, Bool, true, ◌&&◌, ◌||◌, nat_eq, List, [], ◌∷◌, Option, Some, None, is_some, unwrap_or, refl, sym, ap, ◌∙◌, arith, inl, inr, length, eqb-true}
 use Rattle.euler_operators.specs.Common.{get, has, all_where, Model, LoopRow, no_loop, face_of, outer, content, rings_of, faces_of, Sound, Has, lists, is_lone}
-use Rattle.euler_operators.proofs.Common.{one_or_more}
+use Rattle.euler_operators.proofs.Common.{and_false, and_first, and_second, nat_eq_itself, one_or_more, or_false, same_truth}
+use Rattle.euler_laws.proofs.Common.{first_listed, rest_listed, outer_or_ring}
 use Rattle.shapes.specs.Common.{loops_of, least_lone, faces_of_both}
-use Rattle.solid_walks.proofs.face_walks_laws.Above.{member, AllAbove, all_above_members}
+use Rattle.shapes.proofs.Common.{face_of_loop, ring_listed}
+use Rattle.solid_walks.proofs.face_walks_laws.Above.{member, lists_member, AllAbove, all_above_members}
 use Rattle.solid_walks.proofs.face_walks_laws.TableWalks.{passes, member_passing}
-use Rattle.solid_walks.proofs.face_walks_laws.RingWalks.{member_rings}
 use Rattle.solid_walks.specs.Least.{lesser, least_such, only}
-use Rattle.solid_walks.proofs.lone_laws.Searches.{IsLeast, one_least, least_same, least_either, least_listed, least_row, lesser_none}
-use Rattle.solid_walks.proofs.face_walks_laws.FaceWalks.{lists_member, member_both}
-
-last_true : (a b c : Bool) → c ≡ true → a && b && c ≡ a && b
-last_true true true c e = e
-last_true true false c e = refl
-last_true false b c e = refl
-
-none_listed : (a b : Bool) → false ≡ a && (b && false)
-none_listed true true = refl
-none_listed true false = refl
-none_listed false b = refl
-
-one_listed : (a b c : Bool) → a && (b && c) ≡ a && (b && (c || false))
-one_listed true true true = refl
-one_listed true true false = refl
-one_listed true false c = refl
-one_listed false b c = refl
+use Rattle.solid_walks.proofs.lone_laws.Searches.{IsLeast, and_or, one_least, least_same, least_either, least_listed, least_row, lesser_none}
+use Rattle.solid_walks.proofs.face_walks_laws.FaceWalks.{member_both}
 
 spread : (a b c d : Bool) → (a && (b && c)) || (a && (b && d)) ≡ a && (b && (c || d))
-spread true true c d = refl
-spread true false c d = refl
-spread false b c d = refl
+spread a b c d = and_or a (b && c) (b && d) ∙ ap (λ e. a && e) (and_or b c d)
 
 module _ (M : Model) where
   abbrev pub lone_at : ℕ → Bool
@@ -67,24 +49,18 @@ module _ (M : Model) where
 
     member_loops : (f k : ℕ) → Has M.faces f → member k (loops_of M f) ≡ has M.loops k && nat_eq f (face_of M k)
     unfolding loops_of
-    member_loops f k here = elim (eqb_tells k (outer M f)) [
-      | inl same ↦ ap (λ b. b || member k (rings_of M f)) same.0 ∙ sym (
-          let o = sound.outers_there f here in
-          let h : has M.loops k ≡ true = ap (has M.loops) same.1 ∙ o.0 in
-          let e : face_of M k ≡ f = ap (face_of M) same.1 ∙ o.1 in
-          let t : nat_eq f (face_of M k) ≡ true = grind (arith, nat_tests) in
-          λ i. h i && t i)
-      | inr other ↦ ap (λ b. b || member k (rings_of M f)) other.0 ∙ member_rings M f k ∙ (
-          let ne : nat_eq (outer M f) k ≡ false = let o : nat_eq k (outer M f) ≡ false = other.0 in grind (arith, nat_tests) in
-          let e : nat_eq (face_of M k) f ≡ nat_eq f (face_of M k) = grind (arith, nat_tests) in
-          last_true (has M.loops k) (nat_eq (face_of M k) f) (not (nat_eq (outer M f) k)) (ap not ne) ∙ ap (λ b. has M.loops k && b) e)
-    ]
+    member_loops f k here = sym (lists_member (loops_of M f) k) ∙ same_truth (lists (outer M f ∷ rings_of M f) k) (has M.loops k && nat_eq f (face_of M k))
+        (λ l. let p = face_of_loop M sound f k here l in (λ i. p.0 i && nat_eq f (p.1 i)) ∙ nat_eq_itself f)
+        (λ e. elim (outer_or_ring M f k (and_first (has M.loops k) _ e) (sym (eqb-true f (face_of M k) (and_second (has M.loops k) _ e)))) [
+          | inl o ↦ ap (λ q. lists (q ∷ rings_of M f) k) o ∙ first_listed k (rings_of M f)
+          | inr r ↦ rest_listed (outer M f) k (rings_of M f) (ring_listed M sound f k r)
+        ])
 
     -- the least lone loop of a face is the least of its loops that is lone
     pub face_lone : (f : ℕ) → Has M.faces f → lone_of (loops_of M f) ≡ least_lone M (f ∷ [])
     face_lone f here = one_least (lone_in (f ∷ [])) (lone_of (loops_of M f)) (least_lone M (f ∷ []))
         (least_same (λ k. lone_at k && member k (loops_of M f)) (lone_in (f ∷ []))
-        (λ k. ap (λ b. lone_at k && b) (member_loops f k here) ∙ one_listed (lone_at k) (has M.loops k) (nat_eq f (face_of M k)))
+        (λ k. ap (λ b. lone_at k && b) (member_loops f k here ∙ ap (λ b. has M.loops k && b) (sym (or_false (nat_eq f (face_of M k))))))
         (lone_of (loops_of M f)) (least_listed lone_at (loops_of M f)))
         (found_least (f ∷ []))
 
@@ -96,25 +72,25 @@ module _ (M : Model) where
       none_left [] e = refl
       none_left (r ∷ rs) e = absurd (omega (arith, e))
 
-    -- that of one face more is the lesser of two
+    -- that of the faces of two lists is the lesser of two
+    least_of_two : (fs gs hs : List ℕ) → ((k : ℕ) → lists hs k ≡ lists fs k || lists gs k) → lesser (least_lone M fs) (least_lone M gs) ≡ least_lone M hs
+    least_of_two fs gs hs both = one_least (lone_in hs) (lesser (least_lone M fs) (least_lone M gs)) (least_lone M hs)
+        (least_same (λ k. lone_in fs k || lone_in gs k) (lone_in hs)
+        (λ k. spread (lone_at k) (has M.loops k) (lists fs (face_of M k)) (lists gs (face_of M k)) ∙ ap (λ b. lone_at k && (has M.loops k && b)) (sym (both (face_of M k))))
+        (lesser (least_lone M fs) (least_lone M gs))
+        (least_either (lone_in fs) (lone_in gs) (least_lone M fs) (least_lone M gs) (found_least fs) (found_least gs)))
+        (found_least hs)
+
+    -- that of one face more
     pub least_more : (f : ℕ) (fs : List ℕ) → least_lone M (f ∷ fs) ≡ lesser (least_lone M (f ∷ [])) (least_lone M fs)
-    least_more f fs = one_least (lone_in (f ∷ fs)) (least_lone M (f ∷ fs)) (lesser (least_lone M (f ∷ [])) (least_lone M fs)) (found_least (f ∷ fs))
-        (least_same (λ k. lone_in (f ∷ []) k || lone_in fs k) (lone_in (f ∷ fs))
-        (λ k. ap (λ b. b || lone_in fs k) (sym (one_listed (lone_at k) (has M.loops k) (nat_eq f (face_of M k)))) ∙ spread (lone_at k) (has M.loops k) (nat_eq f (face_of M k)) (lists fs (face_of M k)))
-        (lesser (least_lone M (f ∷ [])) (least_lone M fs))
-        (least_either (lone_in (f ∷ [])) (lone_in fs) (least_lone M (f ∷ [])) (least_lone M fs) (found_least (f ∷ [])) (found_least fs)))
+    least_more f fs = sym (least_of_two (f ∷ []) fs (f ∷ fs) (λ k. ap (λ b. b || lists fs k) (sym (or_false (nat_eq f k)))))
 
     pub least_none : least_lone M [] ≡ None
-    least_none = one_least (lone_in []) (least_lone M []) None (found_least []) (λ k. sym (none_listed (lone_at k) (has M.loops k)))
+    least_none = one_least (lone_in []) (least_lone M []) None (found_least []) (λ k. ap (λ b. lone_at k && b) (and_false (has M.loops k)) ∙ and_false (lone_at k))
 
     both_lists : (s t k : ℕ) → lists (faces_of_both M s t) k ≡ lists (faces_of M s) k || lists (faces_of M t) k
     both_lists s t k = lists_member (faces_of_both M s t) k ∙ member_both M s t k ∙ sym (λ i. lists_member (faces_of M s) k i || lists_member (faces_of M t) k i)
 
     -- and that of two solids
     pub both_lone : (s t : ℕ) → lesser (least_lone M (faces_of M s)) (least_lone M (faces_of M t)) ≡ least_lone M (faces_of_both M s t)
-    both_lone s t = one_least (lone_in (faces_of_both M s t)) (lesser (least_lone M (faces_of M s)) (least_lone M (faces_of M t))) (least_lone M (faces_of_both M s t))
-        (least_same (λ k. lone_in (faces_of M s) k || lone_in (faces_of M t) k) (lone_in (faces_of_both M s t))
-        (λ k. spread (lone_at k) (has M.loops k) (lists (faces_of M s) (face_of M k)) (lists (faces_of M t) (face_of M k)) ∙ ap (λ b. lone_at k && (has M.loops k && b)) (sym (both_lists s t (face_of M k))))
-        (lesser (least_lone M (faces_of M s)) (least_lone M (faces_of M t)))
-        (least_either (lone_in (faces_of M s)) (lone_in (faces_of M t)) (least_lone M (faces_of M s)) (least_lone M (faces_of M t)) (found_least (faces_of M s)) (found_least (faces_of M t))))
-        (found_least (faces_of_both M s t))
+    both_lone s t = least_of_two (faces_of M s) (faces_of M t) (faces_of_both M s t) (both_lists s t)

@@ -1,5 +1,5 @@
 -- The least number that passes a test.
-use Rattle.std.proofs.Common.{◌≡◌, ℕ, ◌<◌, Bool, true, false, cond, ◌&&◌, ◌||◌, nat_eq, nat_lt, nat_le, List, [], ◌∷◌, Option, Some, None, refl, sym, ap, ◌∙◌, arith, true≢false, inl, inr, subst, fold, find}
+use Rattle.std.proofs.Common.{◌≡◌, ℕ, ◌<◌, Bool, true, false, cond, ◌&&◌, ◌||◌, nat_eq, nat_le, List, [], ◌∷◌, Option, Some, None, refl, sym, ap, ◌∙◌, arith, true≢false, inl, inr, subst, fold, find}
 use Rattle.std.proofs.lemmas.Bool.Decides.{nat_tests, eqb_tells}
 use Rattle.std.proofs.lemmas.Bool.{or_left, or_right}
 use Rattle.euler_operators.specs.Common.{Table, get, first_in, first_where, all_in, all_where}
@@ -18,13 +18,7 @@ pub one_least : (p : ℕ → Bool) (m n : Option ℕ) → IsLeast p m → IsLeas
 one_least p None None a b = refl
 one_least p None (Some n) a b = absurd (true≢false (sym b.0 ∙ a n))
 one_least p (Some m) None a b = absurd (true≢false (sym a.0 ∙ b m))
-one_least p (Some m) (Some n) a b = elim (nat_lt m n) as (λ c. nat_lt m n ≡ c → Some m ≡ Some n) [
-  | true ↦ λ t. absurd (true≢false (sym a.0 ∙ b.1 m (grind (arith, nat_tests))))
-  | false ↦ λ t. elim (nat_lt n m) as (λ c. nat_lt n m ≡ c → Some m ≡ Some n) [
-    | true ↦ λ u. absurd (true≢false (sym b.0 ∙ a.1 n (grind (arith, nat_tests))))
-    | false ↦ λ u. let e : m ≡ n = grind (arith, nat_tests) in ap Some e
-  ] refl
-] refl
+one_least p (Some m) (Some n) a b = grind (arith, nat_tests, a.0, b.0, a.1 n, b.1 m)
 
 -- it is the same for tests that agree
 pub least_same : (p q : ℕ → Bool) → ((k : ℕ) → p k ≡ q k) → (n : Option ℕ) → IsLeast p n → IsLeast q n
@@ -60,13 +54,9 @@ pub and_or : (a b c : Bool) → (a && b) || (a && c) ≡ a && (b || c)
 and_or true b c = refl
 and_or false b c = refl
 
-no_member : (b : Bool) → false ≡ b && false
-no_member true = refl
-no_member false = refl
-
 -- the least of a list
 pub least_listed : (p : ℕ → Bool) (ks : List ℕ) → IsLeast (λ k. p k && member k ks) (least_such p ks)
-least_listed p [] = λ k. sym (no_member (p k))
+least_listed p [] = λ k. and_false (p k)
 least_listed p (n ∷ ns) = least_same (λ k. (p k && nat_eq k n) || (p k && member k ns)) (λ k. p k && member k (n ∷ ns)) (λ k. and_or (p k) (nat_eq k n) (member k ns)) (lesser (only (p n) n) (least_such p ns))
     (least_either (λ k. p k && nat_eq k n) (λ k. p k && member k ns) (only (p n) n) (least_such p ns) (only_least p n) (least_listed p ns))
 
@@ -75,7 +65,7 @@ found_some n l = let e : nat_eq n 0 ≡ false = grind (arith, nat_tests) in ap (
 
 -- the first of a rising list is its least
 pub least_rising : (p : ℕ → Bool) (ks : List ℕ) → Rising ks → IsLeast (λ k. p k && member k ks) (first_such p ks)
-least_rising p [] rising = λ k. sym (no_member (p k))
+least_rising p [] rising = λ k. and_false (p k)
 least_rising p (n ∷ ns) rising = elim (p n) as (λ b. p n ≡ b → IsLeast (λ k. p k && member k (n ∷ ns)) (cond b (Some n) (first_such p ns))) [
   | true ↦ λ t. (here t, below)
   | false ↦ λ t. least_same (λ k. p k && member k ns) (λ k. p k && member k (n ∷ ns)) (λ k. elim (eqb_tells k n) [
@@ -84,9 +74,7 @@ least_rising p (n ∷ ns) rising = elim (p n) as (λ b. p n ≡ b → IsLeast (�
   ]) (first_such p ns) (least_rising p ns rising.1)
 ] refl where
   below : (k : ℕ) → k < n → p k && member k (n ∷ ns) ≡ false
-  below k l =
-      let e : nat_eq k n ≡ false = grind (arith, nat_tests) in
-      ap (λ b. p k && b) (ap (λ b. b || member k ns) e ∙ not_member n k ns (omega arith) rising.0) ∙ sym (no_member (p k))
+  below k l = grind (arith, nat_tests, and_false (p k), not_member n k ns (omega arith) rising.0)
 
   here : p n ≡ true → p n && member n (n ∷ ns) ≡ true
   here t = let e : nat_eq n n ≡ true = grind (arith, nat_tests) in (λ i. t i && (e i || member n ns))

@@ -36,7 +36,7 @@ returns-then-next-edge c =
     (subst (λ x. edge_of x < edge_of h) c.round_code-next.ensures.round (less c.round_code-next.result h c.if-next-edge.true)))
 
 pub round_code-next-requires-clause-there : goal.round_code-next-requires-clause-there
-round_code-next-requires-clause-there c = c.round.invariant.walk.ahead_there
+round_code-next-requires-clause-there c = c.round.invariant.walk.ahead.0
 
 pub back-behind-requires-clause-there : goal.back-behind-requires-clause-there
 back-behind-requires-clause-there c =

@@ -7,7 +7,7 @@ pub returns-in-Some-clause-steps : goal.returns-in-Some-clause-steps
 returns-in-Some-clause-steps c = sym c.self.view_is ∙ next_face c.self.inside.arena.now.model c.self.inside.solid c.self.inside.last c.in-Some.face c.in-Some.ensures
 
 pub returns-in-Some-clause-goes : goal.returns-in-Some-clause-goes
-returns-in-Some-clause-goes c = goes_on (λ f. f) (λ _. tt) _ _ c.in-Some.face (sym c.self.view_is ∙ next_face c.self.inside.arena.now.model c.self.inside.solid c.self.inside.last c.in-Some.face c.in-Some.ensures)
+returns-in-Some-clause-goes c = goes_on (λ f. f) (λ _. tt) _ _ c.in-Some.face (returns-in-Some-clause-steps c)
 
 pub returns-in-None-clause-steps : goal.returns-in-None-clause-steps
 returns-in-None-clause-steps c =
