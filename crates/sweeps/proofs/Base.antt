@@ -1,11 +1,10 @@
 -- The lamina of a block's base: its first face has one loop, of four half-edges, and these are ready to be swept.
 use Rattle.std.proofs.Common.{◌≡◌, ℕ, ◌+◌, List, [], ◌∷◌, None, refl, sym, ap, subst, ◌∙◌, arith, map, length}
-use Rattle.euler_operators.specs.Common.{Point, plus, Model, FaceRow, LoopRow, EdgeRow, content, items_of, outer, rings_of, Sound}
-use Rattle.euler_operators.specs.Table as table
+use Rattle.euler_operators.specs.Common.{Point, plus, Model, FaceRow, LoopRow, content, items_of, outer, rings_of, Sound}
 use Rattle.euler_operators.proofs.Common.{content_row, outer_row}
 use Rattle.euler_laws.specs.Laws.{effects}
 use Rattle.shapes.proofs.Common.{greatest-put_last}
-use Rattle.shapes.specs.Common.{Taken, taken_in, numbers_after, lamina_at, with_path, prism_refusal, prism_model}
+use Rattle.shapes.specs.Common.{Taken, taken_in, numbers_after, lamina_at, prism_refusal, prism_model}
 use Rattle.sweeps_laws.specs.prism.SweepOps.{loop_ops, taken_after}
 use Rattle.sweeps_laws.specs.prism.Ready.{Ready}
 use Rattle.sweeps_laws.proofs.swept.Bounds.{taken_free}
@@ -36,28 +35,9 @@ module _ (M : Model) (sound : Sound M) (s : ℕ) (a b g h : Point) where
   items_are : items_of (content base (c.loop + 1)) ≡ items
   items_are = ap items_of (content_row base (c.loop + 1) first_loop (rows.loop_one M c s (a ∷ b ∷ g ∷ h ∷ [])))
 
-  abbrev last_edge : EdgeRow
-  last_edge = record { plus_tail = c.vertex + 4; minus_tail = c.vertex + 1 }
-
-  faces_taken : table.greatest base.faces ≡ c.face + 2
-  unfolding taken_in
-  faces_taken = greatest-put_last (table.put M.faces (c.face + 1) first_face) (c.face + 2) _ (omega (arith, greatest-put_last M.faces (c.face + 1) first_face (omega arith)))
-
-  loops_taken : table.greatest base.loops ≡ c.loop + 2
-  unfolding taken_in
-  loops_taken = greatest-put_last (table.put M.loops (c.loop + 1) first_loop) (c.loop + 2) _ (omega (arith, greatest-put_last M.loops (c.loop + 1) first_loop (omega arith)))
-
-  edges_taken : table.greatest base.edges ≡ c.edge + 4
-  unfolding taken_in
-  edges_taken = greatest-put_last (with_path M.edges c.edge c.vertex 3) (c.edge + 4) last_edge (omega (arith, greatest-with_path M.edges c.edge c.vertex 3 refl))
-
-  vertices_taken : table.greatest base.vertices ≡ c.vertex + 4
-  unfolding taken_in
-  vertices_taken = greatest-with_points M.vertices c.vertex (a ∷ b ∷ g ∷ h ∷ []) 4 refl
-
   taken_is : taken_in base ≡ with_lamina c 4
   unfolding taken_in
-  taken_is = λ i. record { face = faces_taken i; loop = loops_taken i; edge = edges_taken i; vertex = vertices_taken i }
+  taken_is = grind (arith, greatest-put_last, greatest-with_path, greatest-with_points)
 
   module _ (N : Model) (is : N ≡ base) (same : Sound N) (d : Point) (e : prism_refusal N (c.face + 1) d ≡ None) (hs : List ℕ) (holds : hs ≡ items) (k : Taken) (counted : k ≡ with_lamina c 4) where
     taken : k ≡ taken_in N

@@ -1,9 +1,8 @@
 -- A draft in which a lamina is being drawn.
-use Rattle.std.proofs.Common.{◌≡◌, ℕ, suc, ◌+◌, ◌≤◌, ◌<◌, List, Option, Some, None, Ok, refl, sym, ap, subst, ◌∙◌, arith, length, get_or, ◌-◌}
-use Rattle.euler_operators.specs.Common.{Point, HalfEdge, Corner, At, Lone, Model, no_point, Sound, first_false, verdict, effect}
+use Rattle.std.proofs.Common.{◌≡◌, ℕ, suc, ◌+◌, ◌≤◌, ◌<◌, List, None, refl, sym, ap, subst, ◌∙◌, arith, length, get_or, ◌-◌}
+use Rattle.euler_operators.specs.Common.{Point, HalfEdge, Corner, At, Lone, Model, no_point, Sound, first_false, effect}
 use Rattle.euler_operators.specs.declared.Op.{Op}
 use Rattle.euler_operators.specs.declared.Op.TheVariants.{Mvfs, Mev, Mef}
-use Rattle.euler_operators.specs.declared.Refusal.{Refusal}
 use Rattle.shapes.specs.Common.{Taken, taken_in, lamina_refusal, lamina_at, lamina_model}
 use Rattle.sweeps_laws.specs.lamina.Path.{path_at, first_half, second_half, first_point, end_corner, next_point, last_edge}
 use Rattle.sweeps_laws.proofs.lamina.Steps.{Goes, first_accepted, first_made}
@@ -14,11 +13,6 @@ use Rattle.solid_walks.specs.declared.numbers.Counters.{Counters}
 -- the premises, from what the steps are told
 pub begun : (M : Model) (k : Counters) (s : ℕ) (ps : List Point) → Sound M → taken_of k ≡ taken_in M → lamina_refusal M s ps ≡ None → Goes M (taken_of k) s ps (length ps)
 begun M k s ps sound is e = subst (λ c. Goes M c s ps (length ps)) (sym is) (lamina_goes M s ps sound e)
-
--- where a verdict is no refusal
-pub passed : (o : Option Refusal) (u : Unit {0}) → verdict o ≡ Ok u → o ≡ None
-passed None u e = refl
-passed (Some r) u e = cc
 
 -- a path on its way: as it stands before edge i is drawn
 pub record Along (M : Model) (c : Taken) (s : ℕ) (ps : List Point) (i : ℕ) (N : Model) (end : Corner) : Type 0 where

@@ -1,6 +1,6 @@
 -- The items of a loop that is swept, as the code holds them, and the steps that it takes with them.
-use Rattle.std.proofs.Common.{◌≡◌, ℕ, suc, zero, ◌+◌, ◌-◌, ◌<◌, ◌≤◌, List, [], ◌∷◌, map, length, None, sym, ap, ◌∙◌, subst, arith, add-one, get_or}
-use Rattle.std.proofs.lemmas.List.{get_or-map}
+use Rattle.std.proofs.Common.{◌≡◌, ℕ, suc, ◌+◌, ◌-◌, ◌<◌, ◌≤◌, List, map, length, None, sym, ap, ◌∙◌, subst, arith, add-one, get_or}
+use Rattle.std.proofs.lemmas.List.{get_or-map, length-map}
 use Rattle.euler_operators.specs.Common.{Point, IsInRange, moved, IsIn, HalfEdge, At, code, half, plus, Model, HasHalf, first_false, effect}
 use Rattle.euler_operators.proofs.Common.{IsIn-get_or, half-code}
 use Rattle.euler_operators.specs.declared.Op.TheVariants.{Mev}
@@ -19,10 +19,7 @@ same_raise M c d item i edge p e q = λ j. Mev (At (sym (half-code item) j)) (At
 
 module _ (M : Model) (c : Taken) (f l : ℕ) (d : Point) (hs : List ℕ) (w : Ready M c f l d hs) (items : List HalfEdge) (are : map code items ≡ hs) where
   pub how_many : length items ≡ length hs
-  how_many = sym (length_mapped items) ∙ ap length are where
-    length_mapped : (xs : List HalfEdge) → length (map code xs) ≡ length xs
-    length_mapped [] = λ i. zero
-    length_mapped (x ∷ xs) = ap suc (length_mapped xs)
+  how_many = sym (length-map items code) ∙ ap length are
 
   pub has_room : (n : ℕ) → n ≡ length items → AreLeft c (needed_for_sides n)
   has_room n e = subst (λ k. AreLeft c (needed_for_sides k)) (sym (e ∙ how_many)) w.left

@@ -1,6 +1,6 @@
 -- Tallies of corners, one after the other.
 use Rattle.std.specs.Option.{option_or}
-use Rattle.std.proofs.Common.{◌≡◌, ℕ, Bool, true, false, cond, List, [], ◌∷◌, ◌++◌, append_assoc, Some, None, refl, sym, ap, subst, ◌∙◌, arith, ◌+◌, length, min, map, fold, append-nil, length-append}
+use Rattle.std.proofs.Common.{◌≡◌, ℕ, Bool, List, [], ◌∷◌, ◌++◌, append_assoc, None, refl, sym, ap, subst, ◌∙◌, arith, ◌+◌, length, min, map, fold, append-nil, length-append}
 use Rattle.euler_operators.specs.Common.{Point, IsIn, HalfEdge, Content, code, Model, LoopContent, lone, cycle, items_of, content, tail, cycle_of, Sound, HasHalf, StandsIn}
 use Rattle.euler_operators.proofs.Common.{in-holds}
 use Rattle.euler_conditions.specs.Store.{Tells}
@@ -12,10 +12,7 @@ use Rattle.sweeps.specs.Corners.{is_far, joined, tally}
 
 such_joined : (p : ℕ → Bool) (xs ys : List ℕ) → first_such p (xs ++ ys) ≡ option_or (first_such p xs) (first_such p ys)
 such_joined p [] ys = refl
-such_joined p (x ∷ xs) ys = elim (p x) as (λ c. cond c (Some x) (first_such p (xs ++ ys)) ≡ option_or (cond c (Some x) (first_such p xs)) (first_such p ys)) [
-  | true ↦ refl
-  | false ↦ such_joined p xs ys
-]
+such_joined p (x ∷ xs) ys = grind (arith, such_joined p xs ys)
 
 module _ (M : Model) (d : Point) where
   -- the tallies of two lists put together

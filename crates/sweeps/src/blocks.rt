@@ -142,26 +142,8 @@ fn draw_base_and_walls(
     raise_items(draft, &counted_with_base(taken), items.as_slice(), up)
 }
 
-/// Draws a block whose conditions hold, with the memory for its thirteen steps taken at once. Where memory is refused the draft holds
-/// what was drawn so far.
-fn draw_block(
-    draft: &mut Draft,
-    taken: &Counters,
-    solid: u32,
-    corner: Point,
-    size: Point,
-) -> Result<(), AllocError>
-    requires taken { taken_of taken.now ≡ taken_in draft.old.model }
-    requires within { AreWithin taken.now }
-    requires accepted { spec.block_refusal draft.old.model solid corner size.x size.y size.z ≡ None }
-    ensures ok { OnOk result (draft.new.model ≡ block_model draft.old.model solid corner size.x size.y size.z) }
-    ensures further { IsFurther draft.old draft.new }
-{
-    draft.reserve(13)?;
-    draw_base_and_walls(draft, taken, solid, corner, size)
-}
-
-/// Draws a block whose conditions hold. Where memory is refused the draft is as it was.
+/// Draws a block whose conditions hold, with the memory for its thirteen steps taken at once. Where memory is refused the draft is as it
+/// was.
 #[tactic(auto, using(undo_journal::proofs::Marks::further_none, undo_journal::proofs::Marks::further_back))]
 fn try_block(
     draft: &mut Draft,
@@ -177,8 +159,9 @@ fn try_block(
     ensures further { IsFurther draft.old draft.new }
     ensures err { OnErr result (draft.new ≡ draft.old) }
 {
+    draft.reserve(13)?;
     let mark = draft.mark();
-    match draw_block(draft, taken, solid, corner, size) {
+    match draw_base_and_walls(draft, taken, solid, corner, size) {
         Ok(()) => Ok(()),
         Err(error) => {
             draft.back_to(mark);

@@ -2,19 +2,19 @@ use Rattle.std.proofs.Common.{ap, sym, ◌∙◌}
 use Rattle.shapes.specs.Common.{taken_in, lamina_refusal, lamina_model}
 use Rattle.undo_journal.specs.Journal.{Journal, DraftJournal}
 use Rattle.undo_journal.specs.Machine.{accepted}
-use Rattle.sweeps.proofs.Drawing.{passed}
+use Rattle.euler_laws.proofs.Common.{verdict_passed}
 use Rattle.sweeps.proofs.laminas.lamina.Goals as goal
 
 pub try_lamina-requires-clause-accepted : goal.try_lamina-requires-clause-accepted
 try_lamina-requires-clause-accepted c =
     ap (λ ps. lamina_refusal c.in-Ok.draft.model c.args.solid ps) c.as_slice.ensures.value ∙ ap (λ (d : DraftJournal). lamina_refusal d.model c.args.solid c.args.points.now.items) c.in-Ok.ensures.ok
-    ∙ sym (ap (λ M. lamina_refusal M c.args.solid c.args.points.now.items) c.arena-arena.ensures.model) ∙ passed _ _ (sym c.check_lamina.ensures ∙ c.in_default.is)
+    ∙ sym (ap (λ M. lamina_refusal M c.args.solid c.args.points.now.items) c.arena-arena.ensures.model) ∙ verdict_passed _ _ (sym c.in_default.is ∙ c.check_lamina.ensures)
 
 pub returns-in-Ok-try_lamina-clause-ok : goal.returns-in-Ok-try_lamina-clause-ok
 returns-in-Ok-try_lamina-clause-ok c =
     let model = c.in-Ok-try_lamina.ensures.ok ∙ ap (λ ps. lamina_model c.in-Ok.draft.model c.args.solid ps) c.as_slice.ensures.value ∙ ap (λ (d : DraftJournal). lamina_model d.model c.args.solid c.args.points.now.items) c.in-Ok.ensures.ok in
     let session = c.in-Ok-try_lamina.ensures.further.session ∙ ap (λ (d : DraftJournal). d.session) c.in-Ok.ensures.ok in (
-      sym (ap (λ M. lamina_refusal M c.args.solid c.args.points.now.items) c.arena-arena.ensures.model) ∙ passed _ _ (sym c.check_lamina.ensures ∙ c.in_default.is),
+      sym (ap (λ M. lamina_refusal M c.args.solid c.args.points.now.items) c.arena-arena.ensures.model) ∙ verdict_passed _ _ (sym c.in_default.is ∙ c.check_lamina.ensures),
       ap (λ (j : Journal). j.machine) c.commit.ensures ∙ (λ t. accepted (session t).machine (model t)),
     )
 

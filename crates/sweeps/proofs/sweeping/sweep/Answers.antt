@@ -2,14 +2,14 @@ use Rattle.std.proofs.Common.{rules, ap, sym, ◌∙◌}
 use Rattle.shapes.specs.Common.{taken_in, prism_refusal, prism_model}
 use Rattle.undo_journal.specs.Journal.{Journal, DraftJournal}
 use Rattle.undo_journal.specs.Machine.{accepted}
-use Rattle.sweeps.proofs.Drawing.{passed}
+use Rattle.euler_laws.proofs.Common.{verdict_passed}
 use Rattle.sweeps.proofs.sweeping.sweep.Goals as goal
 
 pub returns-in-Ok-try_raise-clause-ok : goal.returns-in-Ok-try_raise-clause-ok
 returns-in-Ok-try_raise-clause-ok c =
     let model = c.in-Ok-try_raise.ensures.model ∙ ap (λ (d : DraftJournal). prism_model d.model c.args.f c.args.shift) c.in-Ok.ensures.ok in
     let session = c.in-Ok-try_raise.ensures.further.session ∙ ap (λ (d : DraftJournal). d.session) c.in-Ok.ensures.ok in (
-      sym (ap (λ M. prism_refusal M c.args.f c.args.shift) c.arena-arena.ensures.model) ∙ passed _ _ (sym c.check_sweep.ensures ∙ c.in_default.is),
+      sym (ap (λ M. prism_refusal M c.args.f c.args.shift) c.arena-arena.ensures.model) ∙ verdict_passed _ _ (sym c.in_default.is ∙ c.check_sweep.ensures),
       ap (λ (j : Journal). j.machine) c.commit.ensures ∙ (λ t. accepted (session t).machine (model t)),
     )
 
