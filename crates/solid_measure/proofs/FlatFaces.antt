@@ -9,19 +9,11 @@ use Rattle.solid_measure.specs.Measure.{plane_of, is_flat}
 module _ (P : ℕ → Bool) where
   all_joined : (xs ys : List ℕ) → list_all P (xs ++ ys) ≡ (list_all P xs && list_all P ys)
   all_joined [] ys = refl
-  all_joined (x ∷ xs) ys = ap (λ b. P x && b) (all_joined xs ys) ∙ sym (and_more (P x) (list_all P xs) (list_all P ys)) where
-    and_more : (a b c : Bool) → ((a && b) && c) ≡ (a && (b && c))
-    and_more true b c = refl
-    and_more false b c = refl
+  all_joined (x ∷ xs) ys = grind (arith, all_joined xs ys)
 
   -- it doesn't depend on where a ring is begun
   pub all_turned : (xs ys : List ℕ) → IsRotation xs ys → list_all P xs ≡ list_all P ys
-  all_turned xs ys r = ap (list_all P) r.here ∙ all_joined r.front r.back ∙ turned (list_all P r.front) (list_all P r.back) ∙ sym (ap (list_all P) r.there ∙ all_joined r.back r.front) where
-    turned : (a b : Bool) → (a && b) ≡ (b && a)
-    turned true true = refl
-    turned true false = refl
-    turned false true = refl
-    turned false false = refl
+  all_turned xs ys r = ap (list_all P) r.here ∙ grind (arith, all_joined r.front r.back, all_joined r.back r.front) ∙ sym (ap (list_all P) r.there)
 
   pub all_mapped : (f : ℕ → ℕ) (xs : List ℕ) → list_all (λ x. P (f x)) xs ≡ list_all P (map f xs)
   all_mapped f [] = refl

@@ -31,9 +31,6 @@ module _ (a x : ℤ) (wa : IsWithin 2000000000 a) (kx : is_coordinate x ≡ true
   slope_within : IsWithin 2000000000000000000 (a *ℤ x)
   slope_within = product_within a x _ _ _ wa (coordinate_within x kx) refl
 
-  pub scaled_fits : FitsSigned w64 (held_short a *ℤ held_short x)
-  scaled_fits = subst (FitsSigned w64) (sym held_product) (short_fits _ (a *ℤ x) slope_within (omega arith))
-
   pub scaled_is : held_short (held_short a *ℤ held_short x) ≡ a *ℤ x
   scaled_is = ap held_short held_product ∙ short_is _ (a *ℤ x) slope_within (omega arith)
 

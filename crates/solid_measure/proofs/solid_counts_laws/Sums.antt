@@ -60,9 +60,6 @@ pub loops-append : (M : Model) (ls ks : List ℕ) → loops_met M (ls ++ ks) ≡
 loops-append M [] ks = sym (nothing_together (loops_met M ks))
 loops-append M (l ∷ ls) ks = ap (together (loop_met M (content M l))) (loops-append M ls ks) ∙ sym (together_more (loop_met M (content M l)) (loops_met M ls) (loops_met M ks))
 
-pub loop_is : (M : Model) (l : ℕ) → loops_met M (l ∷ []) ≡ loop_met M (content M l)
-loop_is M l = together_nothing (loop_met M (content M l))
-
 one_loop : (M : Model) (c : LoopContent) → ((loop_met M c).vertices ≡ cond (is_lone c) 1 0 + how_many (leads M) (items_of c)) × ((loop_met M c).edges ≡ how_many is_first (items_of c))
 one_loop M (lone v) = (refl, refl)
 one_loop M (cycle hs) = let r = halves_are M hs in (omega (arith, r.0), r.1)
