@@ -1,5 +1,5 @@
 -- A search for the half-edge of a face's outer loop that starts at a point.
-use Rattle.std.proofs.Common.{◌≡◌, ℕ, Bool, true, false, cond, List, [], ◌∷◌, Option, Some, None, is_some, refl, sym, ap, ◌∙◌, arith, true≢false, inl, inr, option_map}
+use Rattle.std.proofs.Common.{◌≡◌, ℕ, Bool, true, false, List, [], ◌∷◌, Option, Some, None, is_some, refl, arith, option_map}
 use Rattle.std.proofs.lemmas.Bool.Decides.{eqb_tells}
 use Rattle.euler_operators.specs.Common.{IsIn, Model, LoopContent, lone, cycle, items_of, content, outer, Sound, HasHalf, is_lone}
 use Rattle.euler_operators.proofs.Common.{tick_other, in-holds}
@@ -15,10 +15,7 @@ rim_there M sound f h i = sound.only_edges h (outer M f) (in-holds h (content M 
 -- a search finds something where a number of the list passes
 pub is_found : (test : ℕ → Bool) (ks : List ℕ) (k : ℕ) → IsIn k ks → test k ≡ true → is_some (first_such test ks) ≡ true
 is_found test [] k i t = absurd (omega (arith, i))
-is_found test (n ∷ ks) k i t = elim (test n) as (λ b. test n ≡ b → is_some (cond b (Some n) (first_such test ks)) ≡ true) [
-  | true ↦ λ e. refl
-  | false ↦ λ e. is_found test ks k (elim (eqb_tells k n) [ inl s ↦ absurd (true≢false (sym t ∙ ap test s.1 ∙ e)) | inr ne ↦ omega (arith, i, tick_other k n ne.1) ]) t
-] refl
+is_found test (n ∷ ks) k i t = grind (arith, i, t, eqb_tells k n, tick_other k n, is_found test ks k)
 
 pub some_mapped : {A : Type 0} (f : A → ℕ) (o : Option A) → is_some (option_map f o) ≡ true → is_some o ≡ true
 some_mapped f None e = e

@@ -1,7 +1,7 @@
 -- Two faces that are being glued: the items that are left, what stands beside the next one, and what its steps make.
-use Rattle.std.proofs.Common.{◌≡◌, ◌≢◌, ℕ, ◌<◌, List, [], ◌∷◌, ◌++◌, length, None, refl, sym, ap, ◌∙◌, subst, arith, map, reverse, append_assoc, length-append}
+use Rattle.std.proofs.Common.{◌≡◌, ◌≢◌, ℕ, ◌+◌, ◌<◌, List, [], ◌∷◌, ◌++◌, length, None, refl, sym, ap, ◌∙◌, subst, arith, map, reverse, append_assoc, length-append}
 use Rattle.std.proofs.lemmas.List.{length-map, length-reverse}
-use Rattle.euler_operators.specs.Common.{IsIn, IsApart, head_or, last_or, canonical, successor, predecessor, mate, half, Model, outer, cycle_of, Sound, HasHalf, first_false, effect}
+use Rattle.euler_operators.specs.Common.{IsIn, IsApart, head_or, last_or, canonical, tick, successor, predecessor, mate, half, Model, outer, cycle_of, Sound, HasHalf, first_false, effect}
 use Rattle.euler_operators.proofs.Common.{count-append, tick_same, canonical-rotates, length-canonical, successor_head, successor_same, predecessor_head, predecessor_same, last_or_push, IsIn_last, reverse-cons, count-reverse}
 use Rattle.euler_operators.specs.Model as model
 use Rattle.euler_operators.specs.declared.Op.{Op}
@@ -39,14 +39,7 @@ module _ (p : ℕ → ℕ) (item : ℕ) where
   -- only the last item has its partner next
   no_more : (later : List ℕ) → IsApart (seam p (item ∷ later)) → head_or (p item) later ≡ p item → later ≡ []
   no_more [] a e = refl
-  no_more (k ∷ ks) a e = absurd (omega (
-    arith,
-    a k,
-    tick_same k,
-    count-append k ks (reverse (map p (item ∷ k ∷ ks))),
-    count-reverse k (map p (item ∷ k ∷ ks)),
-    subst (λ y. IsIn k (y ∷ map p (k ∷ ks))) e (omega (arith, tick_same k)),
-  ))
+  no_more (k ∷ ks) a e = absurd (omega (arith, a k, e, tick_same k, count-append k ks (reverse (map p (item ∷ k ∷ ks))), count-reverse k (map p (item ∷ k ∷ ks)), ap (tick k) e))
 
   some_more : (later : List ℕ) → head_or (p item) later ≢ p item → (ks : List ℕ) × (later ≡ head_or (p item) later ∷ ks)
   some_more [] ne = absurd (ne refl)
@@ -54,17 +47,9 @@ module _ (p : ℕ → ℕ) (item : ℕ) where
 
   -- one item less, and its partner
   shorter : (k : ℕ) (ks : List ℕ) → length (canonical (seam p (k ∷ ks))) < length (canonical (seam p (item ∷ k ∷ ks)))
-  shorter k ks = omega (
-    arith,
-    length-canonical (seam p (k ∷ ks)),
-    length-canonical (seam p (item ∷ k ∷ ks)),
-    length-append (k ∷ ks) (reverse (map p (k ∷ ks))),
-    length-append (item ∷ k ∷ ks) (reverse (map p (item ∷ k ∷ ks))),
-    length-reverse (map p (k ∷ ks)),
-    length-reverse (map p (item ∷ k ∷ ks)),
-    length-map (k ∷ ks) p,
-    length-map (item ∷ k ∷ ks) p,
-  )
+  shorter k ks = omega (arith, seam_length (k ∷ ks), seam_length (item ∷ k ∷ ks)) where
+    seam_length : (js : List ℕ) → length (canonical (seam p js)) ≡ length js + length js
+    seam_length js = length-canonical (seam p js) ∙ length-append js (reverse (map p js)) ∙ ap (λ n. length js + n) (length-reverse (map p js) ∙ length-map js p)
 
 -- ---- on the way
 

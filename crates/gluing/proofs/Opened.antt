@@ -1,6 +1,6 @@
 -- Before two faces are glued: the first item of the one, and the half-edge of the other that starts where it does. And what opens
 -- the seam.
-use Rattle.std.proofs.Common.{◌≡◌, ◌≢◌, ℕ, ◌≤◌, Bool, true, false, cond, List, [], ◌∷◌, ◌++◌, refl, sym, ap, ◌∙◌, subst, None, Some, unwrap_or}
+use Rattle.std.proofs.Common.{◌≡◌, ◌≢◌, ℕ, ◌≤◌, Bool, true, false, List, [], ◌∷◌, ◌++◌, refl, sym, ap, ◌∙◌, subst, arith, None, unwrap_or}
 use Rattle.euler_operators.specs.Common.{Point, same_point, IsIn, head_or, last_or, Model, items_of, content, outer, point_of, Sound, Has, is_lone}
 use Rattle.euler_operators.proofs.Common.{last_or_push, IsIn_last, number_fits, half_number}
 use Rattle.euler_operators.specs.declared.Op.{Op}
@@ -17,10 +17,7 @@ use Rattle.gluing.proofs.Joined.{Joining}
 -- a number that a search finds passes its test
 such_passes : (test : ℕ → Bool) (ns : List ℕ) → unwrap_or (first_such test ns) 0 ≢ 0 → test (unwrap_or (first_such test ns) 0) ≡ true
 such_passes test [] some = absurd (some refl)
-such_passes test (n ∷ ns) some = elim (test n) as (λ b. test n ≡ b → unwrap_or (cond b (Some n) (first_such test ns)) 0 ≢ 0 → test (unwrap_or (cond b (Some n) (first_such test ns)) 0) ≡ true) [
-  | true ↦ λ e _. e
-  | false ↦ λ _ more. such_passes test ns more
-] refl some
+such_passes test (n ∷ ns) some = grind (arith, some, such_passes test ns)
 
 module _ (M : Model) (f g : ℕ) (sound : Sound M) (accepted : glue_refusal M f g ≡ None) where
   abbrev hs : List ℕ

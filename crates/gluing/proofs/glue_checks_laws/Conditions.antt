@@ -8,10 +8,10 @@ use Rattle.euler_laws.proofs.Common.{all_hold, verdict_passed, verdict_failed}
 use Rattle.shapes.proofs.Common.{first_refusal-append, first_refusal-front, first_refusal-refused, none_found, none_is_lone}
 use Rattle.shapes.proofs.glue.Facts.{faces_there}
 use Rattle.shapes.specs.Common.{faces_of_both, least_lone, taken_in, numbers_left, face_conditions, faces_are_flat, outline_conditions, early_glue_conditions, glue_conditions, has_repeats, is_rotation, outline}
-use Rattle.solid_measure.proofs.solid_checks_laws.FaceWalks.{lists_member, member_faces, member_both}
+use Rattle.solid_measure.proofs.solid_checks_laws.FaceWalks.{member_faces, member_both}
 use Rattle.euler_operators.specs.declared.Why.TheVariants.{RepeatedPoint, NoMatch}
 use Rattle.gluing.specs.glue_checks.Conditions.{early_refusal}
-use Rattle.solid_walks.proofs.face_walks_laws.Above.{member}
+use Rattle.solid_walks.proofs.face_walks_laws.Above.{member, lists_member}
 
 -- a verdict that is an error is the whole verdict
 pub first_failed : (xs ys : List Condition) (v : Result (Unit {0}) Refusal) → v ≡ verdict (first_refusal xs) → is_err v ≡ true → v ≡ verdict (first_refusal (xs ++ ys))

@@ -1,10 +1,10 @@
 -- The test for equal points, and points that are met twice.
-use Rattle.std.proofs.Common.{◌≡◌, ℕ, zero, suc, ◌+◌, ◌<◌, cond, Some, is_some, ℤ, Bool, true, false, ◌&&◌, ◌||◌, List, [], ◌∷◌, ◌++◌, length, refl, sym, ap, ◌∙◌, arith, true≢false, get_or, reverse, int_eq}
+use Rattle.std.proofs.Common.{◌≡◌, ℕ, zero, suc, ◌+◌, ◌<◌, is_some, ℤ, Bool, true, false, ◌&&◌, ◌||◌, List, [], ◌∷◌, ◌++◌, length, refl, sym, ap, ◌∙◌, arith, true≢false, get_or, reverse, int_eq}
 use Rattle.std.specs.List.{list_any}
 use Rattle.std.proofs.lemmas.Bool.{or_parts}
 use Rattle.std.proofs.lemmas.List.{reverse-append}
 use Rattle.euler_operators.specs.Common.{Point, same_point}
-use Rattle.euler_operators.proofs.Common.{same_as, or_false}
+use Rattle.euler_operators.proofs.Common.{same_as, or_false, or_true}
 use Rattle.shapes.specs.Common.{has_repeats}
 use Rattle.gluing.specs.glue_checks.Places.{place_from}
 
@@ -17,37 +17,16 @@ same_turned p q = λ i. numbers_turned p.x q.x i && numbers_turned p.y q.y i && 
 -- a point has a place in a list where it is one of it
 pub some_place : (n : ℕ) (p : Point) (ps : List Point) → is_some (place_from n p ps) ≡ list_any (same_point p) ps
 some_place n p [] = refl
-some_place n p (q ∷ qs) = elim (same_point q p) as (λ b. is_some (cond b (Some n) (place_from (n + 1) p qs)) ≡ b || list_any (same_point p) qs) [
-  | true ↦ refl
-  | false ↦ some_place (n + 1) p qs
-] ∙ ap (λ b. b || list_any (same_point p) qs) (same_turned q p)
+some_place n p (q ∷ qs) = grind (arith, same_turned q p, some_place (n + 1) p qs)
 
 -- one point more is met
-four : (a b c d : Bool) → (a || b) || (c || d) ≡ (c || b) || (a || d)
-four true b true d = refl
-four true true false d = refl
-four true false false d = refl
-four false true true d = refl
-four false true false d = refl
-four false false true d = refl
-four false false false d = refl
-
 any_more : (p : Point) (old new : Point → Bool) → ((q : Point) → new q ≡ same_point p q || old q) → (ps : List Point) → list_any new ps ≡ list_any (same_point p) ps || list_any old ps
 any_more p old new e [] = refl
-any_more p old new e (q ∷ qs) = (λ i. e q i || any_more p old new e qs i) ∙ mixed (same_point p q) (old q) (list_any (same_point p) qs) (list_any old qs) where
-  mixed : (a b c d : Bool) → (a || b) || (c || d) ≡ (a || c) || (b || d)
-  mixed true b c d = refl
-  mixed false true true d = refl
-  mixed false true false d = refl
-  mixed false false c d = refl
+any_more p old new e (q ∷ qs) = grind (arith, e q, any_more p old new e qs)
 
 -- the first of some points isn't among those met before
 pub new_point : (p : Point) (ps : List Point) (old new : Point → Bool) → old p ≡ false → ((q : Point) → new q ≡ same_point p q || old q) → list_any new ps || has_repeats ps ≡ list_any old (p ∷ ps) || has_repeats (p ∷ ps)
-new_point p ps old new absent e = ap (λ b. b || has_repeats ps) (any_more p old new e ps) ∙ swapped (list_any (same_point p) ps) (list_any old ps) (has_repeats ps) ∙ sym (ap (λ b. (b || list_any old ps) || (list_any (same_point p) ps || has_repeats ps)) absent) where
-  swapped : (a b c : Bool) → (a || b) || c ≡ b || (a || c)
-  swapped true true c = refl
-  swapped true false c = refl
-  swapped false b c = refl
+new_point p ps old new absent e = grind (arith, absent, any_more p old new e ps)
 
 -- or it is
 pub old_point : (p : Point) (ps : List Point) (old : Point → Bool) → old p ≡ true → true ≡ list_any old (p ∷ ps) || has_repeats (p ∷ ps)
@@ -56,29 +35,15 @@ old_point p ps old met = sym (ap (λ b. (b || list_any old ps) || has_repeats (p
 -- a list read backwards has the same repeats
 any_push : (p : Point) (ps : List Point) (q : Point) → list_any (same_point p) (ps ++ q ∷ []) ≡ list_any (same_point p) ps || same_point p q
 any_push p [] q = or_false (same_point p q)
-any_push p (r ∷ rs) q = ap (λ b. same_point p r || b) (any_push p rs q) ∙ grouped (same_point p r) (list_any (same_point p) rs) (same_point p q) where
-  grouped : (a b c : Bool) → a || (b || c) ≡ (a || b) || c
-  grouped true b c = refl
-  grouped false b c = refl
+any_push p (r ∷ rs) q = grind (arith, any_push p rs q)
 
 repeats_push : (ps : List Point) (q : Point) → has_repeats (ps ++ q ∷ []) ≡ list_any (same_point q) ps || has_repeats ps
 repeats_push [] q = refl
-repeats_push (p ∷ ps) q = (λ i. any_push p ps q i || repeats_push ps q i) ∙ ap (λ b. (list_any (same_point p) ps || b) || (list_any (same_point q) ps || has_repeats ps)) (same_turned p q) ∙ four (list_any (same_point p) ps) (same_point q p) (list_any (same_point q) ps) (has_repeats ps)
-    ∙ crossed (list_any (same_point q) ps) (same_point q p) (list_any (same_point p) ps || has_repeats ps) where
-      crossed : (a b c : Bool) → (a || b) || c ≡ (b || a) || c
-      crossed true true c = refl
-      crossed true false c = refl
-      crossed false true c = refl
-      crossed false false c = refl
+repeats_push (p ∷ ps) q = grind (arith, any_push p ps q, same_turned p q, repeats_push ps q)
 
 any_turned : (p : Point) (ps : List Point) → list_any (same_point p) (reverse ps) ≡ list_any (same_point p) ps
 any_turned p [] = refl
-any_turned p (q ∷ qs) = ap (list_any (same_point p)) (reverse-append (q ∷ []) qs) ∙ any_push p (reverse qs) q ∙ ap (λ b. b || same_point p q) (any_turned p qs) ∙ other_way (list_any (same_point p) qs) (same_point p q) where
-  other_way : (a b : Bool) → a || b ≡ b || a
-  other_way true true = refl
-  other_way true false = refl
-  other_way false true = refl
-  other_way false false = refl
+any_turned p (q ∷ qs) = ap (list_any (same_point p)) (reverse-append (q ∷ []) qs) ∙ grind (arith, any_push p (reverse qs) q, any_turned p qs)
 
 pub repeats_turned : (ps : List Point) → has_repeats (reverse ps) ≡ has_repeats ps
 repeats_turned [] = refl
@@ -87,10 +52,7 @@ repeats_turned (p ∷ ps) = ap has_repeats (reverse-append (p ∷ []) ps) ∙ re
 any_at : (p : Point) (ps : List Point) (i : ℕ) (d : Point) → i < length ps → p ≡ get_or ps i d → list_any (same_point p) ps ≡ true
 any_at p [] i d l e = absurd (omega arith)
 any_at p (q ∷ qs) zero d l e = ap (λ b. b || list_any (same_point p) qs) (ap (same_point p) (sym e) ∙ same_as p p refl)
-any_at p (q ∷ qs) (suc i) d l e = later (same_point p q) (any_at p qs i d (omega (arith, l)) e) where
-  later : (a : Bool) {b : Bool} → b ≡ true → a || b ≡ true
-  later true e = refl
-  later false e = e
+any_at p (q ∷ qs) (suc i) d l e = ap (λ b. same_point p q || b) (any_at p qs i d (omega (arith, l)) e) ∙ or_true (same_point p q)
 
 -- without repeats each point stands in one place
 pub one_place : (ps : List Point) → has_repeats ps ≡ false → (i j : ℕ) (d : Point) → i < length ps → j < length ps → get_or ps i d ≡ get_or ps j d → i ≡ j

@@ -1,5 +1,5 @@
 -- Lists of points that are turns of one another.
-use Rattle.std.proofs.Common.{◌≡◌, ◌≢◌, ℕ, zero, suc, ◌+◌, ◌-◌, ◌<◌, ◌≤◌, Bool, true, false, cond, ◌&&◌, List, [], ◌∷◌, ◌++◌, length, Some, None, refl, sym, ap, subst, ◌∙◌, arith, true≢false, inl, inr, get_or, take, drop, is_some, slice_index_or, append-nil, length-append, get_or-drop, take_all, length-drop, length-take-le}
+use Rattle.std.proofs.Common.{◌≡◌, ◌≢◌, ℕ, zero, suc, ◌+◌, ◌-◌, ◌<◌, ◌≤◌, true, false, cond, ◌&&◌, List, [], ◌∷◌, ◌++◌, length, Some, None, refl, sym, ap, subst, ◌∙◌, arith, true≢false, inl, inr, get_or, take, drop, is_some, slice_index_or, append-nil, length-append, get_or-drop, take_all, length-drop, length-take-le}
 use Rattle.std.proofs.lemmas.List.{drop_all}
 use Rattle.std.proofs.lemmas.Bool.{or_cases, cases_eq, or_left, or_right}
 use Rattle.euler_operators.specs.Common.{Point, same_point}
@@ -17,10 +17,7 @@ lists_same (p ∷ ps) = λ i. same_as p p refl i && lists_same ps i
 pub in_parts : (xs bs cs : List Point) → same_points (take (length bs) xs) bs && same_points (drop (length bs) xs) cs ≡ same_points xs (bs ++ cs)
 in_parts xs [] cs = refl
 in_parts [] (b ∷ bs) cs = refl
-in_parts (x ∷ xs) (b ∷ bs) cs = grouped (same_point x b) (same_points (take (length bs) xs) bs) (same_points (drop (length bs) xs) cs) ∙ ap (λ t. same_point x b && t) (in_parts xs bs cs) where
-  grouped : (a b c : Bool) → (a && b) && c ≡ a && (b && c)
-  grouped true b c = refl
-  grouped false b c = refl
+in_parts (x ∷ xs) (b ∷ bs) cs = grind (arith, in_parts xs bs cs)
 
 -- the list with its first k points moved to the end
 abbrev pub turned : ℕ → List Point → List Point
@@ -53,10 +50,6 @@ length_turned j qs l = length-append (drop j qs) (take j qs) ∙ (let d = length
 pub other_length : (ps qs : List Point) → length ps ≢ length qs → is_rotation ps qs ≡ false
 other_length ps qs ne = same_truth (is_rotation ps qs) false (λ e. let t = some_turn (length qs) ps qs e in absurd (ne (ap (λ (xs : List Point). length xs) t.2 ∙ length_turned t.0 qs t.1))) (λ e. absurd (true≢false (sym e)))
 
-pub both_empty : (ps qs : List Point) → length ps ≡ length qs → ps ≡ [] → is_rotation ps qs ≡ true
-both_empty ps [] l e = ap (λ (xs : List Point). same_points xs []) e
-both_empty ps (q ∷ qs) l e = absurd (let z : length ps ≡ 0 = ap (λ (xs : List Point). length xs) e in omega (arith, l, z))
-
 -- a turn begins with a point of the list
 turn_begins : (p : Point) (ps qs : List Point) → 0 < length qs → Turn (length qs) (p ∷ ps) qs → (j : ℕ) × (j < length qs) × (p ≡ get_or qs j p) × (p ∷ ps ≡ turned j qs)
 turn_begins p ps qs some t = elim (cases_eq t.0 (length qs)) [
@@ -88,13 +81,8 @@ module _ (p : Point) where
 
   missing_from : (n : ℕ) (qs : List Point) → place_from n p qs ≡ None → (i : ℕ) → i < length qs → p ≢ get_or qs i p
   missing_from n [] e i l s = omega arith
-  missing_from n (q ∷ qs) e i l s = elim (same_point q p) as (λ b. same_point q p ≡ b → cond b (Some n) (place_from (n + 1) p qs) ≡ None → ⊥) [
-    | true ↦ λ t f. true≢false (ap is_some f)
-    | false ↦ λ t f. at_no_place i l s t (missing_from (n + 1) qs f)
-  ] refl e where
-    at_no_place : (i : ℕ) → i < suc (length qs) → p ≡ get_or (q ∷ qs) i p → same_point q p ≡ false → ((j : ℕ) → j < length qs → p ≢ get_or qs j p) → ⊥
-    at_no_place zero l s t rest = true≢false (sym (ap (λ r. same_point r p) (sym s) ∙ same_as p p refl) ∙ t)
-    at_no_place (suc i) l s t rest = rest i (omega (arith, l)) s
+  missing_from n (q ∷ qs) e zero l s = grind (arith, e, same_as q p (sym s))
+  missing_from n (q ∷ qs) e (suc i) l s = grind (arith, e, missing_from (n + 1) qs)
 
   pub not_found : (ps qs : List Point) → length (p ∷ ps) ≡ length qs → place_from 0 p qs ≡ None → is_rotation (p ∷ ps) qs ≡ false
   not_found ps qs same e = same_truth (is_rotation (p ∷ ps) qs) false (λ r. absurd (
