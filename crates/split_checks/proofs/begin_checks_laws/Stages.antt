@@ -89,9 +89,7 @@ module _ (M : Model) (s : ℕ) (p : Plane) where
 
     pub numbers_decide : first_refusal (straddling_conditions M p fs) ≡ None → (m n : ℕ) → m ≡ min (length es) 1000001 → n ≡ min (pair_count M p fs) 1000001
         → first_refusal (numbers_left (taken_in M) (record { faces = n; loops = n; edges = m + n; vertices = m })) ≡ first_refusal cutting
-    numbers_decide e m n is_m is_n =
-        (λ i. first_refusal (numbers_left (taken_in M) (record { faces = is_n i; loops = is_n i; edges = is_m i + is_n i; vertices = is_m i }))) ∙ numbers_capped (taken_in M) (length es) (pair_count M p fs)
-        ∙ sym (first_refusal-append (straddling_conditions M p fs) numbers e) ∙ sym after_edges
+    numbers_decide e m n is_m is_n = grind (arith, numbers_capped, first_refusal-append, after_edges)
 
 -- ---- the whole
 

@@ -1,5 +1,5 @@
 -- The two halves of an edge that crosses a plane.
-use Rattle.std.proofs.Common.{◌≡◌, ℕ, true, sym, ap, ◌∙◌, inl, inr}
+use Rattle.std.proofs.Common.{◌≡◌, ℕ, true, sym, ap, ◌∙◌, arith}
 use Rattle.euler_operators.specs.Common.{Plane, height, are_opposite, cut_between, edge_of, plus, minus, Model}
 use Rattle.euler_operators.proofs.Common.{mate_plus, mate_minus, opposite_turned, cut_back}
 use Rattle.euler_laws.proofs.Common.{halves_of_edge}
@@ -12,20 +12,11 @@ module _ (M : Model) (p : Plane) where
 
   -- a half-edge crosses where the plus half of its edge does
   pub plus_crosses : (h : ℕ) → crosses M p h ≡ crosses M p (plus (edge_of h))
-  plus_crosses h = elim (halves_of_edge h) [
-    | inl e ↦ ap (crosses M p) e.0
-    | inr e ↦ ap (crosses M p) e.0 ∙ minus_crosses (edge_of h)
-  ]
+  plus_crosses h = grind (arith, halves_of_edge, minus_crosses)
 
   turned_cut : (e : ℕ) → crosses M p (minus e) ≡ true → cut_between p (start M (plus e)) (finish M (plus e)) ≡ cut_between p (start M (minus e)) (finish M (minus e))
-  turned_cut e c =
-      ap (λ h. cut_between p (start M (plus e)) (start M h)) (mate_plus e)
-      ∙ cut_back p (start M (minus e)) (start M (plus e)) (sym (ap (λ h. are_opposite p (start M (minus e)) (start M h)) (mate_minus e)) ∙ c)
-      ∙ sym (ap (λ h. cut_between p (start M (minus e)) (start M h)) (mate_minus e))
+  turned_cut e c = grind (arith, mate_plus, cut_back, mate_minus)
 
   -- and meets the plane where that does
   pub one_cut : (h : ℕ) → crosses M p h ≡ true → cut_between p (start M (plus (edge_of h))) (finish M (plus (edge_of h))) ≡ cut_between p (start M h) (finish M h)
-  one_cut h c = elim (halves_of_edge h) [
-    | inl e ↦ sym (ap (λ g. cut_between p (start M g) (finish M g)) e.0)
-    | inr e ↦ turned_cut (edge_of h) (sym (ap (crosses M p) e.0) ∙ c) ∙ sym (ap (λ g. cut_between p (start M g) (finish M g)) e.0)
-  ]
+  one_cut h c = grind (arith, halves_of_edge, turned_cut)

@@ -1,5 +1,5 @@
 -- The edges that a walk over the faces of a solid meets as crossing a plane are those of the solid that do.
-use Rattle.std.proofs.Common.{◌≡◌, ℕ, Bool, true, ◌&&◌, nat_eq, List, [], ◌∷◌, ◌++◌, length, map, is_some, refl, sym, ap, subst, ◌∙◌, arith, inl, inr, filter, eq-eqb, eqb-true}
+use Rattle.std.proofs.Common.{◌≡◌, ℕ, Bool, true, ◌&&◌, nat_eq, List, [], ◌∷◌, length, map, is_some, refl, sym, ap, subst, ◌∙◌, arith, inl, inr, filter, eq-eqb, eqb-true}
 use Rattle.std.proofs.lemmas.Bool.{and_parts}
 use Rattle.std.proofs.lemmas.List.{map-append}
 use Rattle.std.proofs.lemmas.List.Elements.{filter-append}
@@ -12,7 +12,6 @@ use Rattle.shapes.specs.Common.{items_in, loops_of, boundary, edges_of, crosses,
 use Rattle.solid_measure.proofs.solid_counts_laws.HowMany.{of_map, equally_many}
 use Rattle.split_checks.specs.cut_places.Crossings.{leads_across, crossings_met, IsCrossing, AreCrossing}
 use Rattle.split_checks.specs.cut_places.Places.{IsFaceAlong, AreFacesAlong}
-use Rattle.split_checks.specs.cut_places.Walks.{AreIn}
 use Rattle.split_checks.proofs.cut_places_laws.CrossingHalves.{plus_crosses}
 use Rattle.split_checks.proofs.cut_places_laws.Lists.{of_picked, picked_apart, picked_rise}
 use Rattle.solid_measure.proofs.face_walks_laws.Above.{Rising}
@@ -25,10 +24,6 @@ all_crossing M p (e ∷ es) each = (each e (omega (arith, tick_same e)), all_cro
 all_along : (M : Model) (p : Plane) (es fs : List ℕ) → ((f : ℕ) → IsIn f fs → Has M.faces f × IsFaceAlong M p es f) → AreFacesAlong M p es fs
 all_along M p es [] each = tt
 all_along M p es (f ∷ fs) each = let w = each f (omega (arith, tick_same f)) in (w.0, w.1, all_along M p es fs (λ k i. each k (omega (arith, i))))
-
-pub along_there : (M : Model) (p : Plane) (es fs : List ℕ) → AreFacesAlong M p es fs → AreIn M.faces fs
-along_there M p es [] along = tt
-along_there M p es (f ∷ fs) along = (along.0, along_there M p es fs along.2)
 
 module _ (M : Model) (sound : Sound M) (s : ℕ) (p : Plane) where
   abbrev halves : List ℕ
@@ -44,10 +39,7 @@ module _ (M : Model) (sound : Sound M) (s : ℕ) (p : Plane) where
   met_in_faces : (fs : List ℕ) → crossings_met M p fs ≡ map edge_of (filter across (items_in M (loops_in M fs)))
   unfolding boundary
   met_in_faces [] = refl
-  met_in_faces (f ∷ fs) =
-      let xs = items_in M (loops_of M f) in let ys = items_in M (loops_in M fs) in
-      ap (λ (es : List ℕ). map edge_of (filter across xs) ++ es) (met_in_faces fs) ∙ sym (map-append edge_of (filter across xs) (filter across ys))
-      ∙ ap (map edge_of) (sym (filter-append across xs ys)) ∙ ap (λ hs. map edge_of (filter across hs)) (sym (items_joined M (loops_of M f) (loops_in M fs)))
+  met_in_faces (f ∷ fs) = grind (arith, map-append, filter-append, items_joined, met_in_faces fs)
 
   met_is : met ≡ map edge_of (filter across halves)
   met_is = met_in_faces (faces_of M s)
@@ -116,9 +108,7 @@ module _ (M : Model) (sound : Sound M) (s : ℕ) (p : Plane) where
       (items_there M sound (loops_of M f) h i, ap (solid_of M) (face_of_loop M sound f (loop_of M h) there (listed-from_in (loop_of M h) (loops_of M f) l)).1 ∙ of_s)
 
   face_along : (f : ℕ) → Has M.faces f → solid_of M f ≡ s → IsFaceAlong M p (crossing_edges M p s) f
-  face_along f there of_s h i c =
-      let b = boundary_half f h there of_s i in
-      edge_in (edge_of h) b.0 (plus_solid h b.0 b.1) (sym (plus_crosses M p h) ∙ c)
+  face_along f there of_s h i c = grind (arith, boundary_half, edge_in, plus_solid, plus_crosses)
 
   pub straddling_along : AreFacesAlong M p (crossing_edges M p s) (straddling_faces M p s)
   straddling_along = all_along M p (crossing_edges M p s) (straddling_faces M p s) (λ f i.

@@ -1,5 +1,5 @@
 -- The height of a point over a plane along which points are cut, in 64 bits.
-use Rattle.std.proofs.Common.{◌≡◌, ℕ, ◌≤◌, true, ℤ, refl, sym, ap, subst, ◌∙◌, arith, ◌+ℤ◌, ◌*ℤ◌, FitsSigned}
+use Rattle.std.proofs.Common.{◌≡◌, ℕ, ◌≤◌, true, ℤ, refl, sym, subst, arith, ◌+ℤ◌, ◌*ℤ◌, FitsSigned}
 use Rattle.std.proofs.lemmas.Int.{to_z-of_z, fits_signed_from_abs}
 use mir.Syntax.{w64}
 use Rattle.euler_operators.specs.Common.{Point, Plane, IsInRange, is_coordinate, IsWithin, IsCutPlane, height}
@@ -11,9 +11,7 @@ pub record Short (z y : ℤ) : Type 0 where
   pub kept : held_short z ≡ y
 
 short : (m : ℕ) (z y : ℤ) → z ≡ y → IsWithin m y → m ≤ 9000000000000000000 → Short z y
-short m z y e w l =
-    let f = fits_signed_from_abs w64 y (omega (arith, w, l)) in
-    record { fits = subst (FitsSigned w64) (sym e) f; kept = ap held_short e ∙ to_z-of_z w64 y f }
+short m z y e w l = grind (arith, fits_signed_from_abs, fits, held_short, to_z-of_z)
 
 pub number_held : (n : ℤ) → IsWithin 1000000000 n → IsWithin 1000000000 (held n)
 number_held n number = subst (IsWithin 1000000000) (sym (held_is n (fits _ n number (omega arith)))) number
@@ -55,9 +53,4 @@ module _ (a b c : ℤ) (within_a : IsWithin 1000000000000000000 a) (within_b : I
 
       pub height_told : (q : Point) → IsInRange q → a ≡ held p.a *ℤ held_short q.x → b ≡ held p.b *ℤ held_short q.y → c ≡ held p.c *ℤ held_short q.z
           → held_short (held_short (held_short (held_short a +ℤ held_short b) +ℤ held_short c) +ℤ held_short (held p.d)) ≡ height p q
-      height_told q range is_a is_b is_c =
-          let xs = coordinates q range in let w = plane.0 in
-          let x : a ≡ p.a *ℤ q.x = is_a ∙ (λ i. held_is p.a (fits _ p.a w.0 (omega arith)) i *ℤ coordinate_is q.x xs.0 i) in
-          let y : b ≡ p.b *ℤ q.y = is_b ∙ (λ i. held_is p.b (fits _ p.b w.1 (omega arith)) i *ℤ coordinate_is q.y xs.1 i) in
-          let z : c ≡ p.c *ℤ q.z = is_c ∙ (λ i. held_is p.c (fits _ p.c w.2 (omega arith)) i *ℤ coordinate_is q.z xs.2 i) in
-          whole_told.kept ∙ (λ i. x i +ℤ y i +ℤ z i +ℤ p.d)
+      height_told q range is_a is_b is_c = grind (arith, coordinates, held_is, fits, coordinate_is, whole_told)

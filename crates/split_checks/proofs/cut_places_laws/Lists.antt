@@ -1,9 +1,9 @@
 -- Lists that a walk takes apart.
-use Rattle.std.proofs.Common.{◌≡◌, ◌∙◌, ℕ, suc, ◌-◌, ◌≤◌, Bool, true, false, cond, ◌||◌, List, [], ◌∷◌, ◌++◌, map, length, slice_index_or, refl, sym, ap, subst, arith, take, drop, filter}
+use Rattle.std.proofs.Common.{◌≡◌, ◌∙◌, ℕ, ◌-◌, ◌≤◌, Bool, true, false, cond, ◌||◌, List, [], ◌∷◌, ◌++◌, map, length, slice_index_or, refl, sym, ap, arith, take, drop, filter}
 use Rattle.std.specs.List.{list_any}
 use Rattle.std.proofs.lemmas.List.{take_rest, map-append}
 use Rattle.euler_operators.specs.Common.{HalfEdge, code, IsIn, IsApart}
-use Rattle.solid_measure.proofs.solid_counts_laws.HowMany.{passing, of_passing, passing_apart}
+use Rattle.euler_operators.proofs.Common.{count-filter, filter_passes}
 use Rattle.solid_measure.proofs.face_walks_laws.Above.{AllAbove, Rising}
 
 -- the first of a list, and the others
@@ -21,9 +21,7 @@ fewer xs = take (length xs - 1) xs
 last_part : {A : Type 0} (xs : List A) (d : A) → 1 ≤ length xs → xs ≡ fewer xs ++ slice_index_or xs (length xs - 1) d ∷ []
 last_part [] d l = absurd (omega (arith, l))
 last_part (x ∷ []) d l = refl
-last_part {A} (x ∷ y ∷ ys) d l =
-    let e : length (x ∷ y ∷ ys) - 1 ≡ suc (length (y ∷ ys) - 1) = omega arith in
-    ap (λ (zs : List A). x ∷ zs) (last_part (y ∷ ys) d (omega arith)) ∙ sym (λ i. take (e i) (x ∷ y ∷ ys) ++ slice_index_or (x ∷ y ∷ ys) (e i) d ∷ [])
+last_part {A} (x ∷ y ∷ ys) d l = grind (arith, last_part (y ∷ ys) d (omega arith))
 
 pub last_code : (hs : List HalfEdge) (d : HalfEdge) → 1 ≤ length hs → map code hs ≡ map code (fewer hs) ++ code (slice_index_or hs (length hs - 1) d) ∷ []
 last_code hs d l = ap (λ (ks : List HalfEdge). map code ks) (last_part hs d l) ∙ map-append code (fewer hs) (slice_index_or hs (length hs - 1) d ∷ [])
@@ -43,17 +41,12 @@ pub any_map : (p : ℕ → Bool) (f : ℕ → ℕ) (xs : List ℕ) → list_any 
 any_map p f [] = refl
 any_map p f (x ∷ xs) = ap (λ b. p (f x) || b) (any_map p f xs)
 
--- the two words for what passes are one
-filter_passing : (p : ℕ → Bool) (xs : List ℕ) → filter p xs ≡ passing p xs
-filter_passing p [] = refl
-filter_passing p (x ∷ xs) = ap (λ (ys : List ℕ). cond (p x) (x ∷ ys) ys) (filter_passing p xs)
-
 -- what stands among the picked stands in the list and passes, and the other way
 pub of_picked : (p : ℕ → Bool) (x : ℕ) (xs : List ℕ) → IsIn x (filter p xs) → IsIn x xs × (p x ≡ true)
-of_picked p x xs i = of_passing p x xs (subst (IsIn x) (filter_passing p xs) i)
+of_picked p x xs i = (omega (arith, i, count-filter p x xs), filter_passes p x xs i)
 
 pub picked_apart : (p : ℕ → Bool) (xs : List ℕ) → IsApart xs → IsApart (filter p xs)
-picked_apart p xs d = subst IsApart (sym (filter_passing p xs)) (passing_apart p xs d)
+picked_apart p xs d x = omega (arith, d x, count-filter p x xs)
 
 -- what is picked from a rising list rises
 above_picked : (p : ℕ → Bool) (n : ℕ) (xs : List ℕ) → AllAbove n xs → AllAbove n (filter p xs)

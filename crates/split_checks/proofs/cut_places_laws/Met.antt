@@ -5,10 +5,10 @@ use Rattle.std.proofs.lemmas.List.{map-append, length-map, take-map}
 use Rattle.std.proofs.lemmas.Bool.Decides.{nat_tests}
 use Rattle.std.proofs.lemmas.List.Elements.{filter-append}
 use Rattle.std.proofs.lemmas.List.Folds.{list_any-append}
-use Rattle.euler_operators.specs.Common.{Plane, Sign, Below, On, Above, HalfEdge, code, edge_of, height, sign_of, is_on, are_opposite, Point, Model, LoopContent, lone, cycle, items_of, content, outer, rings_of, tail, point_of, before}
+use Rattle.euler_operators.specs.Common.{Plane, Sign, Below, On, Above, HalfEdge, code, edge_of, height, sign_of, is_on, are_opposite, Point, Model, LoopContent, items_of, content, outer, rings_of, tail, point_of, before}
 use Rattle.euler_operators.specs.declared.Content.TheVariants.{Lone}
 use Rattle.euler_conditions.specs.Store.{Tells}
-use Rattle.euler_operators.proofs.Common.{edge_of-code, is_first-code}
+use Rattle.euler_operators.proofs.Common.{edge_of-code, is_first-code, and_false, or_false}
 use Rattle.shapes.specs.Common.{start, finish, boundary, corners, loops_of, items_in, vertices_on, vertices_in, is_place, is_touched, is_cut_often, places, crosses, reaches_above, reaches_below, straddles}
 use Rattle.shapes.proofs.Common.{items_joined, vertices_joined}
 use Rattle.split_checks.specs.cut_places.Crossings.{leads_across, crossings_in, crossings_met}
@@ -20,47 +20,23 @@ use Rattle.split_checks.specs.declared.cut_places.found.Met.{Met}
 use Rattle.split_checks.proofs.cut_places_laws.PlaceWalks.{crossings_both}
 use Rattle.split_checks.proofs.cut_places_laws.Signs.{sign_lies, signs_opposite}
 
-pub and_false : (a : Bool) → false ≡ a && false
-and_false true = refl
-and_false false = refl
-
-pub or_true : (a : Bool) → true ≡ a || true
-or_true true = refl
-or_true false = refl
-
-pub or_false : (a : Bool) → a ≡ a || false
-or_false true = refl
-or_false false = refl
-
 pub and_joined : (a b c : Bool) → (a && b) && c ≡ a && (b && c)
-and_joined true b c = refl
-and_joined false b c = refl
+and_joined a b c = grind arith
 
 pub and_true : (a : Bool) → a ≡ a && true
-and_true true = refl
-and_true false = refl
+and_true a = grind arith
 
 or_turned : (a b : Bool) → a || b ≡ b || a
-or_turned true true = refl
-or_turned true false = refl
-or_turned false true = refl
-or_turned false false = refl
+or_turned a b = grind arith
 
 pub or_joined : (a b c : Bool) → (a || b) || c ≡ a || (b || c)
-or_joined true b c = refl
-or_joined false b c = refl
+or_joined a b c = grind arith
 
 module _ (M : Model) (p : Plane) where
   -- ---- nothing, and more after that
 
   pub nothing_met : (o : Looked) → IsMet M p o o [] []
-  nothing_met o = record {
-    above = or_false o.above;
-    below = or_false o.below;
-    touched = or_false o.touched;
-    edges = sym (append-nil o.edges.items);
-    places = sym (append-nil (map code o.places.items));
-  }
+  nothing_met o = grind (arith, or_false, append-nil)
 
   lie_both : (side : Sign) (us vs : List ℕ) → some_lie side M p (us ++ vs) ≡ some_lie side M p us || some_lie side M p vs
   lie_both side us vs = list_any-append (λ v. lies side p (point_of M v)) us vs
@@ -72,26 +48,17 @@ module _ (M : Model) (p : Plane) where
   list_on {X} ls ms ns xs ys zs e f g = f ∙ ap (λ (ks : List X). ks ++ ys) e ∙ append_assoc ls xs ys ∙ ap (λ (ks : List X). ls ++ ks) (sym g)
 
   pub more_met : (a b c : Looked) (hs ks us vs : List ℕ) → IsMet M p a b hs us → IsMet M p b c ks vs → IsMet M p a c (hs ++ ks) (us ++ vs)
-  more_met a b c hs ks us vs h k = record {
-    above = flag_on a.above b.above c.above _ _ _ h.above k.above (lie_both Above us vs);
-    below = flag_on a.below b.below c.below _ _ _ h.below k.below (lie_both Below us vs);
-    touched = flag_on a.touched b.touched c.touched _ _ _ h.touched k.touched (list_any-append (touches M p) hs ks);
-    edges = list_on a.edges.items b.edges.items c.edges.items _ _ _ h.edges k.edges (crossings_both M p hs ks);
-    places = list_on (map code a.places.items) (map code b.places.items) (map code c.places.items) _ _ _ h.places k.places (filter-append (is_place M p) hs ks);
-  }
+  more_met a b c hs ks us vs h k = grind (arith, flag_on, lie_both, list_any-append, list_on, crossings_both, filter-append)
 
   -- ---- one half-edge
 
   -- a corner on a side is marked
   marked : (from side : Sign) (h : ℕ) (old new : Bool) → from ≡ sign_of (height p (start M h)) → new ≡ same_sign from side || old → new ≡ old || some_lie side M p (tail M h ∷ [])
   marked from side h old new is e =
-      e ∙ or_turned (same_sign from side) old ∙ ap (λ b. old || b) (ap (λ s. same_sign s side) is ∙ sign_lies side p (start M h) ∙ or_false (lies side p (start M h)))
+      e ∙ or_turned (same_sign from side) old ∙ ap (λ b. old || b) (ap (λ s. same_sign s side) is ∙ sign_lies side p (start M h) ∙ sym (or_false (lies side p (start M h))))
 
   kept_if : {X : Type 0} (q : ℕ → Bool) (b : Bool) (g : ℕ → X) (h : ℕ) (x : X) → b ≡ q h → x ≡ g h → cond b (x ∷ []) [] ≡ map g (filter q (h ∷ []))
-  kept_if {X} q b g h x e f = (λ i. cond (e i) (f i ∷ []) []) ∙ one_mapped (q h) where
-    one_mapped : (c : Bool) → cond c (g h ∷ []) [] ≡ map g (cond c (h ∷ []) [])
-    one_mapped true = refl
-    one_mapped false = refl
+  kept_if {X} q b g h x e f = grind arith
 
   codes_if : (b : Bool) (h : HalfEdge) → map code (cond b (h ∷ []) []) ≡ cond b (code h ∷ []) []
   codes_if true h = refl
@@ -105,7 +72,7 @@ module _ (M : Model) (p : Plane) where
     one_met old new cross place touch is_cross is_placed is_touch a b t es hs = record {
       above = marked from Above (code h) old.above new.above is_from a;
       below = marked from Below (code h) old.below new.below is_from b;
-      touched = t ∙ ap (λ k. old.touched || k) (is_touch ∙ or_false (touches M p (code h)));
+      touched = t ∙ ap (λ k. old.touched || k) (is_touch ∙ sym (or_false (touches M p (code h))));
       edges = es ∙ ap (λ (ks : List ℕ). old.edges.items ++ ks) (kept_if (leads_across M p) cross edge_of (code h) h.edge is_cross (sym (edge_of-code h)));
       places = ap (λ (ks : List HalfEdge). map code ks) hs ∙ map-append code old.places.items (cond place (h ∷ []) [])
           ∙ ap (λ (ks : List ℕ). map code old.places.items ++ ks) (codes_if place h ∙ ap (λ k. cond k (code h ∷ []) []) is_placed);
@@ -145,7 +112,7 @@ module _ (M : Model) (p : Plane) where
     place_off e o = sym (place_is ∙ (λ i. (sym crossed ∙ e) i || ((sym on_told ∙ o) i && through)))
 
     pub touch_place : true ≡ is_place M p (code h) → false ≡ touches M p (code h)
-    touch_place e = and_false on ∙ ap (λ b. on && not b) e
+    touch_place e = sym (and_false on) ∙ ap (λ b. on && not b) e
 
     pub touch_on : same_sign from On ≡ true → false ≡ is_place M p (code h) → true ≡ touches M p (code h)
     touch_on o e = (λ i. sym (sym on_told ∙ o) i && not (e i))
@@ -155,17 +122,7 @@ module _ (M : Model) (p : Plane) where
 
   -- a lone vertex, and the loop that is nothing else
   pub lone_met : (l : LoopContent) (v : ℕ) (q : Point) (old : Looked) (from : Sign) → Tells l (Lone v) → q ≡ point_of M v → from ≡ sign_of (height p q) → IsMet M p old (with_side old from) (items_of l) (vertices_on M l)
-  lone_met (cycle hs) v q old from tells at is = absurd tells
-  lone_met (lone w) v q old from tells at is =
-      record {
-        above = on_side Above old.above;
-        below = on_side Below old.below;
-        touched = or_false old.touched;
-        edges = sym (append-nil old.edges.items);
-        places = sym (append-nil (map code old.places.items));
-      } where
-        on_side : (side : Sign) (had : Bool) → same_sign from side || had ≡ had || some_lie side M p (w ∷ [])
-        on_side side had = or_turned (same_sign from side) had ∙ ap (λ b. had || b) (ap (λ s. same_sign s side) is ∙ sign_lies side p q ∙ ap (lies side p) (at ∙ ap (point_of M) tells) ∙ or_false (lies side p (point_of M w)))
+  lone_met l v q old from tells is at = grind (arith, or_false, append-nil, or_turned, sign_lies)
 
   pub lone_holds : (l : LoopContent) (v : ℕ) (q : Point) (old new : Looked) (from : Sign) → Tells l (Lone v) → q ≡ point_of M v → from ≡ sign_of (height p q) → new ≡ with_side old from → IsMet M p old new (items_of l) (vertices_on M l)
   lone_holds l v q old new from tells at is made = subst (λ o. IsMet M p old o (items_of l) (vertices_on M l)) (sym made) (lone_met l v q old from tells at is)
@@ -190,10 +147,7 @@ module _ (M : Model) (p : Plane) where
     some_told = ap (nat_lt m) now_is ∙ more_if_any hs where
       more_if_any : (ks : List ℕ) → nat_lt m (m + length (filter (is_place M p) ks)) ≡ list_any (is_place M p) ks
       more_if_any [] = grind (arith, nat_tests)
-      more_if_any (k ∷ ks) = elim (is_place M p k) as (λ b. nat_lt m (m + length (cond b (k ∷ filter (is_place M p) ks) (filter (is_place M p) ks))) ≡ b || list_any (is_place M p) ks) [
-        | true ↦ grind (arith, nat_tests)
-        | false ↦ more_if_any ks
-      ]
+      more_if_any (k ∷ ks) = grind (arith, nat_tests, more_if_any ks)
 
     -- those found before are still the first
     pub cut_back : map code (take m new.places.items) ≡ map code old.places.items
@@ -256,15 +210,7 @@ module _ (M : Model) (p : Plane) where
       → new.above ≡ old.above || n.above → new.below ≡ old.below || n.below → new.looked.edges.items ≡ n.edges.items
       → new.faces.items ≡ old.faces.items ++ cond b (face_met M p f ∷ []) [] → map code new.looked.places.items ≡ map code old.looked.places.items ++ cond b (places M p f) [] → IsFaceMet M p old new f
   unfolding straddles
-  face_done f old new n b met is a l es fs hs =
-      let both : b ≡ reaches_above M p f && reaches_below M p f = is ∙ (λ i. met.above i && met.below i) in
-      record {
-        above = a ∙ ap (λ k. old.above || k) met.above;
-        below = l ∙ ap (λ k. old.below || k) met.below;
-        edges = es ∙ met.edges;
-        faces = fs ∙ ap (λ k. old.faces.items ++ cond k (face_met M p f ∷ []) []) both;
-        places = hs ∙ ap (λ k. map code old.looked.places.items ++ cond k (places M p f) []) both;
-      }
+  face_done f old new n b met is a l es fs hs = grind arith
 
   pub face_told : (f : ℕ) (o n : Looked) (touched often : Bool) (many : ℕ) → IsMet M p (unmarked o) n (boundary M f) (corners M f) → touched ≡ n.touched → often ≡ is_cut_often M p f → many ≡ length (places M p f)
       → record { face = f; touched = touched; often = often; places = many } ≡ face_met M p f
@@ -310,8 +256,8 @@ module _ (M : Model) (p : Plane) where
 
   one_more : (done : List ℕ) (old new : Met) (f : ℕ) → IsMeeting M p done old → IsFaceMet M p old new f → IsMeeting M p (done ++ f ∷ []) new
   one_more done old new f m h = record {
-    above = h.above ∙ (λ i. m.above i || or_false (reaches_above M p f) i) ∙ sym (list_any-append (reaches_above M p) done (f ∷ []));
-    below = h.below ∙ (λ i. m.below i || or_false (reaches_below M p f) i) ∙ sym (list_any-append (reaches_below M p) done (f ∷ []));
+    above = h.above ∙ (λ i. m.above i || sym (or_false (reaches_above M p f)) i) ∙ sym (list_any-append (reaches_above M p) done (f ∷ []));
+    below = h.below ∙ (λ i. m.below i || sym (or_false (reaches_below M p f)) i) ∙ sym (list_any-append (reaches_below M p) done (f ∷ []));
     edges = h.edges ∙ ap (λ (es : List ℕ). es ++ crossings_in M p (boundary M f)) m.edges ∙ sym (edges_joined done f);
     faces = h.faces ∙ (λ i. m.faces i ++ sym (met_if (straddles M p f) f) i) ∙ sym (map-append (face_met M p) (straddling done) (straddling (f ∷ []))) ∙ ap (map (face_met M p)) (sym (filter-append (straddles M p) done (f ∷ [])));
     places = h.places ∙ (λ i. m.places i ++ sym (places_if (straddles M p f) f) i) ∙ sym (all_joined (straddling done) (straddling (f ∷ []))) ∙ ap (all_places M p) (sym (filter-append (straddles M p) done (f ∷ [])));

@@ -1,23 +1,19 @@
 -- Sides that are noted, and the side that corners reach.
-use Rattle.std.proofs.Common.{◌≡◌, ◌≢◌, ℕ, zero, suc, Bool, true, false, List, [], ◌∷◌, replicate, slice_index_or, slice_set, is_some, unwrap_or, refl, sym, ap, ◌∙◌, true≢false}
-use Rattle.euler_operators.specs.Common.{Plane, Sign, Below, On, Above, height, sign_of, Model, LoopContent, lone, cycle, is_number, no_point, point_of, Sound, Has}
+use Rattle.std.proofs.Common.{◌≡◌, ◌≢◌, ℕ, zero, suc, Bool, true, false, List, [], ◌∷◌, slice_index_or, slice_set, sym, ap, ◌∙◌, true≢false, arith}
+use Rattle.euler_operators.specs.Common.{Plane, Sign, Below, Above, height, sign_of, Model, LoopContent, lone, cycle, is_number, point_of, Sound, Has}
 use Rattle.euler_operators.specs.declared.Content.TheVariants.{Lone}
 use Rattle.euler_operators.specs.Table as table
+use Rattle.euler_operators.proofs.Common.{or_false}
 use Rattle.euler_conditions.specs.Store.{Tells}
 use Rattle.shapes.specs.Common.{vertices_on}
 use Rattle.split_checks.specs.declared.cut_places.noted.Noted.{Noted}
 use Rattle.split_checks.specs.cut_places.Noted.{IsSide, AreNoted}
 use Rattle.split_checks.specs.cut_places.Sides.{same_sign, side_reached, some_lie}
-use Rattle.split_checks.proofs.cut_places_laws.Met.{or_false}
 use Rattle.split_checks.proofs.cut_places_laws.Signs.{sign_lies}
 
 -- ---- what is noted
 
 module _ (M : Model) (p : Plane) where
-  pub none_right : (n : Noted) → n.vertex ≡ 0 → (k : ℕ) → AreNoted M p (replicate k n)
-  none_right n none zero = tt
-  none_right n none (suc k) = (λ ne. absurd (ne none), none_right n none k)
-
   -- at each place, and nothing past the last
   pub noted_at : (ns : List Noted) (i : ℕ) (d : Noted) → d.vertex ≡ 0 → AreNoted M p ns → (slice_index_or ns i d).vertex ≢ 0 → IsSide M p (slice_index_or ns i d)
   noted_at [] i d none are ne = absurd (ne none)
@@ -37,43 +33,27 @@ module _ (M : Model) (p : Plane) where
 pub noted_still : (M N : Model) (p : Plane) → ((v : ℕ) → Has M.vertices v → table.get N.vertices v ≡ table.get M.vertices v) → (ns : List Noted) → AreNoted M p ns → AreNoted N p ns
 unfolding point_of
 noted_still M N p stay [] are = tt
-noted_still M N p stay (n ∷ ns) are = (
-  λ ne.
-      let is = are.0 ne in let row = stay n.vertex is.there in
-      record { there = ap is_some row ∙ is.there; side = is.side ∙ ap (λ o. sign_of (height p (unwrap_or o no_point))) (sym row) },
-  noted_still M N p stay ns are.1,
-)
+noted_still M N p stay (n ∷ ns) are = grind (arith, noted_still M N p stay ns are.1)
 
 -- ---- what is reached
 
 pub is_up : (s : Sign) → same_sign s Above ≡ true → s ≡ Above
-is_up Below e = absurd (true≢false (sym e))
-is_up On e = absurd (true≢false (sym e))
-is_up Above e = refl
+is_up s e = grind (arith, true≢false)
 
 -- what a side that is reached tells
 pub told_up : (s : Sign) (a b : Bool) → s ≡ side_reached a b → same_sign s Above ≡ a
-told_up s a b e = ap (λ t. same_sign t Above) e ∙ above_if_reached a b where
-  above_if_reached : (x y : Bool) → same_sign (side_reached x y) Above ≡ x
-  above_if_reached true y = refl
-  above_if_reached false true = refl
-  above_if_reached false false = refl
+told_up s a b e = grind arith
 
 pub told_down : (s : Sign) (a b : Bool) → s ≡ side_reached a b → a ≡ false → same_sign s Below ≡ b
-told_down s a b e low = ap (λ t. same_sign t Below) (e ∙ ap (λ x. side_reached x b) low) ∙ below_if_reached b where
-  below_if_reached : (y : Bool) → same_sign (side_reached false y) Below ≡ y
-  below_if_reached true = refl
-  below_if_reached false = refl
+told_down s a b e low = grind arith
 
 -- a lone vertex
 one_reached : (s : Sign) → s ≡ side_reached (same_sign s Above) (same_sign s Below)
-one_reached Below = refl
-one_reached On = refl
-one_reached Above = refl
+one_reached s = grind arith
 
 pub lone_side : (M : Model) (p : Plane) (l : LoopContent) (v : ℕ) (s : Sign) → Tells l (Lone v) → s ≡ sign_of (height p (point_of M v))
     → s ≡ side_reached (some_lie Above M p (vertices_on M l)) (some_lie Below M p (vertices_on M l))
 lone_side M p (cycle hs) v s tells is = absurd tells
 lone_side M p (lone w) v s tells is = one_reached s ∙ (λ i. side_reached (lies_there Above i) (lies_there Below i)) where
   lies_there : (side : Sign) → same_sign s side ≡ some_lie side M p (w ∷ [])
-  lies_there side = ap (λ t. same_sign t side) (is ∙ ap (λ u. sign_of (height p (point_of M u))) tells) ∙ sign_lies side p (point_of M w) ∙ or_false _
+  lies_there side = ap (λ t. same_sign t side) (is ∙ ap (λ u. sign_of (height p (point_of M u))) tells) ∙ sign_lies side p (point_of M w) ∙ sym (or_false _)

@@ -1,5 +1,5 @@
 -- The half-edges of a loop, taken one by one as a walk round it meets them.
-use Rattle.std.proofs.Common.{◌≡◌, ◌≢◌, ℕ, Bool, true, false, cond, List, [], ◌∷◌, ◌++◌, map, sym, ap, ◌∙◌, subst, append_assoc, filter, append-nil}
+use Rattle.std.proofs.Common.{◌≡◌, ◌≢◌, ℕ, Bool, true, false, List, [], ◌∷◌, ◌++◌, map, sym, ap, ◌∙◌, subst, append_assoc, filter, append-nil, arith}
 use Rattle.std.proofs.lemmas.List.{map-append}
 use Rattle.std.proofs.lemmas.List.Elements.{filter-append}
 use Rattle.euler_operators.specs.Common.{Plane, HalfEdge, code, edge_of, IsIn, Model, cycle_of, loop_of, point_of, Sound, HasHalf}
@@ -13,15 +13,10 @@ use Rattle.solid_measure.proofs.face_walks_laws.CycleWalks.{item_there, next_ite
 -- one half-edge is looked at: it is taken where it passes
 module _ (p : ℕ → Bool) (had now : List HalfEdge) (x : HalfEdge) (rest : List ℕ) where
   pub taken : now ≡ had ++ x ∷ [] → p (code x) ≡ true → map code now ++ filter p rest ≡ map code had ++ filter p (code x ∷ rest)
-  taken e t =
-      ap (λ (hs : List HalfEdge). map code hs ++ filter p rest) e ∙ ap (λ (hs : List ℕ). hs ++ filter p rest) (map-append code had (x ∷ []))
-      ∙ append_assoc (map code had) (code x ∷ []) (filter p rest)
-      ∙ ap (λ (hs : List ℕ). map code had ++ hs) (sym (ap (λ b. cond b (code x ∷ filter p rest) (filter p rest)) t))
+  taken e t = grind (arith, map-append, append_assoc)
 
   pub passed_by : now ≡ had → p (code x) ≡ false → map code now ++ filter p rest ≡ map code had ++ filter p (code x ∷ rest)
-  passed_by e t =
-      ap (λ (hs : List HalfEdge). map code hs ++ filter p rest) e
-      ∙ ap (λ (hs : List ℕ). map code had ++ hs) (sym (ap (λ b. cond b (code x ∷ filter p rest) (filter p rest)) t))
+  passed_by e t = grind arith
 
 pub none_left : (p : ℕ → Bool) (hs rest all : List ℕ) → rest ≡ [] → hs ++ filter p rest ≡ all → hs ≡ all
 none_left p hs rest all e t = sym (append-nil hs) ∙ ap (λ (ks : List ℕ). hs ++ filter p ks) (sym e) ∙ t

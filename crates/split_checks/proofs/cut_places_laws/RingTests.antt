@@ -3,9 +3,9 @@ use Rattle.std.proofs.Common.{◌≡◌, ◌≢◌, ℕ, Bool, true, false, ◌|
 use Rattle.std.specs.List.{list_any}
 use Rattle.std.proofs.lemmas.List.Sorted.{list_any-IsPermutation}
 use Rattle.euler_operators.specs.Common.{IsIn, rotate_to, Model, cycle_of, loop_of, Sound, HasHalf}
-use Rattle.euler_operators.proofs.Common.{rotate_to-rotates, IsRotation-permutation}
+use Rattle.euler_operators.proofs.Common.{rotate_to-rotates, IsRotation-permutation, or_false}
 use Rattle.euler_operators.specs.Model as model
-use Rattle.split_checks.proofs.cut_places_laws.Met.{or_false, or_joined}
+use Rattle.split_checks.proofs.cut_places_laws.Met.{or_joined}
 use Rattle.solid_measure.proofs.face_walks_laws.CycleWalks.{to_come, cycle_apart, item_in, start_is, goes_on, comes_back}
 
 module _ (M : Model) (sound : Sound M) (h : ℕ) (there : HasHalf M h) (p : ℕ → Bool) where
@@ -34,7 +34,7 @@ module _ (M : Model) (sound : Sound M) (h : ℕ) (there : HasHalf M h) (p : ℕ 
 
   -- so where one that passes doesn't end the walk, with one had before or not
   pub walk_told : (had : Bool) (x r : ℕ) → IsIn x (cycle_of M h) → (loop_of M x ≢ 0 → r ≡ model.after M x) → r ≡ h → had || p x ≡ had || left x
-  walk_told had x r i n e = ap (λ b. had || b) (or_false (p x) ∙ ap (λ ks. p x || list_any p ks) (sym (comes_back M sound h there x r i n e).0))
+  walk_told had x r i n e = ap (λ b. had || b) (sym (or_false (p x)) ∙ ap (λ ks. p x || list_any p ks) (sym (comes_back M sound h there x r i n e).0))
 
   pub walk_adds : (had : Bool) (x r : ℕ) → IsIn x (cycle_of M h) → (loop_of M x ≢ 0 → r ≡ model.after M x) → r ≢ h → (had || p x) || left r ≡ had || left x
   walk_adds had x r i n other = or_joined had (p x) (left r) ∙ ap (λ ks. had || (p x || list_any p ks)) (sym (goes_on M sound h there x r i n other).1)

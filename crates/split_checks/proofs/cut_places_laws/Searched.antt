@@ -1,7 +1,6 @@
 -- A search in a rising list tells whether a number stands in it.
-use Rattle.std.proofs.Common.{◌≡◌, ◌≢◌, ℕ, ◌≤◌, ◌<◌, true, List, length, get_or, Result, Ok, Err, sym, ap, ◌∙◌, arith, inl, inr, true≢false, is_ok, nat_cmp}
+use Rattle.std.proofs.Common.{◌≡◌, ◌≢◌, ℕ, ◌≤◌, ◌<◌, true, List, length, get_or, Result, Ok, Err, sym, ap, ◌∙◌, arith, true≢false, is_ok, nat_cmp}
 use Rattle.std.specs.List.Sorted.{IsBinarySearchResult}
-use Rattle.std.proofs.lemmas.Bool.Decides.{eqb_tells}
 use Rattle.std.proofs.lemmas.List.Sorted.{searched}
 use Rattle.euler_operators.specs.Common.{lists, strictly_rises}
 use Rattle.euler_laws.proofs.Common.{rising, listed_at, not_found}
@@ -10,10 +9,7 @@ less : (a b : ℕ) → a ≤ b → a ≢ b → a < b
 less a b l ne = grind arith
 
 ordered : (ns : List ℕ) → strictly_rises ns ≡ true → (i j : ℕ) → i ≤ j → j < length ns → get_or ns i 0 ≤ get_or ns j 0
-ordered ns r i j l m = elim (eqb_tells i j) [
-  | inl e ↦ omega (arith, ap (λ k. get_or ns k 0) e.1)
-  | inr ne ↦ omega (arith, rising ns i j r (less i j l ne.1) m)
-]
+ordered ns r i j l m = grind (arith, rising, less)
 
 pub found_listed : (ns : List ℕ) (n : ℕ) (r : Result ℕ ℕ) → strictly_rises ns ≡ true → IsBinarySearchResult (λ y. nat_cmp y n) ns r → is_ok r ≡ lists ns n
 found_listed ns n (Ok i) up w = let a = searched ns n (Ok i) w (ordered ns up) in sym (ap (lists ns) (sym a.1) ∙ listed_at ns i a.0)

@@ -1,5 +1,5 @@
 -- What is told of faces that were looked at.
-use Rattle.std.proofs.Common.{◌≡◌, ℕ, ◌≤◌, Bool, true, false, cond, List, [], ◌∷◌, map, length, Some, refl, sym, ap, ◌∙◌, arith, take, drop, find, option_map, take_at, drop_at, length-append}
+use Rattle.std.proofs.Common.{◌≡◌, ℕ, ◌≤◌, false, List, [], ◌∷◌, map, length, refl, sym, ap, ◌∙◌, arith, take, drop, take_at, drop_at, length-append}
 use Rattle.std.proofs.lemmas.List.{take-map, drop-map, length-map}
 use Rattle.euler_operators.specs.Common.{Plane, HalfEdge, code, Model}
 use Rattle.shapes.specs.Common.{first_such, places, straddling_faces}
@@ -25,10 +25,7 @@ module _ (M : Model) (p : Plane) where
     solid_faces = ap faces_in is.faces ∙ faces_told (straddling_faces M p s)
 
     pub solid_told : (qs : List FaceMet) (hs : List ℕ) → qs ≡ met.faces.items → hs ≡ map code met.looked.places.items → AreTold M p qs hs
-    solid_told qs hs e f = record {
-      told = e ∙ is.faces ∙ ap (map (face_met M p)) (sym (ap faces_in e ∙ solid_faces));
-      places = f ∙ is.places ∙ ap (all_places M p) (sym (ap faces_in e ∙ solid_faces));
-    }
+    solid_told qs hs e f = grind (arith, solid_faces)
 
   -- the first face with a flaw
   shown : (flaw : Flaw) (f : ℕ) → shows flaw (face_met M p f) ≡ has_flaw flaw M p f
@@ -37,12 +34,7 @@ module _ (M : Model) (p : Plane) where
 
   first_of : (flaw : Flaw) (fs : List ℕ) → first_showing flaw (map (face_met M p) fs) ≡ first_such (has_flaw flaw M p) fs
   first_of flaw [] = refl
-  first_of flaw (f ∷ fs) =
-      ap (λ b. option_map (λ (q : FaceMet). q.face) (cond b (Some (face_met M p f)) (find (shows flaw) (map (face_met M p) fs)))) (shown flaw f)
-      ∙ first_or_later (has_flaw flaw M p f) (first_of flaw fs) where
-        first_or_later : (b : Bool) → first_showing flaw (map (face_met M p) fs) ≡ first_such (has_flaw flaw M p) fs → option_map (λ (q : FaceMet). q.face) (cond b (Some (face_met M p f)) (find (shows flaw) (map (face_met M p) fs))) ≡ cond b (Some f) (first_such (has_flaw flaw M p) fs)
-        first_or_later true e = refl
-        first_or_later false e = e
+  first_of flaw (f ∷ fs) = grind (arith, shown, first_of flaw fs)
 
   pub first_flaw : (flaw : Flaw) (qs : List FaceMet) (hs : List ℕ) → AreTold M p qs hs → first_showing flaw qs ≡ first_such (has_flaw flaw M p) (faces_in qs)
   first_flaw flaw qs hs t = ap (first_showing flaw) t.told ∙ first_of flaw (faces_in qs)

@@ -16,9 +16,7 @@ all_in t (n ∷ ns) each = (each n (first_listed n ns), all_in t ns (λ k l. eac
 
 pub all_there : (M : Model) (hs : List ℕ) → ((h : ℕ) → IsIn h hs → HasHalf M h) → AreThere M hs
 all_there M [] each = tt
-all_there M (h ∷ hs) each = (each h (omega (arith, tick_same h)), all_there M hs (λ k i. each k (later k i))) where
-  later : (k : ℕ) → IsIn k hs → IsIn k (h ∷ hs)
-  later k i = omega (arith, i)
+all_there M (h ∷ hs) each = (each h (omega (arith, tick_same h)), all_there M hs (λ k i. each k (omega (arith, i))))
 
 module _ (M : Model) (sound : Sound M) where
   -- what an arena answers of a loop with half-edges stands in it

@@ -1,5 +1,5 @@
 -- What cut places say once they are in order.
-use Rattle.std.proofs.Common.{◌≡◌, ℕ, Bool, true, false, cond, not, ◌||◌, ◌&&◌, List, [], ◌∷◌, map, refl, sym, ap, ◌∙◌, true≢false}
+use Rattle.std.proofs.Common.{◌≡◌, ℕ, Bool, true, false, cond, not, ◌||◌, List, [], ◌∷◌, map, refl, sym, ap, arith}
 use Rattle.std.specs.List.{list_all}
 use Rattle.euler_operators.specs.Common.{Plane, Model, same_point, lex_less, differ}
 use Rattle.shapes.specs.Common.{place_point, goes_up, places, some_meet, sorted, in_pairs, sorted_pairs, is_up_and_down, up_first, is_crossed, place_pairs}
@@ -10,9 +10,7 @@ module _ (M : Model) (p : Plane) where
   crossed_by hs met = sym (ap (λ b. b || not (list_all (is_up_and_down M p) (in_pairs (sorted M p hs)))) met)
 
   pub ordered : (hs ks : List ℕ) → some_meet M p hs ≡ false → ks ≡ sorted M p hs → not (list_all (is_up_and_down M p) (in_pairs ks)) ≡ are_crossed M p hs
-  ordered hs ks apart placed =
-      ap (λ gs. not (list_all (is_up_and_down M p) (in_pairs gs))) placed
-      ∙ sym (ap (λ b. b || not (list_all (is_up_and_down M p) (in_pairs (sorted M p hs)))) apart)
+  ordered hs ks apart placed = grind arith
 
   -- the places of a face
   module _ (f : ℕ) (hs : List ℕ) (is : hs ≡ places M p f) where
@@ -27,19 +25,7 @@ module _ (M : Model) (p : Plane) where
 -- two cut places are one pair, whichever comes first
 module _ (M : Model) (p : Plane) (h k : ℕ) where
   two_differ : list_all (is_up_and_down M p) (in_pairs (sorted M p (h ∷ k ∷ []))) ≡ is_up_and_down M p (h, k)
-  two_differ = elim (lex_less (place_point M p k) (place_point M p h)) as (λ b. list_all (is_up_and_down M p) (in_pairs (cond b (k ∷ h ∷ []) (h ∷ k ∷ []))) ≡ is_up_and_down M p (h, k)) [
-    | true ↦ turned (goes_up M p h) (goes_up M p k)
-    | false ↦ alone (is_up_and_down M p (h, k))
-  ] where
-    turned : (u v : Bool) → differ v u && true ≡ differ u v
-    turned true true = refl
-    turned true false = refl
-    turned false true = refl
-    turned false false = refl
-
-    alone : (b : Bool) → b && true ≡ b
-    alone true = refl
-    alone false = refl
+  two_differ = grind arith
 
   -- and the one that is up comes first in it
   pub two_paired : is_up_and_down M p (h, k) ≡ true → up_first M p (h, k) ∷ [] ≡ map (up_first M p) (in_pairs (sorted M p (h ∷ k ∷ [])))
@@ -48,16 +34,8 @@ module _ (M : Model) (p : Plane) (h k : ℕ) where
     | false ↦ refl
   ] where
     turned : (u v : Bool) → differ u v ≡ true → ◌≡◌ {A = ℕ × ℕ} (cond u (h, k) (k, h)) (cond v (k, h) (h, k))
-    turned true true e = absurd (true≢false (sym e))
-    turned true false e = refl
-    turned false true e = refl
-    turned false false e = absurd (true≢false (sym e))
+    turned u v one = grind arith
 
   -- where there are no others
   pub two_crossed : (hs : List ℕ) → h ∷ k ∷ [] ≡ hs → same_point (place_point M p h) (place_point M p k) || not (is_up_and_down M p (h, k)) ≡ are_crossed M p hs
-  two_crossed hs is =
-      (λ i. meet (same_point (place_point M p h) (place_point M p k)) i || not (sym two_differ i))
-      ∙ ap (are_crossed M p) is where
-        meet : (s : Bool) → s ≡ (s || false) || false
-        meet true = refl
-        meet false = refl
+  two_crossed hs is = grind (arith, two_differ)

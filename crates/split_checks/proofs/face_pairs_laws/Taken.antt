@@ -1,5 +1,5 @@
 -- Places that are taken two by two.
-use Rattle.std.proofs.Common.{◌≡◌, ℕ, ◌<◌, Bool, ◌&&◌, not, List, [], ◌∷◌, ◌++◌, map, length, refl, sym, ap, ◌∙◌, arith, true, false, true≢false, subst, append-nil}
+use Rattle.std.proofs.Common.{◌≡◌, ℕ, ◌<◌, Bool, not, List, [], ◌∷◌, ◌++◌, map, length, refl, sym, ap, ◌∙◌, arith, true, false, true≢false, subst, append-nil}
 use Rattle.std.specs.List.{list_all}
 use Rattle.euler_operators.specs.Common.{Plane, HalfEdge, code, Model, has_half}
 use Rattle.shapes.specs.Common.{in_pairs, is_up_and_down, up_first}
@@ -28,6 +28,4 @@ second_there M es left a b is there = (subst (λ (fs : List (Key × HalfEdge)). 
 -- where two places aren't one up and one down, not all pairs are
 pub pair_fails : (M : Model) (p : Plane) (es left : List (Key × HalfEdge)) (a b : Key × HalfEdge) (all : Bool) → es ≡ a ∷ b ∷ left → list_all (is_up_and_down M p) (in_pairs (places_of es)) ≡ all
     → false ≡ is_up_and_down M p (code a.1, code b.1) → true ≡ not all
-pair_fails M p es left a b all is same differ =
-    let test = is_up_and_down M p in
-    sym (ap not (sym same ∙ ap (λ (fs : List (Key × HalfEdge)). list_all test (in_pairs (places_of fs))) is ∙ ap (λ (x : Bool). x && list_all test (in_pairs (places_of left))) (sym differ)))
+pair_fails M p es left a b all is same differ = grind arith

@@ -1,8 +1,8 @@
 -- What it says of cut places that they are in order.
-use Rattle.std.proofs.Common.{◌≡◌, ℕ, true, false, cond, List, [], ◌∷◌, Option, Some, None, MatchOption, refl, sym, ap, ◌∙◌, subst}
-use Rattle.euler_operators.specs.Common.{Plane, lex_less, IsIn, HalfEdge, Model, Sound, HasHalf}
+use Rattle.std.proofs.Common.{◌≡◌, ℕ, true, List, [], ◌∷◌, Option, Some, None, MatchOption, refl, sym, ap, ◌∙◌, subst, arith}
+use Rattle.euler_operators.specs.Common.{Plane, IsIn, HalfEdge, Model, Sound, HasHalf}
 use Rattle.euler_operators.proofs.Common.{code-half}
-use Rattle.shapes.specs.Common.{boundary, loops_of, is_place, place_point, places, sorted_in, sorted}
+use Rattle.shapes.specs.Common.{boundary, loops_of, is_place, places, sorted_in, sorted}
 use Rattle.shapes.proofs.Common.{items_there}
 use Rattle.split_checks.specs.cut_places.Places.{IsFaceAlong}
 use Rattle.split_checks.specs.cut_places.Walks.{AreThere}
@@ -24,10 +24,7 @@ module _ (M : Model) (p : Plane) where
 
   there_sorted_in : (h : ℕ) (ks : List ℕ) → HasHalf M h → AreThere M ks → AreThere M (sorted_in M p h ks)
   there_sorted_in h [] t ts = (t, tt)
-  there_sorted_in h (k ∷ ks) t ts = elim (lex_less (place_point M p k) (place_point M p h)) as (λ b. AreThere M (cond b (k ∷ sorted_in M p h ks) (h ∷ k ∷ ks))) [
-    | true ↦ (ts.0, there_sorted_in h ks t ts.1)
-    | false ↦ (t, ts)
-  ]
+  there_sorted_in h (k ∷ ks) t ts = grind (arith, there_sorted_in h ks t ts.1)
 
   there_sorted : (hs : List ℕ) → AreThere M hs → AreThere M (sorted M p hs)
   there_sorted [] ts = tt

@@ -1,7 +1,7 @@
 -- The point of a cut place is where its half-edge starts, or where this crosses the plane.
-use Rattle.std.proofs.Common.{◌≡◌, ℕ, ◌<◌, Bool, true, false, cond, ◌&&◌, ◌||◌, List, map, length, slice_index_or, sym, ap, refl, ◌∙◌, true≢false, get_or}
+use Rattle.std.proofs.Common.{◌≡◌, ℕ, ◌<◌, true, false, cond, List, map, length, slice_index_or, sym, ap, ◌∙◌, true≢false, get_or, arith}
 use Rattle.std.proofs.lemmas.List.{get_or-map}
-use Rattle.euler_operators.specs.Common.{Plane, are_opposite, is_on, cut_between, HalfEdge, code, plus, Model, before}
+use Rattle.euler_operators.specs.Common.{Plane, is_on, cut_between, HalfEdge, code, plus, Model}
 use Rattle.euler_operators.proofs.Common.{edge_of-code}
 use Rattle.shapes.specs.Common.{start, finish, crosses, is_place, place_point}
 use Rattle.split_checks.specs.declared.cuts.CutEdge.{CutEdge}
@@ -12,11 +12,7 @@ module _ (M : Model) (p : Plane) where
   -- a cut place off the plane's own points is a half-edge that crosses
   pub place_off : (h : ℕ) → is_place M p h ≡ true → is_on p (start M h) ≡ false → crosses M p h ≡ true
   unfolding is_place
-  place_off h place off = first_holds (crosses M p h) (is_on p (start M h)) (are_opposite p (start M (before M h)) (finish M h)) place off where
-    first_holds : (a b c : Bool) → a || (b && c) ≡ true → b ≡ false → a ≡ true
-    first_holds true b c e f = refl
-    first_holds false true c e f = absurd (true≢false f)
-    first_holds false false c e f = e
+  place_off h place off = grind (arith, true≢false)
 
   pub point_on : (h : ℕ) → is_on p (start M h) ≡ true → start M h ≡ place_point M p h
   unfolding place_point

@@ -1,5 +1,5 @@
 -- Places put one by one into a map under their points stand there in the order of `sorted`.
-use Rattle.std.proofs.Common.{◌≡◌, ℕ, Bool, true, false, cond, ◌&&◌, ◌||◌, int_cmp, Ordering, Less, Equal, Greater, List, [], ◌∷◌, ◌++◌, is_some, Option, Some, refl, sym, ap, ◌∙◌, arith, true≢false, subst, append_assoc, is_eq, is_gt, append-nil}
+use Rattle.std.proofs.Common.{◌≡◌, ℕ, Bool, true, false, cond, ◌&&◌, ◌||◌, int_cmp, Ordering, Less, Equal, Greater, List, [], ◌∷◌, ◌++◌, is_some, Option, refl, sym, ap, ◌∙◌, arith, true≢false, subst, append_assoc, is_eq, is_gt}
 use Rattle.std.specs.Ordering.{ordering_then, match_ordering}
 use Rattle.std.specs.BTreeMap.{insert_entry}
 use Rattle.std.specs.Map.{lookup}
@@ -23,9 +23,7 @@ key_greater p q = after_greater (int_cmp p.x q.x) (int_cmp p.y q.y) (int_cmp p.z
     ∙ (λ i. turned_greater p.x q.x i || (turned_equal p.x q.x i && (turned_greater p.y q.y i || (turned_equal p.y q.y i && turned_greater p.z q.z i))))
 
 swapped : (a b c : Bool) → a || (b || c) ≡ b || (a || c)
-swapped true true c = refl
-swapped true false c = refl
-swapped false b c = refl
+swapped a b c = grind arith
 
 module _ (M : Model) (p : Plane) where
   abbrev at : ℕ → Point
@@ -56,19 +54,12 @@ module _ (M : Model) (p : Plane) where
   -- the map has a point where one of its places has
   pub found_meets : (h : ℕ) (ks : List ℕ) → is_some (lookup (λ k. is_eq (key_cmp (key (at h)) k)) (entries_of M p ks)) ≡ list_any (meets h) ks
   found_meets h [] = refl
-  found_meets h (k ∷ ks) = ap (λ b. is_some (cond b (Some (half k)) (lookup (λ k. is_eq (key_cmp (key (at h)) k)) (entries_of M p ks)))) (key_equal (at h) (at k))
-      ∙ either (meets h k) (half k) (lookup (λ k. is_eq (key_cmp (key (at h)) k)) (entries_of M p ks)) (list_any (meets h) ks) (found_meets h ks) where
-        either : (b : Bool) (old : HalfEdge) (o : Option HalfEdge) (c : Bool) → is_some o ≡ c → is_some (cond b (Some old) o) ≡ b || c
-        either true old o c e = refl
-        either false old o c e = e
+  found_meets h (k ∷ ks) = grind (arith, key_equal, found_meets h ks)
 
   -- sorting keeps what a test finds
   any_sorted_in : (q : ℕ → Bool) (h : ℕ) (ks : List ℕ) → list_any q (sorted_in M p h ks) ≡ list_any q (h ∷ ks)
   any_sorted_in q h [] = refl
-  any_sorted_in q h (k ∷ ks) = elim (lex_less (at k) (at h)) as (λ b. list_any q (cond b (k ∷ sorted_in M p h ks) (h ∷ k ∷ ks)) ≡ list_any q (h ∷ k ∷ ks)) [
-    | true ↦ ap (λ b. q k || b) (any_sorted_in q h ks) ∙ swapped (q k) (q h) (list_any q ks)
-    | false ↦ refl
-  ]
+  any_sorted_in q h (k ∷ ks) = grind (arith, swapped, any_sorted_in q h ks)
 
   pub any_sorted : (q : ℕ → Bool) (ks : List ℕ) → list_any q (sorted M p ks) ≡ list_any q ks
   any_sorted q [] = refl
@@ -77,10 +68,7 @@ module _ (M : Model) (p : Plane) where
   -- two of some places that meet are two of more
   pub still_meet : (hs ks : List ℕ) → some_meet M p ks ≡ true → some_meet M p (hs ++ ks) ≡ true
   still_meet [] ks e = e
-  still_meet (h ∷ hs) ks e = later (list_any (meets h) (hs ++ ks)) (still_meet hs ks e) where
-    later : (a : Bool) {b : Bool} → b ≡ true → a || b ≡ true
-    later true f = refl
-    later false f = f
+  still_meet (h ∷ hs) ks e = grind (arith, still_meet hs ks e)
 
   -- of all places some are left, and the others are in the map
   pub record Sorting (left all : List ℕ) (es : List (Key × HalfEdge)) : Type 0 where
@@ -89,13 +77,7 @@ module _ (M : Model) (p : Plane) where
     pub apart : some_meet M p done ≡ false
     pub placed : es ≡ entries_of M p (sorted M p done)
 
-  pub nothing_sorted : (all : List ℕ) (es : List (Key × HalfEdge)) → es ≡ [] → Sorting all all es
-  nothing_sorted all es e = record { done = []; whole = append-nil all; apart = refl; placed = e }
-
   module _ (left all : List ℕ) (es : List (Key × HalfEdge)) (s : Sorting left all es) where
-    pub all_sorted : left ≡ [] → (some_meet M p all ≡ false) × (es ≡ entries_of M p (sorted M p all))
-    all_sorted none = let e : s.done ≡ all = sym (ap (λ (hs : List ℕ). hs ++ s.done) none) ∙ s.whole in (sym (ap (some_meet M p) e) ∙ s.apart, s.placed ∙ ap (λ hs. entries_of M p (sorted M p hs)) e)
-
     module _ (h : ℕ) (fewer : List ℕ) (last : left ≡ fewer ++ h ∷ []) where
       whole_still : fewer ++ (h ∷ s.done) ≡ all
       whole_still = sym (append_assoc fewer (h ∷ []) s.done) ∙ sym (ap (λ (hs : List ℕ). hs ++ s.done) last) ∙ s.whole
@@ -110,12 +92,7 @@ module _ (M : Model) (p : Plane) where
 
       -- or comes into the map
       pub one_more : list_any (meets h) (sorted M p s.done) ≡ false → (more : List (Key × HalfEdge)) → more ≡ insert_entry key_cmp es (key (at h)) (half h) → Sorting fewer all more
-      one_more new more is = record {
-        done = h ∷ s.done;
-        whole = whole_still;
-        apart = (λ i. (sym (any_sorted (meets h) s.done) ∙ new) i || s.apart i);
-        placed = is ∙ ap (λ fs. insert_entry key_cmp fs (key (at h)) (half h)) s.placed ∙ inserted h (sorted M p s.done) new;
-      }
+      one_more new more is = grind (arith, whole_still, any_sorted, inserted)
 
   -- what the code makes of a place that comes
   module _ (h : ℕ) (ks : List ℕ) (es : List (Key × HalfEdge)) (k : Key) (met : Option HalfEdge) (placed : es ≡ entries_of M p ks) (keyed : k ≡ key (at h)) (old : met ≡ lookup (λ q. is_eq (key_cmp k q)) es) where

@@ -1,10 +1,11 @@
 use Rattle.std.proofs.Common.{◌≡◌, ◌∙◌, ◌||◌, false, ap, sym, length, arith}
 use Rattle.euler_operators.specs.Common.{content, rings_of, Sign, Above, Below}
+use Rattle.euler_operators.proofs.Common.{or_false}
 use Rattle.shapes.specs.Common.{vertices_in, vertices_on}
 use Rattle.solid_measure.proofs.face_walks_laws.Above.{above}
 use Rattle.solid_measure.proofs.face_walks_laws.RingWalks.{next_ring}
 use Rattle.split_checks.specs.cut_places.Sides.{reaches, side_reached, some_lie}
-use Rattle.split_checks.proofs.cut_places_laws.Met.{or_false, or_joined}
+use Rattle.split_checks.proofs.cut_places_laws.Met.{or_joined}
 use Rattle.split_checks.proofs.cut_places_laws.NotedSides.{is_up, told_up, told_down}
 use Rattle.split_checks.proofs.cut_places_laws.Rings.{outer_lies, ring_lies, none_lies}
 use Rattle.split_checks.proofs.cut_places.face_sides.face_side.Goals as goal
@@ -58,5 +59,5 @@ returns-clause-is c =
     let M = c.args.arena.now.model in let f = c.args.f in let p = c.args.plane in
     let none : (side : Sign) → some_lie side M p (vertices_in M (above c.rings.last (rings_of M f))) ≡ false = λ side. none_lies M f side p c.rings.last c.in_default.ensures in
     let up = sym (none Above) ∙ c.rings.invariant.up in
-    let down = or_false c.rings.below ∙ ap (λ b. c.rings.below || b) (sym (none Below)) ∙ c.rings.invariant.down in
+    let down = sym (or_false c.rings.below) ∙ ap (λ b. c.rings.below || b) (sym (none Below)) ∙ c.rings.invariant.down in
     c.none_above.ensures ∙ (λ i. side_reached (up i) (down i))
