@@ -1,6 +1,5 @@
 pub mod Drawn
 pub mod Stays
-pub mod Runs
 pub mod Rings
 pub mod Pairs
 pub mod Passes

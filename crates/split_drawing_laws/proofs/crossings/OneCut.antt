@@ -1,13 +1,13 @@
 -- The rows of an edge that is cut: what mev puts before an item and what is put after its neighbour.
 use Rattle.std.specs.FinMap.Entries.{find}
-use Rattle.std.proofs.Common.{◌≡◌, ℕ, ◌+◌, ◌≤◌, false, cond, nat_eq, List, [], ◌∷◌, ◌++◌, refl, sym, ap, ◌∙◌, arith, ◌≢◌, suc, ◌*◌, true, length, Option, Some, None, is_some, true≢false, flat_map, option_map, nat_cmp}
+use Rattle.std.proofs.Common.{◌≡◌, ℕ, ◌+◌, ◌≤◌, false, cond, nat_eq, List, [], ◌∷◌, ◌++◌, refl, sym, ap, ◌∙◌, arith, ◌≢◌, suc, ◌*◌, true, length, Some, None, is_some, true≢false, flat_map, nat_cmp}
 use Rattle.std.proofs.lemmas.Bool.Decides.{nat_tests}
 use Rattle.std.proofs.lemmas.Option.{same_Some}
-use Rattle.euler_operators.specs.Common.{count, tick, IsIn, IsApart, rotate_to, canonical, rest, successor, insert_before, insert_after, plus, minus, edge_of, At, half, Point, Table, same_table, get-map_rows, Model, LoopContent, lone, cycle, LoopRow, EdgeRow, items_of, holds, tail, loop_of, content, face_of, cycle_of, after, arc, Sound, Has, HasHalf, effect, mev_at, with_before, with_tails, edge_row}
+use Rattle.euler_operators.specs.Common.{count, tick, IsIn, IsApart, rotate_to, canonical, rest, successor, insert_before, insert_after, plus, minus, edge_of, At, half, Point, Table, Model, LoopContent, lone, cycle, LoopRow, EdgeRow, items_of, holds, tail, loop_of, content, face_of, cycle_of, after, arc, Sound, Has, HasHalf, effect, mev_at, with_before, with_tails, edge_row}
 use Rattle.euler_operators.specs.Table as table
 use Rattle.euler_operators.specs.declared.Op.TheVariants.{Mev}
-use Rattle.euler_operators.proofs.Common.{insert_before-rotates, insert_after-rotates, count-insert_before, count-insert_after, apart_front, rotation_at, IsIn_successor, nat_eq_turned, canonical_same, IsRotation-trans, rotate_to_same, rotate_to_head, count-canonical, tick_same, tick_other, map_one, put_turned, row_some, content_row, row_of, not_held, other_loop, in-holds, holds-none, none-holds, cycle_there, cycle_sound, minus_tail_row, plus_there, minus_there, plus_row, minus_row, mate_plus, code-half}
-use Rattle.euler_laws.proofs.Common.{where_held_none, where_held_there, edge_row_plus}
+use Rattle.euler_operators.proofs.Common.{insert_before-rotates, insert_after-rotates, count-insert_before, count-insert_after, apart_front, rotation_at, IsIn_successor, nat_eq_turned, canonical_same, IsRotation-trans, rotate_to_same, rotate_to_head, count-canonical, tick_same, tick_other, map_one, put_turned, row_some, content_row, row_of, not_held, other_loop, in-holds, holds-none, none-holds, cycle_there, cycle_sound, minus_tail_row, plus_there, minus_there, plus_row, minus_row, mate_plus, code-half, map_alike}
+use Rattle.euler_laws.proofs.Common.{where_held_none, where_held_there, edge_row_plus, map_twice, none_else}
 use Rattle.shapes.specs.Common.{rewritten, rewritten_row}
 
 -- edge e cut at the new vertex v, which has point q: the new edge k leads from e's start to v, and e goes on from there
@@ -45,8 +45,7 @@ module _ (e k : ℕ) where
   -- a loop with its minus half alone gets the new minus half after it
   pub doubled_minus : (hs : List ℕ) → count (plus e) hs ≡ 0 → count (minus e) hs ≤ 1 → flat_map (doubled e k) hs ≡ insert_after (minus e) (minus k) hs
   doubled_minus [] a b = refl
-  doubled_minus (h ∷ hs) a b =
-      grind (arith, tick_is, absent, nat_eq_turned, doubled_none, doubled_other, doubled_minus hs (omega arith) (omega arith))
+  doubled_minus (h ∷ hs) a b = grind (arith, tick_is, absent, nat_eq_turned, doubled_none, doubled_other, doubled_minus hs (omega arith) (omega arith))
 
 -- the ring from the item after m on
 from_next : (m : ℕ) (xs : List ℕ) → IsApart xs → IsIn m xs → rotate_to (successor xs m) xs ≡ rest m xs ++ m ∷ []
@@ -74,10 +73,7 @@ put_between m y xs apart there free =
 
 -- two rewritings after one another are a third, where they agree row by row
 maps_agree : {X : Type 0} (f g h : ℕ → X → X) (t : Table X) → ((q : ℕ) (x : X) → table.get t q ≡ Some x → g q (f q x) ≡ h q x) → table.map_rows g (table.map_rows f t) ≡ table.map_rows h t
-maps_agree {X = X} f g h t agree = same_table _ _ (λ q. get-map_rows g (table.map_rows f t) q ∙ ap (option_map (g q)) (get-map_rows f t q) ∙ row_agrees q (table.get t q) (agree q) ∙ sym (get-map_rows h t q)) where
-  row_agrees : (q : ℕ) (o : Option X) → ((x : X) → o ≡ Some x → g q (f q x) ≡ h q x) → option_map (g q) (option_map (f q) o) ≡ option_map (h q) o
-  row_agrees q None agree = refl
-  row_agrees q (Some x) agree = ap Some (agree x refl)
+maps_agree f g h t agree = map_twice g f t ∙ map_alike (λ q x. g q (f q x)) h t agree
 
 some_rows : {X : Type 0} (e : ℕ) (es : List (ℕ × X)) → is_some (find nat_cmp e es) ≡ true → (n : ℕ) × (2 * length es ≡ suc (suc n))
 some_rows e [] there = absurd (true≢false (sym there))
@@ -115,10 +111,7 @@ module _ (M : Model) (e k v : ℕ) (q : Point) (goes : CanCut M e k) where
 
   -- an item of one of the two loops isn't in the other
   in_one : (h : ℕ) → IsIn h ys → count h xs ≡ 0
-  in_one h there = elim (holds h (content M l)) as (λ b. holds h (content M l) ≡ b → count h xs ≡ 0) [
-    | true ↦ λ t. absurd (goes.apart (sym (goes.sound.one_loop h l t) ∙ goes.sound.one_loop h m (in-holds h (content M m) there)))
-    | false ↦ λ t. none-holds h (content M l) t
-  ] refl
+  in_one h there = none_else M goes.sound h l (λ e. goes.apart (e ∙ goes.sound.one_loop h m (in-holds h (content M m) there)))
 
   next_there : IsIn next ys
   next_there = IsIn_successor (minus e) ys (cycle_there M goes.sound (minus e) (minus_there M e goes.there))

@@ -2,6 +2,7 @@
 use Rattle.std.specs.List.{list_any, list_all}
 use Rattle.std.proofs.Common.{◌≡◌, ℕ, ◌+◌, ◌≤◌, Bool, true, false, cond, not, nat_eq, ◌&&◌, ◌||◌, List, [], ◌∷◌, refl, sym, ap, ◌∙◌, subst, arith, inl, inr, ◌≢◌, ℤ, pos, is_some, ◌⊎◌, true≢false, filter, int_lt, eq-eqb, eqb-true}
 use Rattle.std.proofs.lemmas.Bool.Decides.{eqb_tells}
+use Rattle.std.proofs.lemmas.Bool.{or_right}
 use Rattle.euler_operators.specs.Common.{count, tick, IsIn, Model, items_of, content, tail, face_of, loop_of, solid_of, before, faces_of, Has, Sound, HasHalf, StandsIn, Plane, IsInRange, height, opposite, are_opposite, is_on, same_point, cut_between, plus, minus, face_at}
 use Rattle.euler_operators.proofs.Common.{count-append, tick_same, tick_other, mate_plus, mate_minus, held_row, cycle_there, plus_there, minus_there, solid_row, IsIn-filter, count-filter, filter_passes, same_as, cut_back, opposite_back, not_level, level_is, cut_fits, row_some}
 use Rattle.euler_laws.proofs.Common.{not_false, no_zero, loop_row, face_there, point_row, all_where_in, all_where_has}
@@ -20,15 +21,12 @@ pub picked_none : (p : ℕ → Bool) (ns : List ℕ) → ((x : ℕ) → IsIn x n
 picked_none p [] none = refl
 picked_none p (n ∷ ns) none = ap (λ b. cond b (n ∷ filter p ns) (filter p ns)) (none n (here n n ns refl)) ∙ picked_none p ns (λ x i. none x (omega (arith, i)))
 
-or_second : (a b : Bool) → b ≡ true → (a || b) ≡ true
-or_second a b e = grind arith
-
 -- one that passes
 pub any_passes : (p : ℕ → Bool) (x : ℕ) (ns : List ℕ) → IsIn x ns → p x ≡ true → list_any p ns ≡ true
 any_passes p x [] i e = absurd (omega arith)
 any_passes p x (n ∷ ns) i e = elim (eqb_tells x n) [
   | inl s ↦ ap (λ b. b || list_any p ns) (ap p (sym s.1) ∙ e)
-  | inr s ↦ or_second (p n) (list_any p ns) (any_passes p x ns (omega (arith, i, tick_other x n s.1)) e)
+  | inr s ↦ or_right (p n) (list_any p ns) (any_passes p x ns (omega (arith, i, tick_other x n s.1)) e)
 ]
 
 -- ---- the faces of a solid, and those of them that straddle
@@ -78,7 +76,7 @@ two_meet M p x y (h ∷ hs) ne e i j = elim (eqb_tells x h) [
   | inl s ↦ ap (λ b. b || some_meet M p hs) (any_passes (λ k. same_point (place_point M p h) (place_point M p k)) y hs (rest y h hs (λ t. ne (s.1 ∙ sym t)) j) (same_as (place_point M p h) (place_point M p y) (ap (place_point M p) (sym s.1) ∙ e)))
   | inr s ↦ elim (eqb_tells y h) [
     | inl t ↦ ap (λ b. b || some_meet M p hs) (any_passes (λ k. same_point (place_point M p h) (place_point M p k)) x hs (rest x h hs s.1 i) (same_as (place_point M p h) (place_point M p x) (ap (place_point M p) (sym t.1) ∙ sym e)))
-    | inr t ↦ or_second (list_any (λ k. same_point (place_point M p h) (place_point M p k)) hs) (some_meet M p hs) (two_meet M p x y hs ne e (rest x h hs s.1 i) (rest y h hs t.1 j))
+    | inr t ↦ or_right (list_any (λ k. same_point (place_point M p h) (place_point M p k)) hs) (some_meet M p hs) (two_meet M p x y hs ne e (rest x h hs s.1 i) (rest y h hs t.1 j))
   ]
 ] where
   rest : (a b : ℕ) (ns : List ℕ) → a ≢ b → IsIn a (b ∷ ns) → IsIn a ns

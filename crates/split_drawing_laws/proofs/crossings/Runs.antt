@@ -130,6 +130,10 @@ pub record Gone (M : Model) (p : Plane) (g : Growing) (ds rs : List ℕ) : Type 
   pub cut : AreCut M (all_cut p g rs).model p list
   pub same : (x : ℕ) → count x list ≡ count x ds + count x rs
 
+pub next_taken : (p : Plane) (g : Growing) (e : ℕ) → (next_cut p g e).taken ≡ record g.taken { edge = g.taken.edge + 1; vertex = g.taken.vertex + 1 }
+unfolding next_cut
+next_taken p g e = refl
+
 module _ (M : Model) (p : Plane) (sound : Sound M) (g : Growing) (ds : List ℕ) (e : ℕ) (rs : List ℕ) (w : Going M p g ds (e ∷ rs)) where
   pub crossing_now : Crossing M p e
   crossing_now = w.crossing e (omega (arith, tick_same e))
@@ -161,19 +165,15 @@ module _ (M : Model) (p : Plane) (sound : Sound M) (g : Growing) (ds : List ℕ)
   unfolding next_cut
   next_model = refl
 
-  next_taken : (next_cut p g e).taken ≡ record g.taken { edge = g.taken.edge + 1; vertex = g.taken.vertex + 1 }
-  unfolding next_cut
-  next_taken = refl
-
   pub going_on : Going M p (next_cut p g e) (e ∷ ds) rs
   going_on = record {
     cut = subst (λ X. AreCut M X p (e ∷ ds)) (sym next_model) (cut_more M g.model p ds sound w.cut e (g.taken.edge + 1) (g.taken.vertex + 1) crossing_now uncut_now goes_now);
-    counted = next_taken ∙ (λ i. record (w.counted i) { edge = g.taken.edge + 1; vertex = g.taken.vertex + 1 })
+    counted = next_taken p g e ∙ (λ i. record (w.counted i) { edge = g.taken.edge + 1; vertex = g.taken.vertex + 1 })
         ∙ sym (taken_then g.model e (g.taken.edge + 1) (g.taken.vertex + 1) (cut_at g.model p e) goes_now.can edge_above vertex_above)
         ∙ ap taken_in (sym next_model);
     crossing = λ x i. w.crossing x (omega (arith, i));
     apart = λ x. omega (arith, w.apart x);
-    left = subst (λ c. AreLeft c (needed_for_cuts (length rs))) (sym next_taken)
+    left = subst (λ c. AreLeft c (needed_for_cuts (length rs))) (sym (next_taken p g e))
         (record { faces = w.left.faces; loops = w.left.loops; edges = omega (arith, w.left.edges); vertices = omega (arith, w.left.vertices) });
   }
 

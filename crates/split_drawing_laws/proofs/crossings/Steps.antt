@@ -124,9 +124,4 @@ module _ (M : Model) (e k v : ℕ) (q : Point) (can : CanCut M e k) (k_above : t
   -- the counters then
   pub taken_then : taken_in (edge_cut M e k v q) ≡ record (taken_in M) { edge = k; vertex = v }
   unfolding taken_in
-  taken_then = λ i. record {
-    face = table.greatest (cut_rows M e k v q can i).faces;
-    loop = (ap (λ N. table.greatest N.loops) (cut_rows M e k v q can) ∙ greatest-map (rewritten_row (flat_map (doubled e k))) M.loops) i;
-    edge = edges_greatest i;
-    vertex = (ap (λ N. table.greatest N.vertices) (cut_rows M e k v q can) ∙ greatest-put_last M.vertices v q v_above) i;
-  }
+  taken_then = grind (arith, cut_rows, greatest-map, doubled, edges_greatest, greatest-put_last)

@@ -1,7 +1,7 @@
 -- Edges cut at points between their ends: the areas of loops, the normals and planes of faces and the volumes of solids stay.
 use Rattle.std.proofs.Common.{◌≡◌, ◌≢◌, ℕ, true, not, nat_eq, ◌&&◌, List, [], ◌∷◌, unwrap_or, refl, sym, ap, ◌∙◌, ◌⊎◌, inl, inr, subst, arith, ◌+◌, None, flat_map}
 use Rattle.std.proofs.lemmas.Bool.Decides.{eqb_tells}
-use Rattle.euler_operators.specs.Common.{Point, Plane, origin, moved, cross, is_on, are_opposite, cuts_lattice, same_point, direction, IsIn, count, canonical, mate, edge_of, plus, minus, Model, LoopContent, lone, cycle, no_face, items_of, tail, content, outer, point_of, rings_of, loop_of, face_of, solid_of, faces_of, HasHalf, Has, Sound, face_at, first_refusal, lists}
+use Rattle.euler_operators.specs.Common.{Point, Plane, origin, moved, cross, is_on, are_opposite, cuts_lattice, IsIn, count, canonical, mate, edge_of, plus, minus, Model, LoopContent, lone, cycle, no_face, items_of, tail, content, outer, point_of, rings_of, loop_of, face_of, solid_of, faces_of, HasHalf, Has, Sound, face_at, first_refusal, lists}
 use Rattle.euler_operators.specs.Table as table
 use Rattle.euler_operators.proofs.Common.{count-canonical, IsIn_head, plus_row, same_edge, edge_of-mate, mate_plus, mate_minus, IsIn_rest, IsIn_one, all_mapped, item_there, item_loop, mate_there, plus_there, minus_there, count-append, tick_other, IsIn_or_not, moved_none}
 use Rattle.euler_laws.proofs.Common.{content-new, IsIn-from_listed}
@@ -302,9 +302,7 @@ module _ (M : Model) (s : ℕ) (p : Plane) (t : ℕ) (sound : Sound M) (accepted
   crossings_normals = crossings_measured.normals
 
   pub crossings_planes : (f : ℕ) (r : Plane) → is_plane_of M r (corners M f) ≡ true → is_plane_of (with_crossings M s p).model r (corners (with_crossings M s p).model f) ≡ true
-  crossings_planes f r on =
-      let a = and_parts (not (same_point (direction r) origin)) (are_on M r (corners M f)) on in
-      λ i. a.0 i && crossings_measured.planes f r a.1 i
+  crossings_planes f r on = grind (arith, and_parts, are_on, crossings_measured)
 
   pub crossings_flat : (f : ℕ) → lists (faces_of M s) f ≡ true → (is_flat (with_crossings M s p).model f ≡ true) × (plane_of (with_crossings M s p).model f ≡ plane_of M f)
   crossings_flat f l =

@@ -40,13 +40,11 @@ changed_one w z k x e (f ∷ fs) each one = elim (eqb_tells f k) [
       let here : w f ≡ z f +ℤ x = ap w s.1 ∙ e ∙ ap (λ q. z q +ℤ x) (sym s.1) in
       let gone : count k fs ≡ 0 = let t : tick k f ≡ 1 = ap (tick k) s.1 ∙ tick_same k in omega (arith, one, t) in
       let rest : total w fs ≡ total z fs = unchanged w z fs (λ g j. each g (IsIn_rest g f fs j) (λ q. absurd (omega (arith, gone, ap (λ y. count y fs) (sym q), j)))) in
-      (λ i. here i +ℤ rest i) ∙ over (z f) x (total z fs)
+      (λ i. here i +ℤ rest i) ∙ omega (arith, ints)
   | inr s ↦
       let more : total w fs ≡ total z fs +ℤ x = changed_one w z k x e fs (λ g j. each g (IsIn_rest g f fs j)) (omega (arith, one, tick_other k f (λ q. s.1 (sym q)))) in
       (λ i. each f (IsIn_head f fs) s.1 i +ℤ more i) ∙ sym (add_assoc (z f) (total z fs) x)
-] where
-  over : (a b c : ℤ) → (a +ℤ b) +ℤ c ≡ (a +ℤ c) +ℤ b
-  over a b c = omega (arith, ints)
+]
 
 -- ---- corners on a plane, loop by loop and item by item; rings that are the same
 

@@ -11,7 +11,7 @@ use Rattle.split_drawing_laws.proofs.drawings.Pairs.{none_joined, drawn_newer}
 use Rattle.split_drawing_laws.specs.drawings.Passing.{Ready, Joining, Going}
 use Rattle.split_drawing_laws.proofs.drawings.Passes.{either_now, Joins, joins_go, joins_keep, join_next_one, can_now, draws_keep, Draws, draws_go, draw_next_one, cut_off, room_as}
 use Rattle.split_drawing_laws.proofs.drawings.Rings.{RingOf, Newer, AreRings, rings_keep, rings_move, rings_are, rings_apart}
-use Rattle.split_drawing_laws.proofs.drawings.Runs.{Leads, leads_none, leads_on}
+use Rattle.euler_laws.proofs.Common.{Leads, leads_none, leads_on}
 
 -- being stuck changes nothing else
 pub going_on : (M : Model) (f n : ℕ) (b : Bool) (d : Drawing) → Going M f d d.left n → Going M f (cond b (stuck_at f d) d) (cond b (stuck_at f d) d).left n
@@ -75,11 +75,7 @@ module _ (p : Plane) (f : ℕ) (qs : List (ℕ × ℕ)) (d : Drawing) (n : ℕ) 
   joins = joins_go d.model f begun qs n w.fit begun_joining
 
   pub going : Going d.model f joined joined.left n
-  going = record {
-    drawn = joins.state.joined.drawn;
-    fresh = joins.state.fresh;
-    room = room_as joined.taken (length joined.left + 0 + n) (length joined.left + n) (omega arith) joins.state.room;
-  }
+  going = grind (arith, joins, room_as)
 
   pub fitting : AllFit d.model f free.left
   fitting = fitting_on d.model f f stops joined joins.state.pairs

@@ -11,7 +11,7 @@ use Rattle.split_drawing_laws.specs.drawings.Passing.{Joining, Going}
 use Rattle.split_drawing_laws.proofs.drawings.Drawn.{CanDraw, CanJoin, face_drawn, loops_joined}
 use Rattle.split_drawing_laws.proofs.drawings.Stays.{draw_free}
 use Rattle.split_drawing_laws.proofs.drawings.Pairs.{pair_leads, joined_either, pair_joined, pair_fresh, draw_leads, pair_drawn}
-use Rattle.split_drawing_laws.proofs.drawings.Runs.{Leads, leads_none, leads_on}
+use Rattle.euler_laws.proofs.Common.{Leads, leads_none, leads_on}
 
 -- and of each of the list with one more, of which it holds too
 pub all_of_last : {X : Type 0} (P : X → Type 0) (xs : List X) (x : X) → AllOf P xs → P x → AllOf P (xs ++ x ∷ [])
@@ -43,15 +43,7 @@ module _ (M : Model) (f : ℕ) (d : Drawing) (q : ℕ × ℕ) (qs : List (ℕ ×
   room_now = room_as d.taken (length d.left + length (q ∷ qs) + n) (suc (length d.left + length qs + n)) (omega arith) w.room
 
   kept : in_one_loop d.model q ≡ true → Next (join_next d q)
-  kept e = subst Next (sym (join_next_one d q e)) (
-    subst (Leads d.model d.model) (sym (ap (λ b. cond b [] (join_pair d.model q (d.taken.edge + 1) ∷ [])) e)) (leads_none d.model),
-    record {
-      joined = w.joined;
-      fresh = w.fresh;
-      room = room_as d.taken (length d.left + length (q ∷ qs) + n) (length (d.left ++ q ∷ []) + length qs + n) (omega (arith, length-append d.left (q ∷ []))) w.room;
-      pairs = all_of_last (Fits M f) d.left q w.pairs fits;
-    },
-  )
+  kept e = grind (arith, join_next_one, leads_none, room_as, length-append, all_of_last)
 
   pub edge_free : table.get d.model.edges (d.taken.edge + 1) ≡ None
   edge_free = w.fresh.edges (d.taken.edge + 1) (next_above d.taken.edge)

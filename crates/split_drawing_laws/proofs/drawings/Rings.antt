@@ -1,18 +1,17 @@
 -- Rings of a face given to a new one.
-use Rattle.std.proofs.Common.{◌≡◌, ◌≢◌, ℕ, Bool, true, false, not, nat_eq, ◌&&◌, List, [], ◌∷◌, None, is_some, unwrap_or, refl, sym, ap, ◌∙◌, subst, arith, inl, inr, true≢false, filter, eqb-true}
+use Rattle.std.proofs.Common.{◌≡◌, ◌≢◌, ℕ, Bool, not, nat_eq, ◌&&◌, List, [], ◌∷◌, None, is_some, refl, sym, ap, ◌∙◌, subst, arith, inl, inr, filter, eqb-true}
 use Rattle.std.proofs.lemmas.Bool.Decides.{eqb_tells}
-use Rattle.std.proofs.lemmas.Bool.{eqb-false}
-use Rattle.euler_operators.specs.Common.{successor, tick, IsIn, IsApart, edge_of, is_first, Model, no_edge, holds, tail, tail_in, items_of, content, loop_of, face_of, solid_of, outer, after, rings_of, Sound, Has, HasHalf, face_at, first_false, effect, ring_in}
+use Rattle.std.proofs.lemmas.Bool.{eqb-false, and_parts, not-true}
+use Rattle.euler_operators.specs.Common.{successor, tick, IsIn, IsApart, edge_of, Model, holds, tail, items_of, content, loop_of, face_of, solid_of, outer, after, rings_of, Sound, Has, HasHalf, face_at, first_false, effect, ring_in}
 use Rattle.euler_operators.proofs.Common.{tick_same, face_row, count-filter, no_row, row_elsewhere}
 use Rattle.euler_operators.specs.Table as table
 use Rattle.euler_operators.specs.declared.Op.TheVariants.{RingIn}
-use Rattle.euler_laws.proofs.Common.{taken, SameWalks, listed_passes, all_where-rises, listed-from_in, RingGoes, ring_in_accepted, sound-ring_in, counted_once}
+use Rattle.euler_laws.proofs.Common.{taken, SameWalks, listed_passes, all_where-rises, listed-from_in, RingGoes, ring_in_accepted, sound-ring_in, counted_once, Leads, leads_none, leads_one, leads_on}
 use Rattle.euler_laws.proofs.faces.RingIn as moved
 use Rattle.shapes.specs.Common.{Taken, with_rings}
 use Rattle.shapes.proofs.Common.{none_above}
 use Rattle.split_drawing_laws.specs.drawings.DrawnIn.{Stays, DrawnIn, AreFreeForPairs}
 use Rattle.split_drawing_laws.specs.drawings.DrawingOps.{ring_ops}
-use Rattle.split_drawing_laws.proofs.drawings.Runs.{Leads, leads_none, leads_one, leads_on}
 use Rattle.split_drawing_laws.proofs.drawings.Stays.{stays_on}
 
 -- l is a ring of face f
@@ -47,12 +46,7 @@ module _ (N : Model) (l k : ℕ) (sound : Sound N) (goes : RingGoes N l k) where
 
   pub ring_stays : Stays N (ring_in N l k)
   unfolding tail
-  ring_stays = record {
-    halves = λ h there. subst (λ t. Has t (edge_of h)) (sym same_walks.edges) there;
-    tails = λ h there. ap (λ t. tail_in (unwrap_or (table.get t (edge_of h)) no_edge) (is_first h)) same_walks.edges;
-    vertices = same_walks.vertices;
-    faces = λ g there. subst (λ t. Has t g) (sym ring_faces) there;
-  }
+  ring_stays = grind (arith, same_walks, ring_faces)
 
   pub ring_back : (h : ℕ) → HasHalf (ring_in N l k) h → HasHalf N h
   ring_back h there = subst (λ t. Has t (edge_of h)) same_walks.edges there
@@ -166,9 +160,5 @@ rings_apart N f p x = omega (arith, count-filter p x (rings_of N f), counted_onc
 pub rings_are : (N : Model) (f : ℕ) (p : ℕ → Bool) → AreRings N f (filter p (rings_of N f))
 rings_are N f p l i =
     let w = listed_passes (λ k row. nat_eq row.face f && not (nat_eq (outer N f) k)) N.loops l (listed-from_in l (rings_of N f) (omega (arith, i, count-filter p l (rings_of N f)))) in
-    let t = both (nat_eq w.0.face f) (nat_eq (outer N f) l) w.2 in
-    record { there = ap is_some w.1; face = face_row N l w.0 w.1 ∙ eqb-true w.0.face f t.0; inner = eqb-false (outer N f) l t.1 } where
-      both : (a b : Bool) → (a && not b) ≡ true → (a ≡ true) × (b ≡ false)
-      both true true e = absurd (true≢false (sym e))
-      both true false e = (refl, refl)
-      both false b e = absurd (true≢false (sym e))
+    let t = and_parts (nat_eq w.0.face f) (not (nat_eq (outer N f) l)) w.2 in
+    record { there = ap is_some w.1; face = face_row N l w.0 w.1 ∙ eqb-true w.0.face f t.0; inner = eqb-false (outer N f) l (not-true (nat_eq (outer N f) l) t.1) }

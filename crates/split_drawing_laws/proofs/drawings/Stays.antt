@@ -60,9 +60,6 @@ module _ (M : Model) (u k e f l : ℕ) (can : CanDraw M u k e f l) where
   abbrev N : Model
   N = face_drawn M u k e f l
 
-  new_sound : Sound (face_drawn M u k e f l)
-  new_sound = draw_sound M u k e f l can
-
   pub second_in : IsIn k (cycle_of M u)
   second_in = subst (λ q. IsIn k (items_of (content M q))) (sym can.one_loop) (cycle_there M can.sound k can.k_there)
 
@@ -93,7 +90,7 @@ module _ (M : Model) (u k e f l : ℕ) (can : CanDraw M u k e f l) where
 
   -- what stands in another loop keeps loop and face
   pub draw_beside : (h : ℕ) → HasHalf M h → loop_of M h ≢ loop_of M u → (loop_of (face_drawn M u k e f l) h ≡ loop_of M h) × (face_at (face_drawn M u k e f l) h ≡ face_at M h)
-  draw_beside h there ne = kept_place M N can.sound new_sound h there (row_else (loop_of M h) ne (row_elsewhere M.loops (loop_of M h) l (loop_there M can.sound h there) can.loop_free))
+  draw_beside h there ne = kept_place M N can.sound (draw_sound M u k e f l can) h there (row_else (loop_of M h) ne (row_elsewhere M.loops (loop_of M h) l (loop_there M can.sound h there) can.loop_free))
 
   in_two : (h : ℕ) → HasHalf M h → loop_of M h ≡ loop_of M u → IsIn h (mef_old (plus e) u k (cycle_of M u)) ⊎ IsIn h (mef_new (minus e) u k (cycle_of M u))
   in_two h there at = grind (arith, cycle_there, IsIn_or_not, count-mef_old, count-mef_new, count-halves)
@@ -101,8 +98,8 @@ module _ (M : Model) (u k e f l : ℕ) (can : CanDraw M u k e f l) where
   -- what stands in u's loop is then of its face or of the new one
   pub draw_within : (h : ℕ) → HasHalf M h → loop_of M h ≡ loop_of M u → (face_at (face_drawn M u k e f l) h ≡ face_at M h) ⊎ (face_at (face_drawn M u k e f l) h ≡ f)
   draw_within h there at = elim (in_two h there at) [
-    | inl i ↦ inl (ap (face_of N) (stands_at N new_sound h (loop_of M u) _ (content_row N (loop_of M u) _ row_old) i) ∙ face_row N (loop_of M u) _ row_old ∙ ap (face_of M) (sym at))
-    | inr i ↦ inr (ap (face_of N) (stands_at N new_sound h l _ (content_row N l _ row_new) i) ∙ face_row N l _ row_new)
+    | inl i ↦ inl (ap (face_of N) (stands_at N (draw_sound M u k e f l can) h (loop_of M u) _ (content_row N (loop_of M u) _ row_old) i) ∙ face_row N (loop_of M u) _ row_old ∙ ap (face_of M) (sym at))
+    | inr i ↦ inr (ap (face_of N) (stands_at N (draw_sound M u k e f l can) h l _ (content_row N l _ row_new) i) ∙ face_row N l _ row_new)
   ]
 
   -- the new face is of the same solid

@@ -4,6 +4,7 @@ use Rattle.euler_operators.specs.Common.{Plane, count, tick, Model, loop_of, Sou
 use Rattle.euler_operators.proofs.Common.{tick_same}
 use Rattle.euler_operators.specs.declared.Op.{Op}
 use Rattle.euler_laws.specs.Laws.{AreAccepted, effects}
+use Rattle.euler_laws.proofs.Common.{Leads, leads_none, leads_on}
 use Rattle.shapes.specs.Common.{Growing, Drawing, FacePairs, drawn_between, next_drawn, faces_drawn, undrawn}
 use Rattle.split_drawing_laws.specs.drawings.DrawingOps.{face_ops, ops_from, drawing_ops}
 use Rattle.split_drawing_laws.specs.drawings.DrawnIn.{Stays, DrawnIn, AreFreeForPairs, AreLeftForPairs}
@@ -12,7 +13,6 @@ use Rattle.split_drawing_laws.specs.drawings.Laws.{CanBeDrawn}
 use Rattle.split_drawing_laws.proofs.drawings.Passes.{room_as}
 use Rattle.split_drawing_laws.specs.drawings.Passing.{Drawable, Ready}
 use Rattle.split_drawing_laws.proofs.drawings.Faces.{Gone, face_goes}
-use Rattle.split_drawing_laws.proofs.drawings.Runs.{Leads, leads_none, leads_on}
 use Rattle.split_drawing_laws.proofs.drawings.Stays.{stays_on}
 
 -- ---- the pairs of the faces that are still to be drawn

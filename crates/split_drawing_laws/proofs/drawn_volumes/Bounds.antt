@@ -1,5 +1,5 @@
 -- Faces by their half-edges: which half-edges bound a face, and when all corners of a face lie on a plane.
-use Rattle.std.proofs.Common.{◌≡◌, ◌≢◌, ℕ, true, ◌&&◌, List, [], ◌∷◌, Some, is_some, unwrap_or, refl, sym, ap, ◌∙◌, subst, arith, inl, inr, ◌⊎◌, ◌+◌, ◌++◌, true≢false}
+use Rattle.std.proofs.Common.{◌≡◌, ◌≢◌, ℕ, true, ◌&&◌, List, [], ◌∷◌, is_some, unwrap_or, refl, sym, ap, ◌∙◌, subst, arith, inl, inr, ◌⊎◌, ◌+◌, ◌++◌, true≢false}
 use Rattle.std.proofs.lemmas.Bool.{and_parts}
 use Rattle.std.proofs.lemmas.Bool.Decides.{eqb_tells}
 use Rattle.euler_operators.specs.Common.{Plane, moved, cross, is_on, count, IsIn, SameItems, tick, mate, plus, minus, Model, LoopContent, lone, cycle, items_of, tail, content, outer, point_of, loop_of, face_of, no_face, solid_of, cycle_of, Sound, Has, HasHalf, face_at, Point, rotate_to}
@@ -13,7 +13,7 @@ use Rattle.split_drawing_laws.proofs.crossings.Premises.{loop_in_face, item_in_f
 use Rattle.split_drawing_laws.proofs.crossings.Whole.{item_face}
 use Rattle.split_drawing_laws.proofs.cut_volumes.Told.{loop_on, loops_on, item_on}
 use Rattle.split_drawing_laws.proofs.drawings.Drawn.{CanDraw, draw_sound, face_drawn_new, face_drawn_else, CanJoin, join_sound, loops_joined_faces, face_drawn, loops_joined}
-use Rattle.split_drawing_laws.proofs.drawings.Stays.{new_halves, point_stays, start_stays, stands_at, row_old, row_new, row_else, edges_are, draw_stays, draw_tails, draw_beside, draw_within, row_joined, row_other, row_gone, joined_edges, join_stays, join_tails, join_faces}
+use Rattle.split_drawing_laws.proofs.drawings.Stays.{new_halves, point_stays, start_stays, stands_at, row_old, row_new, row_else, edges_are, draw_stays, draw_tails, draw_beside, draw_within, row_joined, row_other, row_gone, joined_edges, join_stays, join_tails, join_faces, draw_has}
 use Rattle.split_drawing_laws.proofs.loop_sides.Parting.{none_new, halves_drawn, halves_joined}
 
 -- the half-edges and the lone vertices of face f lie on the plane
@@ -147,15 +147,9 @@ module _ (N : Model) (u k e g l : ℕ) (can : CanDraw N u k e g l) where
   stays : Stays N K
   stays = draw_stays N u k e g l can
 
-  pub face_else : (h : ℕ) → h ≢ g → table.get (face_drawn N u k e g l).faces h ≡ table.get N.faces h
-  face_else = face_drawn_else N u k e g l
-
-  pub face_new : table.get (face_drawn N u k e g l).faces g ≡ Some (record { solid = solid_of N (face_at N u); outer = l })
-  face_new = face_drawn_new N u k e g l
-
   pub solid_new : solid_of (face_drawn N u k e g l) g ≡ solid_of N (face_at N u)
   unfolding solid_of
-  solid_new = ap (λ o. (unwrap_or o no_face).solid) face_new
+  solid_new = ap (λ o. (unwrap_or o no_face).solid) (face_drawn_new N u k e g l)
 
   pub F_there : Has N.faces (face_at N u)
   F_there = half_face N can.sound u can.u_there
@@ -230,16 +224,13 @@ module _ (N : Model) (u k e g l : ℕ) (can : CanDraw N u k e g l) where
   pub F_now : Has (face_drawn N u k e g l).faces (face_at N u)
   F_now = stays.faces F F_there
 
-  pub g_now : Has (face_drawn N u k e g l).faces g
-  g_now = ap is_some face_new
-
   -- a half-edge that was there bounds one of the two if it bounded F
   old_counts : (h : ℕ) → HasHalf N h → count h (boundary K F) + count h (boundary K g) ≡ count h (boundary N F)
   old_counts h was =
       let now : HasHalf K h = stays.halves h was in
       elim (face_then h was) [
         | inl same ↦
-            let none : count h (boundary K g) ≡ 0 = bound_none K K_sound g h g_now (λ t at. not_new (face_at N h) (half_face N can.sound h was) (sym same ∙ at)) in
+            let none : count h (boundary K g) ≡ 0 = bound_none K K_sound g h (draw_has N u k e g l can) (λ t at. not_new (face_at N h) (half_face N can.sound h was) (sym same ∙ at)) in
             elim (eqb_tells (face_at N h) F) [
               | inl at ↦ omega (arith, none, bound_one K K_sound F h now (same ∙ at.1), bound_one N can.sound F h was at.1)
               | inr at ↦ omega (arith, none, bound_none K K_sound F h F_now (λ t s. at.1 (sym same ∙ s)), bound_none N can.sound F h F_there (λ t. at.1))
@@ -250,14 +241,14 @@ module _ (N : Model) (u k e g l : ℕ) (can : CanDraw N u k e g l) where
   both : SameItems (boundary K F ++ boundary K g) (plus e ∷ minus e ∷ boundary N F)
   both h = count-append h (boundary K F) (boundary K g) ∙ two_halves h e (count h (boundary K F) + count h (boundary K g)) (boundary N F)
       (λ is. let now : HasHalf K h = subst (HasHalf K) (sym is) (new_halves N K e _ _ (edges_are N u k e g l can) can.edge_free).0 in
-      (omega (arith, bound_one K K_sound F h now (ap (face_at K) is ∙ plus_face), bound_none K K_sound g h g_now (λ t s. not_new F F_there (sym plus_face ∙ sym (ap (face_at K) is) ∙ s))), bound_none N can.sound F h F_there (λ t s. (none_new N e h can.edge_free t).0 is)))
+      (omega (arith, bound_one K K_sound F h now (ap (face_at K) is ∙ plus_face), bound_none K K_sound g h (draw_has N u k e g l can) (λ t s. not_new F F_there (sym plus_face ∙ sym (ap (face_at K) is) ∙ s))), bound_none N can.sound F h F_there (λ t s. (none_new N e h can.edge_free t).0 is)))
       (λ is. let now : HasHalf K h = subst (HasHalf K) (sym is) (new_halves N K e _ _ (edges_are N u k e g l can) can.edge_free).1 in
       (omega (arith, bound_none K K_sound F h F_now (λ t s. not_new F F_there (sym s ∙ ap (face_at K) is ∙ minus_face)), bound_one K K_sound g h now (ap (face_at K) is ∙ minus_face)), bound_none N can.sound F h F_there (λ t s. (none_new N e h can.edge_free t).1 is)))
       (λ a b. elim (half_there N h) [
         | inl was ↦ old_counts h was
         | inr not_was ↦
             let gone : HasHalf K h → ⊥ = λ now. elim (cases h now) [ inl was ↦ not_was was | inr new ↦ elim new [ inl is ↦ a is | inr is ↦ b is ] ] in
-            omega (arith, bound_none K K_sound F h F_now (λ t s. gone t), bound_none K K_sound g h g_now (λ t s. gone t), bound_none N can.sound F h F_there (λ t s. not_was t))
+            omega (arith, bound_none K K_sound F h F_now (λ t s. gone t), bound_none K K_sound g h (draw_has N u k e g l can) (λ t s. gone t), bound_none N can.sound F h F_there (λ t s. not_was t))
       ])
 
   pub normals_sum : moved (normal (face_drawn N u k e g l) (face_at N u)) (normal (face_drawn N u k e g l) g) ≡ normal N (face_at N u)
@@ -273,7 +264,7 @@ module _ (N : Model) (u k e g l : ℕ) (can : CanDraw N u k e g l) where
   -- and its anchor
   pub anchor_else : (f : ℕ) → Has N.faces f → f ≢ face_at N u → anchor (face_drawn N u k e g l) f ≡ anchor N f
   anchor_else f there ne = let o = can.sound.outers_there f there in
-      anchor_still N K can.sound stays f there (same_outer N K f (face_else f (not_new f there))) (same_content N K (outer N f)
+      anchor_still N K can.sound stays f there (same_outer N K f (face_drawn_else N u k e g l f (not_new f there))) (same_content N K (outer N f)
       (row_else N u k e g l can (outer N f) (λ s. ne (sym o.1 ∙ ap (face_of N) s)) (row_elsewhere N.loops (outer N f) l o.0 can.loop_free)))
 
 -- ---- two loops of a face joined by an edge: the face lies on its planes and keeps its normal
@@ -290,9 +281,6 @@ module _ (N : Model) (c d e : ℕ) (can : CanJoin N c d e) where
 
   keeps : Stays N J
   keeps = join_stays N c d e can
-
-  pub faces_joined : (loops_joined N c d e).faces ≡ N.faces
-  faces_joined = loops_joined_faces N c d e
 
   at_joined : (h : ℕ) → count h (plus e ∷ minus e ∷ []) ≡ 1 → face_at J h ≡ G
   at_joined h one = ap (face_of J) (stands_at J J_sound h (loop_of N c) _ (content_row J (loop_of N c) _ (row_joined N c d e can))
@@ -355,5 +343,5 @@ module _ (N : Model) (c d e : ℕ) (can : CanJoin N c d e) where
     -- another face keeps its anchor
     pub anchor_joined : f ≢ face_at N c → anchor (loops_joined N c d e) f ≡ anchor N f
     anchor_joined ne = let o = can.sound.outers_there f there in
-        anchor_still N J can.sound keeps f there (same_outer N J f (ap (λ t. table.get t f) faces_joined)) (same_content N J (outer N f)
+        anchor_still N J can.sound keeps f there (same_outer N J f (ap (λ t. table.get t f) (loops_joined_faces N c d e))) (same_content N J (outer N f)
         (row_other N c d e can (outer N f) (λ s. ne (sym o.1 ∙ ap (face_of N) s)) (λ s. ne (sym o.1 ∙ ap (face_of N) s ∙ sym can.one_face))))

@@ -5,13 +5,13 @@ use Rattle.euler_operators.specs.Common.{Plane, Model, solid_of, faces_of, Sound
 use Rattle.euler_operators.specs.Table as table
 use Rattle.euler_operators.proofs.Common.{same_solid, tick_same, no_row}
 use Rattle.euler_laws.proofs.Common.{half_face, IsIn-from_listed, listed-from_in}
-use Rattle.shapes.specs.Common.{Drawing, drawn_between, FacePairs, next_drawn, faces_drawn, undrawn, straddling_pairs, with_drawings, six_volume, plane_of, is_flat, straddling_faces, with_crossings, first_conditions}
+use Rattle.shapes.specs.Common.{Drawing, drawn_between, FacePairs, next_drawn, faces_drawn, undrawn, straddling_pairs, with_drawings, six_volume, plane_of, straddling_faces, with_crossings, first_conditions}
 use Rattle.split_drawing_laws.specs.drawings.DrawnIn.{DrawnIn}
 use Rattle.split_drawing_laws.specs.drawings.Pairs.{pairs_in}
 use Rattle.split_drawing_laws.specs.drawings.Passing.{Ready, Drawable}
 use Rattle.split_drawing_laws.specs.drawings.Laws.{CanBeDrawn}
 use Rattle.split_drawing_laws.specs.drawn_volumes.Laws.{LiesOnOld}
-use Rattle.split_drawing_laws.proofs.drawings.Drawn.{CanDraw, CanJoin, face_drawn, loops_joined}
+use Rattle.split_drawing_laws.proofs.drawings.Drawn.{CanDraw, CanJoin, face_drawn, loops_joined, face_drawn_else, loops_joined_faces}
 use Rattle.split_drawing_laws.proofs.drawings.Rings.{RingOf, Newer, ring_faces}
 use Rattle.split_drawing_laws.proofs.face_sides.Beside.{never_free}
 use Rattle.split_drawing_laws.proofs.drawn_volumes.Bounds.{OnFace, on_face, face_on}
@@ -45,7 +45,7 @@ module _ (M : Model) (f : ℕ) (sound : Sound M) (f_there : Has M.faces f) (r : 
     J = loops_joined X c d e
 
     same : J.faces ≡ X.faces
-    same = draws.faces_joined X c d e can
+    same = loops_joined_faces X c d e
 
     was : (g : ℕ) → Has J.faces g → Has X.faces g
     was g there = subst (λ t. Has t g) same there
@@ -80,10 +80,10 @@ module _ (M : Model) (f : ℕ) (sound : Sound M) (f_there : Has M.faces f) (r : 
     ]
 
     old_row : (h : ℕ) → Has X.faces h → table.get K.faces h ≡ table.get X.faces h
-    old_row h there = draws.face_else X u k e g l can h (draws.not_new X u k e g l can h there)
+    old_row h there = face_drawn_else X u k e g l h (draws.not_new X u k e g l can h there)
 
     had_row : (h : ℕ) → h ≢ g → Has K.faces h → Has X.faces h
-    had_row h ne there = sym (ap is_some (draws.face_else X u k e g l can h ne)) ∙ there
+    had_row h ne there = sym (ap is_some (face_drawn_else X u k e g l h ne)) ∙ there
 
     pub draw_within : Within M (face_drawn X u k e g l) f
     draw_within = record {
@@ -97,7 +97,7 @@ module _ (M : Model) (f : ℕ) (sound : Sound M) (f_there : Has M.faces f) (r : 
       old_solid = λ h there. same_solid X K h (old_row h (w.there h there)) ∙ w.old_solid h there;
       new_solid = λ h there none. elim (eqb_tells h g) [
         | inl s ↦ ap (solid_of K) s.1 ∙ draws.solid_new X u k e g l can ∙ comes_solid
-        | inr s ↦ same_solid X K h (draws.face_else X u k e g l can h s.1) ∙ w.new_solid h (had_row h s.1 there) none
+        | inr s ↦ same_solid X K h (face_drawn_else X u k e g l h s.1) ∙ w.new_solid h (had_row h s.1 there) none
       ];
     }
 
@@ -128,7 +128,7 @@ module _ (M : Model) (f : ℕ) (sound : Sound M) (f_there : Has M.faces f) (r : 
 
 -- ---- one face drawn
 
-face_within : (p : Plane) (f : ℕ) (qs : List (ℕ × ℕ)) (d : Drawing) (n : ℕ) → Ready p f qs d n → Has d.model.faces f → (r : Plane) → IsPlane r → OnFace d.model r f → Within d.model (drawn_between p f qs d).model f
+pub face_within : (p : Plane) (f : ℕ) (qs : List (ℕ × ℕ)) (d : Drawing) (n : ℕ) → Ready p f qs d n → Has d.model.faces f → (r : Plane) → IsPlane r → OnFace d.model r f → Within d.model (drawn_between p f qs d).model f
 face_within p f qs d n w there r some on = between_keeps p f qs d n w (λ X. Within d.model X f)
     (join_within d.model f w.sound there r some on)
     (λ N q e g l can drawn fits. draw_within d.model f w.sound there r some on N q.0 q.1 e g l can (drawn.within q.0 fits.u_there fits.u_face))
@@ -219,35 +219,29 @@ module _ (M : Model) (s : ℕ) (p : Plane) (t : ℕ) (sound : Sound M) (accepted
   was_solid : (f : ℕ) → solid_of N f ≡ s → solid_of M f ≡ s
   was_solid f of_s = sym (solid_stays M N same_faces f) ∙ of_s
 
-  module _ (f : ℕ) (there : Has N.faces f) (of_s : solid_of N f ≡ s) where
-    flat : is_flat M f ≡ true
-    flat = all_flat M s p t sound accepted f (was_there f there) (was_solid f of_s)
-
-    some_plane : IsPlane (plane_of M f)
-    some_plane = (flat_on M f flat).0
-
-    on_plane : OnFace N (plane_of M f) f
-    on_plane = on_face N N_sound (plane_of M f) f ((crossings_measured M s p t sound accepted).planes f (plane_of M f) (flat_on M f flat).1)
-
-  lies_flat : (f : ℕ) → Has N.faces f → solid_of N f ≡ s → LiesFlat N f
-  lies_flat f there of_s = record { plane = plane_of M f; some = some_plane f there of_s; on = on_plane f there of_s }
+  -- a face of the solid lies on its own plane
+  pub lies_flat : (f : ℕ) → Has N.faces f → solid_of N f ≡ s → IsPlane (plane_of M f) × OnFace N (plane_of M f) f
+  lies_flat f there of_s =
+      let flat = flat_on M f (all_flat M s p t sound accepted f (was_there f there) (was_solid f of_s)) in
+      (flat.0, on_face N N_sound (plane_of M f) f ((crossings_measured M s p t sound accepted).planes f (plane_of M f) flat.1))
 
   of_s : (f : ℕ) → IsIn f (straddling_faces M p s) → Has N.faces f × (solid_of N f ≡ s)
   of_s f i = let w = face_facts M s p f i in (subst (λ x. Has x f) (sym same_faces) w.0, solid_stays M N same_faces f ∙ w.1)
 
   spread : Spread N D s
-  spread = all_spread N s p lies_flat (undrawn (with_crossings M s p)) (straddling_pairs M s p) 0 (drawable (with_crossings M s p) (straddling_pairs M s p) can)
+  spread = all_spread N s p (λ f there of_s. let w = lies_flat f there of_s in record { plane = plane_of M f; some = w.0; on = w.1 }) (undrawn (with_crossings M s p)) (straddling_pairs M s p) 0 (drawable (with_crossings M s p) (straddling_pairs M s p) can)
       (λ f i. of_s f (subst (IsIn f) (faces_are M N p (straddling_faces M p s)) i)) (grind arith)
 
   lies_now : (f : ℕ) → IsIn f (faces_of D s) → LiesOnOld M D s f
   lies_now f i =
       let w = solid_facts D s f i in
       let c : Comes N D s f = spread.origin f w.0 w.1 in
+      let flat = lies_flat c.face c.there c.solid in
       record {
         face = c.face;
         of_solid = listed-from_in c.face (faces_of M s) (in_solid M c.face s (was_there c.face c.there) (was_solid c.face c.solid));
         own = λ there. c.own (subst (λ x. Has x f) (sym same_faces) there);
-        on = λ j. some_plane c.face c.there c.solid j && face_on D D_sound (plane_of M c.face) f w.0 (c.on (plane_of M c.face) (on_plane c.face c.there c.solid)) j;
+        on = λ j. flat.0 j && face_on D D_sound (plane_of M c.face) f w.0 (c.on (plane_of M c.face) flat.1) j;
       }
 
   pub drawn_lies : (f : ℕ) → lists (faces_of (with_drawings M s p).model s) f ≡ true → LiesOnOld M (with_drawings M s p).model s f

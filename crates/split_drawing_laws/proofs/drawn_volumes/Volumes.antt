@@ -8,11 +8,11 @@ use Rattle.euler_laws.proofs.Common.{RingGoes}
 use Rattle.shapes.specs.Common.{boundary, normal, anchor, six_volume}
 use Rattle.shapes.proofs.Common.{area-append, area_same, total, volume_of, unchanged, total_same, anchor_on, told_anywhere}
 use Rattle.split_drawing_laws.proofs.drawn_volumes.Bounds.{OnFace, anchor_still, bound_one, bound_none, half_there, area_after, one_count, no_count, normal_kept, normal_is, face_on}
-use Rattle.split_drawing_laws.proofs.drawings.Stays.{point_stays, start_stays}
+use Rattle.split_drawing_laws.proofs.drawings.Stays.{point_stays, start_stays, draw_has}
 use Rattle.split_drawing_laws.proofs.drawings.Rings.{ring_sound, same_walks, ring_stays, ring_back, place_is, face_else, face_kept, ring_faces}
 use Rattle.std.proofs.lemmas.Int.{ints}
 use Rattle.euler_operators.specs.Table as table
-use Rattle.split_drawing_laws.proofs.drawings.Drawn.{CanDraw, CanJoin, face_drawn, loops_joined}
+use Rattle.split_drawing_laws.proofs.drawings.Drawn.{CanDraw, CanJoin, face_drawn, loops_joined, face_drawn_else, loops_joined_faces}
 use Rattle.split_drawing_laws.proofs.drawn_volumes.Bounds as draws
 use Rattle.split_drawing_laws.proofs.cut_volumes.Told.{counted_in, counted_out, same_count, six_is, changed_one}
 use Rattle.split_drawing_laws.proofs.crossings.Premises.{solid_facts}
@@ -120,7 +120,7 @@ module _ (N : Model) (u k e g l : ℕ) (can : CanDraw N u k e g l) (r : Plane) (
       let p : Point = anchor N F in
       let on : is_on r p ≡ true = anchor_lies N can.sound r some F (draws.F_there N u k e g l can) w in
       ap (dot p) (sym (draws.normals_sum N u k e g l can)) ∙ dot_sum p (normal K F) (normal K g)
-      ∙ sym (λ i. told_from K (draws.K_sound N u k e g l can) r some F p (draws.F_now N u k e g l can) (draws.old_on N u k e g l can r F (draws.F_there N u k e g l can) w) on i +ℤ told_from K (draws.K_sound N u k e g l can) r some g p (draws.g_now N u k e g l can) (draws.new_on N u k e g l can r w) on i)
+      ∙ sym (λ i. told_from K (draws.K_sound N u k e g l can) r some F p (draws.F_now N u k e g l can) (draws.old_on N u k e g l can r F (draws.F_there N u k e g l can) w) on i +ℤ told_from K (draws.K_sound N u k e g l can) r some g p (draw_has N u k e g l can) (draws.new_on N u k e g l can r w) on i)
 
   else_told : (f : ℕ) → Has N.faces f → f ≢ F → volume_of N f ≡ volume_of K f
   else_told f there ne = sym (λ i. dot (draws.anchor_else N u k e g l can f there ne i) (draws.normal_else N u k e g l can f there ne i))
@@ -129,11 +129,11 @@ module _ (N : Model) (u k e g l : ℕ) (can : CanDraw N u k e g l) (r : Plane) (
   g_was v = counted_out N g v (λ there _. draws.not_new N u k e g l can g there refl)
 
   else_count : (v f : ℕ) → f ≢ g → count f (faces_of K v) ≡ count f (faces_of N v)
-  else_count v f ne = same_count N K v f (draws.face_else N u k e g l can f ne)
+  else_count v f ne = same_count N K v f (face_drawn_else N u k e g l f ne)
 
   with_new : (v : ℕ) → solid_of N F ≡ v → SameItems (faces_of K v) (g ∷ faces_of N v)
   with_new v at f = elim (eqb_tells f g) [
-    | inl s ↦ grind (arith, tick_same, counted_in, draws.g_now N u k e g l can, draws.solid_new N u k e g l can, g_was)
+    | inl s ↦ grind (arith, tick_same, counted_in, draw_has N u k e g l can, draws.solid_new N u k e g l can, g_was)
     | inr s ↦ omega (arith, tick_other f g s.1, else_count v f s.1)
   ]
 
@@ -161,13 +161,13 @@ module _ (N : Model) (c d e : ℕ) (can : CanJoin N c d e) (r : Plane) (some : I
   joined_told f there = elim (eqb_tells f (face_at N c)) [
     | inl at ↦
         let here : OnFace N r f = subst (OnFace N r) (sym at.1) w in
-        told_from J (draws.J_sound N c d e can) r some f (anchor N f) (subst (λ t. Has t f) (sym (draws.faces_joined N c d e can)) there) (draws.joined_on N c d e can r f here) (anchor_lies N can.sound r some f there here)
+        told_from J (draws.J_sound N c d e can) r some f (anchor N f) (subst (λ t. Has t f) (sym (loops_joined_faces N c d e)) there) (draws.joined_on N c d e can r f here) (anchor_lies N can.sound r some f there here)
         ∙ ap (dot (anchor N f)) (draws.normal_joined N c d e can f there)
     | inr ne ↦ λ i. dot (draws.anchor_joined N c d e can f there ne.1 i) (draws.normal_joined N c d e can f there i)
   ]
 
   pub join_volumes : (v : ℕ) → six_volume (loops_joined N c d e) v ≡ six_volume N v
-  join_volumes v = grind (arith, six_is, total, volume_of, draws.faces_joined, unchanged, joined_told, solid_facts)
+  join_volumes v = grind (arith, six_is, total, volume_of, loops_joined_faces, unchanged, joined_told, solid_facts)
 
 -- ---- a ring moved
 

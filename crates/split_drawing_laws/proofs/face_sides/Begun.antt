@@ -1,8 +1,7 @@
 -- The loops of a solid whose faces straddle a plane: each holds a half-edge, which tells its side, so that once the faces are drawn each lies on one side.
 use Rattle.std.proofs.Common.{◌≡◌, ℕ, Bool, true, false, ◌&&◌, ◌||◌, List, [], ◌∷◌, is_some, refl, sym, ap, ◌∙◌, subst, arith, inl, inr, map, not, nat_eq, eqb-true, eq-eqb}
-use Rattle.std.proofs.lemmas.Bool.Decides.{eqb_tells}
 use Rattle.std.proofs.lemmas.Bool.{false_from_ne_true}
-use Rattle.euler_operators.proofs.Common.{first_fails, and_false, tick_other, count-append, tick_same, IsIn_or_not, in-holds, content_cycle, cycle_there, lone_there, same_outer, never_lone, same_solid as solid_same, zero_first_where, IsIn-map, IsIn-filter, IsIn_one, IsIn_some_head, from_map}
+use Rattle.euler_operators.proofs.Common.{first_fails, and_false, tick_other, count-append, tick_same, IsIn_or_not, in-holds, content_cycle, cycle_there, lone_there, same_outer, never_lone, same_solid as solid_same, zero_first_where, IsIn-map, IsIn-filter, IsIn_some_head, from_map}
 use Rattle.euler_operators.specs.Common.{Plane, is_above, is_below, count, IsIn, head_or, Model, cycle, items_of, content, tail, loop_of, face_of, solid_of, outer, after, cycle_of, point_of, faces_of, LoopContent, has_half, Sound, Has, HasHalf, face_at, is_lone, lists}
 use Rattle.euler_operators.specs.Table as table
 use Rattle.euler_laws.proofs.Common.{half_after, loop_after, half_face, no_zero, loop_row, not_lone_cycle, IsIn-from_listed, listed-from_in, none_counted}
@@ -15,7 +14,7 @@ use Rattle.split_drawing_laws.proofs.crossings.Premises.{item_in_face, face_fact
 use Rattle.split_drawing_laws.proofs.crossings.Whole.{can_cut, crossings_keep, crossings_sound, same_solid}
 use Rattle.split_drawing_laws.proofs.pairs.LoopPlaces.{none_passes}
 use Rattle.split_drawing_laws.proofs.pairs.Whole.{place_now, pairs_fit, lone_pair, can_be_drawn, outer_cut}
-use Rattle.split_drawing_laws.specs.drawings.Pairs.{AllFit, LoneInOneLoop}
+use Rattle.split_drawing_laws.specs.drawings.Pairs.{AllFit}
 use Rattle.split_drawing_laws.specs.loop_sides.Parted.{ends, LiesOn, Parted}
 use Rattle.split_drawing_laws.specs.half_sides.HalfSides.{half_is_above, side_of, is_own}
 use Rattle.split_drawing_laws.proofs.half_sides.PlaceEnds.{side_within, place_in_ends, pairs_up, side_beside, take_sides}
@@ -182,22 +181,10 @@ module _ (M : Model) (s : ℕ) (p : Plane) (t : ℕ) (sound : Sound M) (begins :
     x_end = place_in_ends M s p t sound begins f i x x_place
 
     single_outer : (q : ℕ × ℕ) → drawn_pairs M N p f ≡ q ∷ [] → loop_of N q.0 ≡ outer N f
-    single_outer q e = elim (eqb_tells (from_place N p x) q.0) [
-      | inl a ↦ ap (loop_of N) (sym a.1) ∙ x_loop
-      | inr a ↦
-          let two : IsIn (from_place N p x) (q.0 ∷ q.1 ∷ []) = subst (λ qs. IsIn (from_place N p x) (ends qs)) e x_end in
-          let one : from_place N p x ≡ q.1 = IsIn_one q.1 (from_place N p x) (omega (arith, two, tick_other (from_place N p x) q.0 a.1)) in
-          eqb-true (loop_of N q.0) (loop_of N q.1) (subst (LoneInOneLoop N) e (lone_pair M s p t sound begins f i)) ∙ ap (loop_of N) (sym one) ∙ x_loop
-    ]
+    single_outer q e = grind (arith, x_loop, x_end, tick_other, eqb-true, lone_pair)
 
     pub pairs_of : PairsOf N (side_of M s p) p f (drawn_pairs M N p f)
-    pairs_of = record {
-      some_pair = λ e. absurd (let j : IsIn (from_place N p x) [] = subst (λ qs. IsIn (from_place N p x) (ends qs)) e x_end in omega (arith, j));
-      old = fits_old N f (drawn_pairs M N p f) (pairs_fit M s p t sound begins f i);
-      ups = pairs_up M s p t sound begins f i;
-      single = single_outer;
-      rings = ring_side;
-    }
+    pairs_of = grind (arith, x_end, fits_old, pairs_fit, pairs_up, single_outer, ring_side)
 
   module _ (ends : (faces_drawn p (undrawn (with_crossings M s p)) (straddling_pairs M s p)).stuck ≡ 0) where
     abbrev D : Model
@@ -256,9 +243,7 @@ module _ (M : Model) (s : ℕ) (p : Plane) (t : ℕ) (sound : Sound M) (begins :
       b = sided.0
 
       loop_cycle : (q : ℕ) → IsIn q (loops_of D f) → content D q ≡ cycle (items_of (content D q))
-      loop_cycle q i =
-          let w = sided.1 q (loop_facts D D_sound f there q i).0 (loop_facts D D_sound f there q i).1 in
-          cycle_of_items (content D q) _ (ap (content D) (sym w.held.at) ∙ content_cycle D D_sound w.held.half (stage.stays.halves w.held.half w.held.old))
+      loop_cycle q i = grind (arith, sided, loop_facts, D_sound, cycle_of_items, content_cycle, stage)
 
       item_lies : (h q : ℕ) → IsIn q (loops_of D f) → IsIn h (items_of (content D q)) → LiesOn p b (start D h)
       item_lies h q i j =

@@ -19,10 +19,7 @@ use Rattle.split_drawing_laws.proofs.face_sides.Beside.{HoldsOld, u_goes, k_stay
 
 pub any_from : (t : ℕ → Bool) (xs : List ℕ) → list_any t xs ≡ true → (x : ℕ) × IsIn x xs × (t x ≡ true)
 any_from t [] e = absurd (true≢false (sym e))
-any_from t (x ∷ xs) e = first_or_later (t x) refl e (any_from t xs) where
-  first_or_later : (b : Bool) → t x ≡ b → (b || list_any t xs) ≡ true → (list_any t xs ≡ true → (y : ℕ) × IsIn y xs × (t y ≡ true)) → (y : ℕ) × IsIn y (x ∷ xs) × (t y ≡ true)
-  first_or_later true a e more = (x, omega (arith, tick_same x), a)
-  first_or_later false a e more = let r = more e in (r.0, omega (arith, r.1), r.2)
+any_from t (x ∷ xs) e = grind (arith, tick_same, any_from t xs)
 
 pub none_from : (t : ℕ → Bool) (xs : List ℕ) → ((x : ℕ) → IsIn x xs → t x ≡ false) → list_any t xs ≡ false
 none_from t [] none = refl

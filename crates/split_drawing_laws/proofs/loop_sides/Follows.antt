@@ -89,9 +89,7 @@ module _ (Old New : ℕ → Type 0) (next : ℕ → ℕ) (side : ℕ → Bool) (
       (ap side' g ∙ side_m h m c d side w.new_apart ∙ sym (grind arith) ∙ sym (old_side x o), ap (λ y. count y then_open) g ∙ not_open m w.none_new.1)
 
   at_h : (side' (F h) ≡ side' h) × (count (F h) then_open ≡ 0)
-  at_h =
-      let g : F h ≡ d = splice_at (after_mev next h m c d) h m ∙ mev_at_m next h m c d in
-      (ap side' g ∙ old_side d w.d_old ∙ sym (side_h h m c d side), ap (λ y. count y then_open) g ∙ omega (arith, w.closed d, tick_same d, w.apart d))
+  at_h = grind (arith, splice_at, mev_at_m, old_side, side_h, tick_same)
 
   at_m : (side' (F m) ≡ side' m) × (count (F m) then_open ≡ 0)
   at_m =

@@ -1,11 +1,10 @@
 -- What follows what in a model, once an edge is drawn or loops are joined.
-use Rattle.std.proofs.Common.{◌≡◌, ◌≢◌, ℕ, ◌++◌, None, is_some, sym, ap, ◌∙◌, subst, arith, ◌⊎◌, inl, inr, true≢false, ◌+◌, Bool, true, false, not, List, [], ◌∷◌, ℤ, pos, refl, int_lt, int_eq}
+use Rattle.std.proofs.Common.{◌≡◌, ◌≢◌, ℕ, ◌++◌, None, is_some, sym, ap, ◌∙◌, subst, arith, ◌⊎◌, inl, inr, true≢false, ◌+◌, Bool, true, false, not, List, [], ◌∷◌, pos, refl, int_lt}
 use Rattle.std.proofs.lemmas.Bool.Decides.{eqb_tells}
-use Rattle.std.proofs.lemmas.Int.{ints}
 use Rattle.euler_operators.specs.Common.{count, IsIn, IsApart, tick, head_or, IsRing, IsPath, mef_old, mef_new, mekr_ring, after_mef, edge_of, plus, minus, Model, items_of, loop_of, content, cycle_of, after, tail, point_of, Sound, Has, HasHalf, Point, Plane, height, is_on, ring_in}
 use Rattle.euler_operators.specs.Table as table
-use Rattle.euler_operators.proofs.Common.{count-append, IsIn_or_not, tick_same, tick_other, next_is_successor, IsRing-mef, IsRing-mekr, IsRing-led_over_other, IsRing-splice_other, plus_row, minus_row, same_edge, mate_plus, plus_other, content_row, in-holds, cycle_there, cycle_sound, same_content, loop_there, row_elsewhere, get-put_other}
-use Rattle.euler_laws.proofs.Common.{light, none_free, half_after}
+use Rattle.euler_operators.proofs.Common.{count-append, IsIn_or_not, tick_same, tick_other, next_is_successor, IsRing-mef, IsRing-mekr, IsRing-led_over_other, IsRing-splice_other, plus_row, minus_row, same_edge, mate_plus, plus_other, content_row, in-holds, cycle_there, cycle_sound, same_content, loop_there, row_elsewhere, get-put_other, level_is}
+use Rattle.euler_laws.proofs.Common.{light, none_free, half_after, none_else}
 use Rattle.shapes.specs.Common.{start}
 use Rattle.split_drawing_laws.specs.drawings.DrawnIn.{Stays, DrawnIn}
 use Rattle.split_drawing_laws.specs.loop_sides.Parted.{Sided, LiesOn, Parted}
@@ -18,13 +17,6 @@ use Rattle.split_drawing_laws.proofs.loop_sides.Follows.{Closing, sides_close, w
 rings_lead : (K : Model) (F : ℕ → ℕ) → Sound K → ((q : ℕ) → Has K.loops q → IsRing F (items_of (content K q))) → (x : ℕ) → HasHalf K x → after K x ≡ F x
 unfolding after
 rings_lead K F sound ring x there = sym (next_is_successor F (cycle_of K x) x (ring (loop_of K x) (loop_there K sound x there)) (cycle_there K sound x there))
-
--- a half-edge stands in its loop only
-only_there : (M : Model) → Sound M → (x q : ℕ) → q ≢ loop_of M x → count x (items_of (content M q)) ≡ 0
-only_there M sound x q ne = elim (IsIn_or_not x (items_of (content M q))) [
-  | inl i ↦ absurd (ne (sym (sound.one_loop x q (in-holds x (content M q) i))))
-  | inr n ↦ n
-]
 
 -- the half-edges of a model with one edge more
 new_cases : (M N : Model) (e : ℕ) → ((n : ℕ) → n ≢ e → table.get N.edges n ≡ table.get M.edges n) → (x : ℕ) → HasHalf N x → HasHalf M x ⊎ ((x ≡ plus e) ⊎ (x ≡ minus e))
@@ -50,8 +42,8 @@ module _ (M : Model) (e c d : ℕ) (sound : Sound M) (free : table.get M.edges e
   -- a loop with neither corner is left alone
   other_ring : (q : ℕ) → q ≢ loop_of M c → q ≢ loop_of M d → IsRing (after_mef (after M) (plus e) (minus e) c d) (items_of (content M q))
   other_ring q a b = IsRing-splice_other _ (plus e) (minus e) (items_of (content M q)) (plus_in_no_loop q) (minus_in_no_loop q)
-      (IsRing-led_over_other _ d (minus e) (items_of (content M q)) (only_there M sound d q b) (minus_in_no_loop q)
-      (IsRing-led_over_other (after M) c (plus e) (items_of (content M q)) (only_there M sound c q a) (plus_in_no_loop q) (ring_of q)))
+      (IsRing-led_over_other _ d (minus e) (items_of (content M q)) (none_else M sound d q b) (minus_in_no_loop q)
+      (IsRing-led_over_other (after M) c (plus e) (items_of (content M q)) (none_else M sound c q a) (plus_in_no_loop q) (ring_of q)))
 
 -- ---- an edge drawn
 
@@ -118,12 +110,8 @@ module _ (M : Model) (c d e : ℕ) (can : CanJoin M c d e) where
 
 -- a point on the plane lies on both closed sides
 pub on_both : (p : Plane) (q : Point) → is_on p q ≡ true → (b : Bool) → LiesOn p b q
-on_both p q e true = not_below (height p q) e where
-  not_below : (n : ℤ) → int_eq n (pos 0) ≡ true → int_lt n (pos 0) ≡ false
-  not_below n z = grind (arith, ints)
-on_both p q e false = not_above (height p q) e where
-  not_above : (n : ℤ) → int_eq n (pos 0) ≡ true → int_lt (pos 0) n ≡ false
-  not_above n z = grind (arith, ints)
+on_both p q e true = ap (λ n. int_lt n (pos 0)) (level_is (height p q) e)
+on_both p q e false = ap (int_lt (pos 0)) (level_is (height p q) e)
 
 -- what is asked of the two open places c and d that are closed: `places` are open before and `rest` after
 pub record Opposed (B : Model) (p : Plane) (first : ℕ → Bool) (c d : ℕ) (places rest : List ℕ) : Type 0 where
@@ -228,8 +216,7 @@ module _ (M B N : Model) (p : Plane) (first : ℕ → Bool) (OfSolid : ℕ → T
 path_constant : (next : ℕ → ℕ) (side : ℕ → Bool) (xs : List ℕ) (d : ℕ) → IsPath next xs d → ((x : ℕ) → IsIn x xs → side (next x) ≡ side x) →
     (side (head_or d xs) ≡ side d) × ((z : ℕ) → IsIn z xs → side z ≡ side d)
 path_constant next side [] d path stays = (refl, λ z i. absurd (omega (arith, i)))
-path_constant next side (x ∷ xs) d path stays =
-    grind (arith, tick_same, tick_other, path_constant next side xs d path.1 (λ z i. stays z (omega (arith, i))))
+path_constant next side (x ∷ xs) d path stays = grind (arith, tick_same, tick_other, path_constant next side xs d path.1 (λ z i. stays z (omega (arith, i))))
 
 module _ (B N : Model) (p : Plane) (first : ℕ → Bool) (OfSolid : ℕ → Type 0) (sound : Sound N) (w : Parted B N p first OfSolid []) where
   half_in : (x z : ℕ) → IsIn z (cycle_of N x) → HasHalf N z

@@ -133,8 +133,6 @@ module _ (B : Model) (p : Plane) (first : ℕ → Bool) (S : ℕ → Type 0) (ot
         )
     shared_or_not false e free = at_drawn free
 
--- ---- the sides of half-edges once all faces are drawn: each loop lies on one closed side
-
 -- ---- what a drawing keeps, whatever is drawn
 
 -- D is d with something drawn: it takes no vertex, and where d is stuck D is
@@ -173,7 +171,7 @@ faces_go_on p d fs = goes_all (next_drawn p) (λ d f. grind (arith, goes_all, jo
 pub not_stuck : (p : Plane) (d : Drawing) (fs : List FacePairs) → (fold (next_drawn p) d fs).stuck ≡ 0 → d.stuck ≡ 0
 not_stuck p d fs free = elim (eqb_tells d.stuck 0) [ inl e ↦ e.1 | inr e ↦ absurd ((faces_go_on p d fs).stuck e.1 free) ]
 
--- ---- all faces
+-- ---- all faces: each loop lies on one closed side
 
 pub faces_parted : (B : Model) (first : ℕ → Bool) (S : ℕ → Type 0) (p : Plane) (d : Drawing) (fs : List FacePairs) (n : ℕ) → Drawable d fs n → ((f : ℕ) → IsIn f (map (λ f. f.face) fs) → f ≢ 0) →
     FacesCross B p first fs → (fold (next_drawn p) d fs).stuck ≡ 0 → Open B (all_ends fs) → Parted B d.model p first S (all_ends fs) → Parted B (fold (next_drawn p) d fs).model p first S []

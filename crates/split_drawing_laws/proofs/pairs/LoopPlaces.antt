@@ -85,10 +85,7 @@ count_within x (y ∷ ys) = omega (arith, count_within x ys, tick_le x y)
 
 some_picked : (t : ℕ → Bool) (xs : List ℕ) → list_any t xs ≡ true → 1 ≤ length (filter t xs)
 some_picked t [] e = absurd (true≢false (sym e))
-some_picked t (x ∷ xs) e = first_or_later (t x) e (some_picked t xs) where
-  first_or_later : (b : Bool) → (b || list_any t xs) ≡ true → (list_any t xs ≡ true → 1 ≤ length (filter t xs)) → 1 ≤ length (cond b (x ∷ filter t xs) (filter t xs))
-  first_or_later true e more = omega arith
-  first_or_later false e more = more e
+some_picked t (x ∷ xs) e = grind (arith, some_picked t xs)
 
 -- a test that no item passes is false of each
 pub none_passes : (t : ℕ → Bool) (x : ℕ) (xs : List ℕ) → list_any t xs ≡ false → IsIn x xs → t x ≡ false

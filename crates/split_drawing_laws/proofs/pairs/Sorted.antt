@@ -46,11 +46,7 @@ module _ (M N : Model) (p : Plane) where
 
   -- an even number of places, where two alone are those of one loop
   pub lone_in_loop : (l : ℕ) (hs : List ℕ) → IsEven (length hs) → (length hs ≡ 2 → (x : ℕ) → IsIn x hs → loop_of N (from_place N p x) ≡ l) → LoneInOneLoop N (drawn hs)
-  lone_in_loop l [] even two = tt
-  lone_in_loop l (h ∷ []) even two = tt
-  lone_in_loop l (h ∷ k ∷ []) even two = grind (arith, eq-eqb)
-  lone_in_loop l (h ∷ k ∷ j ∷ []) even two = absurd (omega (arith, even.1))
-  lone_in_loop l (h ∷ k ∷ j ∷ i ∷ hs) even two = tt
+  lone_in_loop l hs even two = grind (arith, eq-eqb)
 
 -- ---- the pairs of an even number of places hold each of these places, as often as it stands among them
 

@@ -25,6 +25,7 @@ use Rattle.split_drawing_laws.proofs.drawings.Whole.{drawing_accepted, drawing_m
 use Rattle.split_drawing_laws.proofs.loop_sides.SidesWhole.{faces_go_on}
 use Rattle.split_drawing_laws.proofs.pairs.Sorted.{sorted_apart, all_paired, between, all_fit, lone_in_loop, points_apart}
 use Rattle.split_drawing_laws.proofs.pairs.LoopPlaces.{places_even, two_outer, IsEven}
+use Rattle.split_drawing_laws.proofs.crossings.Runs.{next_taken}
 
 -- an edge for each edge that is cut, and neither a face nor a loop
 pub record Grown (c d : Taken) (n : ℕ) : Type 0 where
@@ -33,10 +34,6 @@ pub record Grown (c d : Taken) (n : ℕ) : Type 0 where
   pub edges : d.edge ≡ c.edge + n
 
 module _ (p : Plane) where
-  next_taken : (g : Growing) (e : ℕ) → (next_cut p g e).taken ≡ record g.taken { edge = g.taken.edge + 1; vertex = g.taken.vertex + 1 }
-  unfolding next_cut
-  next_taken g e = refl
-
   all_grown : (g : Growing) (es : List ℕ) → Grown g.taken (all_cut p g es).taken (length es)
   all_grown g [] = record { faces = refl; loops = refl; edges = omega arith }
   all_grown g (e ∷ es) = grind (arith, next_taken, all_grown (next_cut p g e) es)
