@@ -1,18 +1,19 @@
 -- Numbers in a run, and the rows of such numbers that go.
-use Rattle.std.proofs.Common.{◌≡◌, ◌≢◌, ℕ, zero, suc, ◌+◌, ◌≤◌, ◌<◌, map, None, is_some, refl, sym, ap, ◌∙◌, arith, inl, inr, List, [], ◌∷◌, ◌++◌, length, Some, unwrap_or, subst, reverse, take, get_or, append_assoc}
+use Rattle.std.proofs.Common.{◌≡◌, ◌≢◌, ℕ, suc, ◌+◌, ◌≤◌, ◌<◌, map, None, is_some, refl, sym, ap, ◌∙◌, arith, inl, inr, List, [], ◌∷◌, ◌++◌, length, Some, unwrap_or, subst, reverse, take, get_or, append_assoc}
 use Rattle.std.proofs.lemmas.Bool.Decides.{nat_tests, eqb_tells}
 use Rattle.std.proofs.Math.Seq.{take-suc}
 use Rattle.std.proofs.lemmas.List.{map-append, reverse-append}
 use Rattle.euler_operators.specs.Common.{IsIn, IsApart, canonical, rest, minus, edge_of, mate, plus, half, Table, tables, same_table, Has, Sound, Model, cycle, no_face, loop_of, face_of, outer, cycle_of, face_at, first_false, effect, kef}
 use Rattle.euler_operators.specs.Table as table
 use Rattle.euler_operators.specs.declared.Op.TheVariants.{Kef}
-use Rattle.euler_operators.proofs.Common.{count-append, tick_same, get-remove_other, remove_turned, get-put_here, get-put_other, canonical-rotates, canonical_same, rest_same, rest_at, minus_row, code-half, mate_minus, same_face, from_map}
+use Rattle.euler_operators.proofs.Common.{count-append, tick_same, get-put_here, get-put_other, canonical-rotates, canonical_same, rest_same, rest_at, minus_row, code-half, mate_minus, same_face, from_map, IsIn_or_not}
 use Rattle.euler_laws.proofs.mef.KefSound as kill
 use Rattle.euler_laws.proofs.Common.{KefGoes, kef_accepted, Around, apart_xs, loop_is, half_is, cycle_is, face_is}
 use Rattle.shapes.specs.Common.{numbers_after, Taken, without_rows, next_place}
+use Rattle.shapes.proofs.Common.{without_gone, without_more, without_there}
 use Rattle.sweeps_laws.proofs.lamina.Lists.{canonical_first, numbers_last}
 use Rattle.sweeps_laws.proofs.prism.Sides.{next_inner}
-use Rattle.split_opening_laws.proofs.sections.Numbered.{in_numbers}
+use Rattle.split_opening_laws.proofs.sections.Numbered.{in_numbers, numbers_in}
 use Rattle.split_opening_laws.specs.caps.Strips.{HasStrips, strip_riser}
 use Rattle.split_opening_laws.specs.caps.Caps.{joined_loop, joined_part}
 
@@ -27,45 +28,30 @@ canonical_run k n = canonical_first (minus (k + 1)) (map minus (numbers_after (k
 
 -- ---- rows
 
-module _ {X : Type 0} where
-  -- one number more, behind the run or before it
-  pub gone_more : (t : Table X) (k n : ℕ) → without_rows t (numbers_after k (suc n)) ≡ table.remove (without_rows t (numbers_after k n)) (k + suc n)
-  gone_more t k zero = refl
-  gone_more t k (suc n) = gone_more (table.remove t (k + 1)) (k + 1) n ∙ ap (table.remove (without_rows (table.remove t (k + 1)) (numbers_after (k + 1) n))) (next_number k n)
-
-  pub gone_first : (t : Table X) (k n j : ℕ) → without_rows (table.remove t j) (numbers_after k n) ≡ table.remove (without_rows t (numbers_after k n)) j
-  gone_first t k zero j = refl
-  gone_first t k (suc n) j = ap (λ s. without_rows s (numbers_after (k + 1) n)) (remove_turned t j (k + 1)) ∙ gone_first (table.remove t (k + 1)) (k + 1) n j
-
-  removed_here : (t : Table X) (k q : ℕ) → q ≡ k → table.get (table.remove t k) q ≡ None
-  removed_here t k q e = grind (arith, nat_tests, tables)
-
-  -- a free number stays free, and what is left is hs it was
-  pub gone_free : (t : Table X) (k n q : ℕ) → table.get t q ≡ None → table.get (without_rows t (numbers_after k n)) q ≡ None
-  gone_free t k zero q free = free
-  gone_free t k (suc n) q free = gone_free (table.remove t (k + 1)) (k + 1) n q (grind (arith, nat_tests, tables))
-
-  pub gone_back : (t : Table X) (k n q : ℕ) → Has (without_rows t (numbers_after k n)) q → table.get (without_rows t (numbers_after k n)) q ≡ table.get t q
-  gone_back t k zero q there = refl
-  gone_back t k (suc n) q there = grind (arith, removed_here, get-remove_other, gone_back (table.remove t (k + 1)) (k + 1) n q there)
+module _ {X : Type 0} (t : Table X) (k n : ℕ) where
+  -- one number more
+  pub gone_more : without_rows t (numbers_after k (suc n)) ≡ table.remove (without_rows t (numbers_after k n)) (k + suc n)
+  gone_more = ap (without_rows t) (numbers_last k n) ∙ without_more t (numbers_after k n) (k + suc n)
 
   -- the rows outside the run stay, those in it go
-  pub gone_below : (t : Table X) (k n q : ℕ) → q ≤ k → table.get (without_rows t (numbers_after k n)) q ≡ table.get t q
-  gone_below t k zero q l = refl
-  gone_below t k (suc n) q l = gone_below (table.remove t (k + 1)) (k + 1) n q (omega (arith, l)) ∙ get-remove_other t (k + 1) q (λ e. omega (arith, l, e))
+  pub gone_within : (q : ℕ) → k < q → q ≤ k + n → table.get (without_rows t (numbers_after k n)) q ≡ None
+  gone_within q a b = without_gone t (numbers_after k n) q (numbers_in k n q a b)
 
-  pub gone_above : (t : Table X) (k n q : ℕ) → k + n < q → table.get (without_rows t (numbers_after k n)) q ≡ table.get t q
-  gone_above t k zero q l = refl
-  gone_above t k (suc n) q l = gone_above (table.remove t (k + 1)) (k + 1) n q (omega (arith, l)) ∙ get-remove_other t (k + 1) q (λ e. omega (arith, l, e))
+  gone_else : (q : ℕ) → ((k < q) × (q ≤ k + n) → ⊥) → table.get (without_rows t (numbers_after k n)) q ≡ table.get t q
+  gone_else q out = grind (arith, IsIn_or_not, in_numbers, without_there)
 
-  pub gone_within : (t : Table X) (k n q : ℕ) → k < q → q ≤ k + n → table.get (without_rows t (numbers_after k n)) q ≡ None
-  gone_within t k zero q a b = absurd (omega (arith, a, b))
-  gone_within t k (suc n) q a b = elim (eqb_tells q (k + 1)) [
-    | inl e ↦ gone_free (table.remove t (k + 1)) (k + 1) n q (removed_here t (k + 1) q e.1)
-    | inr ne ↦ gone_within (table.remove t (k + 1)) (k + 1) n q (beyond k q a ne.1) (omega (arith, b))
-  ] where
-    beyond : (k q : ℕ) → k < q → q ≢ k + 1 → k + 1 < q
-    beyond k q a ne = grind arith
+  pub gone_below : (q : ℕ) → q ≤ k → table.get (without_rows t (numbers_after k n)) q ≡ table.get t q
+  gone_below q l = gone_else q (λ w. omega (arith, l, w.0))
+
+  pub gone_above : (q : ℕ) → k + n < q → table.get (without_rows t (numbers_after k n)) q ≡ table.get t q
+  gone_above q l = gone_else q (λ w. omega (arith, l, w.1))
+
+  -- a free number stays free, and what is left is as it was
+  pub gone_free : (q : ℕ) → table.get t q ≡ None → table.get (without_rows t (numbers_after k n)) q ≡ None
+  gone_free q free = grind (arith, IsIn_or_not, without_gone, without_there)
+
+  pub gone_back : (q : ℕ) → Has (without_rows t (numbers_after k n)) q → table.get (without_rows t (numbers_after k n)) q ≡ table.get t q
+  gone_back q there = grind (arith, IsIn_or_not, without_gone, without_there)
 
 -- ---- one strip more joined to the first ones: kef of the strip_riser between them
 

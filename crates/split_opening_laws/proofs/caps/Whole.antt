@@ -1,5 +1,5 @@
 -- All strips joined: kemr of the first strip_riser parts their loop, and mfkrh makes a face of the ring; from the strips to the caps.
-use Rattle.std.proofs.Common.{◌≡◌, ◌≢◌, ℕ, suc, ◌+◌, ◌-◌, ◌≤◌, List, [], ◌∷◌, ◌++◌, map, length, Some, None, is_some, unwrap_or, cond, refl, sym, ap, ◌∙◌, subst, arith, inl, inr, zero, ◌<◌, reverse, take, get_or, eq-eqb, ne_eqb, append_assoc, take_all}
+use Rattle.std.proofs.Common.{◌≡◌, ◌≢◌, ℕ, suc, ◌+◌, ◌-◌, ◌≤◌, List, [], ◌∷◌, ◌++◌, map, length, Some, None, is_some, unwrap_or, cond, refl, sym, ap, ◌∙◌, subst, arith, inl, inr, ◌<◌, reverse, take, get_or, eq-eqb, ne_eqb, append_assoc, take_all}
 use Rattle.std.proofs.lemmas.Bool.{cases_lt}
 use Rattle.std.proofs.lemmas.List.{length-reverse, map-append}
 use Rattle.euler_operators.specs.Common.{count, IsIn, IsApart, canonical, rest, successor, plus, minus, half, Model, LoopRow, cycle, no_face, loop_of, face_of, solid_of, outer, cycle_of, tail, after, Sound, first_false, effect, kemr, mfkrh, cycle_or_lone, loop_to_face}
@@ -7,17 +7,17 @@ use Rattle.euler_operators.proofs.Common.{count-append, tick_same, before_at, af
 use Rattle.euler_operators.specs.Table as table
 use Rattle.euler_operators.specs.declared.Op.TheVariants.{Kemr, Mfkrh, Kef}
 use Rattle.euler_laws.proofs.kemr.KemrSound as parted
-use Rattle.euler_laws.proofs.Common.{KemrGoes, MakeGoes, mfkrh_accepted, effect_keeps_sound, Around, apart_xs, loop_is, half_is, cycle_is, face_is, effects-append, AreAccepted-append, effects_keep_sound}
+use Rattle.euler_laws.proofs.Common.{KemrGoes, MakeGoes, mfkrh_accepted, effect_keeps_sound, Around, apart_xs, loop_is, half_is, cycle_is, face_is, Leads, leads_first, leads_on, leads_one, leads_sound}
 use Rattle.euler_laws.proofs.mekr.Mekr.{kemr_accepted}
-use Rattle.euler_laws.specs.Laws.{effects, AreAccepted}
 use Rattle.sweeps_laws.proofs.prism.Sides.{next_last}
 use Rattle.shapes.specs.Common.{Taken, numbers_after, without_rows, next_place}
+use Rattle.shapes.proofs.Common.{without_first}
 use Rattle.split_opening_laws.specs.caps.Strips.{HasStrips, strip_riser, strip_loop}
 use Rattle.split_opening_laws.specs.caps.Caps.{joined_loop, joined_part, capped}
 use Rattle.split_opening_laws.specs.caps.CapOps.{partings, joinings, cap_ops}
-use Rattle.split_opening_laws.proofs.caps.Joined.{canonical_run, gone_first, gone_free, gone_below, joined_faces, joined_loops, joined_edges, at_first, at_else, next_joined}
+use Rattle.split_opening_laws.proofs.caps.Joined.{canonical_run, gone_free, gone_below, joined_faces, joined_loops, joined_edges, at_first, at_else, next_joined}
+use Rattle.split_opening_laws.proofs.strips.Whole.{all_lead}
 use Rattle.std.proofs.Math.Seq.{take-suc}
-use Rattle.euler_operators.specs.declared.Op.{Op}
 use Rattle.sweeps_laws.proofs.lamina.Lists.{numbers_last}
 
 -- some items make a cycle
@@ -183,7 +183,7 @@ module _ (N : Model) (s : ℕ) (c : Taken) (hs : List ℕ) (w : HasStrips N s c 
   edges_after : K.edges ≡ X.edges
   unfolding capped
   edges_after = ap (λ t. table.remove t x) (joined_edges N s c hs w n)
-      ∙ sym (gone_first N.edges (c.edge + m + 1) n x)
+      ∙ sym (without_first N.edges (numbers_after (c.edge + m + 1) n) x)
       ∙ ap (λ j. without_rows N.edges (numbers_after (c.edge + m) j)) (sym all)
       ∙ refl
 
@@ -192,13 +192,10 @@ module _ (N : Model) (s : ℕ) (c : Taken) (hs : List ℕ) (w : HasStrips N s c 
   kept_after = (refl, refl)
 
   -- the two operators are accepted, and then there are two caps
-  pub parting_accepted : AreAccepted P (partings c m)
-  parting_accepted = (kemr_ok, (subst (λ Y. first_false Y (Mfkrh L F) ≡ None) (sym kemr_is) (mfkrh_accepted K L F sound_K makes), tt))
-
-  pub parting_is : effects P (partings c m) ≡ X
+  pub parting_leads : Leads P X (partings c m)
   unfolding effect mfkrh
-  parting_is = ap (λ Y. effect Y (Mfkrh L F)) kemr_is
-      ∙ (λ i. record { solids = kept_after.0 i; faces = faces_after i; loops = loops_after i; edges = edges_after i; vertices = kept_after.1 i })
+  parting_leads = leads_first P K X (Kemr (half (plus x)) L) (Mfkrh L F ∷ []) kemr_ok kemr_is (leads_one K X (Mfkrh L F) (mfkrh_accepted K L F sound_K makes)
+      (λ i. record { solids = kept_after.0 i; faces = faces_after i; loops = loops_after i; edges = edges_after i; vertices = kept_after.1 i }))
 
 -- ---- a cycle has two strips at least: the mate of a single one would end where it starts
 
@@ -269,35 +266,17 @@ module _ (N : Model) (s : ℕ) (c : Taken) (hs : List ℕ) (sound : Sound N) (w 
   joinings_last n = ap (map (λ e. Kef (half (minus e)))) (numbers_last (c.edge + long + 1) n) ∙ map-append (λ e. Kef (half (minus e))) (numbers_after (c.edge + long + 1) n) ((c.edge + long + 1 + suc n) ∷ [])
 
   -- some strips joined
-  pub joins : (n : ℕ) → n < long → AreAccepted N (joinings c long n) × (effects N (joinings c long n) ≡ joined_part N c hs n)
-  joins zero l = (tt, first_alone)
-  joins (suc n) l =
-      let r = joins n (omega (arith, l)) in
-      let one : List Op = Kef (half (minus (c.edge + long + 1 + suc n))) ∷ [] in
-      let so : Sound (joined_part N c hs n) = subst Sound r.1 (effects_keep_sound N (joinings c long n) sound r.0) in
-      let t = next_joined N s c hs w n l so in (
-        subst (AreAccepted N) (sym (joinings_last n)) (AreAccepted-append N (joinings c long n) one r.0 (subst (λ X. AreAccepted X one) (sym r.1) (t.0, tt))),
-        ap (effects N) (joinings_last n) ∙ effects-append N (joinings c long n) one ∙ ap (λ X. effects X one) r.1 ∙ t.1,
-      )
+  pub joins : (n : ℕ) → n < long → Leads N (joined_part N c hs n) (joinings c long n)
+  joins n l = all_lead (joined_part N c hs) (joinings c long) (λ i. Kef (half (minus (c.edge + long + 1 + suc i)))) (long - 1) joinings_last
+      (λ i lt so. let t = next_joined N s c hs w i (omega (arith, lt)) so in leads_one _ _ _ t.0 t.1) N sound (record { accepted = tt; made = first_alone }) n (omega (arith, l))
 
-  all : long ≡ suc (long - 1)
-  all = omega (arith, w.some)
-
-  joined : AreAccepted N (joinings c long (long - 1)) × (effects N (joinings c long (long - 1)) ≡ joined_part N c hs (long - 1))
-  joined = joins (long - 1) (omega (arith, w.some))
-
-  sound_joined : Sound (joined_part N c hs (long - 1))
-  sound_joined = subst Sound joined.1 (effects_keep_sound N (joinings c long (long - 1)) sound joined.0)
-
-  -- no operator is refused
-  pub caps_accepted : AreAccepted N (cap_ops c long)
+  -- no operator is refused, and they leave two caps
+  pub caps_lead : Leads N (capped N s c hs) (cap_ops c long)
   unfolding cap_ops
-  caps_accepted = AreAccepted-append N (joinings c long (long - 1)) (partings c long) joined.0 (subst (λ X. AreAccepted X (partings c long)) (sym joined.1) (parting_accepted N s c hs w (long - 1) all sound_joined))
-
-  -- and they leave two caps
-  pub caps_made : effects N (cap_ops c long) ≡ capped N s c hs
-  unfolding cap_ops
-  caps_made = effects-append N (joinings c long (long - 1)) (partings c long) ∙ ap (λ X. effects X (partings c long)) joined.1 ∙ parting_is N s c hs w (long - 1) all sound_joined
+  caps_lead =
+      let joined = joins (long - 1) (omega (arith, w.some)) in
+      let P : Model = joined_part N c hs (long - 1) in
+      leads_on N P (capped N s c hs) (joinings c long (long - 1)) (partings c long) joined (parting_leads N s c hs w (long - 1) (omega (arith, w.some)) (leads_sound N P (joinings c long (long - 1)) sound joined))
 
   pub capped_sound : Sound (capped N s c hs)
-  capped_sound = subst Sound caps_made (effects_keep_sound N (cap_ops c long) sound caps_accepted)
+  capped_sound = leads_sound N (capped N s c hs) (cap_ops c long) sound caps_lead

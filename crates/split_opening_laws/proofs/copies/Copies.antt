@@ -1,6 +1,7 @@
 -- What the loops hold, and where half-edges start, once one copy more is raised.
-use Rattle.std.proofs.Common.{◌≡◌, ◌≢◌, ℕ, suc, ◌+◌, ◌≤◌, ◌<◌, cond, List, [], ◌∷◌, ◌++◌, length, Some, None, is_some, refl, sym, ap, ◌∙◌, subst, arith, inl, inr, Bool, true, false, true≢false, nat_eq, ◌⊎◌, map, get_or, nat_lt, not, ◌&&◌, option_map, lt-ltb, append_assoc}
+use Rattle.std.proofs.Common.{◌≡◌, ◌≢◌, ℕ, suc, ◌+◌, ◌≤◌, ◌<◌, cond, List, [], ◌∷◌, ◌++◌, length, Some, None, is_some, refl, sym, ap, ◌∙◌, subst, arith, inl, inr, Bool, true, false, nat_eq, ◌⊎◌, map, get_or, nat_lt, not, ◌&&◌, option_map, lt-ltb, append_assoc, ne_eqb}
 use Rattle.std.proofs.lemmas.Bool.Decides.{nat_tests, eqb_tells}
+use Rattle.std.proofs.lemmas.Bool.{and_parts, not-true, cases_Bool, le-ltb}
 use Rattle.euler_operators.specs.Common.{count, IsIn, IsApart, canonical, insert_before, mate, edge_of, plus, minus, Table, get-map_rows, Model, LoopRow, cycle, loop_of, EdgeRow, tail, arc, point_of, is_number, Sound, Has, HasHalf, with_before, with_tails, edge_row, effect, mev_at, face_at, lists, first_false}
 use Rattle.euler_operators.proofs.Common.{tick_other, count-append, tick_same, canonical-rotates, count-canonical, canonical_same, insert_before_at, insert_before_same, plus_row, minus_row, mate_plus, code-half, map_same, in_use_within, map_alike, in-holds, holds-none, none-holds, other_loop, not_held, plus_tail_row, minus_tail_row}
 use Rattle.euler_operators.specs.Table as table
@@ -14,7 +15,7 @@ use Rattle.split_opening_laws.proofs.sections.Numbered.{rows_low, rows_high, row
 use Rattle.split_opening_laws.proofs.strips.Cycle as on
 use Rattle.split_opening_laws.proofs.strips.Cycle.{before_below, before_apart, next-before, next_once}
 use Rattle.split_opening_laws.proofs.copies.Raised as raised
-use Rattle.split_opening_laws.proofs.copies.Raised.{not_less, arc_first, arc_up, arc_down, arc_else}
+use Rattle.split_opening_laws.proofs.copies.Raised.{arc_first, arc_up, arc_down, arc_else}
 use Rattle.sweeps_laws.proofs.prism.Sides.{fits}
 use Rattle.split_opening_laws.proofs.strips.Copied as copy
 
@@ -26,9 +27,6 @@ put_into : (h y : ℕ) (xs : List ℕ) → IsApart xs → IsIn h xs → count y 
 put_into h y xs d at none = sym (canonical_same (insert_before h y xs) (insert_before h y (canonical xs)) (insert_before_same h y xs (canonical xs) (canonical-rotates xs) d at none) (put_apart xs d h y at none))
 
 -- ---- where half-edges start once one copy more is raised
-
-both_true : (a b : Bool) → (a && not b) ≡ true → (a ≡ true) × (b ≡ false)
-both_true a b e = grind (arith, true≢false)
 
 module _ (M : Model) (above : List ℕ) (s : ℕ) (c : Taken) (bs : List ℕ) (w : CanBeOpened M above s c bs) (i : ℕ) (lt : i < length bs) (sound : Sound (copies_raised M above s c bs i)) where
   abbrev N : Model
@@ -126,7 +124,7 @@ module _ (M : Model) (above : List ℕ) (s : ℕ) (c : Taken) (bs : List ℕ) (w
   risen = mate (get_or bs i 0) ∷ plus (copy_riser c bs i) ∷ minus (c.edge + suc i) ∷ raised.fall_part M above s c bs w i sound i
 
   flat : items i ≡ (mate (get_or bs i 0) ∷ []) ++ g ∷ raised.fall_part M above s c bs w i sound i
-  flat = ap (λ b. mate (get_or bs i 0) ∷ cond b (plus u ∷ []) [] ++ g ∷ raised.fall_part M above s c bs w i sound i) (not_less i i (omega arith))
+  flat = ap (λ b. mate (get_or bs i 0) ∷ cond b (plus u ∷ []) [] ++ g ∷ raised.fall_part M above s c bs w i sound i) (le-ltb i i (omega arith))
 
   risen_is : canonical (insert_before g (plus u) (canonical (items i))) ≡ canonical risen
   risen_is =
@@ -205,23 +203,20 @@ module _ (M : Model) (above : List ℕ) (s : ℕ) (c : Taken) (bs : List ℕ) (w
   abbrev moved : List ℕ
   moved = arc (copies_raised M above s c bs i) (minus (c.edge + suc i)) (mate (get_or bs (place_before (length bs) i) 0))
 
-  g_tail : tail N g ≡ x
-  g_tail = raised.g_tail M above s c bs w i sound lt
-
   some_less : (h : ℕ) → IsIn h moved → nat_lt 0 (count h moved) ≡ true
   some_less h at = lt-ltb 0 (count h moved) (omega (arith, at))
 
   none_less : (h : ℕ) → count h moved ≡ 0 → nat_lt 0 (count h moved) ≡ false
-  none_less h none = not_less 0 (count h moved) (omega (arith, none))
+  none_less h none = le-ltb 0 (count h moved) (omega (arith, none))
 
   -- what is above, and g, moves where it starts at the vertex
   moves : (h : ℕ) → HasHalf N h → (side h ≡ true) ⊎ (h ≡ g) → nat_lt 0 (count h moved) ≡ nat_eq (tail N h) x
   moves h there above_or = elim (eqb_tells (tail N h) x) [
     | inl e ↦ elim above_or [
-      | inl t ↦ some_less h (arc_up N sound side g k (raised.splits M above s c bs w i sound lt) h there (e.1 ∙ sym g_tail) t) ∙ sym e.0
+      | inl t ↦ some_less h (arc_up N sound side g k (raised.splits M above s c bs w i sound lt) h there (e.1 ∙ sym (raised.g_tail M above s c bs w i sound lt)) t) ∙ sym e.0
       | inr q ↦ some_less h (subst (λ z. IsIn z moved) (sym q) (arc_first N sound side g k (raised.splits M above s c bs w i sound lt))) ∙ sym e.0
     ]
-    | inr e ↦ none_less h (arc_else N sound side g k (raised.splits M above s c bs w i sound lt) h (λ q. e.1 (q ∙ g_tail))) ∙ sym e.0
+    | inr e ↦ none_less h (arc_else N sound side g k (raised.splits M above s c bs w i sound lt) h (λ q. e.1 (q ∙ raised.g_tail M above s c bs w i sound lt))) ∙ sym e.0
   ]
 
   -- nothing else does
@@ -236,11 +231,11 @@ module _ (M : Model) (above : List ℕ) (s : ℕ) (c : Taken) (bs : List ℕ) (w
 
   -- a half-edge that was there
   old_moves : (h : ℕ) → HasHalf M h → cond (nat_lt 0 (count h moved)) y (opened_tail M above mates copies h (tail M h)) ≡ opened_tail M above mates copies' h (tail M h)
-  old_moves h there = elim (raised.tested M above s c bs w i sound lt (lists above (face_at M h) && not (lists mates h))) [
-    | inl t ↦ grind (arith, both_true, raised.old_tail, raised.old_side, moves, raised.old_half, turned)
+  old_moves h there = elim (cases_Bool (lists above (face_at M h) && not (lists mates h))) [
+    | inl t ↦ grind (arith, and_parts, not-true, raised.old_tail, raised.old_side, moves, raised.old_half, turned)
     | inr f ↦
         let is : opened_tail M above mates copies h (tail M h) ≡ tail M h = ap (λ b. cond b (renamed copies (tail M h)) (tail M h)) f in
-        let down : side h ≡ false = elim (raised.tested M above s c bs w i sound lt (lists mates h)) [
+        let down : side h ≡ false = elim (cases_Bool (lists mates h)) [
           | inl l ↦ (raised.listed_side M above s c bs w i sound lt h l).0
           | inr l ↦ raised.old_side M above s c bs w i sound h there l ∙ grind arith
         ] in
@@ -278,11 +273,9 @@ module _ (M : Model) (above : List ℕ) (s : ℕ) (c : Taken) (bs : List ℕ) (w
           | inr e ↦
               stays (minus (c.edge + suc j)) (raised.strip_side M above s c bs w i sound j (minus (c.edge + suc j)) below (raised.back_in M above s c bs w i sound j))
               (other_edge (minus (c.edge + suc j)) (c.edge + suc j) (minus_row (c.edge + suc j)).0 (λ q. e.1 (omega arith)))
-              ∙ sym (apart (renamed copies (tail M (get_or bs j 0))) x (λ q. e.1 (raised.back_start M above s c bs w i sound lt j below (raised.back_tail M above s c bs w i sound j below ∙ q))))
+              ∙ sym (ne_eqb (renamed copies (tail M (get_or bs j 0))) x (λ q. e.1 (raised.back_start M above s c bs w i sound lt j below (raised.back_tail M above s c bs w i sound j below ∙ q))))
         ])
-        ∙ turned (tail M (get_or bs j 0)) where
-          apart : (a b : ℕ) → a ≢ b → nat_eq a b ≡ false
-          apart a b ne = grind (arith, nat_tests)
+        ∙ turned (tail M (get_or bs j 0))
 
   -- the risers that stand
   riser_row : (j : ℕ) → j < i → with_tails moved y (c.edge + m + suc j) (riser_edge M c bs j) ≡ riser_edge M c bs j
@@ -309,7 +302,7 @@ module _ (M : Model) (above : List ℕ) (s : ℕ) (c : Taken) (bs : List ℕ) (w
       let base : Table EdgeRow = table.map_rows (opened_row M above mates copies) M.edges in
       let base' : Table EdgeRow = table.map_rows (opened_row M above mates copies') M.edges in
       let inner : Table EdgeRow = with_rows base c.edge (raised_edge M bs copies) m in
-      (λ n. table.put (table.map_rows turn (raised.raised_edges M above s c bs w i sound n)) (edge_plus u n) ((edge_row_plus u (tail N g) y ∙ ap (λ v. record { plus_tail = v; minus_tail = y }) g_tail) n))
+      (λ n. table.put (table.map_rows turn (raised.raised_edges M above s c bs w i sound n)) (edge_plus u n) ((edge_row_plus u (tail N g) y ∙ ap (λ v. record { plus_tail = v; minus_tail = y }) (raised.g_tail M above s c bs w i sound lt)) n))
       ∙ ap (λ t. table.put t u (riser_edge M c bs i)) (
       rows_map turn inner (c.edge + m) (riser_edge M c bs) i
       ∙ rows_same (table.map_rows turn inner) (c.edge + m) (λ j. turn (c.edge + m + suc j) (riser_edge M c bs j)) (riser_edge M c bs) i riser_row

@@ -1,6 +1,7 @@
 -- The arc round a vertex whose half-edges lie on two sides, and where it lies once the strips are cut off and some copies raised.
 use Rattle.std.proofs.Common.{◌≡◌, ◌≢◌, ℕ, ◌+◌, Bool, true, false, List, [], ◌∷◌, ◌++◌, refl, sym, ap, ◌∙◌, subst, arith, ◌⊎◌, inl, inr, true≢false, suc, ◌≤◌, ◌<◌, cond, length, Some, is_some, map, get_or, nat_lt, not, ◌&&◌, option_map, lt-ltb}
 use Rattle.std.proofs.lemmas.Bool.Decides.{eqb_tells, nat_tests}
+use Rattle.std.proofs.lemmas.Bool.{le-ltb, cases_Bool, and_right}
 use Rattle.euler_operators.specs.Common.{count, IsIn, IsApart, rotate_to, IsPath, IsRing, between, beyond, canonical, successor, Model, tail, after, arc, round, EdgeRow, tail_in, face_of, Sound, HasHalf, mate, edge_of, plus, minus, get-map_rows, face_at, lists}
 use Rattle.euler_operators.specs.Table as table
 use Rattle.euler_operators.proofs.Common.{count-append, tick_same, tick_other, IsIn_or_not, rotate_to-rotates, count-rotate_to, canonical-rotates, IsPath-left, IsPath-right, IsRing-same, successor_same, successor_last, ring_split, upto_other, tail_row, plus_tail_row, minus_tail_row, mate_there, row_some, mate-mate, minus_row, mate_plus, mate_minus}
@@ -102,9 +103,6 @@ module _ (N : Model) (sound : Sound N) (up : ℕ → Bool) (g k : ℕ) (w : Spli
   ]
 
 -- ---- the model with its strips cut off and some copies raised: where half-edges stand, where they start, and on which side they lie
-
-pub not_less : (a b : ℕ) → b ≤ a → nat_lt a b ≡ false
-not_less a b l = grind (arith, nat_tests)
 
 module _ (M : Model) (above : List ℕ) (s : ℕ) (c : Taken) (bs : List ℕ) (w : CanBeOpened M above s c bs) (i : ℕ) (sound : Sound (copies_raised M above s c bs i)) where
   abbrev pub N : Model
@@ -262,11 +260,8 @@ module _ (M : Model) (above : List ℕ) (s : ℕ) (c : Taken) (bs : List ℕ) (w
     pub k_tail : tail N k ≡ x
     k_tail = old_tail k (on.mate_there M above s c bs w p p_below)
         ∙ ap (λ b. cond (lists above (face_at M k) && not b) (renamed (copied M c bs i) (tail M k)) (tail M k)) (on.mate_listed M above s c bs w p p_below)
-        ∙ none (lists above (face_at M k)) (renamed (copied M c bs i) (tail M k)) (tail M k)
-        ∙ on.mate_start M above s c bs w p p_below ∙ ap (λ n. tail M (get_or bs n 0)) (next-before m i lt) where
-          none : (b : Bool) (u v : ℕ) → cond (b && false) u v ≡ v
-          none true u v = refl
-          none false u v = refl
+        ∙ ap (λ b. cond b (renamed (copied M c bs i) (tail M k)) (tail M k)) (and_right (lists above (face_at M k)) false refl)
+        ∙ on.mate_start M above s c bs w p p_below ∙ ap (λ n. tail M (get_or bs n 0)) (next-before m i lt)
 
     pub g_there : HasHalf N g
     g_there = half_is N (c.loop + suc i) (c.face + suc i) (raised_items c bs i i) (around i lt) g (back_in i)
@@ -287,7 +282,7 @@ module _ (M : Model) (above : List ℕ) (s : ℕ) (c : Taken) (bs : List ℕ) (w
     -- ---- the last one above
 
     pub last_items : raised_items c bs i p ≡ (k ∷ rise_part p) ++ minus (c.edge + suc p) ∷ []
-    last_items = grind (arith, rise_part, not_less, next-before)
+    last_items = grind (arith, rise_part, le-ltb, next-before)
 
     after_last : after N (minus (c.edge + suc p)) ≡ k
     unfolding after
@@ -318,12 +313,9 @@ module _ (M : Model) (above : List ℕ) (s : ℕ) (c : Taken) (bs : List ℕ) (w
     listed_mate : (h : ℕ) → IsIn h bs → lists mates (mate h) ≡ true
     listed_mate h at = let q = on.place_of M above s c bs w h at in ap (λ y. lists mates (mate y)) q.2 ∙ on.mate_listed M above s c bs w q.0 q.1
 
-    pub tested : (b : Bool) → (b ≡ true) ⊎ (b ≡ false)
-    tested b = grind arith
-
     -- where a half-edge of M starts at the vertex now, it did
     started : (h : ℕ) → HasHalf M h → tail N h ≡ x → tail M h ≡ x
-    started h there at = elim (tested (lists above (face_at M h) && not (lists mates h))) [
+    started h there at = elim (cases_Bool (lists above (face_at M h) && not (lists mates h))) [
       | inl t ↦ copy.copy_back M above s c bs w i (tail M h) x x_low (sym (old_tail h there ∙ ap (λ b. cond b (renamed (copied M c bs i) (tail M h)) (tail M h)) t) ∙ at)
       | inr f ↦ sym (old_tail h there ∙ ap (λ b. cond b (renamed (copied M c bs i) (tail M h)) (tail M h)) f) ∙ at
     ]
@@ -336,10 +328,7 @@ module _ (M : Model) (above : List ℕ) (s : ℕ) (c : Taken) (bs : List ℕ) (w
           | inr j ↦ true≢false (sym (listed_mate (mate h) j) ∙ ap (lists mates) (mate-mate h) ∙ un)
         ]) where
           decide : (a b : Bool) → (a ≢ b → ⊥) → a ≡ b
-          decide true true n = refl
-          decide false false n = refl
-          decide true false n = absurd (n true≢false)
-          decide false true n = absurd (n (λ e. true≢false (sym e)))
+          decide a b n = grind arith
 
     -- so the mate of such a half-edge, which is no mate, lies on its side
     old_sides : (h : ℕ) → HasHalf M h → tail N h ≡ x → lists mates h ≡ false → lists mates (mate h) ≡ false → side (mate h) ≡ side h
@@ -361,9 +350,9 @@ module _ (M : Model) (above : List ℕ) (s : ℕ) (c : Taken) (bs : List ℕ) (w
 
     stays_up : (h : ℕ) → HasHalf N h → tail N h ≡ x → side h ≡ true → (round N h ≡ k) ⊎ (side (round N h) ≡ true)
     stays_up h there at u = elim (kinds h there) [
-      | inl old ↦ elim (tested (lists mates h)) [
+      | inl old ↦ elim (cases_Bool (lists mates h)) [
         | inl l ↦ absurd (true≢false (sym u ∙ (listed_side h l).0))
-        | inr un ↦ elim (tested (lists mates (mate h))) [
+        | inr un ↦ elim (cases_Bool (lists mates (mate h))) [
           | inl l ↦ absurd (true≢false (sym u ∙ ap side (sym (mate-mate h)) ∙ (listed_side (mate h) l).1))
           | inr none ↦ inr (round_side h there ∙ old_sides h old at un none ∙ u)
         ]
@@ -384,4 +373,4 @@ module _ (M : Model) (above : List ℕ) (s : ℕ) (c : Taken) (bs : List ℕ) (w
 
     pub splits : Splits N side g k
     splits =
-        grind (arith, g_there, k_there, k_tail, g_tail, apart, mate_side, stays_up, round_side, mate_minus, out_side, kinds, tested, listed_side, old_sides, back_start, rise_start, fall_start)
+        grind (arith, g_there, k_there, k_tail, g_tail, apart, mate_side, stays_up, round_side, mate_minus, out_side, kinds, cases_Bool, listed_side, old_sides, back_start, rise_start, fall_start)

@@ -1,23 +1,19 @@
 -- All copies raised, one after the other.
-use Rattle.std.proofs.Common.{◌≡◌, ℕ, zero, suc, ◌≤◌, Bool, true, false, cond, List, [], ◌∷◌, length, refl, sym, ap, ◌∙◌, subst, arith, map, not, ◌&&◌}
-use Rattle.euler_operators.specs.Common.{mate, plus, minus, Table, Model, LoopRow, Sound, face_at, lists, effect}
+use Rattle.std.proofs.Common.{◌≡◌, ℕ, ◌≤◌, List, [], length, sym, ap, ◌∙◌, arith, map, refl}
+use Rattle.std.proofs.lemmas.Bool.{le-ltb}
+use Rattle.euler_operators.specs.Common.{mate, plus, minus, Table, Model, LoopRow, Sound}
 use Rattle.euler_operators.specs.Table as table
 use Rattle.euler_operators.proofs.Common.{map_same}
 use Rattle.euler_laws.specs.Laws.{effects, AreAccepted}
-use Rattle.euler_laws.proofs.Common.{effects-append, AreAccepted-append, effects_keep_sound}
+use Rattle.euler_laws.proofs.Common.{Leads, leads_one, leads_sound}
 use Rattle.shapes.specs.Common.{Taken, rewritten_row, renamed, opened_tail, opened_row, with_copies}
 use Rattle.split_opening_laws.specs.strips.Strips.{with_rows, put_out, strip_face, strip_row, copied, raised_loop, raised_edge, strips_cut, copies_raised}
 use Rattle.split_opening_laws.specs.strips.StripOps.{raise_copy, copy_ops}
 use Rattle.split_opening_laws.specs.strips.Opened.{CanBeOpened}
 use Rattle.split_opening_laws.proofs.sections.Numbered.{rows_same}
 use Rattle.split_opening_laws.proofs.strips.Copied as copy
-use Rattle.split_opening_laws.proofs.copies.Raised.{not_less}
 use Rattle.split_opening_laws.proofs.copies.Copies.{copy_accepted, copy_is}
-use Rattle.split_opening_laws.proofs.strips.Whole.{cut_sound}
-
-either_way : (b : Bool) (v : ℕ) → cond b v v ≡ v
-either_way true v = refl
-either_way false v = refl
+use Rattle.split_opening_laws.proofs.strips.Whole.{cut_sound, all_lead}
 
 module _ (M : Model) (above : List ℕ) (s : ℕ) (c : Taken) (bs : List ℕ) (w : CanBeOpened M above s c bs) where
   abbrev base : Table LoopRow
@@ -25,10 +21,10 @@ module _ (M : Model) (above : List ℕ) (s : ℕ) (c : Taken) (bs : List ℕ) (w
 
   -- a strip without risers
   bare_strip : (j : ℕ) → strip_row c bs j ≡ raised_loop c bs 0 j
-  bare_strip j = grind (arith, not_less)
+  bare_strip j = grind (arith, le-ltb)
 
   tail_stays : (h v : ℕ) → opened_tail M above (map mate bs) [] h v ≡ v
-  tail_stays h v = either_way (lists above (face_at M h) && not (lists (map mate bs) h)) v
+  tail_stays h v = grind arith
 
   edges_stay : table.map_rows (opened_row M above (map mate bs) []) M.edges ≡ M.edges
   edges_stay = map_same (opened_row M above (map mate bs) []) M.edges (λ e row at. λ n. record { plus_tail = tail_stays (plus e) row.plus_tail n; minus_tail = tail_stays (minus e) row.minus_tail n })
@@ -46,27 +42,20 @@ module _ (M : Model) (above : List ℕ) (s : ℕ) (c : Taken) (bs : List ℕ) (w
       }
 
   -- the first i copies
-  pub copies_go : (i : ℕ) → i ≤ length bs →
-      AreAccepted (strips_cut M s c bs (length bs)) (copy_ops M c bs i) × (effects (strips_cut M s c bs (length bs)) (copy_ops M c bs i) ≡ copies_raised M above s c bs i)
-  copies_go zero le = (tt, none_raised)
-  copies_go (suc i) le =
-      let r = copies_go i (omega arith) in
-      let C : Model = strips_cut M s c bs (length bs) in
-      let sound : Sound (copies_raised M above s c bs i) = subst Sound r.1 (effects_keep_sound C (copy_ops M c bs i) (cut_sound M above s c bs w) r.0) in (
-        AreAccepted-append C (copy_ops M c bs i) (raise_copy M c bs i ∷ []) r.0
-            (subst (λ X. AreAccepted X (raise_copy M c bs i ∷ [])) (sym r.1) (copy_accepted M above s c bs w i (omega arith) sound, tt)),
-        effects-append C (copy_ops M c bs i) (raise_copy M c bs i ∷ []) ∙ ap (λ X. effect X (raise_copy M c bs i)) r.1 ∙ copy_is M above s c bs w i (omega arith) sound,
-      )
+  pub copies_lead : (i : ℕ) → i ≤ length bs → Leads (strips_cut M s c bs (length bs)) (copies_raised M above s c bs i) (copy_ops M c bs i)
+  copies_lead = all_lead (copies_raised M above s c bs) (copy_ops M c bs) (raise_copy M c bs) (length bs) (λ i. refl)
+      (λ i lt sound. leads_one _ _ _ (copy_accepted M above s c bs w i lt sound) (copy_is M above s c bs w i lt sound))
+      (strips_cut M s c bs (length bs)) (cut_sound M above s c bs w) (record { accepted = tt; made = none_raised })
 
   pub part_sound : (i : ℕ) → i ≤ length bs → Sound (copies_raised M above s c bs i)
-  part_sound i le = let r = copies_go i le in subst Sound r.1 (effects_keep_sound (strips_cut M s c bs (length bs)) (copy_ops M c bs i) (cut_sound M above s c bs w) r.0)
+  part_sound i le = leads_sound (strips_cut M s c bs (length bs)) (copies_raised M above s c bs i) (copy_ops M c bs i) (cut_sound M above s c bs w) (copies_lead i le)
 
   -- no operator is refused, and they raise all copies
   pub copies_accepted : AreAccepted (strips_cut M s c bs (length bs)) (copy_ops M c bs (length bs))
-  copies_accepted = (copies_go (length bs) (omega arith)).0
+  copies_accepted = (copies_lead (length bs) (omega arith)).accepted
 
   pub copies_are_raised : effects (strips_cut M s c bs (length bs)) (copy_ops M c bs (length bs)) ≡ copies_raised M above s c bs (length bs)
-  copies_are_raised = (copies_go (length bs) (omega arith)).1
+  copies_are_raised = (copies_lead (length bs) (omega arith)).made
 
   pub raised_sound : Sound (copies_raised M above s c bs (length bs))
   raised_sound = part_sound (length bs) (omega arith)

@@ -1,6 +1,6 @@
 -- Which half-edges the below halves of a section are.
 use Rattle.std.proofs.Common.{◌≡◌, ◌≢◌, ℕ, ◌<◌, Bool, true, false, cond, not, nat_eq, ◌&&◌, List, [], ◌∷◌, ◌++◌, is_some, refl, sym, ap, subst, ◌∙◌, arith, inl, inr, map, flat_map, eq-eqb, eqb-true}
-use Rattle.std.proofs.lemmas.Bool.Decides.{eqb_tells}
+use Rattle.std.proofs.lemmas.Simd.{map-map}
 use Rattle.euler_operators.specs.Common.{tick, count, IsIn, IsApart, mate, edge_of, plus, minus, Model, solid_of, tail, face_of, round, after, Sound, HasHalf, face_at, lists, strictly_rises}
 use Rattle.euler_operators.specs.Table as table
 use Rattle.euler_operators.proofs.Common.{tick_same, tick_other, count-append, IsIn_or_not, plus_row, minus_row, mate_plus, mate_minus, plus_other, mate-mate, row_some, count-map, from_map, mate_there}
@@ -25,10 +25,7 @@ pick_minus : (a b : Bool) (p m : ℕ) → p ≢ m → count m (pick a b p m) ≡
 pick_minus a b p m e = grind (arith, tick_same, tick_other)
 
 pick_rises : (a b : Bool) (p m : ℕ) (ns : List ℕ) → ((k : ℕ) → IsIn k ns → (p < k) × (m < k)) → strictly_rises ns ≡ true → strictly_rises (pick a b p m ++ ns) ≡ true
-pick_rises true true p m ns l r = r
-pick_rises true false p m ns l r = rises_cons m ns (λ k i. (l k i).1) r
-pick_rises false true p m ns l r = rises_cons p ns (λ k i. (l k i).0) r
-pick_rises false false p m ns l r = r
+pick_rises a b p m ns l r = grind (arith, rises_cons)
 
 above_halves : (k e : ℕ) → e < edge_of k → (plus e < k) × (minus e < k)
 unfolding edge_of
@@ -58,10 +55,7 @@ module _ (M : Model) (above : List ℕ) where
   flat_passes : (x : ℕ) (es : List ℕ) → is_below x ≡ true → count x (flat_map (below_half M above) es) ≡ count (edge_of x) es
   flat_passes x es t = count_flat (below_half M above) x es ∙ total_same (λ e. count x (below_half M above e)) (λ e. tick e (edge_of x)) es (λ e i. half_counted e) ∙ total_ticks (edge_of x) es where
     half_counted : (e : ℕ) → count x (below_half M above e) ≡ tick e (edge_of x)
-    half_counted e = elim (eqb_tells (edge_of x) e) [
-      | inl s ↦ ap (λ n. count x (below_half M above n)) (sym s.1) ∙ own_edge x ∙ ap bit t ∙ sym (ap (λ n. tick n (edge_of x)) (sym s.1) ∙ tick_same (edge_of x))
-      | inr s ↦ other_edge x e s.1 ∙ sym (tick_other e (edge_of x) (λ q. s.1 (sym q)))
-    ]
+    half_counted e = grind (arith, own_edge, bit, tick_same, other_edge, tick_other)
 
   flat_fails : (x : ℕ) (es : List ℕ) → is_below x ≡ false → count x (flat_map (below_half M above) es) ≡ 0
   flat_fails x [] f = refl
@@ -120,10 +114,6 @@ module _ (M : Model) (v : ℕ) (fan : Fan (after M) M v) where
 turned_and : (a b c : Bool) → a ≡ c → bit (not b && a) ≡ bit (c && not b)
 turned_and a b c e = grind (arith, bit)
 
-mates_map : (f : ℕ → ℕ) (bs : List ℕ) → map f (map mate bs) ≡ map (λ b. f (mate b)) bs
-mates_map f [] = refl
-mates_map f (b ∷ bs) = ap (λ q. f (mate b) ∷ q) (mates_map f bs)
-
 module _ (M : Model) (above : List ℕ) (s : ℕ) (sound : Sound M) (faces : AreOf M above s) where
   abbrev halves : List ℕ
   halves = below_halves M above s
@@ -168,7 +158,7 @@ module _ (M : Model) (above : List ℕ) (s : ℕ) (sound : Sound M) (faces : Are
         ∙ changes_round_ring (round M) on fan.items fan.ring
         ∙ sym (total_same (λ x. count x (map mate halves)) (λ x. bit (on x && not (on (round M x)))) fan.items at_end)
         ∙ sym (starts_counted M (tail M g) fan (map mate halves) mate_in)
-        ∙ ap (count (tail M g)) (mates_map (tail M) halves)
+        ∙ ap (count (tail M g)) (map-map (tail M) mate halves)
 
   pub starts_are_ends : (v : ℕ) → count v (map (tail M) (below_halves M above s)) ≡ count v (map (λ b. tail M (mate b)) (below_halves M above s))
   starts_are_ends v = elim (IsIn_or_not v (map (tail M) halves)) [

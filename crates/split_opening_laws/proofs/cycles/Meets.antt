@@ -1,5 +1,5 @@
 -- Sums over a list, and how many items of a list stand in another, counted from either side.
-use Rattle.std.proofs.Common.{◌≡◌, ℕ, ◌+◌, ◌≤◌, Bool, true, false, cond, List, [], ◌∷◌, map, refl, sym, ap, ◌∙◌, arith, inl, inr, not, ◌&&◌, filter, flat_map}
+use Rattle.std.proofs.Common.{◌≡◌, ℕ, ◌+◌, ◌≤◌, Bool, true, false, List, [], ◌∷◌, map, refl, sym, ap, ◌∙◌, arith, inl, inr, not, ◌&&◌, filter, flat_map}
 use Rattle.std.proofs.lemmas.Bool.Decides.{eqb_tells}
 use Rattle.euler_operators.specs.Common.{tick, count, IsIn, IsApart, head_or, IsPath, IsRing}
 use Rattle.euler_operators.proofs.Common.{tick_same, tick_other, count-append, IsIn-map}
@@ -60,13 +60,10 @@ known_by f (z ∷ zs) d x y i j e = elim (eqb_tells x z) [
   ]
 ]
 
-kept : (p : ℕ → Bool) (x y : ℕ) (ys : List ℕ) (b : Bool) → p y ≡ b → p x ≡ true → count x (filter p ys) ≡ count x ys → count x (cond b (y ∷ filter p ys) (filter p ys)) ≡ tick x y + count x ys
-kept p x y ys b e f g = grind (arith, tick_other)
-
 -- an item that passes is kept, and no other comes in
 pub count_filter : (p : ℕ → Bool) (x : ℕ) (ys : List ℕ) → p x ≡ true → count x (filter p ys) ≡ count x ys
 count_filter p x [] t = refl
-count_filter p x (y ∷ ys) t = kept p x y ys (p y) refl t (count_filter p x ys t)
+count_filter p x (y ∷ ys) t = grind (arith, tick_other, count_filter p x ys t)
 
 -- how often an item stands in lists that are put one after the other
 pub count_flat : (g : ℕ → List ℕ) (x : ℕ) (ls : List ℕ) → count x (flat_map g ls) ≡ total (λ l. count x (g l)) ls

@@ -1,11 +1,14 @@
 -- Where no vertex is branched, each below half leads to one other, and no two to the same: so they form cycles.
-use Rattle.std.proofs.Common.{◌≡◌, ℕ, ◌≤◌, Bool, true, false, cond, nat_eq, nat_lt, List, [], ◌∷◌, map, Some, is_some, unwrap_or, refl, sym, ap, ◌∙◌, arith, true≢false, inl, inr, subst, ◌≢◌, zero, suc, ◌+◌, ◌<◌, ◌++◌, length, get_or, ◌⊎◌, eq-eqb, eqb-true, ne_eqb, flat_map}
-use Rattle.std.proofs.lemmas.Bool.Decides.{nat_tests, eqb_tells}
+use Rattle.std.proofs.Common.{◌≡◌, ℕ, ◌≤◌, Bool, true, false, cond, nat_eq, nat_lt, List, [], ◌∷◌, map, Some, is_some, unwrap_or, refl, sym, ap, ◌∙◌, arith, inl, inr, subst, ◌≢◌, zero, suc, ◌+◌, ◌<◌, ◌++◌, length, get_or, ◌⊎◌, eq-eqb, eqb-true, ne_eqb, flat_map}
+use Rattle.std.proofs.lemmas.Bool.Decides.{eqb_tells}
+use Rattle.std.proofs.lemmas.Simd.{map-map}
+use Rattle.std.proofs.lemmas.List.Folds.{flat_map-map}
+use Rattle.std.proofs.lemmas.Bool.{ltb-false}
 use Rattle.euler_operators.specs.Common.{count, IsIn, IsApart, SameItems, head_or, least, mate, Model, tail, Sound, Has, HasHalf, IsPath, IsRing, face_at, lists, strictly_rises}
 use Rattle.euler_operators.proofs.Common.{tick_same, tick_other, count-append, IsIn_or_not, from_map, IsApart-map, zero_first_where, row_some, IsIn-map, apart_within, IsIn-get_or, mate-mate, mate_there}
 use Rattle.euler_operators.specs.Table as table
 use Rattle.euler_laws.proofs.Common.{no_zero}
-use Rattle.shapes.proofs.Common.{zero_found}
+use Rattle.shapes.proofs.Common.{zero_found, map_stays}
 use Rattle.shapes.specs.Common.{first_such, below_halves, section_ends, next_below, cycle_from, section_cycles, next_place}
 use Rattle.split_opening_laws.specs.cycles.Permuting.{Permutes}
 use Rattle.split_opening_laws.specs.cycles.SectionCycles.{AreOf, IsUnbranched, IsSectionCycle, AreSectionCycles, AreApartCycles}
@@ -19,14 +22,7 @@ first_found : (p : ℕ → Bool) (ns : List ℕ) (n : ℕ) → IsIn n ns → p n
 first_found p [] n i t = absurd (omega arith)
 first_found p (m ∷ ms) n i t = first_or_later (p m) refl (λ j. first_found p ms n j t) where
   first_or_later : (b : Bool) → p m ≡ b → (IsIn n ms → IsIn (unwrap_or (first_such p ms) 0) ms × (p (unwrap_or (first_such p ms) 0) ≡ true)) → IsIn (unwrap_or (cond b (Some m) (first_such p ms)) 0) (m ∷ ms) × (p (unwrap_or (cond b (Some m) (first_such p ms)) 0) ≡ true)
-  first_or_later true e later = (omega (arith, tick_same m), e)
-  first_or_later false e later = elim (eqb_tells n m) [
-    | inl s ↦ absurd (true≢false (sym t ∙ ap p s.1 ∙ e))
-    | inr s ↦ let r = later (omega (arith, i, tick_other n m s.1)) in (omega (arith, r.0), r.1)
-  ]
-
-at_most_two : (n : ℕ) → nat_lt 2 n ≡ false → n ≤ 2
-at_most_two n e = grind (arith, nat_tests)
+  first_or_later b is later = grind (arith, tick_same, tick_other)
 
 -- ---- the cycles of a section where no vertex is branched
 
@@ -54,17 +50,9 @@ ring_back next x (y ∷ ys) d b p i = elim (eqb_tells b y) [
   | inr e ↦ let r = ring_back next y ys d b p.1 (omega (arith, i, tick_other b y e.1)) in (r.0, omega (arith, r.1), r.2)
 ]
 
-heads_are : (f : ℕ → List ℕ) (ls : List ℕ) → ((l : ℕ) → IsIn l ls → head_or 0 (f l) ≡ l) → map (head_or 0) (map f ls) ≡ ls
-heads_are f [] e = refl
-heads_are f (l ∷ ls) e = λ i. e l (omega (arith, tick_same l)) i ∷ heads_are f ls (λ k j. e k (omega (arith, j))) i
-
-leasts_are : (f : ℕ → List ℕ) (ls : List ℕ) → ((l : ℕ) → IsIn l ls → least (f l) ≡ l) → map least (map f ls) ≡ ls
-leasts_are f [] e = refl
-leasts_are f (l ∷ ls) e = λ i. e l (omega (arith, tick_same l)) i ∷ leasts_are f ls (λ k j. e k (omega (arith, j))) i
-
-flat_is : (f : ℕ → List ℕ) (ls : List ℕ) → flat_map (λ bs. bs) (map f ls) ≡ flat_map f ls
-flat_is f [] = refl
-flat_is f (l ∷ ls) = ap (λ q. f l ++ q) (flat_is f ls)
+-- where g tells of each list by which item it is made, it tells these items of all of them
+told_back : (g : List ℕ → ℕ) (f : ℕ → List ℕ) (ls : List ℕ) → ((l : ℕ) → IsIn l ls → g (f l) ≡ l) → map g (map f ls) ≡ ls
+told_back g f ls e = map-map g f ls ∙ map_stays (λ l. g (f l)) ls e
 
 module _ (M : Model) (above : List ℕ) (s : ℕ) (sound : Sound M) (faces : AreOf M above s) (unbranched : IsUnbranched M (below_halves M above s)) where
   abbrev halves : List ℕ
@@ -81,7 +69,7 @@ module _ (M : Model) (above : List ℕ) (s : ℕ) (sound : Sound M) (faces : Are
 
   two_ends : (v : ℕ) → Has M.vertices v → count v (section_ends M halves) ≤ 2
   two_ends v t = let r = row_some (table.get M.vertices v) t in
-      at_most_two (count v (section_ends M halves)) (zero_first_where (λ v _. nat_lt 2 (count v (section_ends M halves))) M.vertices (λ q y at z. no_zero q z (sound.vertices_fit q (ap is_some at))) (zero_found (table.first_where (λ v _. nat_lt 2 (count v (section_ends M halves))) M.vertices) unbranched) v r.0 r.1)
+      ltb-false 2 (count v (section_ends M halves)) (zero_first_where (λ v _. nat_lt 2 (count v (section_ends M halves))) M.vertices (λ q y at z. no_zero q z (sound.vertices_fit q (ap is_some at))) (zero_found (table.first_where (λ v _. nat_lt 2 (count v (section_ends M halves))) M.vertices) unbranched) v r.0 r.1)
 
   pub starts_apart : IsApart (map (tail M) (below_halves M above s))
   starts_apart v = elim (IsIn_or_not v starts) [
@@ -145,13 +133,7 @@ module _ (M : Model) (above : List ℕ) (s : ℕ) (sound : Sound M) (faces : Are
 
     -- the half before c ends where c starts
     back : (c : ℕ) → IsIn c (b ∷ others) → (a : ℕ) × IsIn a (b ∷ others) × (next a ≡ c)
-    back c j = ring_back next b others b c ring (turned c others j) where
-      turned : (c : ℕ) (qs : List ℕ) → IsIn c (b ∷ qs) → IsIn c (qs ++ b ∷ [])
-      turned c [] j = j
-      turned c (q ∷ qs) j = later (IsIn_or_not c (b ∷ qs)) (turned c qs) j where
-        later : IsIn c (b ∷ qs) ⊎ (count c (b ∷ qs) ≡ 0) → (IsIn c (b ∷ qs) → IsIn c (qs ++ b ∷ [])) → IsIn c (b ∷ q ∷ qs) → IsIn c (q ∷ (qs ++ b ∷ []))
-        later (inl k) more j = omega (arith, more k)
-        later (inr z) more j = omega (arith, z, j)
+    back c j = ring_back next b others b c ring (omega (arith, j, count-append c others (b ∷ [])))
 
     crossing : (h c : ℕ) → HasHalf M h → IsIn c (b ∷ others) → tail M h ≡ tail M c → lists above (face_at M h) ≢ lists above (face_at M (mate h)) → IsIn h (b ∷ others) ⊎ IsIn (mate h) (b ∷ others)
     crossing h c t j e ne = sides_differ (lists above (face_at M h)) refl (lists above (face_at M (mate h))) refl where
@@ -194,18 +176,18 @@ module _ (M : Model) (above : List ℕ) (s : ℕ) (sound : Sound M) (faces : Are
 
   pub cycles_cover : SameItems (flat_map (λ bs. bs) (section_cycles M (below_halves M above s))) (below_halves M above s)
   unfolding section_cycles
-  cycles_cover x = ap (count x) (flat_is (around next halves w) (leaders next halves w)) ∙ covers next halves w x
+  cycles_cover x = ap (count x) (flat_map-map (λ bs. bs) (around next halves w) (leaders next halves w)) ∙ covers next halves w x
 
   first_of : (l : ℕ) → IsIn l (leaders next halves w) → head_or 0 (around next halves w l) ≡ l
   first_of l i = ap (head_or 0) (around_is next halves w l (leader_in next halves w l i))
 
   pub cycles_begin : map (head_or 0) (section_cycles M (below_halves M above s)) ≡ map least (section_cycles M (below_halves M above s))
   unfolding section_cycles
-  cycles_begin = heads_are (around next halves w) (leaders next halves w) first_of ∙ sym (leasts_are (around next halves w) (leaders next halves w) (leader_least next halves w))
+  cycles_begin = told_back (head_or 0) (around next halves w) (leaders next halves w) first_of ∙ sym (told_back least (around next halves w) (leaders next halves w) (leader_least next halves w))
 
   pub cycles_rise : strictly_rises (map least (section_cycles M (below_halves M above s))) ≡ true
   unfolding section_cycles
-  cycles_rise = ap strictly_rises (leasts_are (around next halves w) (leaders next halves w) (leader_least next halves w)) ∙ filter_rises _ halves (halves_rise M above s sound)
+  cycles_rise = ap strictly_rises (told_back least (around next halves w) (leaders next halves w) (leader_least next halves w)) ∙ filter_rises _ halves (halves_rise M above s sound)
 
   pub cycles_apart : AreApartCycles M above s (section_cycles M (below_halves M above s))
   cycles_apart =

@@ -2,7 +2,7 @@
 use Rattle.std.proofs.Common.{◌≡◌, ℕ, zero, suc, ◌+◌, ◌≤◌, List, [], ◌∷◌, ◌++◌, length, map, refl, sym, ap, subst, ◌∙◌, arith, inl, inr, Bool, true, nat_eq, filter, flat_map, length-append, eq-eqb, eqb-true}
 use Rattle.std.proofs.lemmas.Bool.Decides.{eqb_tells}
 use Rattle.euler_operators.specs.Common.{tick, count, IsIn, IsApart, SameItems, last_or, least, IsPath, IsRing, orbit, rotate_to}
-use Rattle.euler_operators.proofs.Common.{tick_same, tick_other, count-append, least_in, least_same, IsIn_or_not, count-rotate_to, apart_back, IsApart-map, IsPath-append, orbit_ring, orbit_from, IsIn_last, IsPath_last, apart_within, count-filter, filter_passes}
+use Rattle.euler_operators.proofs.Common.{tick_same, tick_other, count-append, least_in, least_same, IsIn_or_not, count-rotate_to, apart_back, IsApart-map, IsPath-append, orbit_ring, orbit_from, IsIn_last, IsPath_last, apart_within, count-filter, filter_passes, tick_le, IsIn_one}
 use Rattle.split_opening_laws.specs.cycles.Permuting.{Permutes}
 use Rattle.split_opening_laws.proofs.cycles.Meets.{total, total_same, total_ticks, count_filter, count_flat}
 
@@ -53,12 +53,7 @@ module _ (next : ℕ → ℕ) (xs : List ℕ) (w : Permutes next xs) where
   ]
 
   pub closed : (h : ℕ) → IsIn h xs → Closed next xs h
-  closed h i = closes (length xs) h [] (next h) (omega arith) (λ x. one x) (refl, tt) (λ x j. only x j) where
-    one : (x : ℕ) → count x (h ∷ []) ≤ 1
-    one x = elim (eqb_tells x h) [ inl e ↦ omega (arith, ap (λ y. tick y h) e.1, tick_same h) | inr e ↦ omega (arith, tick_other x h e.1) ]
-
-    only : (x : ℕ) → IsIn x (h ∷ []) → IsIn x xs
-    only x j = elim (eqb_tells x h) [ inl e ↦ subst (λ y. IsIn y xs) (sym e.1) i | inr e ↦ absurd (omega (arith, j, tick_other x h e.1)) ]
+  closed h i = closes (length xs) h [] (next h) (omega arith) (λ x. omega (arith, tick_le x h)) (refl, tt) (λ x j. subst (λ y. IsIn y xs) (sym (IsIn_one h x j)) i)
 
   -- the length of the list is fuel enough
   abbrev pub around : ℕ → List ℕ
@@ -133,12 +128,7 @@ module _ (next : ℕ → ℕ) (xs : List ℕ) (w : Permutes next xs) where
   out x z ls i = count_flat (around next xs w) x ls ∙ none ls i where
     none : (ks : List ℕ) → ((l : ℕ) → IsIn l ks → IsIn l xs) → total (λ l. count x (around next xs w l)) ks ≡ 0
     none [] i = refl
-    none (k ∷ ks) i = omega (arith, none ks (λ l j. i l (omega (arith, j))), nowhere k (i k (omega (arith, tick_same k)))) where
-      nowhere : (k : ℕ) → IsIn k xs → count x (around next xs w k) ≡ 0
-      nowhere k j = elim (IsIn_or_not x (around next xs w k)) [
-        | inl s ↦ absurd (omega (arith, z, around_within next xs w k j x s))
-        | inr s ↦ s
-      ]
+    none (k ∷ ks) i = grind (arith, tick_same, around_within, none ks (λ l j. i l (omega (arith, j))))
 
   -- the rings of the leaders, one after the other, have each item once
   pub covers : SameItems (flat_map (around next xs w) leaders) xs

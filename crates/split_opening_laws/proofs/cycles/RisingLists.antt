@@ -1,18 +1,12 @@
 -- Strictly rising lists put together, and thinned out.
-use Rattle.std.proofs.Common.{◌≡◌, ℕ, ◌<◌, Bool, true, nat_lt, ◌&&◌, List, [], ◌∷◌, refl, ap, ◌∙◌, arith, filter}
-use Rattle.std.proofs.lemmas.Bool.Decides.{nat_tests}
+use Rattle.std.proofs.Common.{◌≡◌, ℕ, ◌<◌, true, ◌&&◌, List, [], ◌∷◌, refl, ap, ◌∙◌, arith, filter, lt-ltb, Bool}
 use Rattle.euler_operators.specs.Common.{IsIn, strictly_rises}
 use Rattle.euler_operators.proofs.Common.{count-filter}
 use Rattle.euler_laws.proofs.Common.{first_listed, IsIn-from_listed, rises_over, rises_on}
 
 pub rises_cons : (n : ℕ) (ns : List ℕ) → ((k : ℕ) → IsIn k ns → n < k) → strictly_rises ns ≡ true → strictly_rises (n ∷ ns) ≡ true
 rises_cons n [] l r = refl
-rises_cons n (m ∷ ms) l r = both (nat_lt n m) (less n m (l m (IsIn-from_listed m (m ∷ ms) (first_listed m ms)))) r where
-  less : (a b : ℕ) → a < b → nat_lt a b ≡ true
-  less a b l = grind (arith, nat_tests)
-
-  both : (b : Bool) → b ≡ true → strictly_rises (m ∷ ms) ≡ true → (b && strictly_rises (m ∷ ms)) ≡ true
-  both b e r = ap (λ c. c && strictly_rises (m ∷ ms)) e ∙ r
+rises_cons n (m ∷ ms) l r = ap (λ b. b && strictly_rises (m ∷ ms)) (lt-ltb n m (l m (IsIn-from_listed m (m ∷ ms) (first_listed m ms)))) ∙ r
 
 pub filter_rises : (p : ℕ → Bool) (ns : List ℕ) → strictly_rises ns ≡ true → strictly_rises (filter p ns) ≡ true
 filter_rises p [] r = refl

@@ -5,8 +5,8 @@ use Rattle.std.proofs.lemmas.List.{length-map, get_or-map}
 use Rattle.euler_operators.specs.Common.{canonical, mate, minus, get-map_rows, Table, same_table, Model, LoopRow, cycle, face_of, EdgeRow, FaceRow, Has, Sound}
 use Rattle.euler_operators.specs.Table as table
 use Rattle.euler_operators.proofs.Common.{face_row, get-put_here, get-put_other, put-put}
+use Rattle.euler_laws.proofs.Common.{Leads, leads_on, leads_sound}
 use Rattle.euler_laws.specs.Laws.{effects, AreAccepted}
-use Rattle.euler_laws.proofs.Common.{Leads, leads_on, effects_keep_sound}
 use Rattle.shapes.specs.Common.{Taken, numbers_after, next_place, rewritten_row, renamed, without_rows, with_rim, opened_row, opened_along}
 use Rattle.sweeps_laws.proofs.prism.Sides.{fits}
 use Rattle.split_opening_laws.specs.strips.Strips.{with_rows, put_out, strip_face, raised_items, raised_loop, copies_raised, copied, raised_edge, riser_edge, strips_cut}
@@ -20,9 +20,9 @@ use Rattle.split_opening_laws.proofs.sections.Numbered.{rows_at, rows_high, rows
 use Rattle.split_opening_laws.proofs.strips.Cycle.{next_within, next_copy}
 use Rattle.split_opening_laws.proofs.caps.Joined.{gone_below, gone_within, gone_above}
 use Rattle.split_opening_laws.proofs.strips.Copied.{copy_at}
-use Rattle.split_opening_laws.proofs.strips.Whole.{strips_accepted, strips_are_cut}
-use Rattle.split_opening_laws.proofs.copies.Raising.{copies_accepted, copies_are_raised, raised_sound}
-use Rattle.split_opening_laws.proofs.caps.Whole.{caps_accepted, caps_made}
+use Rattle.split_opening_laws.proofs.strips.Whole.{strips_lead}
+use Rattle.split_opening_laws.proofs.copies.Raising.{raised_sound, copies_lead}
+use Rattle.split_opening_laws.proofs.caps.Whole.{caps_lead}
 
 -- ---- rows that are put at fresh numbers and go again
 
@@ -194,29 +194,18 @@ module _ (M : Model) (above : List ℕ) (s : ℕ) (c : Taken) (bs : List ℕ) (w
   pub capped_is_open : C ≡ X
   capped_is_open = λ i. record { solids = kept.0 i; faces = faces_open i; loops = loops_open i; edges = edges_open i; vertices = kept.1 i }
 
-  abbrev A : Model
-  A = strips_cut M s c bs m
+  -- no operator is refused, and they open the solid
+  pub opening_leads : Leads M X (opening_ops M s c bs)
+  unfolding opening_ops
+  opening_leads = leads_on M N X (strip_ops M s c bs m ++ copy_ops M c bs m) (cap_ops c m)
+      (leads_on M (strips_cut M s c bs m) N (strip_ops M s c bs m) (copy_ops M c bs m) (strips_lead M above s c bs w m (omega arith)) (copies_lead M above s c bs w m (omega arith)))
+      (subst (λ Y. Leads N Y (cap_ops c m)) capped_is_open (subst (λ n. Leads N C (cap_ops c n)) size (caps_lead N s c hs (raised_sound M above s c bs w) raised_strips)))
 
-  last : Leads N X (cap_ops c m)
-  last = subst (λ n. Leads N X (cap_ops c n)) (length-map bs mate) (record {
-    accepted = caps_accepted N s c (map mate bs) (raised_sound M above s c bs w) raised_strips;
-    made = caps_made N s c (map mate bs) (raised_sound M above s c bs w) raised_strips ∙ capped_is_open;
-  })
-
-  all : Leads M X (strip_ops M s c bs m ++ copy_ops M c bs m ++ cap_ops c m)
-  all = leads_on M N X (strip_ops M s c bs m ++ copy_ops M c bs m) (cap_ops c m)
-      (leads_on M A N (strip_ops M s c bs m) (copy_ops M c bs m) (record { accepted = strips_accepted M above s c bs w; made = strips_are_cut M above s c bs w })
-      (record { accepted = copies_accepted M above s c bs w; made = copies_are_raised M above s c bs w })) last
-
-  -- no operator is refused
   pub opening_accepted : AreAccepted M (opening_ops M s c bs)
-  unfolding opening_ops
-  opening_accepted = all.accepted
+  opening_accepted = opening_leads.accepted
 
-  -- and they open the solid
   pub opening_made : effects M (opening_ops M s c bs) ≡ X
-  unfolding opening_ops
-  opening_made = all.made
+  opening_made = opening_leads.made
 
   pub opened_sound : Sound X
-  opened_sound = subst Sound opening_made (effects_keep_sound M (opening_ops M s c bs) w.sound opening_accepted)
+  opened_sound = leads_sound M X (opening_ops M s c bs) w.sound opening_leads

@@ -5,7 +5,7 @@ use Rattle.std.proofs.lemmas.Bool.Decides.{eqb_tells}
 use Rattle.std.proofs.lemmas.Grind.{flat_map-append}
 use Rattle.euler_operators.specs.Common.{Plane, IsIn, count, mate, plus, Model, solid_of, rings_of, LoopRow, no_face, face_of, outer, Sound, Has, lists, torn_edge, strictly_rises, get-map_rows}
 use Rattle.euler_operators.specs.Table as table
-use Rattle.euler_operators.proofs.Common.{plus_row, minus_row, mate_plus, mate_minus, all_where_none, first_where_zero, in_use_within, get-put_here, get-put_other, count-append, tick_same, tick_other, IsIn_or_not, face_row}
+use Rattle.euler_operators.proofs.Common.{plus_row, minus_row, mate_plus, mate_minus, all_where_none, first_where_zero, in_use_within, get-put_here, get-put_other, count-append, tick_same, tick_other, IsIn_or_not, face_row, IsIn_push}
 use Rattle.euler_laws.proofs.Common.{loop_row, listed_front, listed-from_in, rises_over, rises_on}
 use Rattle.shapes.specs.Common.{AreFree, AreLeft, Taken, numbers_after, below_halves, section_cycles, is_hole, Caps, Opening, opened_along, next_opened, all_opened, both_lists, rewritten_row, renamed}
 use Rattle.shapes.proofs.Common.{get-put_cases}
@@ -111,16 +111,12 @@ module _ (above : List ℕ) (s : ℕ) (o : Opening) (w : CanBeOpenedInTurn above
 
 -- ---- the caps that openings leave: they have no rings, and rise
 
--- ---- one more at the end of a rising list
-
+-- one more at the end of a rising list
 rises_last : (fs : List ℕ) (u : ℕ) → strictly_rises fs ≡ true → ((f : ℕ) → IsIn f fs → f < u) → strictly_rises (fs ++ u ∷ []) ≡ true
 rises_last [] u r l = refl
 rises_last (f ∷ fs) u r l = rises_cons f (fs ++ u ∷ []) less (rises_last fs u (rises_on f fs r) (λ k i. l k (omega (arith, i)))) where
   less : (k : ℕ) → IsIn k (fs ++ u ∷ []) → f < k
-  less k i = elim (eqb_tells k u) [
-    | inl e ↦ omega (arith, l f (omega (arith, tick_same f)), e.1)
-    | inr e ↦ rises_over f k fs r (omega (arith, i, count-append k fs (u ∷ []), tick_other k u e.1))
-  ]
+  less k i = elim (IsIn_push k u fs i) [ inl j ↦ rises_over f k fs r j | inr e ↦ omega (arith, l f (omega (arith, tick_same f)), e) ]
 
 caps_there : (M : Model) (s : ℕ) (ks : List Caps) → ArePlain M s ks → (f : ℕ) → IsIn f (cap_faces ks) → Has M.faces f
 caps_there M s [] w f i = absurd (omega arith)
@@ -219,19 +215,13 @@ caps_stay above s p o bs cs w caps =
       all_rise = ap strictly_rises (cap_faces_next above o.caps k)
           ∙ rises_last ((above ++ cap_faces o.caps) ++ (c.face + 1) ∷ []) (c.face + length bs + 1)
           (rises_last (above ++ cap_faces o.caps) (c.face + 1) caps.all_rise (λ f i. omega (arith, low f i)))
-          (λ f i. before_last f (above ++ cap_faces o.caps) (c.face + 1) (c.face + length bs + 1) i (λ j. omega (arith, low f j)) (omega (arith, some)));
+          (λ f i. elim (IsIn_push f (c.face + 1) (above ++ cap_faces o.caps) i) [ inl j ↦ omega (arith, low f j) | inr e ↦ omega (arith, e, some) ]);
       upper_rise = ap strictly_rises (upper_next above o.caps k) ∙ rises_last (upper_faces above o.caps) (c.face + length bs + 1) caps.upper_rise (λ f i. omega (arith, low_upper f i));
     }
   where
     all_there : (f : ℕ) → IsIn f (above ++ cap_faces o.caps) → IsIn f above ⊎ (count f above ≡ 0) → Has o.model.faces f
     all_there f i (inl j) = above_there above s o (bs ∷ cs) w f (listed-from_in f above j)
     all_there f i (inr z) = caps_there o.model s o.caps caps.plain f (omega (arith, i, z, count-append f above (cap_faces o.caps)))
-
-    before_last : (f : ℕ) (fs : List ℕ) (l u : ℕ) → IsIn f (fs ++ l ∷ []) → (IsIn f fs → f < u) → l < u → f < u
-    before_last f fs l u i less past = elim (eqb_tells f l) [
-      | inl e ↦ omega (arith, e.1, past)
-      | inr e ↦ less (omega (arith, i, count-append f fs (l ∷ []), tick_other f l e.1))
-    ]
 
 pub caps_rise : (above : List ℕ) (s : ℕ) (p : Plane) (o : Opening) (cs : List (List ℕ)) → CanBeOpenedInTurn above s o cs → HasCaps above s o → HasCaps above s (all_opened p above s o cs)
 caps_rise above s p o [] w caps = caps

@@ -5,7 +5,7 @@ use Rattle.std.proofs.lemmas.Bool.Decides.{eqb_tells}
 use Rattle.euler_operators.specs.Common.{count, IsIn, IsApart, mate, edge_of, Model, tail, solid_of, loop_of, no_face, Sound, HasHalf, Has, face_at, lists}
 use Rattle.euler_operators.specs.Table as table
 use Rattle.euler_operators.proofs.Common.{tick_same, count-append, IsIn_or_not, IsIn-get_or, Contains-from_in, from_map, mate-mate, row_of, mate_there, mate_there as half_mate, IsIn-map, in_use_within}
-use Rattle.euler_laws.proofs.Common.{halves_of_edge, first_listed, rest_listed, other_last}
+use Rattle.euler_laws.proofs.Common.{halves_of_edge, other_last, listed-from_in}
 use Rattle.shapes.specs.Common.{AreFree, Taken, numbers_after, next_place, opened_along}
 use Rattle.sweeps_laws.proofs.swept.Numbers.{next_within}
 use Rattle.split_opening_laws.specs.cycles.SectionCycles.{IsBelowHalf, IsSectionCycle, AreSectionCycles, AreApartCycles}
@@ -134,10 +134,6 @@ cycles_stay M above s c bs cs sound free w =
 
 -- ---- what is between the upper faces and the others, once a solid is opened along one cycle of several
 
-last_listed : (fs : List ℕ) (u : ℕ) → lists (fs ++ u ∷ []) u ≡ true
-last_listed [] u = first_listed u []
-last_listed (g ∷ gs) u = rest_listed g u (gs ++ u ∷ []) (last_listed gs u)
-
 module _ (M : Model) (above : List ℕ) (s : ℕ) (c : Taken) (bs : List ℕ) (cs : List (List ℕ)) (fs : List ℕ)
     (sound : Sound M) (free : AreFree M c) (apart : AreApartCycles M above s (bs ∷ cs)) (upper_there : (f : ℕ) → lists fs f ≡ true → Has M.faces f)
     (between : AreBetween M fs (halves_in (bs ∷ cs))) (then_sound : Sound (opened_along M above s c bs)) where
@@ -187,7 +183,9 @@ module _ (M : Model) (above : List ℕ) (s : ℕ) (c : Taken) (bs : List ℕ) (c
           let r = from_map mate a.0 bs a.1 in
           true≢false (sym (ap (λ x. lists (fs ++ u ∷ []) (face_at K x)) p.0 ∙ ap (lists (fs ++ u ∷ [])) a.2 ∙ old_listed (face_at M a.0) (face_old a.0 (of_mate a.0 a.1))
           ∙ ap (λ x. lists fs (face_at M x)) r.2 ∙ between.mates_above r.0 (in_first r.0 r.1)) ∙ f)
-      | inr p ↦ true≢false (sym (ap (λ x. lists (fs ++ u ∷ []) (face_at K x)) p.0 ∙ ap (lists (fs ++ u ∷ [])) (minus_face M above s c bs then_sound (edge_of h) i) ∙ last_listed fs u) ∙ f)
+      | inr p ↦
+          let last = listed-from_in u (fs ++ u ∷ []) (omega (arith, count-append u fs (u ∷ []), tick_same u)) in
+          true≢false (sym (ap (λ x. lists (fs ++ u ∷ []) (face_at K x)) p.0 ∙ ap (lists (fs ++ u ∷ [])) (minus_face M above s c bs then_sound (edge_of h) i) ∙ last) ∙ f)
     ]
 
     -- the mate of a mate lies below

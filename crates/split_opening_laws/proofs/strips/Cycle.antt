@@ -1,10 +1,11 @@
 -- What is known of a cycle along which a solid can be opened, place by place.
-use Rattle.std.proofs.Common.{◌≡◌, ◌≢◌, ℕ, zero, suc, ◌+◌, ◌-◌, ◌≤◌, ◌<◌, true, false, cond, List, [], ◌∷◌, length, is_some, refl, sym, ap, ◌∙◌, subst, arith, ◌⊎◌, inl, inr, true≢false, nat_eq, ◌++◌, Some, map, get_or, option_map}
+use Rattle.std.proofs.Common.{◌≡◌, ◌≢◌, ℕ, suc, ◌+◌, ◌-◌, ◌≤◌, ◌<◌, true, false, cond, List, [], ◌∷◌, length, is_some, refl, sym, ap, ◌∙◌, subst, arith, ◌⊎◌, inl, inr, true≢false, nat_eq, ◌++◌, Some, map, get_or, option_map}
 use Rattle.std.proofs.lemmas.Bool.Decides.{eqb_tells}
-use Rattle.std.proofs.lemmas.List.{length-map, get_or-map, map-append}
+use Rattle.std.proofs.lemmas.List.{length-map, get_or-map, map-append, get_or_default}
+use Rattle.std.proofs.lemmas.Bool.{cases_order}
 use Rattle.euler_operators.specs.Common.{IsIn, mate, edge_of, plus, Model, tail, LoopRow, cycle, holds, loop_of, face_of, cycle_of, HasHalf, Sound, Has, face_at, lists, canonical, get-map_rows}
 use Rattle.euler_operators.specs.Table as table
-use Rattle.euler_operators.proofs.Common.{tick_same, tick_other, from_map, IsIn-get_or, Contains-from_in, AllPairs-from_apart, mate-mate, plus_row, in_use_within, mate_there as half_mate, content_row, face_row, in-holds, cycle_there, row_of, count-canonical, IsIn-map}
+use Rattle.euler_operators.proofs.Common.{from_map, IsIn-get_or, Contains-from_in, AllPairs-from_apart, mate-mate, plus_row, in_use_within, mate_there as half_mate, content_row, face_row, in-holds, cycle_there, row_of, count-canonical, IsIn-map}
 use Rattle.euler_laws.proofs.Common.{IsIn-from_listed, listed-from_in}
 use Rattle.shapes.specs.Common.{Taken, numbers_after, next_place, rewritten_row, renamed, both_lists}
 use Rattle.sweeps_laws.proofs.lamina.Lists.{numbers_last}
@@ -73,15 +74,13 @@ module _ (M : Model) (above : List ℕ) (s : ℕ) (c : Taken) (bs : List ℕ) (w
 
   -- different places have different starts
   pub starts_differ : (i j : ℕ) → i < length bs → j < length bs → tail M (half_at i) ≡ tail M (half_at j) → i ≡ j
-  starts_differ i j li lj e = elim (order i j) [
+  starts_differ i j li lj e = elim (cases_order i j) [
     | inl p ↦ p
     | inr p ↦ elim p [
       | inl l ↦ absurd (AllPairs-from_apart (map (tail M) bs) w.cycle.starts_apart i j 0 l (omega (arith, lj, length-map bs (tail M))) (start_at i li ∙ e ∙ sym (start_at j lj)))
       | inr l ↦ absurd (AllPairs-from_apart (map (tail M) bs) w.cycle.starts_apart j i 0 l (omega (arith, li, length-map bs (tail M))) (start_at j lj ∙ sym e ∙ sym (start_at i li)))
     ]
-  ] where
-    order : (a b : ℕ) → (a ≡ b) ⊎ ((a < b) ⊎ (b < a))
-    order a b = grind arith
+  ]
 
   pub mates_differ : (i j : ℕ) → i < length bs → j < length bs → mate_at i ≡ mate_at j → i ≡ j
   mates_differ i j li lj e = starts_differ i j li lj (ap (tail M) (sym (mate-mate (half_at i)) ∙ ap mate e ∙ mate-mate (half_at j)))
@@ -95,20 +94,10 @@ module _ (M : Model) (above : List ℕ) (s : ℕ) (c : Taken) (bs : List ℕ) (w
   mate_place h l =
       let r = from_map mate h bs (IsIn-from_listed h (map mate bs) l) in
       let p = Contains-from_in r.0 bs r.1 in
-      (p.0, p.1, r.2 ∙ ap mate (sym (same_default bs p.0 r.0 p.1 p.2))) where
-        same_default : (xs : List ℕ) (j x : ℕ) → j < length xs → get_or xs j x ≡ x → get_or xs j 0 ≡ x
-        same_default [] j x lt e = absurd (omega arith)
-        same_default (y ∷ ys) zero x lt e = e
-        same_default (y ∷ ys) (suc j) x lt e = same_default ys j x (omega arith) e
+      (p.0, p.1, r.2 ∙ ap mate (sym (get_or_default bs p.0 0 r.0 p.1 ∙ p.2)))
 
   pub place_of : (h : ℕ) → IsIn h bs → (j : ℕ) × (j < length bs) × (h ≡ half_at j)
-  place_of h i = let p = mate_place (mate h) (listed-from_in (mate h) (map mate bs) (mapped bs h i)) in (p.0, p.1, sym (mate-mate h) ∙ ap mate p.2 ∙ mate-mate (half_at p.0)) where
-    mapped : (xs : List ℕ) (x : ℕ) → IsIn x xs → IsIn (mate x) (map mate xs)
-    mapped [] x i = absurd (omega (arith, i))
-    mapped (y ∷ ys) x i = elim (eqb_tells x y) [
-      | inl e ↦ subst (λ q. IsIn (mate x) (mate q ∷ map mate ys)) e.1 (omega (arith, tick_same (mate x)))
-      | inr e ↦ omega (arith, mapped ys x (omega (arith, i, tick_other x y e.1)))
-    ]
+  place_of h i = let p = mate_place (mate h) (listed-from_in (mate h) (map mate bs) (IsIn-map mate h bs i)) in (p.0, p.1, sym (mate-mate h) ∙ ap mate p.2 ∙ mate-mate (half_at p.0))
 
   pub mate_listed : (j : ℕ) → j < length bs → lists (map mate bs) (mate_at j) ≡ true
   mate_listed j lt = listed-from_in (mate_at j) (map mate bs) (subst (λ q. IsIn q (map mate bs)) (get_or-map mate bs j 0 0 lt) (IsIn-get_or (map mate bs) j 0 (omega (arith, lt, length-map bs mate))))
