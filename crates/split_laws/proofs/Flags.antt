@@ -64,10 +64,7 @@ flags_are above s p o cs w = sym (append-nil (map (λ k. k.hole) (all_opened p a
     ∙ openings_carry above s p (λ x ds. map (λ k. k.hole) x.caps ++ map (is_hole x.model p) ds ≡ map (λ k. k.hole) o.caps ++ map (is_hole o.model p) cs) next o cs w refl where
       next : (x : Opening) (bs : List ℕ) (ds : List (List ℕ)) → CanBeOpenedInTurn above s x (bs ∷ ds) → map (λ k. k.hole) x.caps ++ map (is_hole x.model p) (bs ∷ ds) ≡ map (λ k. k.hole) o.caps ++ map (is_hole o.model p) cs →
           let n = opened_next p above s x bs in map (λ k. k.hole) n.caps ++ map (is_hole n.model p) ds ≡ map (λ k. k.hole) o.caps ++ map (is_hole o.model p) cs
-      next x bs ds w a =
-          (λ i. map-append (λ k. k.hole) x.caps (new_caps p x bs ∷ []) i
-          ++ holes_still x.model above s x.taken bs w.sound w.free w.cycles.cycles.0 p ds w.cycles.cycles.1 (starts_elsewhere x.model above s bs ds w.cycles) i)
-          ∙ append_assoc (map (λ k. k.hole) x.caps) (is_hole x.model p bs ∷ []) (map (is_hole x.model p) ds) ∙ a
+      next x bs ds w a = grind (arith, map-append, new_caps, holes_still, starts_elsewhere, append_assoc)
 
 -- ---- how many are holes
 

@@ -1,16 +1,15 @@
 -- A cap that becomes a ring of another: the operator is accepted, and what stays.
 use Rattle.std.specs.List.{list_any}
-use Rattle.std.proofs.Common.{◌≡◌, ◌≢◌, ℕ, true, List, [], ◌∷◌, is_some, refl, sym, ap, ◌∙◌, arith, ◌⊎◌, inl, inr, true≢false, ◌≤◌, ◌<◌, suc, Bool, false, cond, length, None, not, ◌||◌, get_or, zero, ◌++◌, fold, filter}
+use Rattle.std.proofs.Common.{◌≡◌, ◌≢◌, ℕ, true, List, [], ◌∷◌, is_some, refl, sym, ap, ◌∙◌, arith, ◌⊎◌, inl, inr, true≢false, ◌≤◌, ◌<◌, suc, false, length, None, not, get_or, zero, ◌++◌, fold, filter}
 use Rattle.std.proofs.lemmas.Bool.Decides.{nat_tests, eqb_tells}
 use Rattle.euler_operators.specs.Common.{tick, count, IsIn, IsApart, mate, tables, Model, loop_of, face_of, solid_of, outer, Sound, Has, HasHalf, face_at, lists, effect, kfmrh}
 use Rattle.euler_operators.specs.Table as table
 use Rattle.euler_operators.specs.declared.Op.TheVariants.{Kfmrh}
 use Rattle.euler_operators.specs.declared.Op.{Op}
 use Rattle.euler_operators.proofs.Common.{tick_same, tick_other, IsIn_or_not, mate_there}
-use Rattle.euler_laws.proofs.Common.{loop_sound, KillGoes, sound-kfmrh, kill_same, kill_face_l, kill_face_else, l_face, g_gone, kill_solid, kill_outer, kfmrh_accepted}
+use Rattle.euler_laws.proofs.Common.{loop_sound, KillGoes, sound-kfmrh, kill_same, kill_face_l, kill_face_else, l_face, g_gone, kill_solid, kill_outer, kfmrh_accepted, Leads, leads_one, leads_none, leads_on}
 use Rattle.euler_laws.proofs.shared.Rings.{SameRings, half_back, loop-rings}
 use Rattle.shapes.specs.Common.{Caps, outer_caps, hole_closed, no_caps}
-use Rattle.split_drawing_laws.proofs.drawings.Runs.{Leads, leads_one, leads_none, leads_on}
 use Rattle.split_opening_laws.specs.sections.Capped.{IsPlain, ArePlain, cap_faces}
 use Rattle.split_laws.specs.SplitOps.{closing_ops}
 
@@ -211,10 +210,7 @@ all_close N s us o (k ∷ ks) w =
 -- where not all caps are those of holes, some are not
 pub some_other : (ks : List Caps) → length (filter (λ k. k.hole) ks) < length ks → list_any (λ k. not k.hole) ks ≡ true
 some_other [] l = absurd (omega (arith, l))
-some_other (k ∷ ks) l = either_cap k.hole (some_other ks) l where
-  either_cap : (b : Bool) → (length (filter (λ k. k.hole) ks) < length ks → list_any (λ k. not k.hole) ks ≡ true) → length (cond b (k ∷ filter (λ k. k.hole) ks) (filter (λ k. k.hole) ks)) < suc (length ks) → not b || list_any (λ k. not k.hole) ks ≡ true
-  either_cap true later l = later (omega (arith, l))
-  either_cap false later l = refl
+some_other (k ∷ ks) l = grind (arith, some_other ks)
 
 -- what is said of some caps says one thing of each
 pub record IsOfEach (All : List Caps → Type 0) (One : Caps → Type 0) : Type 0 where
@@ -229,10 +225,7 @@ module _ (All : List Caps → Type 0) (One : Caps → Type 0) (each : IsOfEach A
 
   pub outer_each : (ks : List Caps) → All ks → list_any (λ k. not k.hole) ks ≡ true → One (outer_caps ks)
   outer_each [] a e = absurd (true≢false (sym e))
-  outer_each (k ∷ ks) a e = either_cap k.hole (outer_each ks (each.others k ks a)) e where
-    either_cap : (b : Bool) → (list_any (λ k. not k.hole) ks ≡ true → One (outer_caps ks)) → not b || list_any (λ k. not k.hole) ks ≡ true → One (cond b (outer_caps ks) k)
-    either_cap true r e = r e
-    either_cap false r e = each.one k ks a
+  outer_each (k ∷ ks) a e = grind (arith, outer_each ks (each.others k ks a))
 
   pub each_at : (ks : List Caps) (i : ℕ) → i < length ks → All ks → One (get_or ks i no_caps)
   each_at [] i l a = absurd (omega (arith, l))
@@ -258,11 +251,7 @@ holes_counted x (k ∷ ks) = grind (arith, holes_counted x ks)
 
 pub outer_counted : (x : ℕ) (ks : List Caps) → list_any (λ k. not k.hole) ks ≡ true → count x (cap_faces (outer_caps ks ∷ filter (λ k. k.hole) ks)) ≤ count x (cap_faces ks)
 outer_counted x [] e = absurd (true≢false (sym e))
-outer_counted x (k ∷ ks) e = either_cap k.hole (outer_counted x ks) e where
-  either_cap : (b : Bool) → (list_any (λ k. not k.hole) ks ≡ true → count x (cap_faces (outer_caps ks ∷ filter (λ k. k.hole) ks)) ≤ count x (cap_faces ks)) → not b || list_any (λ k. not k.hole) ks ≡ true →
-      count x (cap_faces (cond b (outer_caps ks) k ∷ cond b (k ∷ filter (λ k. k.hole) ks) (filter (λ k. k.hole) ks))) ≤ count x (cap_faces (k ∷ ks))
-  either_cap true r e = omega (arith, r e)
-  either_cap false r e = omega (arith, holes_counted x ks)
+outer_counted x (k ∷ ks) e = grind (arith, holes_counted, outer_counted x ks)
 
 -- where some caps are no hole's, those of the holes can become rings
 pub can_close : (N : Model) (s : ℕ) (us : List ℕ) (ks : List Caps) → CanPart N s us → ArePlain N s ks → IsApart (cap_faces ks) → AreLevel us ks → length (filter (λ k. k.hole) ks) < length ks →

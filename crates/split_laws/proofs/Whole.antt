@@ -1,13 +1,12 @@
 -- The upper faces that are left parted from the solid: a split from its first operator to its two solids.
 use Rattle.std.proofs.Common.{◌≡◌, ℕ, Bool, true, false, cond, List, [], ◌∷◌, None, is_some, IsTrue, refl, sym, ap, ◌∙◌, subst, ◌+◌, ◌≤◌, not, ◌++◌, arith, ◌<◌, length, unwrap_or, filter, map, fold}
-use Rattle.euler_operators.specs.Common.{mate, Model, loop_of, solid_of, is_number, no_face, Has, HasHalf, Sound, face_at, lists, strictly_rises, effect, part, faces_to_solid, count, IsIn, IsApart, Plane}
+use Rattle.euler_operators.specs.Common.{mate, Model, solid_of, is_number, no_face, Has, HasHalf, Sound, face_at, lists, strictly_rises, effect, part, faces_to_solid, count, IsIn, IsApart, Plane}
 use Rattle.euler_operators.specs.Table as table
 use Rattle.euler_operators.specs.declared.Op.TheVariants.{Part}
 use Rattle.euler_operators.specs.declared.Op.{Op}
-use Rattle.euler_operators.proofs.Common.{row_of, mate_there, same_truth, map_alike, tick_same, count-append, IsIn-filter, count-filter, filter_passes, mate-mate}
-use Rattle.euler_laws.proofs.Common.{IsIn-from_listed, listed-from_in, PartGoes, part_accepted, counted_once, none_counted, effects_keep_sound}
+use Rattle.euler_operators.proofs.Common.{mate_there, same_truth, map_alike, tick_same, count-append, IsIn-filter, count-filter, filter_passes, mate-mate}
+use Rattle.euler_laws.proofs.Common.{IsIn-from_listed, listed-from_in, PartGoes, part_accepted, counted_once, none_counted, effects_keep_sound, half_face, Leads, leads_one, leads_on}
 use Rattle.shapes.specs.Common.{Caps, Opening, outer_caps, hole_closed, holes_closed, upper_left, opened_at, split_refusal, split_model, split_drawn, Drawing, with_drawings, below_halves, section_cycles, has_stray_hole, faces_above}
-use Rattle.split_drawing_laws.proofs.drawings.Runs.{Leads, leads_one, leads_on}
 use Rattle.split_opening_laws.specs.sections.Capped.{ArePlain, cap_faces, HasCaps}
 use Rattle.split_opening_laws.specs.sections.InTurn.{upper_faces, CanBeOpenedInTurn}
 use Rattle.split_opening_laws.proofs.cycles.RisingLists.{filter_rises}
@@ -65,9 +64,6 @@ module _ (N : Model) (s t : ℕ) (us : List ℕ) (w : CanPart N s us) (both : Bo
   abbrev fs : List ℕ
   fs = still_there N us
 
-  face_there : (x : ℕ) → HasHalf N x → Has N.faces (face_at N x)
-  face_there x h = w.sound.loops_of_faces (loop_of N x) (ap is_some (row_of N w.sound x h))
-
   goes : PartGoes N s t fs
   goes = record {
     s_there = subst (Has N.solids) both.lower_of (w.sound.faces_of_solids both.lower both.lower_there);
@@ -77,7 +73,7 @@ module _ (N : Model) (s t : ℕ) (us : List ℕ) (w : CanPart N s us) (both : Bo
     listed = (both.upper, still_lists N us both.upper both.upper_there ∙ both.upper_listed);
     rises = filter_rises (table.has N.faces) us rises;
     left = (both.lower, both.lower_there, both.lower_of, still_lists N us both.lower both.lower_there ∙ both.lower_unlisted);
-    whole = λ x h. still_lists N us (face_at N x) (face_there x h) ∙ w.whole x h ∙ sym (still_lists N us (face_at N (mate x)) (face_there (mate x) (mate_there N x h)));
+    whole = λ x h. still_lists N us (face_at N x) (half_face N w.sound x h) ∙ w.whole x h ∙ sym (still_lists N us (face_at N (mate x)) (half_face N w.sound (mate x) (mate_there N x h)));
   }
 
   pub part_leads : Leads N (part N s t (still_there N us)) (Part s t (still_there N us) ∷ [])
@@ -159,8 +155,7 @@ caps_counted x (k ∷ ks) = omega (arith, caps_counted x ks)
 module _ (above : List ℕ) (all : List Caps) (once : (x : ℕ) → count x above + count x (cap_faces all) ≤ 1) where
   level_in : (ks : List Caps) → ((x : ℕ) → count x (map (λ k. k.lower) ks) ≤ count x (map (λ k. k.lower) all)) → ((x : ℕ) → count x (map (λ k. k.upper) ks) ≤ count x (map (λ k. k.upper) all)) → AreLevel (upper_faces above all) ks
   level_in [] low up = tt
-  level_in (k ∷ ks) low up =
-      grind (arith, not_listed, caps_counted, tick_same, count-append, listed-from_in, level_in ks (λ x. omega (arith, low x)) (λ x. omega (arith, up x)))
+  level_in (k ∷ ks) low up = grind (arith, not_listed, caps_counted, tick_same, count-append, listed-from_in, level_in ks (λ x. omega (arith, low x)) (λ x. omega (arith, up x)))
 
 -- ---- all openings made
 

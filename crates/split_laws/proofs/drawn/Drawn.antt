@@ -191,9 +191,7 @@ module _ (M : Model) (s : ℕ) (p : Plane) (t : ℕ) (sound : Sound M) (accepted
 
   below_is : (f : ℕ) → reaches_below D p f ≡ true → straddles D p f ≡ false → face_is_above D p f ≡ false
   unfolding face_is_above straddles
-  below_is f e none = let up : reaches_above D p f ≡ false = first_fails (reaches_above D p f) (reaches_below D p f) none e in
-      ap (λ b. b || (not (reaches_below D p f) && not (int_lt (pos 0) (dot (normal D f) (direction p))))) up
-      ∙ ap (λ b. not b && not (int_lt (pos 0) (dot (normal D f) (direction p)))) e
+  below_is f e none = grind (arith, first_fails)
 
   unlisted : (f : ℕ) → face_is_above D p f ≡ false → lists (faces_above D p s) f ≡ false
   unlisted f e = false_from_ne_true (lists (faces_above D p s) f) (λ l. true≢false (sym (filter_passes (face_is_above D p) f (faces_of D s) (IsIn-from_listed f (faces_above D p s) l)) ∙ e))

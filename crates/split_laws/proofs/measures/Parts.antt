@@ -6,7 +6,6 @@ use Rattle.shapes.specs.Common.{start, vertices_of, six_volume, some_above, some
 use Rattle.split_drawing_laws.specs.face_sides.Lone.{NoLoopIsLone}
 use Rattle.split_drawing_laws.proofs.drawn_volumes.DrawWhole.{drawings_volumes}
 use Rattle.split_drawing_laws.proofs.face_sides.Begun.{none_lone}
-use Rattle.split_laws.specs.volumes.Laws.{CanBeSplit}
 use Rattle.split_laws.proofs.volumes.Split.{both_there, split_shares, split_keeps}
 use Rattle.split_laws.specs.sides.Sided.{IsOfSolid}
 use Rattle.split_laws.proofs.sides.Sides.{parts_sided, NoneLone, parts_none, vertices_fail}
@@ -18,47 +17,37 @@ module _ (M : Model) (s : ℕ) (p : Plane) (t : ℕ) (sound : Sound M) (accepted
   abbrev above : List ℕ
   above = faces_above (with_drawings M s p).model p s
 
-  can : CanBeSplit (with_drawings M s p) (faces_above (with_drawings M s p).model p s) s p t
-  can = can_be_split M s p t sound accepted
-
-  -- cutting edges and drawing faces kept the six volumes
-  drawn_same : (u : ℕ) → six_volume (with_drawings M s p).model u ≡ six_volume M u
-  drawn_same u = drawings_volumes M s p t sound (begins M s p t sound accepted) u
-
   pub parts_there : Has (split_model M s p t).solids s × Has (split_model M s p t).solids t
   unfolding split_model
-  parts_there = both_there (with_drawings M s p) above s p t can (s_there M s p t sound accepted)
+  parts_there = both_there (with_drawings M s p) above s p t (can_be_split M s p t sound accepted) (s_there M s p t sound accepted)
 
   pub volumes_shared : six_volume M s ≡ six_volume (split_model M s p t) s +ℤ six_volume (split_model M s p t) t
   unfolding split_model
-  volumes_shared = sym (drawn_same s) ∙ split_shares (with_drawings M s p) above s p t can
+  volumes_shared = sym (drawings_volumes M s p t sound (begins M s p t sound accepted) s) ∙ split_shares (with_drawings M s p) above s p t (can_be_split M s p t sound accepted)
 
   pub on_either_side : (l h : ℕ) → (IsOfSolid (split_model M s p t) s l h → is_above p (start (split_model M s p t) h) ≡ false) × (IsOfSolid (split_model M s p t) t l h → is_below p (start (split_model M s p t) h) ≡ false)
   unfolding split_model
-  on_either_side l h = parts_sided (with_drawings M s p) above s p t can (drawn_sided M s p t sound accepted) l h
+  on_either_side l h = parts_sided (with_drawings M s p) above s p t (can_be_split M s p t sound accepted) (drawn_sided M s p t sound accepted) l h
 
   -- no loop of either is lone
   no_lone_left : NoneLone (split_model M s p t) s × NoneLone (split_model M s p t) t
   unfolding split_model
-  no_lone_left = parts_none (with_drawings M s p) above s p t can
+  no_lone_left = parts_none (with_drawings M s p) above s p t (can_be_split M s p t sound accepted)
       (λ l v at there. none_lone M (with_drawings M s p).model s p t sound (begins M s p t sound accepted) (never_stuck M s p t sound accepted, refl) l v at)
-
-  parts_sound : Sound (split_model M s p t)
-  parts_sound = split_sound M s p t sound accepted
 
   pub none_is_lone : NoLoopIsLone (split_model M s p t) s × NoLoopIsLone (split_model M s p t) t
   none_is_lone = (
-    λ l v at. no_lone_left.0 l v at (parts_sound.loops_of_faces l (lone_there (split_model M s p t) l v at)),
-    λ l v at. no_lone_left.1 l v at (parts_sound.loops_of_faces l (lone_there (split_model M s p t) l v at)),
+    λ l v at. no_lone_left.0 l v at ((split_sound M s p t sound accepted).loops_of_faces l (lone_there (split_model M s p t) l v at)),
+    λ l v at. no_lone_left.1 l v at ((split_sound M s p t sound accepted).loops_of_faces l (lone_there (split_model M s p t) l v at)),
   )
 
   -- so the vertices lie where the half-edges start
   pub vertices_sided : (some_above (split_model M s p t) p (vertices_of (split_model M s p t) s) ≡ false) × (some_below (split_model M s p t) p (vertices_of (split_model M s p t) t) ≡ false)
   vertices_sided = (
-    vertices_fail (split_model M s p t) parts_sound s none_is_lone.0 (is_above p) (λ l h. (on_either_side l h).0),
-    vertices_fail (split_model M s p t) parts_sound t none_is_lone.1 (is_below p) (λ l h. (on_either_side l h).1),
+    vertices_fail (split_model M s p t) (split_sound M s p t sound accepted) s none_is_lone.0 (is_above p) (λ l h. (on_either_side l h).0),
+    vertices_fail (split_model M s p t) (split_sound M s p t sound accepted) t none_is_lone.1 (is_below p) (λ l h. (on_either_side l h).1),
   )
 
 pub others_kept : (M : Model) (s : ℕ) (p : Plane) (t u : ℕ) → Sound M → split_refusal M s p t ≡ None → u ≢ s → u ≢ t → six_volume (split_model M s p t) u ≡ six_volume M u
 unfolding split_model
-others_kept M s p t u sound accepted not_s not_t = split_keeps (with_drawings M s p) (faces_above (with_drawings M s p).model p s) s p t u (can M s p t sound accepted) not_s not_t ∙ drawn_same M s p t sound accepted u
+others_kept M s p t u sound accepted not_s not_t = split_keeps (with_drawings M s p) (faces_above (with_drawings M s p).model p s) s p t u (can_be_split M s p t sound accepted) not_s not_t ∙ drawings_volumes M s p t sound (begins M s p t sound accepted) u

@@ -1,10 +1,8 @@
 -- The two caps that close a solid once it is opened along a cycle on a plane: they lie along the plane, and have opposite normals.
-use Rattle.std.proofs.Common.{◌≡◌, ℕ, zero, suc, ◌+◌, ◌≤◌, ◌<◌, true, not, List, [], ◌∷◌, length, Some, unwrap_or, refl, sym, ap, ◌∙◌, arith, inl, inr, map, reverse, get_or}
-use Rattle.std.specs.List.{list_all}
-use Rattle.std.proofs.lemmas.Bool.Decides.{eqb_tells}
+use Rattle.std.proofs.Common.{◌≡◌, ℕ, suc, ◌+◌, ◌<◌, true, not, List, [], ◌∷◌, length, Some, unwrap_or, refl, sym, ap, ◌∙◌, arith, map, reverse, get_or, ◌-◌}
 use Rattle.std.proofs.lemmas.Bool.{and_parts}
 use Rattle.euler_operators.specs.Common.{Point, Plane, origin, moved, cross, same_point, direction, is_on, count, IsIn, head_or, canonical, mate, minus, Model, cycle, no_face, tail, content, outer, point_of, rings_of}
-use Rattle.euler_operators.proofs.Common.{tick_other, from_map, count-reverse, count-canonical, IsIn_head, content_row, mate_there, get-put_here, get-put_other, none_moved, IsIn_some_head, IsIn-map}
+use Rattle.euler_operators.proofs.Common.{from_map, count-reverse, count-canonical, content_row, mate_there, get-put_here, get-put_other, none_moved, IsIn_some_head, IsIn-map, each_mapped}
 use Rattle.euler_operators.specs.Table as table
 use Rattle.shapes.specs.Common.{start, finish, Taken, numbers_after, next_place, area, normal, anchor, first_vertex, is_plane_of, negated, opened_along}
 use Rattle.shapes.proofs.Common.{flat_closed, IsPathTo, IsClosed, cross_moved, cross_nothing, none_left, area_same, area_mates}
@@ -14,6 +12,7 @@ pub use Rattle.shapes.proofs.measures.Agreeing.{area_kept}
 pub use Rattle.split_opening_laws.proofs.sections.InTurn.{lower_row, loop_kinds}
 use Rattle.split_opening_laws.proofs.sections.InTurn.{plain_alone, plain_lower, plain_upper}
 use Rattle.split_opening_laws.proofs.sections.OpenedRows.{loops_are, upper_row}
+use Rattle.split_opening_laws.proofs.sections.Numbered.{in_numbers, numbers_in}
 use Rattle.split_laws.specs.opened.Told.{LiesAlong}
 use Rattle.split_laws.proofs.opened.Starts.{start_old, finish_old, back_along}
 use Rattle.gluing_laws.proofs.Measures.{only_loop}
@@ -21,18 +20,7 @@ use Rattle.gluing_laws.proofs.Measures.{only_loop}
 -- ---- lists
 
 numbers_place : (k n x : ℕ) → IsIn x (numbers_after k n) → (j : ℕ) × (j < n) × (x ≡ k + suc j)
-numbers_place k zero x i = absurd (omega (arith, i))
-numbers_place k (suc n) x i = elim (eqb_tells x (k + 1)) [
-  | inl e ↦ (0, omega arith, e.1)
-  | inr e ↦ let r = numbers_place (k + 1) n x (omega (arith, i, tick_other x (k + 1) e.1)) in (suc r.0, omega (arith, r.1), omega (arith, r.2))
-]
-
-each_on : (M : Model) (p : Plane) (hs : List ℕ) → list_all (λ v. is_on p (point_of M v)) (map (tail M) hs) ≡ true → (h : ℕ) → IsIn h hs → is_on p (start M h) ≡ true
-each_on M p [] on h i = absurd (omega (arith, i))
-each_on M p (g ∷ hs) on h i = let a = and_parts (is_on p (start M g)) _ on in elim (eqb_tells h g) [
-  | inl e ↦ ap (λ x. is_on p (start M x)) e.1 ∙ a.0
-  | inr e ↦ each_on M p hs a.1 h (omega (arith, i, tick_other h g e.1))
-]
+numbers_place k n x i = let w = in_numbers k n x i in (x - suc k, omega (arith, w.0, w.1), omega (arith, w.0))
 
 -- ---- paths
 
@@ -49,16 +37,10 @@ closed_round M (h ∷ hs) meet = leads_by M (h ∷ hs) (start M h)
     (λ i q. ap (point_of M) (sym (meet i (omega (arith, q))) ∙ ap (λ n. tail M (get_or (h ∷ hs) n 0)) (last i q)))
   where
     step : (i : ℕ) → suc i < length (h ∷ hs) → next_place (length (h ∷ hs)) i ≡ suc i
-    step i l = elim (next_cases (length (h ∷ hs)) i) [
-      | inl p ↦ absurd (omega (arith, l, p.0))
-      | inr p ↦ p.1 ∙ omega arith
-    ]
+    step i l = grind (arith, next_cases)
 
     last : (i : ℕ) → suc i ≡ length (h ∷ hs) → next_place (length (h ∷ hs)) i ≡ 0
-    last i q = elim (next_cases (length (h ∷ hs)) i) [
-      | inl p ↦ p.1
-      | inr p ↦ absurd (p.0 (omega (arith, q)))
-    ]
+    last i q = grind (arith, next_cases)
 
 -- half-edges with the numbers after k that run along those of a list
 back_area : (M N : Model) (k : ℕ) (hs : List ℕ) → ((j : ℕ) → j < length hs → (start N (minus (k + suc j)) ≡ start M (get_or hs j 0)) × (finish N (minus (k + suc j)) ≡ finish M (get_or hs j 0))) →
@@ -130,7 +112,7 @@ module _ (M : Model) (above : List ℕ) (s : ℕ) (c : Taken) (bs : List ℕ) (w
 
   module _ (p : Plane) (on : is_plane_of M p (map (tail M) bs) ≡ true) where
     starts_on : (b : ℕ) → IsIn b bs → is_on p (start M b) ≡ true
-    starts_on = each_on M p bs (and_parts (not (same_point (direction p) origin)) _ on).1
+    starts_on b i = each_mapped (λ v. is_on p (point_of M v)) (tail M) bs b (and_parts (not (same_point (direction p) origin)) _ on).1 i
 
     ends_on : (b : ℕ) → IsIn b bs → is_on p (finish M b) ≡ true
     ends_on b i = let q = place_of M above s c bs w b i in
@@ -149,10 +131,6 @@ module _ (M : Model) (above : List ℕ) (s : ℕ) (c : Taken) (bs : List ℕ) (w
         let q = numbers_place c.edge m r.0 r.1 in
         ap (λ x. is_on p (start N x)) (r.2 ∙ ap minus q.2) ∙ ap (is_on p) (back_along M above s c bs w q.0 q.1).0 ∙ starts_on (get_or bs q.0 0) (half_in M above s c bs w q.0 q.1)
 
-    some_number : (k n : ℕ) → 1 ≤ n → IsIn (minus (k + 1)) (map minus (numbers_after k n))
-    some_number k zero l = absurd (omega (arith, l))
-    some_number k (suc n) l = IsIn_head (minus (k + 1)) (map minus (numbers_after (k + 1) n))
-
     pub lower_along : LiesAlong N p (c.face + 1)
     lower_along = record {
       items = canonical (reverse (map mate bs));
@@ -165,7 +143,7 @@ module _ (M : Model) (above : List ℕ) (s : ℕ) (c : Taken) (bs : List ℕ) (w
     pub upper_along : LiesAlong N p (c.face + length bs + 1)
     upper_along = record {
       items = map minus (numbers_after c.edge (length bs));
-      some_item = λ e. absurd (omega (arith, some_number c.edge (length bs) (omega (arith, w.cycle.two_halves)), ap (count (minus (c.edge + 1))) e));
+      some_item = λ e. absurd (omega (arith, IsIn-map minus (c.edge + 1) (numbers_after c.edge (length bs)) (numbers_in c.edge (length bs) (c.edge + 1) (omega arith) (omega (arith, w.cycle.two_halves))), ap (count (minus (c.edge + 1))) e));
       outer_is = upper_content;
       on_plane = in_upper;
       across = ap (cross (direction p)) upper_normal ∙ cycle_across;

@@ -1,13 +1,12 @@
 -- The six volumes of a solid that is opened along a cycle on a plane, and those of the other solids.
-use Rattle.std.specs.List.{list_all}
-use Rattle.std.proofs.Common.{◌≡◌, ◌≢◌, ℕ, ◌+◌, ℤ, pos, ◌+ℤ◌, neg_ℤ, Bool, true, not, nat_eq, List, [], ◌∷◌, length, is_some, refl, sym, ap, subst, ◌∙◌, arith, inl, inr, false, ◌&&◌, true≢false, ◌⊎◌, map, ne_eqb, eqb-true}
+use Rattle.std.proofs.Common.{◌≡◌, ◌≢◌, ℕ, ◌+◌, ℤ, pos, ◌+ℤ◌, neg_ℤ, Bool, true, not, nat_eq, List, [], ◌∷◌, length, is_some, refl, sym, ap, subst, ◌∙◌, arith, inl, inr, false, ◌&&◌, true≢false, ◌⊎◌, map, ne_eqb}
 use Rattle.std.proofs.lemmas.Bool.Decides.{eqb_tells}
 use Rattle.std.proofs.lemmas.Bool.{and_parts}
 use Rattle.std.proofs.lemmas.Int.{ints}
-use Rattle.euler_operators.specs.Common.{Plane, origin, dot, same_point, direction, cross, is_on, count, IsIn, SameItems, mate, Model, FaceRow, items_of, tail, content, face_of, loop_of, outer, solid_of, faces_of, cycle, point_of, Has, HasHalf, lists, canonical}
+use Rattle.euler_operators.specs.Common.{Plane, origin, dot, same_point, direction, cross, is_on, count, IsIn, SameItems, mate, Model, FaceRow, items_of, tail, content, face_of, loop_of, outer, solid_of, faces_of, cycle, point_of, Has, HasHalf, canonical}
 use Rattle.euler_operators.specs.Table as table
-use Rattle.euler_operators.proofs.Common.{tick_same, tick_other, count-append, from_map, in-holds, in_use_within, get-put_other, row_some, none_added, count-canonical, IsIn_head}
-use Rattle.euler_laws.proofs.Common.{listed_passes, face_there}
+use Rattle.euler_operators.proofs.Common.{tick_other, count-append, from_map, in-holds, in_use_within, get-put_other, row_some, none_added, count-canonical, IsIn_head, all_mapped}
+use Rattle.euler_laws.proofs.Common.{face_in}
 use Rattle.shapes.specs.Common.{Taken, area, anchor, is_plane_of, volume_in, six_volume, normal, opened_along, Caps, Opening, all_opened, start, rewritten}
 use Rattle.shapes.proofs.Common.{told_alike, some_direction, dot_back, get-put_cases}
 use Rattle.split_opening_laws.specs.strips.Opened.{CanBeOpened}
@@ -22,7 +21,6 @@ use Rattle.split_laws.specs.opened.Told.{AllTellAlike, TellsAlike, LiesAlong, Al
 use Rattle.split_laws.specs.opened.Laws.{LieOn}
 use Rattle.split_laws.proofs.opened.Starts.{swap, point_old, swapped, start_old}
 use Rattle.split_laws.proofs.opened.Kept as kept
-use Rattle.split_laws.proofs.opened.Kept.{Rewritten}
 use Rattle.split_laws.proofs.opened.Caps.{lower_row, loop_kinds, lower_normal, upper_normal, cycle_across, lower_along, upper_along, anchor_along}
 use Rattle.split_laws.proofs.Holes.{IsOfEach, each_last}
 
@@ -37,7 +35,7 @@ module _ (M : Model) (above : List ℕ) (s : ℕ) (c : Taken) (bs : List ℕ) (w
   upper = c.face + length bs + 1
 
   -- its loops are rewritten, and the two new ones are of new faces
-  pub is_rewritten : Rewritten M N (swap M above s c bs w)
+  pub is_rewritten : kept.Renumbered M N (swap M above s c bs w)
   is_rewritten = record {
     sound = w.sound;
     faces = face_still M above s c bs w.sound w.free;
@@ -84,9 +82,6 @@ module _ (M : Model) (above : List ℕ) (s : ℕ) (c : Taken) (bs : List ℕ) (w
     ]
   ])
 
-  of_solid : (u k : ℕ) → lists (faces_of M u) k ≡ true → Has M.faces k × (solid_of M k ≡ u)
-  of_solid u k i = grind (arith, listed_passes, eqb-true, face_there)
-
   -- ---- another solid
 
   module _ (u : ℕ) (ne : u ≢ s) where
@@ -102,7 +97,7 @@ module _ (M : Model) (above : List ℕ) (s : ℕ) (c : Taken) (bs : List ℕ) (w
     other_keeps : six_volume N u ≡ six_volume M u
     unfolding six_volume
     other_keeps = ap (volume_in N) (other_faces u ne) ∙ same_volumes M N (faces_of M u)
-        (λ k i. let r = of_solid u k i in kept.volume_same M N (swap M above s c bs w) is_rewritten k r.0 (nothing_replaced k r.0 r.1))
+        (λ k i. let r = face_in M u k i in kept.volume_same M N (swap M above s c bs w) is_rewritten k r.0 (nothing_replaced k r.0 r.1))
 
   -- ---- the solid
 
@@ -123,7 +118,7 @@ module _ (M : Model) (above : List ℕ) (s : ℕ) (c : Taken) (bs : List ℕ) (w
     unfolding six_volume
     solid_keeps alike = volume_same N (faces_of N s) (lower ∷ upper ∷ faces_of M s) same_faces
         ∙ none_added (volume_of N lower) (volume_of N upper) (volume_in N (faces_of M s)) caps_nothing
-        ∙ same_volumes M N (faces_of M s) (λ k i. let r = of_solid s k i in kept.volume_is M N (swap M above s c bs w) is_rewritten k r.0 (alike k r.0 r.1))
+        ∙ same_volumes M N (faces_of M s) (λ k i. let r = face_in M s k i in kept.volume_is M N (swap M above s c bs w) is_rewritten k r.0 (alike k r.0 r.1))
 
 pub opening_keeps : (M : Model) (above : List ℕ) (s : ℕ) (c : Taken) (bs : List ℕ) (p : Plane) (u : ℕ) → CanBeOpened M above s c bs → AllTellAlike M s →
     is_plane_of M p (map (tail M) bs) ≡ true → six_volume (opened_along M above s c bs) u ≡ six_volume M u
@@ -136,10 +131,6 @@ opening_keeps M above s c bs p u w alike on = elim (eqb_tells u s) [
 
 pub some_way : (p : Plane) → same_point (direction p) origin ≡ false → direction p ≢ origin
 some_way p e z = true≢false (sym (ap (λ v. same_point v origin) z) ∙ e)
-
-all_on : (M : Model) (p : Plane) (hs : List ℕ) → ((h : ℕ) → IsIn h hs → is_on p (start M h) ≡ true) → list_all (λ v. is_on p (point_of M v)) (map (tail M) hs) ≡ true
-all_on M p [] e = refl
-all_on M p (h ∷ hs) e = λ i. e h (omega (arith, tick_same h)) i && all_on M p hs (λ x j. e x (omega (arith, j))) i
 
 -- a face that lies along a plane tells the same from each corner
 pub along_alike : (M : Model) (p : Plane) (f : ℕ) → direction p ≢ origin → LiesAlong M p f → TellsAlike M f
@@ -199,7 +190,7 @@ along_each M p = record { one = λ k ks a. (a.0, a.1); others = λ k ks a. a.2; 
 -- ---- along cycles that start on the plane
 
 pub first_on : (M : Model) (p : Plane) (bs : List ℕ) (cs : List (List ℕ)) → LieOn M p (bs ∷ cs) → is_plane_of M p (map (tail M) bs) ≡ true
-first_on M p bs cs on = λ i. not (on.some_way i) && all_on M p bs (λ h j. on.on_plane h (omega (arith, j, count-append h bs (halves_in cs)))) i
+first_on M p bs cs on = λ i. not (on.some_way i) && all_mapped (λ v. is_on p (point_of M v)) (tail M) bs (λ h j. on.on_plane h (omega (arith, j, count-append h bs (halves_in cs)))) i
 
 next_on : (above : List ℕ) (s : ℕ) (p : Plane) (o : Opening) (bs : List ℕ) (cs : List (List ℕ)) → CanBeOpenedInTurn above s o (bs ∷ cs) → LieOn o.model p (bs ∷ cs) → LieOn (opened_along o.model above s o.taken bs) p cs
 next_on above s p o bs cs w on = record {

@@ -9,8 +9,8 @@ use Rattle.shapes.specs.Common.{start, finish, rewritten, rewritten_row, normal}
 use Rattle.shapes.proofs.Common.{AgreeOn, IsReplaced, replaced_area, replaced_start, normal_agrees, volume_stays, volume_told, face_of_loop, volume_of}
 use Rattle.split_laws.specs.opened.Told.{TellsAlike}
 
--- N is M with its loops rewritten, and with further loops of new faces
-pub record Rewritten (M N : Model) (swap : ℕ → ℕ) : Type 0 where
+-- N is M with the half-edges of its loops renumbered by swap, and with further loops of new faces
+pub record Renumbered (M N : Model) (swap : ℕ → ℕ) : Type 0 where
   pub sound : Sound M
   pub faces : (k : ℕ) → Has M.faces k → table.get N.faces k ≡ table.get M.faces k
   pub loops : (l : ℕ) (row : LoopRow) → table.get M.loops l ≡ Some row → table.get N.loops l ≡ Some (rewritten_row (map swap) l row)
@@ -18,7 +18,7 @@ pub record Rewritten (M N : Model) (swap : ℕ → ℕ) : Type 0 where
   pub stays : (y : ℕ) → HasHalf M y → (start N (swap y) ≡ start M y) × (finish N (swap y) ≡ finish M y)
   pub points : (v : ℕ) → Has M.vertices v → point_of N v ≡ point_of M v
 
-module _ (M N : Model) (swap : ℕ → ℕ) (w : Rewritten M N swap) where
+module _ (M N : Model) (swap : ℕ → ℕ) (w : Renumbered M N swap) where
   pub face_is : (l : ℕ) → Has M.loops l → face_of N l ≡ face_of M l
   face_is l there = face_row N l _ (w.loops l _ (loop_row M l there))
 

@@ -1,6 +1,6 @@
 -- The six volumes of a solid some of whose faces go to a new solid.
 use Rattle.std.specs.List.{list_any}
-use Rattle.std.proofs.Common.{◌≡◌, ◌≢◌, ℕ, ◌+◌, ◌+ℤ◌, Bool, true, false, cond, not, nat_eq, ◌&&◌, List, [], ◌∷◌, ◌++◌, Option, Some, None, is_some, unwrap_or, refl, sym, ap, ◌∙◌, arith, ◌<◌, length, subst, true≢false, ◌⊎◌, inl, inr, ◌≤◌, option_map, map, filter, ne_eqb, eq-eqb, append-nil}
+use Rattle.std.proofs.Common.{◌≡◌, ◌≢◌, ℕ, ◌+◌, ◌+ℤ◌, Bool, true, false, cond, not, nat_eq, ◌&&◌, List, [], ◌∷◌, ◌++◌, Option, is_some, unwrap_or, refl, sym, ap, ◌∙◌, arith, ◌<◌, length, subst, true≢false, ◌⊎◌, inl, inr, ◌≤◌, option_map, map, filter, ne_eqb, eq-eqb, append-nil}
 use Rattle.euler_operators.specs.Common.{dot, SameItems, count, get-map_rows, Model, FaceRow, no_face, items_of, mate, tail, content, outer, point_of, faces_of, solid_of, lists, strictly_rises, part, faces_to_solid, Plane, Has}
 use Rattle.euler_operators.specs.Table as table
 use Rattle.euler_operators.proofs.Common.{count-append, IsIn_or_not, solid_row, get-put_here, get-put_other}
@@ -54,13 +54,8 @@ module _ (M : Model) (s t : ℕ) (fs : List ℕ) where
 
   -- ---- so each face adds what it did
 
-  outer_either : (b : Bool) (row : FaceRow) → (cond b (record row { solid = t }) row).outer ≡ row.outer
-  outer_either true row = refl
-  outer_either false row = refl
-
   outer_in : (k : ℕ) (o : Option FaceRow) → (unwrap_or (option_map (to_new k) o) no_face).outer ≡ (unwrap_or o no_face).outer
-  outer_in k None = refl
-  outer_in k (Some row) = outer_either (lists fs k) row
+  outer_in k o = grind arith
 
   outer_same : (k : ℕ) → outer N k ≡ outer M k
   unfolding outer

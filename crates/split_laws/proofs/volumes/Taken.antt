@@ -119,15 +119,7 @@ module _ (M : Model) (p : Plane) (f g : ℕ) (w : CanTake M p f g) where
   -- ---- faces that are neither keep their loops
 
   agree : (k : ℕ) → k ≢ f → k ≢ g → AgreeOn M N k
-  agree k not_f not_g = record {
-    outer_is = outer_same k not_g;
-    stay = λ l was of. (loop_there l ∙ was, face_else l was (λ e. not_g (sym of ∙ ap (face_of M) e ∙ (w.outers g w.g_there).1)) ∙ of);
-    back = λ l has of. let was = sym (loop_there l) ∙ has in elim (eqb_tells l (outer M g)) [
-      | inl e ↦ absurd (not_f (sym of ∙ face_taken l was e.1))
-      | inr e ↦ (was, sym (face_else l was e.1) ∙ of)
-    ];
-    areas = λ l i. loop_area l;
-  }
+  agree k not_f not_g = grind (arith, outer_same, loop_there, face_else, face_taken, loop_area)
 
   pub rings_same : (k : ℕ) → k ≢ f → k ≢ g → rings_of N k ≡ rings_of M k
   rings_same k not_f not_g = rings_agree (agree k not_f not_g)
