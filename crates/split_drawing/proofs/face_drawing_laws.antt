@@ -1,4 +1,3 @@
-pub mod Steps
 pub mod PairOps
 pub mod Turns
 pub mod GivenRings

@@ -1,9 +1,9 @@
 -- The operator that cuts an edge, as the code has it.
-use Rattle.std.proofs.Common.{◌≡◌, ℕ, ◌+◌, sym, ap, subst, ◌∙◌}
+use Rattle.std.proofs.Common.{◌≡◌, ℕ, ◌+◌, sym, ap, subst, ◌∙◌, arith}
 use Rattle.euler_operators.specs.Common.{HalfEdge, At, code, half, edge_of, plus, minus, Model, after, Has}
 use Rattle.euler_operators.proofs.Common.{half-code, code-half, edge_of-code, minus_row}
 use Rattle.euler_operators.specs.declared.Op.TheVariants.{Mev}
-use Rattle.shapes.specs.Common.{Taken, taken_in}
+use Rattle.shapes.specs.Common.{taken_in}
 use Rattle.solid_walks.specs.Counters.{taken_of}
 use Rattle.solid_walks.specs.declared.numbers.Counters.{Counters}
 use Rattle.split_checks.specs.declared.cuts.CutEdge.{CutEdge}
@@ -14,6 +14,4 @@ second_edge X M x e h is there = subst (λ (Y : Model). Has Y.edges h.edge) (sym
 
 pub same_cut : (X M : Model) → X ≡ M → (c : CutEdge) (t : Counters) → taken_of t ≡ taken_in M → (first second next edge : HalfEdge) → first ≡ half (plus c.edge) → second ≡ half (minus c.edge)
     → code next ≡ after X (code second) → edge ≡ half (plus (t.edges + 1)) → Mev (At first) (At next) edge (t.vertices + 1) c.point ≡ cut_op M c
-same_cut X M x c t counted first second next edge is_first is_second is_next is_edge =
-    let is : next ≡ half (after M (minus c.edge)) = sym (half-code next) ∙ ap half (is_next ∙ (λ i. after (x i) ((ap code is_second ∙ code-half (minus c.edge)) i))) in
-    λ i. Mev (At (is_first i)) (At (is i)) ((is_edge ∙ ap (λ (k : Taken). half (plus (k.edge + 1))) counted) i) (ap (λ (k : Taken). k.vertex + 1) counted i) c.point
+same_cut X M x c t counted first second next edge is_first is_second is_next is_edge = grind (arith, half-code, code-half)

@@ -112,12 +112,7 @@ module _ (M : Model) (s : ℕ) (p : Plane) (N : Model) (e : ℕ) (rs : List ℕ)
         λ i. record { model = model i; taken = (still_going.counted ∙ ap taken_in model) i }
 
     pub next_taken : Cutting M s p K rs
-    next_taken = record {
-      sound = c.sound;
-      done = e ∷ c.done;
-      going = subst (λ h. Going M p h (e ∷ c.done) rs) grown still_going;
-      made = ap (λ (h : Growing). (all_cut p h rs).model) (sym grown) ∙ c.made;
-    }
+    next_taken = grind (arith, grown, still_going)
 
     pub next_counted : (t : Counters) → taken_of t ≡ taken_in N → (u : Counters) → u ≡ record t { edges = t.edges + 1; vertices = t.vertices + 1 } → taken_of u ≡ taken_in K
     unfolding next_cut

@@ -1,4 +1,4 @@
--- The next pair of a list as the code opens it, in each of the two passes.
+-- One pair more in each of the two passes, the next of a list as the code opens it.
 use Rattle.std.proofs.Common.{◌≡◌, ℕ, ◌+◌, ◌≤◌, Bool, true, false, List, [], ◌∷◌, ◌++◌, length, map, slice_index_or, None, sym, ap, ◌∙◌, subst, fold}
 use Rattle.euler_operators.specs.Common.{Model, first_false, effect}
 use Rattle.shapes.specs.Common.{Drawing, in_one_loop, join_next, draw_next, join_pair, draw_pair}
@@ -11,7 +11,10 @@ use Rattle.split_drawing.specs.face_drawing.Stuck.{stuck_at}
 use Rattle.solid_walks.specs.Counters.{taken_of}
 use Rattle.split_checks.specs.Progress.{drawing_of}
 use Rattle.split_drawing.specs.face_drawing.Passes.{CanJoin, CanDraw}
-use Rattle.split_drawing.proofs.face_drawing_laws.Steps.{join_goes, kept_on, kept_made, joined_on, joined_made, draw_goes, drawn_on, drawn_made, stuck_on, stuck_made}
+use Rattle.split_drawing_laws.specs.drawings.Passing.{Joining, Going}
+use Rattle.split_drawing_laws.proofs.drawings.Drawn.{draw_accepted as can_accepted}
+use Rattle.split_drawing_laws.proofs.drawings.Pairs.{pair_leads}
+use Rattle.split_drawing_laws.proofs.drawings.Passes.{join_next_one, join_next_two, join_one, draw_next_one, draw_next_two, draw_one, can_now, edge_free, edge_fits_now}
 
 -- the first of some pairs
 abbrev pub first_pair : List Pair → Pair
@@ -34,47 +37,57 @@ module _ (f : ℕ) (c : Progress) (N : Model) (L : List (ℕ × ℕ)) (rest : Li
   abbrev d : Drawing
   d = drawing_of c N L
 
-  -- the first pass
+  -- ---- the first pass
+
   module _ (w : CanJoin f (drawing_of c N L) (map codes rest)) where
-    next_join : CanJoin f d (q ∷ qs)
-    next_join = subst (CanJoin f d) (opened_codes rest l) w
+    can_join : CanJoin f d (q ∷ qs)
+    can_join = subst (CanJoin f d) (opened_codes rest l) w
+
+    -- whatever becomes of the pair, the others can be joined then
+    join_on : (X : Drawing) → join_next d q ≡ X → CanJoin f X qs × (fold join_next X qs ≡ fold join_next d (map codes rest))
+    join_on X is = (
+      record { before = can_join.before; fit = can_join.fit.1; joining = subst (λ x. Joining can_join.before f x qs 0) is (join_one can_join.before f d q qs 0 can_join.fit.0 can_join.joining).1 },
+      ap (λ x. fold join_next x qs) (sym is) ∙ ap (fold join_next d) (sym (opened_codes rest l)),
+    )
 
     pub join_accepted : in_one_loop N (codes (first_pair rest)) ≡ false → first_false N (join_pair N (codes (first_pair rest)) (c.taken.edges + 1)) ≡ None
-    join_accepted e = join_goes f d q qs next_join e
+    join_accepted e = let B = can_join.before in
+        (pair_leads B N f q (c.taken.edges + 1) can_join.joining.joined can_join.fit.0 e (edge_free B f d q qs 0 can_join.fit.0 can_join.joining) (edge_fits_now B f d q qs 0 can_join.fit.0 can_join.joining)).accepted.0
 
     pub joined : in_one_loop N (codes (first_pair rest)) ≡ false → (K : Model) → K ≡ effect N (join_pair N (codes (first_pair rest)) (c.taken.edges + 1)) → (t : Counters) → t ≡ record c.taken { edges = c.taken.edges + 1 }
         → CanJoin f (drawing_of (record c { taken = t }) K L) (map codes (others rest)) × (fold join_next (drawing_of (record c { taken = t }) K L) (map codes (others rest)) ≡ fold join_next (drawing_of c N L) (map codes rest))
-    joined e K is t counted = (
-      subst (λ x. CanJoin f (drawing_of (record c { taken = x }) K L) qs) (sym counted) (joined_on f d q qs next_join e K is),
-      ap (λ x. fold join_next (drawing_of (record c { taken = x }) K L) qs) counted ∙ joined_made f d q qs next_join e K is ∙ ap (fold join_next d) (sym (opened_codes rest l)),
-    )
+    joined e K is t counted = join_on (drawing_of (record c { taken = t }) K L) (join_next_two d q e ∙ (λ i. drawing_of (record c { taken = sym counted i }) (sym is i) L))
 
     pub left_over : in_one_loop N (codes (first_pair rest)) ≡ true → (P : List (ℕ × ℕ)) → P ≡ L ++ codes (first_pair rest) ∷ []
         → CanJoin f (drawing_of c N P) (map codes (others rest)) × (fold join_next (drawing_of c N P) (map codes (others rest)) ≡ fold join_next (drawing_of c N L) (map codes rest))
-    left_over e P is = (
-      subst (λ x. CanJoin f (drawing_of c N x) qs) (sym is) (kept_on f d q qs next_join e),
-      ap (λ x. fold join_next (drawing_of c N x) qs) is ∙ kept_made f d q qs next_join e ∙ ap (fold join_next d) (sym (opened_codes rest l)),
+    left_over e P is = join_on (drawing_of c N P) (join_next_one d q e ∙ (λ i. drawing_of c N (sym is i)))
+
+  -- ---- the second pass
+
+  module _ (w : CanDraw f (drawing_of c N L) (map codes rest)) where
+    can_draw : CanDraw f d (q ∷ qs)
+    can_draw = subst (CanDraw f d) (opened_codes rest l) w
+
+    -- and then the others can be drawn
+    draw_on : (X : Drawing) → draw_next f d q ≡ X → CanDraw f X qs × (fold (draw_next f) X qs ≡ fold (draw_next f) d (map codes rest))
+    draw_on X is = (
+      record {
+        before = can_draw.before;
+        sound = can_draw.sound;
+        fit = can_draw.fit.1;
+        going = subst (λ x. Going can_draw.before f x qs 0) is (draw_one can_draw.before f can_draw.sound d q qs 0 can_draw.fit.0 can_draw.going).1;
+      },
+      ap (λ x. fold (draw_next f) x qs) (sym is) ∙ ap (fold (draw_next f) d) (sym (opened_codes rest l)),
     )
 
-  -- the second pass
-  module _ (w : CanDraw f (drawing_of c N L) (map codes rest)) where
-    next_draw : CanDraw f d (q ∷ qs)
-    next_draw = subst (CanDraw f d) (opened_codes rest l) w
-
     pub draw_accepted : in_one_loop N (codes (first_pair rest)) ≡ true → first_false N (draw_pair (taken_of c.taken) (codes (first_pair rest))) ≡ None
-    draw_accepted e = draw_goes f d q qs next_draw e
+    draw_accepted e = can_accepted N q.0 q.1 (c.taken.edges + 1) (c.taken.faces + 1) (c.taken.loops + 1) (can_now can_draw.before f can_draw.sound d q qs 0 can_draw.fit.0 can_draw.going e)
 
     pub drew : in_one_loop N (codes (first_pair rest)) ≡ true → (K : Model) → K ≡ effect N (draw_pair (taken_of c.taken) (codes (first_pair rest)))
         → (t : Counters) → t ≡ record c.taken { faces = c.taken.faces + 1; loops = c.taken.loops + 1; edges = c.taken.edges + 1 }
         → CanDraw f (drawing_of (record c { taken = t }) K L) (map codes (others rest)) × (fold (draw_next f) (drawing_of (record c { taken = t }) K L) (map codes (others rest)) ≡ fold (draw_next f) (drawing_of c N L) (map codes rest))
-    drew e K is t counted = (
-      subst (λ x. CanDraw f (drawing_of (record c { taken = x }) K L) qs) (sym counted) (drawn_on f d q qs next_draw e K is),
-      ap (λ x. fold (draw_next f) (drawing_of (record c { taken = x }) K L) qs) counted ∙ drawn_made f d q qs next_draw e K is ∙ ap (fold (draw_next f) d) (sym (opened_codes rest l)),
-    )
+    drew e K is t counted = draw_on (drawing_of (record c { taken = t }) K L) (draw_next_one f d q e ∙ (λ i. drawing_of (record c { taken = sym counted i }) (sym is i) L))
 
     pub got_stuck : in_one_loop N (codes (first_pair rest)) ≡ false → (t : Progress) → t ≡ stuck_at c f
         → CanDraw f (drawing_of t N L) (map codes (others rest)) × (fold (draw_next f) (drawing_of t N L) (map codes (others rest)) ≡ fold (draw_next f) (drawing_of c N L) (map codes rest))
-    got_stuck e t is = (
-      subst (λ x. CanDraw f (drawing_of x N L) qs) (sym is) (stuck_on f d q qs next_draw e),
-      ap (λ x. fold (draw_next f) (drawing_of x N L) qs) is ∙ stuck_made f d q qs next_draw e ∙ ap (fold (draw_next f) d) (sym (opened_codes rest l)),
-    )
+    got_stuck e t is = draw_on (drawing_of t N L) (draw_next_two f d q e ∙ (λ i. drawing_of (sym is i) N L))

@@ -44,6 +44,4 @@ module _ (p : Plane) (c : Progress) (N : Model) (rest : List PairedFace) (later 
 
     pub made_on : put_aside (faces_drawn p (drawing_of t K []) (paired others (map codes more))) ≡ put_aside (faces_drawn p (drawing_of c N []) (paired rest (map codes later)))
     unfolding next_drawn
-    made_on = ap (λ d. put_aside (faces_drawn p d (paired others (map codes more)))) is
-        ∙ aside p (paired others (map codes more)) (drawn_between p q.face (map codes ps) (drawing_of c N []))
-        ∙ ap (λ fs. put_aside (faces_drawn p (drawing_of c N []) fs)) (sym opened_rest)
+    made_on = grind (arith, aside, opened_rest)

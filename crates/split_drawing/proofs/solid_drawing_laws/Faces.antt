@@ -18,13 +18,7 @@ drawable_aside : (d : Drawing) (fs : List FacePairs) (n : ℕ) → Drawable d fs
 drawable_aside d fs n w = record { sound = w.sound; fresh = w.fresh; room = w.room; fit = w.fit; apart = w.apart }
 
 ready_alone : (p : Plane) (f : ℕ) (qs : List (ℕ × ℕ)) (d : Drawing) (n : ℕ) → Ready p f qs d n → Ready p f qs d 0
-ready_alone p f qs d n w = record {
-  sound = w.sound;
-  fresh = w.fresh;
-  room = record { faces = omega (arith, w.room.faces); loops = omega (arith, w.room.loops); edges = omega (arith, w.room.edges); vertices = w.room.vertices };
-  fit = w.fit;
-  alone = w.alone;
-}
+ready_alone p f qs d n w = grind arith
 
 still_there : {X : Type 0} (t u : Table X) → ((n : ℕ) → Has t n → Has u n) → (ns : List ℕ) → AreIn t ns → AreIn u ns
 still_there t u each [] a = tt

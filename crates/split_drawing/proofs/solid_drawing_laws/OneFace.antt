@@ -1,5 +1,5 @@
 -- One face drawn between its pairs, step by step as the code does it.
-use Rattle.std.proofs.Common.{◌≡◌, ℕ, Bool, true, false, cond, ◌&&◌, nat_eq, nat_lt, List, [], length, map, ◌≢◌, refl, sym, ap, ◌∙◌, subst, ne_eqb, eq-eqb, fold}
+use Rattle.std.proofs.Common.{◌≡◌, ℕ, Bool, true, false, cond, ◌&&◌, nat_eq, nat_lt, List, [], length, map, ◌≢◌, refl, sym, ap, ◌∙◌, subst, ne_eqb, eq-eqb, fold, arith}
 use Rattle.std.proofs.lemmas.List.{length-map}
 use Rattle.euler_operators.specs.Common.{Plane, Model, content, Has, has_rings}
 use Rattle.euler_operators.specs.Table as table
@@ -77,9 +77,7 @@ module _ (p : Plane) (f : ℕ) (qs : List (ℕ × ℕ)) (d : Drawing) (w : CanDr
 
   pub shared : nat_eq (length qs) 1 ≡ true → (D : Drawing) → D ≡ all_drawn f (ring_free f qs (all_joined qs d)) → (K : Model) → K ≡ with_rings D.model (rings_above D.model p f) D.taken.face
       → record D { model = K; left = [] } ≡ put_aside (drawn_between p f qs d)
-  shared one D e K is = (λ i. record D { model = is i; left = [] })
-      ∙ sym (ap (λ b. put_aside (cond b (record D { model = with_rings D.model (rings_above D.model p f) D.taken.face }) D)) one)
-      ∙ ap (λ x. put_aside (rings_shared p f qs x)) e
+  shared one D e K is = grind arith
 
   pub unshared : nat_eq (length qs) 1 ≡ false → (D : Drawing) → D ≡ all_drawn f (ring_free f qs (all_joined qs d)) → put_aside D ≡ put_aside (drawn_between p f qs d)
   unshared more D e = sym (ap (λ b. put_aside (cond b (record D { model = with_rings D.model (rings_above D.model p f) D.taken.face }) D)) more)

@@ -1,7 +1,6 @@
 -- Rings of a face given to a new one.
-use Rattle.std.proofs.Common.{◌≡◌, ℕ, Bool, true, false, ◌&&◌, not, nat_eq, List, [], ◌∷◌, Some, refl}
-use Rattle.euler_operators.specs.Table as table
-use Rattle.euler_operators.specs.Common.{Model, face_of, outer, Has, effect}
+use Rattle.std.proofs.Common.{◌≡◌, ℕ, List, [], ◌∷◌, Some, refl, arith}
+use Rattle.euler_operators.specs.Common.{Model, Has, effect}
 use Rattle.euler_operators.specs.declared.Op.TheVariants.{RingIn}
 use Rattle.euler_laws.specs.Laws.{effects}
 use Rattle.euler_conditions.specs.Store.{IsNextRing}
@@ -10,10 +9,7 @@ use Rattle.split_drawing_laws.specs.drawings.DrawingOps.{ring_ops}
 
 -- a ring that an arena finds is there
 pub ring_there : (M : Model) (f n l : ℕ) → IsNextRing M f n (Some l) → Has M.loops l
-ring_there M f n l next = first_holds (table.has M.loops l) (nat_eq (face_of M l) f) (not (nat_eq (outer M f) l)) next.1 where
-  first_holds : (a b c : Bool) → a && b && c ≡ true → a ≡ true
-  first_holds true b c e = refl
-  first_holds false b c e = e
+ring_there M f n l next = grind arith
 
 -- given one after the other
 pub rings_given : (M : Model) (ls : List ℕ) (k : ℕ) → effects M (ring_ops ls k) ≡ with_rings M ls k

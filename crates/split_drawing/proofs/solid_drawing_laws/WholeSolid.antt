@@ -23,7 +23,7 @@ use Rattle.split_checks.specs.Cuts.{AreCuts, all_pairs, codes, how_many_pairs, p
 use Rattle.split_checks.specs.declared.cuts.Cuts.{Cuts}
 use Rattle.split_checks.specs.declared.cuts.Pair.{Pair}
 use Rattle.split_checks.specs.declared.cuts.PairedFace.{PairedFace}
-use Rattle.split_drawing.specs.solid_drawing.Starts.{PairsThere, pair_started, pairs_started}
+use Rattle.split_drawing.specs.solid_drawing.Starts.{PairsThere, pairs_started}
 use Rattle.split_drawing.specs.solid_drawing.Drawn.{put_aside, CanDrawFaces}
 use Rattle.split_drawing.proofs.solid_drawing_laws.Starts.{started_are, all_there, many_pairs}
 
@@ -69,15 +69,7 @@ module _ (M : Model) (s : ℕ) (p : Plane) (sound : Sound M) (can : CanBeCut M s
     faces_are = (λ i. paired ((are ∙ told.faces) i) ((started ∙ (λ j. pairs_started (x j) p (told.pairs j))) i)) ∙ started_are M N p (straddling_faces M p s)
 
     pub enough : how_many_pairs fs ≤ length qs
-    enough = omega (
-      arith,
-      ap how_many_pairs (are ∙ told.faces),
-      many_pairs M N p (straddling_faces M p s),
-      ap (λ (rs : List (ℕ × ℕ)). length rs) told.pairs,
-      ap (λ (rs : List (ℕ × ℕ)). length rs) started,
-      length-map (map codes cuts.pairs.items) (pair_started X p),
-      length-map qs codes,
-    )
+    enough = grind (arith, many_pairs, length-map)
 
     pub can_draw : CanDrawFaces (paired fs (map codes qs)) (drawing_of (record { taken = c; stuck = 0 }) X [])
     can_draw = subst (λ gs. CanDrawFaces gs (drawing_of (record { taken = c; stuck = 0 }) X [])) (sym faces_are) (subst (CanDrawFaces (straddling_pairs M s p)) (sym drawing_is) can_draw_begun)
