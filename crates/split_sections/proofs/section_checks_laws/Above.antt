@@ -1,5 +1,5 @@
 -- The faces above a plane, and the below halves and cycles along them.
-use Rattle.std.proofs.Common.{◌≡◌, ℕ, ◌≤◌, Bool, true, false, cond, nat_eq, List, [], ◌∷◌, length, map, refl, ap, ◌∙◌, arith, eqb-true, filter, unwrap_or}
+use Rattle.std.proofs.Common.{◌≡◌, ℕ, ◌≤◌, Bool, true, nat_eq, List, [], ◌∷◌, length, map, refl, ap, ◌∙◌, arith, eqb-true, filter, unwrap_or}
 use Rattle.euler_operators.specs.Common.{Plane, least, Model, solid_of, faces_of, no_face, Sound, strictly_rises}
 use Rattle.euler_operators.proofs.Common.{count-filter}
 use Rattle.euler_laws.proofs.Common.{all_where-rises, IsIn-from_listed, all_where_has}
@@ -16,10 +16,7 @@ as_long f (b ∷ bs) = omega (arith, as_long f bs)
 
 fewer : (q : ℕ → Bool) (bs : List ℕ) → length (filter q bs) ≤ length bs
 fewer q [] = omega arith
-fewer q (b ∷ bs) = no_more_kept (q b) (fewer q bs) where
-  no_more_kept : (c : Bool) → length (filter q bs) ≤ length bs → length (cond c (b ∷ filter q bs) (filter q bs)) ≤ length (b ∷ bs)
-  no_more_kept true l = omega (arith, l)
-  no_more_kept false l = omega (arith, l)
+fewer q (b ∷ bs) = grind (arith, fewer q bs)
 
 shorter : (f : ℕ → List ℕ) (q : ℕ → Bool) (bs : List ℕ) (m : ℕ) → length bs ≤ m → length (map f (filter q bs)) ≤ m
 shorter f q bs m l = omega (arith, l, as_long f (filter q bs), fewer q bs)

@@ -75,6 +75,4 @@ module _ (M : Model) (sound : Sound M) (above : List ℕ) (s : ℕ) (faces : Are
 
           pub numbers_now : b ≡ false → (m n : ℕ) → m ≡ vec_len halves → n ≡ vec_len told
               → first_refusal (section_conditions M s p c (below_halves M above s)) ≡ first_refusal (numbers_left c (record { faces = m + n; loops = m + n; edges = 2 * m; vertices = m }))
-          numbers_now t m n em en =
-              let long = as_many ∙ sym em in let many = as_long ∙ sym en in
-              to_numbers M s p c (below_halves M above s) unbranched (stray_told ∙ t) ∙ (λ i. first_refusal (numbers_left c (record { faces = long i + many i; loops = long i + many i; edges = 2 * long i; vertices = long i })))
+          numbers_now t m n em en = grind (arith, as_many, as_long, to_numbers, unbranched, stray_told)

@@ -1,5 +1,5 @@
 -- Word on which cycles are holes, cycle by cycle.
-use Rattle.std.proofs.Common.{◌≡◌, ◌+◌, ◌≤◌, Bool, true, false, cond, not, ◌&&◌, nat_eq, nat_lt, List, [], ◌∷◌, map, length, refl, sym, ap, arith, true≢false, filter}
+use Rattle.std.proofs.Common.{◌≡◌, ◌+◌, ◌≤◌, Bool, true, cond, not, ◌&&◌, nat_eq, nat_lt, List, [], ◌∷◌, map, length, refl, sym, ap, arith, filter}
 use Rattle.euler_operators.specs.Common.{Plane, Model}
 use Rattle.shapes.specs.Common.{is_hole, has_stray_hole}
 use Rattle.split_sections.specs.section_checks.Cycles.{has_stray}
@@ -21,10 +21,7 @@ module _ (M : Model) (p : Plane) where
 
     same_flag_same_count : (a b : Bool) → a ≡ b → length (filter (λ (c : Cycle). c.hole) cs) ≡ length (filter (is_hole M p) (map halves_of cs))
         → length (cond a (c ∷ filter (λ (c : Cycle). c.hole) cs) (filter (λ (c : Cycle). c.hole) cs)) ≡ length (cond b (halves_of c ∷ filter (is_hole M p) (map halves_of cs)) (filter (is_hole M p) (map halves_of cs)))
-    same_flag_same_count true true s r = omega (arith, r)
-    same_flag_same_count false false s r = r
-    same_flag_same_count true false s r = absurd (true≢false s)
-    same_flag_same_count false true s r = absurd (true≢false (sym s))
+    same_flag_same_count a b s r = grind arith
 
   same_length : (cs : List Cycle) → length (map halves_of cs) ≡ length cs
   same_length [] = refl
@@ -36,7 +33,4 @@ module _ (M : Model) (p : Plane) where
 -- no more are holes than there are
 pub few_holes : (cs : List Cycle) → length (filter (λ (c : Cycle). c.hole) cs) ≤ length cs
 few_holes [] = omega arith
-few_holes (c ∷ cs) = no_more_holes c.hole (few_holes cs) where
-  no_more_holes : (b : Bool) → length (filter (λ (c : Cycle). c.hole) cs) ≤ length cs → length (cond b (c ∷ filter (λ (c : Cycle). c.hole) cs) (filter (λ (c : Cycle). c.hole) cs)) ≤ length (c ∷ cs)
-  no_more_holes true l = omega (arith, l)
-  no_more_holes false l = omega (arith, l)
+few_holes (c ∷ cs) = grind (arith, few_holes cs)

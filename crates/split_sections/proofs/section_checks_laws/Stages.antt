@@ -1,5 +1,5 @@
 -- The conditions that are tested once the faces are drawn, part by part.
-use Rattle.std.proofs.Common.{◌≡◌, ℕ, ◌+◌, ◌*◌, Bool, true, false, cond, not, nat_eq, List, ◌∷◌, length, Option, Some, None, Result, Ok, Err, refl, sym, ap, subst, ◌∙◌}
+use Rattle.std.proofs.Common.{◌≡◌, ℕ, ◌+◌, ◌*◌, Bool, true, false, cond, not, nat_eq, List, ◌∷◌, length, Option, Some, None, Result, Ok, Err, refl, sym, ap, ◌∙◌, arith}
 use Rattle.euler_operators.specs.Common.{Plane, Model, Condition, first_refusal}
 use Rattle.euler_operators.specs.declared.Refusal.{Refusal}
 use Rattle.euler_operators.specs.declared.Why.TheVariants.{CutCrossed, BranchedVertex, SectionHoles}
@@ -52,16 +52,8 @@ module _ (s : ℕ) (p : Plane) (d : Drawing) where
 module _ {X E : Type 0} where
   -- a refusal that is told is the one that the answer holds
   pub told : (o : Option Refusal) (q r : Refusal) → o ≡ Some q → ◌≡◌ {A = Result (Result X Refusal) E} (Ok (Err q)) (Ok (Err r)) → o ≡ Some r
-  told o q r is e = is ∙ ap (λ a. Some (inside a)) e where
-    inside : Result (Result X Refusal) E → Refusal
-    inside (Ok (Err r)) = r
-    inside (Ok (Ok x)) = q
-    inside (Err x) = q
+  told o q r is e = grind arith
 
   -- so is a value
   pub value_told : (P : X → Type 0) (x y : X) → P x → ◌≡◌ {A = Result (Result X Refusal) E} (Ok (Ok x)) (Ok (Ok y)) → P y
-  value_told P x y p e = subst P (ap inside e) p where
-    inside : Result (Result X Refusal) E → X
-    inside (Ok (Ok x)) = x
-    inside (Ok (Err r)) = x
-    inside (Err z) = x
+  value_told P x y p e = grind arith

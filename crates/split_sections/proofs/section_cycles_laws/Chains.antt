@@ -1,8 +1,7 @@
 -- Half-edges by the vertices at which they start, as they are put into a map from the last to the first.
-use Rattle.std.proofs.Common.{◌≡◌, ℕ, zero, suc, ◌+◌, Bool, true, false, cond, ◌&&◌, ◌||◌, nat_eq, nat_lt, List, [], ◌∷◌, ◌++◌, map, Option, Some, None, is_some, unwrap_or, refl, sym, ap, ◌∙◌, subst, arith, ◌-◌, ◌≤◌, ◌<◌, length, slice_index_or, inl, inr, BTreeMap, nat_cmp, is_eq, append_assoc, append-nil}
+use Rattle.std.proofs.Common.{◌≡◌, ℕ, ◌+◌, Bool, true, false, cond, ◌&&◌, ◌||◌, nat_eq, nat_lt, List, [], ◌∷◌, ◌++◌, map, Option, Some, is_some, unwrap_or, refl, sym, ap, ◌∙◌, subst, arith, ◌-◌, ◌≤◌, length, slice_index_or, BTreeMap, nat_cmp, is_eq, append_assoc, lt-ltb}
 use Rattle.std.specs.BTreeMap.{get}
-use Rattle.std.specs.Map.{lookup}
-use Rattle.std.proofs.lemmas.Bool.Decides.{nat_tests, eqb_tells}
+use Rattle.std.proofs.lemmas.Bool.Decides.{nat_tests}
 use Rattle.euler_operators.specs.Common.{count, tick, HalfEdge, code, Model, tail, HasHalf}
 use Rattle.euler_operators.proofs.Common.{tick_same, tick_other, count-append, number_tied}
 use Rattle.shapes.specs.Common.{first_such}
@@ -24,38 +23,13 @@ pub record Placed (M : Model) (all left : List ℕ) (starts : BTreeMap ℕ HalfE
   pub held : (v : ℕ) → is_some (get nat_cmp starts v) ≡ nat_lt 0 (count v (map (tail M) done))
   pub least : IsLeast (several M done) branched
 
-pub none_placed : (M : Model) (all : List ℕ) (starts : BTreeMap ℕ HalfEdge) → starts.entries ≡ [] → Placed M all all starts None
-none_placed M all starts e = record { done = []; parts = sym (append-nil all); told = λ v. ap code_or_none (empty v); held = λ v. ap is_some (empty v); least = λ v. refl } where
-  empty : (v : ℕ) → get nat_cmp starts v ≡ None
-  empty v = ap (λ (es : List (ℕ × HalfEdge)). lookup (λ k. is_eq (nat_cmp v k)) es) e
-
 -- ---- one more half-edge, which starts at t, beside those of which n start at v, and m at t
 
-positive : (n : ℕ) → 0 < n → nat_lt 0 n ≡ true
-positive n l = grind (arith, nat_tests)
-
 held_now : (t v n : ℕ) → nat_eq t v || nat_lt 0 n ≡ nat_lt 0 (tick v t + n)
-held_now t v n = elim (eqb_tells t v) [
-  | inl e ↦ ap (λ b. b || nat_lt 0 n) e.0 ∙ sym (positive (tick v t + n) (omega (arith, tick_same v, ap (tick v) e.1)))
-  | inr e ↦ ap (λ b. b || nat_lt 0 n) e.0 ∙ ap (nat_lt 0) (let s : n ≡ tick v t + n = omega (arith, tick_other v t (λ s. e.1 (sym s))) in s)
-]
+held_now t v n = grind (arith, lt-ltb, tick_same, tick_other)
 
 several_now : (t v n m : ℕ) → (v ≡ t → n ≡ m) → nat_lt 1 n || (nat_lt 0 m && nat_eq v t) ≡ nat_lt 1 (tick v t + n)
-several_now t v n m same = elim (eqb_tells v t) [
-  | inl e ↦ (λ i. nat_lt 1 n || (nat_lt 0 (sym (same e.1) i) && e.0 i)) ∙ both n ∙ ap (nat_lt 1) (let s : suc n ≡ tick v t + n = omega (arith, tick_same v, ap (tick v) e.1) in s)
-  | inr e ↦ ap (λ b. nat_lt 1 n || (nat_lt 0 m && b)) e.0 ∙ alone (nat_lt 1 n) (nat_lt 0 m) ∙ ap (nat_lt 1) (let s : n ≡ tick v t + n = omega (arith, tick_other v t e.1) in s)
-] where
-  both : (k : ℕ) → nat_lt 1 k || (nat_lt 0 k && true) ≡ nat_lt 1 (suc k)
-  both zero = refl
-  both (suc zero) = refl
-  both (suc (suc k)) =
-      let e : nat_lt 1 (suc (suc k)) ≡ true = grind (arith, nat_tests) in let f : nat_lt 1 (suc (suc (suc k))) ≡ true = grind (arith, nat_tests) in
-      ap (λ b. b || (nat_lt 0 (suc (suc k)) && true)) e ∙ sym f
-
-  alone : (a b : Bool) → a || (b && false) ≡ a
-  alone true b = refl
-  alone false true = refl
-  alone false false = refl
+several_now t v n m same = grind (arith, tick_same, tick_other, nat_tests)
 
 one_only : (b : Bool) (t : ℕ) → IsLeast (λ v. b && nat_eq v t) (only b t)
 one_only true t = (grind (arith, nat_tests), λ v l. grind (arith, nat_tests))

@@ -1,8 +1,9 @@
 -- The cycles found half by half: a half that no cycle found so far has begins one, and is the least of it.
 use Rattle.std.proofs.Common.{◌≡◌, ℕ, ◌≤◌, ◌<◌, Bool, true, false, cond, ◌||◌, nat_eq, List, [], ◌∷◌, ◌++◌, map, length, refl, sym, ap, ◌∙◌, arith, true≢false, ◌⊎◌, inl, inr, filter, ne_eqb, eq-eqb, append_assoc, append-nil}
 use Rattle.std.proofs.lemmas.Bool.Decides.{eqb_tells}
-use Rattle.euler_operators.specs.Common.{tick, count, IsIn, SameItems, least, orbit, lists, strictly_rises}
-use Rattle.euler_operators.proofs.Common.{tick_same, tick_other, count-append, IsIn_or_not, least_le, least_in, least_same, apart_within}
+use Rattle.std.proofs.lemmas.Bool.{or_right}
+use Rattle.euler_operators.specs.Common.{count, IsIn, SameItems, least, orbit, lists, strictly_rises}
+use Rattle.euler_operators.proofs.Common.{tick_same, tick_other, count-append, IsIn_or_not, least_le, least_in, least_same, apart_within, less_or_same}
 use Rattle.euler_laws.proofs.Common.{rises_over, rises_on, IsIn-from_listed, listed-from_in}
 use Rattle.split_opening_laws.specs.cycles.Permuting.{Permutes}
 use Rattle.split_opening_laws.proofs.cycles.Orbits.{around_apart, around_within, around_here, around_same}
@@ -36,13 +37,7 @@ pub record Finding (next : ℕ → ℕ) (bs left : List ℕ) (found : List (List
 
 module _ (next : ℕ → ℕ) (bs : List ℕ) where
   pub none_found : (met : ℕ → Bool) → ((x : ℕ) → met x ≡ false) → Finding next bs bs [] met
-  none_found met none = record {
-    done = [];
-    parts = refl;
-    listed = refl;
-    of_done = λ x t. absurd (true≢false (sym t ∙ none x));
-    is_met = λ d x i j. absurd (omega (arith, i));
-  }
+  none_found met none = grind (arith, true≢false)
 
   pub all_found : (left : List ℕ) (found : List (List ℕ)) (met : ℕ → Bool) → Finding next bs left found met → left ≡ [] → found ≡ map (ring next bs) (filter (begins next bs) bs)
   all_found left found met f e = sym (append-nil found) ∙ sym (ap (λ ks. found ++ map (ring next bs) (filter (begins next bs) ks)) e) ∙ f.listed
@@ -61,15 +56,7 @@ module _ (next : ℕ → ℕ) (bs : List ℕ) where
     done_in d i = omega (arith, ap (count d) split, count-append d f.done (b ∷ rest), i)
 
     earlier : (m : ℕ) → IsIn m bs → m < b → IsIn m f.done
-    earlier m i l = elim (IsIn_or_not m f.done) [
-      | inl j ↦ j
-      | inr z ↦ absurd (later (omega (arith, i, z, ap (count m) split, count-append m f.done (b ∷ rest))))
-    ] where
-      later : IsIn m (b ∷ rest) → ⊥
-      later j = elim (eqb_tells m b) [
-        | inl s ↦ omega (arith, l, s.1)
-        | inr s ↦ omega (arith, l, rises_over b m rest (from_rises f.done (b ∷ rest) rises) (omega (arith, j, tick_other m b s.1)))
-      ]
+    earlier m i l = grind (arith, split, count-append, rises_over, from_rises, rises, tick_other)
 
     -- a half that is met isn't the least of its cycle
     met_follows : met b ≡ true → begins next bs b ≡ false
@@ -90,14 +77,8 @@ module _ (next : ℕ → ℕ) (bs : List ℕ) where
       known l = f.is_met (least (ring next bs b)) b (earlier (least (ring next bs b)) (around_within next bs w b now_in (least (ring next bs b)) m_in) l)
           (omega (arith, around_same next bs w b now_in (least (ring next bs b)) m_in b, around_here next bs w b now_in))
 
-      less_or_same : (m n : ℕ) → m ≤ n → (m < n) ⊎ (m ≡ n)
-      less_or_same m n l = grind arith
-
       at_least : least (ring next bs b) ≤ b → least (ring next bs b) ≡ b
-      at_least l = elim (less_or_same (least (ring next bs b)) b l) [
-        | inl s ↦ absurd (true≢false (sym (known s) ∙ t))
-        | inr s ↦ s
-      ]
+      at_least l = grind (arith, less_or_same, true≢false, known)
 
     in_more : (d : ℕ) → IsIn d (f.done ++ b ∷ []) → IsIn d f.done ⊎ (d ≡ b)
     in_more d i = elim (eqb_tells d b) [ inl s ↦ inr s.1 | inr s ↦ inl (omega (arith, i, count-append d f.done (b ∷ []), tick_other d b s.1)) ]
@@ -133,17 +114,13 @@ module _ (next : ℕ → ℕ) (bs : List ℕ) where
           ∙ sym (ap (λ ks. found ++ map (ring next bs) (filter (begins next bs) ks)) e) ∙ f.listed;
       of_done = λ x u. from_wider x (lists cycle x) refl (sym (ew x) ∙ u);
       is_met = λ d x i j. elim (in_more d i) [
-        | inl k ↦ ew x ∙ either_second (lists cycle x) (met x) (f.is_met d x k j)
+        | inl k ↦ ew x ∙ or_right (lists cycle x) (met x) (f.is_met d x k j)
         | inr s ↦ ew x ∙ ap (λ c. c || met x) (listed-from_in x cycle (omega (arith, ap (count x) is, j, ap (λ y. count x (ring next bs y)) s)))
       ];
     } where
       from_wider : (x : ℕ) (c : Bool) → lists cycle x ≡ c → (c || met x) ≡ true → (d : ℕ) × IsIn d (f.done ++ b ∷ []) × IsIn x (ring next bs d)
       from_wider x true l u = (b, new_in, omega (arith, ap (count x) is, IsIn-from_listed x cycle l))
       from_wider x false l u = let r = f.of_done x u in (r.0, still_in r.0 r.1, r.2)
-
-      either_second : (p q : Bool) → q ≡ true → (p || q) ≡ true
-      either_second true q e = refl
-      either_second false q e = e
 
 -- where what is left is all met, all cycles are found
 module _ (next : ℕ → ℕ) (bs : List ℕ) (w : Permutes next bs) (up : strictly_rises bs ≡ true) where
@@ -158,16 +135,10 @@ module _ (next : ℕ → ℕ) (bs : List ℕ) (w : Permutes next bs) (up : stric
     | inr z ↦ absurd (omega (arith, many, apart_within (x ∷ ring next bs b) bs (apart z) within))
   ] where
     apart : count x (ring next bs b) ≡ 0 → (y : ℕ) → count y (x ∷ ring next bs b) ≤ 1
-    apart z y = elim (eqb_tells y x) [
-      | inl e ↦ omega (arith, z, tick_same x, ap (λ k. tick k x) e.1, ap (λ k. count k (ring next bs b)) e.1)
-      | inr e ↦ omega (arith, tick_other y x e.1, around_apart next bs w b i y)
-    ]
+    apart z y = grind (arith, tick_same, tick_other, around_apart)
 
     within : (y : ℕ) → IsIn y (x ∷ ring next bs b) → IsIn y bs
-    within y k = elim (eqb_tells y x) [
-      | inl e ↦ omega (arith, j, ap (λ n. count n bs) e.1)
-      | inr e ↦ around_within next bs w b i y (omega (arith, k, tick_other y x e.1))
-    ]
+    within y k = grind (arith, around_within, tick_other)
 
   -- and is the last that is found
   pub found_whole : (left : List ℕ) (found : List (List ℕ)) (met : ℕ → Bool) (f : Finding next bs left found met) (b : ℕ) (rest : List ℕ) → left ≡ b ∷ rest → met b ≡ false → (cycle : List ℕ) → cycle ≡ ring next bs b

@@ -1,7 +1,7 @@
 -- The vertices at which section edges meet.
-use Rattle.std.proofs.Common.{◌≡◌, ℕ, ◌+◌, ◌≤◌, ◌<◌, true, false, nat_lt, List, [], ◌∷◌, map, length, slice_index_or, Option, Some, None, is_some, refl, sym, ap, subst, ◌∙◌, arith, true≢false, ◌⊎◌, inl, inr}
+use Rattle.std.proofs.Common.{◌≡◌, ℕ, ◌+◌, ◌≤◌, ◌<◌, false, nat_lt, List, [], ◌∷◌, map, length, slice_index_or, Option, Some, None, is_some, refl, sym, ap, subst, ◌∙◌, arith, true≢false, ◌⊎◌, inl, inr}
 use Rattle.std.proofs.lemmas.Bool.Decides.{nat_tests}
-use Rattle.euler_operators.specs.Common.{Point, count, IsIn, HalfEdge, code, mate, Model, tail, is_number, Sound, HasHalf, Has}
+use Rattle.euler_operators.specs.Common.{Point, count, IsIn, HalfEdge, code, mate, Model, tail, Sound, HasHalf, Has}
 use Rattle.euler_operators.proofs.Common.{tick_same, count-append, IsIn_or_not, from_map, mate_there}
 use Rattle.euler_operators.specs.Table as table
 use Rattle.solid_walks.proofs.face_walks_laws.Above.{AllAbove, all_above_members}
@@ -50,13 +50,7 @@ module _ (M : Model) (sound : Sound M) (bs : List ℕ) (there : AreThere M bs) w
     outside (inr z) = z
 
   positive : AllAbove 0 (table.all_where (λ v _. nat_lt 2 (count v (section_ends M bs))) M.vertices)
-  positive = all_above_members 0 _ (λ v m. above_zero v (sound.vertices_fit v (known v (table.get M.vertices v) (sym (member_passing (λ v _. nat_lt 2 (count v (section_ends M bs))) M.vertices v) ∙ m)))) where
-    known : (v : ℕ) (o : Option Point) → passes (λ v _. nat_lt 2 (count v (section_ends M bs))) v o ≡ true → is_some o ≡ true
-    known v None e = e
-    known v (Some p) e = refl
-
-    above_zero : (v : ℕ) → is_number v ≡ true → 0 < v
-    above_zero v e = grind (arith, nat_tests)
+  positive = grind (arith, all_above_members, member_passing, passes, nat_tests)
 
   branched_least : IsLeast (λ v. nat_lt 2 (count v (section_ends M bs))) (least_branched M (section_ends M bs))
   branched_least = least_same _ _ (λ v. there_or_not v (table.get M.vertices v) refl) (least_branched M (section_ends M bs)) (least_row (λ v _. nat_lt 2 (count v (section_ends M bs))) M.vertices positive)

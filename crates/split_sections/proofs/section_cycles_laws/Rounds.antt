@@ -20,11 +20,7 @@ module _ (next : ℕ → ℕ) (bs : List ℕ) (first h n k : ℕ) (met : List �
   back more t ones e = e ∙ sym (ap (λ b. met ++ (h ∷ cond b [] (walk_to next first (next h) k))) t) ∙ step more
 
   pub onward : n ≡ k + 1 → (next h == first) ≡ false → IsIn (next h) bs → (ones : List ℕ) → ones ≡ met ++ h ∷ [] → Going next bs first (next h) k ones
-  onward more f i ones e = record {
-    goes_on = ap (λ ks. ks ++ walk_to next first (next h) k) e ∙ append_assoc met (h ∷ []) (walk_to next first (next h) k)
-        ∙ sym (ap (λ b. met ++ (h ∷ cond b [] (walk_to next first (next h) k))) f) ∙ step more;
-    here = i;
-  }
+  onward more f i ones e = grind (arith, append_assoc, step)
 
   pub out_of_steps : n ≡ 0 → met ≡ orbit next first (length bs)
   out_of_steps z = sym (append-nil met) ∙ sym (ap (λ i. met ++ walk_to next first h i) z) ∙ w.goes_on

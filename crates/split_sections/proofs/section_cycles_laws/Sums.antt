@@ -1,7 +1,7 @@
 -- Sums of cross products over the mates of some below halves.
-use Rattle.std.proofs.Common.{◌≡◌, ℕ, List, [], ◌∷◌, ◌++◌, map, refl, sym, ap, subst, ◌∙◌, arith, append_assoc, append-nil}
+use Rattle.std.proofs.Common.{◌≡◌, ℕ, List, [], ◌∷◌, ◌++◌, map, sym, ap, subst, ◌∙◌, arith, append_assoc}
 use Rattle.std.proofs.lemmas.List.{map-append}
-use Rattle.euler_operators.specs.Common.{Point, IsVectorWithin, normal_limit, origin, moved, cross, count, IsApart, mate, Model, Sound, HasHalf}
+use Rattle.euler_operators.specs.Common.{Point, IsVectorWithin, normal_limit, moved, cross, count, IsApart, mate, Model, Sound, HasHalf}
 use Rattle.euler_operators.proofs.Common.{count-append, IsApart-map, from_map, mate-mate, mate_there}
 use Rattle.shapes.specs.Common.{start, finish}
 use Rattle.split_checks.specs.Measure.{area, area_limit}
@@ -15,18 +15,12 @@ pub record Summed (M : Model) (all left : List ℕ) (now : Point) : Type 0 where
   pub parts : all ≡ done ++ left
   pub summed : now ≡ area M (map mate done)
 
-pub none_summed : (M : Model) (all : List ℕ) → Summed M all all origin
-none_summed M all = record { done = []; parts = refl; summed = refl }
-
 pub more_summed : (M : Model) (all left : List ℕ) (now : Point) → Summed M all left now → (b : ℕ) (rest : List ℕ) (next : Point) → left ≡ b ∷ rest → next ≡ moved now (cross (start M (mate b)) (finish M (mate b))) → Summed M all rest next
 more_summed M all left now s b rest next e adds = record {
   done = s.done ++ b ∷ [];
   parts = s.parts ∙ ap (λ ks. s.done ++ ks) e ∙ sym (append_assoc s.done (b ∷ []) rest);
   summed = adds ∙ ap (λ p. moved p (cross (start M (mate b)) (finish M (mate b)))) s.summed ∙ sym (area_push M (map mate s.done) (mate b)) ∙ ap (area M) (sym (map-append mate s.done (b ∷ [])));
 }
-
-pub all_summed : (M : Model) (all left : List ℕ) (now : Point) → Summed M all left now → left ≡ [] → now ≡ area M (map mate all)
-all_summed M all left now s e = s.summed ∙ ap (λ ks. area M (map mate ks)) (sym (append-nil s.done) ∙ ap (λ ks. s.done ++ ks) (sym e) ∙ sym s.parts)
 
 module _ (M : Model) (sound : Sound M) (all : List ℕ) (there : AreThere M all) (apart : IsApart all) (left : List ℕ) (now : Point) (s : Summed M all left now) where
   mates : AreHalves M (map mate s.done)

@@ -22,9 +22,7 @@ abbrev pub AreTold : Model → Plane → List Cycle → Type 0
 AreTold M p cs = map (λ c. c.hole) cs ≡ map (is_hole M p) (map halves_of cs)
 
 pub holes_pushed : (M : Model) (p : Plane) (old : List Cycle) (cycle : Cycle) (new : List Cycle) → new ≡ old ++ cycle ∷ [] → AreTold M p old → cycle.hole ≡ is_hole M p (halves_of cycle) → AreTold M p new
-holes_pushed M p old cycle new e told one =
-    ap (λ (cs : List Cycle). map (λ c. c.hole) cs) e ∙ map-append (λ (c : Cycle). c.hole) old (cycle ∷ []) ∙ (λ i. told i ++ one i ∷ [])
-    ∙ sym (map-append (is_hole M p) (map halves_of old) (halves_of cycle ∷ [])) ∙ sym (ap (map (is_hole M p)) (halves_pushed old cycle new e))
+holes_pushed M p old cycle new e told one = grind (arith, map-append, halves_pushed)
 
 -- a cycle of some halves is of different ones that are there
 pub round_there : (M : Model) (bs : List ℕ) → AreThere M bs → Permutes (next_below M bs) bs → (first : ℕ) → IsIn first bs → (cycle : List ℕ) → cycle ≡ cycle_from M bs first → AreThere M cycle

@@ -1,12 +1,12 @@
 -- The section edges of one face: none where it is above, else those whose mates lie in faces above.
-use Rattle.std.proofs.Common.{◌≡◌, ℕ, Bool, true, false, cond, not, ◌&&◌, List, [], ◌∷◌, ◌++◌, refl, sym, ap, ◌∙◌, arith, filter}
+use Rattle.std.proofs.Common.{◌≡◌, ℕ, Bool, true, false, List, [], ◌∷◌, ◌++◌, refl, sym, ap, arith, filter}
 use Rattle.std.proofs.lemmas.List.Elements.{filter-append}
-use Rattle.euler_operators.specs.Common.{count, IsIn, SameItems, IsRotation, Model, loop_of, Sound, Has, face_at, lists}
+use Rattle.euler_operators.specs.Common.{IsIn, SameItems, IsRotation, Model, loop_of, Sound, Has, face_at, lists}
 use Rattle.euler_operators.proofs.Common.{count-append, tick_same}
 use Rattle.euler_laws.proofs.Common.{listed-from_in}
 use Rattle.shapes.specs.Common.{loops_of, boundary}
 use Rattle.shapes.proofs.Common.{items_counted, face_of_loop}
-use Rattle.split_sections.specs.section_edges.BelowHalves.{leads_above, below_in, leading_above}
+use Rattle.split_sections.specs.section_edges.BelowHalves.{below_in, leading_above}
 
 module _ (M : Model) (above : List ℕ) (f : ℕ) where
   -- each of some half-edges lies in face f
@@ -21,14 +21,11 @@ module _ (M : Model) (above : List ℕ) (f : ℕ) where
 
   none_in : (hs : List ℕ) → AreOf hs → lists above f ≡ true → below_in M above hs ≡ []
   none_in [] of up = refl
-  none_in (k ∷ hs) of up =
-      ap (λ b. cond (not b && leads_above M above k) (k ∷ below_in M above hs) (below_in M above hs)) (first_of k hs of ∙ up) ∙ none_in hs (rest_of k hs of) up
+  none_in (k ∷ hs) of up = grind (arith, first_of, rest_of, none_in hs (rest_of k hs of) up)
 
   all_in : (hs : List ℕ) → AreOf hs → lists above f ≡ false → leading_above M above hs ≡ below_in M above hs
   all_in [] of low = refl
-  all_in (k ∷ hs) of low =
-      ap (λ (ns : List ℕ). cond (leads_above M above k) (k ∷ ns) ns) (all_in hs (rest_of k hs of) low)
-      ∙ sym (ap (λ b. cond (not b && leads_above M above k) (k ∷ below_in M above hs) (below_in M above hs)) (first_of k hs of ∙ low))
+  all_in (k ∷ hs) of low = grind (arith, rest_of, first_of, all_in hs (rest_of k hs of) low)
 
   module _ (sound : Sound M) (there : Has M.faces f) where
     bounding : AreOf (boundary M f)
@@ -47,14 +44,7 @@ module _ (M : Model) (above : List ℕ) (f : ℕ) where
 
 -- those of a ring from any of its items on
 pub picked_turned : (p : ℕ → Bool) (xs ys : List ℕ) → IsRotation xs ys → SameItems (filter p ys) (filter p xs)
-picked_turned p xs ys r x =
-    omega (
-      arith,
-      ap (count x) (ap (filter p) r.here ∙ filter-append p r.front r.back),
-      ap (count x) (ap (filter p) r.there ∙ filter-append p r.back r.front),
-      count-append x (filter p r.front) (filter p r.back),
-      count-append x (filter p r.back) (filter p r.front),
-    )
+picked_turned p xs ys r x = grind (arith, filter-append, count-append)
 
 pub after_had : (had xs ys : List ℕ) → SameItems xs ys → SameItems (had ++ xs) (had ++ ys)
 after_had had xs ys same x = omega (arith, same x, count-append x had xs, count-append x had ys)

@@ -1,6 +1,5 @@
 -- Numbers and their marks.
-use Rattle.std.proofs.Common.{◌≡◌, ◌≢◌, ℕ, ◌%◌, ◌<◌, Bool, true, false, ◌||◌, List, [], ◌∷◌, length, get_or, set, nat_eq, refl, sym, ap, ◌∙◌, arith, inl, inr, true≢false}
-use Rattle.std.proofs.lemmas.Bool.{cases_eq}
+use Rattle.std.proofs.Common.{◌≡◌, ◌≢◌, ℕ, ◌%◌, ◌<◌, Bool, true, false, List, [], ◌∷◌, length, set, nat_eq, refl, sym, ap, ◌∙◌, arith, true≢false}
 use Rattle.std.proofs.lemmas.Bool.Decides.{nat_tests}
 use Rattle.std.proofs.lemmas.List.{get_or-set_same, get_or-set_other}
 use Rattle.euler_operators.specs.Common.{lists}
@@ -18,10 +17,7 @@ other m n apart = let ne : m ≢ n = λ e. apart (ap (λ k. k % 64) (sym e)) in 
 
 -- one more has its mark
 pub one_marked : (ns rest others : List ℕ) (m : ℕ) (marks : List Bool) → length marks ≡ 64 → rest ≡ m ∷ others → MarkedBut ns rest marks → MarkedBut ns others (set marks (m % 64) true)
-one_marked ns rest others m marks places is done n listed left = elim (cases_eq (n % 64) (m % 64)) [
-  | inl e ↦ ap (λ i. get_or (set marks (m % 64) true) i false) e ∙ get_or-set_same marks (m % 64) true false (omega (arith, places))
-  | inr ne ↦ get_or-set_other marks (m % 64) (n % 64) true false ne ∙ done n listed (ap (λ ks. lists ks n) is ∙ ap (λ b. b || lists others n) (other m n ne) ∙ left)
-]
+one_marked ns rest others m marks places is done n listed left = grind (arith, get_or-set_same, get_or-set_other, other)
 
 pub all_marked : (ns rest : List ℕ) (marks : List Bool) → length rest < 1 → MarkedBut ns rest marks → AreMarked ns marks
 all_marked ns [] marks none done n listed = done n listed refl

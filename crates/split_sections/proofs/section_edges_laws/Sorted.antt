@@ -2,7 +2,7 @@
 use Rattle.std.proofs.Common.{◌≡◌, ℕ, suc, ◌<◌, true, ◌&&◌, List, [], ◌∷◌, map, refl, sym, ap, ◌∙◌, arith, true≢false, inl, inr, IsPermutation, lt-ltb}
 use Rattle.std.specs.List.Sorted.{IsNonDecreasingBy}
 use Rattle.std.proofs.lemmas.List.Sorted.{IsPermutation-map}
-use Rattle.euler_operators.specs.Common.{tick, IsIn, IsApart, SameItems, HalfEdge, code, edge_of, Model, faces_of, Sound, face_at, lists, strictly_rises}
+use Rattle.euler_operators.specs.Common.{tick, IsIn, IsApart, SameItems, HalfEdge, code, edge_of, Model, faces_of, Sound, strictly_rises}
 use Rattle.euler_operators.proofs.Common.{tick_same, edge_of-code, same_edge, less_or_same, SameItems-from_permutation}
 use Rattle.euler_laws.proofs.Common.{within, IsIn-from_listed, listed-from_in}
 use Rattle.split_checks.proofs.HowMany.{equally_many}
@@ -23,10 +23,7 @@ lesser_half g h l = lesser_edge (code g) (code h) (omega (arith, l, edge_of-code
 module _ (M : Model) (above : List ℕ) (s : ℕ) where
   -- a section edge has one half below
   one_half : (m n : ℕ) → IsBelowHalf M above s m → IsBelowHalf M above s n → edge_of m ≡ edge_of n → m ≡ n
-  one_half m n v w e = elim (same_edge m n e) [
-    | inl o ↦ o
-    | inr o ↦ absurd (true≢false (sym w.mate_above ∙ ap (λ k. lists above (face_at M k)) (sym o) ∙ v.below))
-  ]
+  one_half m n v w e = grind (arith, same_edge, true≢false)
 
   -- below halves whose edges don't fall rise
   rises : (hs : List HalfEdge) → IsNonDecreasingBy (λ h. h.edge) hs → IsApart (map code hs) → ((m : ℕ) → IsIn m (map code hs) → IsBelowHalf M above s m) → strictly_rises (map code hs) ≡ true

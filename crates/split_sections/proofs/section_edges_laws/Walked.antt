@@ -1,10 +1,10 @@
 -- The halves in faces below that a walk over the faces of a solid meets are the below halves of its section.
-use Rattle.std.proofs.Common.{◌≡◌, ℕ, Bool, not, ◌&&◌, List, [], ◌∷◌, ◌++◌, refl, sym, ap, subst, ◌∙◌, filter}
+use Rattle.std.proofs.Common.{◌≡◌, ℕ, Bool, not, ◌&&◌, List, [], ◌∷◌, refl, sym, ap, subst, ◌∙◌, filter, arith}
 use Rattle.std.proofs.lemmas.Bool.{and_parts, not-true}
 use Rattle.std.proofs.lemmas.List.Elements.{filter-append}
 use Rattle.euler_operators.specs.Common.{IsIn, IsApart, mate, Model, faces_of, Sound, face_at, lists}
 use Rattle.euler_operators.proofs.Common.{IsIn-filter}
-use Rattle.shapes.specs.Common.{items_in, loops_of, boundary, loops_in}
+use Rattle.shapes.specs.Common.{items_in, boundary, loops_in}
 use Rattle.shapes.proofs.Common.{halves_apart, half_solid, solid_half, items_joined, solid_loops}
 use Rattle.split_checks.proofs.cut_places_laws.Lists.{of_picked, picked_apart}
 use Rattle.split_opening_laws.specs.cycles.SectionCycles.{IsBelowHalf}
@@ -23,9 +23,7 @@ module _ (M : Model) (sound : Sound M) (above : List ℕ) (s : ℕ) where
   met_in_faces : (fs : List ℕ) → below_met M above fs ≡ filter test (items_in M (loops_in M fs))
   unfolding boundary
   met_in_faces [] = refl
-  met_in_faces (f ∷ fs) =
-      let xs = items_in M (loops_of M f) in let ys = items_in M (loops_in M fs) in
-      ap (λ (hs : List ℕ). filter test xs ++ hs) (met_in_faces fs) ∙ sym (filter-append test xs ys) ∙ ap (filter test) (sym (items_joined M (loops_of M f) (loops_in M fs)))
+  met_in_faces (f ∷ fs) = grind (arith, filter-append, items_joined, met_in_faces fs)
 
   met_is : met ≡ filter test halves
   met_is = met_in_faces (faces_of M s)
