@@ -4,11 +4,10 @@ use Rattle.euler_operators.specs.Common.{Plane, Model, Sound}
 use Rattle.euler_operators.specs.declared.Op.{Op}
 use Rattle.euler_operators.specs.declared.Op.TheVariants.{Part}
 use Rattle.euler_laws.specs.Laws.{AreAccepted, effects}
-use Rattle.euler_laws.proofs.Common.{effects-append, AreAccepted-back}
+use Rattle.euler_laws.proofs.Common.{effects-append, AreAccepted-back, Leads}
 use Rattle.shapes.specs.Common.{faces_above, below_halves, section_cycles, Drawing, with_drawings, Caps, all_opened, opened_at, upper_left, split_refusal, split_model}
 use Rattle.split_drawing_laws.specs.pairs.Laws.{rewriting_ops}
 use Rattle.split_drawing_laws.proofs.pairs.Whole.{rewritings_made}
-use Rattle.split_drawing_laws.proofs.drawings.Runs.{Leads}
 use Rattle.split_opening_laws.specs.sections.InTurn.{CanBeOpenedInTurn}
 use Rattle.split_laws.proofs.drawn.Drawn.{begins, can_open_all}
 use Rattle.split_drawing.specs.Progress.{drawing_of}

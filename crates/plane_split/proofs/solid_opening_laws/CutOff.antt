@@ -8,14 +8,14 @@ use Rattle.split_opening_laws.specs.strips.Strips.{strips_cut}
 use Rattle.split_opening_laws.specs.strips.StripOps.{cut_strip, strip_ops}
 use Rattle.split_opening_laws.proofs.strips.Cycle as on
 use Rattle.split_opening_laws.proofs.strips.Strip.{cut_half, strip_accepted}
-use Rattle.split_opening_laws.proofs.strips.Whole.{strips_go, part_sound}
+use Rattle.split_opening_laws.proofs.strips.Whole.{strips_lead, part_sound}
 use Rattle.plane_split.specs.solid_opening.Stages.{CanOpen}
 use Rattle.plane_split.proofs.solid_opening_laws.Items.{one_on}
 
 module _ (M : Model) (s : ℕ) (c : Taken) (bs : List ℕ) (can : CanOpen M s c bs) where
   -- the model with the first i strips cut off
   pub so_far : (i : ℕ) → i ≤ length bs → effects M (strip_ops M s c bs i) ≡ strips_cut M s c bs i
-  so_far i le = (strips_go M can.0 s c bs can.1 i le).1
+  so_far i le = (strips_lead M can.0 s c bs can.1 i le).made
 
   module _ (i : ℕ) (lt : i < length bs) (X : Model) (x : X ≡ effects M (strip_ops M s c bs i)) where
     is_cut : X ≡ strips_cut M s c bs i

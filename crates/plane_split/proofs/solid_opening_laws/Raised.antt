@@ -17,7 +17,7 @@ use Rattle.split_opening_laws.proofs.strips.Cycle as on
 use Rattle.split_opening_laws.proofs.strips.Strip.{cut_tail}
 use Rattle.split_opening_laws.proofs.copies.Copies.{copy_accepted}
 use Rattle.split_opening_laws.proofs.copies.Raised.{old_half, old_tail, raised_vertices}
-use Rattle.split_opening_laws.proofs.copies.Raising.{copies_go, part_sound}
+use Rattle.split_opening_laws.proofs.copies.Raising.{copies_lead, part_sound}
 use Rattle.plane_split.specs.solid_opening.Stages.{AreStripped}
 use Rattle.plane_split.proofs.solid_opening_laws.Items.{one_on}
 
@@ -99,7 +99,7 @@ module _ (N : Model) (s : ℕ) (c : Taken) (bs : List ℕ) (r : AreStripped N s 
 
   -- the model with the first i copies
   pub raised_so_far : (i : ℕ) → i ≤ length bs → effects N (copy_ops N c bs i) ≡ copies_raised M r.above s c bs i
-  raised_so_far i le = (λ j. effects (r.model j) (read_before i le j)) ∙ (copies_go M r.above s c bs r.can i le).1
+  raised_so_far i le = (λ j. effects (r.model j) (read_before i le j)) ∙ (copies_lead M r.above s c bs r.can i le).made
 
   module _ (i : ℕ) (lt : i < length bs) (X : Model) (x : X ≡ effects N (copy_ops N c bs i)) where
     within_length : i ≤ length bs
