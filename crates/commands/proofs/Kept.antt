@@ -7,16 +7,12 @@ use Rattle.commands.specs.Telling.{Tells, TellsSession, TellsDraft}
 use Rattle.commands.proofs.Settling.{stays}
 
 pub session_kept : (s t : Journal) (c : Command) (a : Told) → a ≢ Done → TellsSession s c a t → t ≡ s
-session_kept s t (command.Change c) a other h = stays _ _ _ _ a other h
 session_kept s t (command.Ask q) a other h = h.1
-session_kept s t command.Undo a other h = stays _ _ _ _ a other h
-session_kept s t command.Redo a other h = stays _ _ _ _ a other h
+session_kept s t c a other h = stays _ _ _ _ a other h
 
 draft_kept : (d e : DraftJournal) (c : Command) (a : Told) → a ≢ Done → TellsDraft d c a e → e ≡ d
 draft_kept d e (command.Change c) a other h = stays _ _ _ _ a other h
-draft_kept d e (command.Ask q) a other h = h.1
-draft_kept d e command.Undo a other h = h.1
-draft_kept d e command.Redo a other h = h.1
+draft_kept d e c a other h = h.1
 
 open_draft_is : (d e : OpenDraft) → e.draft ≡ d.draft → e ≡ d
 open_draft_is d e is = λ i. record { draft = is i }
@@ -25,13 +21,8 @@ pub only_done_changes : (g h : Stage) (c : Call) (a : Told) → a ≢ Done → T
 only_done_changes (Session s) h (call.Give c) a other x = x.1 ∙ ap Session (session_kept s x.0 c a other x.2)
 only_done_changes (Session s) h call.Open a other (inl x) = absurd (other x.0)
 only_done_changes (Session s) h call.Open a other (inr x) = x.1
-only_done_changes (Session s) h call.Mark a other x = x.1
-only_done_changes (Session s) h (call.Back n) a other x = x.1
-only_done_changes (Session s) h call.Commit a other x = x.1
-only_done_changes (Session s) h call.Abandon a other x = x.1
+only_done_changes (Session s) h c a other x = x.1
 only_done_changes (Drafting d) h (call.Give c) a other x = x.1 ∙ ap Drafting (open_draft_is d x.0 (draft_kept d.draft x.0.draft c a other x.2))
 only_done_changes (Drafting d) h call.Open a other x = x.1
 only_done_changes (Drafting d) h call.Mark a other x = x.3
-only_done_changes (Drafting d) h (call.Back n) a other x = absurd (other x.0)
-only_done_changes (Drafting d) h call.Commit a other x = absurd (other x.0)
-only_done_changes (Drafting d) h call.Abandon a other x = absurd (other x.0)
+only_done_changes (Drafting d) h c a other x = absurd (other x.0)

@@ -2,9 +2,8 @@
 use Rattle.std.proofs.Common.{◌≡◌, inl, inr, Option, Some, None, Ok, Err, refl, sym, subst, ◌∙◌, OnOk, OnErr, ◌≢◌, ◌⊎◌, ◌↔◌, Result}
 use Rattle.std.specs.declared.alloc.AllocError.{AllocError}
 use Rattle.euler_operators.specs.Common.{verdict}
-use Rattle.commands.specs.Common.{Done, Failure, InDraft, Memory, NoDraft, Refusal, Refused, Told}
+use Rattle.commands.specs.Common.{Done, Failure, Memory, Refusal, Refused, Told}
 use Rattle.undo_journal.specs.declared.session.Failure.TheVariants as failure
-use Rattle.commands.specs.declared.command.Told.TheVariants as told
 use Rattle.commands.specs.Telling.{Settled, told_of, told_of_move}
 
 -- done, or refused, or memory was refused
@@ -15,12 +14,7 @@ pub ended : (o : Option Refusal) (L S G : Type 0) (a : Told) → Settled o L S G
 ended o L S G Done h = inl (refl, h.0, h.1)
 ended o L S G (Refused r) h = inr (inl (r, refl, h.0, h.1))
 ended o L S G Memory h = inr (inr (refl, h.1))
-ended o L S G InDraft h = absurd h
-ended o L S G NoDraft h = absurd h
-ended o L S G (told.Plane p flat) h = absurd h
-ended o L S G (told.Volume n) h = absurd h
-ended o L S G (told.Counts n) h = absurd h
-ended o L S G (told.Steps n) h = absurd h
+ended o L S G a h = absurd h
 
 pub not_done : (r : Refusal) → Refused r ≢ Done
 not_done r e = cc
@@ -63,6 +57,5 @@ settled_exactly o S G N r ok more iff err = settled o (o ≡ None) S G N r ok mo
 -- and undo or redo
 pub settled_move : (o : Option Refusal) (S G : Type 0) (r : Result (Unit {0}) Refusal) → OnOk r G → r ≡ verdict o → OnErr r S → Settled o ⊥ S G (told_of_move r)
 settled_move None S G (Ok _) ok is err = (refl, ok)
-settled_move None S G (Err q) ok is err = absurd (cc is)
-settled_move (Some p) S G (Ok _) ok is err = absurd (cc is)
 settled_move (Some p) S G (Err q) ok is err = (cc is, err)
+settled_move o S G r ok is err = absurd (cc is)
