@@ -1,6 +1,6 @@
 -- A list of calls is a history.
 use Rattle.std.proofs.Common.{◌≡◌, suc, inl, inr, Option, List, [], ◌∷◌, refl, sym, ap, subst, ◌∙◌}
-use Rattle.call_lists.specs.Common.{Abandon, Ask, Back, Call, Change, Command, Commit, DraftJournal, DraftState, Drafting, Give, IsCall, IsFurther, IsWhole, Machine, Mark, MayLack, Op, Open, Redo, Refusal, Session, Stage, Tells, TellsDraft, Told, Undo, accepted, after_calls, commit, draft_step, held, made, open_draft, plain, refusal_of, tried, unless}
+use Rattle.call_lists.specs.Common.{Call, Change, Command, Commit, DraftJournal, DraftState, Drafting, Give, IsCall, IsFurther, IsWhole, Machine, Mark, MayLack, Op, Open, Refusal, Session, Stage, Tells, TellsDraft, Told, accepted, after_calls, commit, draft_step, held, made, open_draft, plain, refusal_of, tried, unless}
 use Rattle.euler_laws.specs.Laws.{AreAccepted, effects}
 use Rattle.undo_journal.specs.Histories as histories
 use Rattle.undo_journal.proofs.Journals.{same_machine}
@@ -16,9 +16,7 @@ session_stays d e (Change c) a h = elim (ended (refusal_of d.model c) (MayLack d
   | inr (inl r) ↦ ap (λ (x : DraftJournal). x.session) r.3
   | inr (inr m) ↦ ap (λ (x : DraftJournal). x.session) m.1
 ]
-session_stays d e (Ask q) a h = ap (λ (x : DraftJournal). x.session) h.1
-session_stays d e Undo a h = ap (λ (x : DraftJournal). x.session) h.1
-session_stays d e Redo a h = ap (λ (x : DraftJournal). x.session) h.1
+session_stays d e c a h = ap (λ (x : DraftJournal). x.session) h.1
 
 -- operators that are accepted, each tried as a step
 tried_all : (d : DraftState) (ops : List Op) → AreAccepted d.model ops → tried d ops ≡ record { session = d.session; model = effects d.model ops }
@@ -39,21 +37,14 @@ stage_call : CommandsAreCalls → (g h : Stage) (c : Call) (a : Told) → IsWhol
 stage_call l (Session s) h (Give c) a whole x = led s.machine (Session x.0) h x.1 (l s x.0 c a whole.held_sound x.2)
 stage_call l (Session s) h Open a whole (inl x) = stopped s.machine _ (ap machine_of x.1)
 stage_call l (Session s) h Open a whole (inr x) = stopped s.machine _ (ap machine_of x.1)
-stage_call l (Session s) h Mark a whole x = stopped s.machine _ (ap machine_of x.1)
-stage_call l (Session s) h (Back n) a whole x = stopped s.machine _ (ap machine_of x.1)
-stage_call l (Session s) h Commit a whole x = stopped s.machine _ (ap machine_of x.1)
-stage_call l (Session s) h Abandon a whole x = stopped s.machine _ (ap machine_of x.1)
+stage_call l (Session s) h c a whole x = stopped s.machine _ (ap machine_of x.1)
 stage_call l (Drafting d) h (Give c) a whole x = stopped d.draft.session.machine _ (ap machine_of x.1 ∙ same_machine (session_stays d.draft x.0.draft c a x.2))
-stage_call l (Drafting d) h Open a whole x = stopped d.draft.session.machine _ (ap machine_of x.1)
 stage_call l (Drafting d) h Mark a whole x = stopped d.draft.session.machine _ (ap machine_of x.3)
-stage_call l (Drafting d) h (Back n) a whole x = stopped d.draft.session.machine _ (ap machine_of x.1)
 stage_call l (Drafting d) h Commit a whole x = led d.draft.session.machine _ h x.1 (committed d.draft whole.2.operators whole.2.are_accepted whole.2.make)
-stage_call l (Drafting d) h Abandon a whole x = stopped d.draft.session.machine _ (ap machine_of x.1)
+stage_call l (Drafting d) h c a whole x = stopped d.draft.session.machine _ (ap machine_of x.1)
 
 pub lists_are_histories : CommandsAreCalls → ListsAreHistories
 lists_are_histories l g h [] [] whole x = record { history = []; as_many = refl; leads = sym (ap machine_of x) }
-lists_are_histories l g h [] (a ∷ answers) whole x = absurd x
-lists_are_histories l g h (c ∷ calls) [] whole x = absurd x
 lists_are_histories l g h (c ∷ calls) (a ∷ answers) whole x =
     let first = stage_call l g x.0 c a whole x.1 in
     let later = lists_are_histories l x.0 h calls answers x.2 x.3 in record {
@@ -61,3 +52,4 @@ lists_are_histories l g h (c ∷ calls) (a ∷ answers) whole x =
       as_many = ap suc later.as_many;
       leads = ap (λ (m : Machine). after_calls m later.history) first.leads ∙ later.leads;
     }
+lists_are_histories l g h _ _ whole x = absurd x

@@ -1,7 +1,6 @@
 -- Lists of calls, one more at a time, and cut in two.
 use Rattle.std.proofs.Common.{◌≡◌, inl, inr, false, List, [], ◌∷◌, ◌++◌, refl, sym, ap, subst, ◌∙◌, append_assoc, ◌⊎◌}
-use Rattle.call_lists.specs.Common.{Call, Done, InDraft, IsWhole, Memory, NoDraft, Refused, Stage, Tells, Told}
-use Rattle.commands.specs.declared.command.Told.TheVariants as told
+use Rattle.call_lists.specs.Common.{Call, Done, IsWhole, Stage, Tells, Told}
 use Rattle.commands.proofs.Kept.{only_done_changes}
 use Rattle.call_lists.specs.Making.{MakesAll, AreTold}
 use Rattle.call_lists.specs.Laws.{is_done, ListsKeepWhole, EachIsWhole}
@@ -9,21 +8,13 @@ use Rattle.call_lists.specs.Laws.{is_done, ListsKeepWhole, EachIsWhole}
 -- a call is told `Done`, or changes nothing
 pub done_or_idle : (g h : Stage) (c : Call) (a : Told) → Tells g c a h → ((a ≡ Done) × Tells g c Done h) ⊎ ((is_done a ≡ false) × (h ≡ g))
 done_or_idle g h c Done x = inl (refl, x)
-done_or_idle g h c (Refused r) x = inr (refl, only_done_changes g h c _ (λ e. cc e) x)
-done_or_idle g h c Memory x = inr (refl, only_done_changes g h c _ (λ e. cc e) x)
-done_or_idle g h c InDraft x = inr (refl, only_done_changes g h c _ (λ e. cc e) x)
-done_or_idle g h c NoDraft x = inr (refl, only_done_changes g h c _ (λ e. cc e) x)
-done_or_idle g h c (told.Plane p flat) x = inr (refl, only_done_changes g h c _ (λ e. cc e) x)
-done_or_idle g h c (told.Volume n) x = inr (refl, only_done_changes g h c _ (λ e. cc e) x)
-done_or_idle g h c (told.Counts n) x = inr (refl, only_done_changes g h c _ (λ e. cc e) x)
-done_or_idle g h c (told.Steps n) x = inr (refl, only_done_changes g h c _ (λ e. cc e) x)
+done_or_idle g h c a x = inr (refl, only_done_changes g h c a (λ e. cc e) x)
 
 -- one call more
 pub one_more : (g k h : Stage) (calls : List Call) (answers : List Told) (c : Call) (a : Told) → MakesAll g calls answers k → Tells k c a h → IsWhole h → MakesAll g (calls ++ c ∷ []) (answers ++ a ∷ []) h
 one_more g k h [] [] c a is m whole = (h, subst (λ (x : Stage). Tells x c a h) is m, whole, refl)
-one_more g k h [] (b ∷ answers) c a x m whole = absurd x
-one_more g k h (d ∷ calls) [] c a x m whole = absurd x
 one_more g k h (d ∷ calls) (b ∷ answers) c a x m whole = (x.0, x.1, x.2, one_more x.0 k h calls answers c a x.3 m whole)
+one_more g k h _ _ c a x m whole = absurd x
 
 -- one answer more
 pub told_more : (g k h : Stage) (calls : List Call) (old mid new : List Told) (c : Call) (a : Told) → AreTold g calls old mid k → new ≡ mid ++ a ∷ [] → Tells k c a h → IsWhole h → AreTold g (calls ++ c ∷ []) old new h
@@ -32,9 +23,8 @@ told_more g k h calls old mid new c a x is m whole =
 
 pub lists_keep_whole : ListsKeepWhole
 lists_keep_whole g h [] [] whole x = subst IsWhole (sym x) whole
-lists_keep_whole g h [] (a ∷ answers) whole x = absurd x
-lists_keep_whole g h (c ∷ calls) [] whole x = absurd x
 lists_keep_whole g h (c ∷ calls) (a ∷ answers) whole x = lists_keep_whole x.0 h calls answers x.2 x.3
+lists_keep_whole g h _ _ whole x = absurd x
 
 pub each_is_whole : EachIsWhole
 each_is_whole g h [] more answers whole x = record { between = g; told = []; later = answers; answers_are = refl; before = refl; whole = whole; after = x }

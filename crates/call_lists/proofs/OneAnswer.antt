@@ -1,5 +1,5 @@
 -- What isn't done changes nothing; and where memory isn't refused, calls have one list of answers.
-use Rattle.std.proofs.Common.{◌≡◌, inl, inr, Bool, true, false, Option, List, [], ◌∷◌, refl, sym, ap, subst, ◌∙◌, true≢false, ◌≢◌, ◌⊎◌, cond}
+use Rattle.std.proofs.Common.{◌≡◌, inl, inr, Bool, true, false, Option, List, [], ◌∷◌, refl, sym, ap, subst, ◌∙◌, true≢false, ◌≢◌, cond}
 use Rattle.call_lists.specs.Common.{Abandon, Ask, Back, Call, Change, Command, Commit, Done, DraftJournal, Drafting, Give, IsWhole, Journal, Machine, Mark, Memory, Model, Open, Redo, Refusal, Refused, Session, Settled, Stage, Tells, TellsDraft, TellsSession, Told, Undo, accepted, asked, held, made, redo, redo_refusal, refusal_of, undo, undo_refusal}
 use Rattle.undo_journal.proofs.Journals.{same_machine}
 use Rattle.commands.proofs.Settling.{ended}
@@ -15,9 +15,8 @@ only_done_changes = kept.only_done_changes
 
 pub idle_lists_stay : IdleListsStay
 idle_lists_stay g h [] [] other x = x
-idle_lists_stay g h [] (a ∷ answers) other x = absurd x
-idle_lists_stay g h (c ∷ calls) [] other x = absurd x
 idle_lists_stay g h (c ∷ calls) (a ∷ answers) other x = idle_lists_stay x.0 h calls answers other.1 x.3 ∙ only_done_changes g x.0 c a other.0 x.1
+idle_lists_stay g h _ _ other x = absurd x
 
 -- ---- calls that are told `Memory` can be left out
 
@@ -32,9 +31,8 @@ module _ (g k h : Stage) (c : Call) (a : Told) (calls : List Call) (answers : Li
 
 pub memory_can_be_left_out : MemoryCanBeLeftOut
 memory_can_be_left_out g h [] [] x = x
-memory_can_be_left_out g h [] (a ∷ answers) x = absurd x
-memory_can_be_left_out g h (c ∷ calls) [] x = absurd x
 memory_can_be_left_out g h (c ∷ calls) (a ∷ answers) x = first_or_not g x.0 h c a calls answers x.1 x.2 (memory_can_be_left_out x.0 h calls answers x.3) (is_memory a) refl
+memory_can_be_left_out g h _ _ x = absurd x
 
 -- ---- one list of answers
 
@@ -72,8 +70,7 @@ draft_one : (d f e k : DraftJournal) (c : Command) (a b : Told) → a ≢ Memory
 draft_one d f e k (Change c) a b na nb is x y =
     both_alike _ _ _ _ _ _ _ _ a b d.model _ e.model k.model (ap (λ (M : Model). refusal_of M c) is) na nb (ap model_of) (λ z. z.0) (λ z. ap model_of z ∙ is) (λ z. z.0 ∙ ap (λ (M : Model). made M c) is) x y
 draft_one d f e k (Ask q) a b na nb is x y = (y.0 ∙ ap (λ (M : Model). asked M q) is ∙ sym x.0, ap model_of y.1 ∙ is ∙ sym (ap model_of x.1))
-draft_one d f e k Undo a b na nb is x y = (y.0 ∙ sym x.0, ap model_of y.1 ∙ is ∙ sym (ap model_of x.1))
-draft_one d f e k Redo a b na nb is x y = (y.0 ∙ sym x.0, ap model_of y.1 ∙ is ∙ sym (ap model_of x.1))
+draft_one d f e k c a b na nb is x y = (y.0 ∙ sym x.0, ap model_of y.1 ∙ is ∙ sym (ap model_of x.1))
 
 -- two stages that are reached are seen alike where those are that are known
 alike : (g h k j : Stage) → h ≡ g → j ≡ k → view_of k ≡ view_of g → view_of j ≡ view_of h
@@ -89,8 +86,7 @@ one_call (Session s) (Session u) h j Open a b un na nb is (inl x) (inr y) = absu
 one_call (Session s) (Session u) h j Open a b un na nb is (inr x) y = absurd (na x.0)
 one_call (Session s) (Session u) h j Mark a b un na nb is x y = absurd un
 one_call (Session s) (Session u) h j (Back n) a b un na nb is x y = absurd un
-one_call (Session s) (Session u) h j Commit a b un na nb is x y = (y.0 ∙ sym x.0, alike (Session s) h (Session u) j x.1 y.1 is)
-one_call (Session s) (Session u) h j Abandon a b un na nb is x y = (y.0 ∙ sym x.0, alike (Session s) h (Session u) j x.1 y.1 is)
+one_call (Session s) (Session u) h j c a b un na nb is x y = (y.0 ∙ sym x.0, alike (Session s) h (Session u) j x.1 y.1 is)
 one_call (Session s) (Drafting f) h j c a b un na nb is x y = absurd (true≢false (λ i. (is i).drafting))
 one_call (Drafting d) (Session u) h j c a b un na nb is x y = absurd (true≢false (sym (λ i. (is i).drafting)))
 one_call (Drafting d) (Drafting f) h j (Give c) a b un na nb is x y =
@@ -101,18 +97,15 @@ one_call (Drafting d) (Drafting f) h j (Give c) a b un na nb is x y =
     let machine = same_machine second ∙ known ∙ sym (same_machine first) in
     (one.0, alike (Drafting x.0) h (Drafting y.0) j x.1 y.1 (λ i. record { machine = machine i; model = one.1 i; drafting = true }))
 one_call (Drafting d) (Drafting f) h j Open a b un na nb is x y = (y.0 ∙ sym x.0, alike (Drafting d) h (Drafting f) j x.1 y.1 is)
-one_call (Drafting d) (Drafting f) h j Mark a b un na nb is x y = absurd un
-one_call (Drafting d) (Drafting f) h j (Back n) a b un na nb is x y = absurd un
 one_call (Drafting d) (Drafting f) h j Commit a b un na nb is x y =
     (y.0 ∙ sym x.0, alike _ h _ j x.1 y.1 (λ i. record { machine = accepted (is i).machine (is i).model; model = (is i).model; drafting = false }))
 one_call (Drafting d) (Drafting f) h j Abandon a b un na nb is x y =
     (y.0 ∙ sym x.0, alike _ h _ j x.1 y.1 (λ i. record { machine = (is i).machine; model = held (is i).machine; drafting = false }))
+one_call (Drafting d) (Drafting f) h j c a b un na nb is x y = absurd un
 
 pub lists_have_one_answer : ListsHaveOneAnswer
 lists_have_one_answer g k h j [] [] [] un na nb is x y = (refl, alike g h k j x y is)
 lists_have_one_answer g k h j [] [] (b ∷ others) un na nb is x y = absurd y
-lists_have_one_answer g k h j [] (a ∷ answers) others un na nb is x y = absurd x
-lists_have_one_answer g k h j (c ∷ calls) [] others un na nb is x y = absurd x
 lists_have_one_answer g k h j (c ∷ calls) (a ∷ answers) [] un na nb is x y = absurd y
 lists_have_one_answer g k h j (c ∷ calls) (a ∷ answers) (b ∷ others) un na nb is x y =
     let first = one_call g k x.0 y.0 c a b un.0 na.0 nb.0 is x.1 y.1 in
@@ -120,3 +113,4 @@ lists_have_one_answer g k h j (c ∷ calls) (a ∷ answers) (b ∷ others) un na
       λ i. first.0 i ∷ later.0 i,
       later.1,
     )
+lists_have_one_answer g k h j _ _ others un na nb is x y = absurd x

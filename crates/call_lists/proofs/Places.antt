@@ -1,6 +1,6 @@
 -- How many commands can be undone, and redone, after a list of calls.
 use Rattle.std.proofs.Common.{◌≡◌, ℕ, suc, ◌+◌, ◌-◌, Bool, true, false, inl, inr, None, List, [], ◌∷◌, length, is_some, refl, sym, ap, ◌∙◌, arith, true≢false, cond}
-use Rattle.call_lists.specs.Common.{Abandon, Ask, Back, Call, Change, Command, Commit, Done, Drafting, Give, IsConsistent, IsWhole, Journal, Mark, Model, Open, Redo, Session, Stage, Tells, TellsSession, Told, Undo, ahead, depth, held, redo, redo_refusal, redos, undo, undo_refusal, undos}
+use Rattle.call_lists.specs.Common.{Ask, Call, Change, Command, Commit, Done, Drafting, Give, IsConsistent, IsWhole, Journal, Mark, Model, Open, Redo, Session, Stage, Tells, TellsSession, Told, Undo, ahead, depth, held, redo, redo_refusal, redos, undo, undo_refusal, undos}
 use Rattle.undo_journal.proofs.Journals.{same_machine}
 use Rattle.undo_journal.proofs.Copies.{redone_to_last}
 use Rattle.call_lists.specs.Laws.{Place, machine_of, place_of, after_command, after_done, place_after, place_after_all, PlacesAreCounted, UndosLeadToTheFirst, RedosLeadToTheLast}
@@ -40,16 +40,12 @@ done_place : (g h : Stage) (c : Call) → Tells g c Done h → place_of h ≡ af
 done_place (Session s) h (Give c) x = ap place_of x.1 ∙ session_place s x.0 c x.2
 done_place (Session s) h Open (inl x) = ap place_of x.1
 done_place (Session s) h Open (inr x) = absurd (cc x.0)
-done_place (Session s) h Mark x = ap place_of x.1
-done_place (Session s) h (Back n) x = ap place_of x.1
 done_place (Session s) h Commit x = absurd (cc x.0)
-done_place (Session s) h Abandon x = ap place_of x.1
+done_place (Session s) h c x = ap place_of x.1
 done_place (Drafting d) h (Give c) x = ap place_of x.1 ∙ ap (λ (j : Journal). placed (depth j.machine) (ahead j.machine) true) (session_stays d.draft x.0.draft c Done x.2)
-done_place (Drafting d) h Open x = ap place_of x.1
 done_place (Drafting d) h Mark x = ap place_of x.3
-done_place (Drafting d) h (Back n) x = ap place_of x.1
 done_place (Drafting d) h Commit x = ap place_of x.1 ∙ place_is _ _ _ _ false (one_more (depth d.draft.session.machine)) refl
-done_place (Drafting d) h Abandon x = ap place_of x.1
+done_place (Drafting d) h c x = ap place_of x.1
 
 one_place : (g h : Stage) (c : Call) (a : Told) → Tells g c a h → place_of h ≡ place_after (place_of g) c a
 one_place g h c a x = elim (done_or_idle g h c a x) [
@@ -59,9 +55,8 @@ one_place g h c a x = elim (done_or_idle g h c a x) [
 
 pub places_are_counted : PlacesAreCounted
 places_are_counted g h [] [] x = ap place_of x
-places_are_counted g h [] (a ∷ answers) x = absurd x
-places_are_counted g h (c ∷ calls) [] x = absurd x
 places_are_counted g h (c ∷ calls) (a ∷ answers) x = places_are_counted x.0 h calls answers x.3 ∙ ap (λ (p : Place). place_after_all p calls answers) (one_place g x.0 c a x.1)
+places_are_counted g h _ _ x = absurd x
 
 machine_whole : (g : Stage) → IsWhole g → IsConsistent (machine_of g)
 machine_whole (Session s) whole = whole

@@ -2,7 +2,7 @@
 use Rattle.std.proofs.Common.{◌≡◌, ℕ, zero, suc, ◌+◌, ◌-◌, ◌≤◌, inl, inr, Bool, false, None, List, [], ◌∷◌, ◌++◌, length, reverse, take, drop, replicate, nat_eq, refl, sym, ap, subst, ◌∙◌, append_assoc, take-append-drop, length-take, arith, ◌⊎◌}
 use Rattle.std.proofs.lemmas.Bool.Decides.{nat_tests}
 use Rattle.std.proofs.Math.Seq.{take-append-add}
-use Rattle.call_lists.specs.Common.{Abandon, Ask, Back, Call, Change, Command, Commit, Done, Drafting, Give, IsRecorded, Journal, Machine, Mark, Model, NothingToRedo, NothingToUndo, Open, Record, Redo, Session, Stage, Tells, TellsSession, Told, Undo, Why, accepted, after_redo, after_undo, ahead, back_to, depth, first_refusal, held, made, never, redo, redo_refusal, undo, undo_refusal}
+use Rattle.call_lists.specs.Common.{Ask, Call, Change, Command, Commit, Done, Drafting, Give, IsRecorded, Journal, Machine, Mark, Model, NothingToRedo, NothingToUndo, Open, Record, Redo, Session, Stage, Tells, TellsSession, Told, Undo, Why, accepted, after_redo, after_undo, ahead, back_to, depth, first_refusal, held, made, never, redo, redo_refusal, undo, undo_refusal}
 use Rattle.undo_journal.proofs.Journals.{same_machine}
 use Rattle.commands.proofs.Settling.{goes}
 use Rattle.call_lists.specs.Making.{MakesAll}
@@ -31,17 +31,12 @@ done_adds (Session s) h (Give Undo) on x = absurd on
 done_adds (Session s) h (Give Redo) on x = absurd on
 done_adds (Session s) h Open on (inl x) = same s h _ x.1 refl
 done_adds (Session s) h Open on (inr x) = same s h _ x.1 refl
-done_adds (Session s) h Mark on x = same s h _ x.1 refl
-done_adds (Session s) h (Back n) on x = same s h _ x.1 refl
-done_adds (Session s) h Commit on x = same s h _ x.1 refl
-done_adds (Session s) h Abandon on x = same s h _ x.1 refl
+done_adds (Session s) h c on x = same s h _ x.1 refl
 done_adds (Drafting d) h (Give c) on x = same d.draft.session h (Drafting x.0) x.1 (session_stays d.draft x.0.draft c Done x.2)
-done_adds (Drafting d) h Open on x = same d.draft.session h _ x.1 refl
 done_adds (Drafting d) h Mark on x = same d.draft.session h _ x.3 refl
-done_adds (Drafting d) h (Back n) on x = same d.draft.session h _ x.1 refl
 done_adds (Drafting d) h Commit on x = subst (λ (k : Stage). AddsOne d.draft.session (journal_of k)) (sym x.1)
     (inr (d.draft.model, refl, record { command = record { forward = d.draft.forward; back = reverse d.draft.back }; appended = refl }))
-done_adds (Drafting d) h Abandon on x = same d.draft.session h _ x.1 refl
+done_adds (Drafting d) h c on x = same d.draft.session h _ x.1 refl
 
 adds : (g h : Stage) (c : Call) (a : Told) → IsOnward c → Tells g c a h → AddsOne (journal_of g) (journal_of h)
 adds g h c a on x = elim (done_or_idle g h c a x) [
@@ -60,10 +55,9 @@ one_more s r t n x (inr one) = (suc n, (r, one.0, x, one.1, one.2))
 
 all_grow : (s : Journal) (g h : Stage) (calls : List Call) (answers : List Told) (n : ℕ) → Grows s n (journal_of g) → Each IsOnward calls → MakesAll g calls answers h → (m : ℕ) × Grows s m (journal_of h)
 all_grow s g h [] [] n x on is = (n, subst (λ (k : Stage). Grows s n (journal_of k)) (sym is) x)
-all_grow s g h [] (a ∷ answers) n x on y = absurd y
-all_grow s g h (c ∷ calls) [] n x on y = absurd y
 all_grow s g h (c ∷ calls) (a ∷ answers) n x on y =
     let one = one_more s (journal_of g) (journal_of y.0) n x (adds g y.0 c a on.0 y.1) in all_grow s y.0 h calls answers one.0 one.1 on.1 y.3
+all_grow s g h _ _ n x on y = absurd y
 
 grown_depth : (s : Journal) (n : ℕ) (t : Journal) → Grows s n t → depth t.machine ≡ depth s.machine + n
 grown_depth s zero t is = let same : depth t.machine ≡ depth s.machine = ap (λ (j : Journal). depth j.machine) is in omega (arith, same)
@@ -157,8 +151,6 @@ module _ (c : Command) (move : Machine → Machine) (room : Machine → ℕ) (le
   all_done : (n : ℕ) (t : Journal) (answers : List Told) (g : Stage) → n ≤ room t.machine → MakesAll (Session t) (replicate n (Give c)) answers g
       → (answers ≡ replicate n Done) × (g ≡ Session (moved t (times n move t.machine)))
   all_done zero t [] g le x = (refl, x)
-  all_done zero t (a ∷ answers) g le x = absurd x
-  all_done (suc n) t [] g le x = absurd x
   all_done (suc n) t (a ∷ answers) g le x =
       let first = one t x.1.0 a n le x.1.2 in
       let rest = subst (λ (k : Stage). MakesAll k (replicate n (Give c)) answers g) (x.1.1 ∙ ap Session first.1) x.3 in
@@ -166,6 +158,7 @@ module _ (c : Command) (move : Machine → Machine) (room : Machine → ℕ) (le
         λ i. first.0 i ∷ later.0 i,
         later.1,
       )
+  all_done n t _ g le x = absurd x
 
 undos_done : (n : ℕ) (t : Journal) (answers : List Told) (g : Stage) → n ≤ depth t.machine → MakesAll (Session t) (replicate n (Give Undo)) answers g
     → (answers ≡ replicate n Done) × (g ≡ Session (moved t (times n undo t.machine)))

@@ -15,14 +15,14 @@ is_draft (Session s) = false
 is_draft (Drafting d) = true
 
 -- a list of so many calls of the plain machine leads from s to t
-pub record Leads (s : Machine) (many : ℕ) (t : Machine) : Type 0 where
+pub record HasHistory (s : Machine) (many : ℕ) (t : Machine) : Type 0 where
   pub history : List histories.Call
   pub as_many : length history ≡ many
   pub leads : after_calls s history ≡ t
 
 -- what `make_all` says of a list is such a history, with one call for each
 abbrev pub ListsAreHistories : Type 0
-ListsAreHistories = (g h : Stage) (calls : List Call) (answers : List Told) → IsWhole g → MakesAll g calls answers h → Leads (machine_of g) (length calls) (machine_of h)
+ListsAreHistories = (g h : Stage) (calls : List Call) (answers : List Told) → IsWhole g → MakesAll g calls answers h → HasHistory (machine_of g) (length calls) (machine_of h)
 
 -- each model of the session that a list leads to is sound, and so is the draft's
 abbrev pub ListsKeepWhole : Type 0
