@@ -1,21 +1,22 @@
 -- A line whose words spell a command is ASCII: each of its bytes belongs to such a word, or separates two.
-use Rattle.std.proofs.Common.{◌≡◌, ◌≢◌, inl, inr, ℕ, ◌≤◌, Bool, true, false, List, [], ◌∷◌, length, Some, Ok, refl, subst, arith, ℤ, nat_lt, find, bytes_eq}
-use Rattle.std.specs.List.{list_all, onto_first}
+use Rattle.std.proofs.Common.{◌≡◌, ◌≢◌, inl, inr, ℕ, ◌≤◌, Bool, true, false, List, [], ◌∷◌, length, Ok, refl, subst, arith, ℤ, nat_lt}
+use Rattle.std.specs.List.{onto_first}
 use Rattle.std.specs.Str.Parse.{AllDigits}
-use Rattle.std.proofs.lemmas.Bool.{cases_Bool, and_parts}
+use Rattle.std.proofs.lemmas.Bool.{cases_Bool}
 use Rattle.std.proofs.lemmas.Bool.Decides.{nat_tests}
 use Rattle.std.proofs.lemmas.Str.Parse.{digit_from_value}
 use Rattle.euler_operators.specs.Common.{Point, HalfEdge, Corner, At, Lone}
 use Rattle.script_reader.specs.Words.{is_space, joined, words}
 use Rattle.script_reader.specs.Places.{Word, Kind, Number, Integer, Half, AnyCorner, Place, Places, InOrOut, Meaning}
-use Rattle.script_reader.specs.Grammar.{Builder, names, word_of, kinds_of, build, is_ascii, request_of_words, request_of}
+use Rattle.script_reader.specs.Grammar.{Builder, word_of, kinds_of, build, is_ascii, request_of_words, request_of}
 use Rattle.script_reader.specs.declared.command.Request.{Request}
 use Rattle.script_reader.specs.declared.command.Request.TheVariants.{Nothing}
 use Rattle.script_reader.specs.declared.name.Name.{Name}
+use Rattle.script_reader.specs.declared.name.Name.TheVariants as name
 use Rattle.script_reader.specs.declared.places.Way.{Way}
 use Rattle.script_reader.specs.declared.places.Way.TheVariants.{In, Out}
 use Rattle.script_reader.specs.Spelling.{SaysNumber, SaysInteger, SaysHalf, SaysCorner, SaysWay, sign, Begins, BeginsPlace, ArePoints, Means, Spells, WordsSpell, IsAscii}
-use Rattle.script_reader.proofs.LineLaws.{spelled_name, words_ok, ascii_told, told_ascii}
+use Rattle.script_reader.proofs.LineLaws.{words_ok, ascii_told, told_ascii}
 
 abbrev AreAscii : List Word → Type 0
 AreAscii [] = Unit {0}
@@ -82,23 +83,15 @@ spelled_ascii : (ks : List Kind) (make : Builder ks) (ws : List Word) (d : Reque
 spelled_ascii [] c ws d s = rw s.0 tt
 spelled_ascii (k ∷ ks) make ws d s = means_ascii k ws s.0 s.1 s.2 (spelled_ascii ks (make s.0) s.1 d s.3)
 
-found_passes : {A : Type 0} (test passes : A → Bool) (xs : List A) (x : A) → find test xs ≡ Some x → list_all passes xs ≡ true → passes x ≡ true
-found_passes test passes [] x e all = absurd (cc e)
-found_passes test passes (y ∷ ys) x e all =
-    let parts = and_parts (passes y) (list_all passes ys) all in
-    elim (cases_Bool (test y)) [
-      | inl here ↦ let same : y ≡ x = cc (rw here at e) in subst (λ z. passes z ≡ true) same parts.0
-      | inr later ↦ found_passes test passes ys x (rw later at e) parts.1
-    ]
-
-name_ascii : (n : Name) → IsAscii (word_of n)
-name_ascii n = ascii_told (word_of n) (found_passes (λ m. bytes_eq (word_of n) (word_of m)) (λ m. is_ascii (word_of m)) names n (spelled_name n) refl)
+name_ascii : (n : Name) → is_ascii (word_of n) ≡ true
+name_ascii name.Mvfs = refl
+name_ascii n = refl
 
 command_ascii : (ws : List Word) (d : Request) → WordsSpell ws d → d ≢ Nothing → AreAscii ws
 command_ascii [] d s some = absurd (some s)
 command_ascii (w ∷ ws) d s some = elim s [
   | inl note ↦ absurd (some note.1)
-  | inr known ↦ (rw known.1 (name_ascii known.0), spelled_ascii (kinds_of known.0) (build known.0) ws d known.2)
+  | inr known ↦ (rw known.1 (ascii_told (word_of known.0) (name_ascii known.0)), spelled_ascii (kinds_of known.0) (build known.0) ws d known.2)
 ]
 
 -- ---- the line

@@ -31,9 +31,7 @@ found_at Over = found.TooLong
 only : (e : Ending) (answer : Found) (text line rest : List ℕ) → e ≢ Open → Lacks text → (e ≡ Ended → text ≡ []) → Answers answer e text line rest → answer ≡ found_at e
 only e found.Line text line rest shut lacks quiet a = absurd (no_line e text line rest lacks quiet a.0)
 only e found.Long text line rest shut lacks quiet a = absurd (no_line e text a.0 rest lacks quiet a.1)
-only e found.End text line rest shut lacks quiet a = rw a.2 refl
-only e found.Read text line rest shut lacks quiet a = rw a.2 refl
-only e found.TooLong text line rest shut lacks quiet a = rw a.2 refl
+only e answer text line rest shut lacks quiet a = rw a.2 refl
 
 -- what an answer without a line leaves
 pub record Leaves (answer : Found) (ending : Ending) (unread : List ℕ) : Type 0 where
@@ -46,14 +44,11 @@ leaves : (answer : Found) (e : Ending) (text line rest : List ℕ) → IsLast an
 leaves found.Line e text line rest last a = absurd last
 leaves found.Long e text line rest last a = absurd last
 leaves found.End e text line rest last a = record { shut = λ o. cc (o, a.2); lacks = subst Lacks (sym a.1) tt; quiet = λ _. a.1; stands = rw a.2 refl }
-leaves found.Read e text line rest last a = record { shut = λ o. cc (o, a.2); lacks = a.1; quiet = λ o. absurd (cc (o, a.2)); stands = rw a.2 refl }
-leaves found.TooLong e text line rest last a = record { shut = λ o. cc (o, a.2); lacks = a.1; quiet = λ o. absurd (cc (o, a.2)); stands = rw a.2 refl }
+leaves answer e text line rest last a = record { shut = λ o. cc (o, a.2); lacks = a.1; quiet = λ o. absurd (cc (o, a.2)); stands = rw a.2 refl }
 
 pub ready : (e : Ending) (unread : List ℕ) → e ≢ Open → is_ready e unread ≡ true
 ready Open unread ne = absurd (ne refl)
-ready Ended unread ne = refl
-ready Failed unread ne = refl
-ready Over unread ne = refl
+ready e unread ne = refl
 
 pub stays : {R : Type 0} (remaining : R → Option (List ℕ)) (old mid new : Lines R) (answer again : Found) → Went remaining old mid answer → IsLast answer → Went remaining mid new again → (again ≡ answer) × IsStill mid new
 stays remaining old mid new answer again w last v =
@@ -69,8 +64,7 @@ no_whole : (answer : Found) (e : Ending) (unread more line rest : List ℕ) → 
 no_whole found.Line e unread more line rest last a = absurd last
 no_whole found.Long e unread more line rest last a = absurd last
 no_whole found.End e unread more line rest last a = has-lacks unread (Lacks-front unread more (subst Lacks (sym a.0) tt))
-no_whole found.Read e unread more line rest last a = has-lacks unread (Lacks-front unread more a.0)
-no_whole found.TooLong e unread more line rest last a = has-lacks unread (Lacks-front unread more a.0)
+no_whole answer e unread more line rest last a = has-lacks unread (Lacks-front unread more a.0)
 
 -- where no line comes, none was there to its newline
 pub no_whole_line : {R : Type 0} (remaining : R → Option (List ℕ)) (old new : Lines R) (answer : Found) → IsLast answer → Went remaining old new answer → has_newline (unread_of old) ≡ false

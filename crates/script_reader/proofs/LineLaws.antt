@@ -59,51 +59,11 @@ name_told w n e = (bytes_eq-Decides w (word_of n)).0 (found_passes (λ m. bytes_
 
 pub spelled_name : (n : Name) → name_of (word_of n) ≡ Some n
 spelled_name name.Mvfs = refl
-spelled_name name.Kvfs = refl
-spelled_name name.Mev = refl
-spelled_name name.Kev = refl
-spelled_name name.Mef = refl
-spelled_name name.Kef = refl
-spelled_name name.Kemr = refl
-spelled_name name.Mekr = refl
-spelled_name name.Kfmrh = refl
-spelled_name name.Mfkrh = refl
-spelled_name name.Ringmv = refl
-spelled_name name.Lamina = refl
-spelled_name name.Block = refl
-spelled_name name.Sweep = refl
-spelled_name name.Glue = refl
-spelled_name name.Split = refl
-spelled_name name.Plane = refl
-spelled_name name.Volume = refl
-spelled_name name.Count = refl
-spelled_name name.Undo = refl
-spelled_name name.Redo = refl
-spelled_name name.List = refl
+spelled_name n = refl
 
 no_comment : (n : Name) → is_comment (word_of n) ≡ false
 no_comment name.Mvfs = refl
-no_comment name.Kvfs = refl
-no_comment name.Mev = refl
-no_comment name.Kev = refl
-no_comment name.Mef = refl
-no_comment name.Kef = refl
-no_comment name.Kemr = refl
-no_comment name.Mekr = refl
-no_comment name.Kfmrh = refl
-no_comment name.Mfkrh = refl
-no_comment name.Ringmv = refl
-no_comment name.Lamina = refl
-no_comment name.Block = refl
-no_comment name.Sweep = refl
-no_comment name.Glue = refl
-no_comment name.Split = refl
-no_comment name.Plane = refl
-no_comment name.Volume = refl
-no_comment name.Count = refl
-no_comment name.Undo = refl
-no_comment name.Redo = refl
-no_comment name.List = refl
+no_comment n = refl
 
 comment_told : (w : Word) → is_comment w ≡ true → IsComment w
 comment_told [] e = absurd (cc e)

@@ -19,9 +19,7 @@ use Rattle.script_reader.specs.declared.lines.Found.TheVariants as found
 -- a read is still to come
 abbrev pub turns : Ending → ℕ
 turns Open = 1
-turns Ended = 0
-turns Failed = 0
-turns Over = 0
+turns e = 0
 
 -- on the way to the next newline: what was dropped of a long line, and what is unread
 pub record Waits (before after : Option (List ℕ)) (taken count : ℕ) (unread now : List ℕ) (is_long : Bool) : Type 0 where
@@ -108,15 +106,6 @@ long_line a b taken count unread now new is_long ending w e h long = record {
   );
 }
 
-pub short_line : (a b : Option (List ℕ)) (taken count : ℕ) (unread now : List ℕ) (new : Holding) (is_long : Bool) (ending : Ending) → Waits a b taken count unread now is_long
-    → now ≡ new.line ++ 10 ∷ new.unread → Lacks new.line → is_long ≡ false → length new.line ≤ 65536 → Advances a b taken count unread new.line new.unread ending found.Line
-short_line a b taken count unread now new is_long ending w e h short le = record {
-  given = w.given;
-  consumed = w.consumed;
-  counted = w.counted;
-  answered = ((h, inl (w.text ∙ ap (λ (xs : List ℕ). xs ++ now) (w.short short) ∙ e)), le);
-}
-
 -- behind the last newline
 lacks_text : (text dropped now : List ℕ) → text ≡ dropped ++ now → Lacks dropped → Lacks now → Lacks text
 lacks_text text dropped now e h k = subst Lacks (sym e) (Lacks-append dropped now h k)
@@ -126,25 +115,17 @@ not_long text dropped now e none = e ∙ ap (λ (xs : List ℕ). xs ++ now) none
 
 last_parts : (ending : Ending) (answer : Found) (old new : Holding) (is_long : Bool) (text dropped : List ℕ) → text ≡ dropped ++ old.unread → Lacks dropped → (is_long ≡ true → 65536 < length dropped) → (is_long ≡ false → dropped ≡ [])
     → Lacks old.unread → LastAnswer old new ending is_long answer → Answers answer ending text new.line new.unread
-last_parts Open answer old new is_long text dropped e k long short h l = absurd l
 last_parts Failed found.Read old new is_long text dropped e k long short h l = (lacks_text text dropped old.unread e k h, subst Lacks (sym l.1) h, refl)
-last_parts Failed found.Line old new is_long text dropped e k long short h l = absurd (cc l.0)
-last_parts Failed found.Long old new is_long text dropped e k long short h l = absurd (cc l.0)
-last_parts Failed found.End old new is_long text dropped e k long short h l = absurd (cc l.0)
-last_parts Failed found.TooLong old new is_long text dropped e k long short h l = absurd (cc l.0)
+last_parts Failed answer old new is_long text dropped e k long short h l = absurd (cc l.0)
 last_parts Over found.TooLong old new is_long text dropped e k long short h l = (lacks_text text dropped old.unread e k h, subst Lacks (sym l.1) h, refl)
-last_parts Over found.Line old new is_long text dropped e k long short h l = absurd (cc l.0)
-last_parts Over found.Long old new is_long text dropped e k long short h l = absurd (cc l.0)
-last_parts Over found.End old new is_long text dropped e k long short h l = absurd (cc l.0)
-last_parts Over found.Read old new is_long text dropped e k long short h l = absurd (cc l.0)
+last_parts Over answer old new is_long text dropped e k long short h l = absurd (cc l.0)
 last_parts Ended found.Line old new is_long text dropped e k long short h l =
     ((subst Lacks (sym l.3) h, inr (not_long text dropped old.unread e (short l.0) ∙ sym l.3, l.4, subst (λ (xs : List ℕ). 0 < length xs) (sym l.3) l.2, refl)), subst (λ (xs : List ℕ). length xs ≤ 65536) (sym l.3) l.1)
 last_parts Ended found.Long old new is_long text dropped e k long short h l =
     let much : 65536 < length (dropped ++ old.unread) = elim l.0 [ inl was_long ↦ simp length-append (omega (arith, long was_long)) | inr more ↦ simp length-append (omega arith) ] in
     (dropped ++ old.unread, (Lacks-append dropped old.unread k h, inr (e, l.1, omega arith, refl)), much)
 last_parts Ended found.End old new is_long text dropped e k long short h l = (not_long text dropped old.unread e (short l.0) ∙ l.1, l.2, refl)
-last_parts Ended found.Read old new is_long text dropped e k long short h l = absurd l
-last_parts Ended found.TooLong old new is_long text dropped e k long short h l = absurd l
+last_parts ending answer old new is_long text dropped e k long short h l = absurd l
 
 pub last_answer : (a b : Option (List ℕ)) (taken count : ℕ) (unread : List ℕ) (old new : Holding) (is_long : Bool) (ending : Ending) (answer : Found) → Waits a b taken count unread old.unread is_long
     → Lacks old.unread → LastAnswer old new ending is_long answer → Advances a b taken count unread new.line new.unread ending answer

@@ -1,5 +1,5 @@
 -- Newlines, by index and by list.
-use Rattle.std.proofs.Common.{◌≡◌, inl, inr, ℕ, suc, ◌+◌, ◌-◌, ◌<◌, ◌≤◌, min, true, false, List, [], ◌∷◌, ◌++◌, length, take, drop, get_or, refl, sym, ap, subst, ◌∙◌, arith, add-one, drop-cons, le_refl, slice_range, nat_lt, take-take, drop-drop, take_at, get_or-take, get_or-drop}
+use Rattle.std.proofs.Common.{◌≡◌, inl, inr, ℕ, suc, ◌+◌, ◌-◌, ◌<◌, ◌≤◌, min, true, false, List, [], ◌∷◌, ◌++◌, length, take, drop, get_or, refl, sym, ap, subst, ◌∙◌, arith, add-one, drop-cons, slice_range, nat_lt, take-take, drop-drop, take_at, get_or-take, get_or-drop}
 use Rattle.std.proofs.Math.Seq.{take-add}
 use Rattle.std.proofs.lemmas.Bool.{cases_Bool}
 use Rattle.std.proofs.lemmas.Bool.Decides.{nat_tests}
@@ -44,12 +44,6 @@ take_part b s i e h =
     let same : s + i - s ≡ i = omega arith in
     rw (take-take i (e - s) (drop s b) le, same) refl
 
-no_part : (b : List ℕ) (s : ℕ) → slice_range b s s ≡ []
-no_part b s = let none : s - s ≡ 0 = omega arith in rw none refl
-
-pub lacks_none : (b : List ℕ) (s : ℕ) → Lacks (slice_range b s s)
-lacks_none b s = subst Lacks (sym (no_part b s)) tt
-
 -- the part from s to p lacks a newline, and then so does a shorter one
 pub lacks_shorter : (b : List ℕ) (s p q : ℕ) → s ≤ q → q ≤ p → Lacks (slice_range b s p) → Lacks (slice_range b s q)
 lacks_shorter b s p q le le' h = Lacks-front (slice_range b s q) (slice_range b q p) (subst Lacks (parts b s q p le le') h)
@@ -64,10 +58,6 @@ goes_on b s p e at le lacks f = record {
   before = subst Lacks (sym (parts b s p at le f.low)) (Lacks-append (slice_range b s p) (slice_range b p at) lacks f.before);
   stands = f.stands;
 }
-
--- there is none where there are no bytes
-pub of_nothing : (b : List ℕ) (s : ℕ) → FirstNewline b s s s
-of_nothing b s = record { low = le_refl s; high = le_refl s; before = subst Lacks (sym (no_part b s)) tt; stands = λ lt. absurd (omega (arith, lt)) }
 
 -- the last byte is dropped
 pub without_last : (b : List ℕ) (s e at : ℕ) → s < e → FirstNewline b s e at → FirstNewline b s (e - 1) (min at (e - 1))

@@ -101,8 +101,6 @@ err_point ws f h = elim h [
 -- ---- points to the end of the line
 
 points_ok : (room : ℕ) (ws : List Word) (r : List Point × List Word) → points_of room ws ≡ Ok r → ArePoints r.0 ws × (length r.0 ≤ room) × (r.1 ≡ [])
-points_ok zero [] r e = let same : ([], []) ≡ r = cc e in subst (λ (s : List Point × List Word). ArePoints s.0 [] × (length s.0 ≤ 0) × (s.1 ≡ [])) same (refl, omega arith, refl)
-points_ok (suc room) [] r e = let same : ([], []) ≡ r = cc e in subst (λ (s : List Point × List Word). ArePoints s.0 [] × (length s.0 ≤ suc room) × (s.1 ≡ [])) same (refl, omega arith, refl)
 points_ok zero (w ∷ ws) r e = absurd (cc e)
 points_ok (suc room) (w ∷ ws) r e =
     let a = bind_ok (point_of (w ∷ ws)) (λ p. points_of room p.1 >>= λ ps. Ok (p.0 ∷ ps.0, ps.1)) r e in
@@ -110,6 +108,7 @@ points_ok (suc room) (w ∷ ws) r e =
     let same : (a.0.0 ∷ b.0.0, b.0.1) ≡ r = cc b.2 in
     let more = points_ok room a.0.1 b.0 b.1 in
     subst (λ (s : List Point × List Word). ArePoints s.0 (w ∷ ws) × (length s.0 ≤ suc room) × (s.1 ≡ [])) same ((a.0.1, point_ok (w ∷ ws) a.0 a.1, more.0), omega (arith, more.1), more.2)
+points_ok room [] r e = let same : ([], []) ≡ r = cc (no_words room, e) in subst (λ (s : List Point × List Word). ArePoints s.0 [] × (length s.0 ≤ room) × (s.1 ≡ [])) same (refl, omega arith, refl)
 
 ok_points : (room : ℕ) (ws : List Word) (ps : List Point) → ArePoints ps ws → length ps ≤ room → points_of room ws ≡ Ok (ps, [])
 ok_points room ws [] h le = rw h (no_words room)
@@ -118,8 +117,6 @@ ok_points (suc room) [] (p ∷ ps) h le = absurd h.1.2
 ok_points (suc room) (w ∷ ws) (p ∷ ps) h le = rw (ok_point (w ∷ ws) p h.0 h.1, ok_points room h.0 ps h.2 (omega (arith, le))) refl
 
 points_err : (room : ℕ) (ws : List Word) (f : Fault) → points_of room ws ≡ Err f → FailsPoints room ws f
-points_err zero [] f e = absurd (cc e)
-points_err (suc room) [] f e = absurd (cc e)
 points_err zero (w ∷ ws) f e = cc e
 points_err (suc room) (w ∷ ws) f e = elim (bind_err (point_of (w ∷ ws)) (λ p. points_of room p.1 >>= λ ps. Ok (p.0 ∷ ps.0, ps.1)) f e) [
   | inl here ↦ inl (point_err (w ∷ ws) f here)
@@ -128,15 +125,15 @@ points_err (suc room) (w ∷ ws) f e = elim (bind_err (point_of (w ∷ ws)) (λ 
     | inr b ↦ absurd (cc b.2)
   ]
 ]
+points_err room ws f e = absurd (cc e)
 
 err_points : (room : ℕ) (ws : List Word) (f : Fault) → FailsPoints room ws f → points_of room ws ≡ Err f
-err_points zero [] f h = absurd h
-err_points (suc room) [] f h = absurd h
 err_points zero (w ∷ ws) f h = rw h refl
 err_points (suc room) (w ∷ ws) f h = elim h [
   | inl here ↦ rw (err_point (w ∷ ws) f here) refl
   | inr a ↦ rw (ok_point (w ∷ ws) a.0 a.1 a.2, err_points room a.1 f a.3) refl
 ]
+err_points room ws f h = absurd h
 
 -- ---- any place
 

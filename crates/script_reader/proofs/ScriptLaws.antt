@@ -4,11 +4,12 @@ use Rattle.std.proofs.lemmas.List.{append_cancel_right, nil_from_length}
 use Rattle.std.proofs.KnownBytes.{Consumes-nil, Consumes-trans}
 use Rattle.std.specs.Io.KnownBytes.{Consumes, IsAtEnd}
 use Rattle.script_reader.specs.Lines.{lines_of, with_newlines, within_limit, FirstLine}
+use Rattle.script_reader.specs.Newline.{Lacks}
 use Rattle.script_reader.specs.State.{reader_of, taken_of, unread_of, line_of, has_line, IsFresh, IsStill}
 use Rattle.script_reader.specs.Next.{Went}
 use Rattle.script_reader.specs.Script.{Reading, HasRead, IsReadOut, BreaksOff, to_come}
 use Rattle.script_reader.specs.declared.lines.Ending.{Ending}
-use Rattle.script_reader.specs.declared.lines.Ending.TheVariants.{Open, Ended, Failed, Over}
+use Rattle.script_reader.specs.declared.lines.Ending.TheVariants.{Open, Ended, Over}
 use Rattle.script_reader.specs.declared.lines.Found.{Found}
 use Rattle.script_reader.specs.declared.lines.Found.TheVariants as found
 use Rattle.script_reader.specs.declared.lines.Lines.{Lines}
@@ -79,8 +80,7 @@ end_kept : {R : Type 0} (remaining : R → Option (List ℕ)) (old new : Lines R
     → (e : Ending) → old.ending ≡ e → new.ending ≡ Ended → IsAtEnd (remaining new.reader)
 end_kept remaining old new was came still Open e f = came e f
 end_kept remaining old new was came still Ended e f = subst (λ r. IsAtEnd (remaining r)) (sym (still (ready old.ending old.buffer.unread (λ o. cc (o, e)))).reader) (was e)
-end_kept remaining old new was came still Failed e f = absurd (cc (e, f, (still (ready old.ending old.buffer.unread (λ o. cc (o, e)))).ending))
-end_kept remaining old new was came still Over e f = absurd (cc (e, f, (still (ready old.ending old.buffer.unread (λ o. cc (o, e)))).ending))
+end_kept remaining old new was came still ending e f = absurd (cc (e, f, (still (ready old.ending old.buffer.unread (λ o. cc (o, e)))).ending))
 
 -- what a call has before it: the bytes that were unread, and those that it read
 goes : {R : Type 0} (remaining : R → Option (List ℕ)) (first : Option (List ℕ)) (old new : Lines R) (answer : Found) (heard : List (List ℕ)) → HasRead remaining first old heard → (w : Went remaining old new answer)
@@ -129,39 +129,33 @@ is_read_out remaining first old new heard h w =
       end = r.at_end ended;
     }
 
--- a read failed
-pub breaks_at_fault : {R : Type 0} (remaining : R → Option (List ℕ)) (first : Option (List ℕ)) (old new : Lines R) (heard : List (List ℕ)) → HasRead remaining first old heard → Went remaining old new found.Read
-    → BreaksOff first (remaining (reader_of new)) heard found.Read
-breaks_at_fault remaining first old new heard h w =
-    let a = w.advances in
-    let text = old.buffer.unread ++ within_limit old.taken a.given in
-    let r = goes remaining first old new found.Read heard h w in
+-- no further line comes to its end
+breaks_off : {R : Type 0} (remaining : R → Option (List ℕ)) (first : Option (List ℕ)) (old new : Lines R) (heard : List (List ℕ)) (answer : Found) → HasRead remaining first old heard → (w : Went remaining old new answer)
+    → Lacks (old.buffer.unread ++ within_limit old.taken w.advances.given) → new.ending ≢ Ended → (answer ≡ found.TooLong → new.taken ≡ 67108865) → BreaksOff first (remaining (reader_of new)) heard answer
+breaks_off remaining first old new heard answer h w lacks shut over =
+    let text = old.buffer.unread ++ within_limit old.taken w.advances.given in
+    let r = goes remaining first old new answer heard h w in
     record {
       given = r.given;
       consumed = r.consumed;
       rest = text;
-      lacks = a.answered.0;
-      text = heard_text (within_limit 0 r.given) text heard (r.text (10 ∷ []) (λ e. absurd (cc (e, a.answered.2))));
+      lacks = lacks;
+      text = heard_text (within_limit 0 r.given) text heard (r.text (10 ∷ []) (λ e. absurd (shut e)));
       lines = so_far first (remaining new.reader) new.taken text new.ending heard r;
-      too_long = λ e. absurd (cc e);
+      too_long = λ e. sym r.counted ∙ over e;
     }
+
+-- a read failed
+pub breaks_at_fault : {R : Type 0} (remaining : R → Option (List ℕ)) (first : Option (List ℕ)) (old new : Lines R) (heard : List (List ℕ)) → HasRead remaining first old heard → Went remaining old new found.Read
+    → BreaksOff first (remaining (reader_of new)) heard found.Read
+breaks_at_fault remaining first old new heard h w =
+    let a = w.advances.answered in breaks_off remaining first old new heard found.Read h w a.0 (λ e. cc (e, a.2)) (λ e. absurd (cc e))
 
 -- the script is too long
 pub breaks_at_limit : {R : Type 0} (remaining : R → Option (List ℕ)) (first : Option (List ℕ)) (old new : Lines R) (heard : List (List ℕ)) → HasRead remaining first old heard → Went remaining old new found.TooLong
     → BreaksOff first (remaining (reader_of new)) heard found.TooLong
 breaks_at_limit remaining first old new heard h w =
-    let a = w.advances in
-    let text = old.buffer.unread ++ within_limit old.taken a.given in
-    let r = goes remaining first old new found.TooLong heard h w in
-    record {
-      given = r.given;
-      consumed = r.consumed;
-      rest = text;
-      lacks = a.answered.0;
-      text = heard_text (within_limit 0 r.given) text heard (r.text (10 ∷ []) (λ e. absurd (cc (e, a.answered.2))));
-      lines = so_far first (remaining new.reader) new.taken text new.ending heard r;
-      too_long = λ _. sym r.counted ∙ new.over a.answered.2;
-    }
+    let a = w.advances.answered in breaks_off remaining first old new heard found.TooLong h w a.0 (λ e. cc (e, a.2)) (λ e. new.over a.2)
 
 -- ---- how many lines there can be
 
@@ -171,9 +165,7 @@ limit_len taken given = omega (arith, length-take (67108864 - taken) given)
 
 bounded : (e : Ending) (taken : ℕ) → (e ≡ Over → taken ≡ 67108865) → (e ≢ Over → taken ≤ 67108864) → taken ≤ 67108865
 bounded Over taken over within = omega (arith, over refl)
-bounded Open taken over within = omega (arith, within (λ e. cc))
-bounded Ended taken over within = omega (arith, within (λ e. cc))
-bounded Failed taken over within = omega (arith, within (λ e. cc))
+bounded ending taken over within = omega (arith, within (λ e. cc))
 
 pub taken_bound : {R : Type 0} (lines : Lines R) → taken_of lines ≤ 67108865
 taken_bound lines = bounded lines.ending lines.taken lines.over lines.within
