@@ -1,13 +1,12 @@
 -- The lines of a model tell the numbers of each kind and the line of each number.
-use Rattle.std.proofs.Common.{◌≡◌, ℕ, ◌^◌, ◌<◌, Bool, true, false, cond, ◌||◌, nat_eq, List, [], ◌∷◌, ◌++◌, map, refl, sym, ap, ◌∙◌, true≢false, inl, inr, append-nil, decimal}
+use Rattle.std.proofs.Common.{◌≡◌, ℕ, Bool, true, false, cond, ◌||◌, nat_eq, List, [], ◌∷◌, ◌++◌, map, refl, sym, ap, ◌∙◌, true≢false, inl, inr, append-nil, decimal}
 use Rattle.std.proofs.lemmas.Bool.Decides.{eqb_tells}
 use Rattle.std.proofs.lemmas.Fmt.{decimal_injective}
 use Rattle.euler_operators.specs.Common.{Kind, Solid, Face, Loop, Edge, Vertex, Model, Sound}
 use Rattle.solid_listing.specs.Listing.{line, numbers_of, kind_lines, lines}
 use Rattle.solid_walks.proofs.face_walks_laws.Above.{member}
-use Rattle.solid_walks.proofs.face_walks_laws.TableWalks.{member_numbers}
-use Rattle.solid_listing.proofs.Parsing.{Word, Line}
-use Rattle.solid_listing.proofs.Lines.{here, later, solid_small, face_small, loop_small, edge_small, vertex_small}
+use Rattle.solid_listing.proofs.Parsing.{Line}
+use Rattle.solid_listing.proofs.Lines.{here, is_used, later, member_used, small}
 
 -- the letter with which the lines of a kind begin
 abbrev letter : Kind → ℕ
@@ -18,9 +17,8 @@ letter Edge = 101
 letter Vertex = 118
 
 abbrev first_letter : Line → ℕ
-first_letter [] = 0
-first_letter ([] ∷ ws) = 0
 first_letter ((b ∷ w) ∷ ws) = b
+first_letter l = 0
 
 -- the lines that begin with a letter
 abbrev select : ℕ → List Line → List Line
@@ -39,10 +37,7 @@ both b ls ms ps qs e f = select-append b ls ms ∙ (λ i. e i ++ f i)
 
 first_is : (M : Model) (k : Kind) (n : ℕ) → first_letter (line M k n) ≡ letter k
 first_is M Solid n = refl
-first_is M Face n = refl
-first_is M Loop n = refl
-first_is M Edge n = refl
-first_is M Vertex n = refl
+first_is M k n = refl
 
 select_map : (M : Model) (b : ℕ) (k : Kind) (ns : List ℕ) → select b (map (line M k) ns) ≡ cond (nat_eq (letter k) b) (map (line M k) ns) []
 select_map M b k [] = nothing_either_way (nat_eq (letter k) b) where
@@ -69,39 +64,24 @@ select_lines M b = both b _ _ _ _ (select_kind M b Solid) (both b _ _ _ _ (selec
 
 kind_told : (M : Model) (k : Kind) → select (letter k) (lines M) ≡ kind_lines M k
 unfolding part
-kind_told M Solid = select_lines M 115 ∙ append-nil (kind_lines M Solid)
-kind_told M Face = select_lines M 102 ∙ append-nil (kind_lines M Face)
-kind_told M Loop = select_lines M 108 ∙ append-nil (kind_lines M Loop)
-kind_told M Edge = select_lines M 101 ∙ append-nil (kind_lines M Edge)
-kind_told M Vertex = select_lines M 118 ∙ append-nil (kind_lines M Vertex)
+kind_told M Solid = select_lines M (letter Solid) ∙ append-nil (kind_lines M Solid)
+kind_told M k = select_lines M (letter k) ∙ append-nil (kind_lines M k)
 
--- the first word of a line, and the other ones
-abbrev pub head_word : Line → Word
-head_word [] = []
-head_word (w ∷ ws) = w
-
-abbrev pub later_words : Line → Line
-later_words [] = []
-later_words (w ∷ ws) = ws
-
-second_is : (M : Model) (k : Kind) (n : ℕ) → head_word (later_words (line M k n)) ≡ decimal n
-second_is M Solid n = refl
-second_is M Face n = refl
-second_is M Loop n = refl
-second_is M Edge n = refl
-second_is M Vertex n = refl
+-- a line tells its number
+number_told : (M N : Model) (k : Kind) (n m : ℕ) → line M k n ≡ line N k m → decimal n ≡ decimal m
+number_told M N Solid n m e = cc e
+number_told M N k n m e = cc e
 
 -- lists of numbers are told by what is made of each number
 pub same_numbers : {A : Type 0} (f g : ℕ → A) (ns ms : List ℕ) → ((n m : ℕ) → member n ns ≡ true → member m ms ≡ true → f n ≡ g m → n ≡ m) → map f ns ≡ map g ms → ns ≡ ms
 same_numbers f g [] [] key e = refl
-same_numbers f g [] (m ∷ ms) key e = cc
-same_numbers f g (n ∷ ns) [] key e = cc
 same_numbers f g (n ∷ ns) (m ∷ ms) key e =
     let p : f n ≡ g m = cc in
     let q : map f ns ≡ map g ms = cc in
     let first = key n m (here n ns) (here m ms) p in
     let rest = same_numbers f g ns ms (λ k j a b s. key k j (later k n ns a) (later j m ms b) s) q in
     λ i. first i ∷ rest i
+same_numbers f g ns ms key e = cc
 
 agree : {A : Type 0} (f g : ℕ → A) (ns : List ℕ) → map f ns ≡ map g ns → (n : ℕ) → member n ns ≡ true → f n ≡ g n
 agree f g [] e n m = absurd (true≢false (sym m))
@@ -113,23 +93,19 @@ agree f g (k ∷ ks) e n m =
       | inr other ↦ agree f g ks q n (sym (ap (λ b. b || member n ks) other.0) ∙ m)
     ]
 
-small : (M : Model) → Sound M → (k : Kind) (n : ℕ) → member n (numbers_of M k) ≡ true → n < 2 ^ 64
-small M sound Solid n m = solid_small M sound n (sym (member_numbers M.solids n) ∙ m)
-small M sound Face n m = face_small M sound n (sym (member_numbers M.faces n) ∙ m)
-small M sound Loop n m = loop_small M sound n (sym (member_numbers M.loops n) ∙ m)
-small M sound Edge n m = edge_small M sound n (sym (member_numbers M.edges n) ∙ m)
-small M sound Vertex n m = vertex_small M sound n (sym (member_numbers M.vertices n) ∙ m)
-
 module _ (M N : Model) (one : Sound M) (two : Sound N) (same : lines M ≡ lines N) where
   maps_same : (k : Kind) → map (line M k) (numbers_of M k) ≡ map (line N k) (numbers_of N k)
   maps_same k = sym (kind_told M k) ∙ ap (select (letter k)) same ∙ kind_told N k
 
-  -- the numbers in use are the same
-  pub numbers_told : (k : Kind) → numbers_of M k ≡ numbers_of N k
+  numbers_told : (k : Kind) → numbers_of M k ≡ numbers_of N k
   numbers_told k = same_numbers (line M k) (line N k) (numbers_of M k) (numbers_of N k)
-      (λ n m a b e. decimal_injective n m (small M one k n a) (small N two k m b) (sym (second_is M k n) ∙ ap (λ l. head_word (later_words l)) e ∙ second_is N k m))
+      (λ n m a b e. decimal_injective n m (small M one k n (sym (member_used M k n) ∙ a)) (small N two k m (sym (member_used N k m) ∙ b)) (number_told M N k n m e))
       (maps_same k)
 
+  -- the numbers in use are the same
+  pub used_told : (k : Kind) (n : ℕ) → is_used M k n ≡ is_used N k n
+  used_told k n = sym (member_used M k n) ∙ ap (member n) (numbers_told k) ∙ member_used N k n
+
   -- and the line of each
-  pub line_told : (k : Kind) (n : ℕ) → member n (numbers_of M k) ≡ true → line M k n ≡ line N k n
-  line_told k n m = agree (line M k) (line N k) (numbers_of M k) (maps_same k ∙ ap (map (line N k)) (sym (numbers_told k))) n m
+  pub line_told : (k : Kind) (n : ℕ) → is_used M k n ≡ true → line M k n ≡ line N k n
+  line_told k n there = agree (line M k) (line N k) (numbers_of M k) (maps_same k ∙ ap (map (line N k)) (sym (numbers_told k))) n (member_used M k n ∙ there)

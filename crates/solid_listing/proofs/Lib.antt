@@ -1,7 +1,6 @@
 pub mod Digits
 pub mod Contents
 pub mod EmptyModels
-pub mod HalfWords
 pub mod LineLaws
 pub mod Walks
 pub mod WritingLaws

@@ -40,21 +40,25 @@ and_one : (a b c : Bool) → a && b && c ≡ true → a ≡ true
 and_one true b c e = refl
 and_one false b c e = e
 
+-- whether a number of a kind is in use
+abbrev pub is_used : Model → Kind → ℕ → Bool
+is_used M Solid n = has M.solids n
+is_used M Face n = has M.faces n
+is_used M Loop n = has M.loops n
+is_used M Edge n = has M.edges n
+is_used M Vertex n = has M.vertices n
+
+pub member_used : (M : Model) (kind : Kind) (n : ℕ) → member n (numbers_of M kind) ≡ is_used M kind n
+member_used M Solid n = member_numbers _ n
+member_used M kind n = member_numbers _ n
+
 module _ (M : Model) (sound : Sound M) where
-  pub solid_small : (n : ℕ) → Has M.solids n → n < 2 ^ 64
-  solid_small n there = number_small n (sound.solids_fit n there)
-
-  pub face_small : (n : ℕ) → Has M.faces n → n < 2 ^ 64
-  face_small n there = number_small n (sound.faces_fit n there)
-
-  pub loop_small : (n : ℕ) → Has M.loops n → n < 2 ^ 64
-  loop_small n there = number_small n (sound.loops_fit n there)
-
-  pub edge_small : (n : ℕ) → Has M.edges n → n < 2 ^ 64
-  edge_small n there = number_small n (sound.edges_fit n there)
-
-  pub vertex_small : (n : ℕ) → Has M.vertices n → n < 2 ^ 64
-  vertex_small n there = number_small n (sound.vertices_fit n there)
+  pub small : (kind : Kind) (n : ℕ) → is_used M kind n ≡ true → n < 2 ^ 64
+  small Solid n there = number_small n (sound.solids_fit n there)
+  small Face n there = number_small n (sound.faces_fit n there)
+  small Loop n there = number_small n (sound.loops_fit n there)
+  small Edge n there = number_small n (sound.edges_fit n there)
+  small Vertex n there = number_small n (sound.vertices_fit n there)
 
   pub ring_there : (f n : ℕ) → member n (rings_of M f) ≡ true → Has M.loops n
   ring_there f n m = and_one (has M.loops n) (nat_eq (face_of M n) f) (not (nat_eq (outer M f) n)) (sym (member_rings M f n) ∙ m)
@@ -65,10 +69,10 @@ module _ (M : Model) (sound : Sound M) where
     stands c hs e h i = rw e i
 
   pub plus_tail_small : (e : ℕ) → Has M.edges e → tail M (plus e) < 2 ^ 64
-  plus_tail_small e there = vertex_small (tail M (plus e)) (sound.tails_there (plus e) (ap (has M.edges) (plus_row e).0 ∙ there))
+  plus_tail_small e there = small Vertex (tail M (plus e)) (sound.tails_there (plus e) (ap (has M.edges) (plus_row e).0 ∙ there))
 
   pub minus_tail_small : (e : ℕ) → Has M.edges e → tail M (minus e) < 2 ^ 64
-  minus_tail_small e there = vertex_small (tail M (minus e)) (sound.tails_there (minus e) (ap (has M.edges) (minus_row e).0 ∙ there))
+  minus_tail_small e there = small Vertex (tail M (minus e)) (sound.tails_there (minus e) (ap (has M.edges) (minus_row e).0 ∙ there))
 
   pub point_in_range : (v : ℕ) → Has M.vertices v → is_in_range (point_of M v) ≡ true
   unfolding point_of
@@ -78,8 +82,8 @@ module _ (M : Model) (sound : Sound M) where
     row_in_range (Some p) e t = sound.points_fit v p e
 
   clean_content : (l : ℕ) → Has M.loops l → (c : LoopContent) → content M l ≡ c → are_clean (content_words c) ≡ true
-  clean_content l there (lone v) e = and_from (is_clean (decimal v)) true (clean_decimal v (vertex_small v (sound.lone_at_vertex l v e))) refl
-  clean_content l there (cycle hs) e = clean_map half_word hs (λ h m. clean_half h (edge_small (edge_of h) (item_there l hs e h m)))
+  clean_content l there (lone v) e = and_from (is_clean (decimal v)) true (clean_decimal v (small Vertex v (sound.lone_at_vertex l v e))) refl
+  clean_content l there (cycle hs) e = clean_map half_word hs (λ h m. clean_half h (small Edge (edge_of h) (item_there l hs e h m)))
 
   clean_point : (p : Point) → is_in_range p ≡ true → are_clean (point_words p) ≡ true
   clean_point p r =
@@ -90,23 +94,23 @@ module _ (M : Model) (sound : Sound M) where
       and_from _ _ (clean_signed p.x x) (and_from _ _ (clean_signed p.y y) (and_from _ true (clean_signed p.z z) refl))
 
   pub line_good : (kind : Kind) (n : ℕ) → member n (numbers_of M kind) ≡ true → is_good (line M kind n) ≡ true
-  line_good Solid s m = and_from (is_clean (decimal s)) true (clean_decimal s (solid_small s (sym (member_numbers M.solids s) ∙ m))) refl
+  line_good Solid s m = and_from (is_clean (decimal s)) true (clean_decimal s (small Solid s (sym (member_numbers M.solids s) ∙ m))) refl
   line_good Face f m =
       let there = sym (member_numbers M.faces f) ∙ m in
-      and_from _ _ (clean_decimal f (face_small f there))
-      (and_from _ _ (clean_decimal (solid_of M f) (solid_small (solid_of M f) (sound.faces_of_solids f there)))
-      (and_from _ _ (clean_decimal (outer M f) (loop_small (outer M f) (sound.outers_there f there).0))
-      (clean_map decimal (rings_of M f) (λ n r. clean_decimal n (loop_small n (ring_there f n r))))))
+      and_from _ _ (clean_decimal f (small Face f there))
+      (and_from _ _ (clean_decimal (solid_of M f) (small Solid (solid_of M f) (sound.faces_of_solids f there)))
+      (and_from _ _ (clean_decimal (outer M f) (small Loop (outer M f) (sound.outers_there f there).0))
+      (clean_map decimal (rings_of M f) (λ n r. clean_decimal n (small Loop n (ring_there f n r))))))
   line_good Loop l m =
       let there = sym (member_numbers M.loops l) ∙ m in
-      and_from _ _ (clean_decimal l (loop_small l there)) (clean_content l there (content M l) refl)
+      and_from _ _ (clean_decimal l (small Loop l there)) (clean_content l there (content M l) refl)
   line_good Edge e m =
       let there = sym (member_numbers M.edges e) ∙ m in
-      and_from _ _ (clean_decimal e (edge_small e there))
+      and_from _ _ (clean_decimal e (small Edge e there))
       (and_from _ _ (clean_decimal (tail M (plus e)) (plus_tail_small e there)) (and_from _ true (clean_decimal (tail M (minus e)) (minus_tail_small e there)) refl))
   line_good Vertex v m =
       let there = sym (member_numbers M.vertices v) ∙ m in
-      and_from _ _ (clean_decimal v (vertex_small v there)) (clean_point (point_of M v) (point_in_range v there))
+      and_from _ _ (clean_decimal v (small Vertex v there)) (clean_point (point_of M v) (point_in_range v there))
 
   kind_good : (kind : Kind) → are_good (kind_lines M kind) ≡ true
   kind_good kind = good_map (line M kind) (numbers_of M kind) (line_good kind)

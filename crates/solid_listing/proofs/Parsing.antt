@@ -22,9 +22,8 @@ are_clean (w ∷ ws) = is_clean w && are_clean ws
 
 -- a line has two words or more, and each is clean
 abbrev pub is_good : Line → Bool
-is_good [] = false
-is_good (w ∷ []) = false
 is_good (w ∷ v ∷ ws) = are_clean (w ∷ v ∷ ws)
+is_good l = false
 
 abbrev pub are_good : List Line → Bool
 are_good [] = true
@@ -90,11 +89,10 @@ parsed_nothing = refl
 -- a text of good lines is read back
 pub parsed_text : (ls : List Line) → are_good ls ≡ true → parsed (text_of ls) ≡ ls
 parsed_text [] g = parsed_nothing
-parsed_text ([] ∷ ls) g = absurd (true≢false (sym g))
-parsed_text ((w ∷ []) ∷ ls) g = absurd (true≢false (sym g))
 parsed_text ((w ∷ v ∷ ws) ∷ ls) g =
     parsed_line w (v ∷ ws) (text_of ls) (and_first (is_good (w ∷ v ∷ ws)) (are_good ls) g)
     ∙ ap (λ (ms : List Line). (w ∷ v ∷ ws) ∷ ms) (parsed_text ls (and_second (is_good (w ∷ v ∷ ws)) (are_good ls) g))
+parsed_text (l ∷ ls) g = absurd (true≢false (sym g))
 
 pub parsed_one : (w : Word) → is_clean w ≡ true → parsed (text_of ((w ∷ []) ∷ [])) ≡ (w ∷ []) ∷ []
 parsed_one w c = parsed_line w [] [] (and_from (is_clean w) true c refl) ∙ ap (λ (ms : List Line). (w ∷ []) ∷ ms) (parsed_text [] refl)

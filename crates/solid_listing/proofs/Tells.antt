@@ -3,17 +3,16 @@ use Rattle.std.proofs.Common.{◌≡◌, ℕ, Bool, true, false, cond, ◌&&◌,
 use Rattle.std.proofs.lemmas.Bool.Decides.{nat_tests, eqb_tells}
 use Rattle.std.proofs.lemmas.Fmt.{decimal_injective, signed_decimal_injective}
 use Rattle.std.specs.Fmt.{signed_decimal}
-use Rattle.euler_operators.specs.Common.{Point, is_coordinate, is_in_range, Solid, Face, Loop, Edge, Vertex, plus, minus, edge_of, is_first, Table, get, has, numbers, same_table, Model, LoopContent, lone, cycle, solid_of, outer, face_of, content, tail, point_of, rings_of, Sound, Has}
+use Rattle.euler_operators.specs.Common.{Point, is_coordinate, is_in_range, Kind, Solid, Face, Loop, Edge, Vertex, plus, minus, edge_of, is_first, Table, get, has, numbers, same_table, Model, LoopContent, lone, cycle, solid_of, outer, face_of, content, tail, point_of, rings_of, Sound, Has}
 use Rattle.euler_operators.proofs.Common.{content_row, face_row, solid_row, outer_row, point_row, plus_tail_row, minus_tail_row, and_first, and_second}
 use Rattle.solid_listing.specs.Lines.{text_of}
 use Rattle.solid_listing.specs.Listing.{line, content_words, half_word, lines, or_empty, listing}
 use Rattle.solid_walks.proofs.face_walks_laws.Above.{member}
-use Rattle.solid_walks.proofs.face_walks_laws.TableWalks.{member_numbers}
 use Rattle.solid_walks.proofs.face_walks_laws.RingWalks.{member_rings}
 use Rattle.solid_listing.proofs.Parsing.{Word, Line, is_good, are_good, parsed, parsed_text, parsed_one}
 use Rattle.solid_listing.proofs.Words.{coordinate_small, half_told}
-use Rattle.solid_listing.proofs.Lines.{lines_good, solid_small, loop_small, edge_small, vertex_small, ring_there, item_there, plus_tail_small, minus_tail_small, point_in_range}
-use Rattle.solid_listing.proofs.KindLines.{head_word, later_words, same_numbers, numbers_told, line_told}
+use Rattle.solid_listing.proofs.Lines.{is_used, lines_good, small, ring_there, item_there, plus_tail_small, minus_tail_small, point_in_range}
+use Rattle.solid_listing.proofs.KindLines.{line_told, same_numbers, used_told}
 
 -- from texts to lines
 read : (ls : List Line) → are_good ls ≡ true → parsed (text_of (or_empty ls)) ≡ or_empty ls
@@ -65,40 +64,28 @@ three true false c e = e
 three false b c e = absurd (true≢false (sym e))
 
 module _ (M N : Model) (one : Sound M) (two : Sound N) (same : lines M ≡ lines N) where
-  has_solid : (q : ℕ) → has M.solids q ≡ has N.solids q
-  has_solid q = sym (member_numbers M.solids q) ∙ ap (member q) (numbers_told M N one two same Solid) ∙ member_numbers N.solids q
+  used : (kind : Kind) (q : ℕ) → is_used M kind q ≡ is_used N kind q
+  used = used_told M N one two same
 
-  has_face : (q : ℕ) → has M.faces q ≡ has N.faces q
-  has_face q = sym (member_numbers M.faces q) ∙ ap (member q) (numbers_told M N one two same Face) ∙ member_numbers N.faces q
-
-  has_loop : (q : ℕ) → has M.loops q ≡ has N.loops q
-  has_loop q = sym (member_numbers M.loops q) ∙ ap (member q) (numbers_told M N one two same Loop) ∙ member_numbers N.loops q
-
-  has_edge : (q : ℕ) → has M.edges q ≡ has N.edges q
-  has_edge q = sym (member_numbers M.edges q) ∙ ap (member q) (numbers_told M N one two same Edge) ∙ member_numbers N.edges q
-
-  has_vertex : (q : ℕ) → has M.vertices q ≡ has N.vertices q
-  has_vertex q = sym (member_numbers M.vertices q) ∙ ap (member q) (numbers_told M N one two same Vertex) ∙ member_numbers N.vertices q
-
-  face_line : (f : ℕ) → Has M.faces f → line M Face f ≡ line N Face f
-  face_line f there = line_told M N one two same Face f (member_numbers M.faces f ∙ there)
+  told : (kind : Kind) (q : ℕ) → is_used M kind q ≡ true → line M kind q ≡ line N kind q
+  told = line_told M N one two same
 
   solid_told : (f : ℕ) → Has M.faces f → solid_of M f ≡ solid_of N f
   solid_told f there = decimal_injective (solid_of M f) (solid_of N f)
-      (solid_small M one (solid_of M f) (one.faces_of_solids f there))
-      (solid_small N two (solid_of N f) (two.faces_of_solids f (sym (has_face f) ∙ there)))
-      (ap (λ l. head_word (later_words (later_words l))) (face_line f there))
+      (small M one Solid (solid_of M f) (one.faces_of_solids f there))
+      (small N two Solid (solid_of N f) (two.faces_of_solids f (sym (used Face f) ∙ there)))
+      (cc (told Face f there))
 
   outer_told : (f : ℕ) → Has M.faces f → outer M f ≡ outer N f
   outer_told f there = decimal_injective (outer M f) (outer N f)
-      (loop_small M one (outer M f) (one.outers_there f there).0)
-      (loop_small N two (outer N f) (two.outers_there f (sym (has_face f) ∙ there)).0)
-      (ap (λ l. head_word (later_words (later_words (later_words l)))) (face_line f there))
+      (small M one Loop (outer M f) (one.outers_there f there).0)
+      (small N two Loop (outer N f) (two.outers_there f (sym (used Face f) ∙ there)).0)
+      (cc (told Face f there))
 
   rings_told : (f : ℕ) → Has M.faces f → rings_of M f ≡ rings_of N f
   rings_told f there = same_numbers decimal decimal (rings_of M f) (rings_of N f)
-      (λ n m a b e. decimal_injective n m (loop_small M one n (ring_there M one f n a)) (loop_small N two m (ring_there N two f m b)) e)
-      (ap (λ l. later_words (later_words (later_words (later_words l)))) (face_line f there))
+      (λ n m a b e. decimal_injective n m (small M one Loop n (ring_there M one f n a)) (small N two Loop m (ring_there N two f m b)) e)
+      (cc (told Face f there))
 
   -- the face of a loop is the one whose line names it
   face_told : (l : ℕ) → Has M.loops l → face_of M l ≡ face_of N l
@@ -106,7 +93,7 @@ module _ (M N : Model) (one : Sound M) (two : Sound N) (same : lines M ≡ lines
       let f = face_of M l in
       let at = one.loops_of_faces l there in
       elim (eqb_tells (outer M f) l) [
-        | inl is ↦ sym (two.outers_there f (sym (has_face f) ∙ at)).1 ∙ ap (face_of N) (sym (outer_told f at) ∙ is.1)
+        | inl is ↦ sym (two.outers_there f (sym (used Face f) ∙ at)).1 ∙ ap (face_of N) (sym (outer_told f at) ∙ is.1)
         | inr not_outer ↦
             let itself : nat_eq (face_of M l) f ≡ true = grind (arith, nat_tests) in
             let ring : member l (rings_of M f) ≡ true = member_rings M f l ∙ ap (λ b. b && nat_eq (face_of M l) f && not (nat_eq (outer M f) l)) there ∙ ap (λ b. b && not (nat_eq (outer M f) l)) itself ∙ ap not not_outer.0 in
@@ -115,25 +102,22 @@ module _ (M N : Model) (one : Sound M) (two : Sound N) (same : lines M ≡ lines
       ]
 
   contents_told : (l : ℕ) (c d : LoopContent) → content M l ≡ c → content N l ≡ d → content_words c ≡ content_words d → c ≡ d
-  contents_told l (lone v) (lone w) p q e = ap lone (decimal_injective v w (vertex_small M one v (one.lone_at_vertex l v p)) (vertex_small N two w (two.lone_at_vertex l w q)) (ap (λ ws. head_word (later_words ws)) e))
+  contents_told l (lone v) (lone w) p q e = ap lone (decimal_injective v w (small M one Vertex v (one.lone_at_vertex l v p)) (small N two Vertex w (two.lone_at_vertex l w q)) (cc e))
   contents_told l (lone v) (cycle hs) p q e = absurd (no_half v hs e)
   contents_told l (cycle hs) (lone v) p q e = absurd (no_half v hs (sym e))
   contents_told l (cycle hs) (cycle gs) p q e = ap cycle (same_numbers half_word half_word hs gs
-      (λ h g a b s. half_told h g (edge_small M one (edge_of h) (item_there M one l hs p h a)) (edge_small N two (edge_of g) (item_there N two l gs q g b)) s) e)
+      (λ h g a b s. half_told h g (small M one Edge (edge_of h) (item_there M one l hs p h a)) (small N two Edge (edge_of g) (item_there N two l gs q g b)) s) e)
 
   content_told : (l : ℕ) → Has M.loops l → content M l ≡ content N l
-  content_told l there = contents_told l (content M l) (content N l) refl refl (ap (λ ws. later_words (later_words ws)) (line_told M N one two same Loop l (member_numbers M.loops l ∙ there)))
-
-  edge_line : (e : ℕ) → Has M.edges e → line M Edge e ≡ line N Edge e
-  edge_line e there = line_told M N one two same Edge e (member_numbers M.edges e ∙ there)
+  content_told l there = contents_told l (content M l) (content N l) refl refl (cc (told Loop l there))
 
   plus_told : (e : ℕ) → Has M.edges e → tail M (plus e) ≡ tail N (plus e)
-  plus_told e there = decimal_injective (tail M (plus e)) (tail N (plus e)) (plus_tail_small M one e there) (plus_tail_small N two e (sym (has_edge e) ∙ there))
-      (ap (λ l. head_word (later_words (later_words l))) (edge_line e there))
+  plus_told e there = decimal_injective (tail M (plus e)) (tail N (plus e)) (plus_tail_small M one e there) (plus_tail_small N two e (sym (used Edge e) ∙ there))
+      (cc (told Edge e there))
 
   minus_told : (e : ℕ) → Has M.edges e → tail M (minus e) ≡ tail N (minus e)
-  minus_told e there = decimal_injective (tail M (minus e)) (tail N (minus e)) (minus_tail_small M one e there) (minus_tail_small N two e (sym (has_edge e) ∙ there))
-      (ap (λ l. head_word (later_words (later_words (later_words l)))) (edge_line e there))
+  minus_told e there = decimal_injective (tail M (minus e)) (tail N (minus e)) (minus_tail_small M one e there) (minus_tail_small N two e (sym (used Edge e) ∙ there))
+      (cc (told Edge e there))
 
   points_told : (p q : Point) → is_in_range p ≡ true → is_in_range q ≡ true → signed_decimal p.x ≡ signed_decimal q.x → signed_decimal p.y ≡ signed_decimal q.y → signed_decimal p.z ≡ signed_decimal q.z → p ≡ q
   points_told p q r s x y z =
@@ -146,35 +130,33 @@ module _ (M N : Model) (one : Sound M) (two : Sound N) (same : lines M ≡ lines
 
   point_told : (v : ℕ) → Has M.vertices v → point_of M v ≡ point_of N v
   point_told v there =
-      let e = line_told M N one two same Vertex v (member_numbers M.vertices v ∙ there) in
-      points_told (point_of M v) (point_of N v) (point_in_range M one v there) (point_in_range N two v (sym (has_vertex v) ∙ there))
-      (ap (λ l. head_word (later_words (later_words l))) e)
-      (ap (λ l. head_word (later_words (later_words (later_words l)))) e)
-      (ap (λ l. head_word (later_words (later_words (later_words (later_words l))))) e)
+      let e = told Vertex v there in
+      points_told (point_of M v) (point_of N v) (point_in_range M one v there) (point_in_range N two v (sym (used Vertex v) ∙ there))
+      (cc e) (cc e) (cc e)
 
   same_solids : M.solids ≡ N.solids
-  same_solids = same_rows M.solids N.solids has_solid (λ q x y at bt. refl)
+  same_solids = same_rows M.solids N.solids (used Solid) (λ q x y at bt. refl)
 
   same_faces : M.faces ≡ N.faces
-  same_faces = same_rows M.faces N.faces has_face (λ q x y at bt.
+  same_faces = same_rows M.faces N.faces (used Face) (λ q x y at bt.
       let s = sym (solid_row M q x at) ∙ solid_told q (ap is_some at) ∙ solid_row N q y bt in
       let o = sym (outer_row M q x at) ∙ outer_told q (ap is_some at) ∙ outer_row N q y bt in
       λ i. record { solid = s i; outer = o i })
 
   same_loops : M.loops ≡ N.loops
-  same_loops = same_rows M.loops N.loops has_loop (λ q x y at bt.
+  same_loops = same_rows M.loops N.loops (used Loop) (λ q x y at bt.
       let f = sym (face_row M q x at) ∙ face_told q (ap is_some at) ∙ face_row N q y bt in
       let c = sym (content_row M q x at) ∙ content_told q (ap is_some at) ∙ content_row N q y bt in
       λ i. record { face = f i; content = c i })
 
   same_edges : M.edges ≡ N.edges
-  same_edges = same_rows M.edges N.edges has_edge (λ q x y at bt.
+  same_edges = same_rows M.edges N.edges (used Edge) (λ q x y at bt.
       let p = sym (plus_tail_row M q x at) ∙ plus_told q (ap is_some at) ∙ plus_tail_row N q y bt in
       let m = sym (minus_tail_row M q x at) ∙ minus_told q (ap is_some at) ∙ minus_tail_row N q y bt in
       λ i. record { plus_tail = p i; minus_tail = m i })
 
   same_vertices : M.vertices ≡ N.vertices
-  same_vertices = same_rows M.vertices N.vertices has_vertex (λ q x y at bt. sym (point_row M q x at) ∙ point_told q (ap is_some at) ∙ point_row N q y bt)
+  same_vertices = same_rows M.vertices N.vertices (used Vertex) (λ q x y at bt. sym (point_row M q x at) ∙ point_told q (ap is_some at) ∙ point_row N q y bt)
 
   pub same_models : M ≡ N
   same_models = λ i. record { solids = same_solids i; faces = same_faces i; loops = same_loops i; edges = same_edges i; vertices = same_vertices i }

@@ -21,18 +21,12 @@ module _ {X : Type 0} (t : Table X) where
     one_or_more k e = grind (arith, nat_tests)
 
 pub next_number : (s : Store) (kind : Kind) (n m : ℕ) → IsNextNumber s kind n (Some m) → above n (numbers_of s.model kind) ≡ m ∷ above m (numbers_of s.model kind)
-next_number s Solid n m h = next_in s.model.solids n m h
-next_number s Face n m h = next_in s.model.faces n m h
-next_number s Loop n m h = next_in s.model.loops n m h
-next_number s Edge n m h = next_in s.model.edges n m h
-next_number s Vertex n m h = next_in s.model.vertices n m h
+next_number s Solid n m h = next_in _ n m h
+next_number s kind n m h = next_in _ n m h
 
 pub no_number : (s : Store) (kind : Kind) (n : ℕ) → IsNextNumber s kind n None → above n (numbers_of s.model kind) ≡ []
-no_number s Solid n h = none_in s.model.solids n h
-no_number s Face n h = none_in s.model.faces n h
-no_number s Loop n h = none_in s.model.loops n h
-no_number s Edge n h = none_in s.model.edges n h
-no_number s Vertex n h = none_in s.model.vertices n h
+no_number s Solid n h = none_in _ n h
+no_number s kind n h = none_in _ n h
 
 pub from_zero : (M : Model) → Sound M → (kind : Kind) → above 0 (numbers_of M kind) ≡ numbers_of M kind
 from_zero M sound Solid = all_in_range M.solids sound.solids_fit

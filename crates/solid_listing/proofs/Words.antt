@@ -1,5 +1,5 @@
 -- Numbers and half-edges are read back from their words.
-use Rattle.std.proofs.Common.{◌≡◌, ℕ, suc, ◌+◌, ◌/◌, ◌%◌, ◌^◌, ◌<◌, ◌≤◌, Bool, true, false, cond, nat_eq, nat_lt, [], ◌∷◌, ◌++◌, ℤ, pos, negsuc, refl, sym, ap, ◌∙◌, arith, decimal}
+use Rattle.std.proofs.Common.{◌≡◌, ℕ, suc, ◌+◌, ◌/◌, ◌%◌, ◌^◌, ◌<◌, ◌≤◌, Bool, true, false, cond, nat_eq, nat_lt, [], ◌∷◌, ◌++◌, ℤ, pos, negsuc, refl, sym, ◌∙◌, arith, decimal}
 use Rattle.std.proofs.lemmas.Bool.Decides.{nat_tests}
 use Rattle.std.proofs.lemmas.Bool.{and_from}
 use Rattle.std.proofs.lemmas.Fmt.{decimal_by_steps, decimal_injective}
@@ -43,21 +43,12 @@ sign b = cond b 43 45
 sign_told : (a b : Bool) → sign a ≡ sign b → a ≡ b
 unfolding sign
 sign_told true true e = refl
-sign_told true false e = absurd (omega arith)
-sign_told false true e = absurd (omega arith)
 sign_told false false e = refl
-
-first_of : Word → ℕ
-first_of [] = 0
-first_of (b ∷ bs) = b
-
-others_of : Word → Word
-others_of [] = []
-others_of (b ∷ bs) = bs
+sign_told a b e = absurd (omega arith)
 
 pub half_told : (g h : ℕ) → edge_of g < 2 ^ 64 → edge_of h < 2 ^ 64 → half_word g ≡ half_word h → g ≡ h
-unfolding half first_of others_of edge_of is_first sign
+unfolding half edge_of is_first sign
 half_told g h l m e =
-    let edges : g / 2 ≡ h / 2 = decimal_injective (g / 2) (h / 2) l m (ap others_of e) in
-    let firsts : nat_eq (g % 2) 0 ≡ nat_eq (h % 2) 0 = sign_told _ _ (ap first_of e) in
+    let edges : g / 2 ≡ h / 2 = decimal_injective (g / 2) (h / 2) l m (cc e) in
+    let firsts : nat_eq (g % 2) 0 ≡ nat_eq (h % 2) 0 = sign_told (nat_eq (g % 2) 0) (nat_eq (h % 2) 0) (cc e) in
     sym (code-half g) ∙ (λ i. code (record { edge = edges i; first = firsts i })) ∙ code-half h

@@ -1,10 +1,16 @@
-use Rattle.std.proofs.Common.{◌≡◌, sym, ap, subst, ℕ, List, [], ◌∷◌, decimal, cond, refl}
+use Rattle.std.proofs.Common.{◌≡◌, ◌∙◌, sym, ap, subst, ℕ, List, [], ◌∷◌, decimal, cond, refl}
 use Rattle.std.proofs.lemmas.Result.{err_from_is_err_and}
+use Rattle.euler_operators.specs.Common.{HalfEdge, code, edge_of}
+use Rattle.euler_operators.proofs.Common.{edge_of-code, is_first-code}
+use Rattle.solid_listing.specs.Listing.{half_word}
 use Rattle.solid_listing.specs.Writing.{Gathers, outgoing, Tells}
-use Rattle.solid_listing.proofs.HalfWords.{half_word_is}
 use Rattle.solid_listing.proofs.TellingLaws.{Breaks, Breaks-longer, tells_after}
 use Rattle.solid_listing.proofs.cycle.put_half.Goals as goal
 use Rattle.solid_listing.proofs.cycle.put_half.Goals.{then-h, else-h}
+
+-- the word of a half-edge
+half_word_is : (h : HalfEdge) → half_word (code h) ≡ cond h.first 43 45 ∷ decimal h.edge
+half_word_is h = ap (λ b. cond b 43 45 ∷ decimal (edge_of (code h))) (is_first-code h) ∙ ap (λ e. cond h.first 43 45 ∷ decimal e) (edge_of-code h)
 
 pub returns-in_err-put : goal.returns-in_err-put
 returns-in_err-put g c =
