@@ -5,7 +5,7 @@ use Rattle.std.proofs.lemmas.Bool.Decides.{nat_tests}
 use Rattle.solid_listing.specs.declared.reply.Reply.TheVariants as reply
 use Rattle.script_running.specs.script_judging.Judging.{no_lines, one_line, counted}
 use Rattle.script_running.specs.Outs.{is_clean, stops, was_stopped}
-use Rattle.script_running.specs.Common.{Answer, Listing, Says, Silent, Summary}
+use Rattle.script_running.specs.Common.{Answer, Says, Summary}
 
 -- no reply is counted twice, nor without its line
 pub record IsWithin (n : Summary) : Type 0 where
@@ -27,15 +27,8 @@ none_counted a = same_counts (counted no_lines a) a (omega arith) (omega arith) 
 
 -- a line is counted once, and its answer in one kind at most
 one_counted : (a : Answer) → ((one_line a).lines ≡ 1) × ((one_line a).refused ≤ 1) × ((one_line a).faults ≤ 1) × ((one_line a).memory ≤ 1)
-one_counted Silent = (refl, omega arith, omega arith, omega arith)
 one_counted (Says reply.Done) = (refl, omega arith, omega arith, omega arith)
-one_counted (Says (reply.Refused n x)) = (refl, omega arith, omega arith, omega arith)
-one_counted (Says (reply.Fault n)) = (refl, omega arith, omega arith, omega arith)
-one_counted (Says reply.Memory) = (refl, omega arith, omega arith, omega arith)
-one_counted (Says (reply.Plane p flat)) = (refl, omega arith, omega arith, omega arith)
-one_counted (Says (reply.Volume n)) = (refl, omega arith, omega arith, omega arith)
-one_counted (Says (reply.Count ns)) = (refl, omega arith, omega arith, omega arith)
-one_counted Listing = (refl, omega arith, omega arith, omega arith)
+one_counted a = (refl, omega arith, omega arith, omega arith)
 
 pub one_more : (a : Answer) → (one_line a).lines ≡ 1
 one_more a = (one_counted a).0

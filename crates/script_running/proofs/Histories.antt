@@ -16,10 +16,9 @@ use Rattle.script_running.proofs.Counting.{one_more}
 
 -- what a line asks for is one call
 obeys : CommandsAreCalls → (s t : Journal) (r : Request) (a : Answer) → Sound (held s.machine) → Obeys s r a t → IsCall s.machine t.machine
-obeys l s t request.Nothing a k h = stopped s.machine t.machine (same_machine h.1)
-obeys l s t request.List a k h = stopped s.machine t.machine (same_machine h.1)
 obeys l s t (request.Over o ps) a k h = l s t (Change (over o ps)) h.0 k h.2
 obeys l s t (request.Give c) a k h = l s t c h.0 k h.2
+obeys l s t r a k h = stopped s.machine t.machine (same_machine h.1)
 
 answers : CommandsAreCalls → (s t : Journal) (r : Result Request Fault) (a : Answer) → Sound (held s.machine) → Answers s r a t → IsCall s.machine t.machine
 answers l s t (Ok r) a k h = obeys l s t r a k h

@@ -30,27 +30,20 @@ settled_so : (o : Option Refusal) (L G : Type 0) (s t : Journal) (next : Machine
 settled_so o L G s t next told.Done goes h x = subst (λ (q : Option Refusal). IsTurn done t (moved q s.machine next)) (sym h.0) (refl, goes h.1)
 settled_so o L G s t next (told.Refused r) goes h x = subst (λ (q : Option Refusal). IsTurn (answer_when (told.Refused r)) t (moved q s.machine next)) (sym h.0) (refl, same_machine h.1)
 settled_so o L G s t next told.Memory goes h x = absurd (not_told (Says reply.Memory) refl x)
-settled_so o L G s t next told.InDraft goes h x = absurd h
-settled_so o L G s t next told.NoDraft goes h x = absurd h
-settled_so o L G s t next (told.Plane p flat) goes h x = absurd h
-settled_so o L G s t next (told.Volume n) goes h x = absurd h
-settled_so o L G s t next (told.Counts n) goes h x = absurd h
-settled_so o L G s t next (told.Steps n) goes h x = absurd h
+settled_so o L G s t next b goes h x = absurd h
 
 tells_so : (s t : Journal) (c : Command) (b : Told) → TellsSession s c b t → IsQuiet (answer_when b) → IsTurn (answer_when b) t (given s.machine c)
 tells_so s t (Change c) b h x = settled_so _ _ _ s t _ b (λ g. g.0) h x
 tells_so s t (Ask q) b h x = (ap answer_when h.0, same_machine h.1)
-tells_so s t Undo b h x = settled_so _ _ _ s t _ b same_machine h x
-tells_so s t Redo b h x = settled_so _ _ _ s t _ b same_machine h x
+tells_so s t c b h x = settled_so _ _ _ s t _ b same_machine h x
 
 gives_so : (s t : Journal) (c : Command) (a : Answer) → Gives s c a t → IsQuiet a → IsTurn a t (given s.machine c)
 gives_so s t c a (b, is, h) x = subst (λ (z : Answer). IsTurn z t (given s.machine c)) (sym is) (tells_so s t c b h (subst (λ (z : Answer). IsQuiet z) is x))
 
 obeys_so : (s t : Journal) (r : Request) (a : Answer) → Obeys s r a t → IsQuiet a → IsTurn a t (obeyed s.machine r)
-obeys_so s t request.Nothing a h x = (h.0, same_machine h.1)
-obeys_so s t request.List a h x = (h.0, same_machine h.1)
 obeys_so s t (request.Over o ps) a h x = gives_so s t (Change (over o ps)) a h x
 obeys_so s t (request.Give c) a h x = gives_so s t c a h x
+obeys_so s t r a h x = (h.0, same_machine h.1)
 
 answers_so : (s t : Journal) (r : Result Request Fault) (a : Answer) → Answers s r a t → IsQuiet a → IsTurn a t (answered s.machine r)
 answers_so s t (Ok r) a h x = obeys_so s t r a h x
@@ -72,11 +65,11 @@ asked_quiet M (question.Volume n) = value_quiet (solid_refusal M n) (told.Volume
 asked_quiet M (question.Count n) = value_quiet (solid_refusal M n) (told.Counts (counts M n)) refl
 
 -- a session that may be gone on to with this answer, which isn't `memory`, on this machine
-abbrev Leads : (Answer → Journal → Type 0) → Answer × Machine → Type 0
-Leads R turn = (t : Journal) × R turn.0 t × (t.machine ≡ turn.1) × IsQuiet turn.0
+abbrev LeadsOn : (Answer → Journal → Type 0) → Answer × Machine → Type 0
+LeadsOn R turn = (t : Journal) × R turn.0 t × (t.machine ≡ turn.1) × IsQuiet turn.0
 
 settled_to : (o : Option Refusal) (L : Type 0) (s u : Journal) (G : Journal → Type 0) → G u
-    → Leads (λ a t. (b : Told) × (a ≡ answer_when b) × Settled o L (t ≡ s) (G t) b) (moved o s.machine u.machine)
+    → LeadsOn (λ a t. (b : Told) × (a ≡ answer_when b) × Settled o L (t ≡ s) (G t) b) (moved o s.machine u.machine)
 settled_to None L s u G g = (u, (told.Done, refl, (refl, g)), refl, refl)
 settled_to (Some r) L s u G g = (s, (told.Refused r, refl, (refl, refl)), refl, refl)
 
@@ -84,7 +77,7 @@ settled_to (Some r) L s u G g = (s, (told.Refused r, refl, (refl, refl)), refl, 
 no_steps : Record
 no_steps = record { forward = []; back = [] }
 
-gives_to : (s : Journal) (c : Command) → Leads (Gives s c) (given s.machine c)
+gives_to : (s : Journal) (c : Command) → LeadsOn (Gives s c) (given s.machine c)
 gives_to s (Change c) =
     let next = accepted s.machine (made (held s.machine) c) in
     settled_to _ _ s (record { machine = next; records = recorded s no_steps }) (λ (t : Journal). (t.machine ≡ next) × IsRecorded s t) (refl, record { command = no_steps; appended = refl })
@@ -92,13 +85,12 @@ gives_to s (Ask q) = (s, (asked (held s.machine) q, refl, (refl, refl)), refl, a
 gives_to s Undo = settled_to _ _ s (after_undo s) (λ (t : Journal). t ≡ after_undo s) refl
 gives_to s Redo = settled_to _ _ s (after_redo s) (λ (t : Journal). t ≡ after_redo s) refl
 
-obeys_to : (s : Journal) (r : Request) → Leads (Obeys s r) (obeyed s.machine r)
-obeys_to s request.Nothing = (s, (refl, refl), refl, refl)
-obeys_to s request.List = (s, (refl, refl), refl, refl)
+obeys_to : (s : Journal) (r : Request) → LeadsOn (Obeys s r) (obeyed s.machine r)
 obeys_to s (request.Over o ps) = gives_to s (Change (over o ps))
 obeys_to s (request.Give c) = gives_to s c
+obeys_to s r = (s, (refl, refl), refl, refl)
 
-answers_to : (s : Journal) (r : Result Request Fault) → Leads (Answers s r) (answered s.machine r)
+answers_to : (s : Journal) (r : Result Request Fault) → LeadsOn (Answers s r) (answered s.machine r)
 answers_to s (Ok r) = obeys_to s r
 answers_to s (Err f) = (s, (refl, refl), refl, refl)
 

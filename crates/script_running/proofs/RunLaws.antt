@@ -82,8 +82,7 @@ module _ {R : Type 0} (remaining : R → Option (List ℕ)) (lines next : Lines 
   -- a line that is answered where the session lies
   pub heard_line : (line : List ℕ) (done : Bool) (t u : Journal) (a b : Answer) → Went remaining lines next found.Line → line ≡ line_of next → Decides s (λ x y. Judges s line x y) done a t → done ≡ true → b ≡ a → u ≡ t
       → Hears remaining lines next s b u
-  heard_line line true t u a b went is decided e = heard_judged line t u a b went is decided
-  heard_line line false t u a b went is decided e = absurd (cc e)
+  heard_line line done t u a b went is decided e = heard_judged line t u a b went is (subst (λ (d : Bool). Decides s (λ x y. Judges s line x y) d a t) e decided)
 
   -- a line for which the session was moved
   pub heard_moved : (line again : List ℕ) (done : Bool) (m t u : Journal) (x a b : Answer) → Went remaining lines next found.Line → again ≡ line_of next → Decides s (λ y z. Judges s line y z) done x m → done ≡ false

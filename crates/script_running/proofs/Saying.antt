@@ -1,16 +1,15 @@
 -- A line that spells a command is answered what the call to give it is told.
 use Rattle.std.proofs.Common.{◌≡◌, Some, refl, sym, ap, subst, ◌∙◌, Result}
-use Rattle.script_running.specs.Common.{Answer, Change, Command, Drafting, Fault, Give, Journal, Request, Session, Stage, TellsSession, over}
+use Rattle.script_running.specs.Common.{Answer, Change, Command, Drafting, Fault, Journal, Request, Session, Stage, TellsSession, over}
 use Rattle.script_reader.specs.declared.command.Request.TheVariants as request
 use Rattle.script_running.specs.script_judging.Judging.{Gives, Obeys, Answers, Judges}
 use Rattle.script_running.specs.Laws.{asked_for, LinesAreTold}
 
 -- what asks for a command is obeyed as that command
 gives_is : (s t : Journal) (r : Request) (c : Command) (a : Answer) → asked_for r ≡ Some c → Obeys s r a t ≡ Gives s c a t
-gives_is s t request.Nothing c a e = absurd (cc e)
-gives_is s t request.List c a e = absurd (cc e)
 gives_is s t (request.Over o ps) c a e = let same : Change (over o ps) ≡ c = cc e in ap (λ (x : Command). Gives s x a t) same
 gives_is s t (request.Give d) c a e = let same : d ≡ c = cc e in ap (λ (x : Command). Gives s x a t) same
+gives_is s t r c a e = absurd (cc e)
 
 -- the session in a stage
 abbrev session_in : Journal → Stage → Journal
