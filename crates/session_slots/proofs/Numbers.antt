@@ -1,20 +1,14 @@
 -- What an arena tells of the model that it holds.
 use Rattle.std.proofs.Common.{◌≡◌, ℕ, false, [], Option, Some, None, is_some, unwrap_or, true≢false, refl, ap, subst}
-use Rattle.session_slots.specs.Common.{IsIn, code, has, Model, LoopContent, LoopRow, no_loop, lone, cycle, items_of, content, loop_of, cycle_of, HalfEdge, Kind, Solid, Face, Loop, Edge, Vertex, Sound, Content, Store, IsNextNumber, store_of, IsItemOf}
+use Rattle.session_slots.specs.Common.{IsIn, code, has, Model, LoopContent, LoopRow, no_loop, lone, cycle, items_of, content, loop_of, cycle_of, HalfEdge, Kind, Solid, Sound, Content, Store, IsNextNumber, store_of, IsItemOf}
 use Rattle.euler_operators.proofs.Common.{in-holds}
 use Rattle.euler_conditions.specs.Store.{Tells}
 
 here : (s : Store) (k : Kind) (n : ℕ) (o : Option ℕ) → IsNextNumber s k n o → IsNextNumber (store_of s.model) k n o
 here s Solid n None h = h
+here s k n None h = h
 here s Solid n (Some m) h = h
-here s Face n None h = h
-here s Face n (Some m) h = h
-here s Loop n None h = h
-here s Loop n (Some m) h = h
-here s Edge n None h = h
-here s Edge n (Some m) h = h
-here s Vertex n None h = h
-here s Vertex n (Some m) h = h
+here s k n (Some m) h = h
 
 pub next_held : (s : Store) (M : Model) → s.model ≡ M → (k : Kind) (n : ℕ) (o : Option ℕ) → IsNextNumber s k n o → IsNextNumber (store_of M) k n o
 next_held s M is k n o h = subst (λ (N : Model). IsNextNumber (store_of N) k n o) is (here s k n o h)

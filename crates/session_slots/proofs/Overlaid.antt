@@ -11,11 +11,9 @@ laid_none [] = refl
 laid_none (o ∷ old) = refl
 
 laid_more : {X : Type 0} (xs : List X) (x : X) (old : List X) → slice_set (laid_over xs old) (length xs) x ≡ laid_over (xs ++ x ∷ []) old
-laid_more [] x [] = refl
-laid_more [] x (o ∷ []) = refl
-laid_more [] x (o ∷ p ∷ old) = refl
-laid_more (y ∷ xs) x [] = refl
 laid_more {X} (y ∷ xs) x (o ∷ old) = ap (λ (zs : List X). y ∷ zs) (laid_more xs x old)
+laid_more [] x (o ∷ []) = refl
+laid_more xs x old = refl
 
 -- the same from place n on
 pub none_at : {X : Type 0} (n : ℕ) (old : List X) → laid_at n [] old ≡ old
