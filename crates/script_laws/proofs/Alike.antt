@@ -16,7 +16,7 @@ use Rattle.solid_listing.specs.Listing.{listing}
 use Rattle.script_running.specs.script_judging.Judging.{done, answer_text}
 use Rattle.script_running.specs.Output.{moved, obeyed, answered, answer_of, machine_after, output_from}
 use Rattle.script_running.specs.declared.script_judging.judging.Answer.{Answer}
-use Rattle.script_running.specs.declared.script_judging.judging.Answer.TheVariants.{Silent, Reply as Told, Listing}
+use Rattle.script_running.specs.declared.script_judging.judging.Answer.TheVariants.{Reply as Told, Listing}
 use Rattle.script_laws.specs.Scripts.{EndsLine, ended, oks, Adds}
 use Rattle.script_laws.specs.Laws.{UndoAndRedoCanBeLeftOut, UndoneLinesCanBeLeftOut}
 use Rattle.script_laws.proofs.Behind.{after, reached, reached_append, adds_from, from_adds, alike, lines_append, ends_append, ends_line}
@@ -60,13 +60,11 @@ module _ (back : Bool) (M : Model) (p f q g : List Model) (h : back ≡ true →
   acted o N = moved_alike back o _ _ _ _ same (record { present = refl; behind = λ b. ap (λ (ms : List Model). M ∷ ms) (h b) })
 
   obeyed_alike : (r : Request) → r ≢ redoing → (back ≡ false → r ≢ undoing) → SameTurn back (obeyed (machine p M f) r) (obeyed (machine q M g) r)
-  obeyed_alike request.Nothing r u = stay _
-  obeyed_alike request.List r u = stay _
   obeyed_alike (request.Over o ps) r u = acted _ _
   obeyed_alike (request.Give (command.Change c)) r u = acted _ _
-  obeyed_alike (request.Give (command.Ask a)) r u = stay _
   obeyed_alike (request.Give command.Undo) r u = undo_either back M p f q g h (λ b. u b refl)
   obeyed_alike (request.Give command.Redo) r u = absurd (r refl)
+  obeyed_alike c r u = stay _
 
   answered_alike : (r : Result Request Fault) → r ≢ Ok redoing → (back ≡ false → r ≢ Ok undoing) → SameTurn back (answered (machine p M f) r) (answered (machine q M g) r)
   answered_alike (Ok c) r u = obeyed_alike c (λ e. r (ap (λ (d : Request). Ok d) e)) (λ b e. u b (ap (λ (d : Request). Ok d) e))
@@ -82,9 +80,8 @@ unfolding answer_of machine_after
 line_alike back s t line h k u = let turn = all_alike back s t (request_of line) h (no_redo line k) (λ b. no_undo line (u b)) in (turn.answer, turn.machines)
 
 text_alike : (s t : Machine) (a : Answer) → s.present ≡ t.present → answer_text s a ≡ answer_text t a
-text_alike s t Silent e = refl
-text_alike s t (Told r) e = refl
 text_alike s t Listing e = ap listing e
+text_alike s t a e = refl
 
 pub lines_alike : (back : Bool) (s t : Machine) (lines : List (List ℕ)) → Alike back s t → Without (codes "redo") lines → (back ≡ false → Without (codes "undo") lines)
     → output_from false s lines ≡ output_from false t lines
@@ -103,15 +100,8 @@ told_ok true e = refl
 told_ok false e = absurd (omega (arith, e))
 
 is_done : (a : Answer) → is_ok a ≡ true → a ≡ done
-is_done Silent e = absurd (true≢false (sym e))
 is_done (Told reply.Done) e = refl
-is_done (Told (reply.Refused w x)) e = absurd (true≢false (sym e))
-is_done (Told (reply.Fault n)) e = absurd (true≢false (sym e))
-is_done (Told reply.Memory) e = absurd (true≢false (sym e))
-is_done (Told (reply.Plane p flat)) e = absurd (true≢false (sym e))
-is_done (Told (reply.Volume n)) e = absurd (true≢false (sym e))
-is_done (Told (reply.Count ns)) e = absurd (true≢false (sym e))
-is_done Listing e = absurd (true≢false (sym e))
+is_done a e = absurd (true≢false (sym e))
 
 pub answered_ok : (script line : List ℕ) → EndsLine script → newline.Lacks line → Adds script (ended line) (codes "ok\n") → answer_of (reached script) line ≡ done
 answered_ok script line h k added =
@@ -136,13 +126,12 @@ redo_forward p M [] = record { step = λ x. absurd (cc x) }
 redo_forward p M (N ∷ f) = moved_forward _ _ _ refl
 
 obeyed_forward : (s : Machine) (r : Request) → r ≢ undoing → Forward s (obeyed s r)
-obeyed_forward s request.Nothing u = other_forward s _ refl
-obeyed_forward s request.List u = other_forward s _ refl
 obeyed_forward s (request.Over o ps) u = moved_forward _ s _ refl
 obeyed_forward s (request.Give (command.Change c)) u = moved_forward _ s _ refl
 obeyed_forward s (request.Give (command.Ask q)) u = other_forward s _ (asked_other (held s) q)
 obeyed_forward s (request.Give command.Undo) u = absurd (u refl)
 obeyed_forward s (request.Give command.Redo) u = redo_forward s.past s.present s.future
+obeyed_forward s r u = other_forward s _ refl
 
 answered_forward : (s : Machine) (r : Result Request Fault) → r ≢ Ok undoing → Forward s (answered s r)
 answered_forward s (Ok c) u = obeyed_forward s c (λ e. u (ap (λ (d : Request). Ok d) e))

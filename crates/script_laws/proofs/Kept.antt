@@ -28,16 +28,13 @@ moved_stays None s next = inl refl
 moved_stays (Some r) s next = inr refl
 
 given_stays : (s : Machine) (c : Command) → Stays s (given s c)
-given_stays s (command.Change c) = moved_stays _ s _
 given_stays s (command.Ask q) = inr refl
-given_stays s command.Undo = moved_stays _ s _
-given_stays s command.Redo = moved_stays _ s _
+given_stays s c = moved_stays _ s _
 
 obeyed_stays : (s : Machine) (r : Request) → Stays s (obeyed s r)
-obeyed_stays s request.Nothing = inr refl
-obeyed_stays s request.List = inr refl
 obeyed_stays s (request.Over o ps) = moved_stays _ s _
 obeyed_stays s (request.Give c) = given_stays s c
+obeyed_stays s r = inr refl
 
 answered_stays : (s : Machine) (r : Result Request Fault) → Stays s (answered s r)
 answered_stays s (Ok r) = obeyed_stays s r

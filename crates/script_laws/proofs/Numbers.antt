@@ -14,49 +14,7 @@ reason n = cond (n == 1) whys.NumberRange (cond (n == 2) whys.NoSolid (cond (n =
 reason_back : (a : Why) → reason (why.code_of a) ≡ a
 unfolding reason
 reason_back whys.NumberRange = refl
-reason_back whys.NoSolid = refl
-reason_back whys.NoFace = refl
-reason_back whys.NoLoop = refl
-reason_back whys.NoEdge = refl
-reason_back whys.SolidTaken = refl
-reason_back whys.FaceTaken = refl
-reason_back whys.LoopTaken = refl
-reason_back whys.EdgeTaken = refl
-reason_back whys.VertexTaken = refl
-reason_back whys.PointRange = refl
-reason_back whys.NotBare = refl
-reason_back whys.NotLone = refl
-reason_back whys.DifferentTails = refl
-reason_back whys.ParallelEdge = refl
-reason_back whys.KeptEndBare = refl
-reason_back whys.DifferentLoops = refl
-reason_back whys.SameTail = refl
-reason_back whys.SameFace = refl
-reason_back whys.HasRings = refl
-reason_back whys.SameLoop = refl
-reason_back whys.DifferentFaces = refl
-reason_back whys.NotRing = refl
-reason_back whys.DifferentSolids = refl
-reason_back whys.NothingToUndo = refl
-reason_back whys.NothingToRedo = refl
-reason_back whys.NumbersSpent = refl
-reason_back whys.FewPoints = refl
-reason_back whys.ZeroSweep = refl
-reason_back whys.LoneLoop = refl
-reason_back whys.SameSolid = refl
-reason_back whys.NotFlat = refl
-reason_back whys.RepeatedPoint = refl
-reason_back whys.NoMatch = refl
-reason_back whys.PlaneRange = refl
-reason_back whys.PlaneMisses = refl
-reason_back whys.NotLattice = refl
-reason_back whys.TouchedFace = refl
-reason_back whys.CutOften = refl
-reason_back whys.CutCrossed = refl
-reason_back whys.BranchedVertex = refl
-reason_back whys.SectionHoles = refl
-reason_back whys.SizeRange = refl
-reason_back whys.BadPart = refl
+reason_back a = refl
 
 fault_of : ℕ → Fault
 fault_of n = cond (n == 1) faults.BadWord (cond (n == 2) faults.BadNumber (cond (n == 3) faults.MissingWord (cond (n == 4) faults.ExtraWord (cond (n == 5) faults.NotAscii (faults.LongLine)))))
@@ -64,11 +22,7 @@ fault_of n = cond (n == 1) faults.BadWord (cond (n == 2) faults.BadNumber (cond 
 fault_of_back : (a : Fault) → fault_of (fault.code_of a) ≡ a
 unfolding fault_of
 fault_of_back faults.BadWord = refl
-fault_of_back faults.BadNumber = refl
-fault_of_back faults.MissingWord = refl
-fault_of_back faults.ExtraWord = refl
-fault_of_back faults.NotAscii = refl
-fault_of_back faults.LongLine = refl
+fault_of_back a = refl
 
 pub refusals_tell : RefusalsTell
 refusals_tell a b e = sym (reason_back a) ∙ ap reason e ∙ reason_back b

@@ -1,10 +1,10 @@
 -- A text begins with one reply at most.
-use Rattle.std.proofs.Common.{◌≡◌, ℕ, zero, suc, ◌+◌, ◌/◌, ◌%◌, ◌^◌, ◌<◌, ◌≤◌, Bool, true, false, cond, nat_lt, List, [], ◌∷◌, ◌++◌, map, codes, ℤ, pos, negsuc, refl, sym, ap, ◌∙◌, arith, decimal, ◌==◌}
+use Rattle.std.proofs.Common.{◌≡◌, ℕ, suc, ◌^◌, ◌<◌, Bool, true, false, cond, nat_lt, List, [], ◌∷◌, ◌++◌, map, codes, ℤ, pos, negsuc, refl, sym, ap, ◌∙◌, arith, decimal}
 use Rattle.std.proofs.lemmas.List.{append_cancel_left}
 use Rattle.std.proofs.lemmas.Bool.Decides.{nat_tests}
 use Rattle.std.proofs.lemmas.Bool.{and_from}
 use Rattle.std.proofs.lemmas.Fmt.{decimal_is_IsNumeral_wide}
-use Rattle.std.specs.Fmt.{signed_decimal, digits, digits_onto, digit_glyph}
+use Rattle.std.specs.Fmt.{signed_decimal}
 use Rattle.std.specs.Int.Signed.{mag}
 use Rattle.std.specs.List.{AllByRecursion}
 use Rattle.std.specs.Str.Parse.{digits_value}
@@ -15,34 +15,11 @@ use Rattle.solid_listing.specs.declared.reply.Reply.{Reply}
 use Rattle.solid_listing.specs.declared.reply.Reply.TheVariants as reply
 use Rattle.solid_listing.proofs.Parsing.{is_clean, are_clean, is_good, parsed, parsed_text, parsed_one}
 use Rattle.script_laws.specs.Laws.{Fits, RepliesTell}
-use Rattle.script_laws.proofs.Texts.{reply_line}
+use Rattle.script_laws.proofs.Texts.{AreDigits, decimal_digits, reply_line}
 
 -- ---- digits
 
-AreDigits : List ℕ → Type 0
-AreDigits xs = AllByRecursion (λ b. 48 ≤ b) xs
-
-glyph_digit : (t : Bool) (d : ℕ) → 48 ≤ cond {A = ℕ} t (48 + d) (87 + d)
-glyph_digit true d = omega arith
-glyph_digit false d = omega arith
-
-either_digits : (t : Bool) (xs ys : List ℕ) → AreDigits xs → AreDigits ys → AreDigits (cond t xs ys)
-either_digits true xs ys h k = h
-either_digits false xs ys h k = k
-
-digits_from : (k n : ℕ) (acc : List ℕ) → AreDigits acc → AreDigits (digits_onto k 10 false n acc)
-unfolding AreDigits
-digits_from zero n acc h = h
-digits_from (suc k) n acc h =
-    let more : AreDigits (digit_glyph false (n % 10) ∷ acc) = (glyph_digit (nat_lt (n % 10) 10) (n % 10), h) in
-    either_digits (n / 10 == 0) _ _ more (digits_from k (n / 10) _ more)
-
-decimal_digits : (n : ℕ) → AreDigits (decimal n)
-unfolding digits AreDigits
-decimal_digits n = digits_from 64 n [] tt
-
 clean_digits : (xs : List ℕ) → AreDigits xs → is_clean xs ≡ true
-unfolding AreDigits
 clean_digits [] h = refl
 clean_digits (x ∷ xs) h = let low = h.0 in let e : nat_lt 32 x ≡ true = grind (arith, nat_tests) in and_from (nat_lt 32 x) (is_clean xs) e (clean_digits xs h.1)
 
@@ -54,7 +31,6 @@ clean_signed (pos n) = clean_decimal n
 clean_signed (negsuc n) = clean_decimal (suc n)
 
 no_minus : (xs ds : List ℕ) → AreDigits xs → xs ≡ 45 ∷ ds → ⊥
-unfolding AreDigits
 no_minus [] ds h e = absurd (cc e)
 no_minus (x ∷ xs) ds h e = let same : x ≡ 45 = cc e in let low = h.0 in omega (arith, same, low)
 
@@ -105,18 +81,8 @@ words_told r q e = cc (sym (words_parsed r) ∙ ap (λ (t : List ℕ). parsed (t
 -- ---- a reply from its words
 
 first_byte : List (List ℕ) → ℕ
-first_byte [] = 0
-first_byte ([] ∷ ws) = 0
 first_byte ((b ∷ w) ∷ ws) = b
-
-word : ℕ → List (List ℕ) → List ℕ
-word k [] = []
-word zero (w ∷ ws) = w
-word (suc k) (w ∷ ws) = word k ws
-
-later : List (List ℕ) → List (List ℕ)
-later [] = []
-later (w ∷ ws) = ws
+first_byte l = 0
 
 head : List ℕ → ℕ
 head [] = 0
@@ -125,76 +91,32 @@ head (b ∷ bs) = b
 flat_told : (a b : Bool) → cond a (codes "flat") (codes "bent") ≡ cond b (codes "flat") (codes "bent") → a ≡ b
 unfolding head
 flat_told true true e = refl
-flat_told true false e = absurd (omega (arith, ap head e))
-flat_told false true e = absurd (omega (arith, ap head e))
 flat_told false false e = refl
+flat_told a b e = absurd (omega (arith, ap head e))
 
 counts_told : (ns ms : List ℤ) → AllByRecursion (λ n. mag n < 2 ^ 63) ns → AllByRecursion (λ n. mag n < 2 ^ 63) ms → map signed_decimal ns ≡ map signed_decimal ms → ns ≡ ms
-unfolding word later
 counts_told [] [] h k e = refl
-counts_told [] (m ∷ ms) h k e = absurd (cc e)
-counts_told (n ∷ ns) [] h k e = absurd (cc e)
 counts_told (n ∷ ns) (m ∷ ms) h k e =
     let small = h.0 in let small_too = k.0 in
-    ap (λ (z : ℤ). z ∷ ns) (signed_tell n m (omega (arith, small)) (omega (arith, small_too)) (ap (word 0) e)) ∙ ap (λ (zs : List ℤ). m ∷ zs) (counts_told ns ms h.1 k.1 (ap later e))
+    ap (λ (z : ℤ). z ∷ ns) (signed_tell n m (omega (arith, small)) (omega (arith, small_too)) (cc e)) ∙ ap (λ (zs : List ℤ). m ∷ zs) (counts_told ns ms h.1 k.1 (cc e))
+counts_told ns ms h k e = absurd (cc e)
 
 reply_told : (r q : Reply) → Fits r → Fits q → reply_words r ≡ reply_words q → r ≡ q
-unfolding first_byte word later
+unfolding first_byte
 reply_told reply.Done reply.Done h k e = refl
-reply_told reply.Done (reply.Refused w2 x2) h k e = absurd (omega (arith, ap first_byte e))
-reply_told reply.Done (reply.Fault n2) h k e = absurd (omega (arith, ap first_byte e))
-reply_told reply.Done reply.Memory h k e = absurd (omega (arith, ap first_byte e))
-reply_told reply.Done (reply.Plane p2 f2) h k e = absurd (omega (arith, ap first_byte e))
-reply_told reply.Done (reply.Volume n2) h k e = absurd (omega (arith, ap first_byte e))
-reply_told reply.Done (reply.Count ns2) h k e = absurd (omega (arith, ap first_byte e))
-reply_told (reply.Refused w1 x1) reply.Done h k e = absurd (omega (arith, ap first_byte e))
-reply_told (reply.Refused w1 x1) (reply.Refused w2 x2) h k e = let a = h.0 in let b = h.1 in let c = k.0 in let d = k.1 in ap (λ (n : ℕ). reply.Refused n x1) (decimals_tell w1 w2 (omega (arith, a)) (omega (arith, c)) (ap (word 1) e)) ∙ ap (λ (n : ℕ). reply.Refused w2 n) (decimals_tell x1 x2 (omega (arith, b)) (omega (arith, d)) (ap (word 2) e))
-reply_told (reply.Refused w1 x1) (reply.Fault n2) h k e = absurd (omega (arith, ap first_byte e))
-reply_told (reply.Refused w1 x1) reply.Memory h k e = absurd (omega (arith, ap first_byte e))
-reply_told (reply.Refused w1 x1) (reply.Plane p2 f2) h k e = absurd (omega (arith, ap first_byte e))
-reply_told (reply.Refused w1 x1) (reply.Volume n2) h k e = absurd (omega (arith, ap first_byte e))
-reply_told (reply.Refused w1 x1) (reply.Count ns2) h k e = absurd (omega (arith, ap first_byte e))
-reply_told (reply.Fault n1) reply.Done h k e = absurd (omega (arith, ap first_byte e))
-reply_told (reply.Fault n1) (reply.Refused w2 x2) h k e = absurd (omega (arith, ap first_byte e))
-reply_told (reply.Fault n1) (reply.Fault n2) h k e = ap (λ (n : ℕ). reply.Fault n) (decimals_tell n1 n2 (omega (arith, h)) (omega (arith, k)) (ap (word 1) e))
-reply_told (reply.Fault n1) reply.Memory h k e = absurd (omega (arith, ap first_byte e))
-reply_told (reply.Fault n1) (reply.Plane p2 f2) h k e = absurd (omega (arith, ap first_byte e))
-reply_told (reply.Fault n1) (reply.Volume n2) h k e = absurd (omega (arith, ap first_byte e))
-reply_told (reply.Fault n1) (reply.Count ns2) h k e = absurd (omega (arith, ap first_byte e))
-reply_told reply.Memory reply.Done h k e = absurd (omega (arith, ap first_byte e))
-reply_told reply.Memory (reply.Refused w2 x2) h k e = absurd (omega (arith, ap first_byte e))
-reply_told reply.Memory (reply.Fault n2) h k e = absurd (omega (arith, ap first_byte e))
+reply_told (reply.Refused w1 x1) (reply.Refused w2 x2) h k e = let a = h.0 in let b = h.1 in let c = k.0 in let d = k.1 in ap (λ (n : ℕ). reply.Refused n x1) (decimals_tell w1 w2 (omega (arith, a)) (omega (arith, c)) (cc e)) ∙ ap (λ (n : ℕ). reply.Refused w2 n) (decimals_tell x1 x2 (omega (arith, b)) (omega (arith, d)) (cc e))
+reply_told (reply.Fault n1) (reply.Fault n2) h k e = ap (λ (n : ℕ). reply.Fault n) (decimals_tell n1 n2 (omega (arith, h)) (omega (arith, k)) (cc e))
 reply_told reply.Memory reply.Memory h k e = refl
-reply_told reply.Memory (reply.Plane p2 f2) h k e = absurd (omega (arith, ap first_byte e))
-reply_told reply.Memory (reply.Volume n2) h k e = absurd (omega (arith, ap first_byte e))
-reply_told reply.Memory (reply.Count ns2) h k e = absurd (omega (arith, ap first_byte e))
-reply_told (reply.Plane p1 f1) reply.Done h k e = absurd (omega (arith, ap first_byte e))
-reply_told (reply.Plane p1 f1) (reply.Refused w2 x2) h k e = absurd (omega (arith, ap first_byte e))
-reply_told (reply.Plane p1 f1) (reply.Fault n2) h k e = absurd (omega (arith, ap first_byte e))
-reply_told (reply.Plane p1 f1) reply.Memory h k e = absurd (omega (arith, ap first_byte e))
 reply_told (reply.Plane p1 f1) (reply.Plane p2 f2) h k e =
-    let a = signed_tell p1.a p2.a h.0 k.0 (ap (word 1) e) in
-    let b = signed_tell p1.b p2.b h.1 k.1 (ap (word 2) e) in
-    let c = signed_tell p1.c p2.c h.2 k.2 (ap (word 3) e) in
-    let d = signed_tell p1.d p2.d h.3 k.3 (ap (word 4) e) in
-    let f = flat_told f1 f2 (ap (word 5) e) in
+    let a = signed_tell p1.a p2.a h.0 k.0 (cc e) in
+    let b = signed_tell p1.b p2.b h.1 k.1 (cc e) in
+    let c = signed_tell p1.c p2.c h.2 k.2 (cc e) in
+    let d = signed_tell p1.d p2.d h.3 k.3 (cc e) in
+    let f = flat_told f1 f2 (cc e) in
     λ i. reply.Plane (record { a = a i; b = b i; c = c i; d = d i }) (f i)
-reply_told (reply.Plane p1 f1) (reply.Volume n2) h k e = absurd (omega (arith, ap first_byte e))
-reply_told (reply.Plane p1 f1) (reply.Count ns2) h k e = absurd (omega (arith, ap first_byte e))
-reply_told (reply.Volume n1) reply.Done h k e = absurd (omega (arith, ap first_byte e))
-reply_told (reply.Volume n1) (reply.Refused w2 x2) h k e = absurd (omega (arith, ap first_byte e))
-reply_told (reply.Volume n1) (reply.Fault n2) h k e = absurd (omega (arith, ap first_byte e))
-reply_told (reply.Volume n1) reply.Memory h k e = absurd (omega (arith, ap first_byte e))
-reply_told (reply.Volume n1) (reply.Plane p2 f2) h k e = absurd (omega (arith, ap first_byte e))
-reply_told (reply.Volume n1) (reply.Volume n2) h k e = ap (λ (n : ℤ). reply.Volume n) (signed_tell n1 n2 h k (ap (word 1) e))
-reply_told (reply.Volume n1) (reply.Count ns2) h k e = absurd (omega (arith, ap first_byte e))
-reply_told (reply.Count ns1) reply.Done h k e = absurd (omega (arith, ap first_byte e))
-reply_told (reply.Count ns1) (reply.Refused w2 x2) h k e = absurd (omega (arith, ap first_byte e))
-reply_told (reply.Count ns1) (reply.Fault n2) h k e = absurd (omega (arith, ap first_byte e))
-reply_told (reply.Count ns1) reply.Memory h k e = absurd (omega (arith, ap first_byte e))
-reply_told (reply.Count ns1) (reply.Plane p2 f2) h k e = absurd (omega (arith, ap first_byte e))
-reply_told (reply.Count ns1) (reply.Volume n2) h k e = absurd (omega (arith, ap first_byte e))
-reply_told (reply.Count ns1) (reply.Count ns2) h k e = ap (λ (ns : List ℤ). reply.Count ns) (counts_told ns1 ns2 h k (ap later e))
+reply_told (reply.Volume n1) (reply.Volume n2) h k e = ap (λ (n : ℤ). reply.Volume n) (signed_tell n1 n2 h k (cc e))
+reply_told (reply.Count ns1) (reply.Count ns2) h k e = ap (λ (ns : List ℤ). reply.Count ns) (counts_told ns1 ns2 h k (cc e))
+reply_told r q h k e = absurd (omega (arith, ap first_byte e))
 
 -- ---- the front of a text
 

@@ -22,28 +22,8 @@ alone : (w v : Word) (ws : List Word) → w ≡ v → ws ≡ [] → w ∷ ws ≡
 alone w v ws e none = ap (λ (u : Word). u ∷ ws) e ∙ ap (λ (us : List Word). v ∷ us) none
 
 undo_named : (n : Name) (w : Word) (ws : List Word) → w ≡ word_of n → Spells (kinds_of n) (build n) ws undoing → w ∷ ws ≡ codes "undo" ∷ []
-undo_named name.Mvfs w ws e s = absurd (cc s.3.3.3.3.3.1)
-undo_named name.Kvfs w ws e s = absurd (cc s.3.1)
-undo_named name.Mev w ws e s = absurd (cc s.3.3.3.3.3.1)
-undo_named name.Kev w ws e s = absurd (cc s.3.1)
-undo_named name.Mef w ws e s = absurd (cc s.3.3.3.3.3.1)
-undo_named name.Kef w ws e s = absurd (cc s.3.1)
-undo_named name.Kemr w ws e s = absurd (cc s.3.3.1)
-undo_named name.Mekr w ws e s = absurd (cc s.3.3.3.1)
-undo_named name.Kfmrh w ws e s = absurd (cc s.3.3.1)
-undo_named name.Mfkrh w ws e s = absurd (cc s.3.3.1)
-undo_named name.Ringmv w ws e s = absurd (cc s.3.3.3.1)
-undo_named name.Lamina w ws e s = absurd (cc s.3.3.1)
-undo_named name.Block w ws e s = absurd (cc s.3.3.3.3.3.1)
-undo_named name.Sweep w ws e s = absurd (cc s.3.3.1)
-undo_named name.Glue w ws e s = absurd (cc s.3.3.1)
-undo_named name.Split w ws e s = absurd (cc s.3.3.3.3.3.3.1)
-undo_named name.Plane w ws e s = absurd (cc s.3.1)
-undo_named name.Volume w ws e s = absurd (cc s.3.1)
-undo_named name.Count w ws e s = absurd (cc s.3.1)
 undo_named name.Undo w ws e s = alone w (codes "undo") ws e s.0
-undo_named name.Redo w ws e s = absurd (cc s.1)
-undo_named name.List w ws e s = absurd (cc s.1)
+undo_named n w ws e s = cc
 
 undo_words : (ws : List Word) → WordsSpell ws undoing → ws ≡ codes "undo" ∷ []
 undo_words [] e = absurd (cc e)
@@ -55,28 +35,8 @@ pub no_undo : (line : List ℕ) → words line ≢ codes "undo" ∷ [] → reque
 no_undo line other e = other (undo_words (words line) (line_ok line undoing e).2)
 
 redo_named : (n : Name) (w : Word) (ws : List Word) → w ≡ word_of n → Spells (kinds_of n) (build n) ws redoing → w ∷ ws ≡ codes "redo" ∷ []
-redo_named name.Mvfs w ws e s = absurd (cc s.3.3.3.3.3.1)
-redo_named name.Kvfs w ws e s = absurd (cc s.3.1)
-redo_named name.Mev w ws e s = absurd (cc s.3.3.3.3.3.1)
-redo_named name.Kev w ws e s = absurd (cc s.3.1)
-redo_named name.Mef w ws e s = absurd (cc s.3.3.3.3.3.1)
-redo_named name.Kef w ws e s = absurd (cc s.3.1)
-redo_named name.Kemr w ws e s = absurd (cc s.3.3.1)
-redo_named name.Mekr w ws e s = absurd (cc s.3.3.3.1)
-redo_named name.Kfmrh w ws e s = absurd (cc s.3.3.1)
-redo_named name.Mfkrh w ws e s = absurd (cc s.3.3.1)
-redo_named name.Ringmv w ws e s = absurd (cc s.3.3.3.1)
-redo_named name.Lamina w ws e s = absurd (cc s.3.3.1)
-redo_named name.Block w ws e s = absurd (cc s.3.3.3.3.3.1)
-redo_named name.Sweep w ws e s = absurd (cc s.3.3.1)
-redo_named name.Glue w ws e s = absurd (cc s.3.3.1)
-redo_named name.Split w ws e s = absurd (cc s.3.3.3.3.3.3.1)
-redo_named name.Plane w ws e s = absurd (cc s.3.1)
-redo_named name.Volume w ws e s = absurd (cc s.3.1)
-redo_named name.Count w ws e s = absurd (cc s.3.1)
-redo_named name.Undo w ws e s = absurd (cc s.1)
 redo_named name.Redo w ws e s = alone w (codes "redo") ws e s.0
-redo_named name.List w ws e s = absurd (cc s.1)
+redo_named n w ws e s = cc
 
 redo_words : (ws : List Word) → WordsSpell ws redoing → ws ≡ codes "redo" ∷ []
 redo_words [] e = absurd (cc e)

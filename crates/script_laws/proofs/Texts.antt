@@ -1,5 +1,5 @@
 -- The lines of an answer's text, and how many of them are `ok`.
-use Rattle.std.proofs.Common.{◌≡◌, ◌≢◌, inl, inr, ℕ, zero, suc, ◌+◌, ◌/◌, ◌%◌, Bool, true, false, cond, ◌&&◌, nat_eq, nat_lt, List, [], ◌∷◌, ◌++◌, map, codes, flat_map, bytes_eq, ℤ, pos, negsuc, refl, sym, ap, ◌∙◌, arith, append-nil, append_assoc, true≢false, decimal, ◌==◌}
+use Rattle.std.proofs.Common.{◌≡◌, ◌≢◌, inl, inr, ℕ, zero, suc, ◌+◌, ◌/◌, ◌%◌, ◌≤◌, Bool, true, false, cond, ◌&&◌, nat_eq, nat_lt, List, [], ◌∷◌, ◌++◌, map, codes, flat_map, bytes_eq, ℤ, pos, negsuc, refl, sym, ap, ◌∙◌, arith, append-nil, append_assoc, true≢false, decimal, ◌==◌}
 use Rattle.std.proofs.lemmas.Bool.Decides.{nat_tests}
 use Rattle.std.proofs.lemmas.Bool.{cases_Bool}
 use Rattle.std.specs.Fmt.{signed_decimal, digits, digits_onto, digit_glyph}
@@ -33,23 +33,34 @@ lacks_if (x ∷ xs) e = (
   elim (cases_Bool (x == 10)) [ inl is ↦ absurd (true≢false (rw is at e)) | inr isnt ↦ lacks_if xs (rw isnt at e) ],
 )
 
-glyph_other : (t : Bool) (d : ℕ) → cond t (48 + d) (87 + d) ≢ 10
-glyph_other true d e = omega (arith, e)
-glyph_other false d e = omega (arith, e)
+-- digits are no separators
+abbrev pub AreDigits : List ℕ → Type 0
+AreDigits xs = AllByRecursion (λ b. 48 ≤ b) xs
 
-either_lacks : (t : Bool) (xs ys : List ℕ) → Lacks xs → Lacks ys → Lacks (cond t xs ys)
-either_lacks true xs ys h k = h
-either_lacks false xs ys h k = k
+glyph_digit : (t : Bool) (d : ℕ) → 48 ≤ cond {A = ℕ} t (48 + d) (87 + d)
+glyph_digit true d = omega arith
+glyph_digit false d = omega arith
 
-lacks_onto : (k n : ℕ) (acc : List ℕ) → Lacks acc → Lacks (digits_onto k 10 false n acc)
-lacks_onto zero n acc h = h
-lacks_onto (suc k) n acc h =
-    let more : Lacks (digit_glyph false (n % 10) ∷ acc) = (glyph_other (nat_lt (n % 10) 10) (n % 10), h) in
-    either_lacks (n / 10 == 0) _ _ more (lacks_onto k (n / 10) _ more)
+either_digits : (t : Bool) (xs ys : List ℕ) → AreDigits xs → AreDigits ys → AreDigits (cond t xs ys)
+either_digits true xs ys h k = h
+either_digits false xs ys h k = k
+
+digits_from : (k n : ℕ) (acc : List ℕ) → AreDigits acc → AreDigits (digits_onto k 10 false n acc)
+digits_from zero n acc h = h
+digits_from (suc k) n acc h =
+    let more : AreDigits (digit_glyph false (n % 10) ∷ acc) = (glyph_digit (nat_lt (n % 10) 10) (n % 10), h) in
+    either_digits (n / 10 == 0) _ _ more (digits_from k (n / 10) _ more)
+
+pub decimal_digits : (n : ℕ) → AreDigits (decimal n)
+unfolding digits
+decimal_digits n = digits_from 64 n [] tt
+
+lacks_digits : (xs : List ℕ) → AreDigits xs → Lacks xs
+lacks_digits [] h = tt
+lacks_digits (x ∷ xs) h = let low = h.0 in (λ (e : x ≡ 10). omega (arith, low, e), lacks_digits xs h.1)
 
 lacks_decimal : (n : ℕ) → Lacks (decimal n)
-unfolding digits
-lacks_decimal n = lacks_onto 64 n [] tt
+lacks_decimal n = lacks_digits (decimal n) (decimal_digits n)
 
 lacks_signed : (z : ℤ) → Lacks (signed_decimal z)
 lacks_signed (pos n) = lacks_decimal n
@@ -78,9 +89,8 @@ lacks_spaced (w ∷ ws) h = (λ e. omega (arith, e), Lacks-append w (spaced ws) 
 
 -- the line isn't `ok`: its first byte is another one
 abbrev IsOther : List (List ℕ) → Type 0
-IsOther [] = ⊥
-IsOther ([] ∷ ws) = ⊥
 IsOther ((b ∷ w) ∷ ws) = (nat_eq b 111 ≡ false) × Lacks (b ∷ w) × AreWords ws
+IsOther l = ⊥
 
 text_is : (w : List ℕ) (ws : List (List ℕ)) (rest : List ℕ) → line_text (w ∷ ws) ++ rest ≡ (w ++ spaced ws) ++ 10 ∷ rest
 text_is w ws rest = append_assoc w (spaced ws ++ 10 ∷ []) rest ∙ ap (λ (t : List ℕ). w ++ t) (append_assoc (spaced ws) (10 ∷ []) rest) ∙ sym (append_assoc w (spaced ws) (10 ∷ rest))
@@ -93,14 +103,12 @@ not_ok true u n e = absurd (true≢false e)
 not_ok false u n e = omega arith
 
 other_oks : (l : List (List ℕ)) (rest : List ℕ) → IsOther l → oks (line_text l ++ rest) ≡ oks rest
-other_oks [] rest h = absurd h
-other_oks ([] ∷ ws) rest h = absurd h
 other_oks ((b ∷ w) ∷ ws) rest h = ap (count_lines (codes "ok")) (other_lines b w ws rest h) ∙ not_ok (nat_eq b 111) (bytes_eq (w ++ spaced ws) (107 ∷ [])) (oks rest) h.0
+other_oks l rest h = absurd h
 
 line_ends : (l : List (List ℕ)) → IsOther l → EndsLine (line_text l)
-line_ends [] h = absurd h
-line_ends ([] ∷ ws) h = absurd h
 line_ends ((b ∷ w) ∷ ws) h = inr ((b ∷ w) ++ spaced ws, sym (append-nil (line_text ((b ∷ w) ∷ ws))) ∙ text_is (b ∷ w) ws [])
+line_ends l h = absurd h
 
 -- ---- many lines
 
@@ -164,15 +172,8 @@ flat_lacks false = lacks_if (codes "bent") refl
 
 -- whether a command was done
 abbrev pub is_ok : Answer → Bool
-is_ok Silent = false
 is_ok (Told reply.Done) = true
-is_ok (Told (reply.Refused w x)) = false
-is_ok (Told (reply.Fault n)) = false
-is_ok (Told reply.Memory) = false
-is_ok (Told (reply.Plane p flat)) = false
-is_ok (Told (reply.Volume n)) = false
-is_ok (Told (reply.Count ns)) = false
-is_ok Listing = false
+is_ok a = false
 
 reply_other : (r : Reply) → is_ok (Told r) ≡ false → IsOther (reply_words r)
 reply_other reply.Done e = absurd (true≢false e)
@@ -203,15 +204,7 @@ reply_oks : (r : Reply) (b : Bool) → is_ok (Told r) ≡ b → oks (reply_text 
 reply_oks reply.Done true e = done_oks
 reply_oks reply.Done false e = absurd (true≢false e)
 reply_oks r false e = other_reply_oks r e
-reply_oks r true e = only r e where
-  only : (r : Reply) → is_ok (Told r) ≡ true → oks (reply_text r) ≡ 1
-  only reply.Done e = done_oks
-  only (reply.Refused w x) e = absurd (true≢false (sym e))
-  only (reply.Fault n) e = absurd (true≢false (sym e))
-  only reply.Memory e = absurd (true≢false (sym e))
-  only (reply.Plane p flat) e = absurd (true≢false (sym e))
-  only (reply.Volume n) e = absurd (true≢false (sym e))
-  only (reply.Count ns) e = absurd (true≢false (sym e))
+reply_oks r true e = absurd (true≢false (sym e))
 
 pub answer_oks : (s : Machine) (a : Answer) → oks (answer_text s a) ≡ cond (is_ok a) 1 0
 answer_oks s Silent = refl
@@ -220,12 +213,7 @@ answer_oks s Listing = listing_oks (held s)
 
 reply_ends : (r : Reply) (b : Bool) → is_ok (Told r) ≡ b → EndsLine (reply_text r)
 reply_ends reply.Done b e = done_ends
-reply_ends (reply.Refused w x) b e = other_reply_ends (reply.Refused w x) refl
-reply_ends (reply.Fault n) b e = other_reply_ends (reply.Fault n) refl
-reply_ends reply.Memory b e = other_reply_ends reply.Memory refl
-reply_ends (reply.Plane p flat) b e = other_reply_ends (reply.Plane p flat) refl
-reply_ends (reply.Volume n) b e = other_reply_ends (reply.Volume n) refl
-reply_ends (reply.Count ns) b e = other_reply_ends (reply.Count ns) refl
+reply_ends r b e = other_reply_ends r refl
 
 pub answer_ends : (s : Machine) (a : Answer) → EndsLine (answer_text s a)
 answer_ends s Silent = inl refl
@@ -239,18 +227,12 @@ pub record IsLine (text : List ℕ) : Type 0 where
   pub first : (rest : List ℕ) → lines_of (text ++ rest) ≡ line ∷ lines_of rest
 
 is_line : (l : List (List ℕ)) → IsOther l → IsLine (line_text l)
-is_line [] h = absurd h
-is_line ([] ∷ ws) h = absurd h
 is_line ((b ∷ w) ∷ ws) h = record { line = (b ∷ w) ++ spaced ws; whole = sym (append-nil (line_text ((b ∷ w) ∷ ws))) ∙ text_is (b ∷ w) ws []; first = λ rest. other_lines b w ws rest h }
+is_line l h = absurd h
 
 pub reply_line : (r : Reply) → IsLine (line_text (reply_words r))
 reply_line reply.Done = record { line = codes "ok"; whole = refl; first = λ rest. refl }
-reply_line (reply.Refused w x) = is_line (reply_words (reply.Refused w x)) (reply_other (reply.Refused w x) refl)
-reply_line (reply.Fault n) = is_line (reply_words (reply.Fault n)) (reply_other (reply.Fault n) refl)
-reply_line reply.Memory = is_line (reply_words reply.Memory) (reply_other reply.Memory refl)
-reply_line (reply.Plane p flat) = is_line (reply_words (reply.Plane p flat)) (reply_other (reply.Plane p flat) refl)
-reply_line (reply.Volume n) = is_line (reply_words (reply.Volume n)) (reply_other (reply.Volume n) refl)
-reply_line (reply.Count ns) = is_line (reply_words (reply.Count ns)) (reply_other (reply.Count ns) refl)
+reply_line r = is_line (reply_words r) (reply_other r refl)
 
 -- ---- the lines of two texts
 

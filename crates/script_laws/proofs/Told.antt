@@ -23,7 +23,7 @@ use Rattle.script_running.specs.script_judging.Judging.{answer_when, Gives, Obey
 use Rattle.script_running.specs.Outs.{Outs}
 use Rattle.script_running.specs.Output.{answer_of, machine_after}
 use Rattle.script_running.specs.declared.script_judging.judging.Answer.{Answer}
-use Rattle.script_running.specs.declared.script_judging.judging.Answer.TheVariants.{Silent, Reply as Says, Listing}
+use Rattle.script_running.specs.declared.script_judging.judging.Answer.TheVariants.{Reply as Says}
 use Rattle.script_running.specs.declared.script_judging.judging.Summary.{Summary}
 use Rattle.script_running.proofs.Outputs.{judges_so}
 use Rattle.script_laws.specs.Scripts.{EndsLine, ended, Tells}
@@ -38,10 +38,9 @@ gives_stay : (s t : Journal) (c : Command) (a : Answer) → Gives s c a t → a 
 gives_stay s t c a (b, is, h) e = session_kept s t c b (λ done. absurd (cc (sym (is ∙ ap answer_when done) ∙ e))) h
 
 obeys_stay : (s t : Journal) (r : Request) (a : Answer) → Obeys s r a t → a ≡ Says reply.Memory → t ≡ s
-obeys_stay s t request.Nothing a p e = p.1
-obeys_stay s t request.List a p e = p.1
 obeys_stay s t (request.Over o ps) a p e = gives_stay s t (command.Change (over o ps)) a p e
 obeys_stay s t (request.Give c) a p e = gives_stay s t c a p e
+obeys_stay s t r a p e = p.1
 
 answers_stay : (s t : Journal) (r : Result Request Fault) (a : Answer) → Answers s r a t → a ≡ Says reply.Memory → t ≡ s
 answers_stay s t (Ok r) a p e = obeys_stay s t r a p e
@@ -51,15 +50,8 @@ judges_stay : (s t : Journal) (line : List ℕ) (a : Answer) → Judges s line a
 judges_stay s t line a p e = answers_stay s t (request_of line) a p e
 
 memory_or : (a : Answer) → (a ≡ Says reply.Memory) ⊎ ((one_line a).memory ≡ 0)
-memory_or Silent = inr refl
-memory_or (Says reply.Done) = inr refl
-memory_or (Says (reply.Refused w x)) = inr refl
-memory_or (Says (reply.Fault n)) = inr refl
 memory_or (Says reply.Memory) = inl refl
-memory_or (Says (reply.Plane p flat)) = inr refl
-memory_or (Says (reply.Volume n)) = inr refl
-memory_or (Says (reply.Count ns)) = inr refl
-memory_or Listing = inr refl
+memory_or a = inr refl
 
 memory_text : reply_text reply.Memory ≡ codes "memory\n"
 unfolding reply_text

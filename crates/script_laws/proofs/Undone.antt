@@ -119,13 +119,11 @@ moved_first None s next e = record { same = e }
 moved_first (Some r) s next e = record { same = refl }
 
 obeyed_first : (s : Machine) (r : Request) → KeepsFirst s (obeyed s r)
-obeyed_first s request.Nothing = record { same = refl }
-obeyed_first s request.List = record { same = refl }
 obeyed_first s (request.Over o ps) = moved_first _ s _ refl
 obeyed_first s (request.Give (command.Change c)) = moved_first _ s _ refl
-obeyed_first s (request.Give (command.Ask q)) = record { same = refl }
 obeyed_first s (request.Give command.Undo) = moved_first _ s _ (undo_first s.past s.present s.future)
 obeyed_first s (request.Give command.Redo) = moved_first _ s _ (redo_first s.past s.present s.future)
+obeyed_first s r = record { same = refl }
 
 answered_first : (s : Machine) (r : Result Request Fault) → KeepsFirst s (answered s r)
 answered_first s (Ok c) = obeyed_first s c
@@ -163,13 +161,12 @@ asked_other M (question.Volume n) = value_other (solid_refusal M n) (told.Volume
 asked_other M (question.Count n) = value_other (solid_refusal M n) (told.Counts (counts M n)) refl
 
 obeyed_grows : (s : Machine) (r : Request) → r ≢ undoing → r ≢ redoing → Grows s (obeyed s r)
-obeyed_grows s request.Nothing h k = omega arith
-obeyed_grows s request.List h k = omega arith
 obeyed_grows s (request.Over o ps) h k = moved_grows _ s _ (omega arith)
 obeyed_grows s (request.Give (command.Change c)) h k = moved_grows _ s _ (omega arith)
 obeyed_grows s (request.Give (command.Ask q)) h k = stays_so (length s.past) _ _ refl (asked_other (held s) q)
 obeyed_grows s (request.Give command.Undo) h k = absurd (h refl)
 obeyed_grows s (request.Give command.Redo) h k = absurd (k refl)
+obeyed_grows s r h k = omega arith
 
 answered_grows : (s : Machine) (r : Result Request Fault) → r ≢ Ok undoing → r ≢ Ok redoing → Grows s (answered s r)
 answered_grows s (Ok r) h k = obeyed_grows s r (λ e. h (ap (λ (d : Request). Ok d) e)) (λ e. k (ap (λ (d : Request). Ok d) e))
@@ -206,13 +203,12 @@ one_undone N p M f more =
 all_undone : (k : ℕ) (p : List Model) (M : Model) (f : List Model) → k ≡ length p
     → output_from false (machine p M f) (lines_of (times k (codes "undo\n") ++ codes "list\n")) ≡ times k (codes "ok\n") ++ listing (first_of p M)
 all_undone zero [] M f e = list_text (machine [] M f)
-all_undone zero (N ∷ p) M f e = absurd (omega (arith, e))
-all_undone (suc k) [] M f e = absurd (omega (arith, e))
 all_undone (suc k) (N ∷ p) M f e =
     ap (λ (t : List ℕ). output_from false (machine (N ∷ p) M f) (lines_of t)) (append_assoc (codes "undo\n") (times k (codes "undo\n")) (codes "list\n"))
     ∙ one_undone N p M f (times k (codes "undo\n") ++ codes "list\n")
     ∙ ap (λ (t : List ℕ). codes "ok\n" ++ t) (all_undone k p N (M ∷ f) (omega (arith, e)))
     ∙ sym (append_assoc (codes "ok\n") (times k (codes "ok\n")) (listing (first_of p N)))
+all_undone k p M f e = absurd (omega (arith, e))
 
 pub nothing_left : (script : List ℕ) (k : ℕ) → EndsLine script → k ≡ length (reached script).past
     → Adds script (times k (codes "undo\n") ++ codes "list\n") (times k (codes "ok\n") ++ codes "empty\n")
@@ -235,10 +231,9 @@ turned (N ∷ p) M f = turned p N (M ∷ f)
 pub undone_to : (k : ℕ) (p : List Model) (M : Model) (f : List Model) → k ≡ length p
     → (output_from false (machine p M f) (lines_of (times k (codes "undo\n"))) ≡ times k (codes "ok\n")) × (after (machine p M f) (lines_of (times k (codes "undo\n"))) ≡ machine [] (first_of p M) (turned p M f))
 undone_to zero [] M f e = (refl, refl)
-undone_to zero (N ∷ p) M f e = absurd (omega (arith, e))
-undone_to (suc k) [] M f e = absurd (omega (arith, e))
 undone_to (suc k) (N ∷ p) M f e =
     let next = undone_to k p N (M ∷ f) (omega (arith, e)) in (
       one_undone N p M f (times k (codes "undo\n")) ∙ ap (λ (t : List ℕ). codes "ok\n" ++ t) next.0,
       ap (λ (t : Machine). after t (lines_of (times k (codes "undo\n")))) (undo_done N p M f).1 ∙ next.1,
     )
+undone_to k p M f e = absurd (omega (arith, e))

@@ -1,5 +1,5 @@
 -- A script and its answers, computed.
-use Rattle.std.proofs.Common.{ℕ, refl}
+use Rattle.std.proofs.Common.{refl}
 use Rattle.std.specs.Fmt.{digits}
 use Rattle.euler_operators.specs.Common.{mate, code, half, edge_of, is_first, empty_model, point_of, content, tail, loop_of, face_of, solid_of, outer, arc, holds, after, rotate_to, canonical, rest, conditions, first_false, has_rings, effect, mvfs, mev_lone, mev_at}
 use Rattle.euler_operators.specs.Table as table
