@@ -20,8 +20,7 @@ use Rattle.command_laws.proofs.Outlines.{points_are}
 
 not_lone : (b c : Bool) → (c ≡ true → b ≡ false) → (b && c) ≡ false
 not_lone true true h = h refl
-not_lone true false h = refl
-not_lone false c h = refl
+not_lone b c h = refl
 
 -- where no loop of some faces is lone, the search finds none
 module _ (M : Model) (fs : List ℕ) (closed : (l : ℕ) → Has M.loops l → lists fs (face_of M l) ≡ true → is_lone (content M l) ≡ false) where

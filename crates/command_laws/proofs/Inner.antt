@@ -20,8 +20,8 @@ use Rattle.command_laws.specs.Operators.{is_inner, solid_in}
 use Rattle.command_laws.proofs.Owners.{Agree, half_kept, is_of, solid_of_half, solid_of_loop, turned}
 
 -- two models that agree but for one solid
-abbrev pub Within : ℕ → Model → Model → Type 0
-Within s M N = Agree M N (is_of s) (is_of s)
+abbrev pub AgreeBut : ℕ → Model → Model → Type 0
+AgreeBut s M N = Agree M N (is_of s) (is_of s)
 
 -- a loop with its face and its content has its row
 pub same_row : (M N : Model) (q : ℕ) → Has M.loops q → table.has N.loops q ≡ table.has M.loops q → face_of N q ≡ face_of M q → content N q ≡ content M q → table.get N.loops q ≡ table.get M.loops q
@@ -32,7 +32,7 @@ pub same_ends : (M N : Model) (h : ℕ) → HasHalf M h → HasHalf N h → tail
 same_ends M N h was now one two = edge_there N h now ∙ (λ i. Some (edge_row h (one i) (two i))) ∙ sym (edge_there M h was)
 
 -- what is new is of the solid
-module _ (M N : Model) (s : ℕ) (w : Within s M N) where
+module _ (M N : Model) (s : ℕ) (w : AgreeBut s M N) where
   pub new_half : (h : ℕ) → HasHalf N h → table.get M.edges (edge_of h) ≡ None → solid_of_half N h ≡ s
   new_half h there free = elim (eqb_tells (solid_of_half N h) s) [
     | inl e ↦ e.1
@@ -83,7 +83,7 @@ module _ (M : Model) (sound : Sound M) (g k h v : ℕ) (p : Point) (goes : MevGo
       grown.not_moved M sound g k h v p goes y (λ e. off (one_solid_round M sound g y goes.g_there has (sym e))) in
       edge_unmoved M sound g k h v p goes x there (kept x there ne) (kept (mate x) (mate_there M x there) (λ e. ne (sound.one_solid x there ∙ e)))
 
-  grown_within : Within (solid_of M (face_at M g)) M (mev_at M g k h v p)
+  grown_within : AgreeBut (solid_of M (face_at M g)) M (mev_at M g k h v p)
   grown_within =
       let same = grown.same M sound g k h v p goes in
       let row : (q : ℕ) → table.get G.faces q ≡ table.get M.faces q = λ q. ap (λ t. table.get t q) same.faces in
@@ -120,7 +120,7 @@ module _ (M : Model) (sound : Sound M) (l h v u : ℕ) (p : Point) (goes : LoneG
   unfolding mev_lone
   lone_edge x there = get-put_other M.edges (edge_of h) _ (edge_of x) (row_elsewhere M.edges (edge_of x) (edge_of h) there goes.edge_free)
 
-  lone_within : Within (solid_of_loop M l) M (mev_lone M l h v p)
+  lone_within : AgreeBut (solid_of_loop M l) M (mev_lone M l h v p)
   lone_within = record {
     before = sound;
     after = after;
@@ -155,7 +155,7 @@ module _ (M : Model) (sound : Sound M) (g k h f l : ℕ) (goes : MefGoes M g k h
   unfolding mef
   drawn_edge x there = get-put_other M.edges (edge_of h) _ (edge_of x) (row_elsewhere M.edges (edge_of x) (edge_of h) there goes.edge_free)
 
-  drawn_within : Within (solid_of M (face_at M g)) M (mef M g k h f l)
+  drawn_within : AgreeBut (solid_of M (face_at M g)) M (mef M g k h f l)
   drawn_within =
       let set = drawn.set sound goes in
       let new = drawn.not_l sound goes in
@@ -191,7 +191,7 @@ module _ (M : Model) (sound : Sound M) (h l : ℕ) (goes : KemrGoes M h l) where
     | inr z ↦ ne (ap (solid_of_half M) z ∙ sym (sound.one_solid h goes.h_there))
   ])
 
-  parted_within : Within (solid_of M (face_at M h)) M (kemr M h l)
+  parted_within : AgreeBut (solid_of M (face_at M h)) M (kemr M h l)
   parted_within =
       let set = parted.set M sound h l goes in
       let of : solid_of P (face_at M h) ≡ sp = same_solid M P (face_at M h) (parted_rows (face_at M h)) in
@@ -231,7 +231,7 @@ module _ (M : Model) (sound : Sound M) (l f : ℕ) (goes : MakeGoes M l f) (afte
   ring_loop : (q : ℕ) → Has M.loops q → q ≢ l → table.get R.loops q ≡ table.get M.loops q
   ring_loop q there ne = let same = walks_same moves in same_row M R q there (same.loops q) (face_kept moves q ne) (same.contents q)
 
-  ring_within : Within (solid_of M (face_of M l)) M (mfkrh M l f)
+  ring_within : AgreeBut (solid_of M (face_of M l)) M (mfkrh M l f)
   ring_within = record {
     before = sound;
     after = after;
@@ -249,25 +249,25 @@ module _ (M : Model) (op : Op) (sound : Sound M) (e : first_false M op ≡ None)
   then = effect M op
 
   -- what its inverse works in, it works in
-  taken_within : (u : ℕ) → Within u (effect M op) (effect (effect M op) (inverse M op)) → Within u M (effect M op)
-  taken_within u w = turned then M (is_of u) (is_of u) (subst (Within u then) (inverse_undoes M op sound e) w)
+  taken_within : (u : ℕ) → AgreeBut u (effect M op) (effect (effect M op) (inverse M op)) → AgreeBut u M (effect M op)
+  taken_within u w = turned then M (is_of u) (is_of u) (subst (AgreeBut u then) (inverse_undoes M op sound e) w)
 
-mev_within : (c d : Corner) (h : HalfEdge) (v : ℕ) (p : Point) (M : Model) → Sound M → first_false M (Mev c d h v p) ≡ None → Within (solid_in M (Mev c d h v p)) M (effect M (Mev c d h v p)) × (table.get M.edges (edge_of (code h)) ≡ None)
+mev_within : (c d : Corner) (h : HalfEdge) (v : ℕ) (p : Point) (M : Model) → Sound M → first_false M (Mev c d h v p) ≡ None → AgreeBut (solid_in M (Mev c d h v p)) M (effect M (Mev c d h v p)) × (table.get M.edges (edge_of (code h)) ≡ None)
 unfolding effect
 mev_within (At g) (At k) h v p M sound e = let goes = mev_goes M g k h v p e in (grown_within M sound (code g) (code k) (code h) v p goes (effect_keeps_sound M (Mev (At g) (At k) h v p) sound e), goes.edge_free)
 mev_within (At g) (Lone l) h v p M sound e = absurd (mixed_first M g l h v p sound e)
 mev_within (Lone l) (At k) h v p M sound e = absurd (mixed_second M l k h v p sound e)
 mev_within (Lone l) (Lone d) h v p M sound e = let goes = lone_goes M l d h v p e in (lone_within M sound l (code h) v _ p goes (effect_keeps_sound M (Mev (Lone l) (Lone d) h v p) sound e), goes.edge_free)
 
-mef_within : (g k h : HalfEdge) (f l : ℕ) (M : Model) → Sound M → first_false M (Mef g k h f l) ≡ None → Within (solid_in M (Mef g k h f l)) M (effect M (Mef g k h f l))
+mef_within : (g k h : HalfEdge) (f l : ℕ) (M : Model) → Sound M → first_false M (Mef g k h f l) ≡ None → AgreeBut (solid_in M (Mef g k h f l)) M (effect M (Mef g k h f l))
 unfolding effect
 mef_within g k h f l M sound e = drawn_within M sound (code g) (code k) (code h) f l (mef_goes M g k h f l e)
 
-kemr_within : (h : HalfEdge) (l : ℕ) (M : Model) → Sound M → first_false M (Kemr h l) ≡ None → Within (solid_in M (Kemr h l)) M (effect M (Kemr h l))
+kemr_within : (h : HalfEdge) (l : ℕ) (M : Model) → Sound M → first_false M (Kemr h l) ≡ None → AgreeBut (solid_in M (Kemr h l)) M (effect M (Kemr h l))
 unfolding effect
 kemr_within h l M sound e = parted_within M sound (code h) l (kemr_goes M h l e)
 
-mfkrh_within : (l f : ℕ) (M : Model) → Sound M → first_false M (Mfkrh l f) ≡ None → Within (solid_in M (Mfkrh l f)) M (effect M (Mfkrh l f))
+mfkrh_within : (l f : ℕ) (M : Model) → Sound M → first_false M (Mfkrh l f) ≡ None → AgreeBut (solid_in M (Mfkrh l f)) M (effect M (Mfkrh l f))
 unfolding effect
 mfkrh_within l f M sound e = ring_within M sound l f (mfkrh_goes M l f e) (effect_keeps_sound M (Mfkrh l f) sound e)
 
@@ -289,32 +289,32 @@ unfolding effect
 mekr_half M c d h sound e = subst (λ N. solid_of_half N (code h) ≡ solid_of_loop M (corner_loop M c)) (sym (mekr_is M c d (code h))) (joined_half M (code h) _ _ _ _ _ _ sound (join_goes M c d h sound e))
 
 module _ (M : Model) (sound : Sound M) where
-  kev_within : (h : HalfEdge) → first_false M (Kev h) ≡ None → Within (solid_in M (Kev h)) M (effect M (Kev h))
+  kev_within : (h : HalfEdge) → first_false M (Kev h) ≡ None → AgreeBut (solid_in M (Kev h)) M (effect M (Kev h))
   unfolding inverse
   kev_within h e =
       let op = Kev h in
       let N = effect M op in
       let w = mev_within _ _ h _ _ N (effect_keeps_sound M op sound e) (inverse_goes M op sound e) in
       let back = taken_within M op sound e _ w.0 in
-      subst (λ u. Within u M N) (sym (new_half N M _ (turned M N (is_of _) (is_of _) back) (code h) (kev_goes M h sound e).h_there w.1)) back
+      subst (λ u. AgreeBut u M N) (sym (new_half N M _ (turned M N (is_of _) (is_of _) back) (code h) (kev_goes M h sound e).h_there w.1)) back
 
-  kef_within : (h : HalfEdge) → first_false M (Kef h) ≡ None → Within (solid_in M (Kef h)) M (effect M (Kef h))
+  kef_within : (h : HalfEdge) → first_false M (Kef h) ≡ None → AgreeBut (solid_in M (Kef h)) M (effect M (Kef h))
   unfolding inverse
   kef_within h e =
       let op = Kef h in
       let N = effect M op in
       let goes = inverse_goes M op sound e in
       let back = taken_within M op sound e _ (mef_within _ _ h _ _ N (effect_keeps_sound M op sound e) goes) in
-      subst (λ u. Within u M N) (sym (new_half N M _ (turned M N (is_of _) (is_of _) back) (code h) (kef_goes M h e).h_there (mef_goes N _ _ h _ _ goes).edge_free)) back
+      subst (λ u. AgreeBut u M N) (sym (new_half N M _ (turned M N (is_of _) (is_of _) back) (code h) (kef_goes M h e).h_there (mef_goes N _ _ h _ _ goes).edge_free)) back
 
-  mekr_within : (c d : Corner) (h : HalfEdge) → first_false M (Mekr c d h) ≡ None → Within (solid_in M (Mekr c d h)) M (effect M (Mekr c d h))
+  mekr_within : (c d : Corner) (h : HalfEdge) → first_false M (Mekr c d h) ≡ None → AgreeBut (solid_in M (Mekr c d h)) M (effect M (Mekr c d h))
   unfolding inverse
   mekr_within c d h e =
       let op = Mekr c d h in
       let N = effect M op in
-      subst (λ u. Within u M N) (mekr_half M c d h sound e) (taken_within M op sound e _ (kemr_within h _ N (effect_keeps_sound M op sound e) (inverse_goes M op sound e)))
+      subst (λ u. AgreeBut u M N) (mekr_half M c d h sound e) (taken_within M op sound e _ (kemr_within h _ N (effect_keeps_sound M op sound e) (inverse_goes M op sound e)))
 
-  kfmrh_within : (f g : ℕ) → first_false M (Kfmrh f g) ≡ None → Within (solid_in M (Kfmrh f g)) M (effect M (Kfmrh f g))
+  kfmrh_within : (f g : ℕ) → first_false M (Kfmrh f g) ≡ None → AgreeBut (solid_in M (Kfmrh f g)) M (effect M (Kfmrh f g))
   unfolding inverse
   kfmrh_within f g e =
       let op = Kfmrh f g in
@@ -322,9 +322,9 @@ module _ (M : Model) (sound : Sound M) where
       let was = kfmrh_goes M f g e in
       let goes = inverse_goes M op sound e in
       let back = taken_within M op sound e _ (mfkrh_within _ g N (effect_keeps_sound M op sound e) goes) in
-      subst (λ u. Within u M N) (sym (was.one_solid ∙ new_face N M _ (turned M N (is_of _) (is_of _) back) g was.g_there (mfkrh_goes N _ g goes).face_free)) back
+      subst (λ u. AgreeBut u M N) (sym (was.one_solid ∙ new_face N M _ (turned M N (is_of _) (is_of _) back) g was.g_there (mfkrh_goes N _ g goes).face_free)) back
 
-pub inner_within : (op : Op) (M : Model) → Sound M → first_false M op ≡ None → is_inner op ≡ true → Within (solid_in M op) M (effect M op)
+pub inner_within : (op : Op) (M : Model) → Sound M → first_false M op ≡ None → is_inner op ≡ true → AgreeBut (solid_in M op) M (effect M op)
 inner_within (Mev c d h v p) M sound e i = (mev_within c d h v p M sound e).0
 inner_within (Kev h) M sound e i = kev_within M sound h e
 inner_within (Mef g k h f l) M sound e i = mef_within g k h f l M sound e

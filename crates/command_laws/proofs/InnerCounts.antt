@@ -1,18 +1,16 @@
 -- What an operator makes of the counts of the solid in which it works.
 use Rattle.std.proofs.Common.{◌≡◌, ℕ, ◌+◌, ℤ, pos, ◌-ℤ◌, true, length, None, sym, ap, subst, ◌∙◌, arith, true≢false, ne_eqb}
 use Rattle.std.proofs.lemmas.Int.{ints}
-use Rattle.euler_operators.specs.Common.{Corner, At, Lone, HalfEdge, Point, code, edge_of, Model, faces_of, Sound, first_false, effect, inverse, kemr, mef, mev_at, mev_lone, mfkrh}
-use Rattle.euler_operators.specs.Table as table
+use Rattle.euler_operators.specs.Common.{Model, faces_of, Sound, first_false, effect, inverse}
 use Rattle.euler_operators.specs.declared.Op.{Op}
 use Rattle.euler_operators.specs.declared.Op.TheVariants.{Mvfs, Kvfs, Mev, Kev, Mef, Kef, Kemr, Mekr, Kfmrh, Mfkrh, RingIn, RingOut, Outer, Merge, Part}
-use Rattle.euler_operators.proofs.Common.{row_some}
 use Rattle.euler_laws.specs.Laws.{size}
-use Rattle.euler_laws.proofs.Common.{effect_keeps_sound, inverse_goes, inverse_undoes, mapped_none, size-map_rows, size-put_new, size-put_old, size-remove, mfkrh_goes, kemr_goes, mef_goes, lone_goes, mev_goes, mixed_first, mixed_second}
+use Rattle.euler_laws.proofs.Common.{effect_keeps_sound, inverse_goes, inverse_undoes, Grown, Parted, kemr_grows, mef_grows, mev_grows, mfkrh_grows}
 use Rattle.shapes.specs.Common.{edges_of, vertices_of}
 use Rattle.solid_measure.specs.solid_counts.Counts.{counts, rings_in, tally_of}
 use Rattle.command_laws.specs.Operators.{OperatorsCount, OperatorsKeepCounts, counted_on, is_inner, solid_in}
 use Rattle.command_laws.proofs.Owners.{faces_many, is_of, loops_many, more_edges, more_faces, more_loops, more_vertices, others_kept, vertices_many}
-use Rattle.command_laws.proofs.Inner.{Within, inner_within}
+use Rattle.command_laws.proofs.Inner.{AgreeBut, inner_within}
 
 -- ---- as many more as the model has
 
@@ -20,7 +18,7 @@ abbrev Shares : Model → Model → ℕ → Type 0
 Shares M N s = let a = counts M s in let b = counts N s in
     (b.v + size M.vertices ≡ a.v + size N.vertices) × (b.e + size M.edges ≡ a.e + size N.edges) × (b.f + size M.faces ≡ a.f + size N.faces) × (b.r + b.f + size M.loops ≡ a.r + a.f + size N.loops)
 
-shared : (M N : Model) (s : ℕ) → Within s M N → Shares M N s
+shared : (M N : Model) (s : ℕ) → AgreeBut s M N → Shares M N s
 unfolding counts
 shared M N s w = (vertices, edges, faces, loops) where
   vertices : length (vertices_of N s) + size M.vertices ≡ length (vertices_of M s) + size N.vertices
@@ -34,45 +32,6 @@ shared M N s w = (vertices, edges, faces, loops) where
 
   loops : length (rings_in N (faces_of N s)) + length (faces_of N s) + size M.loops ≡ length (rings_in M (faces_of M s)) + length (faces_of M s) + size N.loops
   loops = omega (arith, loops_many M w.before s, loops_many N w.after s, more_loops M N (is_of s) (is_of s) w)
-
--- ---- how many rows the makers make
-
-abbrev Grown : Model → Model → ℕ → ℕ → ℕ → ℕ → Type 0
-Grown M N v e f l = (size N.vertices ≡ size M.vertices + v) × (size N.edges ≡ size M.edges + e) × (size N.faces ≡ size M.faces + f) × (size N.loops ≡ size M.loops + l)
-
-mev_grows : (c d : Corner) (h : HalfEdge) (v : ℕ) (p : Point) (M : Model) → Sound M → first_false M (Mev c d h v p) ≡ None → Grown M (effect M (Mev c d h v p)) 1 1 0 0
-unfolding effect mev_at mev_lone
-mev_grows (At g) (At k) h v p M sound e = grind (arith, mev_goes, size-put_new, mapped_none, size-map_rows)
-mev_grows (At g) (Lone l) h v p M sound e = absurd (mixed_first M g l h v p sound e)
-mev_grows (Lone l) (At k) h v p M sound e = absurd (mixed_second M l k h v p sound e)
-mev_grows (Lone l) (Lone d) h v p M sound e =
-    let goes = lone_goes M l d h v p e in
-    let N : Model = mev_lone M l (code h) v p in
-    let w = row_some (table.get M.loops l) goes.loop_there in
-    let a : size N.vertices ≡ size M.vertices + 1 = size-put_new M.vertices v p goes.vertex_free in
-    let b : size N.edges ≡ size M.edges + 1 = size-put_new M.edges (edge_of (code h)) _ goes.edge_free in
-    let c : size N.loops ≡ size M.loops = size-put_old M.loops l _ w.0 w.1 in
-    (a, b, omega arith, omega (arith, c))
-
-mef_grows : (g k h : HalfEdge) (f l : ℕ) (M : Model) → first_false M (Mef g k h f l) ≡ None → Grown M (effect M (Mef g k h f l)) 0 1 1 1
-unfolding effect mef
-mef_grows g k h f l M e = grind (arith, mef_goes, size-put_new, mapped_none, size-map_rows)
-
--- an edge goes, and a loop comes
-abbrev Parted : Model → Model → Type 0
-Parted M N = (size N.vertices ≡ size M.vertices) × (size N.edges + 1 ≡ size M.edges) × (size N.faces ≡ size M.faces) × (size N.loops ≡ size M.loops + 1)
-
-kemr_grows : (h : HalfEdge) (l : ℕ) (M : Model) → first_false M (Kemr h l) ≡ None → Parted M (effect M (Kemr h l))
-unfolding effect kemr
-kemr_grows h l M e =
-    let goes = kemr_goes M h l e in
-    let w = row_some (table.get M.edges (edge_of (code h))) goes.h_there in
-    let a = size-remove M.edges (edge_of (code h)) w.0 w.1 in
-    grind (arith, a, size-put_new, mapped_none, goes.loop_free, size-map_rows)
-
-mfkrh_grows : (l f : ℕ) (M : Model) → first_false M (Mfkrh l f) ≡ None → Grown M (effect M (Mfkrh l f)) 0 0 1 0
-unfolding effect mfkrh
-mfkrh_grows l f M e = grind (arith, mfkrh_goes, size-put_new, size-map_rows)
 
 -- ---- so the counts of the solid
 

@@ -11,22 +11,22 @@ use Rattle.command_laws.specs.Kept.{LaminaKeepsFaces, BlockKeepsFaces, SweepKeep
 use Rattle.command_laws.proofs.LaminaFaces.{lamina_counted}
 
 -- the solids stay, and the rows of the numbers that are taken
-pub record Keeps (M N : Model) (c : Taken) : Type 0 where
+pub record KeepsTaken (M N : Model) (c : Taken) : Type 0 where
   pub solids : N.solids ≡ M.solids
   pub faces : (q : ℕ) → q ≤ c.face → table.get N.faces q ≡ table.get M.faces q
   pub edges : (q : ℕ) → q ≤ c.edge → table.get N.edges q ≡ table.get M.edges q
   pub vertices : (q : ℕ) → q ≤ c.vertex → table.get N.vertices q ≡ table.get M.vertices q
 
-side_keeps : (c : Taken) (s : ℕ) (d : Point) (hs : List ℕ) (i : ℕ) (M : Model) → i < length hs → Keeps M (with_side c s d hs i M) c
+side_keeps : (c : Taken) (s : ℕ) (d : Point) (hs : List ℕ) (i : ℕ) (M : Model) → i < length hs → KeepsTaken M (with_side c s d hs i M) c
 unfolding with_side
 side_keeps c s d hs i M l = grind (arith, get-put_other, top_above, riser_above)
 
-sides_keep : (c : Taken) (s : ℕ) (d : Point) (hs : List ℕ) (M : Model) (n : ℕ) → n ≤ length hs → Keeps M (with_sides c s d hs n M) c
+sides_keep : (c : Taken) (s : ℕ) (d : Point) (hs : List ℕ) (M : Model) (n : ℕ) → n ≤ length hs → KeepsTaken M (with_sides c s d hs n M) c
 sides_keep c s d hs M zero l = grind arith
 sides_keep c s d hs M (suc n) l = grind (arith, sides_keep c s d hs M n (omega (arith, l)), side_keeps)
 
 module _ (f : ℕ) (d : Point) where
-  loop_keeps : (g : Growing) (l : ℕ) → Keeps g.model (raised f d g l).model g.taken
+  loop_keeps : (g : Growing) (l : ℕ) → KeepsTaken g.model (raised f d g l).model g.taken
   unfolding raised
   loop_keeps g l = grind (arith, sides_keep)
 
@@ -34,11 +34,11 @@ module _ (f : ℕ) (d : Point) where
   unfolding raised
   taken_more g l = (omega arith, omega arith, omega arith)
 
-  loops_keep : (ls : List ℕ) (g : Growing) → Keeps g.model (prism_from f d g ls).model g.taken
+  loops_keep : (ls : List ℕ) (g : Growing) → KeepsTaken g.model (prism_from f d g ls).model g.taken
   loops_keep [] g = grind arith
   loops_keep (l ∷ ls) g = grind (arith, loops_keep ls (raised f d g l), loop_keeps, taken_more)
 
-pub prism_keeps : (M : Model) (f : ℕ) (d : Point) → Keeps M (prism_model M f d) (taken_in M)
+pub prism_keeps : (M : Model) (f : ℕ) (d : Point) → KeepsTaken M (prism_model M f d) (taken_in M)
 unfolding prism_model
 prism_keeps M f d = loops_keep f d (loops_of M f) (growing M)
 

@@ -1,5 +1,5 @@
 -- The two faces of a lamina.
-use Rattle.std.proofs.Common.{◌≡◌, ℕ, zero, suc, ◌+◌, ◌≤◌, ◌<◌, List, [], ◌∷◌, None, is_some, refl, sym, ap, subst, ◌∙◌, arith, inl, inr, length, map, reverse, take}
+use Rattle.std.proofs.Common.{◌≡◌, ℕ, zero, suc, ◌+◌, ◌≤◌, ◌<◌, List, ◌∷◌, None, is_some, refl, sym, ap, subst, ◌∙◌, arith, inl, inr, length, map, reverse, take}
 use Rattle.std.proofs.lemmas.List.{map-append, reverse-append}
 use Rattle.std.proofs.lemmas.Bool.Decides.{nat_tests, eqb_tells}
 use Rattle.euler_operators.specs.Common.{Point, canonical, plus, minus, Model, point_of, Sound}
@@ -102,9 +102,8 @@ many_points M s ps e = grind (arith, nat_tests, all_hold)
 -- of any list of three points or more
 two_faces : (M : Model) (s : ℕ) (ps : List Point) → 3 ≤ length ps → HasFree M (taken_in M) → Sound (lamina_at M (taken_in M) s ps) →
     IsFaceOf (lamina_at M (taken_in M) s ps) ((taken_in M).face + 1) s ps × IsFaceOf (lamina_at M (taken_in M) s ps) ((taken_in M).face + 2) s (turned_back ps)
-two_faces M s [] many b sound = absurd (omega arith)
-two_faces M s (p ∷ []) many b sound = absurd (omega arith)
 two_faces M s (p ∷ q ∷ ps) many b sound = (one M (taken_in M) s p q ps b sound, two M (taken_in M) s p q ps b sound)
+two_faces M s ps many b sound = absurd (omega arith)
 
 pub lamina_faces : (M : Model) (s : ℕ) (ps : List Point) → Sound M → lamina_refusal M s ps ≡ None →
     IsFaceOf (lamina_model M s ps) ((taken_in M).face + 1) s ps × IsFaceOf (lamina_model M s ps) ((taken_in M).face + 2) s (turned_back ps)

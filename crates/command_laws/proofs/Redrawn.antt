@@ -117,28 +117,25 @@ module _ (M N : Model) (p : ℕ → Plane) (q : Point) (met : ℕ → Bool) (dra
   not_met k e = not-true (met k) e
 
   -- the faces that aren't met are the same in both
-  there_then : (k : ℕ) → IsIn k (filter left (faces_of M u)) → IsIn k (filter left (faces_of N u))
-  there_then k i =
-      let e = filter_passes left k (faces_of M u) i in
-      let w = face_facts M k (omega (arith, i, count-filter left k (faces_of M u))) in
-      let s = drawn.stays k w.0 (not_met k e) in
-      IsIn-filter left k (faces_of N u) (in_solid N k s.0 (s.1 ∙ w.1)) e
-
-  there_before : (k : ℕ) → IsIn k (filter left (faces_of N u)) → IsIn k (filter left (faces_of M u))
-  there_before k i =
-      let e = filter_passes left k (faces_of N u) i in
-      let w = face_facts N k (omega (arith, i, count-filter left k (faces_of N u))) in
-      let was = drawn.back k w.0 (not_met k e) in
-      IsIn-filter left k (faces_of M u) (in_solid M k was (sym (drawn.stays k was (not_met k e)).1 ∙ w.1)) e
+  left_in : (X Y : Model) → ((k : ℕ) → Has X.faces k → met k ≡ false → Has Y.faces k × (solid_of Y k ≡ solid_of X k)) → (k : ℕ) → IsIn k (filter left (faces_of X u)) → IsIn k (filter left (faces_of Y u))
+  left_in X Y stays k i =
+      let e = filter_passes left k (faces_of X u) i in
+      let w = face_facts X k (omega (arith, i, count-filter left k (faces_of X u))) in
+      let s = stays k w.0 (not_met k e) in
+      IsIn-filter left k (faces_of Y u) (in_solid Y k s.0 (s.1 ∙ w.1)) e
 
   once : (X : Model) → Sound X → (k : ℕ) → count k (filter left (faces_of X u)) ≤ 1
   once X sound k = omega (arith, count-filter left k (faces_of X u), counted_once k (faces_of X u) (faces_rise X sound u))
 
   same_left : SameItems (filter left (faces_of M u)) (filter left (faces_of N u))
   same_left k = elim (IsIn_or_not k (filter left (faces_of M u))) [
-    | inl i ↦ omega (arith, i, there_then k i, once M drawn.before k, once N drawn.after k)
+    | inl i ↦
+        let then = left_in M N (λ j there e. let s = drawn.stays j there e in (s.0, s.1)) k i in
+        omega (arith, i, then, once M drawn.before k, once N drawn.after k)
     | inr z ↦ elim (IsIn_or_not k (filter left (faces_of N u))) [
-      | inl j ↦ omega (arith, z, there_before k j)
+      | inl i ↦
+          let was = left_in N M (λ j there e. let had = drawn.back j there e in (had, sym (drawn.stays j had e).1)) k i in
+          omega (arith, z, was)
       | inr y ↦ z ∙ sym y
     ]
   ]

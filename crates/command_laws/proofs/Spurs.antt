@@ -42,6 +42,18 @@ pub record HasSpur (M N : Model) (f a b : ℕ) : Type 0 where
   pub lones : (q v : ℕ) → content N q ≡ lone v → content M q ≡ lone v
   pub lones_back : (q v : ℕ) → content M q ≡ lone v → (content N q ≡ lone v) ⊎ ((x : ℕ) × HasHalf N x × (face_at N x ≡ f) × (tail N x ≡ v))
 
+-- where the loops of other faces are left, a half-edge that is at f then was at f
+at_home : (M N : Model) (f : ℕ) → Sound M → Sound N → ((q : ℕ) → Has M.loops q → face_of M q ≢ f → table.get N.loops q ≡ table.get M.loops q) → ((q : ℕ) → face_of N q ≡ face_of M q)
+    → (x : ℕ) → HasHalf M x → face_at N x ≡ f → face_at M x ≡ f
+at_home M N f before after loops homes x has at = elim (eqb_tells (face_at M x) f) [
+  | inl e ↦ e.1
+  | inr e ↦
+      let q = loop_of M x in
+      let row = loops q (loop_there M before x has) e.1 in
+      let here : loop_of N x ≡ q = after.one_loop x q (subst (λ c. holds x c ≡ true) (sym (same_content M N q row)) (before.stands x has)) in
+      absurd (e.1 (sym (homes q) ∙ ap (face_of N) (sym here) ∙ at))
+]
+
 module _ (M N : Model) (f a b : ℕ) (w : HasSpur M N f a b) where
   row_left : (k : ℕ) → table.get N.faces k ≡ table.get M.faces k
   row_left k = ap (λ t. table.get t k) w.faces
@@ -61,24 +73,10 @@ module _ (M N : Model) (f a b : ℕ) (w : HasSpur M N f a b) where
   still_there x has = ap is_some (w.edges x has) ∙ has
 
   home_before : (x : ℕ) → HasHalf M x → face_at N x ≡ f → face_at M x ≡ f
-  home_before x has at = elim (eqb_tells (face_at M x) f) [
-    | inl e ↦ e.1
-    | inr e ↦
-        let q = loop_of M x in
-        let row = w.loops q (loop_there M w.before x has) e.1 in
-        let here : loop_of N x ≡ q = w.after.one_loop x q (subst (λ c. holds x c ≡ true) (sym (same_content M N q row)) (w.before.stands x has)) in
-        absurd (e.1 (sym (w.homes q) ∙ ap (face_of N) (sym here) ∙ at))
-  ]
+  home_before = at_home M N f w.before w.after w.loops w.homes
 
   home_after : (x : ℕ) → HasHalf M x → face_at M x ≡ f → face_at N x ≡ f
-  home_after x has at = elim (eqb_tells (face_at N x) f) [
-    | inl e ↦ e.1
-    | inr e ↦
-        let q = loop_of N x in
-        let row = w.loops_back q (loop_there N w.after x (still_there x has)) e.1 in
-        let here : loop_of M x ≡ q = w.before.one_loop x q (subst (λ c. holds x c ≡ true) (same_content M N q row) (w.after.stands x (still_there x has))) in
-        absurd (e.1 (w.homes q ∙ ap (face_of M) (sym here) ∙ at))
-  ]
+  home_after x has = at_home N M f w.after w.before (λ q there e. sym (w.loops_back q there e)) (λ q. sym (w.homes q)) x (still_there x has)
 
   point_left : (v : ℕ) → Has M.vertices v → point_of N v ≡ point_of M v
   point_left v there = rows.same_point M N v (w.vertices v there)

@@ -57,9 +57,6 @@ module _ {f s : ℕ} (d : Point) {g : Growing} {l : ℕ} {ls : List ℕ} (w : Re
   unfolding raised
   raised_is = refl
 
-  pub not_again : (q : ℕ) → IsIn q ls → q ≢ l
-  not_again q i e = absurd (omega (arith, i, w.going.apart l, tick_same l, ap (λ x. count x ls) e))
-
   pub after_ready : Ready f s d (record { model = swept g.model g.taken (solid_of g.model f) d (items_of (content g.model l)) f l; taken = taken_after g.taken (length (items_of (content g.model l))) }) ls
   after_ready = record {
     going = rebased g.model swept_once (taken_after g.taken (length items)) f d ls (stages.next g.model g.model g.taken f l d ls w.going);

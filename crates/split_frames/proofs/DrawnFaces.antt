@@ -5,20 +5,19 @@ use Rattle.euler_operators.specs.Common.{IsIn, Plane, Model, Sound, Has, HasHalf
 use Rattle.euler_operators.specs.Table as table
 use Rattle.euler_operators.proofs.Common.{no_row, tick_same}
 use Rattle.euler_laws.proofs.Common.{half_face}
-use Rattle.shapes.specs.Common.{Drawing, FacePairs, corners, drawn_between, faces_drawn, is_plane_of, next_drawn, plane_of, straddling_faces, straddling_pairs, undrawn, with_crossings, with_drawings}
+use Rattle.shapes.specs.Common.{Drawing, FacePairs, corners, faces_drawn, is_plane_of, next_drawn, plane_of, straddling_faces, straddling_pairs, undrawn, with_crossings, with_drawings}
 use Rattle.split_drawing_laws.specs.drawings.DrawnIn.{DrawnIn}
 use Rattle.split_drawing_laws.specs.drawings.Pairs.{pairs_in}
-use Rattle.split_drawing_laws.specs.drawings.Passing.{Drawable, Ready}
+use Rattle.split_drawing_laws.specs.drawings.Passing.{Drawable}
 use Rattle.split_drawing_laws.specs.crossings.Laws.{CanBegin}
 use Rattle.split_drawing_laws.proofs.crossings.Premises.{face_facts}
-use Rattle.split_drawing_laws.proofs.crossings.Whole.{crossings_sound}
-use Rattle.split_drawing_laws.proofs.cut_volumes.CutWhole.{all_flat, crossings_measured}
-use Rattle.split_drawing_laws.proofs.cut_volumes.Told.{flat_on}
+use Rattle.split_drawing_laws.proofs.cut_volumes.CutWhole.{crossings_measured}
+use Rattle.split_drawing_laws.proofs.cut_volumes.Told.{solid_stays}
 use Rattle.split_drawing_laws.proofs.drawings.Counted.{faces_are}
-use Rattle.split_drawing_laws.proofs.drawings.Faces.{between_keeps, face_goes}
+use Rattle.split_drawing_laws.proofs.drawings.Faces.{face_goes}
 use Rattle.split_drawing_laws.proofs.drawings.Whole.{drawable, drawable_on, drawing_sound, next_is, ready}
-use Rattle.split_drawing_laws.proofs.drawn_volumes.Bounds.{OnFace, face_on, on_face}
-use Rattle.split_drawing_laws.proofs.drawn_volumes.DrawWhole.{LiesFlat, Within, draw_within, join_within, move_within}
+use Rattle.split_drawing_laws.proofs.drawn_volumes.Bounds.{OnFace, face_on}
+use Rattle.split_drawing_laws.proofs.drawn_volumes.DrawWhole.{LiesFlat, Within, face_within, lies_flat}
 use Rattle.split_drawing_laws.proofs.drawn_volumes.Volumes.{IsPlane}
 use Rattle.split_drawing_laws.proofs.face_sides.Beside.{never_free}
 use Rattle.split_drawing_laws.proofs.pairs.Whole.{can_be_drawn}
@@ -41,12 +40,6 @@ record Spread (B X : Model) (fs : List ℕ) : Type 0 where
   news : (g : ℕ) → Has X.faces g → table.get B.faces g ≡ None → Comes B X fs g
   old_halves : (h : ℕ) → HasHalf B h → HasHalf X h
   halves : (h : ℕ) → HasHalf B h → IsMoved B X h
-
-face_within : (p : Plane) (f : ℕ) (qs : List (ℕ × ℕ)) (d : Drawing) (n : ℕ) → Ready p f qs d n → Has d.model.faces f → (r : Plane) → IsPlane r → OnFace d.model r f → Within d.model (drawn_between p f qs d).model f
-face_within p f qs d n w there r some on = between_keeps p f qs d n w (λ X. Within d.model X f)
-    (join_within d.model f w.sound there r some on)
-    (λ N q e g l can drawn fits. draw_within d.model f w.sound there r some on N q.0 q.1 e g l can (drawn.within q.0 fits.u_there fits.u_face))
-    (move_within d.model f w.sound there r some on) (grind (arith, never_free))
 
 pub drawn_one : (p : Plane) (d : Drawing) (q : FacePairs) (qs : List FacePairs) (n : ℕ) → Drawable d (q ∷ qs) n → DrawnIn d.model (next_drawn p d q).model q.face
 drawn_one p d q qs n w = subst (λ x. DrawnIn d.model x.model q.face) (sym (next_is p d q qs n w)) (face_goes p q.face q.pairs d (pairs_in qs + n) (ready p d q qs n w)).drawn
@@ -118,8 +111,9 @@ module _ (M : Model) (s : ℕ) (p : Plane) (t : ℕ) (sound : Sound M) (begins :
   lies : (f : ℕ) → IsIn f (straddling_faces M p s) → Has C.faces f × IsPlane (plane_of M f) × OnFace C (plane_of M f) f
   lies f i =
       let w = face_facts M s p f i in
-      let flat = flat_on M f (all_flat M s p t sound begins f w.0 w.1) in
-      (subst (λ x. Has x f) (sym same_faces) w.0, flat.0, on_face C (crossings_sound M s p t sound begins) (plane_of M f) f ((crossings_measured M s p t sound begins).planes f (plane_of M f) flat.1))
+      let has = subst (λ x. Has x f) (sym same_faces) w.0 in
+      let flat = lies_flat M s p t sound begins f has (solid_stays M C same_faces f ∙ w.1) in
+      (has, flat.0, flat.1)
 
   spread : Spread C D (straddling_faces M p s)
   spread = all_spread C (straddling_faces M p s) (λ f i. let w = lies f i in (w.0, record { plane = plane_of M f; some = w.1; on = w.2 })) p (undrawn (with_crossings M s p)) (straddling_pairs M s p) 0 (drawable (with_crossings M s p) (straddling_pairs M s p) (can_be_drawn M s p t sound begins))

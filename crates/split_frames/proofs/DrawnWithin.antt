@@ -1,11 +1,11 @@
 -- Edges cut and faces drawn within a solid: other solids stay as they were.
-use Rattle.std.proofs.Common.{◌≡◌, ◌≢◌, ℕ, ◌+◌, nat_eq, false, List, [], ◌∷◌, Some, is_some, refl, sym, ap, subst, ◌∙◌, arith, inl, inr, flat_map, fold, option_map, eqb-true}
+use Rattle.std.proofs.Common.{◌≡◌, ◌≢◌, ℕ, ◌+◌, false, List, [], ◌∷◌, Some, refl, sym, ap, subst, ◌∙◌, arith, inl, inr, flat_map, fold, option_map, eqb-true}
 use Rattle.std.proofs.lemmas.Bool.{eqb-false, false_from_ne_true}
 use Rattle.euler_operators.specs.Common.{Plane, count, IsIn, canonical, edge_of, minus, plus, get-map_rows, Model, LoopContent, LoopRow, content, cycle, face_of, items_of, lone, solid_of, tail, Sound, Has, HasHalf, face_at, lists, edge_row, ring_in}
 use Rattle.euler_operators.specs.Table as table
 use Rattle.euler_operators.proofs.Common.{mate_plus, plus_row, IsIn_or_not, IsIn_rest, count-filter, in-holds, plus_there, same_solid, IsIn_head}
 use Rattle.euler_laws.proofs.Common.{all_where_has, IsIn-from_listed, edge_there, loop_row, half_face}
-use Rattle.shapes.specs.Common.{edges_of, Growing, growing, rewritten, rewritten_row, crosses, crossing_edges, straddling_faces, all_cut, next_cut, with_crossings, Drawing, FacePairs, all_pairs, drawn_between, faces_drawn, next_drawn, straddling_pairs, undrawn, with_drawings}
+use Rattle.shapes.specs.Common.{Growing, growing, rewritten, rewritten_row, crossing_edges, straddling_faces, all_cut, next_cut, with_crossings, Drawing, FacePairs, all_pairs, drawn_between, faces_drawn, next_drawn, straddling_pairs, undrawn, with_drawings}
 use Rattle.split_drawing_laws.specs.crossings.Kept.{Kept}
 use Rattle.split_drawing_laws.specs.crossings.Laws.{CanBegin}
 use Rattle.split_drawing_laws.specs.drawings.DrawnIn.{Stays, DrawnIn}
@@ -22,10 +22,10 @@ use Rattle.split_drawing_laws.proofs.drawings.Whole.{drawable, drawable_on, next
 use Rattle.split_drawing_laws.proofs.drawings.Rings.{RingOf, Newer, moved_drawn}
 use Rattle.split_drawing_laws.proofs.pairs.Whole.{can_be_drawn}
 use Rattle.command_laws.proofs.Owners.{agree_none, agree_on, is_of, solid_of_edge, solid_of_half, solid_of_loop}
-use Rattle.command_laws.proofs.Inner.{Within}
+use Rattle.command_laws.proofs.Inner.{AgreeBut}
 use Rattle.split_frames.proofs.Steps.{draw_within, face_in, half_in, join_within, own_edge, ring_within}
 
-pub within_on : (s : ℕ) (M N P : Model) → Within s M N → Within s N P → Within s M P
+pub within_on : (s : ℕ) (M N P : Model) → AgreeBut s M N → AgreeBut s N P → AgreeBut s M P
 within_on s M N P v w = agree_on M N P (is_of s) (is_of s) (is_of s) v w
 
 -- ---- edges cut
@@ -62,9 +62,7 @@ module _ (M : Model) (s : ℕ) (p : Plane) (t : ℕ) (sound : Sound M) (begins :
   kept = crossings_keep M s p t sound begins
 
   cut_edge : (e : ℕ) → IsIn e (crossing_edges M p s) → Has M.edges e × (solid_of_edge M e ≡ s)
-  cut_edge e i =
-      let w = all_where_has (λ e _. nat_eq (solid_of_edge M e) s) M.edges e (omega (arith, i, count-filter (λ e. crosses M p (plus e)) e (edges_of M s))) in
-      (ap is_some w.1, eqb-true (solid_of_edge M e) s w.2)
+  cut_edge e i = grind (arith, all_where_has, solid_of_edge, count-filter, eqb-true)
 
   uncut : (e : ℕ) → solid_of_edge M e ≢ s → lists (crossing_edges M p s) e ≡ false
   uncut e ne = false_from_ne_true (lists (crossing_edges M p s) e) (λ at. ne (cut_edge e (IsIn-from_listed e (crossing_edges M p s) at)).1)
@@ -106,7 +104,7 @@ module _ (M : Model) (s : ℕ) (p : Plane) (t : ℕ) (sound : Sound M) (begins :
   same_owner : (l : ℕ) → solid_of_loop C l ≡ solid_of_loop M l
   same_owner l = ap (solid_of C) (kept.face l) ∙ same_solid M C (face_of M l) (ap (λ u. table.get u (face_of M l)) kept.faces)
 
-  pub crossings_within : Within s M C
+  pub crossings_within : AgreeBut s M C
   crossings_within = record {
     before = sound;
     after = crossings_sound M s p t sound begins;
@@ -123,45 +121,45 @@ module _ (s : ℕ) (p : Plane) (f : ℕ) (qs : List (ℕ × ℕ)) (d : Drawing) 
   abbrev B : Model
   B = d.model
 
-  join : (N : Model) (c k e : ℕ) → CanJoin N c k e → face_at N c ≡ f → Within s B N → Within s B (loops_joined N c k e)
+  join : (N : Model) (c k e : ℕ) → CanJoin N c k e → face_at N c ≡ f → AgreeBut s B N → AgreeBut s B (loops_joined N c k e)
   join N c k e can at a = within_on s B N (loops_joined N c k e) a
       (join_within N c k e s can (ap (solid_of N) at ∙ face_in s B N a f (subst (Has N.faces) at (half_face N can.sound c can.c_there)) of))
 
-  draw : (N : Model) (q : ℕ × ℕ) (e g l : ℕ) → CanDraw N q.0 q.1 e g l → DrawnIn B N f → Fits B f q → Within s B N → Within s B (face_drawn N q.0 q.1 e g l)
+  draw : (N : Model) (q : ℕ × ℕ) (e g l : ℕ) → CanDraw N q.0 q.1 e g l → DrawnIn B N f → Fits B f q → AgreeBut s B N → AgreeBut s B (face_drawn N q.0 q.1 e g l)
   draw N q e g l can drawn fits a = within_on s B N (face_drawn N q.0 q.1 e g l) a
       (draw_within N q.0 q.1 e g l s can (half_in s B N a q.0 fits.u_there can.u_there (ap (solid_of B) fits.u_face ∙ of)))
 
-  move : (N : Model) (l k : ℕ) → DrawnIn B N f → RingOf N f l → Newer B N f k → Within s B N → Within s B (ring_in N l k)
+  move : (N : Model) (l k : ℕ) → DrawnIn B N f → RingOf N f l → Newer B N f k → AgreeBut s B N → AgreeBut s B (ring_in N l k)
   move N l k drawn ring newer a =
       let now : solid_of N f ≡ s = face_in s B N a f (drawn.stays.faces f newer.old) of in
       within_on s B N (ring_in N l k) a (ring_within N l k s drawn.sound (moved_drawn B N f l k drawn ring newer).sound ring.there (ap (solid_of N) ring.face ∙ now) (sym newer.solid ∙ now))
 
-  pub face_within : Within s d.model (drawn_between p f qs d).model
-  face_within = between_keeps p f qs d n w (Within s d.model) join draw move (agree_none d.model (is_of s) w.sound)
+  pub face_within : AgreeBut s d.model (drawn_between p f qs d).model
+  face_within = between_keeps p f qs d n w (AgreeBut s d.model) join draw move (agree_none d.model (is_of s) w.sound)
 
 -- all these faces are there, and of the solid
 abbrev AreOf : ℕ → Model → List FacePairs → Type 0
 AreOf s M [] = Unit {0}
 AreOf s M (q ∷ qs) = (Has M.faces q.face × (solid_of M q.face ≡ s)) × AreOf s M qs
 
-still_of : (s : ℕ) (M N : Model) (qs : List FacePairs) → Within s M N → Stays M N → AreOf s M qs → AreOf s N qs
+still_of : (s : ℕ) (M N : Model) (qs : List FacePairs) → AgreeBut s M N → Stays M N → AreOf s M qs → AreOf s N qs
 still_of s M N [] w stays a = tt
 still_of s M N (q ∷ qs) w stays a = ((stays.faces q.face a.0.0, face_in s M N w q.face (stays.faces q.face a.0.0) a.0.1), still_of s M N qs w stays a.1)
 
-faces_within : (s : ℕ) (p : Plane) (d : Drawing) (qs : List FacePairs) (n : ℕ) → Drawable d qs n → AreOf s d.model qs → Within s d.model (fold (next_drawn p) d qs).model
+faces_within : (s : ℕ) (p : Plane) (d : Drawing) (qs : List FacePairs) (n : ℕ) → Drawable d qs n → AreOf s d.model qs → AgreeBut s d.model (fold (next_drawn p) d qs).model
 faces_within s p d [] n w a = agree_none d.model (is_of s) w.sound
 faces_within s p d (q ∷ qs) n w a =
     let Y = next_drawn p d q in
     let now = ready p d q qs n w in
     let is = next_is p d q qs n w in
-    let one : Within s d.model Y.model = subst (λ x. Within s d.model x.model) (sym is) (face_within s p q.face q.pairs d (pairs_in qs + n) now a.0.1) in
+    let one : AgreeBut s d.model Y.model = subst (λ x. AgreeBut s d.model x.model) (sym is) (face_within s p q.face q.pairs d (pairs_in qs + n) now a.0.1) in
     let stays : Stays d.model Y.model = subst (λ x. Stays d.model x.model) (sym is) (face_goes p q.face q.pairs d (pairs_in qs + n) now).drawn.stays in
     within_on s d.model Y.model (fold (next_drawn p) Y qs).model one (faces_within s p Y qs n (drawable_on p d q qs n w) (still_of s d.model Y.model qs one stays a.1))
 
 -- ---- both rewritings
 
 module _ (M : Model) (s : ℕ) (p : Plane) (t : ℕ) (sound : Sound M) (begins : CanBegin M s p t) where
-  cut : Within s M (with_crossings M s p).model
+  cut : AgreeBut s M (with_crossings M s p).model
   cut = crossings_within M s p t sound begins
 
   straddling : (fs : List ℕ) → ((f : ℕ) → IsIn f fs → IsIn f (straddling_faces M p s)) → AreOf s (with_crossings M s p).model (all_pairs M (with_crossings M s p).model p fs)
@@ -171,7 +169,7 @@ module _ (M : Model) (s : ℕ) (p : Plane) (t : ℕ) (sound : Sound M) (begins :
       let there : Has (with_crossings M s p).model.faces f = ap (λ u. table.has u f) (crossings_keep M s p t sound begins).faces ∙ w.0 in
       ((there, face_in s M (with_crossings M s p).model cut f there w.1), straddling fs (λ g i. within g (IsIn_rest g f fs i)))
 
-  pub drawings_within : Within s M (with_drawings M s p).model
+  pub drawings_within : AgreeBut s M (with_drawings M s p).model
   unfolding with_drawings
   drawings_within = within_on s M (with_crossings M s p).model (faces_drawn p (undrawn (with_crossings M s p)) (straddling_pairs M s p)).model cut
       (faces_within s p (undrawn (with_crossings M s p)) (straddling_pairs M s p) 0 (drawable (with_crossings M s p) (straddling_pairs M s p) (can_be_drawn M s p t sound begins)) (straddling (straddling_faces M p s) (λ f i. i)))

@@ -1,12 +1,12 @@
 -- A face that straddles the plane keeps its number below it: of each pair of places between which it is drawn the second goes down, and the
 -- half-edge that starts there stays in the face.
-use Rattle.std.proofs.Common.{◌≡◌, ◌≢◌, ℕ, ◌+◌, Bool, true, false, cond, ◌&&◌, ◌||◌, nat_eq, nat_lt, None, List, [], ◌∷◌, ◌++◌, length, fold, map, refl, sym, ap, subst, ◌∙◌, true≢false, inl, inr, arith}
+use Rattle.std.proofs.Common.{◌≡◌, ◌≢◌, ℕ, ◌+◌, Bool, true, false, ◌&&◌, ◌||◌, nat_eq, nat_lt, None, List, [], ◌∷◌, ◌++◌, length, fold, map, refl, sym, ap, subst, ◌∙◌, true≢false, inl, inr, arith}
 use Rattle.std.proofs.lemmas.Bool.Decides.{eqb_tells, nat_tests}
 use Rattle.euler_operators.specs.Common.{IsIn, Plane, count, are_opposite, is_above, is_below, is_on, mate, Model, after, content, face_of, has_rings, items_of, loop_of, outer, point_of, tail, Sound, Has, HasHalf, face_at}
 use Rattle.euler_operators.proofs.Common.{cycle_there, loop_there, mate_there, same_outer, tick_other, tick_same}
 use Rattle.euler_laws.proofs.Common.{back_of, half_after, loop_after}
 use Rattle.euler_laws.proofs.faces.RingIn as moving
-use Rattle.shapes.specs.Common.{Drawing, FacePairs, all_drawn, all_joined, all_pairs, corners, drawn_between, drawn_pairs, finish, next_drawn, reaches_above, reaches_below, ring_free, rings_above, some_above, split_refusal, start, straddling_faces, straddling_pairs, stuck_at, undrawn, vertices_on, with_crossings, with_drawings, with_rings}
+use Rattle.shapes.specs.Common.{Drawing, FacePairs, all_drawn, all_joined, all_pairs, corners, drawn_between, drawn_pairs, finish, next_drawn, reaches_above, reaches_below, ring_free, rings_above, some_above, split_refusal, start, straddling_faces, straddling_pairs, undrawn, vertices_on, with_crossings, with_drawings, with_rings}
 use Rattle.split_drawing_laws.specs.crossings.Laws.{CanBegin}
 use Rattle.split_drawing_laws.specs.drawings.Pairs.{AllFit, FacesFit, Fits, pairs_in}
 use Rattle.split_drawing_laws.specs.drawings.Passing.{Drawable, Ready}
@@ -94,10 +94,7 @@ module _ (Low : ℕ → Type 0) (p : Plane) (f : ℕ) (q : ℕ × ℕ) (qs : Lis
   }
 
   free_low : LowIn Low (ring_free f (q ∷ qs) (all_joined (q ∷ qs) d)).model f × AllLow Low (ring_free f (q ∷ qs) (all_joined (q ∷ qs) d)).left
-  free_low = either_way stops where
-    either_way : (b : Bool) → LowIn Low (cond b (stuck_at f J) J).model f × AllLow Low (cond b (stuck_at f J) J).left
-    either_way true = (joined_low, left_low)
-    either_way false = (joined_low, left_low)
+  free_low = grind (arith, joined_low, left_low)
 
   drawn_low : LowIn Low L.model f
   drawn_low = (draws_keep d.model f (λ x rs. LowIn Low x.model f × AllLow Low rs) w.sound (λ x r rs m fits v e a. (a.0, a.1.1))
@@ -105,10 +102,7 @@ module _ (Low : ℕ → Type 0) (p : Plane) (f : ℕ) (q : ℕ × ℕ) (qs : Lis
       R R.left n (fitting_on d.model f f stops J (joins p f (q ∷ qs) d n w).state.pairs) (going_on d.model f n stops J (going p f (q ∷ qs) d n w)) free_low).0
 
   many_low : nat_eq (length (q ∷ qs)) 1 ≡ false → LowIn Low (drawn_between p f (q ∷ qs) d).model f
-  many_low e = not_one (nat_eq (length (q ∷ qs)) 1) e where
-    not_one : (b : Bool) → b ≡ false → LowIn Low (cond b (record L { model = with_rings L.model (rings_above L.model p f) L.taken.face }) L).model f
-    not_one true e = absurd (true≢false e)
-    not_one false e = drawn_low
+  many_low e = grind (arith, drawn_low)
 
 -- ---- a face drawn between one pair, of its outer loop: the rings above go to the new face
 
@@ -147,12 +141,7 @@ module _ (Low : ℕ → Type 0) (p : Plane) (f : ℕ) (q : ℕ × ℕ) (d : Draw
       (rings_apart E.model f (λ l. some_above E.model p (vertices_on E.model (content E.model l)))) (newer_face p f (q ∷ []) d n w refl) stands_drawn
 
   single_low : LowIn Low (drawn_between p f (q ∷ []) d).model f
-  single_low = let s = stands_shared in record {
-    half = q.1;
-    low = low;
-    there = s.half_there;
-    face = ap (face_of (with_rings E.model (rings_above E.model p f) E.taken.face)) s.loop ∙ s.face;
-  }
+  single_low = grind (arith, stands_shared)
 
 face_low : (Low : ℕ → Type 0) (p : Plane) (f : ℕ) (qs : List (ℕ × ℕ)) (d : Drawing) (n : ℕ) → Ready p f qs d n → AllLow Low qs → qs ≢ [] → Has d.model.faces f → ((q : ℕ × ℕ) → qs ≡ q ∷ [] → loop_of d.model q.0 ≡ outer d.model f) →
     LowIn Low (drawn_between p f qs d).model f
@@ -201,11 +190,7 @@ module _ (Low : ℕ → Type 0) (B : Model) (side : ℕ → Bool) (s : ℕ) (all
 -- ---- a split
 
 other_side : (a b c d : Bool) → ((a && b) || (c && d)) ≡ true → d ≡ false → b ≡ true
-other_side true true c d e f = refl
-other_side true false true d e f = absurd (true≢false (sym e ∙ f))
-other_side true false false d e f = absurd (true≢false (sym e))
-other_side false b true d e f = absurd (true≢false (sym e ∙ f))
-other_side false b false d e f = absurd (true≢false (sym e))
+other_side a b c d e f = grind arith
 
 second_false : (a b : Bool) → (a || b) ≡ false → b ≡ false
 second_false true b e = absurd (true≢false e)
@@ -251,9 +236,7 @@ module _ (M : Model) (s : ℕ) (p : Plane) (t : ℕ) (sound : Sound M) (accepted
 
   each_low : (gs : List ℕ) → ((f : ℕ) → IsIn f gs → IsIn f fs) → FacesFit C (all_pairs M C p gs) → EachLow Low (all_pairs M C p gs)
   each_low [] within fit = tt
-  each_low (g ∷ gs) within fit =
-      let i = within g (omega (arith, tick_same g)) in
-      (pairs_low g i (drawn_pairs M C p g) (pairs_up M s p t sound begun g i) fit.0.0 (λ y j. j), each_low gs (λ f j. within f (omega (arith, j))) fit.1)
+  each_low (g ∷ gs) within fit = grind (arith, tick_same, pairs_low, pairs_up, begun, each_low gs (λ f j. within f (omega (arith, j))) fit.1)
 
   pairs_here : (gs : List ℕ) → ((f : ℕ) → IsIn f gs → IsIn f fs) → AllPairsOf C side p (all_pairs M C p gs)
   pairs_here [] within = tt
@@ -266,13 +249,7 @@ module _ (M : Model) (s : ℕ) (p : Plane) (t : ℕ) (sound : Sound M) (accepted
   face_in f i = subst (IsIn f) (faces_are M C p fs) i
 
   first_stage : Stage C C side s fs fs
-  first_stage = record {
-    stays = record { halves = λ h has. has; tails = λ h has. refl; vertices = refl; faces = λ g has. has };
-    kept = λ h has z. refl;
-    rows = λ g has. refl;
-    done = sided_first M s p t sound begun;
-    to_do = λ f i. record { there = there_first f i; row = refl; loops = λ q has at. refl };
-  }
+  first_stage = grind (arith, sided_first, begun, there_first)
 
   low_in : (f : ℕ) → IsIn f fs → LowIn Low (with_drawings M s p).model f
   unfolding with_drawings

@@ -1,10 +1,10 @@
 -- The faces of a solid that was split: those that the plane doesn't straddle are of the part on their side.
 use Rattle.std.specs.List.{list_any}
-use Rattle.std.proofs.Common.{◌≡◌, ◌≢◌, ℕ, ◌+◌, ◌≤◌, Bool, true, false, cond, not, ◌&&◌, ◌||◌, List, [], ◌∷◌, ◌++◌, length, nat_eq, None, Some, is_some, pos, int_lt, refl, sym, ap, subst, ◌∙◌, arith, true≢false, inl, inr, drop, filter, map, option_map}
+use Rattle.std.proofs.Common.{◌≡◌, ◌≢◌, ℕ, ◌+◌, ◌≤◌, Bool, true, false, cond, not, ◌&&◌, ◌||◌, List, [], ◌∷◌, ◌++◌, length, nat_eq, None, Some, is_some, pos, int_lt, refl, sym, ap, subst, ◌∙◌, arith, true≢false, inl, inr, filter, map, option_map}
 use Rattle.std.proofs.lemmas.Bool.{false_from_ne_true}
 use Rattle.std.proofs.lemmas.Grind.{flat_map-append}
 use Rattle.std.proofs.lemmas.List.{map-append}
-use Rattle.euler_operators.specs.Common.{Plane, Point, direction, dot, is_above, is_below, count, head_or, IsIn, edge_of, mate, plus, Model, FaceRow, LoopContent, content, cycle, face_of, faces_of, items_of, lone, outer, point_of, rings_of, solid_of, tail, Sound, Has, face_at, lists, kfmrh, part}
+use Rattle.euler_operators.specs.Common.{Plane, Point, direction, dot, is_above, is_below, count, IsIn, mate, plus, Model, FaceRow, LoopContent, content, cycle, face_of, faces_of, items_of, lone, outer, point_of, rings_of, solid_of, tail, Sound, Has, face_at, lists, kfmrh, part}
 use Rattle.euler_operators.specs.Table as table
 use Rattle.euler_operators.proofs.Common.{IsIn_or_not, count-append, tick_other, tick_same, from_map, IsIn-filter, IsIn_rest, filter_passes, IsIn_head, item_loop, number_real, outer_row, solid_row, in_use_within}
 use Rattle.euler_laws.proofs.Common.{IsIn-from_listed, listed-from_in, face_there, solid_either, same_point, same_tail}
@@ -23,7 +23,6 @@ use Rattle.split_laws.proofs.drawn.Drawn.{begins, drawn_sound}
 use Rattle.split_laws.proofs.measures.Splittable.{can_be_split}
 use Rattle.split_laws.proofs.opened.InTurn.{is_rewritten}
 use Rattle.split_laws.proofs.opened.Kept as kept
-use Rattle.split_laws.proofs.opened.Kept.{Rewritten}
 use Rattle.split_laws.proofs.opened.Starts.{swap}
 use Rattle.split_laws.proofs.volumes.Closed.{closing, closing_leads}
 use Rattle.split_laws.proofs.volumes.Split as split
@@ -51,14 +50,11 @@ points_on M N (lone v) starts points = λ i. points v refl i ∷ []
 points_on M N (cycle hs) starts points = points_along M N hs starts
 
 same_points : (M N : Model) (l : ℕ) → N.vertices ≡ M.vertices → N.edges ≡ M.edges → content N l ≡ content M l → loop_points N l ≡ loop_points M l
-same_points M N l vertices edges same =
-    let point : (v : ℕ) → point_of N v ≡ point_of M v = λ v. same_point M N v (ap (λ t. table.get t v) vertices) in
-    ap (λ c. map (point_of N) (vertices_on N c)) same
-    ∙ points_on M N (content M l) (λ h i. ap (point_of N) (same_tail M N h (ap (λ t. table.get t (edge_of h)) edges)) ∙ point (tail M h)) (λ v is. point v)
+same_points M N l vertices edges same = grind (arith, same_point, points_on, same_tail)
 
 -- ---- the solid opened along its section
 
-module _ (M N : Model) (swap : ℕ → ℕ) (w : Rewritten M N swap) (k : ℕ) (there : Has M.faces k) where
+module _ (M N : Model) (swap : ℕ → ℕ) (w : kept.Renumbered M N swap) (k : ℕ) (there : Has M.faces k) where
   opened_turned : IsTurned M N k
   unfolding loops_of
   opened_turned = record {
@@ -146,10 +142,7 @@ not_in k x xs z e = absurd (omega (arith, z, ap (λ y. count k (y ∷ xs)) (sym 
 
 outer_other : (k : ℕ) (ks : List Caps) → k ≢ 0 → count k (cap_faces ks) ≡ 0 → (k ≢ (outer_caps ks).lower) × (k ≢ (outer_caps ks).upper)
 outer_other k [] ne z = (ne, ne)
-outer_other k (c ∷ cs) ne z = either_cap c.hole (outer_other k cs ne (omega (arith, z))) where
-  either_cap : (b : Bool) → (k ≢ (outer_caps cs).lower) × (k ≢ (outer_caps cs).upper) → (k ≢ (cond b (outer_caps cs) c).lower) × (k ≢ (cond b (outer_caps cs) c).upper)
-  either_cap true r = r
-  either_cap false r = (not_in k c.lower (c.upper ∷ cap_faces cs) z, not_in k c.upper (cap_faces cs) (omega (arith, z)))
+outer_other k (c ∷ cs) ne z = grind (arith, not_in, outer_other k cs ne (omega (arith, z)))
 
 closing_other : (k : ℕ) (o : Caps) (hs : List Caps) → k ≢ o.lower → k ≢ o.upper → count k (cap_faces hs) ≡ 0 → IsOther k (closing o hs)
 closing_other k o [] low up z = tt
@@ -158,8 +151,7 @@ closing_other k o (h ∷ hs) low up z = (low, not_in k h.lower (h.upper ∷ cap_
 -- ---- the upper faces parted
 
 outer_either : (b : Bool) (row : FaceRow) (t : ℕ) → (cond b (record row { solid = t }) row).outer ≡ row.outer
-outer_either true row t = refl
-outer_either false row t = refl
+outer_either b row t = grind arith
 
 module _ (K : Model) (s t : ℕ) (us : List ℕ) (k : ℕ) (there : Has K.faces k) where
   abbrev P : Model
@@ -325,14 +317,7 @@ split_shares_faces before after s p t k sound made there of whole =
 -- where it lies below it stands as it did
 below_stands : (M N : Model) (k s : ℕ) → solid_of M k ≡ s → IsTakenOver M N k s → corner_points N k ≡ corner_points M k → StandsAsBefore M N k
 unfolding loops_of
-below_stands M N k s of w points = record {
-  there = w.there;
-  solid = w.solid ∙ sym of;
-  outer = ap (head_or 0) w.loops;
-  rings = ap (drop 1) w.loops;
-  points = points;
-  plane = w.plane;
-}
+below_stands M N k s of w points = grind arith
 
 pub split_keeps_below : SplitKeepsBelow
 split_keeps_below before after s p t k sound made there of whole low =

@@ -1,5 +1,5 @@
 -- A solid opened along its section, its holes closed and its upper faces parted: other solids stay as they were.
-use Rattle.std.proofs.Common.{◌≡◌, ◌≢◌, ℕ, ◌+◌, Bool, true, false, cond, not, ◌&&◌, List, [], ◌∷◌, length, map, Some, None, is_some, refl, sym, ap, subst, ◌∙◌, ◌⊎◌, inl, inr, filter, fold, option_map}
+use Rattle.std.proofs.Common.{◌≡◌, ◌≢◌, ℕ, ◌+◌, true, false, cond, not, ◌&&◌, List, [], ◌∷◌, length, map, Some, None, is_some, refl, sym, ap, subst, ◌∙◌, ◌⊎◌, inl, inr, filter, fold, option_map, arith}
 use Rattle.std.proofs.lemmas.Bool.{eqb-false, false_from_ne_true}
 use Rattle.std.proofs.lemmas.Bool.Decides.{eqb_tells}
 use Rattle.euler_operators.specs.Common.{Plane, count, IsIn, edge_of, mate, minus, plus, get-map_rows, items_of, Model, content, face_of, solid_of, tail, Sound, Has, HasHalf, face_at, first_false, lists, effect, kfmrh, part}
@@ -21,7 +21,7 @@ use Rattle.split_laws.specs.SplitOps.{closing_ops}
 use Rattle.split_laws.proofs.Flags.{vertex_still}
 use Rattle.split_laws.proofs.opened.Caps.{loop_kinds, lower_row}
 use Rattle.command_laws.proofs.Owners.{agree_none, is_of, solid_of_half, solid_of_loop}
-use Rattle.command_laws.proofs.Inner.{Within}
+use Rattle.command_laws.proofs.Inner.{AgreeBut}
 use Rattle.split_frames.proofs.Steps.{kill_within, own_edge}
 use Rattle.split_frames.proofs.DrawnWithin.{within_on}
 
@@ -102,7 +102,7 @@ module _ (M : Model) (above : List ℕ) (s : ℕ) (c : Taken) (bs : List ℕ) (w
       ∙ get-map_rows (opened_row M above mates copies) M.edges e ∙ ap (option_map (opened_row M above mates copies e)) row.1
       ∙ (λ i. Some (record { plus_tail = tail_left (plus e) row.0.plus_tail first i; minus_tail = tail_left (minus e) row.0.minus_tail second i })) ∙ sym row.1
 
-  pub opened_within : Within s M (opened_along M above s c bs)
+  pub opened_within : AgreeBut s M (opened_along M above s c bs)
   opened_within = record {
     before = w.sound;
     after = after;
@@ -118,8 +118,8 @@ module _ (M : Model) (above : List ℕ) (s : ℕ) (c : Taken) (bs : List ℕ) (w
 
 -- ---- along all cycles
 
-pub openings_within : (above : List ℕ) (s : ℕ) (p : Plane) (o : Opening) (cs : List (List ℕ)) → CanBeOpenedInTurn above s o cs → Within s o.model (all_opened p above s o cs).model
-openings_within above s p o cs w = openings_carry above s p (λ x ds. Within s o.model x.model) (λ x bs ds w a.
+pub openings_within : (above : List ℕ) (s : ℕ) (p : Plane) (o : Opening) (cs : List (List ℕ)) → CanBeOpenedInTurn above s o cs → AgreeBut s o.model (all_opened p above s o cs).model
+openings_within above s p o cs w = openings_carry above s p (λ x ds. AgreeBut s o.model x.model) (λ x bs ds w a.
     let can = can_open above s x bs ds w in
     within_on s o.model x.model (opened_along x.model above s x.taken bs) a
     (opened_within x.model above s x.taken bs can (opened_sound x.model above s x.taken bs can) (λ f l. w.upper_of_solid f (listed_front above (map (λ k. k.upper) x.caps) f l)))) o cs w (agree_none o.model (is_of s) w.sound)
@@ -135,7 +135,7 @@ unfolding effect
 kfmrh_is M f g = refl
 
 -- a cap becomes a ring of a face that was of the solid
-one_closed : (s : ℕ) (M N : Model) (f g : ℕ) → Within s M N → solid_of M f ≡ s → first_false N (Kfmrh f g) ≡ None → Within s M (kfmrh N f g)
+one_closed : (s : ℕ) (M N : Model) (f g : ℕ) → AgreeBut s M N → solid_of M f ≡ s → first_false N (Kfmrh f g) ≡ None → AgreeBut s M (kfmrh N f g)
 one_closed s M N f g w of accepted =
     let goes = kfmrh_goes N f g accepted in
     let now : solid_of N f ≡ s = elim (eqb_tells (solid_of N f) s) [
@@ -144,32 +144,28 @@ one_closed s M N f g w of accepted =
     ] in
     within_on s M N (kfmrh N f g) w (kill_within N w.after f g s accepted now)
 
-closing_within : (s : ℕ) (M N : Model) (o : Caps) (hs : List Caps) → Within s M N → solid_of M o.lower ≡ s → solid_of M o.upper ≡ s → AreAccepted N (closing_ops o hs) → Within s M (fold (hole_closed o) N hs)
+closing_within : (s : ℕ) (M N : Model) (o : Caps) (hs : List Caps) → AgreeBut s M N → solid_of M o.lower ≡ s → solid_of M o.upper ≡ s → AreAccepted N (closing_ops o hs) → AgreeBut s M (fold (hole_closed o) N hs)
 closing_within s M N o [] w low up accepted = w
 closing_within s M N o (k ∷ ks) w low up accepted =
     let A = kfmrh N o.lower k.lower in
-    let first : Within s M A = one_closed s M N o.lower k.lower w low accepted.0 in
+    let first : AgreeBut s M A = one_closed s M N o.lower k.lower w low accepted.0 in
     let then : AreAccepted A (Kfmrh o.upper k.upper ∷ closing_ops o ks) = subst (λ X. AreAccepted X (Kfmrh o.upper k.upper ∷ closing_ops o ks)) (kfmrh_is N o.lower k.lower) accepted.1 in
-    let second : Within s M (kfmrh A o.upper k.upper) = one_closed s M A o.upper k.upper first up then.0 in
+    let second : AgreeBut s M (kfmrh A o.upper k.upper) = one_closed s M A o.upper k.upper first up then.0 in
     closing_within s M (kfmrh A o.upper k.upper) o ks second low up (subst (λ X. AreAccepted X (closing_ops o ks)) (kfmrh_is A o.upper k.upper) then.1)
 
 -- the outer cycle's caps are of the solid, or there are none
 outer_of : (M : Model) (s : ℕ) (ks : List Caps) → ArePlain M s ks → (outer_caps ks ≡ no_caps) ⊎ ((solid_of M (outer_caps ks).lower ≡ s) × (solid_of M (outer_caps ks).upper ≡ s))
 outer_of M s [] w = inl refl
-outer_of M s (k ∷ ks) w = either_cap k.hole (outer_of M s ks w.2) where
-  either_cap : (b : Bool) → (outer_caps ks ≡ no_caps) ⊎ ((solid_of M (outer_caps ks).lower ≡ s) × (solid_of M (outer_caps ks).upper ≡ s)) →
-      (cond b (outer_caps ks) k ≡ no_caps) ⊎ ((solid_of M (cond b (outer_caps ks) k).lower ≡ s) × (solid_of M (cond b (outer_caps ks) k).upper ≡ s))
-  either_cap true r = r
-  either_cap false r = inr (w.0.of_solid, w.1.of_solid)
+outer_of M s (k ∷ ks) w = grind (arith, outer_of M s ks w.2)
 
 -- without an outer cycle nothing is closed
-none_closed : (s : ℕ) (M : Model) (hs : List Caps) → Sound M → AreAccepted M (closing_ops no_caps hs) → Within s M (fold (hole_closed no_caps) M hs)
+none_closed : (s : ℕ) (M : Model) (hs : List Caps) → Sound M → AreAccepted M (closing_ops no_caps hs) → AgreeBut s M (fold (hole_closed no_caps) M hs)
 none_closed s M [] sound accepted = agree_none M (is_of s) sound
 none_closed s M (k ∷ ks) sound accepted = absurd (number_real 0 (sound.faces_fit 0 (kfmrh_goes M 0 k.lower accepted.0).f_there) refl)
 
-pub holes_within : (M : Model) (s : ℕ) (ks : List Caps) → Sound M → ArePlain M s ks → AreAccepted M (closing_ops (outer_caps ks) (filter (λ k. k.hole) ks)) → Within s M (holes_closed M ks)
+pub holes_within : (M : Model) (s : ℕ) (ks : List Caps) → Sound M → ArePlain M s ks → AreAccepted M (closing_ops (outer_caps ks) (filter (λ k. k.hole) ks)) → AgreeBut s M (holes_closed M ks)
 holes_within M s ks sound plain accepted = let hs = filter (λ k. k.hole) ks in elim (outer_of M s ks plain) [
-  | inl e ↦ subst (λ o. Within s M (fold (hole_closed o) M hs)) (sym e) (none_closed s M hs sound (subst (λ o. AreAccepted M (closing_ops o hs)) e accepted))
+  | inl e ↦ subst (λ o. AgreeBut s M (fold (hole_closed o) M hs)) (sym e) (none_closed s M hs sound (subst (λ o. AreAccepted M (closing_ops o hs)) e accepted))
   | inr e ↦ closing_within s M M (outer_caps ks) hs (agree_none M (is_of s) sound) e.0 e.1 accepted
 ]
 

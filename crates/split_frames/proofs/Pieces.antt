@@ -32,7 +32,7 @@ use Rattle.split_frames.proofs.DrawnFaces.{drawn_half, drawn_in}
 use Rattle.split_frames.proofs.DrawnWithin.{drawings_within}
 use Rattle.split_frames.proofs.Lower.{goes_high, stays_low}
 use Rattle.split_frames.proofs.PartFaces.{part_of, part_turned}
-use Rattle.command_laws.proofs.Inner.{Within}
+use Rattle.command_laws.proofs.Inner.{AgreeBut}
 use Rattle.split_frames.proofs.Steps.{face_in}
 use Rattle.split_frames.proofs.Whole.{after_is, drawn_agree}
 
@@ -68,19 +68,14 @@ module _ (D : Model) (above : List ℕ) (s k : ℕ) (p : Plane) (o : Opening) (b
 
 killed_had : (A : Model) (f g k : ℕ) → Has (kfmrh A f g).faces k → Has A.faces k
 unfolding kfmrh
-killed_had A f g k there = elim (eqb_tells k g) [
-  | inl e ↦ absurd (true≢false (sym there ∙ ap (table.has (table.remove A.faces g)) e.1 ∙ ap is_some (get-remove_here A.faces g)))
-  | inr e ↦ ap is_some (sym (get-remove_other A.faces g k e.1)) ∙ there
-]
+killed_had A f g k there = grind (arith, true≢false, get-remove_here, get-remove_other)
 
 parted_had : (K : Model) (s t : ℕ) (us : List ℕ) (k : ℕ) → Has (part K s t us).faces k → Has K.faces k
 parted_had K s t us k there = sym (mapped_some (split.to_new K s t us k) (table.get K.faces k)) ∙ ap is_some (sym (split.row_is K s t us k)) ∙ there
 
 -- what reaches below and doesn't straddle isn't above
 not_above : (a b c : Bool) → b ≡ true → (a && b) ≡ false → (a || (not b && c)) ≡ false
-not_above true true c e f = absurd (true≢false f)
-not_above false true c e f = refl
-not_above a false c e f = absurd (true≢false (sym e))
+not_above a b c e f = grind arith
 
 -- ---- a whole split
 
@@ -106,15 +101,12 @@ module _ (before after : Machine) (s : ℕ) (p : Plane) (t : ℕ) (sound : Sound
   begun : CanBegin M s p t
   begun = begins M s p t sound made.0
 
-  drawn : Within s M d.model
+  drawn : AgreeBut s M d.model
   drawn = drawings_within M s p t sound begun
 
   -- a face of the drawn solid goes to one of the parts, and stays on its planes
   part_either : (k : ℕ) → Has d.model.faces k → solid_of d.model k ≡ s → IsOfEither N s t k
-  part_either k there of = of_either (face_is_above d.model p k) (part_of M s p t sound made.0 k there of) where
-    of_either : (b : Bool) → solid_of N k ≡ cond b t s → IsOfEither N s t k
-    of_either true e = inr e
-    of_either false e = inl e
+  part_either k there of = grind (arith, part_of)
 
   part_lies : (k : ℕ) (r : Plane) → Has d.model.faces k → solid_of d.model k ≡ s → is_plane_of d.model r (corners d.model k) ≡ true → is_plane_of N r (corners N k) ≡ true
   part_lies k r there of on =

@@ -1,25 +1,22 @@
 -- One step of a split within a solid: whatever isn't of the solid stays, and nothing else comes to be of another.
-use Rattle.std.proofs.Common.{◌≡◌, ◌≢◌, ℕ, true, false, cond, List, Option, Some, None, is_some, refl, sym, ap, subst, ◌∙◌, true≢false, ne_eqb, inl, inr, Bool, nat_eq, eq-eqb, option_map}
+use Rattle.std.proofs.Common.{◌≡◌, ◌≢◌, ℕ, true, false, cond, List, Option, Some, None, is_some, refl, sym, ap, subst, ◌∙◌, true≢false, ne_eqb, inl, inr, Bool, nat_eq, eq-eqb, option_map, arith}
 use Rattle.std.proofs.lemmas.Bool.Decides.{eqb_tells}
 use Rattle.std.proofs.lemmas.Bool.{eqb-false, false_from_ne_true}
-use Rattle.euler_operators.specs.Common.{edge_of, plus, Model, FaceRow, LoopRow, face_of, outer, solid_of, content, Sound, Has, HasHalf, lists, effect, faces_to_solid, first_false, kfmrh, loop_to_face, part, ring_in, Table}
+use Rattle.euler_operators.specs.Common.{edge_of, Model, LoopRow, face_of, outer, solid_of, content, Sound, Has, HasHalf, lists, effect, faces_to_solid, first_false, kfmrh, loop_to_face, part, ring_in, Table}
 use Rattle.euler_operators.specs.Table as table
 use Rattle.euler_operators.specs.declared.Op.TheVariants.{Kfmrh}
 use Rattle.euler_operators.proofs.Common.{code-half, plus_row, same_edge, face_row, same_solid, solid_row}
 use Rattle.euler_laws.proofs.Common.{face_there, mapped_some, solid_either, loop_row}
 use Rattle.shapes.specs.Common.{draw_edge, join_edge}
 use Rattle.split_drawing_laws.proofs.drawings.Drawn.{CanDraw, CanJoin, draw_accepted, face_drawn, join_accepted, loops_joined}
-use Rattle.command_laws.proofs.Inner.{Within, inner_within}
+use Rattle.command_laws.proofs.Inner.{AgreeBut, inner_within}
 use Rattle.command_laws.proofs.Owners.{Agree, half_kept, is_either, is_of, neither, not_either, solid_of_edge, solid_of_half, solid_of_loop, turned}
 
 -- an edge is of the solid of each of its halves
 pub own_edge : (M : Model) → Sound M → (h : ℕ) → HasHalf M h → solid_of_edge M (edge_of h) ≡ solid_of_half M h
-own_edge M sound h there = elim (same_edge (plus (edge_of h)) h (plus_row (edge_of h)).0) [
-  | inl e ↦ ap (solid_of_half M) e
-  | inr e ↦ ap (solid_of_half M) e ∙ sym (sound.one_solid h there)
-]
+own_edge M sound h there = grind (arith, same_edge, plus_row, solid_of_half)
 
-module _ (s : ℕ) (M N : Model) (w : Within s M N) where
+module _ (s : ℕ) (M N : Model) (w : AgreeBut s M N) where
   -- what was of the solid is
   pub half_in : (h : ℕ) → HasHalf M h → HasHalf N h → solid_of_half M h ≡ s → solid_of_half N h ≡ s
   half_in h there now of = elim (eqb_tells (solid_of_half N h) s) [
@@ -35,17 +32,17 @@ module _ (s : ℕ) (M N : Model) (w : Within s M N) where
 
 -- ---- operators within the solid: an edge drawn in a face, two loops of a face joined, a face that becomes a ring of another
 
-pub draw_within : (N : Model) (u k e g l s : ℕ) → CanDraw N u k e g l → solid_of_half N u ≡ s → Within s N (face_drawn N u k e g l)
+pub draw_within : (N : Model) (u k e g l s : ℕ) → CanDraw N u k e g l → solid_of_half N u ≡ s → AgreeBut s N (face_drawn N u k e g l)
 draw_within N u k e g l s can of =
-    subst (λ x. Within x N (face_drawn N u k e g l)) (ap (solid_of_half N) (code-half u) ∙ of) (inner_within (draw_edge u k e g l) N can.sound (draw_accepted N u k e g l can) refl)
+    subst (λ x. AgreeBut x N (face_drawn N u k e g l)) (ap (solid_of_half N) (code-half u) ∙ of) (inner_within (draw_edge u k e g l) N can.sound (draw_accepted N u k e g l can) refl)
 
-pub join_within : (N : Model) (c d e s : ℕ) → CanJoin N c d e → solid_of_half N c ≡ s → Within s N (loops_joined N c d e)
+pub join_within : (N : Model) (c d e s : ℕ) → CanJoin N c d e → solid_of_half N c ≡ s → AgreeBut s N (loops_joined N c d e)
 join_within N c d e s can of =
-    subst (λ x. Within x N (loops_joined N c d e)) (ap (solid_of_half N) (code-half c) ∙ of) (inner_within (join_edge c d e) N can.sound (join_accepted N c d e can) refl)
+    subst (λ x. AgreeBut x N (loops_joined N c d e)) (ap (solid_of_half N) (code-half c) ∙ of) (inner_within (join_edge c d e) N can.sound (join_accepted N c d e can) refl)
 
-pub kill_within : (N : Model) → Sound N → (f g s : ℕ) → first_false N (Kfmrh f g) ≡ None → solid_of N f ≡ s → Within s N (kfmrh N f g)
+pub kill_within : (N : Model) → Sound N → (f g s : ℕ) → first_false N (Kfmrh f g) ≡ None → solid_of N f ≡ s → AgreeBut s N (kfmrh N f g)
 unfolding effect
-kill_within N sound f g s accepted of = subst (λ x. Within x N (kfmrh N f g)) of (inner_within (Kfmrh f g) N sound accepted refl)
+kill_within N sound f g s accepted of = subst (λ x. AgreeBut x N (kfmrh N f g)) of (inner_within (Kfmrh f g) N sound accepted refl)
 
 -- ---- a ring given to another face
 
@@ -72,17 +69,9 @@ module _ (N : Model) (l k s : ℕ) (sound : Sound N) (after : Sound (ring_in N l
   unfolding ring_in
   ring_now = ap (solid_of R) (ring_face N l k there) ∙ same_solid N R k refl ∙ to
 
-  pub ring_within : Within s N (ring_in N l k)
+  pub ring_within : AgreeBut s N (ring_in N l k)
   unfolding ring_in
-  ring_within = record {
-    before = sound;
-    after = after;
-    faces = λ q there out. (refl, out);
-    faces_back = λ q there out. (refl, out);
-    loops = λ q there out. loop_else N.loops l k q (λ z. eqb-false (solid_of_loop N q) s out (ap (solid_of_loop N) z ∙ of));
-    loops_back = λ q there out. loop_else N.loops l k q (λ z. eqb-false (solid_of_loop R q) s out (ap (solid_of_loop R) z ∙ ring_now));
-    edges = λ h there out. refl;
-  }
+  ring_within = grind (arith, loop_else, eqb-false, solid_of_loop, ring_now)
 
 -- ---- some faces parted
 
@@ -98,10 +87,7 @@ module _ (N : Model) (s t : ℕ) (fs : List ℕ) (sound : Sound N) (after : Soun
   part_had q there = sym (mapped_some (faces_to_solid (λ f _. lists fs f) t q) (table.get N.faces q)) ∙ ap is_some (sym (part_row q)) ∙ there
 
   part_kept : (q : ℕ) → lists fs q ≡ false → table.get P.faces q ≡ table.get N.faces q
-  part_kept q e = part_row q ∙ row_stays (table.get N.faces q) where
-    row_stays : (o : Option FaceRow) → option_map (faces_to_solid (λ f _. lists fs f) t q) o ≡ o
-    row_stays None = refl
-    row_stays (Some row) = ap (λ b. Some (cond b (record row { solid = t }) row)) e
+  part_kept q e = grind (arith, part_row)
 
   part_solid : (q : ℕ) → Has N.faces q → lists fs q ≡ true → solid_of P q ≡ t
   part_solid q there e = solid_row P q _ (part_row q ∙ ap (option_map (faces_to_solid (λ f _. lists fs f) t q)) (face_there N q there))

@@ -1,11 +1,11 @@
 -- A face that the plane doesn't straddle stands as it did once the edges are cut and the faces drawn that do.
 use Rattle.std.proofs.Common.{◌≡◌, ◌≢◌, ℕ, ◌+◌, Bool, true, false, ◌&&◌, ◌||◌, List, [], ◌∷◌, None, Some, is_some, refl, sym, ap, subst, ◌∙◌, arith, true≢false, inl, inr, ◌⊎◌, fold, map}
 use Rattle.std.proofs.lemmas.Bool.{false_from_ne_true}
-use Rattle.euler_operators.specs.Common.{Plane, is_above, is_below, are_opposite, count, IsIn, edge_of, mate, minus, plus, Model, after, content, face_of, items_of, loop_of, point_of, rings_of, tail, Sound, Has, HasHalf, face_at, lists, edge_row, ring_in}
+use Rattle.euler_operators.specs.Common.{Plane, are_opposite, count, IsIn, edge_of, mate, minus, plus, Model, after, content, face_of, items_of, loop_of, point_of, rings_of, tail, Sound, Has, HasHalf, face_at, lists, edge_row, ring_in}
 use Rattle.euler_operators.specs.Table as table
 use Rattle.euler_operators.proofs.Common.{mate_minus, mate_plus, minus_row, plus_row, IsIn_or_not, tick_same, filter_passes, cycle_there, face_row, in-holds, loop_there, mate_there, same_face}
 use Rattle.euler_laws.proofs.Common.{halves_of_edge, half_after, loop_after, IsIn-from_listed, listed-from_in, edge_there}
-use Rattle.shapes.specs.Common.{corners, vertices_on, crossing_edges, reaches_above, reaches_below, straddles, straddling_faces, with_crossings, Drawing, FacePairs, drawn_between, next_drawn, straddling_pairs, undrawn, with_drawings, split_refusal}
+use Rattle.shapes.specs.Common.{corners, vertices_on, crossing_edges, straddles, with_crossings, Drawing, FacePairs, drawn_between, next_drawn, straddling_pairs, undrawn, with_drawings, split_refusal}
 use Rattle.split_drawing_laws.specs.crossings.Kept.{Kept}
 use Rattle.split_drawing_laws.specs.crossings.Laws.{CanBegin}
 use Rattle.split_drawing_laws.specs.drawings.DrawnIn.{DrawnIn}
@@ -93,23 +93,11 @@ faces_apart p d (q ∷ qs) n k w there z =
 -- ---- a face with corners on both sides straddles
 
 opposite_cases : (a b c d : Bool) → ((a && b) || (c && d)) ≡ true → ((a ≡ true) × (b ≡ true)) ⊎ ((c ≡ true) × (d ≡ true))
-opposite_cases true true c d e = inl (refl, refl)
-opposite_cases true false true true e = inr (refl, refl)
-opposite_cases true false true false e = absurd (true≢false (sym e))
-opposite_cases true false false d e = absurd (true≢false (sym e))
-opposite_cases false b true true e = inr (refl, refl)
-opposite_cases false b true false e = absurd (true≢false (sym e))
-opposite_cases false b false d e = absurd (true≢false (sym e))
+opposite_cases a b c d e = grind arith
 
 both_straddle : (M : Model) (p : Plane) (k a b : ℕ) → IsIn a (corners M k) → IsIn b (corners M k) → are_opposite p (point_of M a) (point_of M b) ≡ true → straddles M p k ≡ true
 unfolding straddles
-both_straddle M p k a b i j e =
-    let up : (v : ℕ) → IsIn v (corners M k) → is_above p (point_of M v) ≡ true → reaches_above M p k ≡ true = λ v l. any_passes (λ v. is_above p (point_of M v)) v (corners M k) l in
-    let low : (v : ℕ) → IsIn v (corners M k) → is_below p (point_of M v) ≡ true → reaches_below M p k ≡ true = λ v l. any_passes (λ v. is_below p (point_of M v)) v (corners M k) l in
-    elim (opposite_cases (is_above p (point_of M a)) (is_below p (point_of M b)) (is_below p (point_of M a)) (is_above p (point_of M b)) e) [
-      | inl c ↦ λ t. up a i c.0 t && low b j c.1 t
-      | inr c ↦ λ t. up b j c.1 t && low a i c.0 t
-    ]
+both_straddle M p k a b i j e = grind (arith, any_passes, opposite_cases)
 
 -- ---- both rewritings
 
@@ -179,10 +167,7 @@ module _ (M : Model) (s : ℕ) (p : Plane) (t : ℕ) (sound : Sound M) (accepted
     ]
 
   undrawn_face : count k (map (λ q. q.face) (straddling_pairs M s p)) ≡ 0
-  undrawn_face = elim (IsIn_or_not k (straddling_faces M p s)) [
-    | inl i ↦ absurd (true≢false (sym (filter_passes (straddles M p) k _ i) ∙ whole))
-    | inr z ↦ ap (count k) (faces_are M C p (straddling_faces M p s)) ∙ z
-  ]
+  undrawn_face = grind (arith, true≢false, filter_passes, faces_are)
 
   drawn : HasRows C D k
   unfolding with_drawings

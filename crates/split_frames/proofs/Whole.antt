@@ -1,9 +1,9 @@
 -- The models before and after a split agree but for the two parts, and each vertex keeps its point.
-use Rattle.std.proofs.Common.{◌≡◌, ◌≢◌, ℕ, false, List, [], is_some, sym, ap, subst, ◌∙◌, filter, ne_eqb}
+use Rattle.std.proofs.Common.{◌≡◌, ◌≢◌, ℕ, false, List, [], is_some, sym, ap, subst, ◌∙◌, filter, ne_eqb, arith}
 use Rattle.euler_operators.specs.Common.{Plane, Model, rings_of, solid_of, Sound, Has, part}
 use Rattle.euler_operators.specs.Table as table
 use Rattle.euler_operators.proofs.Common.{same_solid}
-use Rattle.shapes.specs.Common.{faces_above, Drawing, with_drawings, below_halves, section_cycles, Opening, holes_closed, outer_caps, opened_at, split_model}
+use Rattle.shapes.specs.Common.{faces_above, Drawing, with_drawings, below_halves, section_cycles, Opening, holes_closed, opened_at, split_model}
 use Rattle.split_drawing_laws.proofs.crossings.Whole.{crossings_keep}
 use Rattle.split_opening_laws.specs.sections.InTurn.{upper_faces}
 use Rattle.split_laws.specs.SplitOps.{hole_ops}
@@ -22,7 +22,7 @@ use Rattle.command_laws.proofs.Standing.{rings_same, stands}
 use Rattle.split_frames.specs.Laws.{SplitKeepsRows, SplitKeepsOwners, SplitKeepsLoops, SplitKeepsEdges, SplitKeepsPoints, SplitKeepsShapes}
 use Rattle.split_frames.proofs.DrawnWithin.{drawings_within, within_on}
 use Rattle.split_frames.proofs.PartedWithin.{holes_keep, holes_within, openings_vertices, openings_within, part_keeps}
-use Rattle.command_laws.proofs.Inner.{Within}
+use Rattle.command_laws.proofs.Inner.{AgreeBut}
 use Rattle.split_frames.proofs.Steps.{part_agrees}
 
 module _ (before after : Machine) (s : ℕ) (p : Plane) (t : ℕ) (sound : Sound (held before)) (made : IsSplit before after s p t) where
@@ -69,7 +69,7 @@ module _ (before after : Machine) (s : ℕ) (p : Plane) (t : ℕ) (sound : Sound
   fresh : table.has K.solids t ≡ false
   fresh = ap (λ u. table.has u t) (split.solids_stay d above s p t can) ∙ ap is_some can.fresh
 
-  drawn_closed : Within s d.model K
+  drawn_closed : AgreeBut s d.model K
   drawn_closed = within_on s d.model X.model K (openings_within above s p begun cycles can.opens)
       (holes_within X.model s X.caps (split.ended d above s p t can).sound (split.caps d above s p t can).plain closed.leads.accepted)
 
@@ -89,9 +89,7 @@ module _ (before after : Machine) (s : ℕ) (p : Plane) (t : ℕ) (sound : Sound
   drawn_point v there = ap (λ u. table.get u v) (drawn_stays M s p t sound made.0).vertices ∙ (crossings_keep M s p t sound (begins M s p t sound made.0)).points v there
 
   pub point_kept : (v : ℕ) → Has M.vertices v → table.get (held after).vertices v ≡ table.get M.vertices v
-  point_kept v there =
-      ap (λ P. table.get P.vertices v) after_is ∙ ap (λ u. table.get u v) ((part_keeps K s t us).0 ∙ (holes_keep (outer_caps X.caps) X.model (filter (λ k. k.hole) X.caps)).0)
-      ∙ openings_vertices above s p begun cycles can.opens v (ap is_some (drawn_point v there) ∙ there) ∙ drawn_point v there
+  point_kept v there = grind (arith, after_is, part_keeps, holes_keep, openings_vertices, can, drawn_point)
 
 -- ---- a whole split: other solids stay
 
