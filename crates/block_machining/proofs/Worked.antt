@@ -4,20 +4,20 @@ use Rattle.std.specs.List.{list_all}
 use Rattle.std.specs.Ordering.{eq_by_cmp, nat_cmp}
 use Rattle.std.proofs.lemmas.Bool.{and_parts, not-true}
 use Rattle.std.proofs.lemmas.Bool.Decides.{eqb_tells}
-use Rattle.std.proofs.Common.{sym, Bool, Some, cond, nat_eq, ap, ◌∙◌, true, not, ◌&&◌, ◌⊎◌, inl, inr, List, true≢false, length, unwrap_or, get_or, subst, arith, ◌≡◌, ◌<◌, ℕ, ℤ, pos, neg_ℤ, None, false, refl, [], ◌∷◌}
+use Rattle.std.proofs.Common.{sym, Bool, Some, cond, nat_eq, ap, ◌∙◌, true, not, ◌&&◌, ◌⊎◌, inl, inr, List, true≢false, length, unwrap_or, get_or, subst, arith, ◌≡◌, ◌≢◌, ◌<◌, ℕ, ℤ, pos, neg_ℤ, None, false, refl, [], ◌∷◌}
 use Rattle.sweeps.specs.Measure.{six_volume}
 use Rattle.sweeps.specs.PlainMachine.{Machine, start, held}
 use Rattle.plane_split.specs.Machine.{plane_with, split_refusal}
 use Rattle.command_laws.specs.NewFaces.{all_moved, corner_points, last_face}
 use Rattle.command_laws.specs.Operators.{LieOnPlane, faces_met, is_spur, spur_face}
 use Rattle.euler_operators.specs.declared.Op.TheVariants.{Kfmrh, Merge}
-use Rattle.euler_operators.specs.Common.{Has, Model, Plane, Point, LoopRow, dot, is_in_range, is_lone, lists, no_loop, first_false, rotate_to, canonical, rest, mate, code, half, edge_of, is_first, empty_model, content, tail, loop_of, face_of, solid_of, outer, arc, holds, after, before, point_of, conditions, has_rings, effect, inverse, mvfs, kvfs_at, mev_lone, mev_at, kev, mef, kef, kemr, mekr, kfmrh, mfkrh, ring_in, ring_out, take_outer, merge, part}
+use Rattle.euler_operators.specs.Common.{Has, Model, Plane, Point, LoopRow, dot, is_in_range, is_lone, is_number, lists, no_loop, first_false, rotate_to, canonical, rest, mate, code, half, edge_of, is_first, empty_model, content, tail, loop_of, face_of, solid_of, outer, arc, holds, after, before, point_of, conditions, has_rings, effect, inverse, mvfs, kvfs_at, mev_lone, mev_at, kev, mef, kef, kemr, mekr, kfmrh, mfkrh, ring_in, ring_out, take_outer, merge, part}
 use Rattle.solid_measure.specs.solid_counts.Counts.{counts}
 use Rattle.split_caps.specs.Capped.{caps_of}
 use Rattle.shapes.specs.Common.{AreLeft, no_caps, Needed, Taken, is_plane_of, lamina_face, early_glue_conditions, glue_conditions, glue_model, loops_of, boundary, corners, taken_in, lamina_conditions, lamina_model, prism_conditions, with_side, raised, prism_model, block_conditions, block_model, normal, plane_of, is_flat, straddles, face_is_above, is_place, place_point, places, is_touched, is_cut_often, is_crossed, sorted_pairs, place_pairs, next_cut, with_crossings, drawn_pairs, join_next, draw_next, next_drawn, with_drawings, below_halves, section_cycles, is_hole, opened_along, next_opened, early_split_conditions, first_conditions, section_conditions, split_conditions, split_model}
 use Rattle.euler_operators.specs.Table as table
 use Rattle.block_machining.specs.Cutting.{AreCapped, IsCapAt}
-use Rattle.block_machining.specs.Halving.{HasRoom}
+use Rattle.block_machining.specs.Halving.{HasRoom, needed_for_halves}
 use Rattle.block_machining.specs.Machines.{blank, bossed, lengthened, merged, paired, parted, score, scored, spur, stacked, triangular}
 use Rattle.block_machining.proofs.Acting.{ActsInBlock}
 
@@ -28,6 +28,12 @@ computed = 0
 
 left : (m : Machine) (c : Taken) (n : Needed) → taken_in (held m) ≡ c → AreLeft c n → AreLeft (taken_in (held m)) n
 left m c n taken w = subst (λ t. AreLeft t n) (sym taken) w
+
+-- where two numbers are free, and so many are left, there is room for a block and its upper part
+room : (m : Machine) (c : Taken) (s t : ℕ) → taken_in (held m) ≡ c → AreLeft c needed_for_halves → is_number s ≡ true → is_number t ≡ true
+    → t ≢ s → table.has (held m).solids s ≡ false → table.has (held m).solids t ≡ false → HasRoom (held m) s t
+room m c s t taken w number upper_number apart free upper_free =
+    record { number = number; upper_number = upper_number; apart = apart; free = free; upper_free = upper_free; left = left m c _ taken w }
 
 start_taken : taken_in (held start) ≡ record { face = 0; loop = 0; edge = 0; vertex = 0 }
 unfolding computed
@@ -54,14 +60,8 @@ start_upper_free = refl
 
 -- a new session has room for a block and its upper part
 pub start_room : HasRoom (held start) 1 2
-start_room = record {
-  number = refl;
-  upper_number = refl;
-  apart = λ e. absurd (omega (arith, e));
-  free = start_free;
-  upper_free = start_upper_free;
-  left = left start _ _ start_taken (record { faces = omega arith; loops = omega arith; edges = omega arith; vertices = omega arith });
-}
+start_room = room start _ 1 2 start_taken (record { faces = omega arith; loops = omega arith; edges = omega arith; vertices = omega arith })
+    refl refl (λ e. absurd (omega (arith, e))) start_free start_upper_free
 
 blank_upper_free : table.has (held blank).solids 3 ≡ false
 unfolding computed blank
@@ -69,14 +69,8 @@ blank_upper_free = refl
 
 -- beside the block there is room for another and its upper part
 pub blank_room_for_halves : HasRoom (held blank) 2 3
-blank_room_for_halves = record {
-  number = refl;
-  upper_number = refl;
-  apart = λ e. absurd (omega (arith, e));
-  free = blank_free;
-  upper_free = blank_upper_free;
-  left = left blank _ _ blank_taken (record { faces = omega arith; loops = omega arith; edges = omega arith; vertices = omega arith });
-}
+blank_room_for_halves = room blank _ 2 3 blank_taken (record { faces = omega arith; loops = omega arith; edges = omega arith; vertices = omega arith })
+    refl refl (λ e. absurd (omega (arith, e))) blank_free blank_upper_free
 
 pub blank_face : (taken_in (held blank)).face ≡ 6
 blank_face = ap (λ c. c.face) blank_taken

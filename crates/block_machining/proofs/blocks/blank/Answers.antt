@@ -5,7 +5,7 @@ use Rattle.euler_operators.specs.Common.{origin}
 use Rattle.command_laws.specs.NewFaces.{last_face, IsFaceOf}
 use Rattle.block_machining.specs.Machines.{blank}
 use Rattle.block_machining.specs.Meeting.{top, near_side}
-use Rattle.block_machining.proofs.Accepted.{begins, for_no_reason}
+use Rattle.block_machining.proofs.Accepted.{begins, never_refused}
 use Rattle.block_machining.proofs.Worked.{start_free, start_left}
 use Rattle.block_machining.proofs.blocks.blank.Goals as goal
 
@@ -15,9 +15,7 @@ no_face m new none = ap last_face new ∙ none
 pub but_for_memory-requires : goal.but_for_memory-requires
 but_for_memory-requires c refusal is =
     let fits = c.blocks_fit.ensures start 1 origin (pos 4) (pos 3) (pos 2) refl start_free refl refl refl refl refl start_left in
-    for_no_reason (block_refusal c.in_ok-session.session.machine 1 origin (pos 4) (pos 3) (pos 2)) refusal
-    (ap (λ m. block_refusal m 1 origin (pos 4) (pos 3) (pos 2)) (begins c.in_ok-session.session c.in_ok-session.ensures) ∙ fits)
-    ((c.block-session.ensures.refused refusal).0 is)
+    never_refused (λ m. block_refusal m 1 origin (pos 4) (pos 3) (pos 2)) (begins c.in_ok-session.session c.in_ok-session.ensures) fits refusal ((c.block-session.ensures.refused refusal).0 is)
 
 pub returns-clause-there : goal.returns-clause-there
 returns-clause-there c = c.solids_are_there.ensures.block c.in_ok-session.session.machine c.block-session.result.0.machine 1 _ _ _ _ (rw c.in_ok-but_for_memory.ensures at c.block-session.ensures.ok)

@@ -4,7 +4,7 @@ use Rattle.command_laws.specs.NewFaces.{IsFaceOf}
 use Rattle.sweeps.specs.Machine.{block, block_refusal}
 use Rattle.block_machining.specs.Machines.{blank, paired}
 use Rattle.block_machining.specs.Meeting.{at, near_side, far_side}
-use Rattle.block_machining.proofs.Accepted.{for_no_reason}
+use Rattle.block_machining.proofs.Accepted.{never_refused}
 use Rattle.block_machining.proofs.Worked.{blank_free, blank_left}
 use Rattle.block_machining.proofs.blocks.paired.Goals as goal
 
@@ -39,9 +39,7 @@ returns-clause-depth c =
 pub but_for_memory-requires : goal.but_for_memory-requires
 but_for_memory-requires c refusal is =
     let fits = c.blocks_fit.ensures blank 2 (at (pos 0) (pos 0)) (pos 1) (pos 3) (pos 2) refl blank_free refl refl refl refl refl blank_left in
-    for_no_reason (block_refusal c.in_ok-session.session.machine 2 (at (pos 0) (pos 0)) (pos 1) (pos 3) (pos 2)) refusal
-    (ap (λ m. block_refusal m 2 (at (pos 0) (pos 0)) (pos 1) (pos 3) (pos 2)) c.in_ok-session.ensures.made ∙ fits)
-    ((c.block-session.ensures.refused refusal).0 is)
+    never_refused (λ m. block_refusal m 2 (at (pos 0) (pos 0)) (pos 1) (pos 3) (pos 2)) c.in_ok-session.ensures.made fits refusal ((c.block-session.ensures.refused refusal).0 is)
 
 pub returns-clause-made : goal.returns-clause-made
 unfolding paired

@@ -6,7 +6,7 @@ use Rattle.plane_split.specs.Machine.{plane_with, split, split_refusal}
 use Rattle.sweeps.specs.Measure.{six_volume}
 use Rattle.sweeps.specs.PlainMachine.{held}
 use Rattle.block_machining.specs.Machines.{parted}
-use Rattle.block_machining.proofs.Accepted.{for_no_reason}
+use Rattle.block_machining.proofs.Accepted.{never_refused}
 use Rattle.block_machining.proofs.Worked.{capped, split_accepted, near_is, far_is, near_counts, far_counts, one_cap}
 use Rattle.block_machining.proofs.blocks.parted.Goals as goal
 
@@ -28,8 +28,7 @@ returns-clause-depth c = (rw c.in_ok-but_for_memory.ensures at c.cut-session.ens
 
 pub but_for_memory-requires : goal.but_for_memory-requires
 but_for_memory-requires c refusal is =
-    for_no_reason (split_refusal c.in_ok-session.session.machine 1 across 2) refusal (ap (λ m. split_refusal m 1 across 2) c.in_ok-session.ensures.made ∙ split_accepted)
-    (c.cut-session.ensures.refused refusal is)
+    never_refused (λ m. split_refusal m 1 across 2) c.in_ok-session.ensures.made split_accepted refusal (c.cut-session.ensures.refused refusal is)
 
 pub returns-clause-made : goal.returns-clause-made
 unfolding parted

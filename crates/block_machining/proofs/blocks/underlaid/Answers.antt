@@ -5,15 +5,14 @@ use Rattle.command_laws.specs.Commands.{IsLamina}
 use Rattle.command_laws.specs.NewFaces.{IsFaceOf}
 use Rattle.block_machining.specs.Machines.{blank, triangle, underlaid}
 use Rattle.block_machining.specs.Meeting.{near_side}
-use Rattle.block_machining.proofs.Accepted.{for_no_reason}
+use Rattle.block_machining.proofs.Accepted.{never_refused}
 use Rattle.block_machining.proofs.Worked.{blank_free, blank_room}
 use Rattle.block_machining.proofs.blocks.underlaid.Goals as goal
 
 pub but_for_memory-requires : goal.but_for_memory-requires
 but_for_memory-requires c refusal is =
     let fits = c.laminas_fit.ensures blank 2 triangle refl blank_free (omega arith) refl refl blank_room in
-    for_no_reason (lamina_refusal c.in_ok-session.session.machine 2 triangle) refusal
-    (ap (λ m. lamina_refusal m 2 triangle) c.in_ok-session.ensures.made ∙ fits)
+    never_refused (λ m. lamina_refusal m 2 triangle) c.in_ok-session.ensures.made fits refusal
     (ap (λ ps. lamina_refusal c.in_ok-session.session.machine 2 ps) (sym c.corners.ensures) ∙ (c.lamina-session.ensures.refused refusal).0 is)
 
 pub returns-clause-side : goal.returns-clause-side

@@ -6,17 +6,16 @@ use Rattle.sweeps.specs.PlainMachine.{Machine, held}
 use Rattle.shapes.specs.Common.{AreLeft, taken_in}
 use Rattle.command_laws.specs.Counted.{counts}
 use Rattle.block_machining.specs.Machines.{bossed, pocketed}
-use Rattle.block_machining.proofs.Accepted.{for_no_reason}
+use Rattle.block_machining.proofs.Accepted.{never_refused}
 use Rattle.block_machining.proofs.Worked.{none_lone, pocket_left, top_area, top_corners, top_near, top_solid, top_there, up_two}
 use Rattle.block_machining.proofs.bosses.pocketed.Goals as goal
 
 pub but_for_memory-requires : goal.but_for_memory-requires
 but_for_memory-requires c refusal is =
-    let m = c.in_ok-session.session.machine in
     let made = c.in_ok-session.ensures.made in
     let room = subst (λ k. AreLeft (taken_in (held bossed)) (record { faces = k; loops = k; edges = 2 * k; vertices = k })) (sym top_corners) pocket_left in
     let fits = c.sweeps_fit.ensures.ringed bossed 1 up_two (subst (λ n. Sound (held n)) made c.raised-session.ensures.sound) top_there (λ l has at. none_lone l) refl top_near room in
-    for_no_reason (sweep_refusal m 1 up_two) refusal (ap (λ n. sweep_refusal n 1 up_two) made ∙ fits) (c.raised-session.ensures.refused refusal is)
+    never_refused (λ n. sweep_refusal n 1 up_two) made fits refusal (c.raised-session.ensures.refused refusal is)
 
 solid_is : (m : Machine) → m ≡ bossed → solid_of (held m) 1 ≡ 1
 solid_is m made = ap (λ n. solid_of (held n) 1) made ∙ top_solid

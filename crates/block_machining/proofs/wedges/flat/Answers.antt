@@ -7,15 +7,14 @@ use Rattle.command_laws.specs.Commands.{IsLamina}
 use Rattle.command_laws.specs.Flat.{lie_flat}
 use Rattle.command_laws.specs.NewFaces.{last_face, IsFaceOf}
 use Rattle.block_machining.specs.Machines.{triangle, triangular}
-use Rattle.block_machining.proofs.Accepted.{begins, for_no_reason}
+use Rattle.block_machining.proofs.Accepted.{begins, never_refused}
 use Rattle.block_machining.proofs.Worked.{start_free, lamina_left, first_face}
 use Rattle.block_machining.proofs.wedges.flat.Goals as goal
 
 pub but_for_memory-requires : goal.but_for_memory-requires
 but_for_memory-requires c refusal is =
     let fits = c.laminas_fit.ensures start 1 triangle refl start_free (omega arith) refl refl lamina_left in
-    for_no_reason (lamina_refusal c.in_ok-session.session.machine 1 triangle) refusal
-    (ap (λ m. lamina_refusal m 1 triangle) (begins c.in_ok-session.session c.in_ok-session.ensures) ∙ fits)
+    never_refused (λ m. lamina_refusal m 1 triangle) (begins c.in_ok-session.session c.in_ok-session.ensures) fits refusal
     (ap (λ ps. lamina_refusal c.in_ok-session.session.machine 1 ps) (sym c.corners.ensures) ∙ (c.lamina-session.ensures.refused refusal).0 is)
 
 pub returns-clause-made : goal.returns-clause-made
