@@ -13,7 +13,7 @@ use Rattle.command_laws.specs.Operators.{LieOnPlane, faces_met, is_spur, spur_fa
 use Rattle.euler_operators.specs.declared.Op.TheVariants.{Kfmrh, Merge}
 use Rattle.euler_operators.specs.Common.{Has, Model, Plane, Point, LoopRow, dot, is_in_range, is_lone, is_number, lists, no_loop, first_false, rotate_to, canonical, rest, mate, code, half, edge_of, is_first, empty_model, content, tail, loop_of, face_of, solid_of, outer, arc, holds, after, before, point_of, conditions, has_rings, effect, inverse, mvfs, kvfs_at, mev_lone, mev_at, kev, mef, kef, kemr, mekr, kfmrh, mfkrh, ring_in, ring_out, take_outer, merge, part}
 use Rattle.solid_measure.specs.solid_counts.Counts.{counts}
-use Rattle.split_caps.specs.Capped.{caps_of}
+use Rattle.command_laws.specs.Capped.{caps_of}
 use Rattle.shapes.specs.Common.{AreLeft, no_caps, Needed, Taken, is_plane_of, lamina_face, early_glue_conditions, glue_conditions, glue_model, loops_of, boundary, corners, taken_in, lamina_conditions, lamina_model, prism_conditions, with_side, raised, prism_model, block_conditions, block_model, normal, plane_of, is_flat, straddles, face_is_above, is_place, place_point, places, is_touched, is_cut_often, is_crossed, sorted_pairs, place_pairs, next_cut, with_crossings, drawn_pairs, join_next, draw_next, next_drawn, with_drawings, below_halves, section_cycles, is_hole, opened_along, next_opened, early_split_conditions, first_conditions, section_conditions, split_conditions, split_model}
 use Rattle.euler_operators.specs.Table as table
 use Rattle.block_machining.specs.Cutting.{AreCapped, IsCapAt}

@@ -9,8 +9,8 @@ use Rattle.sweeps.specs.Measure.{is_flat, normal}
 use Rattle.command_laws.specs.Counted.{counts}
 use Rattle.command_laws.specs.LeftAlone.{StandsAsBefore}
 use Rattle.command_laws.specs.TakenOver.{IsTakenOver}
-use Rattle.split_frames.specs.Laws.{HasNewFace, IsCap, IsOfEither, IsPiece, LiesInPlaneOf}
-use Rattle.split_caps.specs.Capped.{IsCapOf, cap, caps_of, cycles_of}
+use Rattle.command_laws.specs.Splits.{HasNewFace, IsCap, IsOfEither, IsPiece, LiesInPlaneOf}
+use Rattle.command_laws.specs.Capped.{IsCapOf, cap, caps_of, cycles_of}
 
 -- no vertex of solid s lies above the plane x + d = 0, and none of solid t below it
 abbrev pub LieOnEitherSide : Model → ℤ → ℕ → ℕ → Type 0

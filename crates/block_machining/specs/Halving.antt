@@ -9,7 +9,7 @@ use Rattle.sweeps.specs.PlainMachine.{Machine}
 use Rattle.plane_split.specs.Machine.{split, plane_with}
 use Rattle.command_laws.specs.Counted.{counts}
 use Rattle.command_laws.specs.LeftAlone.{Each, KeepsEdges, KeepsLoops, KeepsOwners, KeepsPoints, KeepsShapes}
-use Rattle.split_caps.specs.Blocks.{counts_of_block}
+use Rattle.command_laws.specs.SplitBlocks.{counts_of_block}
 use Rattle.block_machining.specs.Cutting.{IsCapAt, LieOnEitherSide}
 
 -- sizes of 1 and more, and both corners in range

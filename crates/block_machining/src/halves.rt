@@ -14,10 +14,11 @@ ghost use Rattle.euler_operators.specs.Table as table;
 
 use crate::blocks::blank;
 use crate::machining::{but_for_memory, cut};
-use command_laws::{blocks_fit, blocks_leave_alone, faces_stand, others_keep_counts};
+use command_laws::{
+    block_parts_are_blocks, block_splits_fit, blocks_fit, blocks_leave_alone, faces_stand,
+    others_keep_counts, splits_leave_alone, splits_share_counts,
+};
 use plane_split::splits_are_held;
-use split_caps::{block_parts_are_blocks, block_splits_fit, splits_share_counts};
-use split_frames::splits_leave_alone;
 use std::alloc::{AllocError, Global};
 use sweeps::{Point, Session, block, block_measures};
 

@@ -11,7 +11,7 @@
 //!
 //! Of functions that call the kernel as a stranger would, from contracts and laws: none of its commands is refused, so that the only
 //! error is that memory is. A block, a lamina, a sweep, with a ring too, and a glue are accepted by the laws of `command_laws`, the
-//! cut of a block of any sizes by that of `split_caps`, the other cut and single operators by the conditions of the plain machine,
+//! cut of a block of any sizes by theirs, the other cut and single operators by the conditions of the plain machine,
 //! computed. The block that it makes has 144 as its six volumes, and eight vertices, twelve edges and six faces, with a spur one
 //! vertex and one edge more, with an edge across its top one edge and one face more and no other volume; a swept face, with rings or
 //! without, adds three times its normal along the vector, and keeps its loops with their corners moved; the solid that comes of two

@@ -16,15 +16,14 @@ ghost use Rattle.euler_operators.specs.Common.{solid_of, Sound, Has, dot};
 
 use call_lists::Refusal;
 use command_laws::{
-    faces_lie_flat, glues_join_counts, glues_keep_and_join, glues_leave_alone,
-    glues_take_faces_over, operators_count, operators_keep_volumes, operators_leave_faces,
-    ringed_sweeps_make_faces, solids_are_there, spurs_leave_faces, sweeps_add_counts,
-    sweeps_leave_alone, vertices_leave_faces,
+    caps_are_numbered, caps_close_the_parts, caps_face_apart, faces_lie_flat, glues_join_counts,
+    glues_keep_and_join, glues_leave_alone, glues_take_faces_over, operators_count,
+    operators_keep_volumes, operators_leave_faces, ringed_sweeps_make_faces, solids_are_there,
+    splits_leave_alone, splits_part_faces, splits_share_counts, splits_share_faces,
+    spurs_leave_faces, sweeps_add_counts, sweeps_leave_alone, vertices_leave_faces,
 };
 use gluing::{glue, glue_measures, six_volume};
 use plane_split::{split, splits_are_held};
-use split_caps::{caps_are_numbered, caps_close_the_parts, caps_face_apart, splits_share_counts};
-use split_frames::{splits_leave_alone, splits_part_faces, splits_share_faces};
 use std::alloc::{AllocError, Global};
 use sweeps::{Draft, Failure, Op, Point, Session, sweep, sweep_measures};
 

@@ -39,3 +39,5 @@ mod AtVertex
 mod FanVolumes
 mod AlongLines
 mod FanNormals
+mod splits_laws
+mod caps_laws

@@ -11,3 +11,8 @@ pub mod Counted
 pub mod TakenOver
 pub mod Operators
 pub mod Flat
+pub mod Splits
+pub mod Capped
+pub mod Caps
+pub mod SplitCounted
+pub mod SplitBlocks

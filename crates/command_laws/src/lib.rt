@@ -19,13 +19,15 @@
 //! answers of every other solid what it did; which faces stand after an operator of one solid, and that no six volumes change after
 //! one that leaves all vertices, or makes or kills a spur, where the faces that it meets lie on one plane, and after one that moves a
 //! fan where they lie on planes with the point to which it moves; and that no normal changes where the fan moves along its own line.
-//! What a split leaves as it was is proved in `split_frames`; what its caps are, and what `counts` answers after it, in `split_caps`.
+//! What a split leaves as it was stands in `splits`; what its caps are, and what `counts` answers after it, in `caps`.
 
+mod caps;
 mod counted;
 mod flat;
 mod frames;
 mod operators;
 mod ringed;
+mod splits;
 
 ghost use Rattle.command_laws.specs.NewFaces.{LaminaHasTwoFaces, LaminaTakesTwoFaces, BlockHasTopAndBottom, BlockHasFourSides, BlockTakesSixFaces, SweptFaceIsFar, SidesStand};
 ghost use Rattle.command_laws.specs.Accepted.{BlocksFit, LaminasFit, SweepsFit, RingedSweepsFit, GluesFit};
@@ -34,6 +36,10 @@ ghost use Rattle.command_laws.specs.Places.{UndosGoBack};
 ghost use Rattle.command_laws.specs.TakenOver.{GlueTakesFaces};
 ghost use Rattle.command_laws.specs.Solids.{BlocksAreThere, LaminasAreThere, SweptAreThere, SweepsKeepSolids, GluesJoinSolids};
 
+pub use caps::{
+    block_parts_are_blocks, block_splits_fit, caps_are_numbered, caps_close_the_parts,
+    caps_face_apart, splits_share_counts,
+};
 pub use counted::{glues_join_counts, others_keep_counts, shapes_are_counted, sweeps_add_counts};
 pub use flat::faces_lie_flat;
 pub use frames::{
@@ -44,6 +50,7 @@ pub use operators::{
     operators_keep_volumes, operators_leave_faces, spurs_leave_faces, vertices_leave_faces,
 };
 pub use ringed::ringed_sweeps_make_faces;
+pub use splits::{splits_leave_alone, splits_part_faces, splits_share_faces};
 
 /// After a lamina: the face next to the greatest before goes round its points, and the one after that the other way round.
 pub fn laminas_make_faces()

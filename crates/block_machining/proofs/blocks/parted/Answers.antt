@@ -1,7 +1,7 @@
 use Rattle.std.proofs.Common.{suc, pos, neg_ℤ, sym, ap, ◌∙◌}
 use Rattle.euler_operators.specs.Common.{Plane}
 use Rattle.command_laws.specs.Counted.{counts}
-use Rattle.split_caps.specs.Capped.{caps_of}
+use Rattle.command_laws.specs.Capped.{caps_of}
 use Rattle.plane_split.specs.Machine.{plane_with, split, split_refusal}
 use Rattle.sweeps.specs.Measure.{six_volume}
 use Rattle.sweeps.specs.PlainMachine.{held}

@@ -9,7 +9,7 @@ use Rattle.plane_split.specs.Machine.{plane_with, split, split_refusal}
 use Rattle.plane_split.specs.SplitModels.{IsSplit}
 use Rattle.sweeps.specs.Measure.{six_volume}
 use Rattle.sweeps.specs.PlainMachine.{Machine, held}
-use Rattle.split_caps.specs.Blocks.{BlockSplitsFit, BlocksTakeNumbers, BlocksAddSolids, IsBetween, across, x_axis, needed_to_cut}
+use Rattle.command_laws.specs.SplitBlocks.{BlockSplitsFit, BlocksTakeNumbers, BlocksAddSolids, IsBetween, across, x_axis, needed_to_cut}
 use Rattle.block_machining.specs.Cutting.{AreCapped, IsCapAt}
 use Rattle.block_machining.specs.Halving.{CanBeMade, HasRoom, IsInside, needed_for_halves}
 use Rattle.block_machining.proofs.Accepted.{for_no_reason, same_sizes}

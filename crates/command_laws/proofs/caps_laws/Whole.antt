@@ -1,0 +1,47 @@
+use Rattle.std.proofs.Common.{◌≡◌, [], false, get_or, map, sym, subst, arith, int_lt, pos}
+use Rattle.euler_operators.specs.Table as table
+use Rattle.euler_operators.specs.Common.{direction, dot, moved}
+use Rattle.shapes.specs.Common.{normal, negated, holes_in, is_hole, faces_above, with_drawings}
+use Rattle.command_laws.specs.Caps.{CapsAreNumbered, CapsFaceApart, CapsHaveNormals, CapsStand, HolesAreClosed}
+use Rattle.undo_journal.specs.Machine.{held}
+use Rattle.split_laws.proofs.Flags.{flags_are}
+use Rattle.split_laws.proofs.drawn.Drawn.{can_open_all}
+use Rattle.command_laws.specs.Capped.{IsCapOf, area_below, cap, cycles_of, sum_of}
+use Rattle.command_laws.proofs.caps_laws.OpenedCaps.{lowers_are, uppers_are}
+use Rattle.command_laws.proofs.caps_laws.PartCaps.{both_caps, both_gone, faces_apart, normals_told}
+use Rattle.command_laws.proofs.splits_laws.Whole.{after_is, after_sound, can}
+
+pub caps_are_numbered : CapsAreNumbered
+caps_are_numbered before after s p t sound made = grind (arith, can_open_all, lowers_are, uppers_are, flags_are)
+
+-- ---- the caps of cycle i
+
+pub caps_stand : CapsStand
+caps_stand before after s p t i sound made l outer =
+    let k = cap (held before) s p i in
+    let d = with_drawings (held before) s p in
+    subst (λ A. IsCapOf A p s k.lower × IsCapOf A p t k.upper) (sym (after_is before after s p t sound made))
+    (both_caps d (faces_above d.model p s) s p t (can before after s p t sound made) i l (after_sound before after s p t sound made) outer)
+
+pub holes_are_closed : HolesAreClosed
+holes_are_closed before after s p t i sound made l hole =
+    let k = cap (held before) s p i in
+    let d = with_drawings (held before) s p in
+    subst (λ A. (table.has A.faces k.lower ≡ false) × (table.has A.faces k.upper ≡ false)) (sym (after_is before after s p t sound made))
+    (both_gone d (faces_above d.model p s) s p t (can before after s p t sound made) i l hole)
+
+pub caps_have_normals : CapsHaveNormals
+caps_have_normals before after s p t i sound made l outer =
+    let k = cap (held before) s p i in
+    let d = with_drawings (held before) s p in
+    let cs = cycles_of (held before) s p in
+    subst (λ A. (is_hole d.model p (get_or cs i []) ≡ false) × (normal A k.lower ≡ moved (sum_of (map (area_below d.model) (holes_in d.model p cs))) (area_below d.model (get_or cs i []))) × (normal A k.upper ≡ negated (normal A k.lower)))
+    (sym (after_is before after s p t sound made))
+    (normals_told d (faces_above d.model p s) s p t (can before after s p t sound made) i l outer)
+
+pub caps_face_apart : CapsFaceApart
+caps_face_apart before after s p t i sound made l none =
+    let k = cap (held before) s p i in
+    let d = with_drawings (held before) s p in
+    subst (λ A. (int_lt (dot (normal A k.lower) (direction p)) (pos 0) ≡ false) × (normal A k.upper ≡ negated (normal A k.lower))) (sym (after_is before after s p t sound made))
+    (faces_apart d (faces_above d.model p s) s p t (can before after s p t sound made) i l none)

@@ -1,0 +1,9 @@
+pub mod Steps
+pub mod DrawnWithin
+pub mod PartedWithin
+pub mod Whole
+pub mod Uncut
+pub mod PartFaces
+pub mod DrawnFaces
+pub mod Lower
+pub mod Pieces

@@ -1,9 +1,0 @@
-mod behind
-mod block_cuts
-mod PartCaps
-mod Whole
-mod SplitCounts
-mod OpenedCaps
-mod Sizes
-mod Sectioned
-mod Crossed

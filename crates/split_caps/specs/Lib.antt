@@ -1,4 +1,0 @@
-pub mod Capped
-pub mod Laws
-pub mod Counted
-pub mod Blocks
