@@ -79,6 +79,12 @@ class Module:
             self.definitions[plain(name)] = definition
 
 
+def file_of(name: str) -> Path:
+    """The file of a module, as Rattle.lattice.specs.Point."""
+    _, *parts = name.split('.')
+    return CRATES.joinpath(*parts).with_suffix('.antt')
+
+
 def plain(name: str) -> str:
     """A name as it stands between its arguments."""
     return name[1:-1] if len(name) > 2 and name[0] == name[-1] == '◌' else name
@@ -131,8 +137,7 @@ def _paragraphs(text: str) -> Iterator[Tuple[str, List[str]]]:
 @lru_cache(maxsize=None)
 def module(name: str) -> Optional[Module]:
     """The file of definitions that has this name, as Rattle.lattice.specs.Point; None where no crate of the project has it."""
-    _, *parts = name.split('.')
-    path = CRATES.joinpath(*parts).with_suffix('.antt')
+    path = file_of(name)
     if not path.is_file():
         return None
     found = Module(name)

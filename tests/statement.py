@@ -1,14 +1,17 @@
 #!/usr/bin/env python3
-"""One page for each theorem, docs/statements/*.md: its public contract, and all definitions that it leads to.
+"""docs/STATEMENTS.md has each theorem: its public contract, and the names and places of all definitions that it leads to.
 
-    tests/statement.py [--write]
+    tests/statement.py [--write] [--pages FOLDER]
 
-Compares the pages with what the sources say; --write first makes them anew. A page has the function's head with its contract, then each definition
-where it is first used, with its comment, then the types of the code that they name; the words of the standard library are listed. What lists of
-calls and scripts say of the larger commands stands on a page of its own, which both take by name. Prints the number of lines of each page, and how
-many of them define something. The last line counts the pages.
+Compares the page with what the sources say; --write first makes it anew. With --pages FOLDER each theorem is also written there as a page that can be
+read alone: the function's head with its contract, then each definition where it is first used, with its comment, then the types of the code that they
+name; what lists of calls and scripts say of the larger commands stands on a page that both take by name. docs/STATEMENTS.md has the sum of each of
+these pages, so a change of a statement shows in its difference. The last line counts the theorems.
 """
+import argparse
+import hashlib
 import re
+import shutil
 import sys
 import textwrap
 from dataclasses import dataclass
@@ -16,13 +19,13 @@ from itertools import groupby
 from pathlib import Path
 from typing import Dict, FrozenSet, Iterator, List, Optional, Tuple
 
-from counts import TOP, told
-from definitions import CRATES, Definition, Module, Outside, RustType, Thing, named, resolve, uses
+from counts import TOP, told, without
+from definitions import CRATES, Definition, Module, Outside, RustType, Thing, file_of, named, resolve, uses
 from quotes import head_of
 
-PAGES = TOP / 'docs' / 'statements'
+PAGE = TOP / 'docs' / 'STATEMENTS.md'
 LAWS = 'script_laws/src/lib.rt'
-# What a law over bytes speaks of by its name alone: its page says what it is for, and doesn't look into it.
+# What a law over bytes speaks of by its name alone: the law holds of it as it is, and its page doesn't look into it.
 BY_NAME = frozenset({'Rattle.script_laws.specs.Scripts.answers', 'Rattle.script_running.specs.Outs.Outs', 'Rattle.undo_journal.specs.Journal.new_journal',
                      'Rattle.script_running.specs.Output.output_of', 'Rattle.script_running.specs.Output.summary_of'})
 # When a larger command is refused, and what it makes: the same for lists of calls and for scripts.
@@ -31,14 +34,27 @@ LARGER = ('shapes.specs.Lamina.lamina_conditions', 'shapes.specs.Lamina.lamina_m
           'shapes.specs.glue.Glue.glue_conditions', 'shapes.specs.glue.Glue.glue_model', 'shapes.specs.split.Split.early_split_conditions',
           'shapes.specs.split.Split.split_conditions', 'shapes.specs.split.Split.split_model')
 SHARED = frozenset(f'Rattle.{name}' for name in LARGER)
-SHARED_PAGE = PAGES / 'larger_commands.md'
-SHARED_HEAD = ['# Larger commands', '',
-               'When a lamina, a block, a sweep, a glue and a split are refused, by which of these conditions before memory is asked for, and what models they make:',
-               'the definitions that the pages [make_all](make_all.md) and [run](run.md) take by name, and what these lead to that doesn\'t stand on both.']
+SHARED_PAGE = 'larger_commands.md'
+SHARED_TITLE = 'Larger commands'
+SHARED_TEXT = """When a lamina, a block, a sweep, a glue and a split are refused, by which of these conditions before memory is asked for, and what models they
+make: the definitions that the contracts of `make_all` and `run` take by name."""
 WIDTH = 150
-INDEX = ['# Statements', '',
-         'What is proved, each on a page of its own: the contract of a function, all definitions that it leads to, each where it is first used, and',
-         'the types of the code. Only words of the standard library are taken as known. [PROOFS.md](../PROOFS.md) explains the signs.']
+# What the standard library says of bytes that are read and written, and the words of it that contracts of runs use.
+KNOWN_BYTES = 'rattle/std/specs/Io/KnownBytes.antt'
+BYTES = ('Appends', 'Consumes', 'IsAtEnd')
+HEAD = """# Statements
+
+Each theorem has its contract here, and below it all definitions that the contract leads to, by the files in which they stand, in the order in which they
+are used. What a statement takes *by name* is not among them: a law over bytes holds of `answers` as it is, whatever that is, and what is said of the
+larger commands has a chapter of its own. [PROOFS.md](PROOFS.md) explains the signs. This writes each theorem with its definitions on one page:
+
+    tests/statement.py --pages FOLDER
+
+The *sum* is that of the page, so it changes where a statement does.
+
+What is read and written is told where the bytes of a reader and a writer are known, as those of a list of bytes are. Where they aren't, as with files and
+pipes, these words of the standard library are true whatever happened, and a theorem says nothing of the bytes:
+"""
 MADE = 'Made by `tests/statement.py --write` from the sources; edit nothing here.'
 
 
@@ -57,9 +73,9 @@ class Theorem:
         return f'{self.file.split("/")[0]}::{self.function}' + (f': {self.law}' if self.law else '')
 
     @property
-    def page(self) -> Path:
-        """Its page."""
-        return PAGES / f'{re.sub(r"(?<=[a-z])(?=[A-Z])", "_", self.law).lower() or self.function}.md'
+    def page(self) -> str:
+        """The name of its page."""
+        return f'{re.sub(r"(?<=[a-z])(?=[A-Z])", "_", self.law).lower() or self.function}.md'
 
     def head(self, lines: List[str]) -> List[str]:
         """The function's head with the contract, of which only the law's clause is told where there is one."""
@@ -169,7 +185,7 @@ def shown(definition: Definition, by_name: FrozenSet[str]) -> List[str]:
     lines = [*definition.comment, *definition.lines]
     name = f'{definition.module}.{definition.name}'
     if name in by_name:
-        why = f'it stands on {SHARED_PAGE.name}' if name in SHARED else 'nothing looks into it here'
+        why = f'it stands on {SHARED_PAGE}' if name in SHARED else 'nothing looks into it here'
         lines = [*definition.comment, definition.lines[0].split(' where')[0], f'-- (by its name: {why})']
     return lines
 
@@ -222,12 +238,17 @@ def things_of(theorem: Theorem) -> List[Thing]:
     return led_to(begun(theorem, lines, theorem.head(lines)), theorem.by_name)
 
 
-def shared_page() -> str:
-    """The page of the larger commands."""
+def shared_things() -> List[Thing]:
+    """What the larger commands lead to, without what both theorems that take them by name have."""
     first = [resolve(base, name) for base, _, name in (f'Rattle.{path}'.rpartition('.') for path in LARGER)]
     known = set.intersection(*(set(things_of(theorem)) for theorem in theorems() if theorem.by_name is SHARED)) - set(first)
-    things = [thing for thing in led_to(first, frozenset()) if thing not in known]
-    return '\n'.join([*SHARED_HEAD, *code('antt', definitions_of(things, frozenset())), *outside(things), '', MADE]) + '\n'
+    return [thing for thing in led_to(first, frozenset()) if thing not in known]
+
+
+def shared_page() -> str:
+    """The page of the larger commands."""
+    things = shared_things()
+    return '\n'.join([f'# {SHARED_TITLE}', '', SHARED_TEXT, *code('antt', definitions_of(things, frozenset())), *outside(things)]) + '\n'
 
 
 def page_of(theorem: Theorem) -> str:
@@ -238,24 +259,42 @@ def page_of(theorem: Theorem) -> str:
     things = things_of(theorem)
     types = [line for kind in types_of(things) for line in ['', *declaration(kind)]]
     text = [f'# {theorem.title}', '', *(line[len('/// '):] for line in doc_above(lines, at)), *code('rust', head),
-            *code('antt', definitions_of(things, theorem.by_name)), *code('rust', types[1:]), *outside(things),
-            '', MADE]
+            *code('antt', definitions_of(things, theorem.by_name)), *code('rust', types[1:]), *outside(things)]
     return '\n'.join(text) + '\n'
 
 
-def defining(text: str) -> int:
-    """How many lines of a page define something."""
-    block = re.search(r'^```antt\n(.*?)^```$', text, re.MULTILINE | re.DOTALL)
-    return sum(bool(line.strip()) and not line.strip().startswith('--') for line in block.group(1).split('\n')) if block else 0
+def wrapped(text: str) -> List[str]:
+    """A paragraph, below an empty line."""
+    return ['', *textwrap.wrap(text, WIDTH, break_on_hyphens=False, break_long_words=False)]
 
 
-def findings(pages: Dict[Path, str]) -> Iterator[str]:
-    """For each page what is wrong with it, or nothing; and what stands beside the pages. Prints the size of each."""
-    for path, text in pages.items():
-        print(f'{path.relative_to(TOP)}: {len(text.splitlines())} lines, {defining(text)} of them in definitions')
-        yield '' if path.exists() and path.read_text() == text else f'{path.relative_to(TOP)} is not the one that --write makes'
-    for path in sorted(set(PAGES.glob('*')) - set(pages)):
-        yield f'{path.relative_to(TOP)} is the page of no theorem'
+def is_by_name(thing: Thing, by_name: FrozenSet[str]) -> bool:
+    """Whether a statement takes this by its name."""
+    return isinstance(thing, Definition) and f'{thing.module}.{thing.name}' in by_name
+
+
+def places(definitions: List[Definition]) -> List[str]:
+    """The definitions by the files that they stand in, each file where the first of them is used."""
+    found: Dict[Path, List[str]] = {}
+    for definition in definitions:
+        found.setdefault(file_of(definition.module).relative_to(CRATES), []).append(definition.name)
+    return [line for file, names in found.items() for line in bullet(f'[{file}](../crates/{file}): {", ".join(f"`{name}`" for name in names)}')]
+
+
+def bullet(text: str) -> List[str]:
+    """An item of a list."""
+    return textwrap.wrap(f'- {text}', WIDTH, subsequent_indent='  ', break_on_hyphens=False, break_long_words=False)
+
+
+def links(things: List[Thing], by_name: FrozenSet[str], page: str) -> List[str]:
+    """The definitions among these by their files, and the types of the code; and the sum of the page that has all of them."""
+    definitions = [thing for thing in things if isinstance(thing, Definition) and not is_by_name(thing, by_name)]
+    names = [f'`{thing.name}`' for thing in things if isinstance(thing, Definition) and is_by_name(thing, by_name)]
+    kinds = [f'`{kind.crate}::{kind.name}`' for kind in types_of(things)]
+    count = sum(bool(line.strip()) and not line.strip().startswith('--') for it in definitions for line in it.lines)
+    found = [f'{len(definitions)} definitions of {count} lines.' if definitions else '', f'By name: {", ".join(names)}.' if names else '',
+             f'Types of the code: {", ".join(kinds)}.' if kinds else '', f'Sum `{hashlib.sha256(page.encode()).hexdigest()[:12]}`.']
+    return [*wrapped(' '.join(filter(None, found))), *([''] if definitions else []), *places(definitions)]
 
 
 def sentence(theorem: Theorem) -> str:
@@ -263,29 +302,77 @@ def sentence(theorem: Theorem) -> str:
     lines = (CRATES / theorem.file).read_text().splitlines()
     law = named(scope_of(lines), theorem.law)
     if isinstance(law, Definition) and law.comment:
-        told = ' '.join(line.lstrip('- ') for line in law.comment)
-        return told[:1].upper() + told[1:] + '.'
+        told_of = ' '.join(line.lstrip('- ') for line in law.comment)
+        return told_of[:1].upper() + told_of[1:] + '.'
     at = next(at for at, line in enumerate(lines) if re.match(rf'pub fn {theorem.function}\b', line))
-    told = ' '.join(line[len('/// '):] for line in doc_above(lines, at))
-    return told if theorem.law else told.partition('. ')[0] + '.'
+    told_of = ' '.join(line[len('/// '):] for line in doc_above(lines, at))
+    return told_of if theorem.law else told_of.partition('. ')[0] + '.'
 
 
-def index() -> str:
-    """The list of the pages."""
-    rows = [f'- [{theorem.page.stem}]({theorem.page.name}): {sentence(theorem)}' for theorem in theorems()]
-    rows.insert(2, f'- [{SHARED_PAGE.stem}]({SHARED_PAGE.name}): When a larger command is refused, and what it makes, for these two.')
-    return '\n'.join([*INDEX, '', *rows, '', MADE]) + '\n'
+def chapter(theorem: Theorem, page: str) -> List[str]:
+    """What docs/STATEMENTS.md has of a theorem."""
+    lines = (CRATES / theorem.file).read_text().splitlines()
+    return ['', f'## {theorem.title}', *wrapped(sentence(theorem)), *code('rust', theorem.head(lines)), *links(things_of(theorem), theorem.by_name, page)]
+
+
+def shared_chapter(page: str) -> List[str]:
+    """What it has of the larger commands."""
+    return ['', f'## {SHARED_TITLE}', '', *SHARED_TEXT.splitlines(), *links(shared_things(), frozenset(), page)]
+
+
+def kit() -> Optional[Path]:
+    """The folder of the kit, where it is installed."""
+    found = shutil.which('rt')
+    return Path(found).resolve().parent.parent if found else None
+
+
+def words_of_bytes() -> List[str]:
+    """What the page quotes of the standard library: the kit's own text, or what the page has where there is no kit."""
+    folder = kit()
+    if folder is None:
+        return re.findall(r'^```antt\n(.*?)^```$', PAGE.read_text(), re.MULTILINE | re.DOTALL)[0].splitlines()
+    lines = (folder / KNOWN_BYTES).read_text().splitlines()
+    return [line for word in BYTES for line in lines if line.startswith(f'{word} ')]
+
+
+def text_of(pages: Dict[str, str]) -> str:
+    """The text of docs/STATEMENTS.md."""
+    lines, laws, *others = theorems()
+    found = [*chapter(lines, pages[lines.page]), *chapter(laws, pages[laws.page]), *shared_chapter(pages[SHARED_PAGE])]
+    found += [line for theorem in others for line in chapter(theorem, pages[theorem.page])]
+    return '\n'.join([*HEAD.splitlines(), *code('antt', words_of_bytes()), *found, '', MADE]) + '\n'
+
+
+def arguments() -> argparse.Namespace:
+    """What the command line says."""
+    parser = argparse.ArgumentParser('tests/statement.py', description=__doc__, formatter_class=argparse.RawDescriptionHelpFormatter)
+    parser.add_argument('--write', action='store_true', help='make docs/STATEMENTS.md anew')
+    parser.add_argument('--pages', type=Path, metavar='FOLDER', help='write each theorem there as a page that can be read alone')
+    return parser.parse_args()
+
+
+def differing(old: str, new: str) -> Iterator[str]:
+    """For each chapter of the page that is to be there what is wrong with it, or nothing."""
+    before = old.split('\n## ')
+    for part in new.split('\n## '):
+        name = part.partition('\n')[0].lstrip('# ')
+        yield '' if part in before else f'docs/STATEMENTS.md: "{name}" is not what --write makes'
+    yield '' if len(before) == len(new.split('\n## ')) else 'docs/STATEMENTS.md has a chapter of no theorem'
 
 
 def main() -> int:
+    given = arguments()
     pages = {theorem.page: page_of(theorem) for theorem in theorems()}
     pages[SHARED_PAGE] = shared_page()
-    pages[PAGES / 'README.md'] = index()
-    if '--write' in sys.argv[1:]:
-        PAGES.mkdir(exist_ok=True)
-        for path, text in pages.items():
-            path.write_text(text)
-    return told(findings(pages))
+    if given.pages:
+        given.pages.mkdir(parents=True, exist_ok=True)
+        for name, page in pages.items():
+            (given.pages / name).write_text(page)
+    text = text_of(pages)
+    if given.write:
+        PAGE.write_text(text)
+    skipped = [] if kit() else [without('rt', 'what the standard library says of bytes')]
+    return told(differing(PAGE.read_text() if PAGE.is_file() else '', text), skipped)
 
 
 if __name__ == '__main__':
