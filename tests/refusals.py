@@ -159,6 +159,12 @@ def page_names() -> Names:
     return found
 
 
+def advice_names(title: str) -> Names:
+    """The names in a table of the page that says what to do about a refusal."""
+    part = text_of('docs/REFUSALS.md').partition(f'# {title}\n')[2].partition('\n#')[0]
+    return {int(number): name for number, name in re.findall(r'^\| (\d+) (\w+) \|', part, re.MULTILINE)}
+
+
 def header_names() -> List[str]:
     """The conditions that gwb.hpp names in code: the last one, up to which it has an exception for each."""
     return re.findall(r'<GWB_WHY_(\w+)>\(\)', text_of('bindings/include/gwb.hpp'))
@@ -171,9 +177,11 @@ def findings(names: Names) -> Iterator[str]:
         yield '' if text_of(file) == make(names) else f'{file} is not the one that --write makes'
     yield '' if help_names('Refusals') == names else 'crates/command_line/src/words.rt: the help text has other names'
     yield '' if page_names() == names else 'docs/SCRIPT.md: the table of refusals has other names'
+    yield '' if advice_names('What to do about a refusal') == names else 'docs/REFUSALS.md: the table of refusals has other names'
     last = [capitals(name) for name in list(names.values())[-1:]]
     yield '' if header_names() == last else 'bindings/include/gwb.hpp: its last condition is another'
     faults = {number: meaning.name for number, meaning in FAULTS.items()}
+    yield '' if advice_names('Faults') == faults else 'docs/REFUSALS.md: the table of faults has other names'
     yield '' if help_names('Faults') == faults else 'crates/command_line/src/words.rt: its faults are not those of companions/gwb/protocol/language.py'
 
 
