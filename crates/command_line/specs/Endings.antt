@@ -1,7 +1,6 @@
 -- How the program ends.
-use Rattle.std.specs.Prelude.{◌≡◌, ℕ, Bool, true, false, List, Option, Some, None, ⊤, codes, if◌then◌else◌, Result, Ok, Err}
+use Rattle.std.specs.Prelude.{◌≡◌, ℕ, Bool, true, false, List, Option, Some, None, codes, if◌then◌else◌, Result, Ok, Err}
 use Rattle.std.specs.Process.{exit_status}
-use Rattle.std.specs.declared.process.ExitCode.{ExitCode}
 use Rattle.clap.specs.Words.{kind_of}
 use Rattle.clap.specs.declared.error.Error.{Error}
 use Rattle.clap.specs.declared.error.kind.ErrorKind.{ErrorKind}
@@ -14,6 +13,7 @@ use Rattle.script_running.specs.declared.running.RunFault.TheVariants as fault
 use Rattle.command_line.specs.declared.words.WordsFault.{WordsFault}
 use Rattle.command_line.specs.declared.words.WordsFault.TheVariants as words
 use Rattle.command_line.specs.declared.ending.Trouble.{Trouble}
+use Rattle.command_line.specs.declared.ending.Ended.{Ended}
 use Rattle.command_line.specs.declared.ending.Trouble.TheVariants as trouble
 
 -- clap was asked for a text, or refused the words
@@ -62,21 +62,22 @@ complaint (Err (trouble.Run fault.Write)) = Some (codes "gwb: write fault")
 complaint (Err (trouble.Run fault.TooLong)) = Some (codes "gwb: script too long")
 complaint (Err (trouble.Run fault.Memory)) = Some (codes "gwb: out of memory")
 
--- clap's text is printed where there is one; prints e b: printing e may answer that all of it was written (b)
-abbrev pub Printed : (Error → Bool → Type 0) → Result Summary Trouble → Result Summary Trouble → Type 0
-Printed prints (Ok s) told = told ≡ Ok s
-Printed prints (Err (trouble.Words e)) told = (b : Bool) × prints e b × (told ≡ Err (trouble_told e b))
-Printed prints (Err trouble.Open) told = told ≡ Err trouble.Open
-Printed prints (Err (trouble.Run f)) told = told ≡ Err (trouble.Run f)
+-- clap's text is printed where there is one, and else what prints is handed back; prints e b: printing e may answer that all of it was written (b)
+abbrev pub Printed : {P : Type 0} → P → (Error → Bool → Type 0) → Result Summary Trouble → Result Summary Trouble → Option P → Type 0
+Printed {P} print prints (Ok s) told unused = (told ≡ Ok s) × (unused ≡ Some print)
+Printed {P} print prints (Err (trouble.Words e)) told unused = (b : Bool) × prints e b × (told ≡ Err (trouble_told e b))
+Printed {P} print prints (Err trouble.Open) told unused = (told ≡ Err trouble.Open) × (unused ≡ Some print)
+Printed {P} print prints (Err (trouble.Run f)) told unused = (told ≡ Err (trouble.Run f)) × (unused ≡ Some print)
 
--- the line was told where there is one
-abbrev pub IsTold : (List ℕ → Type 0) → Option (List ℕ) → Type 0
-IsTold tells None = ⊤
-IsTold tells (Some line) = tells line
+-- the line was told where there is one, and else what tells is handed back
+abbrev pub IsTold : {T : Type 0} → T → (List ℕ → Type 0) → Option (List ℕ) → Option T → Type 0
+IsTold {T} tell tells None unused = unused ≡ Some tell
+IsTold {T} tell tells (Some line) unused = tells line
 
--- clap's text is printed, standard error is told the complaint, and the process ends with the status of the ending
-abbrev pub Ends : (Error → Bool → Type 0) → (List ℕ → Type 0) → Result Summary Trouble → ExitCode → Type 0
-Ends prints tells ended code = (told : Result Summary Trouble) × Printed prints ended told × IsTold tells (complaint told) × (exit_status code ≡ status told)
+-- clap's text is printed, standard error is told the complaint and nothing else, and the process ends with the status of the ending
+abbrev pub Ends : {P T : Type 0} → P → (Error → Bool → Type 0) → T → (List ℕ → Type 0) → Result Summary Trouble → Ended P T → Type 0
+Ends {P} {T} print prints tell tells ended e = (told : Result Summary Trouble) × Printed print prints ended told e.print
+    × IsTold tell tells (complaint told) e.tell × (exit_status e.code ≡ status told)
 
 -- the program ends as the run did
 abbrev pub ending_of : Result Summary RunFault → Result Summary Trouble

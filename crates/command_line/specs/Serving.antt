@@ -15,20 +15,24 @@ abbrev pub RunsOpened : {F : Type 0} → (F → Option (List ℕ)) → Option (L
 RunsOpened {F} remaining old new stop ended None = (ended ≡ Err trouble.Open) × (new ≡ old)
 RunsOpened {F} remaining old new stop ended (Some script) = Answered (remaining script) old new stop ended
 
--- Standard input is run where no file is named, and else what opening the file by its name gave. opens name r: opening name may give r;
--- remaining: what a file that was opened has left to read; input: what standard input has.
-abbrev pub RunsFile : {F : Type 0} → (Text → Option F → Type 0) → (F → Option (List ℕ)) → (input old new : Option (List ℕ)) → Bool → Result Summary Trouble → Option Text → Type 0
-RunsFile {F} opens remaining input old new stop ended None = Answered input old new stop ended
-RunsFile {F} opens remaining input old new stop ended (Some name) = (opened : Option F) × opens name opened × RunsOpened remaining old new stop ended opened
+-- how the run ended, and what opens files, where it was not called
+abbrev pub Outcome : Type 0 → Type 0
+Outcome O = Result Summary Trouble × Option O
 
--- the words gave no choice, and nothing is written
-abbrev pub Refuses : List Text → (old new : Option (List ℕ)) → Result Summary Trouble → Type 0
-Refuses words old new ended = (fault : WordsFault) × IsCaused (fault_of command_line words) fault × (ended ≡ Err (trouble_of fault)) × (new ≡ old)
+-- Standard input is run and no file is opened where none is named, and else what opening the file by its name gave is run. opens name r: opening
+-- name may give r; remaining: what a file that was opened has left to read; input: what standard input has.
+abbrev pub RunsFile : {O F : Type 0} → O → (Text → Option F → Type 0) → (F → Option (List ℕ)) → (input old new : Option (List ℕ)) → Bool → Outcome O → Option Text → Type 0
+RunsFile {O} {F} opening opens remaining input old new stop r None = Answered input old new stop r.0 × (r.1 ≡ Some opening)
+RunsFile {O} {F} opening opens remaining input old new stop r (Some name) = (opened : Option F) × opens name opened × RunsOpened remaining old new stop r.0 opened
+
+-- the words gave no choice, no file is opened, and nothing is written
+abbrev pub Refuses : {O : Type 0} → O → List Text → (old new : Option (List ℕ)) → Outcome O → Type 0
+Refuses {O} opening words old new r = (fault : WordsFault) × IsCaused command_line words fault × (r.0 ≡ Err (trouble_of fault)) × (r.1 ≡ Some opening) × (new ≡ old)
 
 -- clap has no cause to refuse the words, and the script that they choose is run
-abbrev pub Follows : {F : Type 0} → (Text → Option F → Type 0) → (F → Option (List ℕ)) → (input old new : Option (List ℕ)) → List Text → Result Summary Trouble → Type 0
-Follows {F} opens remaining input old new words ended = (c : Choice) × (fault_of command_line words ≡ []) × Chosen (matches_of command_line words) c
-    × RunsFile opens remaining input old new c.stop ended (option_map string_bytes c.file)
+abbrev pub Follows : {O F : Type 0} → O → (Text → Option F → Type 0) → (F → Option (List ℕ)) → (input old new : Option (List ℕ)) → List Text → Outcome O → Type 0
+Follows {O} {F} opening opens remaining input old new words r = (c : Choice) × (fault_of command_line words ≡ []) × Chosen (matches_of command_line words) c
+    × RunsFile opening opens remaining input old new c.stop r (option_map string_bytes c.file)
 
-abbrev pub Serves : {F : Type 0} → (Text → Option F → Type 0) → (F → Option (List ℕ)) → (input old new : Option (List ℕ)) → List Text → Result Summary Trouble → Type 0
-Serves {F} opens remaining input old new words ended = Refuses words old new ended ⊎ Follows opens remaining input old new words ended
+abbrev pub Serves : {O F : Type 0} → O → (Text → Option F → Type 0) → (F → Option (List ℕ)) → (input old new : Option (List ℕ)) → List Text → Outcome O → Type 0
+Serves {O} {F} opening opens remaining input old new words r = Refuses opening words old new r ⊎ Follows opening opens remaining input old new words r

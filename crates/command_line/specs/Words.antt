@@ -1,8 +1,9 @@
 -- The command line of the program.
-use Rattle.std.specs.Prelude.{◌≡◌, ◌↔◌, true, codes, List, [], Some, Result, MatchResult, option_map, string_bytes}
-use Rattle.clap.specs.Words.{App, Row, Rule, first_of, new_app, new_rule, with_rule}
+use Rattle.std.specs.Prelude.{◌≡◌, ◌≢◌, ◌↔◌, true, codes, List, [], Some, None, Result, MatchResult, option_map, string_bytes}
+use Rattle.clap.specs.Words.{App, Row, Rule, Text, first_of, matches_of, new_app, new_rule, with_rule}
 use Rattle.clap.specs.Simple.{on_top}
-use Rattle.clap.specs.Kinds.{Kinds, HasKind}
+use Rattle.clap.specs.Kinds.{HasKind}
+use Rattle.clap.specs.Faults.{fault_of}
 use Rattle.clap.specs.declared.builder.ArgAction.TheVariants.{SetTrue}
 use Rattle.command_line.specs.declared.words.Choice.{Choice}
 use Rattle.command_line.specs.declared.words.WordsFault.{WordsFault}
@@ -29,11 +30,11 @@ abbrev pub Chosen : List Row → Choice → Type 0
 Chosen rows c = ((c.stop ≡ true) ↔ (first_of (codes "stop") rows ≡ Some (codes "true")))
     × (option_map string_bytes c.file ≡ first_of (codes "FILE") rows)
 
--- clap refuses the words for one of these causes, or memory was refused
-abbrev pub IsCaused : Kinds → WordsFault → Type 0
-IsCaused causes (Line e) = HasKind causes e
-IsCaused causes (Memory e) = Unit
+-- clap refuses the words for one of these causes, or lacked memory; or it has none, and the memory for a copy of FILE was refused
+abbrev pub IsCaused : App → List Text → WordsFault → Type 0
+IsCaused app words (Line e) = HasKind (fault_of app words) e
+IsCaused app words (Memory e) = (fault_of app words ≡ []) × (first_of (codes "FILE") (matches_of app words) ≢ None)
 
 -- the words are read only where clap has no cause to refuse them
-abbrev pub Fails : Kinds → Result Choice WordsFault → Type 0
-Fails causes r = MatchResult r (λ c. causes ≡ []) (IsCaused causes)
+abbrev pub Fails : App → List Text → Result Choice WordsFault → Type 0
+Fails app words r = MatchResult r (λ c. fault_of app words ≡ []) (IsCaused app words)

@@ -79,45 +79,64 @@ pub fn status_of(ended: &Result<Summary, Trouble>) -> u8
     }
 }
 
-/// Prints clap's text where there is one, and gives the ending that follows.
-fn printed<P: FnOnce(&clap::Error) -> bool>(
+/// Prints clap's text where there is one, and gives the ending that follows; `print` is handed back where there is none.
+fn printed<P: FnOnce(&clap::Error) -> bool + Drop>(
     ended: Result<Summary, Trouble>,
     print: P,
-) -> Result<Summary, Trouble>
+) -> (Result<Summary, Trouble>, Option<P>)
     requires { P.IsAlwaysCallable print }
-    ensures { Printed (FnOnceReturnsAt P.FnOnce print) ended result }
+    ensures { Printed print (FnOnceReturnsAt P.FnOnce print) ended result.0 result.1 }
 {
     match ended {
         Err(Trouble::Words(error)) => {
             let is_printed = print(&error);
-            Err(Trouble::told(error, is_printed))
+            (Err(Trouble::told(error, is_printed)), None)
         }
-        ended => ended,
+        ended => (ended, Some(print)),
     }
 }
 
-/// Tells the complaint where there is one.
-fn complain<T: FnOnce(&str)>(ended: &Result<Summary, Trouble>, tell: T)
+/// Tells the complaint where there is one; `tell` is handed back where there is none.
+fn complain<T: FnOnce(&str) + Drop>(ended: &Result<Summary, Trouble>, tell: T) -> Option<T>
     requires { T.IsAlwaysCallable tell }
-    ensures { IsTold (λ line. FnOnceReturnsAt T.FnOnce tell line tt) (complaint ended.now) }
+    ensures { IsTold tell (λ line. FnOnceReturnsAt T.FnOnce tell line tt) (complaint ended.now) result }
 {
-    if let Some(line) = complaint(ended) {
-        tell(line);
+    match complaint(ended) {
+        Some(line) => {
+            tell(line);
+            None
+        }
+        None => Some(tell),
     }
+}
+
+/// How the program ended. What was given to print and to tell with can be called once, and is handed back where it was not called.
+#[derive(Drop)]
+pub struct Ended<P, T> {
+    /// The exit code.
+    pub code: ExitCode,
+    /// What prints clap's text, where nothing was printed.
+    pub print: Option<P>,
+    /// What tells standard error, where nothing was told.
+    pub tell: Option<T>,
 }
 
 /// Ends the program. `print` prints clap's text and says whether all of it was written; `tell` puts a line on standard error.
-/// Help that could not be written is a write fault.
-pub fn end<P: FnOnce(&clap::Error) -> bool, T: FnOnce(&str)>(
+/// Help that could not be written is a write fault. Standard error is told one line at most, and none after a whole run.
+pub fn end<P: FnOnce(&clap::Error) -> bool + Drop, T: FnOnce(&str) + Drop>(
     ended: Result<Summary, Trouble>,
     print: P,
     tell: T,
-) -> ExitCode
+) -> Ended<P, T>
     requires print { P.IsAlwaysCallable print }
     requires tell { T.IsAlwaysCallable tell }
-    ensures { Ends (FnOnceReturnsAt P.FnOnce print) (λ line. FnOnceReturnsAt T.FnOnce tell line tt) ended result }
+    ensures { Ends print (FnOnceReturnsAt P.FnOnce print) tell (λ line. FnOnceReturnsAt T.FnOnce tell line tt) ended result }
 {
-    let ended = printed(ended, print);
-    complain(&ended, tell);
-    ExitCode::from(status_of(&ended))
+    let (ended, print) = printed(ended, print);
+    let tell = complain(&ended, tell);
+    Ended {
+        code: ExitCode::from(status_of(&ended)),
+        print,
+        tell,
+    }
 }

@@ -1,5 +1,5 @@
 //! The command line.
-ghost use Rattle.std.specs.Prelude.{◌≡◌, ◌↔◌, ◌∷◌, [], IfOk, IsTrue, Some, codes, false, map, option_map, string_bytes};
+ghost use Rattle.std.specs.Prelude.{◌≡◌, ◌≢◌, ◌↔◌, ◌∷◌, [], IfOk, IfErr, IsTrue, Some, None, codes, false, map, option_map, string_bytes};
 ghost use Rattle.clap.specs.Words.{app_of, first_of, found_of, kind_of, matches_of, rows_of, rule_of};
 ghost use Rattle.clap.specs.Kinds.{FailsBy, HasKind};
 ghost use Rattle.clap.specs.declared.error.kind.ErrorKind.TheVariants.{InvalidValue};
@@ -168,7 +168,8 @@ fn is_stop_set(matches: &ArgMatches<'_>) -> bool
 /// A copy of FILE.
 #[tactic(auto, using(crate::proofs::CommandLine::file_in_rows))]
 fn named_file(alloc: Global, matches: &ArgMatches<'_>) -> Result<Option<String>, AllocError>
-    ensures { IfOk result (λ file. option_map string_bytes file ≡ first_of (codes "FILE") (rows_of (found_of matches.now))) }
+    ensures file { IfOk result (λ file. option_map string_bytes file ≡ first_of (codes "FILE") (rows_of (found_of matches.now))) }
+    ensures named { IfErr result (λ _. first_of (codes "FILE") (rows_of (found_of matches.now)) ≢ None) }
 {
     match matches.get_str("FILE") {
         Some(name) => Ok(Some(String::from_str(alloc, name)?)),
@@ -179,10 +180,11 @@ fn named_file(alloc: Global, matches: &ArgMatches<'_>) -> Result<Option<String>,
 /// Reads the words of a command line, the program's name first: `gwb [--stop] [FILE]`.
 ///
 /// `WordsFault::Line` holds clap's text: of a mistake in the words, or what `--help` or `--version` ask for. Where memory was
-/// refused it is `Line` with clap's kind `OutOfMemory`, or `Memory` where FILE could not be copied.
+/// refused it is `Line` with clap's kind `OutOfMemory`, or `Memory` where clap had no cause to refuse the words and FILE, which they
+/// name, could not be copied.
 pub fn read_words(alloc: Global, words: &[String]) -> Result<Choice, WordsFault>
     ensures choice { IfOk result (Chosen (matches_of command_line (map string_bytes words.now))) }
-    ensures fault { Fails (fault_of command_line (map string_bytes words.now)) result }
+    ensures fault { Fails command_line (map string_bytes words.now) result }
 {
     let matches = parse(alloc, words).map_err(WordsFault::Line)?;
     let file = named_file(alloc, &matches).map_err(WordsFault::Memory)?;

@@ -39,7 +39,7 @@ fn begin(rt: &HostRuntime) -> Result<Summary, Trouble> {
         return Err(Trouble::Run(RunFault::Memory));
     };
     let open = |name: &str| File::open(rt, name).ok();
-    serve(rt.alloc(), words.as_slice(), rt.stdin(), open, &mut writer)
+    serve(rt.alloc(), words.as_slice(), rt.stdin(), open, &mut writer).0
 }
 
 fn main(rt: HostRuntime) -> ExitCode {
@@ -49,5 +49,5 @@ fn main(rt: HostRuntime) -> ExitCode {
             let _ = eprintln!(rt; "{line}");
         }
     };
-    end(begin(&rt), print, tell)
+    end(begin(&rt), print, tell).code
 }
