@@ -6,12 +6,14 @@ import unittest
 import zipfile
 from fractions import Fraction
 from pathlib import Path
+from unittest import mock
 
 from support import run
 from test_import import SIDES, TETRAHEDRON, InFiles, ascii_stl, obj, off, volumes
 
 from gwb.formats.appearance import Appearance
 from gwb.formats.exact_numbers import told
+from gwb.formats.grid import Grid
 from gwb.formats.importing import read_file
 from gwb.formats.polygon_files import form_of
 
@@ -219,6 +221,13 @@ class Obj(InFiles):
         for name in ('../outside.mtl', outside):
             path = self.file(f'mtllib {name}\nusemtl skin\n' + obj(TETRAHEDRON, SIDES), 'in/part.obj')
             self.assertEqual(len(read_file(path).said), 1)
+
+    def test_an_object_is_made_of_the_points_that_it_uses(self):
+        """All objects have the points of the file in common: each takes no more time for those of the others."""
+        with mock.patch.object(Grid, 'whole', autospec=True, side_effect=Grid.whole) as whole:
+            model = self.read(''.join(f'o b{i}\n' + obj([(x + 9 * i, y, z) for x, y, z in TETRAHEDRON],
+                                                        [tuple(corner + 4 * i for corner in side) for side in SIDES]) for i in range(20)))
+        self.assertEqual((volumes(model), [len(call.args[1]) for call in whole.call_args_list]), ([216] * 20, [4] * 20))
 
     def test_lines_that_go_on(self):
         self.assertEqual(volumes(self.read(obj(TETRAHEDRON, SIDES).replace('f 1/1 ', 'f \\\n1/1 '))), [216])

@@ -171,6 +171,12 @@ class Units(Reads):
         self.assertEqual(max(found.model.vertices.values()), (254, 508, 762))
         self.refuse('the point 101.6 127 0 is not whole', block((4, 5, 6)).replace(MILLIMETRE, INCH))
 
+    def test_a_number_without_its_kind(self):
+        bare = block((10, 20, 30)).replace(MILLIMETRE, INCH.replace('LENGTH_MEASURE(25.4)', '25.4'))
+        self.assertEqual(max(self.read(bare).model.vertices.values()), (254, 508, 762))
+        self.refuse('no number: $', bare.replace('(25.4,#902)', '($,#902)'))
+        self.refuse('the measure #901 has no number or no unit', bare.replace('(25.4,#902)', '(25.4)'))
+
     def test_metres(self):
         found = self.read(block().replace(MILLIMETRE, MILLIMETRE.replace('.MILLI.', '$')))
         self.assertEqual(found.said, ['lengths in METRE were multiplied by 1000, to millimetres'])

@@ -3,6 +3,7 @@
 from typing import Callable, Dict, Hashable, Iterator, List, NamedTuple, Optional, Sequence, Set, Tuple
 
 from ..errors import Unfit
+from ..geometry.flat_face import ExactVector
 from ..geometry.free_numbers import from_least, sorted_model
 from ..geometry.measures import anchor, normal, why_unfit
 from ..geometry.model import Face, Loop, Model
@@ -14,7 +15,7 @@ from ..joining.soup import Soup, soup_of
 from ..joining.surfaces import Surface, arealess, model_of_surfaces, surface_of, with_joined_faces
 from .appearance import Appearance, Thing
 from .grid import Grid
-from .parts import Part
+from .parts import Part, Polygon
 from .repair import DROPPED, Repairs, count, repaired
 
 Stage = Callable[[str], None]
@@ -78,7 +79,8 @@ class _Work:
 
     def _soup(self, part: Part) -> Soup:
         """The polygons of a part on whole points, mended where that is wanted."""
-        soup = soup_of(self.grid.whole(part.points, part.accuracy), part.polygons)
+        points, polygons = _used(part)
+        soup = soup_of(self.grid.whole(points, part.accuracy), polygons)
         self._collapsed += len(part.polygons) - len(soup.faces)
         return repaired(soup, self._repairs) if self._repair else soup
 
@@ -113,6 +115,15 @@ class _Work:
         if self._collapsed:
             lines.append(f'{self._collapsed} polygons of fewer than three different corners left out')
         return lines
+
+
+def _used(part: Part) -> Tuple[List[ExactVector], List[Polygon]]:
+    """The points that a part uses, of those that it may have in common with the other parts of its file, and its polygons over them."""
+    used = sorted({corner for polygon in part.polygons for loop in polygon for corner in loop})
+    if len(used) == len(part.points):
+        return part.points, part.polygons
+    place = {corner: at for at, corner in enumerate(used)}
+    return [part.points[corner] for corner in used], [[[place[corner] for corner in loop] for loop in polygon] for polygon in part.polygons]
 
 
 class _Measured:

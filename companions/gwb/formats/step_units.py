@@ -67,9 +67,11 @@ class StepUnits:
         return 'LENGTH_MEASURE' in values or 'POSITIVE_LENGTH_MEASURE' in values
 
     def _measure(self, reference: str, depth: int) -> Exact:
-        """The millimetres of a measure with its unit. In the values the kind of the number stands before the list that has it."""
+        """The millimetres of a measure with its unit. Its number stands in brackets behind its kind, or bare."""
         entity = self._file.at(reference)
         values = entity.items or next((entity.parts[kind] for kind in _MEASURES if kind in entity.parts), [])
-        number, unit = next(value for value in values if isinstance(value, list)), next(
-            value for value in values if isinstance(value, str) and value.startswith('#'))
-        return exact(number[0]) * self._length(unit, depth)[1]
+        unit = next((value for value in values if isinstance(value, str) and value.startswith('#')), None)
+        number = next((value[0] for value in values if isinstance(value, list)), values[0] if values else None)
+        if unit is None or not isinstance(number, str):
+            raise Unfit(f'the measure {reference} has no number or no unit')
+        return exact(number) * self._length(unit, depth)[1]
