@@ -24,9 +24,12 @@ from test_programs import FILES, PROGRAMS
 
 from gwb.errors import CompanionError
 from gwb.formats.importing import read_file
-from gwb.formats.mesh import mesh_of, obj_text, off_text, stl_text
-from gwb.formats.step import step_text
-from gwb.formats.three_mf import three_mf_bytes
+from gwb.formats.mesh import mesh_of
+from gwb.formats.obj import obj_text
+from gwb.formats.off import off_text
+from gwb.formats.step.write import step_text
+from gwb.formats.stl import stl_text
+from gwb.formats.three_mf.write import three_mf_bytes
 from gwb.geometry.measures import six_volume
 from gwb.geometry.model import Model
 from gwb.geometry.touching_solids import touching_solids

@@ -12,9 +12,10 @@ from support import box, listing, model_in, run, turned
 
 from gwb.formats.appearance import Appearance, appearances_in, comments
 from gwb.formats.importing import read_file
-from gwb.formats.mesh import mesh_of, mtl_text, obj_text
-from gwb.formats.step import step_text
-from gwb.formats.three_mf import MODEL_PART, three_mf_bytes
+from gwb.formats.mesh import mesh_of
+from gwb.formats.obj import mtl_text, obj_text
+from gwb.formats.step.write import step_text
+from gwb.formats.three_mf.write import MODEL_PART, three_mf_bytes
 from gwb.geometry.touching_solids import touching_solids
 
 RED, BLUE, GREY = (255, 0, 0), (0, 0, 255), (128, 128, 128)

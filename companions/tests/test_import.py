@@ -14,11 +14,12 @@ from support import STORED, box, examples, listing, model_in, program, run, turn
 from gwb.checks.check import check
 from gwb.errors import CompanionError, Unfit
 from gwb.formats.importing import imported
-from gwb.formats.mesh import FORMS, mesh_of
+from gwb.formats.mesh import mesh_of
+from gwb.formats.mesh_files import FORMS
 from gwb.formats.models_of_parts import model_of_parts
 from gwb.formats.parts import Part
 from gwb.formats.polygon_files import read_parts
-from gwb.formats.step import step_text
+from gwb.formats.step.write import step_text
 from gwb.geometry.measures import six_volume
 from gwb.programs.names_of_script import Said
 from gwb.protocol.listing import read_model

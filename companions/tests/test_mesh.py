@@ -16,8 +16,9 @@ from xml.etree import ElementTree
 from support import COMPANIONS, box, examples, lamina, listing, model_in, plate, run
 
 from gwb.errors import Unfit
-from gwb.formats.mesh import mesh_of, stl_text
-from gwb.formats.three_mf import MODEL_PART, three_mf_bytes
+from gwb.formats.mesh import mesh_of
+from gwb.formats.stl import stl_text
+from gwb.formats.three_mf.write import MODEL_PART, three_mf_bytes
 from gwb.geometry.measures import six_volume
 from gwb.geometry.vectors import cross, dot, subtract
 from gwb.protocol.listing import read_model

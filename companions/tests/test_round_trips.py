@@ -13,10 +13,11 @@ from support import box, listing, model_in, program, turned
 
 from gwb import Refused, Workbench
 from gwb.errors import Unfit
-from gwb.formats.mesh import FORMS, mesh_of
+from gwb.formats.mesh import mesh_of
+from gwb.formats.mesh_files import FORMS
 from gwb.formats.models_of_parts import model_of_parts
 from gwb.formats.polygon_files import read_parts
-from gwb.formats.step import step_text
+from gwb.formats.step.write import step_text
 from gwb.geometry.measures import six_volume
 from gwb.geometry.nesting import nests
 from gwb.joining.soup import soup_of

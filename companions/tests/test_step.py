@@ -6,7 +6,7 @@ import unittest
 from support import box, examples, listing, model_in, turned
 
 from gwb.errors import Unfit
-from gwb.formats.step import step_text
+from gwb.formats.step.write import step_text
 from gwb.protocol.listing import read_model
 
 

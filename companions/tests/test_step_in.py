@@ -10,7 +10,7 @@ from support import STORED, box, listing, model_in, run
 from gwb.errors import CompanionError
 from gwb.formats.appearance import Appearance
 from gwb.formats.importing import read_file
-from gwb.formats.step import step_text
+from gwb.formats.step.write import step_text
 from gwb.geometry.measures import six_volume
 
 MILLIMETRE = '(LENGTH_UNIT()NAMED_UNIT(*)SI_UNIT(.MILLI.,.METRE.))'

@@ -15,6 +15,8 @@ Thing = Tuple[str, int]
 
 _COMMENT = re.compile(r'#\s*(solid|face) ([0-9]{1,7})(?: name ("(?:[^"\\]|\\.)*"))?(?: colour #([0-9A-Fa-f]{6}))?\s*')
 _LONGEST = 200
+# The material of what has no colour, in forms that need one.
+PLAIN_MATERIAL = 'plain'
 
 
 # Names that the writers give where they know none, and what they put behind a name that several solids have.

@@ -6,15 +6,15 @@ import zlib
 from pathlib import Path
 from typing import Callable, Dict, Iterator, List, Optional
 
-from .amf_file import amf_parts
-from .obj_file import Beside, obj_parts
-from .off_file import HEADER, off_parts
+from .amf import amf_parts
+from .obj import Beside, obj_parts
+from .off import HEADER, off_parts
 from .parts import NotAMesh, Part
-from .ply_file import ply_parts
-from .step_parts import step_parts
-from .stl_file import is_binary, stl_parts
+from .ply import ply_parts
+from .step.read import step_parts
+from .stl import is_binary, stl_parts
 from .text_lines import whole_text
-from .three_mf_file import three_mf_parts
+from .three_mf.read import three_mf_parts
 
 FORMS = ('off', 'obj', 'stl', '3mf', 'ply', 'amf', 'step')
 _ENDINGS = {**{form: form for form in FORMS}, 'stp': 'step', 'p21': 'step'}

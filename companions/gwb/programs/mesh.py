@@ -6,7 +6,9 @@ import sys
 from typing import Optional, Sequence
 
 from ..formats.appearance import Said
-from ..formats.mesh import FORMS, Mesh, mesh_of, mtl_text, obj_text
+from ..formats.mesh import Mesh, mesh_of
+from ..formats.mesh_files import FORMS
+from ..formats.obj import mtl_text, obj_text
 from ..geometry.model import Model
 from ..geometry.touching_solids import touching_solids
 from .command_line import OK, filled_model, listing_parser, run, write_bytes

@@ -2,7 +2,7 @@
 
 from typing import Optional, Sequence
 
-from ..formats.step import step_text
+from ..formats.step.write import step_text
 from .command_line import OK, filled_model, listing_parser, run
 from .inside_out import warn_of_inside_out
 from .names_of_script import add_names, said_by

@@ -2,7 +2,7 @@
 
 import re
 from fractions import Fraction
-from typing import Optional
+from typing import List, Optional
 
 _UNIT = re.compile(rb'# unit ([1-9][0-9]{0,99}(?:/[1-9][0-9]{0,99})?)')
 
@@ -16,3 +16,8 @@ def unit_in(line: bytes) -> Optional[Fraction]:
 def unit_line(unit: Fraction) -> str:
     """The line that says a unit."""
     return f'# unit {unit}'
+
+
+def unit_lines(unit: Fraction) -> List[str]:
+    """The line that says a unit, where it isn't one."""
+    return [] if unit == 1 else [unit_line(unit)]

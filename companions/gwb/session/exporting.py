@@ -8,9 +8,12 @@ from typing import Callable, Dict, NamedTuple, Optional, Tuple, Union
 
 from ..drawing.page import page_of
 from ..formats.appearance import Appearance, Appearances, Colour, colour_of
-from ..formats.mesh import mesh_of, mtl_text, obj_text, off_text, stl_text
-from ..formats.step import step_text
-from ..formats.three_mf import three_mf_bytes
+from ..formats.mesh import mesh_of
+from ..formats.obj import mtl_text, obj_text
+from ..formats.off import off_text
+from ..formats.step.write import step_text
+from ..formats.stl import stl_text
+from ..formats.three_mf.write import three_mf_bytes
 from ..geometry.model import Model
 from ..geometry.plane_figures import Exact
 from ..geometry.touching_solids import touching_solids

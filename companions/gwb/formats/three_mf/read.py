@@ -5,15 +5,14 @@ import zipfile
 from graphlib import CycleError, TopologicalSorter
 from typing import Callable, Dict, Iterator, List, NamedTuple, Optional
 
-from ..geometry.flat_face import ExactVector
-from .appearance import Appearance, Colour, colour_of
-from .exact_numbers import Numbers
-from .packages import MOST_BYTES, opened
-from .parts import Gathered, NotAMesh, Part, require_few
-from .placement import IN_PLACE, Placement
-from .three_mf import PLAIN
-from .units import millimetres_of, told_scaled
-from .xml_parts import Attributes, XmlReader
+from ...geometry.flat_face import ExactVector
+from ..appearance import PLAIN_MATERIAL, Appearance, Colour, colour_of
+from ..exact_numbers import Numbers
+from ..packages import MOST_BYTES, opened
+from ..parts import Gathered, NotAMesh, Part, require_few
+from ..placement import IN_PLACE, Placement
+from ..units import millimetres_of, told_scaled
+from ..xml_parts import Attributes, XmlReader
 
 _MOST_RELATIONS = 4_000_000
 _MOST_ITEMS = 200_000
@@ -64,7 +63,7 @@ class _Reader:
         self._group = self._colours.setdefault(words['id'], [])
 
     def _base(self, words: Attributes) -> None:
-        self._group.append(None if words.get('name') == PLAIN else colour_of(words['displaycolor']))
+        self._group.append(None if words.get('name') == PLAIN_MATERIAL else colour_of(words['displaycolor']))
 
     def _color(self, words: Attributes) -> None:
         self._group.append(colour_of(words['color']))

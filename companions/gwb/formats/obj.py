@@ -1,11 +1,14 @@
-"""Reads Wavefront OBJ with flat polygons, and the colours of the material files that it names."""
+"""Wavefront OBJ: flat polygons are read, with the colours of the material files that are named; written as triangles."""
 
+from fractions import Fraction
 from typing import Callable, Dict, Iterator, List, NamedTuple, Optional, Tuple
 
 from ..errors import CompanionError
 from ..geometry.flat_face import ExactVector
-from .appearance import Appearance, Colour, colour_of_parts
+from ..scripts.unit_comments import unit_lines
+from .appearance import NO_APPEARANCES, PLAIN_MATERIAL, Appearance, Appearances, Colour, colour_of_parts, hexadecimal, look_of, unique_names
 from .exact_numbers import Numbers, shortened
+from .mesh import Mesh
 from .parts import Gathered, NotAMesh, Part
 from .text_lines import numbered_words
 
@@ -101,3 +104,38 @@ class _Reader:
             elif words[0] == 'Kd' and len(words) >= 4:
                 red, green, blue = map(float, words[1:4])
                 self._materials[material] = colour_of_parts(red, green, blue)
+
+
+def obj_text(mesh: Mesh, looks: Appearances = NO_APPEARANCES, materials: Optional[str] = None, unit: Fraction = Fraction(1)) -> str:
+    """The mesh as Wavefront OBJ, with an object for each solid and a group for each face, and the names of solids that are given.
+
+    With the name of a file of materials, whose text is mtl_text, solids and faces have their colours too.
+    """
+    return '\n'.join([*unit_lines(unit), *_obj_lines(mesh, looks, materials)]) + '\n'
+
+
+def mtl_text(looks: Appearances) -> str:
+    """The materials of all colours, for obj_text."""
+    colours = dict.fromkeys(look.colour for look in looks.values() if look.colour is not None)
+    blocks = ['newmtl {}\nKd {:.4f} {:.4f} {:.4f}\n'.format(_material(colour), *(part / 255 for part in colour)) for colour in colours]
+    return ''.join([f'newmtl {PLAIN_MATERIAL}\nKd 0.8 0.8 0.8\n', *blocks])
+
+
+def _material(colour: Optional[Colour]) -> str:
+    return PLAIN_MATERIAL if colour is None else f'colour_{hexadecimal(colour)[1:]}'
+
+
+def _obj_lines(mesh: Mesh, looks: Appearances, materials: Optional[str]) -> Iterator[str]:
+    if materials is not None:
+        yield f'mtllib {materials}'
+    places = {vertex: place for place, vertex in enumerate(mesh.vertices, 1)}
+    for vertex in mesh.vertices:
+        yield 'v {} {} {}'.format(*mesh.model.vertices[vertex])
+    names = unique_names(mesh.model.solids, looks, 'solid_')
+    for solid in mesh.model.solids:
+        yield 'o ' + ' '.join(names[solid].split())
+        for face in mesh.faces_of(solid):
+            yield f'g face_{face}'
+            if materials is not None:
+                yield f"usemtl {_material(look_of(looks, 'face', face).colour or look_of(looks, 'solid', solid).colour)}"
+            yield from ('f {} {} {}'.format(*(places[vertex] for vertex in triangle)) for triangle in mesh.faces[face])

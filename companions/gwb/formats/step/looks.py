@@ -2,8 +2,8 @@
 
 from typing import Callable, Dict, Iterator, Optional, Set, Tuple
 
-from .appearance import Appearance, Colour, colour_of_parts
-from .step_file import StepFile, text_of
+from ..appearance import Appearance, Colour, colour_of_parts
+from .lexer import StepFile, text_of
 
 # Styles of what isn't a surface; the colours in them aren't that of the solid or the face.
 _OTHERS = ('CURVE_STYLE', 'POINT_STYLE', 'SURFACE_STYLE_BOUNDARY', 'SURFACE_STYLE_SEGMENTATION_CURVE', 'SURFACE_STYLE_PARAMETER_LINE')

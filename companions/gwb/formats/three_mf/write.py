@@ -5,18 +5,14 @@ The bytes are a function of the mesh, its names and its colours alone: parts are
 
 from fractions import Fraction
 from io import BytesIO
-from typing import TYPE_CHECKING, Dict, Iterator, List
+from typing import Dict, Iterator, List
 from xml.sax.saxutils import quoteattr
 from zipfile import ZIP_STORED, ZipFile, ZipInfo
 
-from .appearance import NO_APPEARANCES, Appearances, Colour, hexadecimal, look_of
-
-if TYPE_CHECKING:
-    from .mesh import Mesh
+from ..appearance import NO_APPEARANCES, PLAIN_MATERIAL, Appearances, Colour, hexadecimal, look_of
+from ..mesh import Mesh
 
 MODEL_PART = '3D/3dmodel.model'
-# The material of solids that have no colour.
-PLAIN = 'plain'
 
 _HEAD = '<?xml version="1.0" encoding="UTF-8"?>'
 _TYPES = f"""{_HEAD}
@@ -33,7 +29,7 @@ _RELATIONS = f"""{_HEAD}
 _DATE = (1980, 1, 1, 0, 0, 0)
 
 
-def three_mf_bytes(mesh: 'Mesh', looks: Appearances = NO_APPEARANCES, unit: Fraction = Fraction(1)) -> bytes:
+def three_mf_bytes(mesh: Mesh, looks: Appearances = NO_APPEARANCES, unit: Fraction = Fraction(1)) -> bytes:
     """The mesh as a 3MF file, with the names of solids and the colours of solids and faces that are given; a coordinate has so many
     millimetres."""
     held = BytesIO()
@@ -46,7 +42,7 @@ def three_mf_bytes(mesh: 'Mesh', looks: Appearances = NO_APPEARANCES, unit: Frac
     return held.getvalue()
 
 
-def _model_lines(mesh: 'Mesh', looks: Appearances, unit: Fraction) -> Iterator[str]:
+def _model_lines(mesh: Mesh, looks: Appearances, unit: Fraction) -> Iterator[str]:
     """The part that holds the objects, and the list of those to be built."""
     yield _HEAD
     yield '<model unit="millimeter" xml:lang="en-US" xmlns="http://schemas.microsoft.com/3dmanufacturing/core/2015/02">'
@@ -75,7 +71,7 @@ def _scaling(unit: Fraction) -> str:
 class _Materials:
     """The colours of a model as a group of materials; the last one is for solids without a colour some of whose faces have one."""
 
-    def __init__(self, mesh: 'Mesh', looks: Appearances) -> None:
+    def __init__(self, mesh: Mesh, looks: Appearances) -> None:
         self._mesh, self._looks = mesh, looks
         things = (*(('solid', solid) for solid in mesh.model.solids), *(('face', face) for face in mesh.model.faces))
         colours = dict.fromkeys(filter(None, (look_of(looks, kind, number).colour for kind, number in things)))
@@ -88,7 +84,7 @@ class _Materials:
             yield f'<basematerials id="{self._group}">'
             for colour in self._places:
                 yield f'<base name="{hexadecimal(colour)}" displaycolor="{hexadecimal(colour)}"/>'
-            yield f'<base name="{PLAIN}" displaycolor="#C0C0C0"/>'
+            yield f'<base name="{PLAIN_MATERIAL}" displaycolor="#C0C0C0"/>'
             yield '</basematerials>'
 
     def of_solid(self, solid: int) -> str:
@@ -104,7 +100,7 @@ class _Materials:
         return '' if colour is None else f' pid="{self._group}" p1="{self._places[colour]}"'
 
 
-def _mesh_lines(mesh: 'Mesh', solid: int, materials: _Materials) -> List[str]:
+def _mesh_lines(mesh: Mesh, solid: int, materials: _Materials) -> List[str]:
     """The vertices and triangles of one solid."""
     triangles = [(triangle, face) for face in mesh.faces_of(solid) for triangle in mesh.faces[face]]
     used = sorted({vertex for triangle, _ in triangles for vertex in triangle})

@@ -2,12 +2,12 @@
 
 from typing import Any, Dict, Iterator, List, NamedTuple, Tuple
 
-from ..errors import Unfit
-from ..geometry.flat_face import ExactVector
-from ..geometry.plane_figures import Exact
-from .exact_numbers import Numbers
-from .parts import NotAMesh, Polygon, require_few
-from .step_file import StepFile
+from ...errors import Unfit
+from ...geometry.flat_face import ExactVector
+from ...geometry.plane_figures import Exact
+from ..exact_numbers import Numbers
+from ..parts import NotAMesh, Polygon, require_few
+from .lexer import StepFile
 
 SOLIDS = ('MANIFOLD_SOLID_BREP', 'BREP_WITH_VOIDS', 'FACETED_BREP', 'FACETED_BREP_AND_BREP_WITH_VOIDS')
 _WITH_VOIDS = ('BREP_WITH_VOIDS', 'FACETED_BREP_AND_BREP_WITH_VOIDS')

@@ -8,13 +8,13 @@ from fractions import Fraction
 from functools import partial
 from typing import Callable, Dict, Hashable, List, Mapping, NamedTuple, Optional, Sequence
 
-from ..geometry.measures import normal, require_fit
-from ..geometry.model import Model
-from ..geometry.nesting import Nest, nests
-from ..geometry.shells import shells_of
-from ..geometry.vectors import Vector, negative, reduced, subtract
-from .appearance import NO_APPEARANCES, Appearances, Colour, look_of, unique_names
-from .step_file import quoted
+from ...geometry.measures import normal, require_fit
+from ...geometry.model import Model
+from ...geometry.nesting import Nest, nests
+from ...geometry.shells import shells_of
+from ...geometry.vectors import Vector, negative, reduced, subtract
+from ..appearance import NO_APPEARANCES, Appearances, Colour, look_of, unique_names
+from .lexer import quoted
 
 _HEAD = """ISO-10303-21;
 HEADER;

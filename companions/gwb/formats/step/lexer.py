@@ -5,7 +5,7 @@ from array import array
 from bisect import bisect_left
 from typing import Any, Dict, Iterator, List, NamedTuple, Sequence
 
-from .parts import NotAMesh
+from ..parts import NotAMesh
 
 _MARK = re.compile(r"[;']|/\*")
 # A statement without comments, as most are.

@@ -3,13 +3,13 @@
 import re
 from typing import Dict, Iterator
 
-from .appearance import Appearance
-from .parts import NotAMesh, Part
-from .step_assembly import Instance, StepAssembly, in_millimetres
-from .step_file import StepFile, text_of
-from .step_looks import StepLooks
-from .step_shapes import Brep, StepShapes
-from .units import told_scaled
+from ..appearance import Appearance
+from ..parts import NotAMesh, Part
+from ..units import told_scaled
+from .assembly import Instance, StepAssembly, in_millimetres
+from .lexer import StepFile, text_of
+from .looks import StepLooks
+from .shapes import Brep, StepShapes
 
 _OURS = re.compile(r"'gwb-step'")
 

@@ -1,10 +1,13 @@
-"""Reads OFF, the Object File Format, with its headers OFF, COFF, NOFF, STOFF and their mixtures, or with none."""
+"""OFF, the Object File Format: read with its headers OFF, COFF, NOFF, STOFF and their mixtures, or with none; written as triangles."""
 
 import re
+from fractions import Fraction
 from typing import Iterator, List, Optional, Tuple
 
+from ..scripts.unit_comments import unit_lines
 from .appearance import Colour, colour_of_parts
 from .exact_numbers import Numbers
+from .mesh import Mesh
 from .parts import Gathered, NotAMesh, Part
 from .text_lines import words_of_lines
 
@@ -58,3 +61,19 @@ def _colour(words: List[str]) -> Optional[Colour]:
     if all(word.isdigit() for word in words):
         red, green, blue = red / 255, green / 255, blue / 255
     return colour_of_parts(red, green, blue)
+
+
+def off_text(mesh: Mesh, unit: Fraction = Fraction(1)) -> str:
+    """The mesh in the Object File Format. Another unit than one is said in a comment, here and in obj_text."""
+    return '\n'.join(_off_lines(mesh, unit)) + '\n'
+
+
+def _off_lines(mesh: Mesh, unit: Fraction) -> Iterator[str]:
+    places = {vertex: place for place, vertex in enumerate(mesh.vertices)}
+    yield 'OFF'
+    yield from unit_lines(unit)
+    yield f'{len(places)} {len(mesh.triangles)} 0'
+    for vertex in mesh.vertices:
+        yield '{} {} {}'.format(*mesh.model.vertices[vertex])
+    for a, b, c in mesh.triangles:
+        yield f'3 {places[a]} {places[b]} {places[c]}'

@@ -3,10 +3,10 @@
 from fractions import Fraction
 from typing import Dict, List, NamedTuple, Tuple
 
-from ..errors import Unfit
-from ..geometry.plane_figures import Exact
-from .exact_numbers import exact
-from .step_file import StepFile, text_of
+from ...errors import Unfit
+from ...geometry.plane_figures import Exact
+from ..exact_numbers import exact
+from .lexer import StepFile, text_of
 
 _PREFIXES = {'$': 0, '.EXA.': 18, '.PETA.': 15, '.TERA.': 12, '.GIGA.': 9, '.MEGA.': 6, '.KILO.': 3, '.HECTO.': 2, '.DECA.': 1, '.DECI.': -1,
              '.CENTI.': -2, '.MILLI.': -3, '.MICRO.': -6, '.NANO.': -9, '.PICO.': -12, '.FEMTO.': -15, '.ATTO.': -18}

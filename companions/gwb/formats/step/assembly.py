@@ -3,15 +3,15 @@
 from graphlib import CycleError, TopologicalSorter
 from typing import Dict, Iterator, List, NamedTuple, Sequence
 
-from ..errors import Unfit
-from ..geometry.flat_face import ExactVector
-from ..geometry.joined_sets import JoinedSets
-from ..geometry.plane_figures import Exact
-from .parts import NotAMesh
-from .placement import IN_PLACE, Placement, frame
-from .step_file import StepFile
-from .step_shapes import SOLIDS, StepShapes
-from .step_units import MILLIMETRE, StepUnits, Unit
+from ...errors import Unfit
+from ...geometry.flat_face import ExactVector
+from ...geometry.joined_sets import JoinedSets
+from ...geometry.plane_figures import Exact
+from ..parts import NotAMesh
+from ..placement import IN_PLACE, Placement, frame
+from .lexer import StepFile
+from .shapes import SOLIDS, StepShapes
+from .units import MILLIMETRE, StepUnits, Unit
 
 _SUFFIX, _PLACING = 'SHAPE_REPRESENTATION', 'CONTEXT_DEPENDENT_SHAPE_REPRESENTATION'
 # What bounds no solid and places nothing by itself.
