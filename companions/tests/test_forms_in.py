@@ -1,6 +1,7 @@
 """Forms of files beside those of test_import: PLY, AMF, all headers of OFF, STL in capitals, materials of OBJ, components of 3MF."""
 
 import io
+import os
 import struct
 import unittest
 import zipfile
@@ -9,13 +10,14 @@ from pathlib import Path
 from unittest import mock
 
 from support import run
-from test_import import SIDES, TETRAHEDRON, InFiles, ascii_stl, obj, off, volumes
+from test_import import SIDES, TETRAHEDRON, InFiles, ascii_stl, binary_stl, obj, off, step, volumes
 
 from gwb.formats.appearance import Appearance
 from gwb.formats.exact_numbers import told
 from gwb.formats.grid import Grid
 from gwb.formats.importing import read_file
 from gwb.formats.polygon_files import form_of
+from gwb.formats.text_lines import READ_AS_LATIN_1
 
 RED, BLUE = (255, 0, 0), (0, 0, 255)
 
@@ -176,7 +178,16 @@ class Off(InFiles):
 
 
 class Stl(InFiles):
-    """Letters of either case."""
+    """Letters of either case, and binary files of a wrong length."""
+
+    def test_binary_files_of_a_wrong_length(self):
+        data = binary_stl(TETRAHEDRON, SIDES)
+        head = data[:80]
+        for count, facets in ((4, data[84:-50]), (3, data[84:]), (0, data[84:]), (10 ** 9, data[84:])):
+            self.refuse(f'it is binary STL whose head says {count:,} facets, and there are {len(facets) // 50}', head + struct.pack('<I', count) + facets, form='stl')
+        self.refuse('it is binary STL of 60 bytes: its head is cut short', data[:60], form='stl')
+        found = read_file(self.file(data + b'made by hand', 'part.stl'))
+        self.assertEqual((volumes(found.model), found.said), ([216], ['12 bytes behind the last facet were left out']))
 
     def test_capitals(self):
         text = ascii_stl(TETRAHEDRON, SIDES)
@@ -235,7 +246,22 @@ class Obj(InFiles):
     def test_what_is_not_read(self):
         self.refuse('curved surfaces', 'cstype bspline\n' + obj(TETRAHEDRON, SIDES))
         self.refuse("line 3: no number: x", obj(TETRAHEDRON, SIDES).replace('v 0 6 0', 'v 6 x 0'))
-        self.refuse('has vertex -1, and there are 4', obj(TETRAHEDRON, SIDES).replace('f 1/1', 'f 0'))
+        for vertex in (0, 5, -5):
+            self.refuse(f'line 5: a face has vertex {vertex}, and there are 4', obj(TETRAHEDRON, SIDES).replace('f 1/1', f'f {vertex}'))
+
+    def test_groups_name_solids_where_nothing_else_does(self):
+        apart = obj([(x + 9, y, z) for x, y, z in TETRAHEDRON], [(a + 4, b + 4, c + 4) for a, b, c in SIDES])
+        data = 'g default\n' + obj(TETRAHEDRON, SIDES) + 'g the lid\n' + apart
+        self.assertEqual(read_file(self.file(data)).looks, {('solid', 2): Appearance('the lid')})
+        lines = obj(TETRAHEDRON, SIDES).splitlines()
+        of_two = '\n'.join([*lines[:4], 'g left', *lines[4:6], 'g right', *lines[6:]]) + '\n'
+        self.assertEqual(read_file(self.file(of_two)).looks, {})
+        self.assertEqual(read_file(self.file('o box\n' + of_two)).looks, {('solid', 1): Appearance('box')})
+
+    def test_a_pipe_in_the_place_of_its_materials(self):
+        os.mkfifo(Path(self.folder.name, 'part.mtl'))
+        path = self.file('mtllib part.mtl\n' + obj(TETRAHEDRON, SIDES), 'part.obj')
+        self.assertEqual(read_file(path).said, ['the material file part.mtl is not beside it: its colours are missing'])
 
 
 class ThreeMf(InFiles):
@@ -269,9 +295,61 @@ class ThreeMf(InFiles):
         found = read_file(self.file(three_mf(mesh(1, 'pid="7"', ['', 'p1="1"', '', 'pid="8" p1="0"']), '<item objectid="1"/>', before=before)))
         self.assertEqual(found.looks, {('solid', 1): Appearance('', RED), ('face', 2): Appearance(colour=BLUE), ('face', 4): Appearance(colour=BLUE)})
 
-    def test_objects_in_other_files(self):
-        item = '<item objectid="1" xmlns:p="http://schemas.microsoft.com/3dmanufacturing/production/2015/06" p:path="/3D/other.model"/>'
-        self.refuse('objects in further files', three_mf(mesh(1), item))
+    PRODUCTION = 'xmlns:p="http://schemas.microsoft.com/3dmanufacturing/production/2015/06" p:path="/{}"'
+
+    def package(self, further, components, unit='millimeter'):
+        """A 3MF file with further files, whose item is an object of components."""
+        data = io.BytesIO(three_mf(f'<object id="1"><components>{components}</components></object>', '<item objectid="1"/>', unit))
+        with zipfile.ZipFile(data, 'a') as archive:
+            for name, objects in further.items():
+                archive.writestr(name, '<model unit="millimeter" xmlns="http://schemas.microsoft.com/3dmanufacturing/core/2015/02"><resources>'
+                                 f'{objects}</resources><build/></model>')
+        return data.getvalue()
+
+    def component(self, number, file, words=''):
+        return f'<component objectid="{number}" {self.PRODUCTION.format(file)} {words}/>'
+
+    def test_objects_in_further_files(self):
+        move = 'transform="1 0 0 0 1 0 0 0 1 10 0 0"'
+        further = {'3D/Objects/a.model': mesh(1, 'name="pan"') + mesh(2), '3D/Objects/b.model': mesh(1, 'name="lid"')}
+        components = self.component(1, '3D/Objects/a.model') + self.component(1, '3D/Objects/b.model', move)
+        found = read_file(self.file(self.package(further, components)))
+        self.assertEqual((volumes(found.model), found.looks),
+                         ([216, 216], {('solid', 1): Appearance('pan'), ('solid', 2): Appearance('lid')}))
+        self.assertEqual(max(found.model.vertices.values()), (16, 0, 0))
+        self.refuse('the package has no 3D/c.model, which it names', self.package(further, self.component(1, '3D/c.model')))
+        self.refuse('object 3 is used, and is not there', self.package(further, self.component(3, '3D/Objects/a.model')))
+        self.refuse('3D/Objects/a.model in it has lengths in millimeter, and the model in inch', self.package(further, components, 'inch'))
+        round_ = {'3D/a.model': f'<object id="1"><components>{self.component(1, "3D/a.model")}</components></object>'}
+        self.refuse('the components of object 1 go round in a circle', self.package(round_, self.component(1, '3D/a.model')))
+
+
+class Letters(InFiles):
+    """Names in other letters than those of UTF-8."""
+
+    def test_latin_1(self):
+        for write in (ascii_stl, lambda *shape: 'o W\u00fcrfel\n' + obj(*shape)):
+            data = write(TETRAHEDRON, SIDES).replace('solid x', 'solid W\u00fcrfel')
+            for encoding, said in (('utf-8', []), ('utf-8-sig', []), ('latin-1', [READ_AS_LATIN_1])):
+                found = read_file(self.file(data.encode(encoding)))
+                self.assertEqual((found.said, found.looks), (said, {('solid', 1): Appearance('W\u00fcrfel')}), encoding)
+        gbk = read_file(self.file(('o \u4e2d\n' + obj(TETRAHEDRON, SIDES)).encode('gbk')))
+        self.assertEqual((volumes(gbk.model), gbk.said), ([216], [READ_AS_LATIN_1]))
+
+    def test_what_is_no_text(self):
+        self.refuse('text in UTF-16', obj(TETRAHEDRON, SIDES).encode('utf-16'), form='obj')
+        self.refuse('line 2 has bytes that are no text', obj(TETRAHEDRON, SIDES).encode().replace(b'v 6', b'v \0', 1))
+
+    def test_a_file_without_bytes(self):
+        self.refuse('the file is empty', b'', form='stl')
+
+
+class Slips(InFiles):
+    """What goes wrong in a reader isn't told as the file's fault alone."""
+
+    def test_where_it_came_up_is_said(self):
+        with mock.patch('gwb.formats.step.read.StepLooks', side_effect=AttributeError):
+            self.refuse('this is a damaged STEP file, or its reader has a slip: AttributeError at ', step())
 
 
 class Numbers(unittest.TestCase):

@@ -56,7 +56,7 @@ FILES = {
     'open.step': (lambda: step('#1=A(' * 200_000), 'there is no solid'),
     'strings.step': (lambda: step("#1=A('" * 200_001), 'has a string that does not end'),
     'comments.step': (lambda: step('#1=A(/*' * 200_000), 'has a comment that does not end'),
-    'deep.step': (lambda: step("#1=MANIFOLD_SOLID_BREP('',#2);#2=CLOSED_SHELL" + '(' * 500_000 + ')' * 500_000 + ';'), 'no STEP file'),
+    'deep.step': (lambda: step("#1=MANIFOLD_SOLID_BREP('',#2);#2=CLOSED_SHELL" + '(' * 500_000 + ')' * 500_000 + ';'), 'this is a damaged STEP file'),
     'entities.step': (lambda: step('#1=A();\n' * 2_100_000), 'more than 2,000,000 entities'),
     'twice.step': (lambda: step('#1=A();\n#1=A();'), 'has two #1'),
     'long_number.step': (lambda: step('#' + '1' * 100_000 + '=A();'), 'there is no solid'),

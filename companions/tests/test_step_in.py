@@ -237,6 +237,41 @@ class Refused(Reads):
             self.assertEqual(len(self.boxes(text)), 1, kind)
             self.refuse('1 edge is curved: ', text.replace(f"{kind}('',{line}", f"{kind}('',#900"))
 
+    def test_a_sphere_is_curved(self):
+        """Its face is bounded by a vertex alone."""
+        text = block()
+        face = entity(text, 'ADVANCED_FACE')
+        bound = next(line for line in text.splitlines() if line.startswith(face + '=')).split('(')[2].split(')')[0]
+        loop = next(line for line in text.splitlines() if line.startswith(bound + '=')).split(',')[1]
+        held = next(line for line in text.splitlines() if line.startswith(loop + '='))
+        sphere = text.replace(held, f"{loop}=VERTEX_LOOP('',{entity(text, 'VERTEX_POINT')});", 1)
+        plane = entity(text, 'PLANE')
+        self.refuse(f'1 face is curved: {face} SPHERICAL_SURFACE', sphere.replace(f'{plane}=PLANE(', f'{plane}=SPHERICAL_SURFACE(', 1))
+
+    def test_flat_solids_alone(self):
+        """A block whose first face is curved, and beside it one that isn't, and a curve."""
+        text = assembled([(0, 0, 0)])
+        shape = text.split(f'{SHAPE}(')[1].split(';')[0]
+        second = block((7, 8, 9)).split('DATA;')[1].split('ENDSEC;')[0]
+        second = re.sub(r'#(\d+)', lambda found: f'#{int(found[1]) + 5000}', second)
+        solid = next(line for line in second.splitlines() if '=MANIFOLD_SOLID_BREP(' in line).split('=')[0]
+        plane = entity(text, 'PLANE')
+        first = entity(text, 'MANIFOLD_SOLID_BREP')
+        text = with_lines(text.replace(f'{plane}=PLANE(', f'{plane}=CONICAL_SURFACE('),
+                          *(line.rstrip(';') for line in second.splitlines() if line and 'REPRESENTATION' not in line and 'PRODUCT' not in line),
+                          "#900=GEOMETRIC_CURVE_SET('',())").replace(shape, shape.replace(f'{first}', f'{first},{solid},#900'))
+        face = entity(text, 'ADVANCED_FACE')
+        self.refuse(f'1 face is curved: {face} CONICAL_SURFACE; the shape has what is not understood: 1 GEOMETRIC_CURVE_SET (#900): --flat takes', text)
+        found = self.read(text, flat=True)
+        self.assertEqual([six_volume(found.model, found.model.faces_of(solid)) for solid in found.model.solids], [6 * 7 * 8 * 9])
+        self.assertEqual(found.wrong, ['1 GEOMETRIC_CURVE_SET (#900) is left out: it is no solid',
+                                       f'solid {first} (Lid) is left out: 1 face is curved: {face} CONICAL_SURFACE'])
+        path = Path(self.folder.name, 'part.step')
+        path.write_text(text)
+        outcome = run('import', '--flat', str(path))
+        self.assertEqual((outcome.status, outcome.err.splitlines()), (1, [f'gwb-import: warning: {wrong}' for wrong in found.wrong]))
+        self.refuse('there is no flat solid in the STEP file: solid ', block().replace('=PLANE(', '=CONICAL_SURFACE('), flat=True)
+
     def test_shapes_that_bound_no_solid(self):
         text = block()
         inside = text.replace(f"{SHAPE}('',(", f"{SHAPE}('',(#900,")
@@ -251,6 +286,86 @@ class Refused(Reads):
 
     def test_what_is_named_and_is_not_there(self):
         self.refuse('has no #9999', re.sub(r"VERTEX_POINT\('vertex 1',#\d+\)", "VERTEX_POINT('',#9999)", block()))
+
+
+class HeldAsSplines(Reads):
+    """Flat faces and straight edges that are held as splines, polylines or parts of others."""
+
+    SPLINE = ".UNSPECIFIED.,.F.,.F.,(2,2),(0.,1.),.UNSPECIFIED."
+
+    def edge_as(self, text, curve, *points):
+        """The text with another curve in the place of the line of its first edge; points are numbered from 901 on."""
+        line = entity(text, 'LINE')
+        return with_lines(text.replace(f',{line},.T.)', ',#900,.T.)'), f'#900={curve}',
+                          *(f"#{901 + place}=CARTESIAN_POINT('',({x},{y},{z}))" for place, (x, y, z) in enumerate(points)))
+
+    def ends(self, text):
+        """The points at the ends of the first edge."""
+        model = self.read(text).model
+        edge = next(line for line in text.splitlines() if '=EDGE_CURVE(' in line)
+        vertices = edge.split('(')[1].split(',')[1:3]
+        lines = dict(line.split('=', 1) for line in text.splitlines() if line.startswith('#'))
+        points = [lines[lines[vertex].split(',')[1].rstrip(');')] for vertex in vertices]
+        found = [tuple(int(float(part)) for part in point.split('(')[2].split(')')[0].split(',')) for point in points]
+        self.assertLessEqual(set(found), set(model.vertices.values()))
+        return found
+
+    def test_straight_edges(self):
+        text = block()
+        start, end = self.ends(text)
+        middle = tuple((a + b) / 2 for a, b in zip(start, end))
+        line = entity(text, 'LINE')
+        for curve, points in ((f"B_SPLINE_CURVE_WITH_KNOTS('',1,(#901,#902),{self.SPLINE})", (start, end)),
+                              (f"B_SPLINE_CURVE_WITH_KNOTS('',2,(#901,#902,#903),{self.SPLINE})", (start, middle, end)),
+                              ("(BOUNDED_CURVE()B_SPLINE_CURVE(1,(#901,#902),.UNSPECIFIED.,.F.,.F.)CURVE()RATIONAL_B_SPLINE_CURVE((1.,2.)))", (start, end)),
+                              ("BEZIER_CURVE('',2,(#901,#902,#903),.UNSPECIFIED.,.F.,.F.)", (start, middle, end)),
+                              ("POLYLINE('',(#901,#902))", (end, start)), (f"TRIMMED_CURVE('',{line},(0.),(1.),.T.,.PARAMETER.)", ()),
+                              ("SURFACE_CURVE('',#901,(),.CURVE_3D.);#901=TRIMMED_CURVE('',#902,(0.),(1.),.T.,.PARAMETER.);#902=POLYLINE('',(#903,#904));"
+                               "#903=CARTESIAN_POINT('',({},{},{}));#904=CARTESIAN_POINT('',({},{},{}))".format(*start, *end), ())):
+            self.assertEqual(self.boxes(self.edge_as(text, curve, *points)), [((0, 0, 0), (4, 5, 6))], curve)
+
+    def test_curved_edges(self):
+        text = block()
+        start, end = self.ends(text)
+        beside = (7, 7, 7)
+        for curve, points in ((f"B_SPLINE_CURVE_WITH_KNOTS('',2,(#901,#902,#903),{self.SPLINE})", (start, beside, end)),
+                              ("POLYLINE('',(#901,#902,#903))", (start, end, beside)), ("PARABOLA('',#901,1.)", (start, )),
+                              ("TRIMMED_CURVE('',#900,(0.),(1.),.T.,.PARAMETER.)", ())):
+            self.refuse(f'1 edge is curved: {entity(text, "EDGE_CURVE")} {curve.split("(")[0]}', self.edge_as(text, curve, *points))
+
+    def test_edges_of_several_straight_pieces(self):
+        """The edge goes round by two corners: both of its faces have them, and are bent by them."""
+        text = block()
+        start, end = self.ends(text)
+        around = ((9, 8, 7), (9, 9, 9))
+        for points in ((start, *around, end), (end, *around[::-1], start)):
+            for curve in ("POLYLINE('',(#901,#902,#903,#904))", f"B_SPLINE_CURVE_WITH_KNOTS('',1,(#901,#902,#903,#904),{self.SPLINE})"):
+                found = self.read(self.edge_as(text, curve, *points))
+                self.assertEqual((len(found.model.edges), len(found.model.vertices)), (14, 10))
+                self.assertLessEqual(set(around), set(found.model.vertices.values()))
+                self.assertEqual(len(found.wrong), 1)
+
+    def surface_as(self, surface, *points):
+        """A block whose first face has another surface; points are numbered from 901 on."""
+        text = block()
+        plane = entity(text, 'PLANE')
+        return with_lines(text.replace(f',{plane},.T.)', ',#900,.T.)', 1), f'#900={surface.replace("PLANE", plane)}',
+                          *(f"#{901 + place}=CARTESIAN_POINT('',({x},{y},{z}))" for place, (x, y, z) in enumerate(points)))
+
+    def test_flat_faces(self):
+        flat, line = ((-1, -1, 0), (9, -1, 0), (-1, 9, 0), (9, 9, 0)), entity(block(), 'LINE')
+        for surface, points in ((f"B_SPLINE_SURFACE_WITH_KNOTS('',1,1,((#901,#902),(#903,#904)),{self.SPLINE})", flat),
+                                ("(BOUNDED_SURFACE()B_SPLINE_SURFACE(1,1,((#901,#902),(#903,#904)),.UNSPECIFIED.,.F.,.F.,.F.)SURFACE())", flat),
+                                ("RECTANGULAR_TRIMMED_SURFACE('',PLANE,0.,1.,0.,1.,.T.,.T.)", ()), ("CURVE_BOUNDED_SURFACE('',PLANE,(),.T.)", ()),
+                                (f"SURFACE_OF_LINEAR_EXTRUSION('',{line},#901)", flat)):
+            self.assertEqual(self.boxes(self.surface_as(surface, *points)), [((0, 0, 0), (4, 5, 6))], surface)
+
+    def test_curved_faces(self):
+        bent, face = ((-1, -1, 0), (9, -1, 0), (-1, 9, 0), (9, 9, '1.E-9')), entity(block(), 'ADVANCED_FACE')
+        for surface, points in ((f"B_SPLINE_SURFACE_WITH_KNOTS('',1,1,((#901,#902),(#903,#904)),{self.SPLINE})", bent),
+                                ("RECTANGULAR_TRIMMED_SURFACE('',#900,0.,1.,0.,1.,.T.,.T.)", ()), ("SURFACE_OF_REVOLUTION('',#901,#902)", bent),
+                                ("SURFACE_OF_LINEAR_EXTRUSION('',#905,#901);#905=CIRCLE('',#901,1.)", bent)):
+            self.refuse(f'1 face is curved: {face} {surface.split("(")[0]}', self.surface_as(surface, *points))
 
 
 class Stored(unittest.TestCase):

@@ -14,6 +14,7 @@ from ..geometry.vectors import ZERO, dot
 from ..joining.soup import Soup, soup_of
 from ..joining.surfaces import Surface, arealess, model_of_surfaces, surface_of, with_joined_faces
 from .appearance import Appearance, Thing
+from .exact_numbers import told
 from .grid import Grid
 from .parts import Part, Polygon
 from .repair import DROPPED, Repairs, count, repaired
@@ -40,7 +41,7 @@ def model_of_parts(parts: Sequence[Part], scale: Exact, rounded: bool, keep_tria
                    stage: Stage = lambda name: None) -> Imported:
     """The model with a solid for each part, for the parts of one named solid together, or for each outer shell where the file doesn't
     say which shells are a solid."""
-    work = _Work(Grid(scale, rounded), keep_triangles, repair)
+    work = _Work(scale, rounded, keep_triangles, repair)
     held = [(part, surface) for part, surface in ((part, work.surface(number, part)) for number, part in enumerate(parts, 1))
             if surface is not None]
     model = model_of_surfaces([surface for _, surface in held])
@@ -51,15 +52,17 @@ def model_of_parts(parts: Sequence[Part], scale: Exact, rounded: bool, keep_tria
     groups = list(_solids(model, [part for part, _ in held], shells, measured))
     work.name_empty(groups, measured)
     looks = _looks(held, groups, model)
-    said = [*dict.fromkeys(note for part in parts for note in (part.scaled, *part.missing) if note), *work.said()]
-    return Imported(_with_solids(model, groups), work.grid.square_moved, looks, said, work.wrong)
+    said = [*dict.fromkeys(note for part in parts for note in (part.scaled, *part.notes) if note), *work.said()]
+    left_out = dict.fromkeys(what for part in parts for what in part.left_out)
+    return Imported(_with_solids(model, groups), work.grid.square_moved, looks, said, [*left_out, *work.wrong])
 
 
 class _Work:
     """Makes surfaces of parts, and gathers what is to be said."""
 
-    def __init__(self, grid: Grid, keep_triangles: bool, repair: bool) -> None:
-        self.grid = grid
+    def __init__(self, scale: Exact, rounded: bool, keep_triangles: bool, repair: bool) -> None:
+        self.grid = Grid(scale, rounded)
+        self._scale = scale
         self.wrong: List[str] = []
         self._keep_triangles, self._repair = keep_triangles, repair
         self._repairs: Repairs = {}
@@ -71,11 +74,16 @@ class _Work:
             surface = self._joined(surface_of(self._soup(part)), part)
         except Unfit as error:
             where = f'part {number}{part.called}: ' if number > 1 or part.look.name else ''
-            raise Unfit(f'{where}{error}' + (f' ({part.scaled})' if part.scaled else '')) from None
+            raise Unfit(f'{where}{error}{self._multiplied(part)}') from None
         if len(part.polygons) and not surface.faces:
             self.wrong.append(f'part {number}{part.called} comes to nothing and is left out: no face of it keeps three corners')
             return None
         return surface
+
+    def _multiplied(self, part: Part) -> str:
+        """In brackets by what the places in messages are more than those in the file, '' where they aren't."""
+        factors = [part.scaled] * bool(part.scaled) + [f'--scale multiplied by {told(self._scale)}'] * (self._scale != 1)
+        return f' ({"; ".join(factors)})' if factors else ''
 
     def _soup(self, part: Part) -> Soup:
         """The polygons of a part on whole points, mended where that is wanted."""
@@ -216,9 +224,18 @@ def _with_solids(model: Model, groups: Sequence[_Solid]) -> Model:
 def _looks(held: Sequence[Tuple[Part, Surface]], groups: Sequence[_Solid], model: Model) -> Dict[Thing, Appearance]:
     """The names and colours of solids and of faces by their numbers."""
     plain = Appearance()
-    looks: Dict[Thing, Appearance] = {('solid', solid): held[group.part][0].look for solid, group in enumerate(groups, 1)}
-    origins = [(part, origin) for part, surface in held for origin in surface.origins]
-    for face, (part, origin) in zip(model.faces, origins):
-        looks['face', face] = part.face_looks.get(origin, plain)
+    origins = dict(zip(model.faces, ((part, origins) for part, surface in held for origins in surface.origins)))
+    looks: Dict[Thing, Appearance] = {}
+    for solid, group in enumerate(groups, 1):
+        part = held[group.part][0]
+        looks['solid', solid] = part.look._replace(name=part.look.name or _group_of(part, [origins[face][1] for face in group.faces]))
+    for face, (part, places) in origins.items():
+        looks['face', face] = part.face_looks.get(places[0], plain)
     shown = ((thing, look.unnumbered()) for thing, look in looks.items() if look != plain)
     return {thing: look for thing, look in shown if look != plain}
+
+
+def _group_of(part: Part, origins: Sequence[Sequence[int]]) -> str:
+    """The name of the group that has all polygons of some faces, '' where there is no such one."""
+    names = {part.groups.get(place, '') for places in origins for place in places} if part.groups else set()
+    return names.pop() if len(names) == 1 else ''

@@ -1,7 +1,7 @@
 """Wavefront OBJ: flat polygons are read, with the colours of the material files that are named; written as triangles."""
 
 from fractions import Fraction
-from typing import Callable, Dict, Iterator, List, NamedTuple, Optional, Tuple
+from typing import Callable, Dict, Iterator, List, Optional, Tuple
 
 from ..errors import CompanionError
 from ..geometry.flat_face import ExactVector
@@ -10,20 +10,29 @@ from .appearance import NO_APPEARANCES, PLAIN_MATERIAL, Appearance, Appearances,
 from .exact_numbers import Numbers, shortened
 from .mesh import Mesh
 from .parts import Gathered, NotAMesh, Part
-from .text_lines import numbered_words
+from .text_lines import as_utf_8, numbered_words
 
 # Reads a file that lies beside the one that is read; None where it isn't there.
 Beside = Callable[[str], Optional[bytes]]
 # Words of curved surfaces, which aren't read.
 _CURVED = ('cstype', 'curv', 'surf', 'deg')
+# The group of what is in no group.
+_NO_GROUP = 'default'
 
 
-class _Object(NamedTuple):
-    """An object as it is read; one that no word begins is nameless."""
+class _Object:
+    """An object as it is read; one that no word begins is nameless, and its solids have the names of its groups."""
 
-    name: str
-    begun: bool
-    gathered: Gathered
+    def __init__(self, name: str, begun: bool, points: List[ExactVector]) -> None:
+        self.name, self.begun = name, begun
+        self.gathered = Gathered(points)
+        self.groups: Dict[int, str] = {}
+
+    def add(self, corners: List[int], colour: Optional[Colour], group: str) -> None:
+        """One more polygon."""
+        if group and not self.begun:
+            self.groups[len(self.gathered.polygons)] = group
+        self.gathered.add(corners, colour)
 
 
 def obj_parts(data: bytes, beside: Beside) -> Iterator[Part]:
@@ -40,7 +49,7 @@ def obj_parts(data: bytes, beside: Beside) -> Iterator[Part]:
         colour = reader.one_colour(held.gathered)
         looks = {} if colour else held.gathered.looks
         yield Part(held.gathered.points, held.gathered.polygons, parted=not held.begun, look=Appearance(held.name, colour),
-                   face_looks=looks, missing=tuple(reader.missing))
+                   face_looks=looks, groups=held.groups, notes=tuple(reader.notes))
 
 
 def _joined(lines: Iterator[Tuple[int, List[str]]]) -> Iterator[Tuple[int, List[str]]]:
@@ -66,8 +75,9 @@ class _Reader:
         self._points: List[ExactVector] = []
         self._materials: Dict[str, Colour] = {}
         self._colour: Optional[Colour] = None
-        self.missing: Dict[str, None] = {}
-        self.objects = [_Object('', False, Gathered(self._points))]
+        self._group = ''
+        self.notes: Dict[str, None] = {}
+        self.objects = [_Object('', False, self._points)]
 
     def read(self, words: List[str]) -> None:
         """One line. Raises ValueError, NotANumber or NotAMesh where it can't be read."""
@@ -75,17 +85,24 @@ class _Reader:
         if word == 'v':
             self._points.append(self._numbers.point(rest[:3]))
         elif word == 'f':
-            count = len(self._points)
-            corners = [int(corner.partition('/')[0]) for corner in rest]
-            self.objects[-1].gathered.add([corner - 1 if corner > 0 else count + corner if corner else -1 for corner in corners], self._colour)
+            self.objects[-1].add([self._place(int(corner.partition('/')[0])) for corner in rest], self._colour, self._group)
         elif word == 'o':
-            self.objects.append(_Object(' '.join(rest), True, Gathered(self._points)))
+            self.objects.append(_Object(' '.join(rest), True, self._points))
+        elif word == 'g':
+            self._group = '' if rest == [_NO_GROUP] else ' '.join(rest)
         elif word == 'usemtl':
             self._colour = self._materials.get(' '.join(rest))
         elif word == 'mtllib':
             self._read_materials(' '.join(rest))
         elif word in _CURVED:
             raise NotAMesh('it has curved surfaces: only polygons are read')
+
+    def _place(self, vertex: int) -> int:
+        """The place of the point that a face names: from 1 on, or back from the last one. Raises NotAMesh where there is none."""
+        count = len(self._points)
+        if not vertex or not -count <= vertex <= count:
+            raise NotAMesh(f'a face has vertex {vertex}, and there are {count}')
+        return vertex - 1 if vertex > 0 else count + vertex
 
     def one_colour(self, gathered: Gathered) -> Optional[Colour]:
         """The colour of all polygons of an object, None where they have several or some have none."""
@@ -95,10 +112,10 @@ class _Reader:
     def _read_materials(self, name: str) -> None:
         data = self._beside(name)
         if data is None:
-            self.missing[f'the material file {shortened(name)} is not beside it: its colours are missing'] = None
+            self.notes[f'the material file {shortened(name)} is not beside it: its colours are missing'] = None
             return
         material = ''
-        for _, words in numbered_words(data):
+        for _, words in numbered_words(as_utf_8(data).data):
             if words[0] == 'newmtl':
                 material = ' '.join(words[1:])
             elif words[0] == 'Kd' and len(words) >= 4:

@@ -1,6 +1,6 @@
 """What a file of polygons holds: its parts, with names and colours."""
 
-from typing import Dict, List, NamedTuple, Optional, Sequence, Tuple
+from typing import Dict, List, Mapping, NamedTuple, Optional, Sequence, Tuple
 
 from ..errors import CompanionError
 from ..geometry.flat_face import ExactVector
@@ -23,7 +23,8 @@ class Part(NamedTuple):
 
     Where `parted` holds the file doesn't say which shells are a solid, and where `whole` does its polygons are faces that aren't to be
     joined. Parts of one `solid`, where it has a name, are one solid. Points may lie beside whole places by `accuracy`, as the file says.
-    `scaled` says what was made of lengths in other units than millimetres, and `missing` what the file names and isn't there.
+    `groups` are the names of groups of polygons, of which a solid of one group alone has the name. `scaled` says what was made of lengths in
+    other units than millimetres, `notes` what else is to be said of the file, and `left_out` what of it isn't read.
     """
 
     points: List[ExactVector]
@@ -34,8 +35,10 @@ class Part(NamedTuple):
     look: Appearance = Appearance()
     face_looks: Dict[int, Appearance] = {}
     accuracy: Exact = 0
+    groups: Mapping[int, str] = {}
     scaled: str = ''
-    missing: Tuple[str, ...] = ()
+    notes: Tuple[str, ...] = ()
+    left_out: Tuple[str, ...] = ()
 
     @property
     def called(self) -> str:

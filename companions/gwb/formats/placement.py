@@ -5,7 +5,7 @@ from math import isqrt
 from typing import NamedTuple
 
 from ..geometry.flat_face import ExactVector
-from ..geometry.plane_figures import Exact
+from .exact_vectors import added, cross, dot, times
 
 _DIGITS = 10 ** 40
 
@@ -20,11 +20,11 @@ class Placement(NamedTuple):
 
     def of(self, point: ExactVector) -> ExactVector:
         """Where the point comes to lie."""
-        return _added(self.direction(point), self.origin)
+        return added(self.direction(point), self.origin)
 
     def direction(self, way: ExactVector) -> ExactVector:
         """Where a way leads, wherever it begins."""
-        return _added(_added(_times(self.x, way[0]), _times(self.y, way[1])), _times(self.z, way[2]))
+        return added(added(times(self.x, way[0]), times(self.y, way[1])), times(self.z, way[2]))
 
     def after(self, first: 'Placement') -> 'Placement':
         """The placement by `first` and then by this one."""
@@ -34,7 +34,7 @@ class Placement(NamedTuple):
         """The placement back, of one that turns and moves alone."""
         x, y, z = ((self.x[i], self.y[i], self.z[i]) for i in range(3))
         back = Placement(x, y, z, (0, 0, 0))
-        return back._replace(origin=_times(back.direction(self.origin), -1))
+        return back._replace(origin=times(back.direction(self.origin), -1))
 
 
 IN_PLACE = Placement((1, 0, 0), (0, 1, 0), (0, 0, 1), (0, 0, 0))
@@ -46,16 +46,16 @@ def frame(origin: ExactVector, axis: ExactVector, beside: ExactVector) -> Placem
     Unit vectors are exact where they are rational, and else right to 40 digits.
     """
     z = _unit(axis)
-    across = _added(beside, _times(z, -_dot(z, beside)))
+    across = added(beside, times(z, -dot(z, beside)))
     x = _unit(across)
-    return Placement(x, _cross(z, x), z, origin)
+    return Placement(x, cross(z, x), z, origin)
 
 
 def _unit(way: ExactVector) -> ExactVector:
-    square = Fraction(_dot(way, way))
+    square = Fraction(dot(way, way))
     if square == 0:
         raise ValueError('a direction of no length')
-    return _times(way, 1 / _root(square))
+    return times(way, 1 / _root(square))
 
 
 def _root(square: Fraction) -> Fraction:
@@ -64,19 +64,3 @@ def _root(square: Fraction) -> Fraction:
     if above * above == square.numerator and below * below == square.denominator:
         return Fraction(above, below)
     return Fraction(isqrt(square.numerator * _DIGITS ** 2 // square.denominator), _DIGITS)
-
-
-def _added(a: ExactVector, b: ExactVector) -> ExactVector:
-    return (a[0] + b[0], a[1] + b[1], a[2] + b[2])
-
-
-def _times(a: ExactVector, factor: Exact) -> ExactVector:
-    return (a[0] * factor, a[1] * factor, a[2] * factor)
-
-
-def _dot(a: ExactVector, b: ExactVector) -> Exact:
-    return a[0] * b[0] + a[1] * b[1] + a[2] * b[2]
-
-
-def _cross(a: ExactVector, b: ExactVector) -> ExactVector:
-    return (a[1] * b[2] - a[2] * b[1], a[2] * b[0] - a[0] * b[2], a[0] * b[1] - a[1] * b[0])

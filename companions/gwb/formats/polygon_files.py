@@ -1,6 +1,7 @@
 """Reads files of polygons by their forms. Coordinates are read exactly."""
 
 import struct
+import traceback
 import zipfile
 import zlib
 from pathlib import Path
@@ -12,31 +13,50 @@ from .off import HEADER, off_parts
 from .parts import NotAMesh, Part
 from .ply import ply_parts
 from .step.read import step_parts
-from .stl import is_binary, stl_parts
-from .text_lines import whole_text
+from .stl import fits_binary, is_binary, stl_parts
+from .text_lines import Text, as_utf_8, whole_text
 from .three_mf.read import three_mf_parts
 
 FORMS = ('off', 'obj', 'stl', '3mf', 'ply', 'amf', 'step')
 _ENDINGS = {**{form: form for form in FORMS}, 'stp': 'step', 'p21': 'step'}
+# The forms that are text; STL may be.
+_TEXTS = ('off', 'obj', 'stl', 'step')
+# What the modules raise that unpack, where a file ends before it should or is packed in an unknown way.
+_CUT_SHORT = (zipfile.BadZipFile, zlib.error, struct.error, EOFError, NotImplementedError)
+# What a reader raises that took something for what it isn't.
+_SLIPS = (ValueError, LookupError, TypeError, AttributeError, OverflowError, RuntimeError, StopIteration)
 _READ_AHEAD = 1000
 _MOST_BYTES = 64_000
 # What stands first in the lines of an OBJ file.
 _OBJ_WORDS = (b'v', b'vn', b'vt', b'f', b'o', b'g', b'mtllib', b'usemtl', b's')
 
 
-def read_parts(data: bytes, form: str, beside: Optional[Beside] = None) -> List[Part]:
-    """The parts of a file; `beside` reads the files that it names. Raises NotAMesh with the place where it can't be read."""
+def read_parts(data: bytes, form: str, beside: Optional[Beside] = None, flat: bool = False) -> List[Part]:
+    """The parts of a file; `beside` reads the files that it names. With `flat` solids of STEP that are curved or aren't understood are left out.
+
+    Raises NotAMesh or Unfit, with the place, where it can't be read.
+    """
     readers: Dict[str, Callable[[bytes], Iterator[Part]]] = {
         'off': off_parts, 'stl': stl_parts, '3mf': three_mf_parts, 'ply': ply_parts, 'amf': amf_parts,
-        'obj': lambda held: obj_parts(held, beside or (lambda name: None)), 'step': lambda held: step_parts(whole_text(held))}
+        'obj': lambda held: obj_parts(held, beside or (lambda name: None)), 'step': lambda held: step_parts(whole_text(held), flat)}
+    if not data:
+        raise NotAMesh('the file is empty')
+    text = as_utf_8(data) if form in _TEXTS and not (form == 'stl' and is_binary(data)) else Text(data, ())
     try:
-        parts = [part for part in readers[form](data) if part.polygons]
-    except (ValueError, IndexError, KeyError, struct.error, zipfile.BadZipFile, zlib.error, NotImplementedError,
-            RuntimeError, StopIteration, EOFError, TypeError, OverflowError, AttributeError) as error:
+        parts = [part for part in readers[form](text.data) if part.polygons]
+    except _CUT_SHORT as error:
         raise NotAMesh(f'this is no {form.upper()} file, or it is cut short: {type(error).__name__}') from None
+    except _SLIPS as error:
+        raise NotAMesh(f'this is a damaged {form.upper()} file, or its reader has a slip: {type(error).__name__} at {_place_of(error)}') from None
     if not parts:
         raise NotAMesh('there is no face in it')
-    return parts
+    return [parts[0]._replace(notes=(*text.notes, *parts[0].notes)), *parts[1:]]
+
+
+def _place_of(error: Exception) -> str:
+    """Where in the reader an error came up, as `read.py:30`."""
+    frame = traceback.extract_tb(error.__traceback__)[-1]
+    return f'{Path(frame.filename).name}:{frame.lineno}'
 
 
 def form_of(data: bytes, name: str) -> str:
@@ -52,25 +72,28 @@ def form_of(data: bytes, name: str) -> str:
         return 'ply'
     if HEADER.fullmatch(words[0].decode('ascii', 'replace')):
         return 'off'
-    if is_binary(data) or words[0].lower() == b'solid':
+    if fits_binary(data) or words[0].lower() == b'solid':
         return 'stl'
     if begin.startswith(b'<') and b'<amf' in begin.lower():
         return 'amf'
     if not ending and any(line.split()[:1] and line.split()[0] in _OBJ_WORDS for line in data[:_MOST_BYTES].splitlines()):
         return 'obj'
     if not ending:
-        raise NotAMesh(f'it is of no form that is known: {", ".join(FORMS).upper()}; --form says which')
+        raise NotAMesh(f'it is of no form that is known: {", ".join(FORMS).upper()}; --form says which, and most programs write one of them')
     return ending
 
 
 def files_beside(path: Optional[str]) -> Beside:
-    """Reads files in the folder of the path by their bare names; None where there is none, or no path."""
+    """Reads files in the folder of the path by their bare names; None where there is none, what is there is no plain file, or no path."""
     def read(name: str) -> Optional[bytes]:
         if path in (None, '-') or Path(name).name != name:
             return None
+        there = Path(str(path)).parent / name
         try:
-            with open(Path(str(path)).parent / name, 'rb') as file:
+            if not there.is_file():
+                return None
+            with open(there, 'rb') as file:
                 return file.read(_MOST_BYTES * 100)
-        except OSError:
+        except (OSError, ValueError):
             return None
     return read

@@ -16,11 +16,23 @@ from .parts import Gathered, NotAMesh, Part, require_few
 from .text_lines import numbered_words
 
 _HEAD, _FACET = 84, 50
+_LOOKED_AT = 1000
+
+
+def fits_binary(data: bytes) -> bool:
+    """Whether the bytes have the length that a binary file with their count of facets has."""
+    return len(data) >= _HEAD and len(data) == _HEAD + _FACET * _said(data)
 
 
 def is_binary(data: bytes) -> bool:
-    """Whether the bytes have the length that a binary file with their count of facets has."""
-    return len(data) >= _HEAD and len(data) == _HEAD + _FACET * struct.unpack('<I', data[80:84])[0]
+    """Whether the bytes are a binary file, of whatever length: they have zero bytes, which text has not."""
+    return fits_binary(data) or b'\0' in data[:_LOOKED_AT]
+
+
+def _said(data: bytes) -> int:
+    """How many facets the head of a binary file says."""
+    count: int = struct.unpack('<I', data[80:_HEAD])[0]
+    return count
 
 
 def stl_parts(data: bytes) -> Iterator[Part]:
@@ -110,13 +122,26 @@ class _Floats(NamedTuple):
 
 
 def _binary(data: bytes) -> Part:
-    require_few((len(data) - _HEAD) // _FACET)
+    count, behind = _facets(data)
+    require_few(count)
     places = _Places()
     gathered = Gathered(places.points)
-    for parts in struct.iter_unpack('<12fH', data[_HEAD:]):
+    for parts in struct.iter_unpack('<12fH', data[_HEAD:_HEAD + _FACET * count]):
         facet = _Floats(parts)
         gathered.add([_float_corner(facet.corner(number), places) for number in range(3)])
-    return Part(gathered.points, gathered.polygons, parted=True)
+    notes = (f'{behind} bytes behind the last facet were left out',) if behind else ()
+    return Part(gathered.points, gathered.polygons, parted=True, notes=notes)
+
+
+def _facets(data: bytes) -> Tuple[int, int]:
+    """How many facets a binary file has, and how many bytes stand behind them. Raises NotAMesh where its head says another number."""
+    if len(data) < _HEAD:
+        raise NotAMesh(f'it is binary STL of {len(data)} bytes: its head is cut short')
+    said, room = _said(data), len(data) - _HEAD
+    behind = room - _FACET * said
+    if behind < 0 or behind and behind % _FACET == 0:
+        raise NotAMesh(f'it is binary STL whose head says {said:,} facets, and there are {room // _FACET:,}')
+    return said, behind
 
 
 def _float_corner(corner: Tuple[float, ...], places: _Places) -> int:

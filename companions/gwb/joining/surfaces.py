@@ -1,6 +1,6 @@
 """Closed surfaces of polygons as models: faces of one plane joined, edges paired, vertices numbered."""
 
-from itertools import count, islice
+from itertools import chain, count, islice
 from typing import Dict, Hashable, List, NamedTuple, Sequence, Tuple
 
 from ..errors import Unfit
@@ -15,11 +15,11 @@ from .soup import Cycles, Soup, direction
 
 
 class Surface(NamedTuple):
-    """Faces of cycles of sides, the outline first; for each the place of a polygon that it comes from. And for each side its vertex."""
+    """Faces of cycles of sides, the outline first; for each the places of the polygons that it comes from. And for each side its vertex."""
 
     sides: Sides
     faces: List[Cycles]
-    origins: List[int]
+    origins: List[Tuple[int, ...]]
     vertex: List[int]
 
     def cycle_points(self, cycle: Sequence[int]) -> List[Vector]:
@@ -32,7 +32,7 @@ def surface_of(soup: Soup) -> Surface:
     sides = Sides(soup)
     numbers = count()
     faces = [[list(islice(numbers, len(cycle))) for cycle in face] for face in soup.faces]
-    return Surface(sides, faces, list(soup.origins), sides.vertices())
+    return Surface(sides, faces, [(origin,) for origin in soup.origins], sides.vertices())
 
 
 def with_joined_faces(surface: Surface, tags: Sequence[Hashable], drop_arealess: bool = False) -> Surface:
@@ -52,7 +52,8 @@ def with_joined_faces(surface: Surface, tags: Sequence[Hashable], drop_arealess:
         looks = next((directions[place] for place in held if directions[place] != ZERO), ZERO)
         faces = _joined(surface, held, looks, regions) if len(held) > 1 else []
         found.faces.extend(faces or [surface.faces[place] for place in held])
-        found.origins.extend(surface.origins[place] for place in (held[:1] if faces else held))
+        origins = [surface.origins[place] for place in held]
+        found.origins.extend([tuple(chain.from_iterable(origins))] if faces else origins)
     return found
 
 
@@ -63,7 +64,7 @@ def _regions(surface: Surface, directions: Sequence[Vector], tags: Sequence[Hash
     for side, mate in enumerate(surface.sides.mate):
         one, other = face[side], face[mate]
         if (side < mate and directions[one] == directions[other] and directions[one] != ZERO
-                and tags[origins[one]] == tags[origins[other]]):
+                and tags[origins[one][0]] == tags[origins[other][0]]):
             regions.join(one, other)
     return regions
 

@@ -41,6 +41,7 @@ def _parser() -> argparse.ArgumentParser:
     parser.add_argument('--keep-triangles', action='store_true', help="don't join faces of one plane")
     parser.add_argument('--repair', action='store_true',
                         help='cut bent faces into triangles, drop faces without an area and doubled ones, turn those that run the wrong way')
+    parser.add_argument('--flat', action='store_true', help='of STEP take the flat solids alone, and name what is left out')
     add_version(parser)
     return parser
 
@@ -50,7 +51,7 @@ def work(words: Optional[Sequence[str]]) -> int:
     options = _parser().parse_args(words)
     with Progress(PROGRAM) as progress:
         found = read_file(options.file, form=options.form, scale=options.scale, rounded=options.round,
-                          keep_triangles=options.keep_triangles, repair=options.repair, stage=progress.stage)
+                          keep_triangles=options.keep_triangles, repair=options.repair, flat=options.flat, stage=progress.stage)
         progress.stage('writing')
         lines = [*comments(found.looks), *script_of(found.model)]
     _say(found, options.round)

@@ -10,7 +10,8 @@ from ...geometry.plane_figures import Exact
 from ..parts import NotAMesh
 from ..placement import IN_PLACE, Placement, frame
 from .lexer import StepFile
-from .shapes import SOLIDS, StepShapes
+from .points import StepPoints
+from .shapes import SOLIDS
 from .units import MILLIMETRE, StepUnits, Unit
 
 _SUFFIX, _PLACING = 'SHAPE_REPRESENTATION', 'CONTEXT_DEPENDENT_SHAPE_REPRESENTATION'
@@ -40,15 +41,14 @@ class Instance(NamedTuple):
 class StepAssembly:
     """The representations of shapes in a file, and how they stand in each other."""
 
-    def __init__(self, file: StepFile, shapes: StepShapes) -> None:
-        self._file, self._shapes, self._units = file, shapes, StepUnits(file)
+    def __init__(self, file: StepFile, points: StepPoints) -> None:
+        self._file, self._points, self._units = file, points, StepUnits(file)
         self._items: Dict[str, List[str]] = {}
         self._unit: Dict[str, Unit] = {}
         self._same = JoinedSets()
         for reference in self._representations():
             items, context = file.at(reference).items[1:3]
             self._items[reference], self._unit[reference] = items, self._units.of_context(context)
-        self._refuse_strangers()
         for reference in file.of_kinds('SHAPE_REPRESENTATION_RELATIONSHIP'):
             self._same.join(*(int(end[1:]) for end in file.at(reference).items[2:4]))
         self._uses = self._by_parent([*self._relations(), *self._mapped()])
@@ -84,16 +84,14 @@ class StepAssembly:
     def _representations(self) -> Iterator[str]:
         return self._file.of_kinds(*(kind for kind in self._file.kinds() if kind.endswith(_SUFFIX) and kind != _PLACING))
 
-    def _refuse_strangers(self) -> None:
-        """Raises Unfit where a shape has what is neither a flat solid nor a placement: it isn't left out."""
+    def strangers(self) -> List[str]:
+        """What shapes have that is neither a solid nor a placement: each kind with how many there are, and the first."""
         strange: Dict[str, List[str]] = {}
         for item in (item for items in self._items.values() for item in items):
             kind = self._file.kind(item)
             if kind not in SOLIDS and kind not in _SILENT and kind != 'MAPPED_ITEM':
                 strange.setdefault(kind or 'what is several things at once', []).append(item)
-        if strange:
-            named = '; '.join(f'{len(held)} {kind} ({held[0]})' for kind, held in strange.items())
-            raise Unfit(f'the shape has what is not understood: {named}')
+        return [f'{len(held)} {kind} ({held[0]})' for kind, held in strange.items()]
 
     def group(self, representation: str) -> str:
         """Representations that are said to be one shape go by one name."""
@@ -174,9 +172,9 @@ class StepAssembly:
         if entity.kind != 'AXIS2_PLACEMENT_3D':
             raise Unfit(f'the placement {reference} is not understood: {entity.kind or "several things at once"}')
         origin, axis, beside = entity.items[1:4]
-        x, y, z = self._shapes.point(origin)
-        along: ExactVector = (0, 0, 1) if axis == '$' else self._shapes.direction(axis)
-        across = _across(along) if beside == '$' else self._shapes.direction(beside)
+        x, y, z = self._points.point(origin)
+        along: ExactVector = (0, 0, 1) if axis == '$' else self._points.direction(axis)
+        across = _across(along) if beside == '$' else self._points.direction(beside)
         try:
             return frame((x * millimetres, y * millimetres, z * millimetres), along, across)
         except ValueError:

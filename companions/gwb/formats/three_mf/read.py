@@ -1,4 +1,4 @@
-"""Reads 3MF (core specification 1.3, and the colours of the materials extension): objects, components, units and placements."""
+"""Reads 3MF (core specification 1.3, the colours of the materials extension, and the files of the production extension)."""
 
 import io
 import zipfile
@@ -17,13 +17,26 @@ from ..xml_parts import Attributes, XmlReader
 _MOST_RELATIONS = 4_000_000
 _MOST_ITEMS = 200_000
 _ROOT_TYPE = '/3dmodel'
+# How the word of an item or a component ends that names a further file, behind the namespace of the production extension.
+_PATH = '/production/2015/06 path'
+
+
+class _Key(NamedTuple):
+    """An object of a package: the model file in which it stands, and its number there."""
+
+    file: str
+    number: str
 
 
 class _Use(NamedTuple):
     """An object that is put somewhere."""
 
-    object: str
+    object: _Key
     placement: Placement
+
+
+# In the place of an object: what is built.
+_BUILT = _Key('', '')
 
 
 class _Object:
@@ -36,12 +49,14 @@ class _Object:
 
 
 class _Reader:
-    """Takes the elements of a model part."""
+    """Takes the elements of a model file, and names the further files of the package that it uses."""
 
-    def __init__(self) -> None:
+    def __init__(self, file: str) -> None:
         self.unit = 'millimeter'
-        self.objects: Dict[str, _Object] = {}
+        self.objects: Dict[_Key, _Object] = {}
         self.items: List[_Use] = []
+        self.further: List[str] = []
+        self._file = file
         self._numbers = Numbers()
         self._colours: Dict[str, List[Optional[Colour]]] = {}
         self._group: List[Optional[Colour]] = []
@@ -70,7 +85,7 @@ class _Reader:
 
     def _begin_object(self, words: Attributes) -> None:
         colour = self._colour(words.get('pid'), words.get('pindex', '0'))
-        self._object = self.objects[words['id']] = _Object(Appearance(words.get('name', ''), colour), words.get('pid'))
+        self._object = self.objects[_Key(self._file, words['id'])] = _Object(Appearance(words.get('name', ''), colour), words.get('pid'))
 
     def _vertex(self, words: Attributes) -> None:
         self._object.mesh.points.append(self._numbers.point([words['x'], words['y'], words['z']]))
@@ -88,9 +103,10 @@ class _Reader:
         self.items.append(self._use(words))
 
     def _use(self, words: Attributes) -> _Use:
-        if any(name.endswith(' path') for name in words):
-            raise NotAMesh('it has objects in further files, which are not read')
-        return _Use(words['objectid'], self._placement(words.get('transform')))
+        path = next((text for name, text in words.items() if name.endswith(_PATH)), '').lstrip('/')
+        if path and path not in self.further:
+            self.further.append(path)
+        return _Use(_Key(path or self._file, words['objectid']), self._placement(words.get('transform')))
 
     def _placement(self, text: Optional[str]) -> Placement:
         if text is None:
@@ -109,18 +125,40 @@ class _Reader:
 def three_mf_parts(data: bytes) -> Iterator[Part]:
     """The objects that a file builds, where they stand, in millimetres. Raises NotAMesh where it can't be read."""
     with zipfile.ZipFile(io.BytesIO(data)) as package:
-        reader = _Reader()
-        _read(package, _model_name(package), reader)
-    factor = millimetres_of(reader.unit)
+        model = _read_all(package, _model_name(package))
+    factor = millimetres_of(model.unit)
     scaled = Placement((factor, 0, 0), (0, factor, 0), (0, 0, factor), (0, 0, 0))
-    _require_few_uses(reader)
-    for use in _expanded(reader):
-        yield _part(reader.objects[use.object], scaled.after(use.placement))._replace(scaled=told_scaled(reader.unit, factor))
+    _require_few_uses(model)
+    for use in _expanded(model):
+        yield _part(model.objects[use.object], scaled.after(use.placement))._replace(scaled=told_scaled(model.unit, factor))
 
 
-def _read(package: zipfile.ZipFile, name: str, reader: _Reader) -> None:
-    with opened(package, name) as file:
-        XmlReader(reader.begin, None, MOST_BYTES).read(file)
+class _Model(NamedTuple):
+    """What a package holds: its unit, the objects of all its model files, and what the first one builds."""
+
+    unit: str
+    objects: Dict[_Key, _Object]
+    items: List[_Use]
+
+
+def _read_all(package: zipfile.ZipFile, first: str) -> _Model:
+    """The first model file of a package and those that it names, and these in turn. Raises NotAMesh where one isn't there, they have different
+    units, or are too long together."""
+    files: Dict[str, _Reader] = {}
+    waiting, left = [first], MOST_BYTES
+    while waiting:
+        name = waiting.pop(0)
+        if name not in package.namelist():
+            raise NotAMesh(f'the package has no {name[:60]}, which it names')
+        reader = files[name] = _Reader(name)
+        with opened(package, name, left) as file:
+            XmlReader(reader.begin, None, left).read(file)
+        left -= package.getinfo(name).file_size
+        if reader.unit != files[first].unit:
+            raise NotAMesh(f'{name[:60]} in it has lengths in {reader.unit[:30]}, and the model in {files[first].unit[:30]}')
+        waiting += [further for further in reader.further if further not in files and further not in waiting]
+    objects = {key: held for reader in files.values() for key, held in reader.objects.items()}
+    return _Model(files[first].unit, objects, files[first].items)
 
 
 def _model_name(package: zipfile.ZipFile) -> str:
@@ -141,32 +179,32 @@ def _model_name(package: zipfile.ZipFile) -> str:
     return wanted[0]
 
 
-def _require_few_uses(reader: _Reader) -> None:
+def _require_few_uses(model: _Model) -> None:
     """Raises NotAMesh where an object that is used isn't there, components go round, or polygons or uses are too many, all uses counted."""
-    within = {number: [use.object for use in held.uses] for number, held in reader.objects.items()}
-    within[''] = [use.object for use in reader.items]
-    uses: Dict[str, int] = {}
-    polygons: Dict[str, int] = {}
+    within = {key: [use.object for use in held.uses] for key, held in model.objects.items()}
+    within[_BUILT] = [use.object for use in model.items]
+    uses: Dict[_Key, int] = {}
+    polygons: Dict[_Key, int] = {}
     try:
-        for number in TopologicalSorter(within).static_order():
-            if number not in within:
-                raise NotAMesh(f'object {number[:20]} is used, and is not there')
-            own = len(reader.objects[number].mesh.polygons) if number else 0
-            uses[number] = 1 + sum(uses[other] for other in within[number])
-            polygons[number] = own + sum(polygons[other] for other in within[number])
+        for key in TopologicalSorter(within).static_order():
+            if key not in within:
+                raise NotAMesh(f'object {key.number[:20]} is used, and is not there')
+            own = len(model.objects[key].mesh.polygons) if key != _BUILT else 0
+            uses[key] = 1 + sum(uses[other] for other in within[key])
+            polygons[key] = own + sum(polygons[other] for other in within[key])
     except CycleError as error:
-        raise NotAMesh(f'the components of object {error.args[1][0][:20]} go round in a circle') from None
-    require_few(polygons[''])
-    if uses[''] > _MOST_ITEMS:
+        raise NotAMesh(f'the components of object {error.args[1][0].number[:20]} go round in a circle') from None
+    require_few(polygons[_BUILT])
+    if uses[_BUILT] > _MOST_ITEMS:
         raise NotAMesh(f'objects are used more than {_MOST_ITEMS:,} times')
 
 
-def _expanded(reader: _Reader) -> Iterator[_Use]:
+def _expanded(model: _Model) -> Iterator[_Use]:
     """The objects with meshes that the items and the components below them use, in order."""
-    waiting = list(reversed(reader.items))
+    waiting = list(reversed(model.items))
     while waiting:
         use = waiting.pop()
-        held = reader.objects[use.object]
+        held = model.objects[use.object]
         if held.mesh.polygons:
             yield use
         waiting += [_Use(part.object, use.placement.after(part.placement)) for part in reversed(held.uses)]
