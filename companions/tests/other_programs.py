@@ -3,7 +3,7 @@
 
     companions/tests/other_programs.py
 
-The models are those of examples, tests/scripts and tests/stored/programs whose solids all have a volume. Of each program that is there a line
+The models are those of examples, tests/scripts and tests/stored/files.tar.xz whose solids all have a volume. Of each program that is there a line
 says how many files of each form it reads so, of how many. FreeCAD and gmsh (Debian: freecad-python3, python3-gmsh) are asked by Debian's
 Python. OpenSCAD takes nothing away from what it reads, so that it has to make a solid of it; models of one solid, of several that are apart,
 and of several that touch, of which gwb-mesh warns, are told apart.

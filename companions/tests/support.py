@@ -1,8 +1,11 @@
 """What the tests share: where things lie, how a companion is run, and listings made from points and faces."""
 
+import atexit
 import io
 import os
 import sys
+import tarfile
+import tempfile
 import unittest
 from contextlib import redirect_stderr, redirect_stdout
 from importlib import import_module
@@ -12,11 +15,24 @@ from typing import Dict, List, NamedTuple, Sequence, Tuple
 TESTS = Path(__file__).resolve().parent
 COMPANIONS = TESTS.parent
 REPOSITORY = COMPANIONS.parent
-STORED = TESTS / 'stored'
+OUTPUTS = TESTS / 'stored'
 sys.path.insert(0, str(COMPANIONS))
 
 Point = Tuple[int, int, int]
 Cycle = Sequence[int]
+
+
+def _unpacked() -> Path:
+    """The folder in which the files of other programs are, unpacked once in a process, and removed when it ends."""
+    folder = tempfile.TemporaryDirectory()
+    atexit.register(folder.cleanup)
+    with tarfile.open(OUTPUTS / 'files.tar.xz') as archive:
+        archive.extractall(folder.name)
+    return Path(folder.name)
+
+
+# Files of other programs, as stored/MANIFEST.md says.
+STORED = _unpacked()
 
 
 class Outcome(NamedTuple):

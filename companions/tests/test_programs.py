@@ -5,7 +5,7 @@ import unittest
 from fractions import Fraction
 from typing import NamedTuple, Optional, Sequence, Tuple
 
-from support import STORED, program, run
+from support import OUTPUTS, STORED, program, run
 
 from gwb.formats.importing import read_file
 from gwb.geometry.measures import six_volume
@@ -83,6 +83,11 @@ class FilesOfPrograms(unittest.TestCase):
 
     def test_all_are_listed(self):
         self.assertEqual({path.name for path in PROGRAMS.iterdir()}, set(FILES))
+
+    def test_the_manifest_names_each_file(self):
+        rows = (line.split('|')[1] for line in (OUTPUTS / 'MANIFEST.md').read_text().splitlines() if line.startswith('| ') and '.' in line.split('|')[1])
+        named = sorted(name.strip() for names in rows for name in names.split(','))
+        self.assertEqual(named, sorted(path.name for path in STORED.rglob('*') if path.is_file()))
 
     def test_what_they_hold(self):
         for name, all_wanted in FILES.items():
