@@ -1,247 +1,391 @@
-/* Flat faces cut into triangles, by exact tests. Rings are joined to the outline by bridges, and then ears are cut off. Coordinates lie
- * within 1,000,000,000, so that each test fits in 64 bits. */
+/* Flat faces cut into triangles, by exact tests, in time n log n (K. Hertel, K. Mehlhorn: Fast triangulation of simple polygons, 1983). A line
+ * sweeps over the face from left to right. A span is a stretch of that line within the face, from an edge below it, its floor, to one above it,
+ * its ceiling. What lies left of the line is cut already, but for chains of corners that a later one will be cut off with. Edges that come to
+ * lie next to each other on the line are tested, so no two that cross are missed (M. Shamos, D. Hoey: Geometric intersection problems, 1976).
+ * Coordinates lie within 1,000,000,000, so that each test fits in 64 bits. */
 #include "lists.h"
 #include "walks.h"
 #include <stdlib.h>
 
-/* A corner of a face in the plane that the face is seen in. */
+enum side { FLOOR, CEILING };
+
+/* A corner of a face in the plane that the face is seen in. Its edge is the one that starts at it. */
 struct corner {
-    uint32_t vertex;
+    uint32_t vertex, half_edge;
+    uint32_t before, after; /* its neighbours in its loop, by their places */
+    uint32_t span;          /* the span that its edge holds, as the line crosses that */
     int64_t x, y;
 };
 
-/* A part of the border, or a bridge: nothing is seen through it. */
-struct wall {
-    struct corner from, to;
+/* What the line meets at a corner. Of the corners at one vertex it meets those first that end an edge, and then those that begin two. */
+enum kind { END, MERGE, ON_FLOOR, ON_CEILING, SPLIT, START };
+
+struct event {
+    int64_t x, y;
+    uint32_t corner;
+    enum kind kind;
 };
 
-/* A ring: its corners lie one after another, and `start` of them is the rightmost one. */
-struct ring {
-    size_t first, count, start;
-    struct corner rightmost;
+/* Corners from the last that was met back to the first; the chain between them bends inwards. All but the first lie on one side. */
+struct chain {
+    uint32_t last;
+    enum side side;
 };
 
+/* A corner in a chain, and the one before it. */
+struct link {
+    uint32_t corner, before;
+};
+
+/* A span. Behind a corner at which two became one it has both of their chains, until the next corner. All spans are a treap. The one at place
+ * 0 lies below all and is none: the tree hangs at it. */
+struct span {
+    uint32_t edges[2];
+    struct chain chains[2]; /* the first of them alone, or those at its floor and its ceiling */
+    bool has_both;
+    uint32_t neighbours[2]; /* the spans below it and above it */
+    uint32_t parent, children[2], rank;
+};
+
+enum { NO_LINK = UINT32_MAX };
 enum outcome { CUT, UNCUT, NO_MEMORY };
 
 /* A face that is cut, and the rows that are written. */
 struct cutting {
     const gwb *g;
-    struct list path;    /* of corners: the outline, which runs to the left, and what was joined to it */
-    struct list borders; /* of corners: those of all rings, which run to the right */
-    struct list rings, walls;
-    struct list places; /* as the face is read: those of its outer loop first */
-    struct list ends;   /* where in `places` each of its loops ends */
-    int x, y;           /* the coordinates that are its x and y as it is seen from its front */
+    struct list halves, corners, events, links, spans;
+    int x, y;             /* the coordinates that are its x and y as it is seen from its front */
+    size_t loops;         /* of the face, but for those of one vertex */
+    uint32_t rank;        /* the last rank that was drawn */
     gwb_triangle_row *rows;
     size_t room, count;
     uint32_t face;
 };
 
-static struct corner *path_of(struct cutting *c) { return c->path.items; }
+static struct corner *corner_at(const struct cutting *c, uint32_t place) { return (struct corner *)c->corners.items + place; }
+static struct link *link_at(const struct cutting *c, uint32_t place) { return (struct link *)c->links.items + place; }
+static struct span *span_at(const struct cutting *c, uint32_t place) { return (struct span *)c->spans.items + place; }
 
 /* ---- exact tests */
 
 /* Above 0 where a, b and c turn to the left: twice the area between them. */
-static int64_t turn(struct corner a, struct corner b, struct corner c) { return (b.x - a.x) * (c.y - a.y) - (b.y - a.y) * (c.x - a.x); }
-static int side(struct corner a, struct corner b, struct corner c) { return (turn(a, b, c) > 0) - (turn(a, b, c) < 0); }
-static bool is_same(struct corner a, struct corner b) { return a.x == b.x && a.y == b.y; }
-static bool is_before(struct corner a, struct corner b) { return a.x != b.x ? a.x < b.x : a.y < b.y; }
-static bool is_within(int64_t a, int64_t at, int64_t b) { return (a <= at && at <= b) || (b <= at && at <= a); }
-static int64_t distance(struct corner a, struct corner b) { return llabs(a.x - b.x) + llabs(a.y - b.y); }
-
-/* Whether a corner lies between two others, and is none of them. */
-static bool is_between(struct corner p, struct corner q, struct corner at)
+static int64_t turn(const struct corner *a, const struct corner *b, const struct corner *c)
 {
-    return is_within(p.x, at.x, q.x) && is_within(p.y, at.y, q.y) && !is_same(p, at) && !is_same(q, at) && turn(p, q, at) == 0;
+    return (b->x - a->x) * (c->y - a->y) - (b->y - a->y) * (c->x - a->x);
 }
 
-/* Whether a wall meets the way from p to q elsewhere than where both end. */
-static bool blocks(struct wall wall, struct corner p, struct corner q)
+static bool is_same(const struct corner *a, const struct corner *b) { return a->x == b->x && a->y == b->y; }
+static bool is_before(const struct corner *a, const struct corner *b) { return a->x != b->x ? a->x < b->x : a->y < b->y; }
+
+/* An edge from left to right. Floors run that way, as the inside is on the left of each edge; ceilings run back. */
+struct line {
+    const struct corner *left, *right;
+    bool is_floor;
+};
+
+static struct line line_of(const struct cutting *c, uint32_t edge)
 {
-    struct corner a = wall.from, b = wall.to;
-    return (side(a, b, p) * side(a, b, q) < 0 && side(p, q, a) * side(p, q, b) < 0) || is_between(p, q, a) || is_between(p, q, b) ||
-           is_between(a, b, p) || is_between(a, b, q);
+    const struct corner *from = corner_at(c, edge), *to = corner_at(c, from->after);
+    return is_before(from, to) ? (struct line){from, to, true} : (struct line){to, from, false};
 }
 
-/* Whether a point lies in the angle that the corner at a place of a cycle opens on its left. */
-static bool opens_to(const struct corner *cycle, size_t count, size_t place, struct corner point)
+/* Whether one edge lies below another as far as both go, and they meet at most at one end. The two sides of one edge lie so where the face is
+ * on both. */
+static bool is_below(const struct cutting *c, uint32_t edge, uint32_t other)
 {
-    struct corner before = cycle[(place + count - 1) % count], here = cycle[place], after = cycle[(place + 1) % count];
-    bool is_left_of_one = turn(before, here, point) > 0, is_left_of_other = turn(here, after, point) > 0;
-    return turn(before, here, after) > 0 ? is_left_of_one && is_left_of_other : is_left_of_one || is_left_of_other;
+    struct line a = line_of(c, edge), b = line_of(c, other);
+    if (corner_at(c, edge)->half_edge == (corner_at(c, other)->half_edge ^ 1))
+        return b.is_floor;
+    bool begin_as_one = is_same(a.left, b.left), end_as_one = is_same(a.right, b.right);
+    bool begins_below = is_before(a.left, b.left) ? turn(a.left, a.right, b.left) > 0 : turn(b.left, b.right, a.left) < 0;
+    bool ends_below = is_before(a.right, b.right) ? turn(b.left, b.right, a.right) < 0 : turn(a.left, a.right, b.right) > 0;
+    return !(begin_as_one && end_as_one) && (begin_as_one || begins_below) && (end_as_one || ends_below);
 }
 
-/* ---- bridges */
-
-static bool add_walls(struct cutting *c, const struct corner *cycle, size_t count)
+/* The same of edges that go on behind a corner that the line meets: true of others. */
+static bool goes_below(const struct cutting *c, uint32_t edge, uint32_t other, const struct corner *at)
 {
-    for (size_t i = 0; i < count; i++)
-        if (!list_add(&c->walls, &(struct wall){cycle[i], cycle[(i + 1) % count]}))
-            return false;
-    return true;
+    return is_same(line_of(c, edge).right, at) || is_same(line_of(c, other).right, at) || is_below(c, edge, other);
 }
 
-static bool is_seen(struct cutting *c, const struct ring *ring, size_t place)
+/* Whether a floor passes below an edge at which the line has come to the left end. */
+static bool passes_below(const struct cutting *c, uint32_t floor, uint32_t edge)
 {
-    const struct corner *border = (const struct corner *)c->borders.items + ring->first;
-    const struct wall *walls = c->walls.items;
-    struct corner at = path_of(c)[place];
-    if (!opens_to(path_of(c), c->path.count, place, ring->rightmost) || !opens_to(border, ring->count, ring->start, at))
+    struct line a = line_of(c, floor), b = line_of(c, edge);
+    int64_t at_left = turn(a.left, a.right, b.left);
+    return at_left != 0 ? at_left > 0 : turn(a.left, a.right, b.right) > 0;
+}
+
+/* ---- the spans, from below */
+
+/* Turns the tree, so that a span bears the one that bore it. */
+static void raise(struct cutting *c, uint32_t place)
+{
+    uint32_t below = span_at(c, place)->parent, parent = span_at(c, below)->parent;
+    int side = span_at(c, below)->children[1] == place;
+    uint32_t moved = span_at(c, place)->children[!side];
+    span_at(c, parent)->children[span_at(c, parent)->children[1] == below] = place;
+    span_at(c, below)->children[side] = moved;
+    span_at(c, moved)->parent = below;
+    span_at(c, place)->children[!side] = below;
+    span_at(c, below)->parent = place;
+    span_at(c, place)->parent = parent;
+}
+
+/* Adds a span, next above another. */
+static uint32_t add_span(struct cutting *c, uint32_t below)
+{
+    uint32_t place = (uint32_t)c->spans.count++, above = span_at(c, below)->neighbours[1];
+    bool is_free = span_at(c, below)->children[1] == 0;
+    c->rank ^= c->rank << 13, c->rank ^= c->rank >> 17, c->rank ^= c->rank << 5;
+    *span_at(c, place) = (struct span){.neighbours = {below, above}, .parent = is_free ? below : above, .rank = c->rank >> 1};
+    span_at(c, below)->neighbours[1] = span_at(c, above)->neighbours[0] = place;
+    span_at(c, is_free ? below : above)->children[is_free] = place;
+    while (span_at(c, span_at(c, place)->parent)->rank < span_at(c, place)->rank)
+        raise(c, place);
+    return place;
+}
+
+static void remove_span(struct cutting *c, uint32_t place)
+{
+    struct span *span = span_at(c, place), *children[2];
+    while (span->children[0] != 0 || span->children[1] != 0) {
+        children[0] = span_at(c, span->children[0]), children[1] = span_at(c, span->children[1]);
+        bool second = span->children[0] == 0 || (span->children[1] != 0 && children[1]->rank > children[0]->rank);
+        raise(c, span->children[second]);
+    }
+    struct span *parent = span_at(c, span->parent);
+    parent->children[parent->children[1] == place] = 0;
+    span_at(c, span->neighbours[0])->neighbours[1] = span->neighbours[1];
+    span_at(c, span->neighbours[1])->neighbours[0] = span->neighbours[0];
+}
+
+/* The last span whose floor passes below an edge that begins at the line: 0 where none does. */
+static uint32_t span_below(const struct cutting *c, uint32_t edge)
+{
+    uint32_t found = 0, at = span_at(c, 0)->children[1];
+    while (at != 0) {
+        bool is = passes_below(c, span_at(c, at)->edges[FLOOR], edge);
+        found = is ? at : found;
+        at = span_at(c, at)->children[is];
+    }
+    return found;
+}
+
+/* Whether a span's edges, and those next to them, lie one above another behind a corner. */
+static bool is_in_order(const struct cutting *c, uint32_t place, const struct corner *at)
+{
+    const struct span *span = span_at(c, place);
+    uint32_t below = span->neighbours[0], above = span->neighbours[1];
+    return (below == 0 || goes_below(c, span_at(c, below)->edges[CEILING], span->edges[FLOOR], at)) &&
+           goes_below(c, span->edges[FLOOR], span->edges[CEILING], at) &&
+           (above == 0 || goes_below(c, span->edges[CEILING], span_at(c, above)->edges[FLOOR], at));
+}
+
+/* ---- chains */
+
+static struct chain chain_of(struct cutting *c, uint32_t corner)
+{
+    *link_at(c, (uint32_t)c->links.count) = (struct link){corner, NO_LINK};
+    return (struct chain){(uint32_t)c->links.count++, FLOOR};
+}
+
+/* Cuts a corner off with one of a chain and the one before that: false where they don't turn as the face does. */
+static bool cut(struct cutting *c, const struct link *link, enum side side, uint32_t corner)
+{
+    uint32_t before = link_at(c, link->before)->corner, first = side == FLOOR ? before : link->corner, second = side == FLOOR ? link->corner : before;
+    const struct corner *p = corner_at(c, first), *q = corner_at(c, second), *r = corner_at(c, corner);
+    bool is_cut = turn(p, q, r) > 0;
+    if (is_cut && c->count < c->room)
+        c->rows[c->count] = (gwb_triangle_row){c->face, {p->vertex, q->vertex, r->vertex}};
+    c->count += is_cut;
+    return is_cut;
+}
+
+/* Adds a corner to a chain, which is cut as far as can be. A corner on the other side of it sees all of it: where one does not, the loops
+ * touch, and the answer is false. */
+static bool add_corner(struct cutting *c, struct chain *chain, uint32_t corner, enum side side)
+{
+    uint32_t at = chain->last;
+    while (link_at(c, at)->before != NO_LINK && cut(c, link_at(c, at), chain->side, corner))
+        at = link_at(c, at)->before;
+    if (side != chain->side && link_at(c, at)->before != NO_LINK)
         return false;
-    for (size_t i = 0; i < c->walls.count; i++)
-        if (blocks(walls[i], at, ring->rightmost))
-            return false;
+    if (side != chain->side) {
+        at = chain->last;
+        link_at(c, at)->before = NO_LINK;
+    }
+    *link_at(c, (uint32_t)c->links.count) = (struct link){corner, at};
+    *chain = (struct chain){(uint32_t)c->links.count++, side};
     return true;
 }
 
-/* The place of the nearest corner of the path that is seen from a ring's rightmost one; that of none is the end. */
-static size_t nearest_seen(struct cutting *c, const struct ring *ring)
+/* A corner on a span's floor or ceiling. Of two chains the one at that side ends there. */
+static bool reach(struct cutting *c, struct span *span, uint32_t corner, enum side side)
 {
-    size_t nearest = c->path.count;
-    for (size_t i = 0; i < c->path.count; i++) {
-        bool is_nearer = nearest == c->path.count || distance(path_of(c)[i], ring->rightmost) < distance(path_of(c)[nearest], ring->rightmost);
-        if (is_nearer && is_seen(c, ring, i))
-            nearest = i;
-    }
-    return nearest;
+    if (!span->has_both)
+        return add_corner(c, &span->chains[0], corner, side);
+    bool is_well = add_corner(c, &span->chains[side], corner, side) && add_corner(c, &span->chains[!side], corner, side);
+    span->chains[0] = span->chains[!side];
+    span->has_both = false;
+    return is_well;
 }
 
-/* The path goes over to the ring behind a place, round it, and back. */
-static enum outcome join(struct cutting *c, const struct ring *ring, size_t place)
+/* ---- corners, as the line meets them: false where the loops cross or touch */
+
+/* An edge holds a span at a side from here on. */
+static void hold(struct cutting *c, uint32_t edge, uint32_t place, enum side side)
 {
-    const struct corner *border = (const struct corner *)c->borders.items + ring->first;
-    size_t added = ring->count + 2, after = c->path.count - place - 1;
-    struct corner end = path_of(c)[place];
-    if (!list_reserve(&c->path, c->path.count + added) || !list_add(&c->walls, &(struct wall){ring->rightmost, end}))
-        return NO_MEMORY;
-    struct corner *at = path_of(c) + place + 1;
-    memmove(at + added, at, after * sizeof *at);
-    for (size_t i = 0; i <= ring->count; i++)
-        at[i] = border[(ring->start + i) % ring->count];
-    at[ring->count + 1] = end;
-    c->path.count += added;
-    return CUT;
+    span_at(c, place)->edges[side] = edge;
+    corner_at(c, edge)->span = place;
 }
 
-/* Joins the first ring that can be joined. */
-static enum outcome join_one(struct cutting *c)
+/* A new span, next above another, between two edges. */
+static uint32_t begin_span(struct cutting *c, uint32_t below, uint32_t floor, uint32_t ceiling)
 {
-    struct ring *rings = c->rings.items;
-    for (size_t i = 0; i < c->rings.count; i++) {
-        struct ring ring = rings[i];
-        size_t place = nearest_seen(c, &ring);
-        if (place < c->path.count) {
-            memmove(rings + i, rings + i + 1, (--c->rings.count - i) * sizeof ring);
-            return join(c, &ring, place);
-        }
+    uint32_t place = add_span(c, below);
+    hold(c, floor, place, FLOOR);
+    hold(c, ceiling, place, CEILING);
+    return place;
+}
+
+static bool start(struct cutting *c, uint32_t corner)
+{
+    uint32_t place = begin_span(c, span_below(c, corner), corner, corner_at(c, corner)->before);
+    span_at(c, place)->chains[0] = chain_of(c, corner);
+    return is_in_order(c, place, corner_at(c, corner));
+}
+
+/* A floor and a ceiling of one span end. */
+static bool end(struct cutting *c, uint32_t corner)
+{
+    const struct corner *at = corner_at(c, corner);
+    struct span *span = span_at(c, at->span);
+    uint32_t below = span->neighbours[0], above = span->neighbours[1];
+    if (corner_at(c, at->before)->span != at->span)
+        return false;
+    remove_span(c, at->span);
+    if (below != 0 && above != 0 && !goes_below(c, span_at(c, below)->edges[CEILING], span_at(c, above)->edges[FLOOR], at))
+        return false;
+    if (!span->has_both)
+        return add_corner(c, &span->chains[0], corner, !span->chains[0].side);
+    return add_corner(c, &span->chains[FLOOR], corner, FLOOR) && add_corner(c, &span->chains[CEILING], corner, CEILING);
+}
+
+/* The edge of a span ends, and another goes on. */
+static bool go_on(struct cutting *c, uint32_t corner, uint32_t ends, uint32_t begins, enum side side)
+{
+    uint32_t place = corner_at(c, ends)->span;
+    hold(c, begins, place, side);
+    return reach(c, span_at(c, place), corner, side) && is_in_order(c, place, corner_at(c, corner));
+}
+
+/* The chains of a span become those of two, both of which go on from a corner within it. It is joined to the corner that was met last. */
+static bool split_chains(struct cutting *c, struct span *lower, struct span *upper, uint32_t corner)
+{
+    struct chain chain = lower->chains[0], beside;
+    if (lower->has_both) {
+        upper->chains[0] = lower->chains[CEILING];
+        lower->has_both = false;
+    } else {
+        beside = chain_of(c, link_at(c, chain.last)->corner);
+        upper->chains[0] = chain.side == FLOOR ? chain : beside;
+        lower->chains[0] = chain.side == FLOOR ? beside : chain;
     }
+    return add_corner(c, &lower->chains[0], corner, CEILING) && add_corner(c, &upper->chains[0], corner, FLOOR);
+}
+
+static bool split(struct cutting *c, uint32_t corner)
+{
+    uint32_t before = corner_at(c, corner)->before, lower = span_below(c, corner);
+    if (lower == 0)
+        return false;
+    uint32_t upper = begin_span(c, lower, corner, span_at(c, lower)->edges[CEILING]);
+    hold(c, before, lower, CEILING);
+    return is_in_order(c, lower, corner_at(c, corner)) && is_in_order(c, upper, corner_at(c, corner)) &&
+           split_chains(c, span_at(c, lower), span_at(c, upper), corner);
+}
+
+/* The ceiling of a span ends, and the floor of the one above it: they are one from here on. */
+static bool merge(struct cutting *c, uint32_t corner)
+{
+    uint32_t lower = corner_at(c, corner)->span, upper = corner_at(c, corner_at(c, corner)->before)->span;
+    struct span *low = span_at(c, lower), *high = span_at(c, upper);
+    if (low->neighbours[1] != upper || !reach(c, low, corner, CEILING) || !reach(c, high, corner, FLOOR))
+        return false;
+    low->chains[CEILING] = high->chains[0];
+    low->has_both = true;
+    hold(c, high->edges[CEILING], lower, CEILING);
+    remove_span(c, upper);
+    return is_in_order(c, lower, corner_at(c, corner));
+}
+
+static bool meet(struct cutting *c, const struct event *event)
+{
+    uint32_t corner = event->corner, before = corner_at(c, corner)->before;
+    switch (event->kind) {
+    case END: return end(c, corner);
+    case MERGE: return merge(c, corner);
+    case ON_FLOOR: return go_on(c, corner, before, corner, FLOOR);
+    case ON_CEILING: return go_on(c, corner, corner, before, CEILING);
+    case SPLIT: return split(c, corner);
+    case START: return start(c, corner);
+    }
+    return false;
+}
+
+static enum kind kind_of(const struct cutting *c, const struct corner *at)
+{
+    const struct corner *before = corner_at(c, at->before), *after = corner_at(c, at->after);
+    bool comes_from_left = is_before(before, at), goes_left = is_before(after, at);
+    if (comes_from_left != goes_left)
+        return comes_from_left ? ON_FLOOR : ON_CEILING;
+    bool is_sharp = turn(before, at, after) > 0;
+    return goes_left ? (is_sharp ? END : MERGE) : (is_sharp ? START : SPLIT);
+}
+
+static int from_the_left(const void *one, const void *other)
+{
+    const struct event *a = one, *b = other;
+    return a->x != b->x ? (a->x > b->x) - (a->x < b->x) : a->y != b->y ? (a->y > b->y) - (a->y < b->y) : (int)a->kind - (int)b->kind;
+}
+
+static void add_events(struct cutting *c)
+{
+    struct event *events = c->events.items;
+    for (uint32_t i = 0; i < c->corners.count; i++)
+        events[i] = (struct event){corner_at(c, i)->x, corner_at(c, i)->y, i, kind_of(c, corner_at(c, i))};
+    c->events.count = c->corners.count;
+    qsort(events, c->events.count, sizeof *events, from_the_left);
+}
+
+/* Whether no two vertices lie at one place. */
+static bool are_apart(const struct cutting *c)
+{
+    const struct event *events = c->events.items;
+    bool are = true;
+    for (size_t i = 1; i < c->events.count && are; i++) {
+        const struct corner *one = corner_at(c, events[i - 1].corner), *other = corner_at(c, events[i].corner);
+        are = !is_same(one, other) || one->vertex == other->vertex;
+    }
+    return are;
+}
+
+/* Moves the line over the face. What the loops bound is one part where there are so many triangles. */
+static enum outcome sweep(struct cutting *c)
+{
+    const struct event *events = c->events.items;
+    size_t before = c->count, wanted = c->events.count + 2 * c->loops - 4;
+    bool is_well = are_apart(c);
+    for (size_t i = 0; i < c->events.count && is_well; i++)
+        is_well = meet(c, &events[i]);
+    if (is_well && c->count - before == wanted)
+        return CUT;
+    c->count = before;
     return UNCUT;
 }
 
-static int from_the_right(const void *one, const void *other)
-{
-    struct corner a = ((const struct ring *)one)->rightmost, b = ((const struct ring *)other)->rightmost;
-    return is_before(a, b) - is_before(b, a);
-}
-
-/* Joins each ring to the path, from the right to the left: a ring that can't be joined yet waits for another. */
-static enum outcome join_all(struct cutting *c)
-{
-    enum outcome outcome = CUT;
-    if (c->rings.count != 0)
-        qsort(c->rings.items, c->rings.count, sizeof(struct ring), from_the_right);
-    while (outcome == CUT && c->rings.count != 0)
-        outcome = join_one(c);
-    return outcome;
-}
-
-/* ---- ears */
-
-/* Whether the triangle at a corner lies within the path, and nothing of the path in it. */
-static bool is_ear(struct cutting *c, size_t tip)
-{
-    const struct corner *path = path_of(c);
-    size_t count = c->path.count;
-    struct corner before = path[(tip + count - 1) % count], here = path[tip], after = path[(tip + 1) % count];
-    if (turn(before, here, after) <= 0)
-        return false;
-    for (size_t i = 0; i < count; i++) {
-        bool is_corner = is_same(path[i], before) || is_same(path[i], here) || is_same(path[i], after);
-        if (!is_corner && turn(before, here, path[i]) >= 0 && turn(here, after, path[i]) >= 0 && turn(after, before, path[i]) >= 0)
-            return false;
-    }
-    return true;
-}
-
-static void write_ear(struct cutting *c, size_t tip)
-{
-    const struct corner *path = path_of(c);
-    size_t count = c->path.count;
-    if (c->count < c->room)
-        c->rows[c->count] =
-            (gwb_triangle_row){c->face, {path[(tip + count - 1) % count].vertex, path[tip].vertex, path[(tip + 1) % count].vertex}};
-    c->count++;
-}
-
-/* Cuts ears off the path until a triangle is left, and that. */
-static enum outcome cut_ears(struct cutting *c)
-{
-    size_t tip = 0, failures = 0;
-    while (c->path.count > 2) {
-        if (failures > c->path.count)
-            return UNCUT;
-        tip = tip < c->path.count ? tip : 0;
-        if (is_ear(c, tip)) {
-            write_ear(c, tip);
-            memmove(path_of(c) + tip, path_of(c) + tip + 1, (--c->path.count - tip) * sizeof(struct corner));
-            failures = 0;
-        } else {
-            tip++;
-            failures++;
-        }
-    }
-    return CUT;
-}
-
 /* ---- faces */
-
-/* A vertex of a face, and where it lies. */
-struct place {
-    uint32_t vertex;
-    int64_t at[3];
-};
-
-/* Adds the vertices of a loop to `places`, in their order. A loop of one vertex leaves nothing out. */
-static bool add_places(struct cutting *c, uint32_t loop)
-{
-    uint32_t first = 0;
-    bool is_there = gwb_first_half_edge(c->g, loop, &first) == GWB_FOUND;
-    for (uint32_t at = first; is_there; is_there = gwb_next_half_edge(c->g, at, &at) == GWB_FOUND && at != first) {
-        gwb_point point = {0, 0, 0};
-        uint32_t vertex = start_of(c->g, at);
-        gwb_vertex(c->g, vertex, &point);
-        if (!list_add(&c->places, &(struct place){vertex, {point.x, point.y, point.z}}))
-            return false;
-    }
-    return true;
-}
-
-static bool read_loop(struct cutting *c, uint32_t loop)
-{
-    size_t first = c->places.count;
-    return add_places(c, loop) && (c->places.count == first || list_add(&c->ends, &c->places.count));
-}
-
-static bool read_face(struct cutting *c)
-{
-    gwb_face_row row = {0, 0};
-    c->places.count = c->ends.count = 0;
-    gwb_face(c->g, c->face, &row);
-    bool is_read = read_loop(c, row.outer_loop);
-    for (uint32_t ring = 0; is_read && gwb_ring_after(c->g, c->face, ring, &ring) == GWB_FOUND;)
-        is_read = read_loop(c, ring);
-    return is_read;
-}
 
 /* The upper half of a number without its sign, and its lower half. */
 static gwb_wide size_of(gwb_wide number)
@@ -269,68 +413,76 @@ static bool find_front(struct cutting *c)
     return true;
 }
 
-/* Adds the corners of a loop, whose places lie from `first` to before `end`, to a list. */
-static bool add_corners(const struct cutting *c, size_t first, size_t end, struct list *corners)
+/* Reads the half-edges of the face, loop by loop. Loops of one vertex have none. */
+static bool read_half_edges(struct cutting *c)
 {
-    const struct place *places = c->places.items;
-    for (size_t i = first; i < end; i++)
-        if (!list_add(corners, &(struct corner){places[i].vertex, places[i].at[c->x], places[i].at[c->y]}))
-            return false;
-    return true;
+    bool has_room = list_reserve(&c->halves, 1);
+    c->halves.count = has_room ? gwb_half_edge_rows(c->g, c->face, c->halves.items, c->halves.room) : 0;
+    if (c->halves.count <= c->halves.room)
+        return has_room;
+    size_t count = c->halves.count;
+    c->halves.count = 0;
+    has_room = list_reserve(&c->halves, count);
+    c->halves.count = has_room ? gwb_half_edge_rows(c->g, c->face, c->halves.items, c->halves.room) : 0;
+    return has_room;
 }
 
-static bool add_ring(struct cutting *c, size_t place, size_t count)
+/* Makes room for all that the half-edges of a face ask for: each corner is added to chains four times at most, and at most every second one
+ * begins a span. */
+static bool make_room(struct cutting *c)
 {
-    struct ring ring = {c->borders.count, count, 0, {0, 0, 0}};
-    if (!add_corners(c, place, place + count, &c->borders))
-        return false;
-    const struct corner *border = (const struct corner *)c->borders.items + ring.first;
-    for (size_t i = 1; i < count; i++)
-        ring.start = is_before(border[ring.start], border[i]) ? i : ring.start;
-    ring.rightmost = border[ring.start];
-    return list_add(&c->rings, &ring) && add_walls(c, border, count);
+    size_t count = c->halves.count;
+    c->corners.count = c->events.count = c->links.count = c->loops = 0;
+    bool has_room = list_reserve(&c->corners, count) && list_reserve(&c->events, count) && list_reserve(&c->links, 4 * count) &&
+                    list_reserve(&c->spans, count / 2 + 2);
+    if (has_room)
+        *span_at(c, 0) = (struct span){.rank = UINT32_MAX};
+    c->spans.count = 1;
+    return has_room;
 }
 
-/* Lays the face out as it is seen from its front. */
-static bool lay_out(struct cutting *c)
+/* Lays the corners of the face out as they are seen from its front. */
+static void lay_out(struct cutting *c)
 {
-    const size_t *ends = c->ends.items;
-    c->path.count = c->borders.count = c->rings.count = c->walls.count = 0;
-    if (!add_corners(c, 0, ends[0], &c->path) || !add_walls(c, c->path.items, c->path.count))
-        return false;
-    for (size_t i = 1; i < c->ends.count; i++)
-        if (!add_ring(c, ends[i - 1], ends[i] - ends[i - 1]))
-            return false;
-    return true;
+    const gwb_half_edge_row *halves = c->halves.items;
+    uint32_t first = 0;
+    for (uint32_t i = 0; i < c->halves.count; i++) {
+        bool is_first = i == 0 || halves[i].loop != halves[i - 1].loop, is_last = i + 1 == c->halves.count || halves[i].loop != halves[i + 1].loop;
+        gwb_point point = {0, 0, 0};
+        gwb_vertex(c->g, halves[i].start, &point);
+        const int64_t at[] = {point.x, point.y, point.z};
+        first = is_first ? i : first;
+        *corner_at(c, i) = (struct corner){.vertex = halves[i].start, .half_edge = halves[i].half_edge, .before = is_first ? i : i - 1,
+                                           .after = is_last ? first : i + 1, .x = at[c->x], .y = at[c->y]};
+        corner_at(c, first)->before = i;
+        c->loops += is_first;
+    }
+    c->corners.count = c->halves.count;
 }
 
 static enum outcome cut_face(struct cutting *c)
 {
-    size_t before = c->count;
     if (!find_front(c))
         return UNCUT;
-    if (!read_face(c))
+    if (!read_half_edges(c) || !make_room(c))
         return NO_MEMORY;
-    if (c->places.count == 0)
+    if (c->halves.count < 3)
         return UNCUT;
-    if (!lay_out(c))
-        return NO_MEMORY;
-    enum outcome outcome = join_all(c);
-    outcome = outcome == CUT ? cut_ears(c) : outcome;
-    c->count = outcome == CUT ? c->count : before;
-    return outcome;
+    lay_out(c);
+    add_events(c);
+    return sweep(c);
 }
 
 static struct cutting begin(const gwb *g, gwb_triangle_row *rows, size_t room)
 {
-    const struct list corners = {.size = sizeof(struct corner)};
-    return (struct cutting){.g = g, .path = corners, .borders = corners, .rings = {.size = sizeof(struct ring)}, .walls = {.size = sizeof(struct wall)},
-                            .places = {.size = sizeof(struct place)}, .ends = {.size = sizeof(size_t)}, .rows = rows, .room = room};
+    return (struct cutting){.g = g, .halves = {.size = sizeof(gwb_half_edge_row)}, .corners = {.size = sizeof(struct corner)},
+                            .events = {.size = sizeof(struct event)}, .links = {.size = sizeof(struct link)},
+                            .spans = {.size = sizeof(struct span)}, .rank = 1, .rows = rows, .room = room};
 }
 
-static void end(struct cutting *c)
+static void finish(struct cutting *c)
 {
-    struct list *lists[] = {&c->path, &c->borders, &c->rings, &c->walls, &c->places, &c->ends};
+    struct list *lists[] = {&c->halves, &c->corners, &c->events, &c->links, &c->spans};
     for (size_t i = 0; i < sizeof lists / sizeof *lists; i++)
         list_free(lists[i]);
 }
@@ -341,7 +493,7 @@ size_t gwb_read_triangles(const gwb *g, uint32_t solid, gwb_triangle_row *rows, 
     bool goes = gwb_is_open(g);
     while (goes && next_face(g, solid, c.face, &c.face) == GWB_FOUND)
         goes = cut_face(&c) != NO_MEMORY;
-    end(&c);
+    finish(&c);
     return goes ? c.count : SIZE_MAX;
 }
 
@@ -350,6 +502,6 @@ size_t gwb_face_triangles(const gwb *g, uint32_t face, gwb_triangle_row *rows, s
     struct cutting c = begin(g, rows, room);
     c.face = face;
     bool goes = gwb_is_open(g) && cut_face(&c) != NO_MEMORY;
-    end(&c);
+    finish(&c);
     return goes ? c.count : SIZE_MAX;
 }

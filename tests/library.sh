@@ -145,6 +145,8 @@ built 'heaps are built' library_heap.c "${CC:-cc}" -std=gnu11 -O2 -pthread
 counted 'heaps of sessions' "$dir/built/library_heap"
 built 'loading is built' library_load.c "${CC:-cc}" -std=gnu11 -O2
 counted 'models loaded of their listings' "$dir/built/library_load"
+built 'triangles are built' library_triangles.c "${CC:-cc}" -std=gnu11 -O2
+counted 'faces cut into triangles' "$dir/built/library_triangles"
 prints 'the example in Python' bindings/examples/block_python.expected bindings/examples/block.py "$dir/built/libgwb.so"
 if has rustc 'the crate and the example in Rust are built' 'the example in Rust' 'the tests in Rust, session' 'the tests in Rust, features' \
     'the tests in Rust, machining'; then
@@ -165,7 +167,7 @@ if has cargo 'cargo check where there is no archive' 'cargo doc where there is n
         --manifest-path bindings/rust/Cargo.toml
 fi
 # (each is a program that was built above)
-in_cpp='library_cpp library_results library_history library_features library_machining library_heap library_load'
+in_cpp='library_cpp library_results library_history library_features library_machining library_heap library_load library_triangles'
 threads='library_threads library_sharing'
 if has valgrind 'valgrind over the example in C' $in_cpp $threads; then
     tried 'valgrind over the example in C' valgrind -q --error-exitcode=9 --leak-check=full --show-leak-kinds=all "$dir/built/block_c"
@@ -191,7 +193,7 @@ echo 'int main(void) { return 0; }' > "$dir/empty.c"
 if "${CC:-cc}" $sanitizers -o "$dir/empty" "$dir/empty.c" 2> "$dir/err" && "$dir/empty"; then
     began=$(date +%s)
     tried 'the library is built with sanitizers' make -C bindings "ARCHIVE=$archive" "OUT=$dir/sanitized" "CFLAGS=$sanitizers" "$dir/sanitized/libgwb.a"
-    for name in library_heap library_load library_threads library_worked; do
+    for name in library_heap library_load library_triangles library_threads library_worked; do
         sanitized "$name.c" "${CC:-cc}" -std=gnu11
     done
     for name in library_cpp library_history library_features library_machining library_sharing; do

@@ -593,9 +593,13 @@ typedef struct gwb_triangle_row {
 } gwb_triangle_row;
 
 /** Cuts the faces of a solid, of all for solid 0, into triangles, by exact tests, and writes these as far as there is room in `rows`, faces
- * rising. Their corners are vertices of the face alone, so faces that share an edge have triangles that share it. A face that is bent, or
- * whose loops cross or touch, has none. It takes time by the square of a face's edges. A reader.
- * @return how many there are, which is below the half-edges and twice the rings: SIZE_MAX where memory is refused or the handle is closed */
+ * rising. Their corners are vertices of the face alone, so faces that share an edge have triangles that share it. A face that is bent has none,
+ * nor one whose loops cross or touch, or don't bound one part of its plane as an outline and the holes in it do. A loop may come to a vertex
+ * twice where the face lies between, as at an edge that it runs along both ways. Loops of one vertex leave nothing out. A face of n edges takes
+ * time n log n. A reader.
+ * @return how many there are: of a face, its half-edges and twice its rings, those of one vertex left out, less 2. Room for as many rows as the
+ * solid has half-edges, and twice as many as it has rings, is enough for one call. SIZE_MAX where memory is refused or the handle is closed; then
+ * some rows may be written. */
 size_t gwb_read_triangles(const gwb *g, uint32_t solid, gwb_triangle_row *rows, size_t room);
 
 /** The same of one face: 0 also where it is not there. */

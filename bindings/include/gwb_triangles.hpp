@@ -5,7 +5,7 @@
 ///         for (auto [a, b, c] : gwb_session::triangles(bench, face))
 ///             draw(bench.vertex(a), bench.vertex(b), bench.vertex(c));
 ///
-/// Those of all faces at once are Commands::triangle_rows(). It takes time by the square of a face's edges.
+/// Those of all faces at once are Commands::triangle_rows(). A face of n edges takes time n log n.
 #ifndef GWB_TRIANGLES_HPP
 #define GWB_TRIANGLES_HPP
 #include "gwb.hpp"

@@ -290,7 +290,7 @@ impl Readers {
     }
 
     /// The triangles of a flat face, by exact tests: their corners run counterclockwise as seen from outside. None where the face isn't there
-    /// or is bent, or where its loops cross or touch. It takes time by the square of the face's edges.
+    /// or is bent, or where its loops cross or touch. A face of n edges takes time n log n.
     ///
     /// # Errors
     /// [`Error::Memory`].
