@@ -1,8 +1,18 @@
 """What the companions raise. Each message is one line for the reader."""
 
+from typing import Any, Tuple, Type
+
 
 class CompanionError(Exception):
-    """Base of all errors of the companions."""
+    """Base of all errors of the companions. Each can be copied and pickled, whatever it is made of."""
+
+    def __reduce__(self) -> Tuple[Any, ...]:
+        return _again, (type(self), self.args), self.__dict__
+
+
+def _again(kind: Type[CompanionError], args: Tuple[Any, ...]) -> CompanionError:
+    """An error of the kind as it was made, but for what its attributes are."""
+    return kind.__new__(kind, *args)
 
 
 class NotReplies(CompanionError):

@@ -1,12 +1,14 @@
 """Each method refuses each wrong kind of each argument by name, and sends nothing."""
 
+import pickle
 import unittest
+from copy import copy
 from fractions import Fraction
 
 from solid_cases import solid_cases
 from support import program
 
-from gwb import Lone, Workbench
+from gwb import CompanionError, Lone, Refused, Workbench
 
 P, Q, R = (0, 0, 0), (4, 0, 0), (0, 4, 0)
 TRIANGLE = [P, Q, R]
@@ -200,6 +202,43 @@ class Things(unittest.TestCase):
         small = bench.profile([(0, 0, 50), (9, 0, 50), (0, 9, 50)], along=(0, 0, 9))
         cut = bench.block((0, 0, 55), (9, 9, 9))
         self.assertEqual([bench.volume(part) for part in (cut, bench.split(cut, bench.plane(small.far)).solid)], [324, 405])
+
+    def test_a_copy_is_asked_for_things_of_its_original(self):
+        bench = self.bench
+        first, second = (bench.block((x, 0, 40), (2, 2, 2)) for x in (0, 10))
+        moved = bench.copy(first, move=(0, 0, 10))
+        self.assertEqual(moved.of(bench.face(first.top)), bench.face(moved.face(first.top)))
+        self.assertEqual(moved.of(bench.solid(first)), bench.solid(moved.solid))
+        for part in (bench.solid(second), bench.face(second.top), bench.edge(second.edges[0]), bench.vertex(second.vertices[0])):
+            self.assertRaises(KeyError, moved.of, part)
+        with Workbench(program()) as other:
+            other.block((0, 0, 0), (1, 1, 1))
+            for part in (other.solid(first), other.face(first.top), other.edge(first.edges[0])):
+                self.assertRaisesRegex(ValueError, ' of another workbench$', moved.of, part)
+            self.assertRaisesRegex(ValueError, ' of another workbench$', moved.face, other.face(first.top))
+
+    def test_a_row_of_more_solids_than_there_are_numbers(self):
+        self.assertRaisesRegex(Refused, '^NumbersSpent: ', self.bench.pattern, 1, 10 ** 9, (0, 0, 60))
+
+    def test_a_point_as_any_sequence_has_it(self):
+        class Point:
+            """As an array of numpy is: iterable, and no sequence by its class."""
+
+            def __iter__(self):
+                return iter((1, Fraction(1, 2), 0))
+
+        self.assertEqual(self.bench.inertia(1, about=Point()), self.bench.inertia(1, about=(1, Fraction(1, 2), 0)))
+
+    def test_errors_are_copied_and_pickled(self):
+        bench = self.bench
+        lamina = bench.lamina([(0, 0, 60), (4, 0, 60), (0, 4, 60)])
+        for act in (lambda: bench.count(99), lambda: bench.pocket(3, [(0, 0, 0)] * 3, 1), lambda: bench.vertex(99).point,
+                    lambda: bench.block((0, 0, 0), (1, 1, 2 ** 63 - 1)), lambda: bench.faces(area=7).one(), lambda: bench.centroid(lamina)):
+            with self.assertRaises(CompanionError) as caught:
+                act()
+            error = caught.exception
+            for again in (pickle.loads(pickle.dumps(error)), copy(error)):
+                self.assertEqual((type(again), str(again), vars(again)), (type(error), str(error), vars(error)))
 
 
 if __name__ == '__main__':

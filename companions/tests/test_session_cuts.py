@@ -1,9 +1,13 @@
 """Cuts that split refuses, made all the same, and solids that touch made one; what can't be is refused with nothing changed."""
 
 import os
+import tempfile
 import unittest
+import warnings
 from collections import Counter
 from fractions import Fraction
+from itertools import count
+from pathlib import Path
 from random import Random
 
 from support import program
@@ -12,6 +16,7 @@ from voxel_parts import AXES, World, cells_of, squares_of
 from gwb import Refused, Workbench
 from gwb.checks.check import check
 from gwb.geometry.measures import six_volume
+from gwb.session.cutting import cut_model
 
 U_SHAPE = [(0, 0, 0), (12, 0, 0), (12, 12, 0), (8, 12, 0), (8, 4, 0), (4, 4, 0), (4, 12, 0), (0, 12, 0)]
 
@@ -52,6 +57,18 @@ class Stepwise(unittest.TestCase):
     def volume(self, solid):
         """The volume of a solid."""
         return volume_of(self.bench, solid)
+
+    def surface(self, heights):
+        """A solid of triangles over 3 by 3 points, so high above the plane z = 0."""
+        rows = [(x, y) for x in range(3) for y in range(3)]
+        points = [(6 * x, 6 * y, z) for level in (1, 0) for x, y in rows for z in [level * heights[x][y]]]
+        ring = [rows.index(place) + 1 for place in ((0, 0), (1, 0), (2, 0), (2, 1), (2, 2), (1, 2), (0, 2), (0, 1))]
+        faces = [face for here, there in zip(ring, ring[1:] + ring[:1])
+                 for face in ((5, here, there), (14, there + 9, here + 9), (here + 9, there + 9, there), (here + 9, there, here))]
+        with tempfile.TemporaryDirectory() as folder:
+            path = Path(folder) / 'surface.obj'
+            path.write_text(''.join('v {} {} {}\n'.format(*point) for point in points) + ''.join('f {} {} {}\n'.format(*face) for face in faces))
+            return self.bench.import_file(path).one()
 
     def count(self, solid):
         """Vertices, edges, faces and rings of a solid."""
@@ -243,15 +260,24 @@ class RandomCuts(unittest.TestCase):
             point = [part + random.choice((0, 0, 30, -30, 60)) for part in corner]
             self.try_cut(world, (*across, -sum(one * two for one, two in zip(across, point))), told)
 
+    def touches_itself(self, solid):
+        """Whether gwb-check says so of a solid taken alone."""
+        return any(finding.kind == 'touching' for finding in check(solid).findings)
+
     def try_cut(self, world, plane, told):
         """One cut, and the union of both parts, which is square by square what it was."""
         bench, before, volume = world.bench, world.bench.listing(), volume_of(world.bench, 1)
         try:
             made = bench.cut(1, plane)
         except Refused as refused:
-            self.assertIn(refused.name, ('PlaneMisses', 'NotLattice'))
+            told[refused.name] += 1
+            self.assertIn(refused.name, ('PlaneMisses', 'NotLattice', 'Meets'))
             self.assertEqual(bench.listing(), before)
+            if refused.name == 'Meets':
+                free = count(10 ** 4)
+                self.assertTrue(any(self.touches_itself(half.model) for half in cut_model(before, plane, 2, lambda _: next(free))))
             return
+        self.assertFalse(any(self.touches_itself(bench.listing().only(part)) for part in (made.below, made.above)))
         told['split' if bench.script().splitlines()[-1].startswith('split') else 'made anew'] += 1
         self.assertEqual(volume_of(bench, made.below) + volume_of(bench, made.above), volume)
         findings = check(bench.listing()).findings
@@ -264,6 +290,76 @@ class RandomCuts(unittest.TestCase):
         bench.undo()
         bench.undo()
         self.assertEqual(bench.listing(), before)
+
+
+class PartsThatTouch(Stepwise):
+    """Of some solids a part above or below a plane touches itself at a corner: such a part isn't made."""
+
+    PLANE = (0, 0, 1, -5)
+
+    def test_two_ridges_that_meet_in_a_corner(self):
+        solid = self.surface([[5, 8, 5], [2, 5, 2], [5, 8, 5]])
+        self.refuse('Meets', lambda: self.bench.cut(solid, self.PLANE))
+        self.refuse('Meets', lambda: self.bench.cut(solid, self.PLANE, keep='above'))
+        self.assertEqual(len(self.one_step(lambda: self.bench.trim(solid, self.PLANE))), 2)
+
+    def test_a_pit_that_ends_in_the_plane(self):
+        solid = self.surface([[9, 9, 9], [9, 5, 9], [9, 9, 9]])
+        self.refuse('Meets', lambda: self.bench.cut(solid, self.PLANE))
+        self.refuse('Meets', lambda: self.bench.cut(solid, self.PLANE, keep='above'))
+        self.refuse('Meets', lambda: self.bench.trim(solid, (0, 0, -1, 5)))
+        self.assertEqual(len(self.one_step(lambda: self.bench.trim(solid, self.PLANE))), 1)
+
+    def test_touching_from_before_is_no_hindrance(self):
+        solid = self.surface([[9, 9, 9], [9, 5, 9], [9, 9, 9]])
+        part = self.bench.split(solid, self.PLANE).solid
+        self.assertEqual([finding.kind for finding in check(self.bench.listing().only(part)).findings], ['touching'])
+        self.assertEqual(len(self.bench.cut(part, (0, 0, 1, -7)).lower_caps), 1)
+
+
+class NothingCut(Stepwise):
+    """A plane between two pieces of one solid cuts no edge."""
+
+    def test_it_takes_no_new_numbers_but_that_of_the_solid(self):
+        bench = self.bench
+        legs = bench.split(bench.profile(U_SHAPE, along=(0, 0, 2)), (0, 1, 0, -8))
+        bench.label(bench.face(bench.faces(solid=legs.solid, plane=(1, 0, 0, -12)).one()), 'right')
+        made = self.one_step(lambda: bench.split(legs.solid, (1, 0, 0, -6)))
+        self.assertEqual(made[1:], ((), (), (), (), ()))
+        self.assertEqual([bench.volume(solid) for solid in (legs.solid, made.solid)], [32, 32])
+        self.assertEqual([look.name for look in bench.labels.values()], ['right'])
+        self.assertEqual(bench.block((90, 0, 0), (1, 1, 1)).top, max(bench.listing().faces) - 5)
+        bench.save(self.folder / 'part.gwb')
+        with Workbench.load(self.folder / 'part.gwb', program()) as again:
+            self.assertEqual(again.listing(), bench.listing())
+
+    def setUp(self):
+        super().setUp()
+        folder = tempfile.TemporaryDirectory()
+        self.addCleanup(folder.cleanup)
+        self.folder = Path(folder.name)
+
+
+class Joined(Stepwise):
+    """Faces of several solids that become one face."""
+
+    def test_a_label_that_is_lost_is_told(self):
+        left, right = (self.bench.block((x, 0, 0), (4, 4, 4)) for x in (0, 4))
+        self.bench.label(self.bench.face(right.top), colour='#FF0000')
+        told = f'^faces {left.top} and {right.top} become one, which keeps the label of face {left.top}$'
+        with self.assertWarnsRegex(UserWarning, told) as told:
+            left_alone = self.bench.union([left, right])
+        self.assertEqual(left_alone, left.solid)
+        self.assertEqual([warning.filename for warning in told.warnings], [__file__])
+
+    def test_labels_that_are_alike_are_kept_in_silence(self):
+        left, right = (self.bench.block((x, 0, 0), (4, 4, 4)) for x in (0, 4))
+        for block in (left, right):
+            self.bench.label(self.bench.face(block.top), colour='#FF0000')
+        with warnings.catch_warnings():
+            warnings.simplefilter('error')
+            self.bench.union([left, right])
+        self.assertEqual(self.bench.labels['face', left.top].colour, (255, 0, 0))
 
 
 if __name__ == '__main__':

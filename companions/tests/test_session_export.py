@@ -10,7 +10,7 @@ from pathlib import Path
 
 from support import COMPANIONS, program
 
-from gwb import Refused, Workbench
+from gwb import Refused, Unfit, Workbench
 from gwb.formats.appearance import Appearance, appearances_in
 
 FORMS = ('.step', '.stp', '.3mf', '.obj', '.off', '.stl', '.STL')
@@ -133,6 +133,41 @@ class Exports(unittest.TestCase):
         with warnings.catch_warnings():
             warnings.simplefilter('error')
             self.bench.export(self.folder / 'part.3mf')
+
+    def test_an_obj_that_is_not_written_leaves_the_colours_of_another(self):
+        self.bench.export(self.folder / 'part.obj')
+        written = (self.folder / 'part.mtl').read_bytes()
+        start = self.bench.face(self.base.bottom).outer.half_edges[0]
+        self.bench.kemr(self.bench.mev(start, start, (1, 1, 0)).edge)
+        self.bench.label(self.bench.face(self.base.top), colour='#0000FF')
+        self.assertRaises(Unfit, self.bench.export, self.folder / 'part.obj')
+        self.assertEqual((self.folder / 'part.mtl').read_bytes(), written)
+
+    def test_colours_of_something_else_are_not_written_over(self):
+        (self.folder / 'part.mtl').write_text('newmtl oak\n')
+        for other in (None, 'v 0 0 0\n', 'mtllib part.mtl2\n'):
+            if other:
+                (self.folder / 'part.obj').write_text(other)
+            self.assertRaisesRegex(FileExistsError, r'part\.mtl is there, and is of no part\.obj that is there', self.bench.export,
+                                   self.folder / 'part.obj')
+            self.assertEqual((self.folder / 'part.mtl').read_text(), 'newmtl oak\n')
+        (self.folder / 'part.mtl').unlink()
+        for _ in range(2):
+            self.bench.export(self.folder / 'part.obj')
+
+    def test_nothing_is_no_file(self):
+        with Workbench(program()) as bench:
+            for ending in FORMS:
+                self.assertRaisesRegex(Unfit, 'no solid is held', bench.export, self.folder / f'none{ending}')
+            bench.export(self.folder / 'none.html')
+        self.assertEqual([path.name for path in self.folder.iterdir()], ['none.html'])
+
+    def test_names_that_no_file_can_have(self):
+        top = self.bench.face(self.base.top)
+        self.assertRaisesRegex(ValueError, '^name: 201 characters are more than 200$', self.bench.label, top, 'x' * 201)
+        self.assertRaisesRegex(ValueError, '^name: .* no text in UTF-8 has$', self.bench.label, top, 'lid \udcff')
+        self.assertEqual(self.bench.labels['face', self.base.top].name, '')
+        self.bench.label(top, 'x' * 200)
 
 
 if __name__ == '__main__':

@@ -230,11 +230,44 @@ class Unit(unittest.TestCase):
 
     def test_other_forms_are_read_again(self):
         self.bench.split(self.block, PLANE, scale=True)
-        for ending in ('.obj', '.off', '.stl'):
+        for ending in ('.obj', '.off', '.stl', '.3mf', '.step'):
             with self.subTest(ending), Workbench(program()) as again:
-                made = again.import_file(self.exported(f'part{ending}'))
+                made = again.import_file(self.exported(f'part{ending}'), scale=6 if ending in ('.3mf', '.step') else 1)
                 self.assertEqual(sum(map(again.volume, made)), 216 * (105 + 8))
                 self.assertEqual(again.labels, {})
+
+
+class Began(unittest.TestCase):
+    """A session that begins in a unit of its own."""
+
+    def test_sixtieths_of_a_millimetre(self):
+        with tempfile.TemporaryDirectory() as folder, Workbench(program(), unit=Fraction(1, 60)) as bench:
+            bench.block((0, 0, 0), (60, 120, 180))
+            self.assertEqual(bench.unit, Fraction(1, 60))
+            for ending in ('.step', '.3mf', '.obj', '.gwb'):
+                file = Path(folder) / f'part{ending}'
+                (bench.save if ending == '.gwb' else bench.export)(file)
+                if ending in ('.step', '.3mf'):
+                    with Workbench(program()) as again:
+                        self.assertEqual(again.volume(again.import_file(file).one()), 6, ending)
+            self.assertTrue((Path(folder) / 'part.obj').read_text().startswith('# unit 1/60\n'))
+            with Workbench.load(Path(folder) / 'part.gwb', program()) as again:
+                self.assertEqual((again.unit, again.listing()), (bench.unit, bench.listing()))
+                again.undo()
+                self.assertEqual(again.unit, Fraction(1, 60))
+
+    def test_a_finer_unit_is_part_of_it(self):
+        with Workbench(program(), unit=Fraction(1, 4)) as bench:
+            bench.split(bench.block((0, 0, 0), (7, 5, 3)), PLANE, scale=True)
+            self.assertEqual(bench.unit, Fraction(1, 24))
+            bench.undo()
+            self.assertEqual(bench.unit, Fraction(1, 4))
+
+    def test_what_is_no_unit(self):
+        for unit in (0, -1, Fraction(-1, 2)):
+            self.assertRaisesRegex(ValueError, '^unit: .* is not above zero$', Workbench, program(), unit=unit)
+        for unit in (.5, True, '1/60', None):
+            self.assertRaisesRegex(TypeError, '^unit: a whole number or a fraction is wanted, ', Workbench, program(), unit=unit)
 
 
 if __name__ == '__main__':

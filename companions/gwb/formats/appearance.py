@@ -14,10 +14,10 @@ Colour = Tuple[int, int, int]
 Thing = Tuple[str, int]
 
 _COMMENT = re.compile(r'#\s*(solid|face) ([0-9]{1,7})(?: name ("(?:[^"\\]|\\.)*"))?(?: colour #([0-9A-Fa-f]{6}))?\s*')
-_LONGEST = 200
+# How many characters a name may have that a script says.
+LONGEST_NAME = 200
 # The material of what has no colour, in forms that need one.
 PLAIN_MATERIAL = 'plain'
-
 
 # Names that the writers give where they know none, and what they put behind a name that several solids have.
 _NUMBERED = re.compile(r'(?:solid|face)[ _][0-9]+|gwb')
@@ -75,7 +75,7 @@ def comments(appearances: Appearances) -> Iterator[str]:
     """A comment for each thing that has a name or a colour, solids first."""
     for (kind, number), look in sorted(appearances.items(), key=lambda item: (item[0][0] != 'solid', item[0])):
         if look != _PLAIN:
-            name = f' name {json.dumps(look.name[:_LONGEST])}' if look.name else ''
+            name = f' name {json.dumps(look.name[:LONGEST_NAME])}' if look.name else ''
             yield f'# {kind} {number}{name}' + (f' colour {hexadecimal(look.colour)}' if look.colour else '')
 
 

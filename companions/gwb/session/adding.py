@@ -1,6 +1,6 @@
 """Sheets added to a solid: what the faces near them become, and the operators that make it."""
 
-from typing import List, NamedTuple, Optional, Sequence
+from typing import Dict, List, NamedTuple, Optional, Sequence
 
 from ..geometry.box_index import box_of
 from ..geometry.joined_models import joined
@@ -14,6 +14,7 @@ from ..joining.combining import Combined, combined, require_room, sheets_of
 from .bench import Bench
 from .near_parts import NearPart, near_part, without_rest
 from .solids import Numbers, give
+from .telling import warn
 
 
 class Wanted(NamedTuple):
@@ -56,9 +57,22 @@ def add_sheets(bench: Bench, held: Addition) -> Combined:
     if lines is None:
         return add_sheets(bench, addition(bench, wanted, all_rings=True))
     give(bench, [*(line for model in wanted.other for line in held.numbers.taking_away(model)), *lines])
+    _tell_lost_labels(bench, held.made)
     old = {face for model in (part.model, *wanted.other) for face in model.faces}
     bench.label_alike('face', [(face, other) for face, others in held.made.into.items() for other in others if other not in old])
     return held.made
+
+
+def _tell_lost_labels(bench: Bench, made: Combined) -> None:
+    """Warns where faces that had different labels, or one of which had none, become one face: it has that of the first."""
+    into: Dict[int, List[int]] = {}
+    for face, others in made.into.items():
+        for other in others:
+            into.setdefault(other, []).append(face)
+    for joined in filter(lambda faces: len(faces) > 1, into.values()):
+        looks = [bench.labels.get(('face', face)) for face in joined]
+        if any(look != looks[0] for look in looks):
+            warn('faces {} become one, which keeps the label of face {}'.format(' and '.join(map(str, joined)), joined[0]))
 
 
 def _changing(bench: Bench, held: Addition) -> Optional[List[str]]:

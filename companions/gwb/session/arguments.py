@@ -91,7 +91,7 @@ def point(name: str, value: object) -> Vector:
 
 def exact_point(name: str, value: object) -> Tuple[Fraction, Fraction, Fraction]:
     """Three whole numbers or fractions."""
-    given = list(value) if isinstance(value, (tuple, list)) else []
+    given = _items(name, value)
     parts = [part for part in given if isinstance(part, Rational) and not isinstance(part, bool)]
     if len(given) != 3 or len(parts) != 3:
         raise TypeError(f'{name}: three whole numbers or fractions are wanted, not {_kind_of(value)}')

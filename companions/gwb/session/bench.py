@@ -4,6 +4,7 @@ from typing import ContextManager, Dict, Iterable, List, Optional, Sequence, Tup
 
 from ..formats.appearance import Appearance, Thing
 from ..geometry.model import Model
+from ..geometry.plane_figures import Exact
 from . import arguments
 from .conversation import Conversation
 from .kernel import Kernel
@@ -20,12 +21,15 @@ from .surroundings import Surroundings
 class Bench:
     """A kernel with the numbers of new things, the conversation with it, steps to undo, and labels."""
 
-    def __init__(self, program: Optional[arguments.Path] = None) -> None:
-        """Starts the program at the path, or the one that the environment variable GWB, the repository or the path has."""
+    def __init__(self, program: Optional[arguments.Path] = None, unit: Exact = 1) -> None:
+        """Starts the program at the path, or the one that the environment variable GWB, the repository or the path has. The unit is the size of a
+        coordinate."""
+        size = arguments.factor('unit', unit)
         self.kernel = Kernel(find_program() if program is None else arguments.path('program', program))
         self.numbers = NewNumbers(self.kernel)
         self.conversation = Conversation(self.kernel, self.numbers)
         self.steps = Steps(self.kernel, self.conversation)
+        self.kernel.journal.set_unit(size)
         self.labels: Dict[Thing, Appearance] = {}
         self._surroundings: Optional[Surroundings] = None
 

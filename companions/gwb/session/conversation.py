@@ -93,7 +93,7 @@ class Conversation:
         fresh = self._fresh(call, corners) if call.word in LARGER else {}
         made, killed = changes(call)
         greatest = kernel.journal.greatest.after(made, killed)
-        greatest.settle({kind: numbers[-1] for kind, numbers in fresh.items()})
+        greatest.settle({kind: numbers[-1] for kind, numbers in fresh.items() if numbers})
         self._numbers.were_used(greatest)
         kernel.journal.add(Given(call, greatest, Firsts(*[numbers.start for numbers in fresh.values()]) if fresh else None))
         if call.word == 'block':

@@ -10,6 +10,7 @@ from fractions import Fraction
 from typing import Dict, Iterator, List, NamedTuple, Optional, Sequence, Tuple
 
 from ..errors import Refused
+from ..geometry.box_index import box_of
 from ..geometry.free_numbers import LARGEST
 from ..geometry.joined_models import joined
 from ..geometry.model import Model
@@ -19,7 +20,7 @@ from ..geometry.sheets import Sheet, overlaid
 from ..geometry.traced_cycles import Side, traced
 from ..geometry.vectors import Vector, cross, dot, negative
 from ..joining.assembly import Names, Take, assembled
-from ..joining.combining import require_flat, sheets_of
+from ..joining.combining import findings_near, require_flat, sheets_of
 from .bench import Bench
 from .commands import Commands
 from .solids import Numbers, delete, give
@@ -65,13 +66,16 @@ class Halves(NamedTuple):
 def cut(bench: Bench, solid: int, plane: Plane, above: Optional[int]) -> Cut:
     """Cuts a solid in two, as one command."""
     number = bench.new('solid', above, 'above')
-    with _another_way():
+    model = bench.solid_model(solid)
+    with _another_way(), bench.step():
         made = Commands(bench).split(solid, plane, above=number)
+        _require_apart(model, plane, [bench.solid_model(part) for part in (solid, number)])
         bench.label_parts(solid, number)
         return Cut(solid, number, made.lower_caps, made.upper_caps)
     require_free(bench, number)
-    model, numbers = bench.solid_model(solid), Numbers(bench)
+    numbers = Numbers(bench)
     halves = cut_model(model, plane, number, numbers.take)
+    _require_apart(model, plane, [half.model for half in halves])
     give(bench, [*numbers.taking_away(model), *numbers.making(joined([halves.below.model, halves.above.model]))])
     bench.label_alike('solid', [(solid, number)])
     bench.label_alike('face', [*halves.below.parts, *halves.above.parts])
@@ -80,15 +84,29 @@ def cut(bench: Bench, solid: int, plane: Plane, above: Optional[int]) -> Cut:
 
 def trimmed(bench: Bench, solid: int, plane: Plane) -> Tuple[int, ...]:
     """What lies above the plane is cut off and thrown away, as one command: the caps of what is left, which keeps its number."""
+    model = bench.solid_model(solid)
     with _another_way(), bench.step():
         made = Commands(bench).split(solid, plane)
+        _require_apart(model, plane, [bench.solid_model(solid)])
         delete(bench, made.solid)
         return made.lower_caps
-    model, numbers = bench.solid_model(solid), Numbers(bench)
+    numbers = Numbers(bench)
     halves = cut_model(model, plane, numbers.take('solid'), numbers.take)
+    _require_apart(model, plane, [halves.below.model])
     give(bench, [*numbers.taking_away(model), *numbers.making(halves.below.model)])
     bench.label_alike('face', halves.below.parts)
     return halves.below.caps
+
+
+def _require_apart(before: Model, plane: Plane, parts: Sequence[Model]) -> None:
+    """Refuses parts of a solid, each on one side of a plane, of which one meets or touches itself as the solid didn't. It does so where corners of
+    the solid lie in the plane."""
+    corners = [point for point in before.vertices.values() if _height(plane, point) == 0]
+    if not corners:
+        return
+    found = [finding for part in parts for finding in findings_near(part, box_of(corners))]
+    if found and not set(found) <= set(findings_near(before, box_of(corners))):
+        raise Impossible('Meets', before.solids[0], 'what is left of the solid would touch itself in the plane')
 
 
 def require_free(bench: Bench, solid: int) -> None:

@@ -1,13 +1,13 @@
 """Names and colours of solids and faces in a session, its unit, and the files that are made of what it holds, or taken in."""
 
-import warnings
 from fractions import Fraction
 from pathlib import Path
 from types import MappingProxyType
 from typing import Callable, Dict, NamedTuple, Optional, Tuple, Union
 
 from ..drawing.page import page_of
-from ..formats.appearance import Appearance, Appearances, Colour, colour_of
+from ..errors import Unfit
+from ..formats.appearance import LONGEST_NAME, Appearance, Appearances, Colour, colour_of
 from ..formats.mesh import mesh_of
 from ..formats.obj import mtl_text, obj_text
 from ..formats.off import off_text
@@ -20,6 +20,7 @@ from ..geometry.touching_solids import touching_solids
 from . import arguments, files_in
 from .bench import Methods
 from .reading import FacePart, Selection, SolidPart
+from .telling import warn
 
 
 class _Held(NamedTuple):
@@ -41,8 +42,8 @@ class Exporting(Methods):
 
     def label(self, thing: Union[SolidPart, FacePart], name: str = '', colour: str = '') -> None:
         """Gives a solid or a face a name, and a colour such as '#FF8000'; with neither what it had is taken away. Raises ValueError where the
-        colour is none, or the thing is of another workbench. Refused: NoSolid, NoFace."""
-        look = Appearance(arguments.text('name', name), _colour(arguments.text('colour', colour)))
+        colour is none, the name is longer than 200 characters, or the thing is of another workbench. Refused: NoSolid, NoFace."""
+        look = Appearance(_name(name), _colour(arguments.text('colour', colour)))
         if not isinstance(thing, (SolidPart, FacePart)):
             raise TypeError(f'thing: a solid or a face is wanted, not {thing!r}')
         number = self._bench.number('thing', thing, thing.kind)
@@ -54,7 +55,7 @@ class Exporting(Methods):
 
     @property
     def unit(self) -> Fraction:
-        """The size of a coordinate, in the unit that the session began with: 1, but where coordinates were multiplied for a finer one."""
+        """How many millimetres a coordinate stands for: as the session began, but where coordinates were multiplied for a finer unit."""
         return self._bench.kernel.journal.unit
 
     def page(self) -> str:
@@ -62,15 +63,17 @@ class Exporting(Methods):
         return _page(self._bench.kernel.listing(), self._bench.labels, self.unit)
 
     def export(self, path: arguments.Path) -> None:
-        """Writes what is held to a file, by the ending of its name: .step or .stp, .3mf, .obj (colours in a .mtl beside it), .off, .stl,
-        .html. Names and colours go where the form has them. The unit that the session began with is a millimetre in STEP and 3MF, so a finer
-        one keeps the size; the other forms say the unit in a comment. Raises ValueError for another ending, Unfit where a face isn't flat and
-        plain, OSError where the file can't be written. Warns where solids touch and the form doesn't keep them apart."""
+        """Writes what is held to a file, by the ending of its name: .step or .stp, .3mf, .obj (colours in a .mtl beside it), .off, .stl, .html. Names and
+        colours go where the form has them. STEP and 3MF have the size in millimetres, by `unit`; the other forms say it in a comment. Raises
+        ValueError for another ending, Unfit where a face isn't flat and plain, or nothing is held, OSError where the file can't be written, or a .mtl
+        is there that the .obj doesn't name. Warns where solids touch and the form doesn't keep them apart."""
         file = Path(arguments.path('path', path))
         write = _WRITERS.get(file.suffix.lower())
         if write is None:
             raise ValueError(f'{file.name}: the endings are {" ".join(_WRITERS)}')
         model = self._bench.kernel.listing()
+        if not model.solids and file.suffix.lower() != '.html':
+            raise Unfit(f'{file.name}: no solid is held, so there is nothing to write')
         if file.suffix.lower() in ('.off', '.stl'):
             _warn_of_touching(model, file.suffix)
         data = write(_Held(model, self._bench.labels, self.unit), file)
@@ -81,17 +84,26 @@ class Exporting(Methods):
         """The solids of a file, as `gwb-import` reads it, beside what is held, with numbers that are free: these, with the names and colours that
         the file has as labels.
 
-        `form` is 'step', 'stl', 'obj', 'off', 'ply', 'amf' or '3mf' where the file doesn't look like it. Coordinates in the unit that the
-        session began with, millimetres where the file says a unit, are multiplied by `scale`, a whole number or a fraction, and must then be
-        whole in `unit`; `rounded` rounds them. Faces of one plane become one but with `keep_triangles`; `repair` mends what can be. Warns of
-        what is wrong with the solids. Raises OSError; NotAMesh where it is no such file; Unfit where its surfaces aren't closed, or a point
-        isn't whole or past the range. Refused: NumbersSpent."""
+        `form` is 'step', 'stl', 'obj', 'off', 'ply', 'amf' or '3mf' where the file doesn't look like it. Coordinates, in millimetres where the file says a
+        unit, are multiplied by `scale`, a whole number or a fraction, and must then be whole in `unit`; `rounded` rounds them. Faces of one plane
+        become one but with `keep_triangles`; `repair` mends what can be. Warns of what is wrong with the solids. Raises OSError; NotAMesh where it is
+        no such file; Unfit where its surfaces aren't closed, or a point isn't whole or past the range. Refused: NumbersSpent."""
         options = files_in.Options(
             files_in.known_form(arguments.text('form', form)), arguments.factor('scale', scale), arguments.flag('rounded', rounded),
             arguments.flag('keep_triangles', keep_triangles), arguments.flag('repair', repair))
         taken = files_in.take_in(self._bench, arguments.path('path', path), options)
         self._bench.labels.update(taken.looks)
         return Selection('solid', '', [SolidPart(self._bench.kernel, solid) for solid in taken.solids])
+
+
+def _name(value: object) -> str:
+    """A name that a file can have."""
+    found = arguments.text('name', value)
+    if not found.isprintable() and any('\ud800' <= letter <= '\udfff' for letter in found):
+        raise ValueError(f'name: {found!r} has a character that no text in UTF-8 has')
+    if len(found) > LONGEST_NAME:
+        raise ValueError(f'name: {len(found)} characters are more than {LONGEST_NAME}')
+    return found
 
 
 def _colour(text: str) -> Optional[Colour]:
@@ -107,11 +119,19 @@ def _page(model: Model, labels: Appearances, unit: Fraction) -> str:
 
 
 def _obj(held: _Held, file: Path) -> bytes:
-    materials = file.with_suffix('.mtl')
-    if any(look.colour for look in held.labels.values()):
-        materials.write_text(mtl_text(held.labels), encoding='utf-8')
-        return obj_text(mesh_of(held.model), held.labels, materials.name, unit=held.unit).encode()
-    return obj_text(mesh_of(held.model), held.labels, unit=held.unit).encode()
+    mesh, materials = mesh_of(held.model), file.with_suffix('.mtl')
+    if not any(look.colour for look in held.labels.values()):
+        return obj_text(mesh, held.labels, unit=held.unit).encode()
+    text = obj_text(mesh, held.labels, materials.name, unit=held.unit)
+    if materials.exists() and not _names(file, materials.name):
+        raise FileExistsError(f'{materials} is there, and is of no {file.name} that is there: the colours would be written over it')
+    materials.write_text(mtl_text(held.labels), encoding='utf-8')
+    return text.encode()
+
+
+def _names(file: Path, materials: str) -> bool:
+    """Whether a file of the form .obj is there and names the materials."""
+    return file.exists() and f'mtllib {materials}'.encode() in file.read_bytes().splitlines()
 
 
 _Writer = Callable[[_Held, Path], bytes]
@@ -128,5 +148,5 @@ _WRITERS: Dict[str, _Writer] = {
 def _warn_of_touching(model: Model, ending: str) -> None:
     pair: Optional[Tuple[int, int]] = next(touching_solids(model), None)
     if pair is not None:
-        warnings.warn('solids {} and {} touch or overlap, and {} does not keep solids apart: many programs will read one wrong body; .3mf and '
-                      '.step keep them apart'.format(*pair, ending), stacklevel=4)
+        warn('solids {} and {} touch or overlap, and {} does not keep solids apart: many programs will read one wrong body; .3mf and .step keep them '
+             'apart'.format(*pair, ending))

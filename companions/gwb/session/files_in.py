@@ -1,17 +1,17 @@
 """Files of other programs taken into a session, beside what it holds."""
 
 import os
-import warnings
 from fractions import Fraction
 from typing import Dict, List, NamedTuple
 
-from ..formats.appearance import Appearance, Thing
+from ..formats.appearance import LONGEST_NAME, Appearance, Thing
 from ..formats.importing import read_file
 from ..formats.polygon_files import FORMS
 from ..geometry.free_numbers import renumbered
 from ..geometry.plane_figures import Exact
 from .bench import Bench
 from .solids import Numbers, give
+from .telling import warn
 
 
 class Options(NamedTuple):
@@ -47,9 +47,9 @@ def take_in(bench: Bench, path: str, options: Options) -> TakenIn:
     found = read_file(os.path.abspath(path), form=options.form or None, scale=scale.numerator if scale.denominator == 1 else scale,
                       rounded=options.rounded, keep_triangles=options.keep_triangles, repair=options.repair)
     for wrong in found.wrong:
-        warnings.warn(f'{path}: {wrong}', stacklevel=4)
+        warn(f'{path}: {wrong}')
     numbers = Numbers(bench)
     new = numbers.instead_of(found.model)
     give(bench, numbers.making(renumbered(found.model, new)))
     return TakenIn([new['solid'][solid] for solid in found.model.solids],
-                   {(kind, new[kind][number]): look for (kind, number), look in found.looks.items()})
+                   {(kind, new[kind][number]): look._replace(name=look.name[:LONGEST_NAME]) for (kind, number), look in found.looks.items()})

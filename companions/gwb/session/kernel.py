@@ -4,6 +4,7 @@ The journal is what is held: a call that an exception leaves half-way isn't in i
 with the program started anew and given all that the journal has.
 """
 
+import re
 from contextlib import contextmanager
 from typing import Callable, Iterator, List, Optional, Sequence, Union
 
@@ -16,6 +17,10 @@ from .mirror import Mirror
 from .pipe import Pipe
 from .reading import Reader
 from .turns import Turns, in_turn
+
+
+# The name of a shared object, with or without a version behind it: libgwb.so, libgwb.so.2.
+_SHARED_OBJECT = re.compile(r'\.so(\.[0-9]+)*$')
 
 
 class OpenMark:
@@ -31,7 +36,7 @@ class Kernel(Turns):
     def __init__(self, path: str) -> None:
         """Starts the program at the path; where that is a shared object, it is loaded in place of it."""
         super().__init__()
-        self.lines: Union[Library, Pipe] = Library(path) if path.endswith('.so') else Pipe(path)
+        self.lines: Union[Library, Pipe] = Library(path) if _SHARED_OBJECT.search(path) else Pipe(path)
         self.journal = Journal()
         self.marks: List[OpenMark] = []
         self.following = Following(self.journal)

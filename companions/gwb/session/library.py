@@ -253,11 +253,11 @@ class Library:
         self._require_answer(self._library.gwb_back(self._handle, place))
 
     def fresh(self) -> Dict[str, range]:
-        """For each kind the fresh numbers of the last command that was accepted, where there are any."""
+        """For each kind the fresh numbers of the last command that was accepted: none where it took none, as a split that cuts nothing."""
         found, row = {}, Range()
         for number, kind in enumerate(KINDS[1:], 1):
-            if self._library.gwb_fresh(self._handle, number, row) == _FOUND:
-                found[kind] = range(row.first, row.last + 1)
+            is_there = self._library.gwb_fresh(self._handle, number, row) == _FOUND
+            found[kind] = range(row.first, row.last + 1) if is_there else range(0)
         return found
 
     def plane(self, face: int) -> Plane:

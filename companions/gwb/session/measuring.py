@@ -77,8 +77,8 @@ def _solid_read(bench: Bench, solid: arguments.Solid) -> Tuple[Model, int]:
 
 
 def _face_read(bench: Bench, face: arguments.Face) -> Tuple[Model, int]:
-    number = bench.number('face', face)
-    return _model_with(bench, FacePart(bench.kernel, number).solid), number
+    numbers = _faces_read(bench, face, face)
+    return numbers[0], numbers[1]
 
 
 def _faces_read(bench: Bench, face: arguments.Face, other: arguments.Face) -> Tuple[Model, int, int]:

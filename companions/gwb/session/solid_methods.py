@@ -83,7 +83,7 @@ class SolidMethods(Methods):
 
         Where split refuses the plane for what it touches or how it runs through faces and holes, both parts are made anew, by operators, and
         faces in the plane are one with the caps beside them. Refused: what split says of the solid, the plane and its points: NoSolid,
-        SolidTaken, LoneLoop, NotFlat, PlaneMisses, NotLattice; Meets: a part's faces would lie on each other at an edge."""
+        SolidTaken, LoneLoop, NotFlat, PlaneMisses, NotLattice; Meets: a part would touch itself."""
         number, level, wanted = self._bench.number('solid', solid), arguments.plane('plane', plane), cutting.kept(keep)
         new = None if above is None else arguments.number('above', above)
         if new is not None and wanted is not Keep.BOTH:

@@ -4,7 +4,7 @@ A solid is taken apart and made anew, as a script of its listing would make it (
 whatever a sound solid has, rings, handles, wires, laminae and several shells, it keeps, and the faces need not be flat.
 """
 
-from dataclasses import dataclass
+from dataclasses import dataclass, field
 from functools import reduce
 from typing import Container, Dict, Iterator, List, Mapping, Optional, Sequence, Tuple
 
@@ -27,39 +27,44 @@ AXES = ('x', 'y', 'z')
 
 @dataclass(frozen=True)
 class Copy:
-    """A copy of a solid: its number, and for each face, loop, edge and vertex of the original, by its number, that of the copy."""
+    """A copy of a solid: its number, and for each face, loop, edge and vertex of the original, by its number, that of the copy.
+
+    What is asked for its copy is a number or a thing of the same workbench, else a ValueError says so. KeyError: the original has no such thing."""
 
     solid: int
     faces: Mapping[int, int]
     loops: Mapping[int, int]
     edges: Mapping[int, int]
     vertices: Mapping[int, int]
+    original: int
+    _bench: Bench = field(repr=False, compare=False)
 
     def face(self, face: arguments.Face) -> int:
-        """The copy of the face. KeyError, here and below: the original has no such thing."""
-        return self.faces[arguments.number('face', face)]
+        """The copy of the face."""
+        return self.faces[self._bench.number('face', face)]
 
     def loop(self, loop: arguments.LoopNumber) -> int:
         """The copy of the loop."""
-        return self.loops[arguments.number('loop', loop)]
+        return self.loops[self._bench.number('loop', loop)]
 
     def edge(self, edge: arguments.Edge) -> int:
         """The copy of the edge."""
-        return self.edges[arguments.number('edge', edge)]
+        return self.edges[self._bench.number('edge', edge)]
 
-    def half_edge(self, half: int) -> int:
+    def half_edge(self, half: arguments.Edge) -> int:
         """The copy of the half-edge: it starts at the copy of its vertex. In a mirrored copy the loop of its mate has it."""
-        edge = arguments.half_edge('half', half)
+        edge = self._bench.half_edge('half', half)
         return self.edges[edge] if edge > 0 else -self.edges[-edge]
 
     def vertex(self, vertex: arguments.Vertex) -> int:
         """The copy of the vertex."""
-        return self.vertices[arguments.number('vertex', vertex)]
+        return self.vertices[self._bench.number('vertex', vertex)]
 
     def of(self, part: Found) -> Found:
         """The copy of a thing of the original, as a thing of the same kind."""
-        numbers = {'face': self.faces, 'loop': self.loops, 'edge': self.edges, 'vertex': self.vertices}
-        return type(part)(part._kernel, self.solid if part.kind == 'solid' else numbers[part.kind][part.number])
+        numbers: Dict[str, Mapping[int, int]] = {
+            'solid': {self.original: self.solid}, 'face': self.faces, 'loop': self.loops, 'edge': self.edges, 'vertex': self.vertices}
+        return type(part)(part._kernel, numbers[part.kind][self._bench.number('part', part, part.kind)])
 
 
 class _Unused(FreeNumbers):
@@ -141,7 +146,7 @@ def copies(bench: Bench, solid: int, ways: Sequence[Sequence[Change]]) -> Tuple[
     renumberings = [numbers.instead_of(model) for _ in ways]
     made = [renumbered(reduce(placed, way, model), new) for way, new in zip(ways, renumberings)]
     give(bench, [line for copied in made for line in numbers.making(copied)])
-    return tuple(Copy(new['solid'][solid], *(new[kind] for kind in KINDS[1:])) for new in renumberings)
+    return tuple(Copy(new['solid'][solid], new['face'], new['loop'], new['edge'], new['vertex'], solid, bench) for new in renumberings)
 
 
 def place(bench: Bench, solids: Sequence[int], change: Change) -> None:
@@ -181,4 +186,6 @@ def in_a_row(count: object, step: object) -> List[Sequence[Change]]:
         raise ValueError(f'count: {number} is below 2')
     if way == ZERO:
         raise ValueError('step: it is zero')
+    if number > LARGEST:
+        raise Impossible('NumbersSpent', 0, f'there are {LARGEST:,} numbers for solids, not {number:,}')
     return [[moving((way[0] * times, way[1] * times, way[2] * times))] for times in range(1, number)]

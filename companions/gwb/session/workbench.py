@@ -21,6 +21,7 @@ from webbrowser import open as open_in_browser
 from ..errors import CompanionError, Complaint, InDraft
 from ..formats.appearance import appearances_in, comments
 from ..geometry.model import Model
+from ..geometry.plane_figures import Exact
 from ..protocol.complaints import complaint
 from ..protocol.language import is_answered
 from ..protocol.listing import read_model
@@ -48,12 +49,13 @@ _FIRST_WORDS = ('v', 'vn', 'vt', 'f', 'o', 'g', 'mtllib', 'OFF', 'ply', 'solid',
 class Workbench(SolidMethods, FeatureMethods, Commands, Selecting, Measuring, Exporting):
     """A running gwb. Each command is a method; one that isn't accepted raises Refused, Faulted or MemoryRefused."""
 
-    def __init__(self, program: Optional[arguments.Path] = None) -> None:
-        """Starts the program at the path, or the one that the environment variable GWB, the repository or the path has.
+    def __init__(self, program: Optional[arguments.Path] = None, *, unit: Exact = 1) -> None:
+        """Starts the program at the path, or the one that the environment variable GWB, the repository or the path has. Where that is a shared
+        object, `libgwb.so`, it is loaded in place of it.
 
-        Where that is a shared object, `libgwb.so`, it is loaded in place of it.
+        `unit` is how many millimetres a coordinate stands for, a whole number or a fraction, as `Fraction(1, 60)`.
         """
-        super().__init__(Bench(program))
+        super().__init__(Bench(program, unit))
         self._turns: Turns = self._bench.kernel
 
     def __reduce__(self) -> NoReturn:

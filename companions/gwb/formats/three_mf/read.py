@@ -2,6 +2,7 @@
 
 import io
 import zipfile
+from fractions import Fraction
 from graphlib import CycleError, TopologicalSorter
 from typing import Callable, Dict, Iterator, List, NamedTuple, Optional
 
@@ -17,6 +18,8 @@ from ..xml_parts import Attributes, XmlReader
 _MOST_RELATIONS = 4_000_000
 _MOST_ITEMS = 200_000
 _ROOT_TYPE = '/3dmodel'
+# The greatest denominator of a fraction that is told from a rounded number.
+_MOST_PARTS = 1_000_000
 # How the word of an item or a component ends that names a further file, behind the namespace of the production extension.
 _PATH = '/production/2015/06 path'
 
@@ -115,7 +118,7 @@ class _Reader:
         if len(words) != 12:
             raise NotAMesh(f'a transform has {len(words)} numbers, not 12')
         x, y, z, origin = (self._numbers.point(words[place:place + 3]) for place in (0, 3, 6, 9))
-        return Placement(x, y, z, origin)
+        return Placement(_unrounded(x), _unrounded(y), _unrounded(z), origin)
 
     def _colour(self, group: Optional[str], place: str) -> Optional[Colour]:
         colours = self._colours.get(group or '', [])
@@ -208,6 +211,13 @@ def _expanded(model: _Model) -> Iterator[_Use]:
         if held.mesh.polygons:
             yield use
         waiting += [_Use(part.object, use.placement.after(part.placement)) for part in reversed(held.uses)]
+
+
+def _unrounded(axis: ExactVector) -> ExactVector:
+    """An axis of a transform, in which a number that is written as the float nearest to a fraction, such as 0.16666666666666666, is that."""
+    x, y, z = (near if Fraction(repr(float(near))) == part else part
+               for part in axis for near in [Fraction(part).limit_denominator(_MOST_PARTS)])
+    return (x, y, z)
 
 
 def _part(held: _Object, placement: Placement) -> Part:
