@@ -1,49 +1,261 @@
-/* The calls that take memory, each in the heap of its session: that in which the session's first block lies. Of the kernel they are
- * kernel_gwb_* here, which the Makefile makes of the names in the lines CALL. */
+/* The calls that take memory or change the model, each in the heap of its session. Of the kernel they are kernel_gwb_* here, which the Makefile
+ * makes of the names in the lines CALL, CHANGE and OTHER. */
+#include "beside.h"
 #include "heap.h"
+#include "record.h"
+#include <string.h>
 
-/* The heap of a session: for a closed handle that of the thread. */
-static inline const gwb_heap *own(const gwb *g) { return g->is_open ? ((const union head *)g->held - 1)->heap : gwb_used_heap; }
+/* Whether a call goes on to the kernel as it is: its heap is the one in use already, as mostly, and nothing is recorded. */
+static inline bool is_plain(const gwb *g)
+{
+    return !g->is_open || (beside_of(g)->heap == gwb_used_heap && beside_of(g)->record == NULL);
+}
 
-/* Where that is the one in use already, as mostly, the call goes on to the kernel as it is. */
+static inline enum gwb_kind counted(const gwb *g, enum gwb_kind kind)
+{
+    if (kind == GWB_OK)
+        beside_of(g)->changes++;
+    return kind;
+}
+
+/* Begins a call in the heap of an open session: the heap until then. */
+static inline const gwb_heap *entered(const gwb *g) { return gwb_use_heap(beside_of(g)->heap); }
+
+/* The line of a call that was made is kept where it was accepted. */
+static enum gwb_kind kept(const gwb *g, enum gwb_kind kind)
+{
+    struct record *r = beside_of(g)->record;
+    if (r != NULL && kind == GWB_OK)
+        record_keep(r, gwb_mark(g));
+    else if (r != NULL)
+        record_drop(r);
+    return kind;
+}
+
+/* A call that leaves the model as it is. */
 #define CALL(name, result, parameters, arguments)                                                                                          \
     result kernel_gwb_##name parameters;                                                                                                   \
     __attribute__((noinline)) static result in_own_##name parameters                                                                       \
     {                                                                                                                                      \
-        const gwb_heap *before = gwb_used_heap;                                                                                            \
-        gwb_used_heap = own(g);                                                                                                            \
+        const gwb_heap *before = entered(g);                                                                                               \
         result answer = kernel_gwb_##name arguments;                                                                                       \
-        gwb_used_heap = before;                                                                                                            \
+        gwb_use_heap(before);                                                                                                              \
         return answer;                                                                                                                     \
     }                                                                                                                                      \
-    result gwb_##name parameters { return own(g) == gwb_used_heap ? kernel_gwb_##name arguments : in_own_##name arguments; }
+    result gwb_##name parameters                                                                                                           \
+    {                                                                                                                                      \
+        return !g->is_open || beside_of(g)->heap == gwb_used_heap ? kernel_gwb_##name arguments : in_own_##name arguments;                    \
+    }
 
-typedef enum gwb_kind kind;
+/* A command, with `write` for its line. */
+#define COMMAND(name, parameters, arguments, write)                                                                                        \
+    enum gwb_kind kernel_gwb_##name parameters;                                                                                            \
+    __attribute__((noinline)) static enum gwb_kind in_own_##name parameters                                                                \
+    {                                                                                                                                      \
+        struct record *r = beside_of(g)->record;                                                                                              \
+        const gwb_heap *before = entered(g);                                                                                               \
+        enum gwb_kind answer = r == NULL || write ? kept(g, kernel_gwb_##name arguments) : GWB_MEMORY;                                     \
+        gwb_use_heap(before);                                                                                                              \
+        return answer;                                                                                                                     \
+    }                                                                                                                                      \
+    enum gwb_kind gwb_##name parameters                                                                                                    \
+    {                                                                                                                                      \
+        return counted(g, is_plain(g) ? kernel_gwb_##name arguments : in_own_##name arguments);                                            \
+    }
 
-CALL(line, kind, (gwb *g, const char *line, size_t n), (g, line, n))
+/* One whose line is its word and its values, of these forms (record.h). */
+#define CHANGE(name, form, parameters, ...)                                                                                                \
+    COMMAND(name, parameters, (g, __VA_ARGS__),                                                                                            \
+            record_write(r, #name, form, (const int64_t[]){__VA_ARGS__}, sizeof((const int64_t[]){__VA_ARGS__}) / sizeof(int64_t)))
+
 CALL(lent_reply, size_t, (gwb *g, char *buf, size_t room), (g, buf, room))
 CALL(lent_listing, size_t, (gwb *g, char *buf, size_t room), (g, buf, room))
-CALL(mvfs, kind, (gwb *g, uint32_t solid, uint32_t face, uint32_t loop, uint32_t vertex, int64_t x, int64_t y, int64_t z),
-     (g, solid, face, loop, vertex, x, y, z))
-CALL(kvfs, kind, (gwb *g, uint32_t solid), (g, solid))
-CALL(mev, kind, (gwb *g, uint32_t corner, uint32_t other, uint32_t edge, uint32_t vertex, int64_t x, int64_t y, int64_t z),
-     (g, corner, other, edge, vertex, x, y, z))
-CALL(kev, kind, (gwb *g, uint32_t half_edge), (g, half_edge))
-CALL(mef, kind, (gwb *g, uint32_t half_edge, uint32_t other, uint32_t edge, uint32_t face, uint32_t loop), (g, half_edge, other, edge, face, loop))
-CALL(kef, kind, (gwb *g, uint32_t half_edge), (g, half_edge))
-CALL(kemr, kind, (gwb *g, uint32_t half_edge, uint32_t ring), (g, half_edge, ring))
-CALL(mekr, kind, (gwb *g, uint32_t corner, uint32_t other, uint32_t edge), (g, corner, other, edge))
-CALL(kfmrh, kind, (gwb *g, uint32_t face, uint32_t other), (g, face, other))
-CALL(mfkrh, kind, (gwb *g, uint32_t ring, uint32_t face), (g, ring, face))
-CALL(ringmv, kind, (gwb *g, uint32_t ring, uint32_t face, uint32_t out), (g, ring, face, out))
-CALL(outer, kind, (gwb *g, uint32_t ring, uint32_t face), (g, ring, face))
-CALL(merge, kind, (gwb *g, uint32_t solid, uint32_t other), (g, solid, other))
-CALL(part, kind, (gwb *g, const uint32_t *faces, size_t n, uint32_t solid), (g, faces, n, solid))
-CALL(lamina, kind, (gwb *g, uint32_t solid, const gwb_point *points, size_t n), (g, solid, points, n))
-CALL(block, kind, (gwb *g, uint32_t solid, int64_t x, int64_t y, int64_t z, int64_t dx, int64_t dy, int64_t dz),
-     (g, solid, x, y, z, dx, dy, dz))
-CALL(sweep, kind, (gwb *g, uint32_t face, int64_t dx, int64_t dy, int64_t dz), (g, face, dx, dy, dz))
-CALL(glue, kind, (gwb *g, uint32_t face, uint32_t other), (g, face, other))
-CALL(split, kind, (gwb *g, uint32_t solid, int64_t a, int64_t b, int64_t c, int64_t d, uint32_t above), (g, solid, a, b, c, d, above))
-CALL(redo, kind, (gwb *g), (g))
-CALL(draft, kind, (gwb *g), (g))
+CHANGE(mvfs, "nnnnx", (gwb *g, uint32_t solid, uint32_t face, uint32_t loop, uint32_t vertex, int64_t x, int64_t y, int64_t z), solid, face,
+       loop, vertex, x, y, z)
+CHANGE(kvfs, "n", (gwb *g, uint32_t solid), solid)
+CHANGE(mev, "hhnnx", (gwb *g, uint32_t corner, uint32_t other, uint32_t edge, uint32_t vertex, int64_t x, int64_t y, int64_t z), corner,
+       other, edge, vertex, x, y, z)
+CHANGE(kev, "h", (gwb *g, uint32_t half_edge), half_edge)
+CHANGE(mef, "hhn", (gwb *g, uint32_t half_edge, uint32_t other, uint32_t edge, uint32_t face, uint32_t loop), half_edge, other, edge, face,
+       loop)
+CHANGE(kef, "h", (gwb *g, uint32_t half_edge), half_edge)
+CHANGE(kemr, "hn", (gwb *g, uint32_t half_edge, uint32_t ring), half_edge, ring)
+CHANGE(mekr, "hhn", (gwb *g, uint32_t corner, uint32_t other, uint32_t edge), corner, other, edge)
+CHANGE(kfmrh, "n", (gwb *g, uint32_t face, uint32_t other), face, other)
+CHANGE(mfkrh, "n", (gwb *g, uint32_t ring, uint32_t face), ring, face)
+CHANGE(ringmv, "nnw", (gwb *g, uint32_t ring, uint32_t face, uint32_t out), ring, face, out)
+CHANGE(outer, "n", (gwb *g, uint32_t ring, uint32_t face), ring, face)
+CHANGE(merge, "n", (gwb *g, uint32_t solid, uint32_t other), solid, other)
+CHANGE(block, "nx", (gwb *g, uint32_t solid, int64_t x, int64_t y, int64_t z, int64_t dx, int64_t dy, int64_t dz), solid, x, y, z, dx, dy, dz)
+CHANGE(sweep, "nx", (gwb *g, uint32_t face, int64_t dx, int64_t dy, int64_t dz), face, dx, dy, dz)
+CHANGE(glue, "n", (gwb *g, uint32_t face, uint32_t other), face, other)
+CHANGE(split, "nxxxxn", (gwb *g, uint32_t solid, int64_t a, int64_t b, int64_t c, int64_t d, uint32_t above), solid, a, b, c, d, above)
+
+/* The same, of a list of more values than those given one by one: a lamina's points, a part's faces. */
+static bool write_lamina(struct record *r, uint32_t solid, const gwb_point *points, size_t n)
+{
+    const int64_t first = solid;
+    if (!record_begin(r, "lamina", 3 * n + 1))
+        return false;
+    record_put(r, "n", &first, 1);
+    for (size_t at = 0; at < n; at++)
+        record_put(r, "x", (const int64_t[]){points[at].x, points[at].y, points[at].z}, 3);
+    return record_end(r), true;
+}
+
+static bool write_part(struct record *r, const uint32_t *faces, size_t n, uint32_t solid)
+{
+    const int64_t first = solid;
+    if (!record_begin(r, "part", n + 1))
+        return false;
+    record_put(r, "n", &first, 1);
+    for (size_t at = 0; at < n; at++)
+        record_put(r, "n", (const int64_t[]){faces[at]}, 1);
+    return record_end(r), true;
+}
+
+COMMAND(part, (gwb *g, const uint32_t *faces, size_t n, uint32_t solid), (g, faces, n, solid), write_part(r, faces, n, solid))
+COMMAND(lamina, (gwb *g, uint32_t solid, const gwb_point *points, size_t n), (g, solid, points, n), write_lamina(r, solid, points, n))
+
+/* ---- undo and redo, and drafts */
+
+/* A call with a session's record to follow it. */
+#define STEP(name, parameters, arguments, follow)                                                                                          \
+    enum gwb_kind kernel_gwb_##name parameters;                                                                                            \
+    enum gwb_kind gwb_##name parameters                                                                                                    \
+    {                                                                                                                                      \
+        const gwb_heap *before = g->is_open ? entered(g) : gwb_used_heap;                                                                  \
+        enum gwb_kind answer = kernel_gwb_##name arguments;                                                                                \
+        struct record *r = answer == GWB_OK ? beside_of(g)->record : NULL;                                                                    \
+        if (r != NULL)                                                                                                                     \
+            follow;                                                                                                                        \
+        gwb_use_heap(before);                                                                                                              \
+        return counted(g, answer);                                                                                                         \
+    }
+
+STEP(undo, (gwb *g), (g), record_undo(r))
+STEP(redo, (gwb *g), (g), record_redo(r))
+STEP(abandon, (gwb *g), (g), record_abandon(r))
+STEP(back, (gwb *g, size_t mark), (g, mark), record_back(r, mark))
+
+/* To open a draft, or to make its steps one command, leaves the model as it is. */
+enum gwb_kind kernel_gwb_draft(gwb *g);
+enum gwb_kind gwb_draft(gwb *g)
+{
+    if (!g->is_open)
+        return GWB_CLOSED;
+    struct record *r = beside_of(g)->record;
+    const gwb_heap *before = entered(g);
+    enum gwb_kind answer = r == NULL || record_reserve_draft(r) ? kernel_gwb_draft(g) : GWB_MEMORY;
+    if (r != NULL && answer == GWB_OK)
+        record_draft(r);
+    gwb_use_heap(before);
+    return answer;
+}
+
+enum gwb_kind kernel_gwb_commit(gwb *g);
+enum gwb_kind gwb_commit(gwb *g)
+{
+    enum gwb_kind answer = kernel_gwb_commit(g);
+    if (answer == GWB_OK && beside_of(g)->record != NULL)
+        record_commit(beside_of(g)->record);
+    return answer;
+}
+
+/* ---- lines */
+
+/* Whether the first word of a line is this one. */
+static bool begins_with(const char *line, size_t n, const char *word)
+{
+    size_t length = strlen(word);
+    for (; n > 0 && (*line == ' ' || *line == '\t' || *line == '\r'); n--)
+        line++;
+    return n >= length && memcmp(line, word, length) == 0;
+}
+
+/* The record follows a line that was accepted. */
+static void follow_line(const gwb *g, struct record *r, const char *line, size_t n)
+{
+    if (begins_with(line, n, "undo"))
+        record_undo(r);
+    else if (begins_with(line, n, "redo"))
+        record_redo(r);
+    else
+        record_keep(r, gwb_mark(g));
+}
+
+enum gwb_kind kernel_gwb_line(gwb *g, const char *line, size_t n);
+static enum gwb_kind recorded_line(gwb *g, struct record *r, const char *line, size_t n)
+{
+    if (!record_write_line(r, line, n))
+        return GWB_MEMORY;
+    enum gwb_kind answer = kernel_gwb_line(g, line, n);
+    if (answer == GWB_OK)
+        follow_line(g, r, line, n);
+    record_drop(r);
+    return answer;
+}
+
+enum gwb_kind gwb_line(gwb *g, const char *line, size_t n)
+{
+    if (!g->is_open)
+        return GWB_CLOSED;
+    struct record *r = beside_of(g)->record;
+    const gwb_heap *before = entered(g);
+    enum gwb_kind answer = r == NULL ? kernel_gwb_line(g, line, n) : recorded_line(g, r, line, n);
+    gwb_use_heap(before);
+    return counted(g, answer);
+}
+
+/* ---- sessions */
+
+bool kernel_gwb_open(gwb *g);
+bool gwb_open(gwb *g)
+{
+    if (g->is_open)
+        return false;
+    struct tried block = rattle_alloc(sizeof(struct beside), 16);
+    if (!block.ok)
+        return false;
+    if (!kernel_gwb_open(g))
+        return rattle_dealloc(block.at), false;
+    g->beside = block.at;
+    *beside_of(g) = (struct beside){.heap = gwb_used_heap};
+    return true;
+}
+
+void gwb_forget_features(struct beside *of); /* of the features */
+void kernel_gwb_close(gwb *g);
+void gwb_close(gwb *g)
+{
+    struct beside *of = g->beside;
+    if (!g->is_open)
+        return;
+    kernel_gwb_close(g);
+    gwb_forget_features(of);
+    record_free(of->record);
+    rattle_dealloc(of);
+    g->beside = NULL;
+}
+
+enum gwb_kind gwb_record(gwb *g)
+{
+    if (!g->is_open)
+        return GWB_CLOSED;
+    if (beside_of(g)->record != NULL)
+        return GWB_OK;
+    if (beside_of(g)->changes != 0)
+        return GWB_NO_CALL;
+    const gwb_heap *before = entered(g);
+    beside_of(g)->record = record_new();
+    gwb_use_heap(before);
+    return beside_of(g)->record != NULL ? GWB_OK : GWB_MEMORY;
+}
+
+void gwb_stop_by(gwb *g, gwb_stop stop, void *user)
+{
+    if (!g->is_open)
+        return;
+    beside_of(g)->stop = stop;
+    beside_of(g)->stop_user = user;
+}

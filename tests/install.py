@@ -19,9 +19,8 @@ EXAMPLE = TOP / 'examples' / 'block_with_hole.gwb'
 COMPANIONS = sorted(path.name for path in (TOP / 'companions').glob('gwb-*'))
 VERSION = (TOP / 'VERSION').read_text().strip()
 SONAME = 'libgwb.so.' + VERSION.split('.')[0]
-LIBRARY = ['include/gwb.h', 'include/gwb.hpp', 'include/gwb_history.hpp', 'include/gwb_features.hpp', 'include/gwb_exact.hpp',
-           'include/gwb_machining.hpp', 'include/gwb_sheets.hpp', 'include/gwb_assembly.hpp', 'include/gwb_contacts.hpp', 'include/gwb_shaping.hpp',
-           'include/gwb_off_lattice.hpp', 'include/gwb_triangles.hpp', 'include/gwb_names.h', 'lib/libgwb.a', 'lib/libgwb_c.a', 'lib/libgwb.so', f'lib/{SONAME}', f'lib/libgwb.so.{VERSION}', 'lib/pkgconfig/gwb.pc', 'lib/pkgconfig/gwb-static.pc', 'lib/cmake/gwb/gwb-config.cmake',
+LIBRARY = ['include/gwb.h', 'include/gwb.hpp', 'include/gwb_history.hpp', 'include/gwb_features.h', 'include/gwb_features.hpp',
+           'include/gwb_triangles.hpp', 'include/gwb_names.h', 'lib/libgwb.a', 'lib/libgwb_c.a', 'lib/libgwb.so', f'lib/{SONAME}', f'lib/libgwb.so.{VERSION}', 'lib/pkgconfig/gwb.pc', 'lib/pkgconfig/gwb-static.pc', 'lib/cmake/gwb/gwb-config.cmake',
            'lib/cmake/gwb/gwb-config-version.cmake', 'share/gwb/heap.c', 'share/gwb/heap.h']
 PROGRAM = '''#include <gwb.h>
 #include <gwb_names.h>

@@ -1,9 +1,8 @@
-// Tries gwb_machining.hpp, gwb_shaping.hpp and gwb_off_lattice.hpp: features and cuts of the table that the session in Python gives
+// Tries gwb_features.hpp: features and cuts of the table that the session in Python gives
 // (library_features.py), random parts beside models of unit cubes, refusals, drafts and marks. The last line counts.
 //
 //     library_machining [TIMES]     so many random parts, and as many of the table: 50 and all where none is said
-#include "gwb_off_lattice.hpp"
-#include "gwb_shaping.hpp"
+#include "gwb_features.hpp"
 #include <fstream>
 #include <iostream>
 #include <map>
@@ -122,7 +121,7 @@ public:
     {
         const std::int64_t a = given.number(), b = given.number(), c = given.number();
         const OffLattice said = off_lattice(bench_, solid_, {a, b, c, given.number()});
-        return "ok " + std::to_string(said.cuts.size()) + " " + Fraction::digits(said.factor) + "\n" + said.advice(Solid(77));
+        return "ok " + std::to_string(said.cuts().size()) + " " + std::to_string(narrow(said.factor())) + "\n" + said.advice(Solid(77));
     }
 
 private:
@@ -362,9 +361,10 @@ private:
     }
 
     // Whether the face is the one in its plane that the rectangle lies in.
-    [[nodiscard]] bool lies_in(Face face, const Rectangle &rectangle) const
+    [[nodiscard]] bool lies_in(Face face, const Rectangle &rectangle)
     {
-        return static_cast<bool>(machining::drawing(bench_.attempt(), face, rectangle.outline()));
+        const Draft draft = bench_.draft();
+        return static_cast<bool>(ring(attempt_, face, rectangle.outline()));
     }
 
     bool made_hole(Face face, const Rectangle &rectangle)
@@ -451,7 +451,7 @@ static void try_refusals()
     check(off_lattice(attempt, Solid(9), {0, 0, 1, -1}).error().is(GWB_WHY_NO_SOLID), "no solid is cut");
     check(off_lattice(attempt, block, {0, 0, 2'000'000'000, -1}).error().is(GWB_WHY_PLANE_RANGE), "a plane out of range");
     check(off_lattice(bench, block, {0, 0, 0, 0}).advice(Solid(2)).empty(), "nothing to say of no plane");
-    check(off_lattice(bench, block, {1, 0, 0, -4}).factor == 1, "nothing of a whole cut");
+    check(narrow(off_lattice(bench, block, {1, 0, 0, -4}).factor()) == 1, "nothing of a whole cut");
     try {
         (void)pocket(bench, Face(1), square, 8);
         check(false, "a pocket that comes through is refused");
@@ -549,7 +549,7 @@ static void try_far()
     (void)slot(bench, Face(2), {-far, 0, -far}, {far, 0, -far}, 2, 1);
     (void)chamfer(bench, half_edge(bench, block, {far, -far, -far}, {far, -far, far}).edge(), far - 2, 5);
     const OffLattice said = off_lattice(bench, block, {999'999'937, -999'999'929, 5, 1'000'003});
-    check(!said.fits && said.factor != 1, "a factor that doesn't fit");
+    check(!said.fits() && (said.factor().high != 0 || said.factor().low != 1), "a factor that doesn't fit");
     const Solid slope = profile(bench, {{-far, 0, 0}, {far, 1 - far, 0}, {far, far, 0}}, {0, -1, far}).solid;
     for (Face face : bench.faces(slope))
         (void)notch(attempt, face, {{-far, -1, far}, {far, far - 1, far}, {0, -1, far}}, 1);

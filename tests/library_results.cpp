@@ -1,7 +1,6 @@
 // Tries gwb.hpp in a program without exceptions (-fno-exceptions): a Session, whose calls give Results. The last line counts.
+#include "gwb_features.hpp"
 #include "gwb_history.hpp"
-#include "gwb_off_lattice.hpp"
-#include "gwb_shaping.hpp"
 #include <cstdio>
 
 #if defined(__cpp_exceptions)
@@ -71,7 +70,7 @@ static void try_features()
     const Result<Pocket> deep = pocket(session, plate->far, {{6, 2, 7}, {8, 2, 7}, {8, 4, 7}}, 7);
     check(deep.error().is(Misfit::meets) && std::string_view(deep.error().name()) == "Meets", "one that comes through");
     check(slot(session, plate->far, {6, 0, 7}, {6, 8, 7}, 2, 1) && *session.depth() == 3, "a slot");
-    check(off_lattice(session, plate->solid, {2, 0, 0, -3})->factor == 2, "a cut between whole points");
+    check(off_lattice(session, plate->solid, {2, 0, 0, -3})->factor().low == 2, "a cut between whole points");
 }
 
 static void try_ends(Session session)

@@ -13,7 +13,7 @@
  *
  * Threads:
  * - Two handles share nothing, so any two threads may work at once, each with its own.
- * - Calls that take `const gwb *` are readers. They leave the handle alone and work on a copy of its two words, which has a share in the
+ * - Calls that take `const gwb *` are readers. They leave the handle alone and work on a copy of it, which has a share in the
  *   session for as long as the call lasts. So many may run at once for one handle, from any threads, as long as no other call for it runs.
  * - A call that takes `gwb *` needs the handle for itself: it takes the session out of the handle and puts another back. Let a lock, a
  *   queue or a join order it before and after every other call for that handle. The queries gwb_face_plane, gwb_volume and gwb_count are
@@ -50,6 +50,7 @@ uint32_t gwb_version(void);
 typedef struct gwb {
     bool is_open;
     void *held;
+    void *beside;
 } gwb;
 
 /** The kind of an answer. */
@@ -67,7 +68,10 @@ enum gwb_kind {
     /* After these nothing has changed, the last answer included. */
     GWB_NO_CALL = 10,  /**< the arguments make no command */
     GWB_IN_DRAFT = 11, /**< a draft has no such call */
-    GWB_NO_DRAFT = 12  /**< only a draft has this call */
+    GWB_NO_DRAFT = 12, /**< only a draft has this call */
+    /* Of the calls of gwb_features.h alone. */
+    GWB_IMPOSSIBLE = 13, /**< a feature isn't possible */
+    GWB_STOPPED = 14     /**< the caller stopped it (gwb_stop_by) */
 };
 
 /** Whether an answer is one that was asked for: a command that was accepted, or what a query or a line told. */
@@ -93,6 +97,8 @@ static inline const char *gwb_kind_text(enum gwb_kind kind)
     case GWB_NO_CALL: return "the arguments make no command";
     case GWB_IN_DRAFT: return "a draft is open, which has no such call";
     case GWB_NO_DRAFT: return "no draft is open";
+    case GWB_IMPOSSIBLE: return "the feature isn't possible";
+    case GWB_STOPPED: return "the caller stopped it";
     }
     return "";
 }
@@ -615,6 +621,35 @@ enum gwb_kind gwb_load(gwb *g, const char *listing, size_t n, gwb_refusal *refus
  * @param line how many lines were given
  * @return the kind of the last one's answer: GWB_SILENT where there was none */
 enum gwb_kind gwb_lines(gwb *g, const char *script, size_t n, size_t *line);
+
+/* ---- a record of the accepted commands. Not with libgwb_c.a alone. */
+
+/** From here on each command that is accepted is recorded as a line of a script, and what is recorded follows undo, redo and drafts. Where
+ * memory for the record is refused, calls are GWB_MEMORY.
+ * @return GWB_OK, also where commands were recorded before; GWB_NO_CALL, where the session has done something already; GWB_MEMORY; GWB_CLOSED.
+ * But for GWB_OK nothing has changed. */
+enum gwb_kind gwb_record(gwb *g);
+
+/** How many recorded commands are held, the draft that is open counted as one. 0 where nothing is recorded, SIZE_MAX where the handle is
+ * closed. A reader. */
+size_t gwb_recorded(const gwb *g);
+
+/** Writes the lines of `n` recorded commands that are held, or of as many as there are, as far as there is room in `buf`: from the one of this
+ * place on, where the first is 0, and the draft that is open comes last. A command of a draft has a line for each step, which may be none. A
+ * line of gwb_line stands as it was given. gwb_outer, gwb_merge and gwb_part have words that no script has: `outer 3 1`, `merge 1 2`, and
+ * `part 2 7 8`, the new solid and then the faces. Where gwb_back took some of a larger command's steps and left others, its line is in capitals,
+ * which no script has either. A reader.
+ * @return how many bytes there are. SIZE_MAX where the handle is closed; then nothing is written. */
+size_t gwb_script(const gwb *g, size_t first, size_t n, char *buf, size_t room);
+
+/* ---- work that is stopped. Not with libgwb_c.a alone. */
+
+/** Whether work is to end. It is asked often while a feature is made, from the thread that makes it, and gives no call for the handle. */
+typedef bool (*gwb_stop)(void *user);
+
+/** From here on the features of a session (gwb_features.h) ask `stop` between their steps and in what takes long; where it says true their
+ * answer is GWB_STOPPED, and the model and the draft are as they were. NULL: they ask nothing. Nothing happens where the handle is closed. */
+void gwb_stop_by(gwb *g, gwb_stop stop, void *user);
 
 /** The greatest number of a kind (enum gwb_entity) in use, so that the one above it is free: 0 where none is. SIZE_MAX where the handle is
  * closed. A reader. */

@@ -179,7 +179,7 @@ enum class Problem {
     absent,   ///< the number is not in use
     changed,  ///< the model has changed since a walk over it began
     crossed,  ///< loops of the face cross or touch, so it has no triangles
-    impossible, ///< a feature isn't possible (gwb_machining.hpp): a Misfit
+    impossible, ///< a feature isn't possible (gwb_features.hpp): a Misfit
 };
 
 /// Why a feature isn't possible, where it is no condition of a command. X is the value that goes with it.
@@ -493,10 +493,6 @@ private:
     Ranges made_{}; ///< by the steps until then
 };
 
-namespace machining {
-class Surroundings;
-}
-
 /// A session, shared by its workbench, the drafts and the ranges of it. It is closed as soon as the workbench is gone; what is left of it
 /// says so.
 class State {
@@ -506,24 +502,11 @@ public:
     std::uint64_t changes = 0;
     /// The number of the draft that was opened last.
     std::uint64_t draft = 0;
-    /// What features have read of the model.
-    std::shared_ptr<machining::Surroundings> surroundings;
 
     State() = default;
     State(const State &) = delete;
     State &operator=(const State &) = delete;
     ~State() { gwb_close(&handle); }
-
-    /// A number of the model that is held: never that of another one. Once the handle was lent it is another one each time.
-    [[nodiscard]] std::uint64_t model()
-    {
-        if (is_lent_)
-            model_ = ++models_;
-        return model_;
-    }
-
-    /// Before the handle is given to the caller, who may do anything with it from then on.
-    void lend() { is_lent_ = true; }
 
     /// The fresh numbers of a kind: those that the last command made.
     [[nodiscard]] std::optional<gwb_range> fresh(gwb_entity kind) const
@@ -547,7 +530,7 @@ public:
             return;
         is_kept_ = false;
         if (kind == GWB_OK)
-            change();
+            changes++;
         if (kind == GWB_OK && is_drafting_)
             add(live());
     }
@@ -570,7 +553,7 @@ public:
         for (std::uint32_t kind = GWB_FACE; kind < made.size(); kind++)
             if (gwb_number_after(&handle, kind, before[kind], &made[kind].first) == GWB_FOUND)
                 made[kind].last = now[kind];
-        change();
+        changes++;
         kept_ = made;
         is_kept_ = true;
         if (is_drafting_)
@@ -583,7 +566,6 @@ public:
         is_drafting_ = true;
         is_kept_ = false;
         drafted_ = {};
-        model_before_ = model_;
         changes++;
         return ++draft;
     }
@@ -598,11 +580,9 @@ public:
     }
 
     /// After the steps since a mark were taken back, if there were any.
-    void go_back(const Mark &mark, bool were_any)
+    void go_back(const Mark &mark)
     {
         changes++;
-        if (were_any)
-            model_ = ++models_;
         is_kept_ = false;
         drafted_ = mark.made_;
     }
@@ -612,20 +592,12 @@ public:
     {
         is_drafting_ = false;
         changes++;
-        if (!is_committed)
-            model_ = model_before_;
         is_kept_ = is_committed;
         kept_ = drafted_;
     }
 
 private:
     using Ranges = Mark::Ranges;
-
-    void change()
-    {
-        changes++;
-        model_ = ++models_;
-    }
 
     [[nodiscard]] gwb_range live(gwb_entity kind) const
     {
@@ -645,9 +617,8 @@ private:
         }
     }
 
-    bool is_kept_ = false, is_drafting_ = false, is_lent_ = false;
+    bool is_kept_ = false, is_drafting_ = false;
     Ranges kept_{}, drafted_{};
-    std::uint64_t model_ = 1, model_before_ = 1, models_ = 1;
 };
 
 // ---- ranges
@@ -1088,7 +1059,7 @@ public:
     /// The two solids of the faces become one along them. The faces go through the same points in opposite directions.
     Returned<void> glue(Face face, Face other) { return told("glue", gwb_glue(held(), face.number(), other.number())); }
     /// What lies above the plane a x + b y + c z + d = 0, where the sum is greater than 0, becomes solid `above`. Where it is refused
-    /// NotLattice, off_lattice of gwb_off_lattice.hpp says what would do.
+    /// NotLattice, off_lattice of gwb_features.hpp says what would do.
     Returned<void> split(Solid solid, std::int64_t a, std::int64_t b, std::int64_t c, std::int64_t d, Solid above)
     {
         return told("split", gwb_split(held(), solid.number(), a, b, c, d, above.number()));
@@ -1118,11 +1089,10 @@ public:
     /// Takes the draft's steps since a mark back, and leaves it open. NoDraft where none is open.
     Returned<void> back(const Mark &mark)
     {
-        const std::size_t steps = gwb_mark(seen());
         const gwb_kind kind = gwb_back(held(), mark.steps());
         if (kind != GWB_OK)
             return Policy::template failed<void>("back", failure(kind));
-        state_->go_back(mark, mark.steps() < steps);
+        state_->go_back(mark);
         return Returned<void>();
     }
 
@@ -1338,6 +1308,30 @@ public:
         return Policy::template failed<void>("load", kind == GWB_REFUSED ? refused : failure(kind));
     }
 
+    /// What a call of gwb_features.h gives (gwb_features.hpp).
+    template <class Call, class Made> auto feature(const char *command, Call call, Made made) -> Returned<decltype(made())>
+    {
+        using Of = decltype(made());
+        if (state_ == nullptr)
+            return Policy::template failed<Of>(command, {Problem::closed});
+        gwb_refusal why{};
+        const State::Greatest before = state_->greatest();
+        const gwb_kind kind = call(held(), &why);
+        if (kind != GWB_OK)
+            return Policy::template failed<Of>(command, feature_failure(kind, why));
+        state_->follow_all(before);
+        if constexpr (std::is_void_v<Of>)
+            return Returned<void>();
+        else
+            return made();
+    }
+    [[nodiscard]] Failure feature_failure(gwb_kind kind, const gwb_refusal &why) const
+    {
+        if (kind == GWB_IMPOSSIBLE)
+            return {Problem::impossible, why.number, why.value};
+        return kind == GWB_REFUSED ? Failure{Problem::refused, why.number, why.value} : failure(kind);
+    }
+
     /// Gives the lines of a script one after another, up to the first that is not accepted: how many were given.
     Returned<std::size_t> run_lines(std::string_view script)
     {
@@ -1371,18 +1365,12 @@ public:
     [[nodiscard]] Commands<Results> attempt() const { return Commands<Results>(state_); }
 
     /// For the calls of gwb.h; that of a workbench that was moved from is closed. It stays where it is when the workbench is moved. What
-    /// they do to a draft or to the model the ranges and drafts here don't notice; features read their solid anew from then on.
-    [[nodiscard]] gwb *handle()
-    {
-        if (state_ != nullptr)
-            state_->lend();
-        return held();
-    }
+    /// they do to a draft or to the model the ranges and drafts here don't notice.
+    [[nodiscard]] gwb *handle() { return held(); }
     [[nodiscard]] const gwb *handle() const { return seen(); }
 
 protected:
     template <class> friend class Commands;
-    friend class machining::Surroundings;
     Commands() = default;
     explicit Commands(std::shared_ptr<State> state) : state_(std::move(state)) {}
 
@@ -1532,10 +1520,9 @@ private:
 
     template <class Rule> RangeOf<Rule> range(Rule rule) const
     {
-        static const auto closed = std::make_shared<const State>();
         if (!is_open())
             Policy::ended({Problem::closed});
-        return RangeOf<Rule>(state_ != nullptr ? state_ : closed, rule);
+        return RangeOf<Rule>(state_ != nullptr ? state_ : std::make_shared<const State>(), rule);
     }
 
     /// All triangles that a call writes, which is given more room where there are more.

@@ -1,17 +1,13 @@
-/// @file gwb_features.hpp Whole solids killed, copied and moved, for C++17: each by operators in a draft, and so one command; where a draft
-/// is open, they are steps of it.
+/// @file gwb_features.hpp The features of gwb_features.h, for C++17: a call each, whose rows are given as types of gwb.hpp.
 ///
 ///     using namespace gwb_session;
-///     Solid other = copy_solid(bench, block, Motion::mirror(0));        // x becomes -x
-///     move_solid(bench, other, Motion::quarter_turns(2).then(Motion::move({9, 0, 0})));
-///     kill_solid(bench, block);
-///
-/// A solid is taken apart by operators, and what is written down of each is its inverse; these inverses, the last one first, make it again,
-/// elsewhere and with other numbers. All take as many operators as the solid has edges, and a few for each ring, handle and part of it.
+///     const Profile plate = profile(bench, {{0, 0, 0}, {40, 0, 0}, {40, 20, 0}, {0, 20, 0}}, {0, 0, 10});
+///     const Pocket made = pocket(bench, plate.far, {{5, 5, 10}, {15, 5, 10}, {10, 15, 10}}, 4);
+///     Solid other = copy_solid(bench, plate.solid, Motion::mirror(0));
 #ifndef GWB_FEATURES_HPP
 #define GWB_FEATURES_HPP
 #include "gwb.hpp"
-#include <unordered_map>
+#include "gwb_features.h"
 
 namespace gwb_session {
 
@@ -21,7 +17,7 @@ public:
     static Motion move(Point by)
     {
         Motion motion;
-        motion.by_ = by;
+        motion.row_.by = by;
         return motion;
     }
     /// By so many quarters about the axis through the origin (0 x, 1 y, 2 z): counterclockwise as seen from where it points.
@@ -29,7 +25,7 @@ public:
     {
         Motion quarter, motion;
         const unsigned first = (axis + 1) % 3, second = (axis + 2) % 3;
-        quarter.from_[first] = second, quarter.sign_[first] = -1, quarter.from_[second] = first;
+        quarter.row_.axes[first] = -static_cast<std::int32_t>(second + 1), quarter.row_.axes[second] = static_cast<std::int32_t>(first + 1);
         for (unsigned time = 0; time < times % 4; time++)
             motion = motion.then(quarter);
         return motion;
@@ -38,402 +34,248 @@ public:
     static Motion mirror(unsigned axis)
     {
         Motion motion;
-        motion.sign_[axis % 3] = -1;
+        motion.row_.axes[axis % 3] *= -1;
         return motion;
     }
-
     [[nodiscard]] Point operator()(Point point) const
     {
         const std::array<std::int64_t, 3> parts = {point.x, point.y, point.z};
-        return {sign_[0] * parts[from_[0]] + by_.x, sign_[1] * parts[from_[1]] + by_.y, sign_[2] * parts[from_[2]] + by_.z};
+        const auto part = [&](std::int32_t axis) { return axis < 0 ? -parts[from(axis)] : parts[from(axis)]; };
+        return {part(row_.axes[0]) + row_.by.x, part(row_.axes[1]) + row_.by.y, part(row_.axes[2]) + row_.by.z};
     }
     /// This motion, and then another.
     [[nodiscard]] Motion then(const Motion &next) const
     {
         Motion both;
-        for (std::size_t axis = 0; axis < 3; axis++) {
-            both.from_[axis] = from_[next.from_[axis]];
-            both.sign_[axis] = next.sign_[axis] * sign_[next.from_[axis]];
-        }
-        both.by_ = next(by_);
+        for (std::size_t axis = 0; axis < 3; axis++)
+            both.row_.axes[axis] = next.row_.axes[axis] < 0 ? -row_.axes[from(next.row_.axes[axis])] : row_.axes[from(next.row_.axes[axis])];
+        both.row_.by = next(row_.by);
         return both;
     }
     /// Whether left becomes right.
     [[nodiscard]] bool is_mirror() const
     {
-        const bool is_even = from_[1] == (from_[0] + 1) % 3;
-        return (sign_[0] * sign_[1] * sign_[2] < 0) == is_even;
+        const bool is_even = from(row_.axes[1]) == (from(row_.axes[0]) + 1) % 3;
+        return ((row_.axes[0] < 0) != ((row_.axes[1] < 0) != (row_.axes[2] < 0))) == is_even;
     }
+    [[nodiscard]] const gwb_motion &row() const { return row_; }
 
 private:
-    std::array<std::size_t, 3> from_ = {0, 1, 2}; ///< for each axis the one that goes there
-    std::array<std::int64_t, 3> sign_ = {1, 1, 1};
-    Point by_{0, 0, 0};
+    static std::size_t from(std::int32_t axis) { return static_cast<std::size_t>(axis < 0 ? -axis : axis) - 1; }
+    gwb_motion row_ = {{1, 2, 3}, {0, 0, 0}};
 };
 
-/// A solid taken apart, as what makes it again. For the functions below.
-class TakenApart {
-public:
-    explicit TakenApart(Attempts bench) : bench_(std::move(bench)) {}
-
-    /// Takes a solid apart in the draft that is open: it is gone then.
-    Result<void> take(Solid solid)
-    {
-        solid_ = solid;
-        if (bench_.faces(solid).empty())
-            return bench_.kvfs(solid); // which is refused
-        next_face_ = above<Face>(), next_edge_ = above<Edge>();
-        std::vector<Edge> edges = edges_of(solid);
-        bool goes = rings_out();
-        while (goes && !edges.empty())
-            goes = faces_out(edges) && leaves_out(edges) && (edges.empty() || handle_out(edges));
-        goes = goes && parts_out() && done(bench_.kvfs(solid));
-        return goes ? Result<void>() : Result<void>(failure_);
-    }
-
-    /// Makes it again in the draft that is open: with its own numbers, or with numbers above all in use.
-    Result<Solid> make(const Motion &motion, bool with_own_numbers)
-    {
-        const bool is_mirror = motion.is_mirror();
-        Numbering numbers(bench_, with_own_numbers);
-        const Solid solid = with_own_numbers ? solid_ : Solid(above<Solid>());
-        for (auto step = steps_.rbegin(); step != steps_.rend(); ++step)
-            if (!make_step(*step, motion, is_mirror, numbers, solid))
-                return failure_;
-        return solid;
-    }
-
-private:
-    /// A place at which an edge begins: the half-edge after it, and the one before it; or the lone loop.
-    struct Place {
-        HalfEdge after, before;
-        Loop lone;
-    };
-
-    /// What an inverse makes.
-    enum class Makes { solid, part, bridge, spur, face, ring };
-    struct Step {
-        Makes makes;
-        Place first, second;
-        HalfEdge half_edge; ///< that runs as the new edge
-        Face face, other;
-        Loop loop;
-        Vertex vertex;
-        Point at;
-    };
-
-    /// The numbers of what is made, by those of what was taken apart.
-    class Numbering {
-    public:
-        Numbering(const Attempts &bench, bool is_same)
-            : is_same_(is_same), faces_{above<Face>(bench), {}}, loops_{above<Loop>(bench), {}}, edges_{above<Edge>(bench), {}},
-              vertices_{above<Vertex>(bench), {}}
-        {
-        }
-        Face operator[](Face face) { return Face(number(faces_, face.number())); }
-        Loop operator[](Loop loop) { return Loop(number(loops_, loop.number())); }
-        Edge operator[](Edge edge) { return Edge(number(edges_, edge.number())); }
-        Vertex operator[](Vertex vertex) { return Vertex(number(vertices_, vertex.number())); }
-        /// The half-edge that runs as an old one does; those of an edge of which `turned` was told run the other way.
-        HalfEdge operator[](HalfEdge half_edge)
-        {
-            const HalfEdge first = plus((*this)[half_edge.edge()]);
-            return half_edge.is_second() == turned_[half_edge.edge().number()] ? first : first.twin();
-        }
-        void turn(Edge edge, bool is_turned) { turned_[edge.number()] = is_turned; }
-        Corner corner(const Place &place, bool is_mirror)
-        {
-            if (place.lone != Loop())
-                return lone((*this)[place.lone]);
-            return is_mirror ? (*this)[place.before.twin()] : (*this)[place.after];
-        }
-
-    private:
-        struct Of {
-            std::uint32_t next;
-            std::unordered_map<std::uint32_t, std::uint32_t> given;
-        };
-        template <class Kind> static std::uint32_t above(const Attempts &bench)
-        {
-            auto free = bench.next_free<Kind>();
-            return free ? free->number() : 0;
-        }
-        std::uint32_t number(Of &of, std::uint32_t old)
-        {
-            if (is_same_)
-                return old;
-            auto [found, is_new] = of.given.try_emplace(old, of.next);
-            of.next += is_new;
-            return found->second;
-        }
-        bool is_same_;
-        Of faces_, loops_, edges_, vertices_;
-        std::unordered_map<std::uint32_t, bool> turned_;
-    };
-
-    template <class Kind> [[nodiscard]] std::uint32_t above() const
-    {
-        auto free = bench_.next_free<Kind>();
-        return free ? free->number() : 0;
-    }
-
-    template <class T> bool done(const Result<T> &result)
-    {
-        if (!result)
-            failure_ = result.error();
-        return static_cast<bool>(result);
-    }
-
-    /// What a reader finds of what is in use.
-    template <class T> static T value(const Result<T> &result) { return result ? *result : T(); }
-    [[nodiscard]] HalfEdge next(HalfEdge half_edge) const { return value(bench_.next(half_edge)); }
-    [[nodiscard]] HalfEdge previous(HalfEdge half_edge) const { return value(bench_.previous(half_edge)); }
-    [[nodiscard]] Loop loop_of(HalfEdge half_edge) const { return value(bench_.loop_of(half_edge)); }
-    [[nodiscard]] bool is_leaf(HalfEdge half_edge) const { return next(half_edge) == half_edge.twin(); }
-    [[nodiscard]] bool is_there(Edge edge) const { return static_cast<bool>(bench_.edge(edge)); }
-
-    static std::vector<Edge> edges_of_rows(const std::vector<gwb_half_edge_row> &rows)
-    {
-        std::vector<Edge> edges;
-        for (const gwb_half_edge_row &row : rows)
-            if (row.half_edge % 2 == 0)
-                edges.push_back(HalfEdge(row.half_edge).edge());
-        return edges;
-    }
-    [[nodiscard]] std::vector<Edge> edges_of(Solid solid) const { return edges_of_rows(bench_.half_edge_rows(solid)); }
-
-    /// Each ring becomes the outer loop of a face of its own.
-    bool rings_out()
-    {
-        std::vector<std::pair<Face, Loop>> rings;
-        for (Face face : bench_.faces(solid_))
-            for (Loop ring : bench_.rings(face))
-                rings.emplace_back(face, ring);
-        for (auto [face, ring] : rings)
-            if (!ring_out(face, ring))
-                return false;
-        return true;
-    }
-
-    bool ring_out(Face face, Loop ring)
-    {
-        const Face spare(next_face_++);
-        steps_.push_back({Makes::ring, {}, {}, {}, face, spare, ring, {}, {}});
-        return done(bench_.mfkrh(ring, spare));
-    }
-
-    /// Edges between two faces go, and one of the faces with each.
-    bool faces_out(std::vector<Edge> &edges)
-    {
-        std::vector<Edge> left;
-        for (Edge edge : edges) {
-            if (loop_of(plus(edge)) == loop_of(minus(edge)))
-                left.push_back(edge);
-            else if (!face_out(next(plus(edge)) == plus(edge) ? minus(edge) : plus(edge)))
-                return false;
-        }
-        edges = std::move(left);
-        return true;
-    }
-
-    /// The edge of a half-edge goes, and the face on its other side.
-    bool face_out(HalfEdge half_edge)
-    {
-        const HalfEdge twin = half_edge.twin();
-        const bool is_alone = next(twin) == twin;
-        const Place first{is_alone ? next(half_edge) : next(twin), previous(half_edge), {}};
-        const Place second{next(half_edge), is_alone ? previous(half_edge) : previous(twin), {}};
-        steps_.push_back({Makes::face, first, second, half_edge, value(bench_.face_of(twin)), {}, loop_of(twin), {}, {}});
-        return done(bench_.kef(half_edge));
-    }
-
-    /// Edges with a leaf at one end go, and those that have one then.
-    bool leaves_out(std::vector<Edge> &edges)
-    {
-        for (Edge edge : edges)
-            for (HalfEdge end : {plus(edge), minus(edge)})
-                if (is_there(edge) && !leaf_out(end))
-                    return false;
-        edges.erase(std::remove_if(edges.begin(), edges.end(), [&](Edge edge) { return !is_there(edge); }), edges.end());
-        return true;
-    }
-
-    /// The edge of a half-edge goes where that ends at a leaf, and so on back.
-    bool leaf_out(HalfEdge half_edge)
-    {
-        while (is_there(half_edge.edge()) && is_leaf(half_edge)) {
-            const HalfEdge before = previous(half_edge), after = next(half_edge.twin());
-            const Vertex leaf = value(bench_.end_of(half_edge));
-            const bool is_last = after == half_edge;
-            const Place place = is_last ? Place{{}, {}, loop_of(half_edge)} : Place{after, before, {}};
-            steps_.push_back({Makes::spur, place, {}, half_edge, {}, {}, {}, leaf, value(bench_.vertex(leaf))});
-            if (!done(bench_.kev(half_edge)))
-                return false;
-            if (is_last)
-                return true;
-            half_edge = before;
-        }
-        return true;
-    }
-
-    /// An edge that has one loop on both sides goes, and what lies behind it is the loop of a spare face.
-    bool handle_out(std::vector<Edge> &edges)
-    {
-        const HalfEdge half_edge = plus(edges.back()), twin = half_edge.twin();
-        const Face face = value(bench_.face_of(half_edge));
-        const Place first{next(twin), previous(half_edge), {}}, second{next(half_edge), previous(twin), {}};
-        edges.pop_back();
-        steps_.push_back({Makes::bridge, first, second, half_edge, {}, {}, {}, {}, {}});
-        Result<Loop> ring = bench_.kemr(half_edge);
-        return done(ring) && ring_out(face, *ring);
-    }
-
-    /// What is left is a face of one vertex for each part: all but the first go.
-    bool parts_out()
-    {
-        std::vector<Face> faces;
-        for (Face face : bench_.faces(solid_))
-            faces.push_back(face);
-        const Face first = faces.front();
-        const Loop stays = value(bench_.face(first)).outer_loop;
-        const Vertex root = value(bench_.lone_vertex(stays)).value_or(Vertex());
-        for (std::size_t at = 1; at < faces.size(); at++)
-            if (!part_out(first, stays, faces[at]))
-                return false;
-        steps_.push_back({Makes::solid, {}, {}, {}, first, {}, stays, root, value(bench_.vertex(root))});
-        return true;
-    }
-
-    bool part_out(Face first, Loop stays, Face face)
-    {
-        const Loop loop = value(bench_.face(face)).outer_loop;
-        const Vertex vertex = value(bench_.lone_vertex(loop)).value_or(Vertex());
-        const Edge spare(next_edge_);
-        steps_.push_back({Makes::part, {{}, {}, stays}, {}, plus(spare), face, {}, loop, vertex, value(bench_.vertex(vertex))});
-        return done(bench_.kfmrh(first, face)) && done(bench_.mekr(lone(stays), lone(loop), spare)) && done(bench_.kev(plus(spare)));
-    }
-
-    bool make_step(const Step &step, const Motion &motion, bool is_mirror, Numbering &numbers, Solid solid)
-    {
-        const Edge edge = numbers[step.half_edge.edge()];
-        const Corner first = numbers.corner(step.first, is_mirror), second = numbers.corner(step.second, is_mirror);
-        const Face face = numbers[step.face];
-        const Loop loop = numbers[step.loop];
-        const Point at = motion(step.at);
-        // where a face is made of a mirror image, the new edge runs the other way
-        numbers.turn(step.half_edge.edge(), step.half_edge.is_second() != (is_mirror && step.makes == Makes::face));
-        switch (step.makes) {
-        case Makes::solid: return done(bench_.mvfs(solid, face, loop, numbers[step.vertex], at));
-        case Makes::part:
-            return done(bench_.mev(first, first, edge, numbers[step.vertex], at)) && done(bench_.kemr(plus(edge), loop)) &&
-                   done(bench_.mfkrh(loop, face));
-        case Makes::bridge: return done(bench_.mekr(first, second, edge));
-        case Makes::spur: return done(bench_.mev(first, first, edge, numbers[step.vertex], at));
-        case Makes::face:
-            if (is_mirror) // the part that was after the edge lies before it
-                return done(bench_.mef(HalfEdge(second.code()), HalfEdge(first.code()), edge, face, loop));
-            return done(bench_.mef(HalfEdge(first.code()), HalfEdge(second.code()), edge, face, loop));
-        case Makes::ring: return done(bench_.kfmrh(face, numbers[step.other]));
-        }
-        return false;
-    }
-
-    Attempts bench_;
-    Solid solid_;
-    std::uint32_t next_face_ = 0, next_edge_ = 0;
-    std::vector<Step> steps_;
-    Failure failure_;
+/// What profile makes: the face that was moved, the one that stayed, and for each point the side from it to the next.
+struct Profile {
+    Solid solid;
+    Face far, base;
+    std::vector<Face> sides;
+};
+/// What ring makes: the face inside the outline, the ring around it, and for each point the edge from it to the next, and the vertex there.
+struct Ring {
+    Face face;
+    Loop loop;
+    std::vector<Edge> edges;
+    std::vector<Vertex> vertices;
+};
+/// What pocket and boss make: the floor or top, the ring in the face, and for each point the side from it to the next.
+struct Pocket {
+    Face face;
+    Loop loop;
+    std::vector<Face> sides;
+};
+/// What hole makes: the face that it ends in, the ring at its start, and for each point the side from it to the next.
+struct Hole {
+    Face other;
+    Loop loop;
+    std::vector<Face> sides;
+};
+/// What a notch, slot, groove or shoulder leaves: its floor, none where it goes through, and its walls.
+struct Notch {
+    std::vector<Face> floor, walls;
 };
 
-/// What the functions below give, by the workbench's way to say what is refused.
-template <class Policy, class T> typename Policy::template Returned<T> returned(const char *command, const Result<T> &result)
+namespace features {
+template <class Kind> std::vector<Kind> numbers(const std::vector<std::uint32_t> &rows)
 {
-    if (!result)
-        return Policy::template failed<T>(command, result.error());
-    if constexpr (std::is_void_v<T>)
-        return typename Policy::template Returned<T>();
-    else
-        return *result;
+    return {rows.begin(), rows.end()};
 }
+template <class Kind> std::vector<Kind> list(const gwb *g, gwb_list which)
+{
+    std::uint32_t none = 0;
+    std::vector<std::uint32_t> found(gwb_made(g, which, &none, 0));
+    if (!found.empty())
+        gwb_made(g, which, found.data(), found.size());
+    return {found.begin(), found.end()};
+}
+/// The rows that a call writes.
+template <class Of, class Row> std::vector<Row> rows(std::size_t (*write)(const Of *, Row *, std::size_t), const Of *of)
+{
+    Row nothing{};
+    std::vector<Row> found(write(of, &nothing, 0));
+    if (!found.empty())
+        write(of, found.data(), found.size());
+    return found;
+}
+template <class Policy, class Call> typename Policy::template Returned<Notch> notch(Commands<Policy> &bench, const char *command, Call call)
+{
+    return bench.feature(command, call, [&] {
+        return Notch{list<Face>(bench.handle(), GWB_MADE_FLOOR), list<Face>(bench.handle(), GWB_MADE_WALLS)};
+    });
+}
+} // namespace features
 
-/// Commands that are one: in a draft of their own, or as steps of the draft that is open. Unless they are kept they are taken back. For the
-/// functions below.
-class Together {
-public:
-    explicit Together(const Attempts &bench) : bench_(bench), draft_(bench_.draft())
-    {
-        if (is_within())
-            mark_ = *bench_.mark();
-    }
-    Together(const Together &) = delete;
-    Together &operator=(const Together &) = delete;
-    ~Together()
-    {
-        if (!is_kept_ && is_within())
-            (void)bench_.back(mark_);
-    }
-
-    /// Whether commands can be given: not where the workbench is closed or memory is refused.
-    [[nodiscard]] Result<void> begun() const { return draft_ || is_within() ? Result<void>() : Result<void>(draft_.error()); }
-    /// Takes all that was given so far back.
-    void take_back() { (void)bench_.back(mark_); }
-    Result<void> keep()
-    {
-        is_kept_ = true;
-        return draft_ ? draft_->commit() : Result<void>();
-    }
-
-private:
-    [[nodiscard]] bool is_within() const { return !draft_ && draft_.error().problem == Problem::in_draft; }
-
-    Attempts bench_;
-    Result<Attempts::Draft> draft_;
-    Mark mark_;
-    bool is_kept_ = false;
-};
-
-/// A solid goes, with all its parts. Refused: NoSolid.
 template <class Policy> typename Policy::template Returned<void> kill_solid(Commands<Policy> &bench, Solid solid)
 {
-    Together commands(bench.attempt());
-    Result<void> done = commands.begun();
-    if (done)
-        done = TakenApart(bench.attempt()).take(solid);
-    if (done)
-        done = commands.keep();
-    return returned<Policy>("kill_solid", done);
+    return bench.feature("kill_solid", [&](gwb *g, gwb_refusal *why) { return gwb_kill_solid(g, solid.number(), why); }, [] {});
 }
-
-/// A new solid, that is another moved; its numbers are above all in use. Refused: NoSolid; PointRange: a vertex would lie out of range;
-/// NumberRange: too few numbers are left.
 template <class Policy> typename Policy::template Returned<Solid> copy_solid(Commands<Policy> &bench, Solid solid, const Motion &motion = {})
 {
-    Together commands(bench.attempt());
-    TakenApart parts(bench.attempt());
-    Result<void> done = commands.begun();
-    if (done)
-        done = parts.take(solid);
-    if (!done)
-        return returned<Policy>("copy_solid", Result<Solid>(done.error()));
-    commands.take_back();
-    Result<Solid> made = parts.make(motion, false);
-    if (made)
-        done = commands.keep();
-    return returned<Policy>("copy_solid", done ? made : Result<Solid>(done.error()));
+    std::uint32_t made = 0;
+    return bench.feature("copy_solid", [&](gwb *g, gwb_refusal *why) { return gwb_copy_solid(g, solid.number(), &motion.row(), &made, why); },
+                         [&] { return Solid(made); });
 }
-
-/// A solid lies elsewhere, with the numbers that it has; some of its edges may run the other way. Refused as copy_solid is.
 template <class Policy> typename Policy::template Returned<void> move_solid(Commands<Policy> &bench, Solid solid, const Motion &motion)
 {
-    Together commands(bench.attempt());
-    TakenApart parts(bench.attempt());
-    Result<void> done = commands.begun();
-    if (done)
-        done = parts.take(solid);
-    if (!done)
-        return returned<Policy>("move_solid", done);
-    const Result<Solid> made = parts.make(motion, true);
-    return returned<Policy>("move_solid", made ? commands.keep() : Result<void>(made.error()));
+    return bench.feature("move_solid", [&](gwb *g, gwb_refusal *why) { return gwb_move_solid(g, solid.number(), &motion.row(), why); }, [] {});
+}
+
+template <class Policy>
+typename Policy::template Returned<Profile> profile(Commands<Policy> &bench, Solid solid, Items<Point> points, Point along)
+{
+    gwb_profile_made made{};
+    std::vector<std::uint32_t> sides(points.size() + 1);
+    return bench.feature(
+        "profile",
+        [&](gwb *g, gwb_refusal *why) {
+            return gwb_profile(g, solid.number(), points.data(), points.size(), &along, &made, sides.data(), why);
+        },
+        [&] { return sides.pop_back(), Profile{solid, Face(made.far), Face(made.base), features::numbers<Face>(sides)}; });
+}
+template <class Policy> typename Policy::template Returned<Profile> profile(Commands<Policy> &bench, Items<Point> points, Point along)
+{
+    const Result<Solid> solid = bench.attempt().template next_free<Solid>();
+    return profile(bench, solid ? *solid : Solid(), points, along);
+}
+template <class Policy> typename Policy::template Returned<Ring> ring(Commands<Policy> &bench, Face face, Items<Point> points)
+{
+    gwb_outline_made made{};
+    std::vector<std::uint32_t> edges(points.size() + 1), vertices(points.size() + 1);
+    return bench.feature(
+        "ring",
+        [&](gwb *g, gwb_refusal *why) {
+            return gwb_ring(g, face.number(), points.data(), points.size(), &made, edges.data(), vertices.data(), why);
+        },
+        [&] {
+            edges.pop_back(), vertices.pop_back();
+            return Ring{Face(made.face), Loop(made.loop), features::numbers<Edge>(edges), features::numbers<Vertex>(vertices)};
+        });
+}
+template <class Policy>
+typename Policy::template Returned<Pocket> pocket(Commands<Policy> &bench, Face face, Items<Point> points, std::int64_t depth)
+{
+    gwb_outline_made made{};
+    std::vector<std::uint32_t> sides(points.size() + 1);
+    return bench.feature(
+        "pocket",
+        [&](gwb *g, gwb_refusal *why) {
+            return gwb_pocket(g, face.number(), points.data(), points.size(), depth, &made, sides.data(), why);
+        },
+        [&] { return sides.pop_back(), Pocket{Face(made.face), Loop(made.loop), features::numbers<Face>(sides)}; });
+}
+template <class Policy>
+typename Policy::template Returned<Pocket> boss(Commands<Policy> &bench, Face face, Items<Point> points, std::int64_t height)
+{
+    gwb_outline_made made{};
+    std::vector<std::uint32_t> sides(points.size() + 1);
+    return bench.feature(
+        "boss",
+        [&](gwb *g, gwb_refusal *why) {
+            return gwb_boss(g, face.number(), points.data(), points.size(), height, &made, sides.data(), why);
+        },
+        [&] { return sides.pop_back(), Pocket{Face(made.face), Loop(made.loop), features::numbers<Face>(sides)}; });
+}
+template <class Policy> typename Policy::template Returned<Hole> hole(Commands<Policy> &bench, Face face, Items<Point> points)
+{
+    gwb_outline_made made{};
+    std::vector<std::uint32_t> sides(points.size() + 1);
+    return bench.feature(
+        "hole",
+        [&](gwb *g, gwb_refusal *why) { return gwb_hole(g, face.number(), points.data(), points.size(), &made, sides.data(), why); },
+        [&] { return sides.pop_back(), Hole{Face(made.face), Loop(made.loop), features::numbers<Face>(sides)}; });
+}
+template <class Policy>
+typename Policy::template Returned<Notch> notch(Commands<Policy> &bench, Face face, Items<Point> points, std::int64_t depth)
+{
+    return features::notch(bench, "notch", [&](gwb *g, gwb_refusal *why) {
+        return gwb_notch(g, face.number(), points.data(), points.size(), depth, why);
+    });
+}
+template <class Policy>
+typename Policy::template Returned<Notch> slot(Commands<Policy> &bench, Face face, Point start, Point end, std::int64_t width, std::int64_t depth)
+{
+    return features::notch(bench, "slot", [&](gwb *g, gwb_refusal *why) { return gwb_slot(g, face.number(), &start, &end, width, depth, why); });
+}
+template <class Policy>
+typename Policy::template Returned<Notch> groove(Commands<Policy> &bench, Face face, Point start, Point end, std::int64_t width, std::int64_t depth)
+{
+    return features::notch(bench, "groove",
+                           [&](gwb *g, gwb_refusal *why) { return gwb_groove(g, face.number(), &start, &end, width, depth, why); });
+}
+template <class Policy>
+typename Policy::template Returned<Notch> shoulder(Commands<Policy> &bench, Face face, Edge edge, std::int64_t width, std::int64_t depth)
+{
+    return features::notch(bench, "shoulder",
+                           [&](gwb *g, gwb_refusal *why) { return gwb_shoulder(g, face.number(), edge.number(), width, depth, why); });
+}
+template <class Policy>
+typename Policy::template Returned<Face> chamfer(Commands<Policy> &bench, Edge edge, std::int64_t width, std::optional<std::int64_t> other = {})
+{
+    std::uint32_t made = 0;
+    return bench.feature(
+        "chamfer", [&](gwb *g, gwb_refusal *why) { return gwb_chamfer(g, edge.number(), width, other.value_or(width), &made, why); },
+        [&] { return Face(made); });
+}
+
+using CutPlane = gwb_cut_plane;
+
+/// What is to be said of a cut whose points aren't whole.
+class OffLattice {
+public:
+    explicit OffLattice(gwb_advice *advice) : advice_(advice, gwb_advice_free) {}
+
+    /// The least number by which the model must be multiplied for all points of the cut to be whole: 0 where it passes 10^36.
+    [[nodiscard]] gwb_wide factor() const { return gwb_advice_factor(advice_.get()); }
+    /// Whether the model times that number stays in range.
+    [[nodiscard]] bool fits() const { return gwb_advice_fits(advice_.get()); }
+    /// The edges that the plane cuts between whole points, rising.
+    [[nodiscard]] std::vector<gwb_edge_cut> cuts() const { return features::rows(gwb_advice_cuts, advice_.get()); }
+    /// The planes beside it that would do, parallel ones first.
+    [[nodiscard]] std::vector<gwb_near_plane> planes() const { return features::rows(gwb_advice_planes, advice_.get()); }
+    /// All of it as lines of a script, with this number for the solid above the plane. Empty where memory is refused.
+    [[nodiscard]] std::string advice(Solid above) const
+    {
+        char none = 0;
+        const std::size_t length = gwb_advice_text(advice_.get(), above.number(), &none, 0);
+        std::string text(length != SIZE_MAX ? length : 0, '\0');
+        gwb_advice_text(advice_.get(), above.number(), text.data(), text.size());
+        return text;
+    }
+
+private:
+    std::shared_ptr<gwb_advice> advice_;
+};
+
+/// What is to be said of the cut of a solid by a plane, with at most so many tilted planes that would do. Refused: NoSolid; PlaneRange.
+template <class Policy>
+typename Policy::template Returned<OffLattice> off_lattice(const Commands<Policy> &bench, Solid solid, const CutPlane &plane, std::size_t most = 3)
+{
+    gwb_advice *advice = nullptr;
+    gwb_refusal why{};
+    const gwb_kind kind = gwb_off_lattice(bench.handle(), solid.number(), &plane, most, &advice, &why);
+    if (kind != GWB_OK)
+        return Policy::template failed<OffLattice>("off_lattice", bench.feature_failure(kind, why));
+    return OffLattice(advice);
 }
 
 } // namespace gwb_session

@@ -74,10 +74,9 @@ impl<'session> Draft<'session> {
     /// # Errors
     /// [`Error::NoDraft`] as of [`commit`](Self::commit).
     pub fn back(&mut self, mark: Mark) -> Result<(), Error> {
-        let were_any = mark.steps < self.steps();
         // SAFETY: the session is borrowed, so its handle is open.
         self.answered(unsafe { gwb_sys::gwb_back(self.handle(), mark.steps) })?;
-        self.go_back(mark.made, were_any);
+        self.go_back(mark.made);
         Ok(())
     }
 

@@ -28,40 +28,31 @@
 #![warn(missing_docs)]
 #![allow(clippy::doc_markdown)] // the WorkBench is so called
 
-mod assembly;
-mod contacts;
 mod draft;
 mod error;
 mod exact;
 mod features;
 mod history;
 mod ids;
-mod machining;
 mod off_lattice;
 mod operators;
-mod outlines;
 mod readers;
 mod refusal;
-mod room;
 mod rows;
 mod session;
-mod shaping;
-mod sheets;
 
 pub use draft::{Draft, Mark};
 pub use error::{Error, Misfit};
-pub use features::Motion;
+pub use features::{Hole, Motion, Notch, Pocket, Profile, Ring};
 pub use gwb_sys::Heap;
 pub use history::{Change, Changes, ChangesOf, Noted, Notes, Reading};
 pub use ids::{lone, minus, plus, Corner, Edge, Face, HalfEdge, Id, Loop, Solid, Vertex};
-pub use machining::{Hole, Pocket, Profile, Ring};
 pub use off_lattice::{EdgeCut, Fraction, NearPlane, OffLattice};
 pub use operators::Operators;
 pub use readers::{Numbers, Readers, Shared};
 pub use refusal::Refusal;
 pub use rows::{Counts, EdgeRow, FaceRow, HalfEdgeRow, NewFace, NewSolid, Plane, Point};
 pub use session::Session;
-pub use shaping::Notch;
 
 /// The version of the library that is linked: 2.0.0 is `(2, 0, 0)`.
 #[must_use]

@@ -4,8 +4,7 @@ use crate::exact::{
     add, are_parallel, compare_products, cross, dot, flat_axes, greatest_divisor, longest, negative, point, reduced, sides_of, subtract, times,
     vector, Vector, FARTHEST,
 };
-use crate::outlines::{loops_at, refused};
-use crate::{Edge, Error, Id, Readers, Refusal, Solid};
+use crate::{Edge, Error, Face, Id, Readers, Refusal, Solid};
 use std::cmp::Ordering;
 use std::collections::{BTreeSet, HashSet};
 use std::fmt::{self, Write};
@@ -536,4 +535,18 @@ impl NearPlanes {
         let moved = (self.square_moved(plane)?.value.sqrt() * 100.0 - 1e-9).ceil() / 100.0;
         Some(NearPlane { plane: plane.numbers(), is_parallel, moved })
     }
+}
+
+fn refused(refusal: Refusal, value: u32) -> Error {
+    Error::Refused { refusal, value }
+}
+
+/// The points of the loops of a face, the outer one first. A lone loop has one.
+fn loops_at(readers: &Readers, face: Face) -> Vec<Vec<Vector>> {
+    let at = |vertex| readers.vertex(vertex).map(vector);
+    let path = |of_loop| {
+        let path: Vec<Vector> = readers.around(of_loop).filter_map(|half_edge| readers.start_of(half_edge).and_then(at)).collect();
+        if path.is_empty() { readers.lone_vertex(of_loop).and_then(at).into_iter().collect() } else { path }
+    };
+    readers.loops_of(face).map(path).collect()
 }

@@ -1,5 +1,4 @@
 use crate::readers::Readers;
-use crate::room::{Surface, Surroundings};
 use crate::{Corner, Edge, Error, Face, HalfEdge, Id, Loop, NewFace, NewSolid, Point, Refusal, Solid, Vertex};
 use gwb_sys::{kind, Gwb, Range};
 use std::ops::{Deref, RangeInclusive};
@@ -13,22 +12,6 @@ use std::ptr::NonNull;
 pub struct Operators {
     readers: Readers,
     fresh: Fresh,
-    model: Model,
-    surroundings: Surroundings,
-}
-
-/// The number of the model that is held, which is never that of another one; 0 of none.
-struct Model {
-    number: u64,
-    greatest: u64,
-    before_draft: u64,
-}
-
-impl Model {
-    fn change(&mut self) {
-        self.greatest += 1;
-        self.number = self.greatest;
-    }
 }
 
 /// The fresh numbers of the last command, where a line was given after it or it was a draft, and those of the steps of a draft.
@@ -56,8 +39,7 @@ impl Operators {
     /// A session that holds the empty model.
     pub(crate) fn new() -> Result<Self, Error> {
         let handle = NonNull::from(Box::leak(Box::new(Gwb::CLOSED)));
-        let model = Model { number: 1, greatest: 1, before_draft: 1 };
-        let operators = Self { readers: Readers::new(handle), fresh: Fresh::default(), model, surroundings: Surroundings::default() };
+        let operators = Self { readers: Readers::new(handle), fresh: Fresh::default() };
         unsafe { gwb_sys::gwb_open(operators.handle()) }.then_some(operators).ok_or(Error::Memory)
     }
 
@@ -319,9 +301,6 @@ impl Operators {
         if answer <= kind::MEMORY {
             self.fresh.kept = None;
         }
-        if answer == kind::OK {
-            self.model.change();
-        }
         if let (kind::OK, Some(drafted)) = (answer, self.fresh.drafted) {
             let step = self.all_live();
             self.fresh.drafted = Some(std::array::from_fn(|of| joined(drafted[of], step[of])));
@@ -330,18 +309,17 @@ impl Operators {
     }
 
     /// The greatest numbers in use, by kinds.
-    fn all_greatest(&self) -> [u32; 5] {
+    pub(crate) fn all_greatest(&self) -> [u32; 5] {
         [0, 1, 2, 3, 4].map(|kind| self.greatest_of(kind))
     }
 
     /// After many commands that were one, or steps of the draft that is open, where these were the greatest numbers before.
-    fn told_all(&mut self, before: [u32; 5]) {
+    pub(crate) fn told_all(&mut self, before: [u32; 5]) {
         let mut made = Ranges::default();
         for kind in [1, 2, 3, 4] {
             let first = self.found(|g, number| unsafe { gwb_sys::gwb_lent_number_after(g, kind, before[kind as usize], number) });
             made[kind as usize] = first.map_or_else(Range::default, |first| Range { first, last: self.greatest_of(kind) });
         }
-        self.model.change();
         self.fresh.kept = Some(made);
         if let Some(drafted) = self.fresh.drafted {
             self.fresh.drafted = Some(std::array::from_fn(|of| joined(drafted[of], made[of])));
@@ -351,7 +329,6 @@ impl Operators {
     /// After a draft was opened.
     pub(crate) fn begin_draft(&mut self) {
         self.fresh = Fresh { kept: None, drafted: Some(Ranges::default()) };
-        self.model.before_draft = self.model.number;
     }
 
     /// What the steps of the draft that is open have made.
@@ -360,40 +337,15 @@ impl Operators {
     }
 
     /// After the steps of the draft were taken back to where they had made this, if there were any.
-    pub(crate) fn go_back(&mut self, drafted: Option<Ranges>, were_any: bool) {
-        if were_any {
-            self.model.change();
-        }
+    pub(crate) fn go_back(&mut self, drafted: Option<Ranges>) {
         self.fresh.kept = None;
         self.fresh.drafted = drafted;
     }
 
     /// After a draft has ended; where it was committed it has made what its steps made, and else the model is the one before it.
     pub(crate) fn end_draft(&mut self, is_committed: bool) {
-        if !is_committed {
-            self.model.number = self.model.before_draft;
-        }
         let drafted = self.fresh.drafted.take();
         self.fresh.kept = drafted.filter(|_| is_committed);
-    }
-
-    /// The surface of a solid.
-    pub(crate) fn surface(&mut self, solid: Solid) -> &Surface {
-        self.surroundings.surface(&self.readers, self.model.number, solid)
-    }
-
-    /// Gives commands that change one solid alone, and takes in what they did to it.
-    pub(crate) fn followed<T>(
-        &mut self,
-        solid: Solid,
-        give: impl FnOnce(&mut Self) -> Result<T, Error>,
-        put: impl FnOnce(&mut Surface, &Readers, &T),
-    ) -> Result<T, Error> {
-        let before = self.model.number;
-        let made = give(self)?;
-        let models = [before, self.model.number];
-        self.surroundings.follow(models, solid, |surface| put(surface, &self.readers, &made));
-        Ok(made)
     }
 
     /// Before a line, which may make the kernel forget what the last command made.

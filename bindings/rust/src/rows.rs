@@ -32,6 +32,12 @@ impl From<gwb_sys::Point> for Point {
     }
 }
 
+impl From<Point> for gwb_sys::Point {
+    fn from(Point { x, y, z }: Point) -> Self {
+        Self { x, y, z }
+    }
+}
+
 impl Add for Point {
     type Output = Self;
 

@@ -32,7 +32,7 @@ _WORD = ctypes.c_uint32
 class Handle(ctypes.Structure):
     """What the library keeps in its caller's memory."""
 
-    _fields_ = [('is_open', ctypes.c_bool), ('held', ctypes.c_void_p)]
+    _fields_ = [('is_open', ctypes.c_bool), ('held', ctypes.c_void_p), ('beside', ctypes.c_void_p)]
 
 
 class FaceRow(ctypes.Structure):

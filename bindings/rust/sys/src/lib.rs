@@ -17,16 +17,17 @@ pub const VERSION: u32 = 20_000;
 pub struct Gwb {
     is_open: bool,
     held: *mut c_void,
+    beside: *mut c_void,
 }
 
 impl Gwb {
     /// A handle without a session.
-    pub const CLOSED: Self = Self { is_open: false, held: core::ptr::null_mut() };
+    pub const CLOSED: Self = Self { is_open: false, held: core::ptr::null_mut(), beside: core::ptr::null_mut() };
 
     /// A copy for a reader. It is to be dropped when the reader has answered, and given to no other call.
     #[must_use]
     pub const fn lend(&self) -> Self {
-        Self { is_open: self.is_open, held: self.held }
+        Self { is_open: self.is_open, held: self.held, beside: self.beside }
     }
 
     /// Whether there is a session.
@@ -64,6 +65,10 @@ pub mod kind {
     pub const IN_DRAFT: u32 = 11;
     /// Only a draft has this call.
     pub const NO_DRAFT: u32 = 12;
+    /// A feature isn't possible.
+    pub const IMPOSSIBLE: u32 = 13;
+    /// The caller stopped it.
+    pub const STOPPED: u32 = 14;
 }
 
 /// A heap: three functions, and what each of them is handed first. gwb.h says what each does.
@@ -180,6 +185,27 @@ rows! {
         /// Its face.
         face: u32
     }
+    /// Where points go.
+    Motion {
+        #[allow(missing_docs)]
+        axes: [i32; 3],
+        #[allow(missing_docs)]
+        by: Point
+    }
+    /// What gwb_profile makes.
+    ProfileMade {
+        #[allow(missing_docs)]
+        far: u32,
+        #[allow(missing_docs)]
+        base: u32
+    }
+    /// What a feature of an outline makes.
+    OutlineMade {
+        #[allow(missing_docs)]
+        face: u32,
+        #[allow(missing_docs)]
+        of_loop: u32
+    }
     /// A vertex, and where it lies.
     VertexRow {
         #[allow(missing_docs)]
@@ -279,4 +305,19 @@ extern "C" {
     pub fn gwb_load(g: *mut Gwb, listing: *const u8, n: usize, refusal: *mut Refusal) -> u32;
     pub fn gwb_lines(g: *mut Gwb, script: *const u8, n: usize, line: *mut usize) -> u32;
     pub fn gwb_greatest_number(g: *const Gwb, entity: u32) -> usize;
+
+    pub fn gwb_made(g: *const Gwb, list: u32, buf: *mut u32, room: usize) -> usize;
+    pub fn gwb_kill_solid(g: *mut Gwb, solid: u32, why: *mut Refusal) -> u32;
+    pub fn gwb_copy_solid(g: *mut Gwb, solid: u32, motion: *const Motion, made: *mut u32, why: *mut Refusal) -> u32;
+    pub fn gwb_move_solid(g: *mut Gwb, solid: u32, motion: *const Motion, why: *mut Refusal) -> u32;
+    pub fn gwb_profile(g: *mut Gwb, solid: u32, points: *const Point, n: usize, along: *const Point, made: *mut ProfileMade, sides: *mut u32, why: *mut Refusal) -> u32;
+    pub fn gwb_ring(g: *mut Gwb, face: u32, points: *const Point, n: usize, made: *mut OutlineMade, edges: *mut u32, vertices: *mut u32, why: *mut Refusal) -> u32;
+    pub fn gwb_pocket(g: *mut Gwb, face: u32, points: *const Point, n: usize, depth: i64, made: *mut OutlineMade, sides: *mut u32, why: *mut Refusal) -> u32;
+    pub fn gwb_boss(g: *mut Gwb, face: u32, points: *const Point, n: usize, height: i64, made: *mut OutlineMade, sides: *mut u32, why: *mut Refusal) -> u32;
+    pub fn gwb_hole(g: *mut Gwb, face: u32, points: *const Point, n: usize, made: *mut OutlineMade, sides: *mut u32, why: *mut Refusal) -> u32;
+    pub fn gwb_notch(g: *mut Gwb, face: u32, points: *const Point, n: usize, depth: i64, why: *mut Refusal) -> u32;
+    pub fn gwb_slot(g: *mut Gwb, face: u32, start: *const Point, end: *const Point, width: i64, depth: i64, why: *mut Refusal) -> u32;
+    pub fn gwb_groove(g: *mut Gwb, face: u32, start: *const Point, end: *const Point, width: i64, depth: i64, why: *mut Refusal) -> u32;
+    pub fn gwb_shoulder(g: *mut Gwb, face: u32, edge: u32, width: i64, depth: i64, why: *mut Refusal) -> u32;
+    pub fn gwb_chamfer(g: *mut Gwb, edge: u32, width: i64, other: i64, face: *mut u32, why: *mut Refusal) -> u32;
 }

@@ -1,4 +1,4 @@
-/// @file gwb_machining.hpp Features of outlines, for C++17: profiles, rings, pockets, bosses and holes. Each is one command, or steps of the draft
+/// @file machining.hpp Features of outlines, for C++17: profiles, rings, pockets, bosses and holes. Each is one command, or steps of the draft
 /// that is open; what isn't possible is refused before anything is given.
 ///
 ///     using namespace gwb_session;
@@ -8,10 +8,13 @@
 ///
 /// Outlines may run either way round; what belongs to their points comes in the order of the points: the first of `sides` lies between the
 /// first two. A feature compares what lies near. What was read of a solid for one feature is known to the next ones, until another command comes.
-#ifndef GWB_MACHINING_HPP
-#define GWB_MACHINING_HPP
-#include "gwb_exact.hpp"
-#include "gwb_features.hpp"
+#ifndef GWB_FEATURES_MACHINING_HPP
+#define GWB_FEATURES_MACHINING_HPP
+#include "exact.hpp"
+#include "solids.hpp"
+extern "C" {
+#include "beside.h"
+}
 #include <set>
 
 namespace gwb_session {
@@ -357,14 +360,17 @@ public:
     /// Those of the model that a workbench holds, which are forgotten where it isn't the one that they are of.
     static Surroundings &of(const Attempts &bench)
     {
-        State &state = *bench.state_;
-        if (state.surroundings == nullptr)
-            state.surroundings = std::make_shared<Surroundings>();
-        const std::uint64_t model = state.model();
-        if (std::exchange(state.surroundings->model_, model) != model)
-            state.surroundings->surfaces_.clear();
-        return *state.surroundings;
+        const struct beside &of = *beside_of(bench.handle());
+        Surroundings &known = *static_cast<Surroundings *>(of.known);
+        if (std::exchange(known.changes_, of.changes) != of.changes)
+            known.surfaces_.clear();
+        return known;
     }
+
+    /// Whether it is of the model that was changed so many times.
+    [[nodiscard]] bool is_of(std::uint64_t changes) const { return changes_ == changes; }
+    /// The model is again what it was, after so many changes.
+    void is_again(std::uint64_t changes) { changes_ = changes; }
 
     /// The surface of a solid, which is read where it isn't known.
     const Surface &surface(const Attempts &bench, Solid solid) { return surfaces_.try_emplace(solid, bench, solid).first->second; }
@@ -372,13 +378,13 @@ public:
     /// Takes in what a command did to a solid, and that it did nothing else to the model.
     template <class Put> void follow(const Attempts &bench, Solid solid, Put put)
     {
-        model_ = 0;
+        changes_ = UINT64_MAX;
         put(surfaces_.at(solid));
-        model_ = bench.state_->model();
+        changes_ = beside_of(bench.handle())->changes;
     }
 
 private:
-    std::uint64_t model_ = 0; ///< 0: of none
+    std::uint64_t changes_ = UINT64_MAX; ///< after which it was read; the greatest where it is of no model
     std::map<Solid, Surface> surfaces_;
 };
 
@@ -777,74 +783,6 @@ inline Result<Hole> make_hole(Attempts bench, Face face, Items<Point> points)
     return Hole{end->face, made->loop, made->sides};
 }
 
-/// What a feature gives, as one command.
-template <class Policy, class Make> auto as_one(Commands<Policy> &bench, const char *command, Make make)
-{
-    Together commands(bench.attempt());
-    using Made = decltype(make(bench.attempt()));
-    Result<void> done = commands.begun();
-    Made made = done ? make(bench.attempt()) : Made(done.error());
-    if (made)
-        done = commands.keep();
-    return returned<Policy>(command, made && !done ? Made(done.error()) : made);
-}
-
 } // namespace machining
-
-// ---- features
-
-/// A new solid: the outline through the points, moved along the vector. It is never inside out, whichever way the points run.
-///
-/// Refused: FewPoints, RepeatedPoint; NoArea, NotInPlane, OutlineCrossed; AlongPlane: the vector lies in the plane of the points; PointRange.
-template <class Policy>
-typename Policy::template Returned<Profile> profile(Commands<Policy> &bench, Solid solid, Items<Point> points, Point along)
-{
-    return machining::as_one(bench, "profile", [&](const Attempts &attempt) { return machining::make_profile(attempt, solid, points, along); });
-}
-template <class Policy> typename Policy::template Returned<Profile> profile(Commands<Policy> &bench, Items<Point> points, Point along)
-{
-    const Result<Solid> solid = bench.attempt().template next_free<Solid>();
-    return profile(bench, solid ? *solid : Solid(), points, along);
-}
-
-/// A face inside the face, with the outline through the points, and a ring around it.
-///
-/// Refused: NoFace, NotFlat; FewPoints, RepeatedPoint; NoArea, NotInPlane, OutlineCrossed; OutlineOutside: the outline crosses or touches the
-/// boundary of the face, or doesn't lie inside; OutlineAroundRing: a ring of the face lies inside it.
-template <class Policy> typename Policy::template Returned<Ring> ring(Commands<Policy> &bench, Face face, Items<Point> points)
-{
-    return machining::as_one(bench, "ring", [&](const Attempts &attempt) { return machining::make_ring(attempt, face, points); });
-}
-
-/// A pocket so deep behind the outline in the face.
-///
-/// Refused as ring is; SizeRange: the depth is below 1; OffLattice: no whole vector along the normal is so long; Meets: the pocket would come
-/// through, or meet or touch something of the solid.
-template <class Policy>
-typename Policy::template Returned<Pocket> pocket(Commands<Policy> &bench, Face face, Items<Point> points, std::int64_t depth)
-{
-    return machining::as_one(bench, "pocket", [&](const Attempts &attempt) {
-        return depth < 1 ? Result<Pocket>(machining::refused(GWB_WHY_SIZE_RANGE, 1)) : machining::raise(attempt, face, points, -depth);
-    });
-}
-
-/// A boss so high on the outline in the face. Refused as pocket is; PointRange: it would lie past 1,000,000,000.
-template <class Policy>
-typename Policy::template Returned<Pocket> boss(Commands<Policy> &bench, Face face, Items<Point> points, std::int64_t height)
-{
-    return machining::as_one(bench, "boss", [&](const Attempts &attempt) {
-        return height < 1 ? Result<Pocket>(machining::refused(GWB_WHY_SIZE_RANGE, 1)) : machining::raise(attempt, face, points, height);
-    });
-}
-
-/// A hole from the outline in the face through to the opposite face.
-///
-/// Refused as ring is, also at the opposite face; NoOpposite: there is no face behind the outline; NotParallel: the one behind it isn't
-/// parallel; OffLattice: its plane lies off the lattice behind the face; Meets: the hole would meet or touch something else of the solid.
-template <class Policy> typename Policy::template Returned<Hole> hole(Commands<Policy> &bench, Face face, Items<Point> points)
-{
-    return machining::as_one(bench, "hole", [&](const Attempts &attempt) { return machining::make_hole(attempt, face, points); });
-}
-
 } // namespace gwb_session
 #endif

@@ -1,7 +1,7 @@
-/// @file gwb_contacts.hpp Whether faces near a place meet, touch or pass through each other, for gwb_shaping.hpp.
-#ifndef GWB_CONTACTS_HPP
-#define GWB_CONTACTS_HPP
-#include "gwb_assembly.hpp"
+/// @file contacts.hpp Whether faces near a place meet, touch or pass through each other, for shaping.hpp.
+#ifndef GWB_FEATURES_CONTACTS_HPP
+#define GWB_FEATURES_CONTACTS_HPP
+#include "assembly.hpp"
 
 namespace gwb_session::contacts {
 

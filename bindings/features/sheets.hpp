@@ -1,8 +1,8 @@
-/// @file gwb_sheets.hpp Flat regions added to the faces of a solid, for gwb_shaping.hpp: what looks against each other where it overlaps goes,
+/// @file sheets.hpp Flat regions added to the faces of a solid, for shaping.hpp: what looks against each other where it overlaps goes,
 /// and what looks one way beside each other becomes one.
-#ifndef GWB_SHEETS_HPP
-#define GWB_SHEETS_HPP
-#include "gwb_machining.hpp"
+#ifndef GWB_FEATURES_SHEETS_HPP
+#define GWB_FEATURES_SHEETS_HPP
+#include "machining.hpp"
 #include <limits>
 #include <map>
 #include <tuple>

@@ -1,4 +1,4 @@
-/// @file gwb_shaping.hpp Features that reach the edges of faces, for C++17: notches, slots, grooves, shoulders and chamfers. Each is one command,
+/// @file shaping.hpp Features that reach the edges of faces, for C++17: notches, slots, grooves, shoulders and chamfers. Each is one command,
 /// or steps of the draft that is open; what isn't possible is refused before anything is given.
 ///
 ///     using namespace gwb_session;
@@ -6,11 +6,11 @@
 ///     slot(bench, Face(1), {20, 0, 10}, {20, 20, 10}, 6, 4);
 ///     shoulder(bench, Face(1), Edge(8), 5, 3);
 ///
-/// A part is cut out of the solid, or put on it: its faces are added to those of the solid (gwb_sheets.hpp), which is taken apart and made anew,
+/// A part is cut out of the solid, or put on it: its faces are added to those of the solid (sheets.hpp), which is taken apart and made anew,
 /// with the numbers that it has. That takes as many operators as it has edges, twice, whatever else there is.
-#ifndef GWB_SHAPING_HPP
-#define GWB_SHAPING_HPP
-#include "gwb_contacts.hpp"
+#ifndef GWB_FEATURES_SHAPING_HPP
+#define GWB_FEATURES_SHAPING_HPP
+#include "contacts.hpp"
 
 namespace gwb_session {
 
@@ -422,67 +422,5 @@ inline Result<Face> make_chamfer(const Attempts &bench, Edge edge, std::int64_t 
 }
 
 } // namespace shaping
-
-/// A pocket so deep behind the face whose outline may reach the edges of the face; there it is open, and where it is as deep as the solid it goes
-/// through.
-///
-/// Refused: NoFace; NotFlat: the face, or one near, isn't flat; SizeRange; PointRange, FewPoints, RepeatedPoint, NoArea, NotInPlane,
-/// OutlineCrossed; OutlineOutside: the outline reaches beyond the face; OffLattice: no whole vector along the normal is so long, or edges would
-/// cross between whole coordinates; Meets: what is cut out reaches out of the solid elsewhere, or the solid would touch itself; NothingLeft.
-template <class Policy>
-typename Policy::template Returned<Notch> notch(Commands<Policy> &bench, Face face, Items<Point> points, std::int64_t depth)
-{
-    return machining::as_one(bench, "notch", [&](const Attempts &attempt) {
-        return shaping::cut_in_face(attempt, face, points, {depth}, [&](const machining::Path &path) {
-            return shaping::notch_tool(attempt, face, path, depth);
-        });
-    });
-}
-
-/// A slot with a flat floor, so wide and deep, whose middle line runs in the face from one point to another. Refused as notch is; OffLattice:
-/// half of the width isn't whole across the line.
-template <class Policy>
-typename Policy::template Returned<Notch> slot(Commands<Policy> &bench, Face face, Point start, Point end, std::int64_t width, std::int64_t depth)
-{
-    return machining::as_one(bench, "slot", [&](const Attempts &attempt) {
-        return shaping::cut_in_face(attempt, face, {start, end}, {width, depth}, [&](const machining::Path &ends) {
-            return shaping::slot_tool(attempt, face, ends, width, depth);
-        });
-    });
-}
-
-/// A groove like a V, so wide at the face and so deep under its middle line, which runs from one point to another; it has no floor. Refused as
-/// slot is.
-template <class Policy>
-typename Policy::template Returned<Notch> groove(Commands<Policy> &bench, Face face, Point start, Point end, std::int64_t width, std::int64_t depth)
-{
-    return machining::as_one(bench, "groove", [&](const Attempts &attempt) {
-        return shaping::cut_in_face(attempt, face, {start, end}, {width, depth}, [&](const machining::Path &ends) {
-            return shaping::groove_tool(attempt, face, ends, width, depth);
-        });
-    });
-}
-
-/// A step along an edge of the face: so wide in the face, from the edge on, and so deep behind it. Refused as notch is; NoEdge; NotOfFace: the
-/// edge isn't one of the face.
-template <class Policy>
-typename Policy::template Returned<Notch> shoulder(Commands<Policy> &bench, Face face, Edge edge, std::int64_t width, std::int64_t depth)
-{
-    return machining::as_one(bench, "shoulder", [&](const Attempts &attempt) { return shaping::cut_shoulder(attempt, face, edge, width, depth); });
-}
-
-/// The edge becomes a sloping face, which begins so far from it in the face of its first half-edge, and in the other one as far, or so far as
-/// `other` says: the face. At an edge that bends inwards the room is filled.
-///
-/// Refused: NoEdge; SizeRange; NotFlat: a face of the edge isn't flat, or the slope wouldn't be; FlatEdge: both lie in one plane; OffLattice: a
-/// corner wouldn't be whole; OutlineOutside, Meets: there is no room for it.
-template <class Policy>
-typename Policy::template Returned<Face> chamfer(Commands<Policy> &bench, Edge edge, std::int64_t width, std::optional<std::int64_t> other = {})
-{
-    return machining::as_one(bench, "chamfer", [&](const Attempts &attempt) {
-        return shaping::make_chamfer(attempt, edge, width, other.value_or(width));
-    });
-}
-
 } // namespace gwb_session
 #endif

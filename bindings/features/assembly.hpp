@@ -1,8 +1,8 @@
-/// @file gwb_assembly.hpp A closed surface of regions, known by the points of their sides, put together as the model of a solid, for
-/// gwb_shaping.hpp. What was there before keeps its numbers, as far as it still is.
-#ifndef GWB_ASSEMBLY_HPP
-#define GWB_ASSEMBLY_HPP
-#include "gwb_sheets.hpp"
+/// @file assembly.hpp A closed surface of regions, known by the points of their sides, put together as the model of a solid, for
+/// shaping.hpp. What was there before keeps its numbers, as far as it still is.
+#ifndef GWB_FEATURES_ASSEMBLY_HPP
+#define GWB_FEATURES_ASSEMBLY_HPP
+#include "sheets.hpp"
 #include <unordered_map>
 
 namespace gwb_session::sheets {

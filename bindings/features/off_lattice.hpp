@@ -1,13 +1,13 @@
-/// @file gwb_off_lattice.hpp What is to be said of a split that is refused since its points aren't whole (NotLattice), for C++17: where the
+/// @file off_lattice.hpp What is to be said of a split that is refused since its points aren't whole (NotLattice), for C++17: where the
 /// plane cuts edges, by how much the model would have to be scaled, and which planes nearby would do.
 ///
 ///     if (Result<Solid> above = bench.attempt().split(block, 2, 0, 0, -3); above.error().is(GWB_WHY_NOT_LATTICE))
 ///         std::cout << off_lattice(bench, block, {2, 0, 0, -3}).advice(Solid(2));
 ///
 /// It takes time by the edges of the solid for each of some 14,000 planes at most, of which nearly all are given up at their first edge.
-#ifndef GWB_OFF_LATTICE_HPP
-#define GWB_OFF_LATTICE_HPP
-#include "gwb_exact.hpp"
+#ifndef GWB_FEATURES_OFF_LATTICE_HPP
+#define GWB_FEATURES_OFF_LATTICE_HPP
+#include "exact.hpp"
 #include <cmath>
 #include <limits>
 #include <set>
@@ -93,7 +93,7 @@ private:
         const bool has_parallel = !near.empty() && near.front().is_parallel;
         std::string text = has_parallel || factor == 1 ? "" : "# no parallel plane cuts at whole points\n";
         for (const NearPlane &beside : near) {
-            const auto hundredths = std::llround(beside.moved * 100);
+            const auto hundredths = static_cast<std::int64_t>(beside.moved * 100 + 0.5);
             const std::string rest = std::to_string(hundredths % 100);
             text += std::string(beside.is_parallel ? "# parallel" : "# tilted") + ", the cut moves by at most " + std::to_string(hundredths / 100) +
                     (rest.size() < 2 ? ".0" : ".") + rest + " along an edge:\n" + split(beside.plane, above);
@@ -574,16 +574,6 @@ inline Result<OffLattice> made(const Attempts &bench, Solid solid, const CutPlan
 }
 
 } // namespace cutting
-
-/// What is to be said of the cut of a solid by a plane, with at most so many tilted planes; where all points are whole, no near planes.
-///
-/// Refused: NoSolid, PlaneRange.
-template <class Policy>
-typename Policy::template Returned<OffLattice> off_lattice(const Commands<Policy> &bench, Solid solid, const CutPlane &plane, std::size_t most = 3)
-{
-    const Result<OffLattice> found = cutting::made(bench.attempt(), solid, plane, most);
-    return found ? typename Policy::template Returned<OffLattice>(*found) : Policy::template failed<OffLattice>("off_lattice", found.error());
-}
 
 } // namespace gwb_session
 #endif

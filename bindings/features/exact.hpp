@@ -1,9 +1,9 @@
-/// @file gwb_exact.hpp Exact arithmetic on whole points, in space and in planes: for gwb_machining.hpp, gwb_shaping.hpp and gwb_off_lattice.hpp.
+/// @file exact.hpp Exact arithmetic on whole points, in space and in planes: for machining.hpp, shaping.hpp and off_lattice.hpp.
 ///
 /// Coordinates lie within 1,000,000,000, so normals, heights and their products with one more coordinate fit in 128 bits; where two of
 /// those are multiplied, only which product is the greater one is asked, in 256. It takes a compiler with integers of 128 bits.
-#ifndef GWB_EXACT_HPP
-#define GWB_EXACT_HPP
+#ifndef GWB_FEATURES_EXACT_HPP
+#define GWB_FEATURES_EXACT_HPP
 #include "gwb.hpp"
 #include <map>
 #if !defined(__SIZEOF_INT128__)

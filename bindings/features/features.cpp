@@ -1,0 +1,397 @@
+// The calls of gwb_features.h. Nothing is thrown past them: memory that is refused in here is their answer GWB_MEMORY, and the draft is where it was.
+#pragma GCC visibility push(default)
+#include "gwb_features.h"
+#pragma GCC visibility pop
+#include "off_lattice.hpp"
+#include "shaping.hpp"
+#include "stopping.hpp"
+
+extern "C" {
+void gwb_forget_features(struct beside *of); // for calls.c
+}
+
+/// What is said of a cut, for whoever asked.
+struct gwb_advice {
+    gwb_session::OffLattice found;
+};
+
+namespace gwb_session {
+namespace {
+
+/// How many calls of go_on come for one that asks the caller.
+constexpr unsigned asks_once_in = 32;
+thread_local const struct beside *making = nullptr;
+thread_local unsigned calls = 0;
+
+} // namespace
+
+Making::Making(const struct beside &of) : before_(std::exchange(making, &of)) { calls = 0; }
+Making::~Making() { making = before_; }
+
+void go_on()
+{
+    if (calls++ % asks_once_in == 0 && making->stop != nullptr && making->stop(making->stop_user))
+        throw Stopped();
+}
+
+namespace {
+
+/// What is kept with a session: what features have read of its model, and what the last one made.
+struct Known : machining::Surroundings {
+    Lists lists;
+
+    /// That of a session, if there is one.
+    static Known *of(const struct beside &session) { return static_cast<Known *>(static_cast<Surroundings *>(session.known)); }
+    static Known *of(const gwb *g) { return of(*beside_of(g)); }
+    /// That of a session, which is made where there is none.
+    static Known &at(struct beside &session)
+    {
+        if (session.known == nullptr)
+            session.known = static_cast<Surroundings *>(new Known());
+        return *of(session);
+    }
+    void clear()
+    {
+        for (auto &list : lists)
+            list.clear();
+    }
+};
+
+/// The calls of a session that something else holds.
+struct Shared : Attempts {
+    explicit Shared(std::shared_ptr<State> state) : Attempts(std::move(state)) {}
+};
+
+/// A session in the place of a handle, which is closed meanwhile.
+class Borrowed {
+public:
+    explicit Borrowed(gwb *g) : g_(g), state_(std::make_shared<State>()), bench_(state_) { state_->handle = std::exchange(*g, gwb{}); }
+    Borrowed(const Borrowed &) = delete;
+    Borrowed &operator=(const Borrowed &) = delete;
+    ~Borrowed() { *g_ = std::exchange(state_->handle, gwb{}); }
+    [[nodiscard]] const Attempts &bench() const { return bench_; }
+
+private:
+    gwb *g_;
+    std::shared_ptr<State> state_;
+    Shared bench_;
+};
+
+/// A copy of a handle, for readers.
+class Lent {
+public:
+    explicit Lent(const gwb *g) : state_(std::make_shared<State>()), bench_(state_) { state_->handle = *g; }
+    Lent(const Lent &) = delete;
+    Lent &operator=(const Lent &) = delete;
+    ~Lent() { state_->handle = gwb{}; }
+    [[nodiscard]] const Attempts &bench() const { return bench_; }
+
+private:
+    std::shared_ptr<State> state_;
+    Shared bench_;
+};
+
+gwb_kind told(const Failure &failure, gwb_refusal *why)
+{
+    switch (failure.problem) {
+    case Problem::refused: *why = {failure.number, failure.value}; return GWB_REFUSED;
+    case Problem::impossible: *why = {failure.number, failure.value}; return GWB_IMPOSSIBLE;
+    case Problem::memory: return GWB_MEMORY;
+    case Problem::no_call: return GWB_NO_CALL;
+    default: return GWB_CLOSED;
+    }
+}
+
+/// Makes something as one command, in the heap of the session, and then puts it where the caller wants it.
+template <class Make, class Put> gwb_kind made_at_once(gwb *g, gwb_refusal *why, Make make, Put put)
+{
+    const struct beside &of = *beside_of(g);
+    Known &known = Known::at(*beside_of(g));
+    const std::uint64_t before = of.changes;
+    const bool was_known = known.is_of(before);
+    known.clear();
+    using Made = decltype(make(std::declval<const Attempts &>(), std::declval<Together &>(), known));
+    const Made made = [&]() -> Made {
+        Borrowed session(g);
+        Together commands(session.bench());
+        Result<void> done = commands.begun();
+        Made found = done ? make(session.bench(), commands, known) : Made(done.error());
+        if (found) // nothing takes memory from here on
+            done = commands.keep();
+        if (!done)
+            found = Made(done.error());
+        return found;
+    }();
+    if (!made && was_known && known.is_of(before)) // it is again what it was
+        known.is_again(of.changes);
+    if (!made)
+        return told(made.error(), why);
+    put(*made);
+    return GWB_OK;
+}
+
+/// Answers for what a call throws, while its caller may end it.
+template <class Call> gwb_kind guarded(const gwb *g, Call call) noexcept
+{
+    if (!gwb_is_open(g))
+        return GWB_CLOSED;
+    const Making making(*beside_of(g));
+    try {
+        return call();
+    } catch (const Stopped &) {
+        return GWB_STOPPED;
+    } catch (const std::bad_alloc &) {
+        return GWB_MEMORY;
+    }
+}
+
+template <class Make, class Put> gwb_kind made(gwb *g, gwb_refusal *why, Make make, Put put) noexcept
+{
+    if (!gwb_is_open(g))
+        return GWB_CLOSED;
+    const gwb_heap *before = gwb_use_heap(beside_of(g)->heap);
+    const gwb_kind kind = guarded(g, [&] { return made_at_once(g, why, make, put); });
+    gwb_use_heap(before);
+    return kind;
+}
+
+template <class Kind> void write(const std::vector<Kind> &numbers, std::uint32_t *to)
+{
+    for (Kind number : numbers)
+        *to++ = number.number();
+}
+
+Items<Point> items(const gwb_point *points, std::size_t n)
+{
+    return Items<Point>(points, n);
+}
+
+gwb_kind raised(gwb *g, std::uint32_t face, const gwb_point *points, std::size_t n, std::int64_t length, bool is_pocket, gwb_outline_made *out,
+                std::uint32_t *sides, gwb_refusal *why)
+{
+    return made(
+        g, why,
+        [&](const Attempts &bench, Together &, Known &) {
+            return length < 1 ? Result<Pocket>(machining::refused(GWB_WHY_SIZE_RANGE, 1))
+                              : machining::raise(bench, Face(face), items(points, n), is_pocket ? -length : length);
+        },
+        [&](const Pocket &made) {
+            *out = {made.face.number(), made.loop.number()};
+            write(made.sides, sides);
+        });
+}
+
+/// A notch, slot, groove or shoulder, whose lists are kept.
+template <class Make> gwb_kind cut(gwb *g, gwb_refusal *why, Make make)
+{
+    return made(
+        g, why,
+        [&](const Attempts &bench, Together &, Known &known) -> Result<bool> {
+            const Result<Notch> notch = make(bench);
+            if (!notch)
+                return notch.error();
+            for (Face face : notch->floor)
+                known.lists[GWB_MADE_FLOOR].push_back(face.number());
+            for (Face face : notch->walls)
+                known.lists[GWB_MADE_WALLS].push_back(face.number());
+            return true;
+        },
+        [](bool) {});
+}
+
+gwb_wide wide(exact::Wide number) { return {static_cast<std::int64_t>(number >> 64), static_cast<std::uint64_t>(number)}; }
+
+template <class Row, class Items, class Of> std::size_t rows(const Items &items, Row *to, std::size_t room, Of of)
+{
+    for (std::size_t at = 0; at < items.size() && at < room; at++)
+        to[at] = of(items[at]);
+    return items.size();
+}
+
+} // namespace
+} // namespace gwb_session
+
+using namespace gwb_session;
+
+extern "C" {
+
+void gwb_forget_features(struct beside *of) { delete Known::of(*of); }
+
+const char *gwb_misfit_name(std::uint32_t misfit) { return misfit_name(static_cast<Misfit>(misfit)); }
+
+std::size_t gwb_made(const gwb *g, std::uint32_t list, std::uint32_t *buf, std::size_t room)
+{
+    if (!gwb_is_open(g))
+        return SIZE_MAX;
+    if (Known::of(g) == nullptr || list >= std::tuple_size_v<Lists>)
+        return 0;
+    return rows(Known::of(g)->lists[list], buf, room, [](std::uint32_t number) { return number; });
+}
+
+gwb_kind gwb_kill_solid(gwb *g, std::uint32_t solid, gwb_refusal *why)
+{
+    return made(
+        g, why,
+        [&](const Attempts &bench, Together &, Known &) -> Result<bool> {
+            const Result<void> done = TakenApart(bench).take(Solid(solid));
+            return done ? Result<bool>(true) : Result<bool>(done.error());
+        },
+        [](bool) {});
+}
+
+gwb_kind gwb_copy_solid(gwb *g, std::uint32_t solid, const gwb_motion *motion, std::uint32_t *out, gwb_refusal *why)
+{
+    if (!Motion(*motion).is_one())
+        return gwb_is_open(g) ? GWB_NO_CALL : GWB_CLOSED;
+    return made(
+        g, why,
+        [&](const Attempts &bench, Together &commands, Known &known) {
+            return copied(bench, commands, Solid(solid), Motion(*motion), known.lists);
+        },
+        [&](Solid made) { *out = made.number(); });
+}
+
+gwb_kind gwb_move_solid(gwb *g, std::uint32_t solid, const gwb_motion *motion, gwb_refusal *why)
+{
+    if (!Motion(*motion).is_one())
+        return gwb_is_open(g) ? GWB_NO_CALL : GWB_CLOSED;
+    return made(
+        g, why, [&](const Attempts &bench, Together &, Known &) { return moved(bench, Solid(solid), Motion(*motion)); }, [](Solid) {});
+}
+
+gwb_kind gwb_profile(gwb *g, std::uint32_t solid, const gwb_point *points, std::size_t n, const gwb_point *along, gwb_profile_made *out,
+                     std::uint32_t *sides, gwb_refusal *why)
+{
+    return made(
+        g, why,
+        [&](const Attempts &bench, Together &, Known &) { return machining::make_profile(bench, Solid(solid), items(points, n), *along); },
+        [&](const Profile &made) {
+            *out = {made.far.number(), made.base.number()};
+            write(made.sides, sides);
+        });
+}
+
+gwb_kind gwb_ring(gwb *g, std::uint32_t face, const gwb_point *points, std::size_t n, gwb_outline_made *out, std::uint32_t *edges,
+                  std::uint32_t *vertices, gwb_refusal *why)
+{
+    return made(
+        g, why, [&](const Attempts &bench, Together &, Known &) { return machining::make_ring(bench, Face(face), items(points, n)); },
+        [&](const Ring &made) {
+            *out = {made.face.number(), made.loop.number()};
+            write(made.edges, edges);
+            write(made.vertices, vertices);
+        });
+}
+
+gwb_kind gwb_pocket(gwb *g, std::uint32_t face, const gwb_point *points, std::size_t n, std::int64_t depth, gwb_outline_made *out,
+                    std::uint32_t *sides, gwb_refusal *why)
+{
+    return raised(g, face, points, n, depth, true, out, sides, why);
+}
+
+gwb_kind gwb_boss(gwb *g, std::uint32_t face, const gwb_point *points, std::size_t n, std::int64_t height, gwb_outline_made *out,
+                  std::uint32_t *sides, gwb_refusal *why)
+{
+    return raised(g, face, points, n, height, false, out, sides, why);
+}
+
+gwb_kind gwb_hole(gwb *g, std::uint32_t face, const gwb_point *points, std::size_t n, gwb_outline_made *out, std::uint32_t *sides,
+                  gwb_refusal *why)
+{
+    return made(
+        g, why, [&](const Attempts &bench, Together &, Known &) { return machining::make_hole(bench, Face(face), items(points, n)); },
+        [&](const Hole &made) {
+            *out = {made.other.number(), made.loop.number()};
+            write(made.sides, sides);
+        });
+}
+
+gwb_kind gwb_notch(gwb *g, std::uint32_t face, const gwb_point *points, std::size_t n, std::int64_t depth, gwb_refusal *why)
+{
+    return cut(g, why, [&](const Attempts &bench) {
+        return shaping::cut_in_face(bench, Face(face), items(points, n), {depth}, [&](const machining::Path &path) {
+            return shaping::notch_tool(bench, Face(face), path, depth);
+        });
+    });
+}
+
+gwb_kind gwb_slot(gwb *g, std::uint32_t face, const gwb_point *start, const gwb_point *end, std::int64_t width, std::int64_t depth, gwb_refusal *why)
+{
+    return cut(g, why, [&](const Attempts &bench) {
+        return shaping::cut_in_face(bench, Face(face), {*start, *end}, {width, depth}, [&](const machining::Path &ends) {
+            return shaping::slot_tool(bench, Face(face), ends, width, depth);
+        });
+    });
+}
+
+gwb_kind gwb_groove(gwb *g, std::uint32_t face, const gwb_point *start, const gwb_point *end, std::int64_t width, std::int64_t depth,
+                    gwb_refusal *why)
+{
+    return cut(g, why, [&](const Attempts &bench) {
+        return shaping::cut_in_face(bench, Face(face), {*start, *end}, {width, depth}, [&](const machining::Path &ends) {
+            return shaping::groove_tool(bench, Face(face), ends, width, depth);
+        });
+    });
+}
+
+gwb_kind gwb_shoulder(gwb *g, std::uint32_t face, std::uint32_t edge, std::int64_t width, std::int64_t depth, gwb_refusal *why)
+{
+    return cut(g, why, [&](const Attempts &bench) { return shaping::cut_shoulder(bench, Face(face), Edge(edge), width, depth); });
+}
+
+gwb_kind gwb_chamfer(gwb *g, std::uint32_t edge, std::int64_t width, std::int64_t other, std::uint32_t *face, gwb_refusal *why)
+{
+    return made(
+        g, why, [&](const Attempts &bench, Together &, Known &) { return shaping::make_chamfer(bench, Edge(edge), width, other); },
+        [&](Face made) { *face = made.number(); });
+}
+
+gwb_kind gwb_off_lattice(const gwb *g, std::uint32_t solid, const gwb_cut_plane *plane, std::size_t most, gwb_advice **advice, gwb_refusal *why)
+{
+    return guarded(g, [&] {
+        const Lent session(g);
+        const Result<OffLattice> found = cutting::made(session.bench(), Solid(solid), {plane->a, plane->b, plane->c, plane->d}, most);
+        if (!found)
+            return told(found.error(), why);
+        *advice = new gwb_advice{*found};
+        return GWB_OK;
+    });
+}
+
+void gwb_advice_free(gwb_advice *advice) { delete advice; }
+
+gwb_wide gwb_advice_factor(const gwb_advice *advice) { return wide(advice->found.factor); }
+
+bool gwb_advice_fits(const gwb_advice *advice) { return advice->found.fits; }
+
+std::size_t gwb_advice_cuts(const gwb_advice *advice, gwb_edge_cut *to, std::size_t room)
+{
+    return rows(advice->found.cuts, to, room, [](const EdgeCut &cut) {
+        gwb_edge_cut row{cut.edge.number(), {}, {}};
+        for (std::size_t axis = 0; axis < 3; axis++) {
+            row.numerators[axis] = wide(cut.point[axis].numerator);
+            row.denominators[axis] = wide(cut.point[axis].denominator);
+        }
+        return row;
+    });
+}
+
+std::size_t gwb_advice_planes(const gwb_advice *advice, gwb_near_plane *to, std::size_t room)
+{
+    return rows(advice->found.near, to, room, [](const NearPlane &near) {
+        return gwb_near_plane{{near.plane.a, near.plane.b, near.plane.c, near.plane.d}, near.is_parallel, near.moved};
+    });
+}
+
+std::size_t gwb_advice_text(const gwb_advice *advice, std::uint32_t above, char *buf, std::size_t room)
+{
+    try {
+        const std::string text = advice->found.advice(Solid(above));
+        text.copy(buf, room);
+        return text.size();
+    } catch (const std::bad_alloc &) {
+        return SIZE_MAX;
+    }
+}
+
+} // extern "C"

@@ -1,0 +1,65 @@
+// Memory of the features: of the heap that their thread uses (heap.c). These are seen in the library alone, whose symbols but gwb_* are made local.
+#include <cstddef>
+#include <cstdlib>
+#include <new>
+
+extern "C" {
+struct tried {
+    bool ok;
+    void *at;
+};
+tried rattle_alloc(std::size_t size, std::size_t align);
+void rattle_dealloc(void *at);
+}
+
+void *operator new(std::size_t size)
+{
+    const tried block = rattle_alloc(size, 16);
+    if (!block.ok)
+        throw std::bad_alloc();
+    return block.at;
+}
+void operator delete(void *at) noexcept
+{
+    if (at != nullptr)
+        rattle_dealloc(at);
+}
+void operator delete(void *at, std::size_t) noexcept { operator delete(at); }
+
+// What of the C++ library would bring much more of it along. A container asks for too much where memory would be refused too.
+namespace std {
+[[noreturn]] void __throw_length_error(const char *) { throw bad_alloc(); }
+[[noreturn]] void __throw_out_of_range(const char *) { throw bad_alloc(); }
+[[noreturn]] void __throw_out_of_range_fmt(const char *, ...) { throw bad_alloc(); }
+[[noreturn]] void __throw_logic_error(const char *) { throw bad_alloc(); }
+[[noreturn]] void __throw_bad_alloc() { throw bad_alloc(); }
+[[noreturn]] void __throw_bad_array_new_length() { throw bad_alloc(); }
+} // namespace std
+namespace __gnu_cxx {
+void __verbose_terminate_handler() { std::abort(); }
+} // namespace __gnu_cxx
+void *operator new(std::size_t size, const std::nothrow_t &) noexcept
+{
+    const tried block = rattle_alloc(size, 16);
+    return block.ok ? block.at : nullptr;
+}
+void operator delete(void *at, const std::nothrow_t &) noexcept { operator delete(at); }
+extern "C" [[noreturn]] void __cxa_pure_virtual() { std::abort(); }
+
+// What is thrown is bad_alloc alone, one at a time, so it needs no memory, and the pool that the C++ library keeps for it isn't brought along.
+extern "C" {
+static thread_local union {
+    long double aligned;
+    char bytes[512];
+} thrown;
+void *__cxa_allocate_exception(std::size_t size) noexcept
+{
+    constexpr std::size_t header = 256; // what the C++ library puts before it, and more
+    if (size > sizeof thrown - header)
+        std::abort();
+    for (char &byte : thrown.bytes)
+        byte = 0;
+    return thrown.bytes + header;
+}
+void __cxa_free_exception(void *) noexcept {}
+}

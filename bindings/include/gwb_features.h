@@ -1,0 +1,140 @@
+/** @file gwb_features.h
+ * Features of a session of gwb.h: whole solids killed, copied and moved; profiles, rings, pockets, bosses, holes, notches, slots, grooves,
+ * shoulders and chamfers; and what is to be said of a cut whose points aren't whole. Not with libgwb_c.a alone.
+ *
+ * Each is one command, or steps of the draft that is open. It answers
+ * - GWB_OK, and what it made is written;
+ * - GWB_REFUSED, as a command would be, or GWB_IMPOSSIBLE: `why` is written, whose number is one of gwb_names.h or of enum gwb_misfit;
+ * - GWB_MEMORY; GWB_STOPPED, where the caller ends it (gwb_stop_by); GWB_CLOSED.
+ * But for GWB_OK nothing has changed except for the last answer, and a draft that was open goes on where it was.
+ *
+ * Outlines may run either way round; what belongs to their points comes in the order of the points. A list that is written for `n` points has
+ * `n` items. Lists of another length are kept with the session until the next feature: gwb_made. */
+#ifndef GWB_FEATURES_H
+#define GWB_FEATURES_H
+#include "gwb.h"
+#ifdef __cplusplus
+extern "C" {
+#endif
+
+/** Why a feature isn't possible, where it is no condition of a command. X is the value that goes with it. */
+enum gwb_misfit {
+    GWB_MISFIT_NO_AREA = 1,         /**< the outline has no area, or crosses itself */
+    GWB_MISFIT_NOT_IN_PLANE,        /**< point X of the outline lies off the plane of the others, or of the face */
+    GWB_MISFIT_OUTLINE_CROSSED,     /**< side X of the outline crosses or touches another one */
+    GWB_MISFIT_ALONG_PLANE,         /**< the vector lies in the plane of the points */
+    GWB_MISFIT_OUTLINE_OUTSIDE,     /**< the outline crosses or touches the boundary of face X, or doesn't lie inside */
+    GWB_MISFIT_OUTLINE_AROUND_RING, /**< a ring of face X lies inside the outline */
+    GWB_MISFIT_OFF_LATTICE,         /**< a point or a vector at face X would not be whole */
+    GWB_MISFIT_MEETS,               /**< what is made at face X would meet or touch the solid elsewhere */
+    GWB_MISFIT_NO_OPPOSITE,         /**< there is no face behind the outline in face X */
+    GWB_MISFIT_NOT_PARALLEL,        /**< face X, behind the outline, isn't parallel */
+    GWB_MISFIT_NOT_OF_FACE,         /**< edge X is none of the face */
+    GWB_MISFIT_FLAT_EDGE,           /**< the faces of edge X lie in one plane */
+    GWB_MISFIT_NOTHING_LEFT         /**< nothing of solid X would be left */
+};
+
+/** The name of a misfit, as "OffLattice": "" where there is none. */
+const char *gwb_misfit_name(uint32_t misfit);
+
+/** Where points go: coordinate i of the image is coordinate |axes[i]| - 1 of the point, times the sign, plus that of `by`. {{1, 2, 3}, {0, 0, 0}}
+ * leaves them. */
+typedef struct gwb_motion {
+    int32_t axes[3];
+    gwb_point by;
+} gwb_motion;
+
+/** The lists of what the last feature made, for gwb_made. */
+enum gwb_list {
+    GWB_MADE_FLOOR = 0,    /**< faces at the floor of a notch, slot or shoulder: none where it goes through */
+    GWB_MADE_WALLS = 1,    /**< its walls */
+    GWB_MADE_FACES = 2,    /**< of a copy: each face and the one that it became, one after the other */
+    GWB_MADE_LOOPS = 3,    /**< loops alike */
+    GWB_MADE_EDGES = 4,    /**< edges alike */
+    GWB_MADE_VERTICES = 5, /**< vertices alike */
+    GWB_MADE_TURNED = 6    /**< the new edges of a copy that run the other way than those that they are of */
+};
+
+/** Writes a list of what the last feature of the session made, as far as there is room. A reader, between features.
+ * @return how many there are: SIZE_MAX where the handle is closed */
+size_t gwb_made(const gwb *g, uint32_t list, uint32_t *buf, size_t room);
+
+/** The solid goes, with all its parts. Refused: NoSolid. */
+enum gwb_kind gwb_kill_solid(gwb *g, uint32_t solid, gwb_refusal *why);
+/** A new solid, that is another moved; its numbers are above all in use. The lists say which are which. Refused: NoSolid; PointRange;
+ * NumberRange. GWB_NO_CALL where the motion is none. */
+enum gwb_kind gwb_copy_solid(gwb *g, uint32_t solid, const gwb_motion *motion, uint32_t *made, gwb_refusal *why);
+/** A solid lies elsewhere, with the numbers that it has; some of its edges may run the other way. */
+enum gwb_kind gwb_move_solid(gwb *g, uint32_t solid, const gwb_motion *motion, gwb_refusal *why);
+
+typedef struct gwb_profile_made {
+    uint32_t far, base; /**< the face that was moved, and the one that stayed */
+} gwb_profile_made;
+/** What ring, pocket, boss and hole make: the face inside the outline, of a hole the one that it ends in; and the ring around it. */
+typedef struct gwb_outline_made {
+    uint32_t face, loop;
+} gwb_outline_made;
+
+/** A new solid of this number: the outline moved along the vector. `sides` has the side from each point to the next. */
+enum gwb_kind gwb_profile(gwb *g, uint32_t solid, const gwb_point *points, size_t n, const gwb_point *along, gwb_profile_made *made,
+                          uint32_t *sides, gwb_refusal *why);
+/** A face inside the face, and a ring around it. */
+enum gwb_kind gwb_ring(gwb *g, uint32_t face, const gwb_point *points, size_t n, gwb_outline_made *made, uint32_t *edges, uint32_t *vertices,
+                       gwb_refusal *why);
+enum gwb_kind gwb_pocket(gwb *g, uint32_t face, const gwb_point *points, size_t n, int64_t depth, gwb_outline_made *made, uint32_t *sides,
+                         gwb_refusal *why);
+enum gwb_kind gwb_boss(gwb *g, uint32_t face, const gwb_point *points, size_t n, int64_t height, gwb_outline_made *made, uint32_t *sides,
+                       gwb_refusal *why);
+enum gwb_kind gwb_hole(gwb *g, uint32_t face, const gwb_point *points, size_t n, gwb_outline_made *made, uint32_t *sides, gwb_refusal *why);
+/** A pocket whose outline may reach the edges of the face. Lists: floor, walls. */
+enum gwb_kind gwb_notch(gwb *g, uint32_t face, const gwb_point *points, size_t n, int64_t depth, gwb_refusal *why);
+enum gwb_kind gwb_slot(gwb *g, uint32_t face, const gwb_point *start, const gwb_point *end, int64_t width, int64_t depth, gwb_refusal *why);
+enum gwb_kind gwb_groove(gwb *g, uint32_t face, const gwb_point *start, const gwb_point *end, int64_t width, int64_t depth, gwb_refusal *why);
+enum gwb_kind gwb_shoulder(gwb *g, uint32_t face, uint32_t edge, int64_t width, int64_t depth, gwb_refusal *why);
+enum gwb_kind gwb_chamfer(gwb *g, uint32_t edge, int64_t width, int64_t other, uint32_t *face, gwb_refusal *why);
+
+/** The plane a x + b y + c z + d = 0. */
+typedef struct gwb_cut_plane {
+    int64_t a, b, c, d;
+} gwb_cut_plane;
+
+/** A plane beside another one. */
+typedef struct gwb_near_plane {
+    gwb_cut_plane plane;
+    bool is_parallel; /**< or tilted */
+    double moved;     /**< how far it moves the cut at most, along an edge */
+} gwb_near_plane;
+
+/** An edge that a plane cuts, and where: x, y and z as fractions in lowest terms, whose denominators are above 0. */
+typedef struct gwb_edge_cut {
+    uint32_t edge;
+    gwb_wide numerators[3], denominators[3];
+} gwb_edge_cut;
+
+/** What is to be said of a cut whose points aren't whole. It is its caller's, who frees it, and stays what it is when the session changes. */
+typedef struct gwb_advice gwb_advice;
+
+/** Finds out what is to be said of the cut of a solid by a plane, as split would refuse it with NotLattice, with at most `most` tilted planes
+ * that would do. What it writes lies in the heap that the thread uses. Refused: NoSolid; PlaneRange. GWB_MEMORY; GWB_STOPPED; GWB_CLOSED. Nothing
+ * is written but by GWB_OK, and `why` by GWB_REFUSED. A reader. */
+enum gwb_kind gwb_off_lattice(const gwb *g, uint32_t solid, const gwb_cut_plane *plane, size_t most, gwb_advice **advice, gwb_refusal *why);
+
+/** Frees it. Nothing happens where it is NULL. */
+void gwb_advice_free(gwb_advice *advice);
+
+/** The least number by which the model must be multiplied for all points of the cut to be whole: 0 where it passes 10^36. */
+gwb_wide gwb_advice_factor(const gwb_advice *advice);
+/** Whether the model times that number stays in range. */
+bool gwb_advice_fits(const gwb_advice *advice);
+
+/** The edges that the plane cuts between whole points, rising, as far as there is room: how many there are. */
+size_t gwb_advice_cuts(const gwb_advice *advice, gwb_edge_cut *rows, size_t room);
+/** The planes beside it that would do, parallel ones first, alike. */
+size_t gwb_advice_planes(const gwb_advice *advice, gwb_near_plane *rows, size_t room);
+/** All of it as lines of a script, with this number for the solid above the plane, alike: SIZE_MAX where memory is refused. */
+size_t gwb_advice_text(const gwb_advice *advice, uint32_t above, char *buf, size_t room);
+
+#ifdef __cplusplus
+}
+#endif
+#endif

@@ -1,0 +1,168 @@
+/* Each allocation of each feature refused in turn, in a session and in a draft with a mark: the answer is GWB_MEMORY, and the model, the draft and the
+ * depth are as they were; given again the feature is made; nothing stays allocated when the session is closed. The last line counts.
+ *
+ *     library_features_refused [EVERY]     of the allocations each, or each EVERYth where one is said */
+#include "gwb_features.h"
+#include <stdio.h>
+#include <stdlib.h>
+#include <string.h>
+
+/* ---- a heap that refuses one request */
+
+static long until_refused = -1, live;
+
+static bool refuses(void) { return until_refused >= 0 && until_refused-- == 0; }
+
+static void *take(void *user, size_t size)
+{
+    (void)user;
+    if (refuses())
+        return NULL;
+    live++;
+    return malloc(size);
+}
+
+static void *grow(void *user, void *block, size_t size)
+{
+    (void)user;
+    return refuses() ? NULL : realloc(block, size);
+}
+
+static void give_back(void *user, void *block)
+{
+    (void)user;
+    live -= block != NULL;
+    free(block);
+}
+
+static const gwb_heap refusing = {take, grow, give_back, NULL};
+
+/* ---- the features */
+
+static const gwb_point square[] = {{2, 2, 8}, {4, 2, 8}, {4, 4, 8}, {2, 4, 8}}, at_edge[] = {{0, 2, 8}, {4, 2, 8}, {4, 4, 8}, {0, 4, 8}};
+static const gwb_point corner[] = {{5, 5, 8}, {6, 5, 8}, {5, 6, 8}}, along = {0, 0, 9}, start = {6, 0, 8}, end = {6, 8, 8};
+static const gwb_motion motion = {{-2, 1, 3}, {50, 0, 0}};
+static const gwb_cut_plane plane = {2, 3, 5, -17};
+static gwb_refusal why;
+static gwb_outline_made outline;
+static gwb_profile_made profile;
+static uint32_t numbers[16], others[16];
+
+static enum gwb_kind pocket(gwb *g) { return gwb_pocket(g, 1, square, 4, 3, &outline, numbers, &why); }
+static enum gwb_kind boss(gwb *g) { return gwb_boss(g, 1, square, 4, 3, &outline, numbers, &why); }
+static enum gwb_kind hole(gwb *g) { return gwb_hole(g, 1, square, 4, &outline, numbers, &why); }
+static enum gwb_kind ring(gwb *g) { return gwb_ring(g, 1, square, 4, &outline, numbers, others, &why); }
+static enum gwb_kind notch(gwb *g) { return gwb_notch(g, 1, at_edge, 4, 3, &why); }
+static enum gwb_kind slot(gwb *g) { return gwb_slot(g, 1, &start, &end, 2, 3, &why); }
+static enum gwb_kind groove(gwb *g) { return gwb_groove(g, 1, &start, &end, 2, 3, &why); }
+static enum gwb_kind shoulder(gwb *g)
+{
+    gwb_face_row top;
+    uint32_t half_edge = 0;
+    if (gwb_face(g, 1, &top) == GWB_FOUND)
+        gwb_first_half_edge(g, top.outer_loop, &half_edge);
+    return gwb_shoulder(g, 1, half_edge / 2, 2, 3, &why);
+}
+static enum gwb_kind chamfer(gwb *g) { return gwb_chamfer(g, 1, 1, 1, numbers, &why); }
+static enum gwb_kind copy(gwb *g) { return gwb_copy_solid(g, 1, &motion, numbers, &why); }
+static enum gwb_kind move(gwb *g) { return gwb_move_solid(g, 1, &motion, &why); }
+static enum gwb_kind kill_one(gwb *g) { return gwb_kill_solid(g, 1, &why); }
+static enum gwb_kind make_profile(gwb *g) { return gwb_profile(g, 2, square, 4, &along, &profile, numbers, &why); }
+static enum gwb_kind advice(gwb *g)
+{
+    gwb_advice *found = NULL;
+    enum gwb_kind kind = gwb_off_lattice(g, 1, &plane, 3, &found, &why);
+    gwb_advice_free(found);
+    return kind;
+}
+
+static const struct feature {
+    const char *name;
+    enum gwb_kind (*make)(gwb *g);
+} features[] = {{"pocket", pocket},     {"boss", boss},   {"hole", hole},         {"ring", ring},       {"notch", notch},
+                {"slot", slot},         {"groove", groove}, {"shoulder", shoulder}, {"chamfer", chamfer}, {"copy", copy},
+                {"move", move},         {"kill", kill_one}, {"profile", make_profile}, {"advice", advice}};
+
+/* ---- what must be as it was */
+
+struct seen {
+    char listing[20000];
+    size_t length, mark, depth, recorded;
+};
+
+static void look(const gwb *g, struct seen *seen)
+{
+    seen->length = gwb_read_listing(g, seen->listing, sizeof seen->listing);
+    seen->mark = gwb_mark(g);
+    seen->depth = gwb_depth(g);
+    seen->recorded = gwb_script(g, 0, SIZE_MAX, seen->listing, 0);
+}
+
+static bool is_same(const gwb *g, const struct seen *before)
+{
+    static struct seen now;
+    look(g, &now);
+    return now.length == before->length && memcmp(now.listing, before->listing, now.length) == 0 && now.mark == before->mark &&
+           now.depth == before->depth && now.recorded == before->recorded;
+}
+
+/* Where a feature is made: after another one that was undone, so that what it read is known, or not; in a draft, or not; recorded, or not. */
+enum { KNOWN = 1, IN_DRAFT = 2, RECORDED = 4, WAYS = 8 };
+
+static void begin(gwb *g, int way)
+{
+    if (!gwb_open_in(g, &refusing))
+        abort();
+    if (way & RECORDED)
+        gwb_record(g);
+    gwb_block(g, 1, 0, 0, 0, 8, 8, 8);
+    if (way & KNOWN && (gwb_pocket(g, 1, corner, 3, 1, &outline, numbers, &why) != GWB_OK || gwb_undo(g) != GWB_OK))
+        abort();
+    if (way & IN_DRAFT) {
+        gwb_draft(g);
+        gwb_block(g, 7, 100, 0, 0, 8, 8, 8);
+    }
+}
+
+static long passed, failed;
+
+static void check(bool is_so, const char *what, const struct feature *feature, int way, long nth)
+{
+    passed += is_so;
+    failed += !is_so;
+    if (!is_so)
+        printf("%s, way %d, allocation %ld: %s\n", feature->name, way, nth, what);
+}
+
+/* The feature with one allocation refused: whether there was one. */
+static bool try_refused(const struct feature *feature, int way, long nth)
+{
+    static struct seen before;
+    gwb g = {0};
+    begin(&g, way);
+    look(&g, &before);
+    until_refused = nth;
+    enum gwb_kind kind = feature->make(&g);
+    const bool was_refused = until_refused < 0;
+    until_refused = -1;
+    check(kind == GWB_OK || (was_refused && kind == GWB_MEMORY), gwb_kind_text(kind), feature, way, nth); /* a request may be one for speed alone */
+    if (kind == GWB_MEMORY) {
+        check(is_same(&g, &before), "not as before", feature, way, nth);
+        check(feature->make(&g) == GWB_OK, "not made when given again", feature, way, nth);
+    }
+    gwb_close(&g);
+    check(live == 0, "leaks", feature, way, nth);
+    live = 0;
+    return was_refused;
+}
+
+int main(int argc, char **argv)
+{
+    const long every = argc > 1 ? strtol(argv[1], NULL, 10) : 1;
+    for (size_t at = 0; at < sizeof features / sizeof features[0]; at++)
+        for (int way = 0; way < WAYS; way++)
+            for (long nth = 0; try_refused(&features[at], way, nth); nth += every)
+                ;
+    printf("%ld passed, %ld failed\n", passed, failed);
+    return failed != 0;
+}
