@@ -32,7 +32,7 @@ extern "C" {
 #endif
 
 /** The version of this header: its first number times 10,000, its second times 100, and its third. */
-#define GWB_VERSION 20000
+#define GWB_VERSION 30000
 
 #if (defined(__cplusplus) && __cplusplus >= 201703L) || (defined(__STDC_VERSION__) && __STDC_VERSION__ > 201710L)
 #define GWB_NODISCARD [[nodiscard]]

@@ -1,3 +1,3 @@
 """The version of the package: that of the file VERSION at the top of the repository."""
 
-VERSION = '2.0.0'
+VERSION = '3.0.0'

@@ -54,7 +54,7 @@ pub use refusal::Refusal;
 pub use rows::{Counts, EdgeRow, FaceRow, HalfEdgeRow, NewFace, NewSolid, Plane, Point};
 pub use session::Session;
 
-/// The version of the library that is linked: 2.0.0 is `(2, 0, 0)`.
+/// The version of the library that is linked: 3.0.0 is `(3, 0, 0)`.
 #[must_use]
 pub fn version() -> (u32, u32, u32) {
     // SAFETY: the call takes nothing and touches nothing.

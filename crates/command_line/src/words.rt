@@ -111,7 +111,7 @@ fn program<'a>(alloc: Global) -> Command<'a>
     ensures { app_of result ≡ program }
 {
     Command::new(alloc, "gwb")
-        .version("2.0.0")
+        .version("3.0.0")
         .about(ABOUT)
         .after_help(MORE)
         .override_usage("gwb [--stop] [FILE]")

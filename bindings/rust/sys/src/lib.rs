@@ -9,7 +9,7 @@
 use core::ffi::c_void;
 
 /// The first number of the version times 10,000, the second times 100, and the third: the version of the library that these calls are of.
-pub const VERSION: u32 = 20_000;
+pub const VERSION: u32 = 30_000;
 
 /// A handle: a session, or closed.
 #[repr(C)]
