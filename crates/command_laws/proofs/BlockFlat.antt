@@ -56,64 +56,64 @@ along_x_y x y a b e = product x y a b (less_none (x *ℤ y) (ap (λ p. p.z) e))
 rewritten_flat : (a b c d f g h : Point) → b ≡ f → c ≡ g → d ≡ h → lie_flat (a ∷ b ∷ c ∷ d ∷ []) ≡ true → lie_flat (a ∷ f ∷ g ∷ h ∷ []) ≡ true
 rewritten_flat a b c d f g h q r s is = ap lie_flat (λ i. a ∷ sym q i ∷ sym r i ∷ sym s i ∷ []) ∙ is
 
-second : (p d : ℤ) → (p +ℤ pos 0) +ℤ d ≡ (p +ℤ d) +ℤ pos 0
+pub second : (p d : ℤ) → (p +ℤ pos 0) +ℤ d ≡ (p +ℤ d) +ℤ pos 0
 second p d = omega (arith, ints)
 
-third : (p d : ℤ) → ((p +ℤ pos 0) +ℤ d) +ℤ pos 0 ≡ (p +ℤ d) +ℤ pos 0
+pub third : (p d : ℤ) → ((p +ℤ pos 0) +ℤ d) +ℤ pos 0 ≡ (p +ℤ d) +ℤ pos 0
 third p d = omega (arith, ints)
 
-fourth : (p d : ℤ) → ((p +ℤ pos 0) +ℤ pos 0) +ℤ d ≡ (p +ℤ d) +ℤ pos 0
+pub fourth : (p d : ℤ) → ((p +ℤ pos 0) +ℤ pos 0) +ℤ d ≡ (p +ℤ d) +ℤ pos 0
 fourth p d = omega (arith, ints)
 
-still : (p : ℤ) → (p +ℤ pos 0) +ℤ pos 0 ≡ p +ℤ pos 0
+pub still : (p : ℤ) → (p +ℤ pos 0) +ℤ pos 0 ≡ p +ℤ pos 0
 still p = omega (arith, ints)
 
-at_end_turned : (p d : ℤ) → (p +ℤ d) +ℤ pos 0 ≡ (p +ℤ pos 0) +ℤ d
+pub at_end_turned : (p d : ℤ) → (p +ℤ d) +ℤ pos 0 ≡ (p +ℤ pos 0) +ℤ d
 at_end_turned p d = omega (arith, ints)
 
-at_ends_turned : (p d : ℤ) → ((p +ℤ d) +ℤ pos 0) +ℤ pos 0 ≡ (p +ℤ pos 0) +ℤ d
+pub at_ends_turned : (p d : ℤ) → ((p +ℤ d) +ℤ pos 0) +ℤ pos 0 ≡ (p +ℤ pos 0) +ℤ d
 at_ends_turned p d = omega (arith, ints)
 
-still_all : (q : ℤ) → ((q +ℤ pos 0) +ℤ pos 0) +ℤ pos 0 ≡ q +ℤ pos 0
+pub still_all : (q : ℤ) → ((q +ℤ pos 0) +ℤ pos 0) +ℤ pos 0 ≡ q +ℤ pos 0
 still_all q = omega (arith, ints)
 
-at_end : (p d : ℤ) → (p +ℤ d) +ℤ pos 0 ≡ p +ℤ d
+pub at_end : (p d : ℤ) → (p +ℤ d) +ℤ pos 0 ≡ p +ℤ d
 at_end p d = omega (arith, ints)
 
-back : (p d : ℤ) → (p +ℤ d) +ℤ neg_ℤ d ≡ p
+pub back : (p d : ℤ) → (p +ℤ d) +ℤ neg_ℤ d ≡ p
 back p d = omega (arith, ints)
 
-back_still : (p d : ℤ) → ((p +ℤ d) +ℤ neg_ℤ d) +ℤ pos 0 ≡ p +ℤ pos 0
+pub back_still : (p d : ℤ) → ((p +ℤ d) +ℤ neg_ℤ d) +ℤ pos 0 ≡ p +ℤ pos 0
 back_still p d = omega (arith, ints)
 
-none_more : (p : ℤ) → (p +ℤ pos 0) +ℤ pos 0 ≡ p
+pub none_more : (p : ℤ) → (p +ℤ pos 0) +ℤ pos 0 ≡ p
 none_more p = omega (arith, ints)
 
-none_then : (p d : ℤ) → ((p +ℤ pos 0) +ℤ pos 0) +ℤ d ≡ p +ℤ d
+pub none_then : (p d : ℤ) → ((p +ℤ pos 0) +ℤ pos 0) +ℤ d ≡ p +ℤ d
 none_then p d = omega (arith, ints)
 
-none_before : (p d : ℤ) → (p +ℤ pos 0) +ℤ d ≡ p +ℤ d
+pub none_before : (p d : ℤ) → (p +ℤ pos 0) +ℤ d ≡ p +ℤ d
 none_before p d = omega (arith, ints)
 
-ahead : (p d : ℤ) → (p +ℤ d) -ℤ p ≡ d
+pub ahead : (p d : ℤ) → (p +ℤ d) -ℤ p ≡ d
 ahead p d = omega (arith, ints)
 
-ahead_still : (p d : ℤ) → (p +ℤ d) -ℤ (p +ℤ pos 0) ≡ d
+pub ahead_still : (p d : ℤ) → (p +ℤ d) -ℤ (p +ℤ pos 0) ≡ d
 ahead_still p d = omega (arith, ints)
 
-behind : (p d : ℤ) → (p +ℤ pos 0) -ℤ (p +ℤ d) ≡ neg_ℤ d
+pub behind : (p d : ℤ) → (p +ℤ pos 0) -ℤ (p +ℤ d) ≡ neg_ℤ d
 behind p d = omega (arith, ints)
 
-behind_all : (p d : ℤ) → p -ℤ (p +ℤ d) ≡ neg_ℤ d
+pub behind_all : (p d : ℤ) → p -ℤ (p +ℤ d) ≡ neg_ℤ d
 behind_all p d = omega (arith, ints)
 
-nothing : (p : ℤ) → p -ℤ p ≡ pos 0
+pub nothing : (p : ℤ) → p -ℤ p ≡ pos 0
 nothing p = omega (arith, ints)
 
-nothing_more : (p : ℤ) → (p +ℤ pos 0) -ℤ p ≡ pos 0
+pub nothing_more : (p : ℤ) → (p +ℤ pos 0) -ℤ p ≡ pos 0
 nothing_more p = omega (arith, ints)
 
-nothing_less : (p : ℤ) → p -ℤ (p +ℤ pos 0) ≡ pos 0
+pub nothing_less : (p : ℤ) → p -ℤ (p +ℤ pos 0) ≡ pos 0
 nothing_less p = omega (arith, ints)
 
 module _ (p : Point) (dx dy dz : ℤ) (x : dx ≢ pos 0) (y : dy ≢ pos 0) (z : dz ≢ pos 0) where
@@ -170,10 +170,10 @@ module _ (p : Point) (dx dy dz : ℤ) (x : dx ≢ pos 0) (y : dy ≢ pos 0) (z :
 
 -- ---- no other face is of the block
 
-abbrev IsOneOf : ℕ → ℕ → Type 0
+abbrev pub IsOneOf : ℕ → ℕ → Type 0
 IsOneOf n k = (k ≡ n + 1) ⊎ ((k ≡ n + 2) ⊎ ((i : ℕ) × (i < 4) × (k ≡ n + 3 + i)))
 
-one_of : (n k : ℕ) → n < k → k ≤ n + 6 → IsOneOf n k
+pub one_of : (n k : ℕ) → n < k → k ≤ n + 6 → IsOneOf n k
 one_of n k after within = elim (cases_eq k (n + 1)) [
   | inl e ↦ inl e
   | inr a ↦ elim (cases_eq k (n + 2)) [
@@ -208,7 +208,7 @@ module _ (before after : Machine) (s : ℕ) (p : Point) (dx dy dz : ℤ) (sound 
   plain_one k (inr (inr (i, l, e))) = subst IsPlain (sym e)
       (plain_face (last_face before + 3 + i) (side_over (up_by dz) (nth (base_of p dx dy) i) (nth (base_of p dx dy) (next_place 4 i))) (block_has_four_sides before after s p dx dy dz i sound made l) (all_sides_flat p dx dy dz sizes.0 sizes.1 sizes.2 i l) (omega arith))
 
-  no_older : (k : ℕ) → k ≤ last_face before → Has (held after).faces k → solid_of (held after) k ≡ s → ⊥
+  pub no_older : (k : ℕ) → k ≤ last_face before → Has (held after).faces k → solid_of (held after) k ≡ s → ⊥
   no_older k m there of =
       let row = block_keeps_faces before after s p dx dy dz made k m in
       let has = sound.faces_of_solids k (sym (ap is_some row) ∙ there) in
@@ -220,7 +220,7 @@ module _ (before after : Machine) (s : ℕ) (p : Point) (dx dy dz : ℤ) (sound 
     | inl m ↦ plain_one k (one_of (last_face before) k m (subst (λ n. k ≤ n) (block_takes_six_faces before after s p dx dy dz sound made) (at_most_greatest (held after).faces k there)))
   ]
 
-  sound_after : Sound (held after)
+  pub sound_after : Sound (held after)
   sound_after = subst Sound (sym (ap held made.1)) (blocks_are_sound (held before) s p dx dy dz sound made.0)
 
   pub closed_flat : IsClosedFlat (held after) s
@@ -231,7 +231,7 @@ module _ (before after : Machine) (s : ℕ) (p : Point) (dx dy dz : ℤ) (sound 
 
   -- ---- other solids
 
-  of_block : (k : ℕ) → IsOneOf (last_face before) k → solid_of (held after) k ≡ s
+  pub of_block : (k : ℕ) → IsOneOf (last_face before) k → solid_of (held after) k ≡ s
   of_block k (inl e) = ap (solid_of (held after)) e ∙ (block_has_top_and_bottom before after s p dx dy dz sound made).0.solid
   of_block k (inr (inl e)) = ap (solid_of (held after)) e ∙ (block_has_top_and_bottom before after s p dx dy dz sound made).1.solid
   of_block k (inr (inr (i, l, e))) = ap (solid_of (held after)) e ∙ (block_has_four_sides before after s p dx dy dz i sound made l).solid

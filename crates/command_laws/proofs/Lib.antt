@@ -41,3 +41,4 @@ mod AlongLines
 mod FanNormals
 mod splits_laws
 mod caps_laws
+mod convex_laws

@@ -64,16 +64,16 @@ some_way n ne = differs_holds (same_point n origin) refl where
   differs_holds true e = absurd (ne (same_is n origin e))
 
 module _ (a u v : Point) where
-  abbrev corners_round : List Point
+  abbrev pub corners_round : List Point
   corners_round = a ∷ moved a u ∷ moved (moved a u) v ∷ moved a v ∷ []
 
-  abbrev across : Point
+  abbrev pub across : Point
   across = scaled (pos 2) (cross u v)
 
   round_is : area_to a corners_round ≡ across
   round_is = same_vector _ _ (round_part a.y a.z u.y u.z v.y v.z) (round_part a.z a.x u.z u.x v.z v.x) (round_part a.x a.y u.x u.y v.x v.y)
 
-  plane_is : plane_round corners_round ≡ plane_through across a
+  pub plane_is : plane_round corners_round ≡ plane_through across a
   plane_is = ap (λ n. plane_through n a) round_is
 
   along : dot u across ≡ pos 0
@@ -109,7 +109,7 @@ planar_lie_flat M p f sound there on ne =
     ap (λ h. int_eq h (pos 0)) (ap (λ h. h +ℤ neg_ℤ (dot n (anchor M f))) (dot_turned n r ∙ told_anywhere M p f r sound there on at ∙ dot_turned (anchor M f) n) ∙ level_self (dot n (anchor M f))) in
     λ i. some_way n ne i && on_other M p (plane_of M f) own (corners M f) (and_parts (not (same_point (direction p) origin)) (are_on M p (corners M f)) on).1 i
 
-reached : (x y : ℤ) → x +ℤ (y -ℤ x) ≡ y
+pub reached : (x y : ℤ) → x +ℤ (y -ℤ x) ≡ y
 reached x y = omega (arith, ints)
 
 pub sides_lie_flat : SidesLieFlat

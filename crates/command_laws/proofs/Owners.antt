@@ -242,7 +242,7 @@ module _ (M N : Model) (a b : ℕ → Bool) (w : Agree M N a b) where
         grind (arith, item_loop M w.before l h.0 h.1, w.before, half_kept M N a b w h.0 known, known, half_is_on N w.after h.0, w.after)
   ]
 
-  vertex_kept : (v : ℕ) → Has M.vertices v → a (solid_of_vertex M v) ≡ false → Has N.vertices v × (b (solid_of_vertex N v) ≡ false)
+  pub vertex_kept : (v : ℕ) → Has M.vertices v → a (solid_of_vertex M v) ≡ false → Has N.vertices v × (b (solid_of_vertex N v) ≡ false)
   vertex_kept v there out =
       let o = has_owner M w.before v there in
       let l = loop_kept M N a b w o.loop o.there (ap a o.solid ∙ out) in

@@ -100,6 +100,20 @@ module _ (M N : Model) (k : ℕ) (plane : Plane) (w : IsTurned M N k) where
   unfolding corners
   turned_lies on = ap (λ ls. are_on N plane (vertices_in N ls)) w.loops ∙ loops_on (loops_of M k) (λ l i. i) on
 
+-- its corners pass the tests of points that they passed
+module _ (M N : Model) (k : ℕ) (test : Point → Bool) (w : IsTurned M N k) where
+  loops_pass : (ls : List ℕ) → ((l : ℕ) → IsIn l ls → IsIn l (loops_of M k)) → list_all (λ v. test (point_of M v)) (vertices_in M ls) ≡ true → list_all (λ v. test (point_of N v)) (vertices_in N ls) ≡ true
+  loops_pass [] inside e = refl
+  loops_pass (l ∷ ls) inside e =
+      let parts = list_parts (λ v. test (point_of M v)) (vertices_on M (content M l)) (vertices_in M ls) e in
+      let one = turned_all test (loop_points M l) (loop_points N l) (w.points l (inside l (IsIn_head l ls))) (list_all-map test (point_of M) (vertices_on M (content M l)) ∙ parts.0) in
+      list_all-append (λ v. test (point_of N v)) (vertices_on N (content N l)) (vertices_in N ls)
+      ∙ (λ t. (sym (list_all-map test (point_of N) (vertices_on N (content N l))) ∙ one) t && loops_pass ls (λ q j. inside q (IsIn_rest q l ls j)) parts.1 t)
+
+  pub turned_pass : list_all (λ v. test (point_of M v)) (corners M k) ≡ true → list_all (λ v. test (point_of N v)) (corners N k) ≡ true
+  unfolding corners
+  turned_pass e = ap (λ ls. list_all (λ v. test (point_of N v)) (vertices_in N ls)) w.loops ∙ loops_pass (loops_of M k) (λ l i. i) e
+
 -- so it keeps its plane, and is flat where it was
 module _ (M N : Model) (k s : ℕ) (sound : Sound N) (flat : is_flat M k ≡ true) (of : solid_of N k ≡ s) (w : IsTurned M N k) where
   abbrev plane : Plane

@@ -16,3 +16,4 @@ pub mod Capped
 pub mod Caps
 pub mod SplitCounted
 pub mod SplitBlocks
+pub mod Convex

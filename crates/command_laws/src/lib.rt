@@ -19,9 +19,11 @@
 //! answers of every other solid what it did; which faces stand after an operator of one solid, and that no six volumes change after
 //! one that leaves all vertices, or makes or kills a spur, where the faces that it meets lie on one plane, and after one that moves a
 //! fan where they lie on planes with the point to which it moves; and that no normal changes where the fan moves along its own line.
-//! What a split leaves as it was stands in `splits`; what its caps are, and what `counts` answers after it, in `caps`.
+//! What a split leaves as it was stands in `splits`; what its caps are, and what `counts` answers after it, in `caps`. Which solids are
+//! convex, and which half-spaces a split keeps to, stands in `convex`.
 
 mod caps;
+mod convex;
 mod counted;
 mod flat;
 mod frames;
@@ -39,6 +41,9 @@ ghost use Rattle.command_laws.specs.Solids.{BlocksAreThere, LaminasAreThere, Swe
 pub use caps::{
     block_parts_are_blocks, block_splits_fit, caps_are_numbered, caps_close_the_parts,
     caps_face_apart, splits_share_counts,
+};
+pub use convex::{
+    blocks_are_convex, others_stay_convex, parts_lie_apart, round_looks_along, splits_stay_below,
 };
 pub use counted::{glues_join_counts, others_keep_counts, shapes_are_counted, sweeps_add_counts};
 pub use flat::faces_lie_flat;

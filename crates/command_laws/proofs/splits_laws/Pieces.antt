@@ -174,12 +174,12 @@ module _ (before after : Machine) (s : ℕ) (p : Plane) (t : ℕ) (sound : Sound
   -- ---- each face of the parts
 
   module _ (k : ℕ) (there : Has N.faces k) (of : IsOfEither N s t k) where
-    known : Has d.model.faces k ⊎ IsIn k (cap_faces X.caps)
+    pub known : Has d.model.faces k ⊎ IsIn k (cap_faces X.caps)
     known = openings_carry above s p (λ x ds. IsKnown d.model k x) (λ x bs ds w a. opened_known d.model above s k p x bs a) (record { model = d.model; taken = d.taken; caps = [] })
         (section_cycles d.model (below_halves d.model above s)) can.opens (λ has. inl has)
         (closing_carries X.model s p X.caps (λ A. Has A.faces k → Has X.model.faces k) (λ A f g w h has. h (killed_had A f g k has)) (split.closes d above s p t can) (λ has. has) (parted_had _ s t _ k there))
 
-    was_of : Has d.model.faces k → solid_of d.model k ≡ s
+    pub was_of : Has d.model.faces k → solid_of d.model k ≡ s
     was_of has = elim (eqb_tells (solid_of d.model k) s) [
       | inl e ↦ e.1
       | inr e ↦

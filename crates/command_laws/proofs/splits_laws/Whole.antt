@@ -63,10 +63,10 @@ module _ (before after : Machine) (s : ℕ) (p : Plane) (t : ℕ) (sound : Sound
   pub after_sound : Sound N
   after_sound = subst Sound (sym (ap held made.1) ∙ after_is) (split_sound M s p t sound made.0)
 
-  closed : AreClosed X.model K s us (hole_ops X.caps) (filter (λ k. k.hole) X.caps)
+  pub closed : AreClosed X.model K s us (hole_ops X.caps) (filter (λ k. k.hole) X.caps)
   closed = split.closed d above s p t can
 
-  fresh : table.has K.solids t ≡ false
+  pub fresh : table.has K.solids t ≡ false
   fresh = ap (λ u. table.has u t) (split.solids_stay d above s p t can) ∙ ap is_some can.fresh
 
   drawn_closed : AgreeBut s d.model K
@@ -85,7 +85,7 @@ module _ (before after : Machine) (s : ℕ) (p : Plane) (t : ℕ) (sound : Sound
   pub apart : s ≢ t
   apart = can.apart
 
-  drawn_point : (v : ℕ) → Has M.vertices v → table.get d.model.vertices v ≡ table.get M.vertices v
+  pub drawn_point : (v : ℕ) → Has M.vertices v → table.get d.model.vertices v ≡ table.get M.vertices v
   drawn_point v there = ap (λ u. table.get u v) (drawn_stays M s p t sound made.0).vertices ∙ (crossings_keep M s p t sound (begins M s p t sound made.0)).points v there
 
   pub point_kept : (v : ℕ) → Has M.vertices v → table.get (held after).vertices v ≡ table.get M.vertices v

@@ -1,0 +1,6 @@
+pub mod Levels
+pub mod Blocks
+pub mod Within
+pub mod Apart
+pub mod Seen
+pub mod Others

@@ -1,0 +1,171 @@
+-- The faces of the parts of a split: each part lies on its side of the plane.
+use Rattle.std.specs.List.{list_all, list_any}
+use Rattle.std.proofs.Common.{◌≡◌, ◌⊎◌, ℕ, suc, ◌<◌, Bool, true, false, cond, not, ◌&&◌, ◌||◌, List, [], ◌∷◌, length, get_or, refl, sym, ap, subst, ◌∙◌, arith, true≢false, inl, inr, int_lt, pos}
+use Rattle.std.proofs.lemmas.Bool.{and_parts}
+use Rattle.euler_operators.specs.Common.{Plane, Point, direction, dot, is_above, is_below, is_on, Model, point_of, solid_of, Sound, Has, IsIn, lists, part}
+use Rattle.euler_operators.specs.Table as table
+use Rattle.euler_laws.proofs.Common.{listed-from_in, listed_cases}
+use Rattle.shapes.specs.Common.{corners, faces_above, straddles, face_is_above, normal, reaches_above, reaches_below, Drawing, with_drawings, Caps, Opening, holes_closed, no_caps, opened_at}
+use Rattle.shapes.proofs.Common.{face_listed}
+use Rattle.split_drawing_laws.proofs.face_sides.Begun.{none_straddles}
+use Rattle.split_drawing_laws.proofs.loop_sides.Parting.{on_both}
+use Rattle.split_opening_laws.specs.sections.Capped.{cap_faces}
+use Rattle.split_opening_laws.specs.sections.InTurn.{upper_faces}
+use Rattle.split_laws.proofs.drawn.Drawn.{begins, drawn_sound, never_stuck}
+use Rattle.undo_journal.specs.Machine.{Machine, held}
+use Rattle.plane_split.specs.SplitModels.{IsSplit}
+use Rattle.command_laws.specs.Capped.{IsCapOf, cap, caps_of}
+use Rattle.command_laws.specs.Convex.{SplitPartsLieApart}
+use Rattle.command_laws.specs.Splits.{IsOfEither}
+use Rattle.command_laws.proofs.Turned.{IsTurned, turned_pass}
+use Rattle.command_laws.proofs.caps_laws.Whole.{caps_stand, holes_are_closed}
+use Rattle.command_laws.proofs.splits_laws.PartFaces.{part_of, part_turned}
+use Rattle.command_laws.proofs.splits_laws.Pieces.{known, was_of}
+use Rattle.command_laws.proofs.splits_laws.Whole as whole
+
+-- ---- tests of corners
+
+all_fail : (f : ℕ → Bool) (vs : List ℕ) → list_any f vs ≡ false → list_all (λ v. not (f v)) vs ≡ true
+all_fail f [] e = refl
+all_fail f (v ∷ vs) e = both (f v) (list_any f vs) e (all_fail f vs) where
+  both : (a b : Bool) → (a || b) ≡ false → (b ≡ false → list_all (λ v. not (f v)) vs ≡ true) → (not a && list_all (λ v. not (f v)) vs) ≡ true
+  both true b e rest = absurd (true≢false e)
+  both false b e rest = rest e
+
+listed_passes : (f : ℕ → Bool) (vs : List ℕ) (v : ℕ) → list_all f vs ≡ true → lists vs v ≡ true → f v ≡ true
+listed_passes f [] v all i = absurd (true≢false (sym i))
+listed_passes f (w ∷ vs) v all i = let a = and_parts (f w) (list_all f vs) all in elim (listed_cases w v vs i) [
+  | inl e ↦ subst (λ x. f x ≡ true) (sym e) a.0
+  | inr j ↦ listed_passes f vs v a.1 j
+]
+
+not_back : (b : Bool) → not b ≡ true → b ≡ false
+not_back false e = refl
+not_back true e = absurd (true≢false (sym e))
+
+first_none : (a b : Bool) → (a || b) ≡ false → a ≡ false
+first_none true b e = absurd (true≢false e)
+first_none false b e = refl
+
+not_both : (a b c : Bool) → (a || (not b && c)) ≡ true → (a && b) ≡ false → b ≡ false
+not_both true b c e f = f
+not_both false false c e f = refl
+not_both false true c e f = absurd (true≢false (sym e))
+
+-- what no corner of a face fulfils, none does where its loops are turned
+turned_none : (D N : Model) (k : ℕ) (test : Point → Bool) → IsTurned D N k → list_any (λ v. test (point_of D v)) (corners D k) ≡ false → (v : ℕ) → lists (corners N k) v ≡ true → test (point_of N v) ≡ false
+turned_none D N k test w none v i = not_back (test (point_of N v)) (listed_passes (λ x. not (test (point_of N x))) (corners N k) v (turned_pass D N k (λ x. not (test x)) w (all_fail (λ x. test (point_of D x)) (corners D k) none)) i)
+
+-- ---- which cap
+
+-- face k is the lower or the upper one of the caps of some cycle
+cap_at : (k : ℕ) (ks : List Caps) → lists (cap_faces ks) k ≡ true → (i : ℕ) × (i < length ks) × ((k ≡ (get_or ks i no_caps).lower) ⊎ (k ≡ (get_or ks i no_caps).upper))
+cap_at k [] l = absurd (true≢false (sym l))
+cap_at k (c ∷ cs) l = elim (listed_cases c.lower k (c.upper ∷ cap_faces cs) l) [
+  | inl e ↦ (0, omega arith, inl e)
+  | inr m ↦ elim (listed_cases c.upper k (cap_faces cs) m) [
+    | inl e ↦ (0, omega arith, inr e)
+    | inr n ↦ let r = cap_at k cs n in (suc r.0, omega (arith, r.1), r.2)
+  ]
+]
+
+-- ---- a whole split
+
+module _ (before after : Machine) (s : ℕ) (p : Plane) (t : ℕ) (sound : Sound (held before)) (made : IsSplit before after s p t) where
+  abbrev M : Model
+  M = held before
+
+  abbrev d : Drawing
+  d = with_drawings M s p
+
+  abbrev above : List ℕ
+  above = faces_above d.model p s
+
+  abbrev X : Opening
+  X = opened_at d above s p
+
+  abbrev N : Model
+  N = part (holes_closed X.model X.caps) s t (upper_faces above X.caps)
+
+  -- a cap that is there is one of an outer cycle's
+  record OuterCap (k : ℕ) : Type 0 where
+    index : ℕ
+    within : index < length (caps_of (held before) s p)
+    outer : (cap (held before) s p index).hole ≡ false
+    which : (k ≡ (cap (held before) s p index).lower) ⊎ (k ≡ (cap (held before) s p index).upper)
+
+  outer_cap : (k : ℕ) → Has (held after).faces k → lists (cap_faces (caps_of (held before) s p)) k ≡ true → OuterCap k
+  outer_cap k there l = let r = cap_at k (caps_of M s p) l in outer_or_hole r.0 r.1 r.2 (cap M s p r.0).hole refl where
+    outer_or_hole : (i : ℕ) → i < length (caps_of M s p) → (k ≡ (cap M s p i).lower) ⊎ (k ≡ (cap M s p i).upper) → (b : Bool) → (cap M s p i).hole ≡ b → OuterCap k
+    outer_or_hole i within which false outer = record { index = i; within = within; outer = outer; which = which }
+    outer_or_hole i within (inl e) true hole = absurd (true≢false (sym there ∙ ap (table.has (held after).faces) e ∙ (holes_are_closed before after s p t i sound made within hole).0))
+    outer_or_hole i within (inr e) true hole = absurd (true≢false (sym there ∙ ap (table.has (held after).faces) e ∙ (holes_are_closed before after s p t i sound made within hole).1))
+
+  is_cap : (k : ℕ) → Has (held after).faces k → lists (cap_faces (caps_of (held before) s p)) k ≡ true → IsCapOf (held after) p s k ⊎ IsCapOf (held after) p t k
+  is_cap k there l = let c = outer_cap k there l in let w = caps_stand before after s p t c.index sound made c.within c.outer in elim c.which [
+    | inl e ↦ inl (subst (IsCapOf (held after) p s) (sym e) w.0)
+    | inr e ↦ inr (subst (IsCapOf (held after) p t) (sym e) w.1)
+  ]
+
+  after_is : held after ≡ N
+  after_is = whole.after_is before after s p t sound made
+
+  -- a face of the drawn solid
+  module _ (k : ℕ) (has : Has d.model.faces k) (of : solid_of d.model k ≡ s) where
+    turned : IsTurned d.model (held after) k
+    turned = subst (λ P. IsTurned d.model P k) (sym after_is) (part_turned M s p t sound made.0 k has of)
+
+    side : solid_of (held after) k ≡ cond (face_is_above d.model p k) t s
+    side = ap (λ P. solid_of P k) after_is ∙ part_of M s p t sound made.0 k has of
+
+    one_side : straddles d.model p k ≡ false
+    one_side = none_straddles M d.model s p t sound (begins M s p t sound made.0) (never_stuck M s p t sound made.0, refl) k (face_listed d.model (drawn_sound M s p t sound made.0) s k has of)
+
+    drawn_low : solid_of (held after) k ≡ s → (v : ℕ) → lists (corners (held after) k) v ≡ true → is_above p (point_of (held after) v) ≡ false
+    unfolding face_is_above
+    drawn_low low = turned_none d.model (held after) k (is_above p) turned (reaches (face_is_above d.model p k) refl) where
+      reaches : (b : Bool) → face_is_above d.model p k ≡ b → reaches_above d.model p k ≡ false
+      reaches true e = absurd (whole.apart before after s p t sound made (sym low ∙ side ∙ ap (λ b. cond b t s) e))
+      reaches false e = first_none (reaches_above d.model p k) (not (reaches_below d.model p k) && not (int_lt (pos 0) (dot (normal d.model k) (direction p)))) e
+
+    drawn_high : solid_of (held after) k ≡ t → (v : ℕ) → lists (corners (held after) k) v ≡ true → is_below p (point_of (held after) v) ≡ false
+    unfolding face_is_above straddles
+    drawn_high high = turned_none d.model (held after) k (is_below p) turned (reaches (face_is_above d.model p k) refl) where
+      reaches : (b : Bool) → face_is_above d.model p k ≡ b → reaches_below d.model p k ≡ false
+      reaches false e = absurd (whole.apart before after s p t sound made (sym (side ∙ ap (λ b. cond b t s) e) ∙ high))
+      reaches true e = not_both (reaches_above d.model p k) (reaches_below d.model p k) (not (int_lt (pos 0) (dot (normal d.model k) (direction p)))) e one_side
+
+  -- each face
+  module _ (k : ℕ) (there : Has (held after).faces k) (of : IsOfEither (held after) s t k) where
+    now : Has N.faces k
+    now = subst (λ P. Has P.faces k) after_is there
+
+    now_of : IsOfEither N s t k
+    now_of = subst (λ P. IsOfEither P s t k) after_is of
+
+    known_face : Has d.model.faces k ⊎ IsIn k (cap_faces X.caps)
+    known_face = known before after s p t sound made k now now_of
+
+    on_plane : IsIn k (cap_faces X.caps) → (v : ℕ) → lists (corners (held after) k) v ≡ true → is_on p (point_of (held after) v) ≡ true
+    on_plane i v l = elim (is_cap k there (listed-from_in k (cap_faces X.caps) i)) [
+      | inl w ↦ w.on_plane v l
+      | inr w ↦ w.on_plane v l
+    ]
+
+    face_low : solid_of (held after) k ≡ s → (v : ℕ) → lists (corners (held after) k) v ≡ true → is_above p (point_of (held after) v) ≡ false
+    face_low low v l = elim known_face [
+      | inl has ↦ drawn_low k has (was_of before after s p t sound made k now now_of has) low v l
+      | inr i ↦ on_both p (point_of (held after) v) (on_plane i v l) false
+    ]
+
+    face_high : solid_of (held after) k ≡ t → (v : ℕ) → lists (corners (held after) k) v ≡ true → is_below p (point_of (held after) v) ≡ false
+    face_high high v l = elim known_face [
+      | inl has ↦ drawn_high k has (was_of before after s p t sound made k now now_of has) high v l
+      | inr i ↦ on_both p (point_of (held after) v) (on_plane i v l) true
+    ]
+
+pub split_parts_lie_apart : SplitPartsLieApart
+split_parts_lie_apart before after s p t sound made = (
+  λ v w. face_low before after s p t sound made w.face w.there (inl w.solid) w.solid v w.corner,
+  λ v w. face_high before after s p t sound made w.face w.there (inr w.solid) w.solid v w.corner,
+)

@@ -1,0 +1,61 @@
+-- Solids that are convex: no vertex of the solid lies above the plane of one of its faces.
+use Rattle.std.specs.Prelude.{◌≡◌, ◌≢◌, ℕ, ℤ, pos, int_lt, true, false}
+use Rattle.euler_operators.specs.Common.{Plane, Point, IsIn, cross, dot, is_above, is_below, Model, point_of, solid_of, Sound, Has, lists}
+use Rattle.shapes.specs.Common.{boundary, corners, finish, is_flat, normal, plane_of, start, towards}
+use Rattle.undo_journal.specs.Machine.{Machine, held}
+use Rattle.plane_split.specs.SplitModels.{IsSplit}
+use Rattle.command_laws.specs.Commands.{IsBlock}
+
+-- v is a vertex of solid s: a corner of one of its faces
+pub record IsVertexOf (M : Model) (s v : ℕ) : Type 0 where
+  pub face : ℕ
+  pub there : Has M.faces face
+  pub solid : solid_of M face ≡ s
+  pub corner : lists (corners M face) v ≡ true
+
+-- no vertex of solid s lies above plane p
+abbrev pub LiesBelow : Model → Plane → ℕ → Type 0
+LiesBelow M p s = (v : ℕ) → IsVertexOf M s v → is_above p (point_of M v) ≡ false
+
+-- solid s is convex: each face is flat, and no vertex of the solid lies above its plane
+pub record IsConvex (M : Model) (s : ℕ) : Type 0 where
+  pub flat : (k : ℕ) → Has M.faces k → solid_of M k ≡ s → is_flat M k ≡ true
+  pub below : (k : ℕ) → Has M.faces k → solid_of M k ≡ s → LiesBelow M (plane_of M k) s
+
+-- a new block is
+abbrev pub BlocksAreConvex : Type 0
+BlocksAreConvex = (before after : Machine) (s : ℕ) (p : Point) (dx dy dz : ℤ) → Sound (held before) → IsBlock before after s p dx dy dz → IsConvex (held after) s
+
+-- where no vertex of a solid lies above a plane, no vertex of the parts does into which it is split: each half-space that holds the solid holds both
+abbrev pub SplitsStayBelow : Type 0
+SplitsStayBelow = (before after : Machine) (s : ℕ) (p : Plane) (t : ℕ) (q : Plane) → Sound (held before) → IsSplit before after s p t → LiesBelow (held before) q s → LiesBelow (held after) q s × LiesBelow (held after) q t
+
+-- no vertex of solid s lies below plane p
+abbrev pub LiesAbove : Model → Plane → ℕ → Type 0
+LiesAbove M p s = (v : ℕ) → IsVertexOf M s v → is_below p (point_of M v) ≡ false
+
+-- the parts of a split lie on the two sides of its plane
+abbrev pub SplitPartsLieApart : Type 0
+SplitPartsLieApart = (before after : Machine) (s : ℕ) (p : Plane) (t : ℕ) → Sound (held before) → IsSplit before after s p t → LiesBelow (held after) p s × LiesAbove (held after) p t
+
+-- what half-edge h sweeps over, seen from point q: twice the area of the triangle, as a vector across it
+abbrev pub swept_from : Model → Point → ℕ → Point
+swept_from M q h = cross (towards q (start M h)) (towards q (finish M h))
+
+-- seen from point q the half-edges of face k go round vector n: none goes back, and one goes on
+pub record GoesRound (M : Model) (k : ℕ) (n q : Point) : Type 0 where
+  pub none_back : (h : ℕ) → IsIn h (boundary M k) → int_lt (dot n (swept_from M q h)) (pos 0) ≡ false
+  pub half : ℕ
+  pub stands : IsIn half (boundary M k)
+  pub goes_on : int_lt (pos 0) (dot n (swept_from M q half)) ≡ true
+
+-- then the face looks that way, also one that isn't flat
+abbrev pub RoundLooksAlong : Type 0
+RoundLooksAlong = (M : Model) (k : ℕ) (n q : Point) → Sound M → GoesRound M k n q → int_lt (pos 0) (dot n (normal M k)) ≡ true
+
+-- a block and a split leave every other solid convex
+abbrev pub BlockKeepsConvex : Type 0
+BlockKeepsConvex = (before after : Machine) (s : ℕ) (p : Point) (dx dy dz : ℤ) (u : ℕ) → Sound (held before) → IsBlock before after s p dx dy dz → u ≢ s → IsConvex (held before) u → IsConvex (held after) u
+
+abbrev pub SplitLeavesConvex : Type 0
+SplitLeavesConvex = (before after : Machine) (s : ℕ) (p : Plane) (t u : ℕ) → Sound (held before) → IsSplit before after s p t → u ≢ s → u ≢ t → IsConvex (held before) u → IsConvex (held after) u
