@@ -1,6 +1,2 @@
-pub mod Accepted
-pub mod Acting
-pub mod AllElse
-pub mod Undone
-pub mod Worked
-pub mod EdgeDivided
+pub mod Known
+pub mod Computed

@@ -1,49 +1,160 @@
 #![tactic(auto)]
-//! Blocks machined, as a stranger to the workbench would write it. A block is made, a face of it swept up, the sweep taken back, and
-//! an operator tried in a draft that is given up. And a block is made longer by a second one that is glued to it, and cut in two.
-//! What the functions say of volumes, sides and undo is proved from the contracts of the calls and the laws beside them; what no law
-//! tells, as the volume of each part of the longer block, is computed on the plain machine.
+//! A worked example: a program on top of the workbench that knows what it makes. Three blocks are made, two of them are glued to a bar, the bar
+//! is cut in two, and the cut is taken back. `machined_block` writes what they measure.
 //!
-//! `machining` has the commands of the workbench with what a program wants of them, `blocks`, `bosses`, `dividing`, `halves` and
-//! `wedges` what is made with these, `lists` a list of calls that is made in one.
+//! # How it is proved
+//!
+//! Each function makes one call of the kernel, and its contract says what the program wants to know of the session after it. Where the prover
+//! doesn't find by itself why, `proofs/FUNCTION/Answers.antt` says for each clause what it follows from: `proofs/parted` is a short one. There are
+//! two ways to it, and this example shows both.
+//!
+//! - *By laws.* A law is a function that does nothing: its contract says something of every session before and after a command answered Ok. It is
+//!   called where it is needed, as `blocks_fit` (a block is accepted where its number is new and numbers are left), `glue_measures` (the volumes
+//!   of glued solids add) or `splits_are_held` (the parts share the volume). Laws serve whatever the sizes are.
+//! - *By computing.* The contract of a call says which command of the plain machine it is. Where all numbers are known, the machine of the
+//!   program is known too (`specs/Machines.antt`), and what it holds is computed by the prover: that the cut is accepted, and what each part
+//!   measures, which no law tells.
 //!
 //! # What is proved
 //!
-//! Of functions that call the kernel as a stranger would, from contracts and laws: none of its commands is refused, so that the only
-//! error is that memory is. A block, a lamina, a sweep, with a ring too, and a glue are accepted by the laws of `command_laws`, the
-//! cut of a block of any sizes by theirs, the other cut and single operators by the conditions of the plain machine,
-//! computed. The block that it makes has 144 as its six volumes, and eight vertices, twelve edges and six faces, with a spur one
-//! vertex and one edge more, with an edge across its top one edge and one face more and no other volume; a swept face, with rings or
-//! without, adds three times its normal along the vector, and keeps its loops with their corners moved; the solid that comes of two
-//! glued faces has the six volumes of both; the parts of a solid cut by a plane x + d = 0 are there, share its six volumes, lie on
-//! either side of it and are closed by caps on it, and each face that the plane leaves whole is of the part on its side; one that it
-//! cuts stays below in its plane, in which a new face lies above, and each new face lies in the plane of such a one, or is a cap. What
-//! becomes of `v - e + f - r` is told of each of these, and which edges or loops stay as they were. After each undo isn't refused and
-//! gives the model before. Whatever operator is tried in a draft that is given up, the session is as it was; so at the end the block
-//! has its volume as before, with one command to undo and one to redo. Once a second block is made, the side of the first at which
-//! they meet still has its corners, which are those of the second one's, the other way round, and each counts as it did alone; so it
-//! is beside a lamina. The block made longer by the second one glued to it has 180; and once it is cut its two parts have 72 and 108,
-//! with what each counts and one cap each, and four commands to undo. Of a block of any sizes, made beside what a session holds and
-//! cut across x, each part measures and counts as a block, and all that was there before is as it was: each solid with what it counts
-//! and measures, each face, loop, edge and vertex. With a smaller block joined to its top it has 156, and 276 once the top, a
-//! face with a ring then, is raised round that. A wedge, a triangle swept up, has 72, and its faces are known by their numbers and
-//! their corners. A list of four calls in one is told what the plain machine may tell, and leads to a machine that may come of them,
-//! which is consistent. With an edge divided at a point of it the block has a vertex and an edge more; its volume, the planes and the
-//! areas of its faces, and the corners of those that don't meet there are as before, also once the edge is joined again by an operator
-//! of its own; then the model is the one before. Of each block it is said too which commands of the plain machine lead to it.
+//! None of these commands is refused: the only error is that memory is. The three blocks have six volumes of 144, 36 and 48; the bar has the 180
+//! of the first two; its parts have 72 and 108, and lie on either side of the plane. The third block keeps its own throughout. Once the cut is
+//! taken back the model is that of the bar again.
+ghost use Rattle.std.specs.Prelude.{◌≡◌, ◌≢◌, ◌+ℤ◌, pos, Ok, Err, IfOk, OnOk};
+ghost use Rattle.euler_operators.specs.Common.{Has};
+ghost use Rattle.sweeps.specs.Measure.{six_volume};
+ghost use Rattle.sweeps.specs.PlainMachine.{held};
+ghost use Rattle.command_laws.specs.Flat.{IsClosedFlat};
+ghost use Rattle.command_laws.specs.NewFaces.{IsFaceOf};
+ghost use Rattle.block_machining.specs.Machines.{alone, bar, parted, joined_again, near_side, far_side, three_blocks, standing, HasSolids, LieOnEitherSide};
 
-mod blocks;
-mod bosses;
-mod dividing;
-mod halves;
-mod lists;
-mod machining;
-mod wedges;
+use command_laws::{
+    blocks_fit, blocks_leave_alone, blocks_make_faces, faces_lie_flat, faces_stand, glues_fit,
+};
+use euler_operators::Refusal;
+use gluing::{glue, glue_measures, six_volume};
+use plane_split::{split, splits_are_held};
+use std::alloc::{AllocError, Global};
+use sweeps::{Failure, Point, Session, block, block_measures};
 
-pub use blocks::{machined, parted, scored, spurred, taken_back, underlaid};
-pub use bosses::pocketed;
-pub use dividing::{divided, rejoined};
-pub use halves::{halved, halved_beside, halved_beside_block};
-pub use lists::made;
-pub use machining::known;
-pub use wedges::wedge;
+/// A command that isn't refused: only memory can stop it.
+fn but_for_memory(done: Result<(), Failure>) -> Result<(), AllocError>
+    requires { (refusal : Refusal) → done ≢ Err (Failure.Refused refusal) }
+    ensures { OnOk result (done ≡ Ok tt) }
+{
+    match done {
+        Ok(()) => Ok(()),
+        Err(Failure::Memory(error)) => Err(error),
+        Err(Failure::Refused(_)) => unreachable!(),
+    }
+}
+
+/// A session that holds a block of 2 by 2 by 2 as solid 3.
+fn alone(alloc: Global) -> Result<Session, AllocError>
+    ensures third { IfOk result (λ session. six_volume (held session.machine) 3 ≡ pos 48) }
+    ensures made { IfOk result (λ session. session.machine ≡ alone) }
+{
+    let session = Session::new(alloc)?;
+    blocks_fit();
+    block_measures();
+    let corner = Point { x: 10, y: 0, z: 0 };
+    let (session, made) = block(alloc, session, 3, corner, 2, 2, 2);
+    but_for_memory(made)?;
+    Ok(session)
+}
+
+/// Apart from it one of 4 by 3 by 2 as solid 1. The side at its greatest x is face 10, since a block takes six faces and this is the second
+/// of the four sides, which come behind top and bottom.
+fn standing(alloc: Global) -> Result<Session, AllocError>
+    ensures first { IfOk result (λ session. six_volume (held session.machine) 1 ≡ pos 144) }
+    ensures third { IfOk result (λ session. six_volume (held session.machine) 3 ≡ pos 48) }
+    ensures near { IfOk result (λ session. IsFaceOf (held session.machine) 10 1 near_side) }
+    ensures flat { IfOk result (λ session. IsClosedFlat (held session.machine) 1) }
+    ensures made { IfOk result (λ session. session.machine ≡ standing) }
+{
+    let session = alone(alloc)?;
+    blocks_fit();
+    block_measures();
+    blocks_make_faces();
+    faces_lie_flat();
+    let corner = Point { x: 0, y: 0, z: 0 };
+    let (session, made) = block(alloc, session, 1, corner, 4, 3, 2);
+    but_for_memory(made)?;
+    Ok(session)
+}
+
+/// And one of 1 by 3 by 2 as solid 2, which meets the first one at x = 4: its face 18 has the corners of face 10, the other way round.
+pub fn three_blocks(alloc: Global) -> Result<Session, AllocError>
+    ensures there { IfOk result (λ session. HasSolids (held session.machine) 1 2 3) }
+    ensures first { IfOk result (λ session. six_volume (held session.machine) 1 ≡ pos 144) }
+    ensures second { IfOk result (λ session. six_volume (held session.machine) 2 ≡ pos 36) }
+    ensures third { IfOk result (λ session. six_volume (held session.machine) 3 ≡ pos 48) }
+    ensures near { IfOk result (λ session. IsFaceOf (held session.machine) 10 1 near_side) }
+    ensures far { IfOk result (λ session. IsFaceOf (held session.machine) 18 2 far_side) }
+    ensures flat { IfOk result (λ session. IsClosedFlat (held session.machine) 1 × IsClosedFlat (held session.machine) 2) }
+    ensures made { IfOk result (λ session. session.machine ≡ three_blocks) }
+{
+    let session = standing(alloc)?;
+    blocks_fit();
+    block_measures();
+    blocks_make_faces();
+    blocks_leave_alone();
+    faces_lie_flat();
+    faces_stand();
+    let corner = Point { x: 4, y: 0, z: 0 };
+    let (session, made) = block(alloc, session, 2, corner, 1, 3, 2);
+    but_for_memory(made)?;
+    Ok(session)
+}
+
+/// The first two glued where they meet, to a bar of 5 by 3 by 2.
+pub fn bar(alloc: Global) -> Result<Session, AllocError>
+    ensures there { IfOk result (λ session. Has (held session.machine).solids 1) }
+    ensures whole { IfOk result (λ session. six_volume (held session.machine) 1 ≡ pos 180) }
+    ensures third { IfOk result (λ session. six_volume (held session.machine) 3 ≡ pos 48) }
+    ensures made { IfOk result (λ session. session.machine ≡ bar) }
+{
+    let session = three_blocks(alloc)?;
+    glues_fit();
+    glue_measures();
+    let (session, glued) = glue(alloc, session, 10, 18);
+    but_for_memory(glued)?;
+    Ok(session)
+}
+
+/// The bar cut at x = 2: what lies past it is solid 2.
+pub fn parted(alloc: Global) -> Result<Session, AllocError>
+    ensures there { IfOk result (λ session. HasSolids (held session.machine) 1 2 3) }
+    ensures share { IfOk result (λ session. six_volume (held session.machine) 1 +ℤ six_volume (held session.machine) 2 ≡ pos 180) }
+    ensures sides { IfOk result (λ session. LieOnEitherSide (held session.machine) 1 2) }
+    ensures near { IfOk result (λ session. six_volume (held session.machine) 1 ≡ pos 72) }
+    ensures far { IfOk result (λ session. six_volume (held session.machine) 2 ≡ pos 108) }
+    ensures third { IfOk result (λ session. six_volume (held session.machine) 3 ≡ pos 48) }
+    ensures made { IfOk result (λ session. session.machine ≡ parted) }
+{
+    let session = bar(alloc)?;
+    splits_are_held();
+    let (session, cut) = split(alloc, session, 1, 1, 0, 0, -2, 2);
+    but_for_memory(cut)?;
+    Ok(session)
+}
+
+/// The cut taken back: the bar is whole again.
+pub fn joined_again(alloc: Global) -> Result<Session, AllocError>
+    ensures there { IfOk result (λ session. Has (held session.machine).solids 1) }
+    ensures again { IfOk result (λ session. held session.machine ≡ held bar) }
+    ensures whole { IfOk result (λ session. six_volume (held session.machine) 1 ≡ pos 180) }
+    ensures made { IfOk result (λ session. session.machine ≡ joined_again) }
+{
+    let mut session = parted(alloc)?;
+    session.undo().unwrap();
+    Ok(session)
+}
+
+/// Six times the volume of solid s, which is there: so the measure is answered.
+pub fn measured(session: &Session, s: u32) -> i128
+    requires { Has (held session.now.machine).solids s }
+    ensures { result ≡ six_volume (held session.now.machine) s }
+{
+    six_volume(session.arena(), s).unwrap()
+}
