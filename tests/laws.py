@@ -154,8 +154,36 @@ def parts_share_volumes(program: Program, at: Place) -> Optional[bool]:
     return None not in (before, *parts) and before == sum(filter(None, parts))
 
 
+def volumes(program: Program, script: bytes) -> Dict[int, Optional[int]]:
+    """The volumes that are answered of the first solids behind a script."""
+    return {solid: volume(program, script, b'%d' % solid) for solid in range(1, 9)}
+
+
+def sweeps_measure(program: Program, at: Place) -> Optional[bool]:
+    """Behind a sweep the volume of one solid has grown by what the plane of the face tells; the others are answered as before."""
+    if program.adds(at.front, at.line) != OK or not at.line.startswith(b'sweep '):
+        return None
+    _, face, *vector = at.line.split()
+    plane = (program.adds(at.front, b'plane %s\n' % face) or b'').split()
+    grown = 3 * sum(int(a) * int(d) for a, d in zip(plane[1:4], vector))
+    before, after = volumes(program, at.front), volumes(program, at.script)
+    moved = [solid for solid in before if before[solid] != after[solid]]
+    return all((before[solid] or 0) + grown == after[solid] for solid in moved) and len(moved) == (1 if grown else 0)
+
+
+def glues_measure(program: Program, at: Place) -> Optional[bool]:
+    """Behind a glue one solid has the volumes of two, and the other is gone."""
+    if program.adds(at.front, at.line) != OK or not at.line.startswith(b'glue '):
+        return None
+    before, after = volumes(program, at.front), volumes(program, at.script)
+    gone = [solid for solid in before if before[solid] is not None and after[solid] is None]
+    joined = [solid for solid in before if solid not in gone and before[solid] != after[solid]]
+    lost = sum(before[solid] or 0 for solid in gone)
+    return len(gone) == 1 and (not lost or [(before[solid] or 0) + lost for solid in joined] == [after[solid] for solid in joined[:1]])
+
+
 AT_EACH_LINE = (answers_stay, others_can_be_left_out, undone_lines_can_be_left_out, undo_and_redo_can_be_left_out, undos_lead_back,
-                some_undos_lead_back, blocks_measure, parts_share_volumes)
+                some_undos_lead_back, blocks_measure, parts_share_volumes, sweeps_measure, glues_measure)
 
 
 def at_a_line(program: Program, at: Place) -> List[Tuple[str, str]]:

@@ -1,40 +1,49 @@
--- What the volume of a new block is answered.
-use Rattle.std.proofs.Common.{◌≡◌, ℕ, List, [], ◌∷◌, ◌++◌, codes, map, ◌<◌, ◌^◌, Option, Some, None, Ok, ℤ, pos, ◌+ℤ◌, ◌*ℤ◌, arith, refl, sym, ap, ◌∙◌, decimal}
+-- What volumes are answered behind larger commands.
+use Rattle.std.proofs.Common.{◌≡◌, ℕ, List, [], ◌∷◌, ◌++◌, codes, Option, Some, None, ℤ, pos, ◌+ℤ◌, ◌*ℤ◌, true, false, arith, refl, sym, ap, ◌∙◌}
 use Rattle.std.specs.Fmt.{signed_decimal}
-use Rattle.euler_operators.specs.Common.{Plane, Point, Model, Sound, Has}
+use Rattle.euler_operators.specs.Common.{Plane, Point, Model, Sound, Has, direction, dot, is_number, solid_of}
+use Rattle.euler_operators.specs.Table as table
+use Rattle.euler_operators.specs.Refusal as why
 use Rattle.euler_operators.specs.declared.Refusal.{Refusal}
+use Rattle.euler_operators.specs.declared.Why.TheVariants.{NoSolid}
+use Rattle.shapes.specs.Common.{is_flat, normal, plane_of}
+use Rattle.shapes.proofs.glue.Facts.{glue_goes}
+use Rattle.sweeps_laws.proofs.prism.Accepted.{face_there}
 use Rattle.undo_journal.specs.Machine.{Machine, held}
-use Rattle.sweeps.specs.Machine.{block, block_refusal}
-use Rattle.sweeps.specs.Measures.{NewBlock}
+use Rattle.sweeps.specs.Machine.{block, block_refusal, sweep, sweep_refusal}
+use Rattle.sweeps.specs.Measures.{NewBlock, OthersThanSwept, SweptSolid}
+use Rattle.gluing.specs.Machine.{glue, glue_refusal}
+use Rattle.gluing.specs.Measures.{GluedSolid}
 use Rattle.plane_split.specs.Machine.{plane_with, split, split_refusal}
 use Rattle.plane_split.specs.SplitModels.{PartsAreHeld, HeldShareVolumes}
-use Rattle.command_laws.specs.Solids.{BlocksAreThere}
-use Rattle.solid_measure.specs.Measure.{answer, solid_refusal, six_volume}
-use Rattle.script_reader.specs.Grammar.{request_of}
-use Rattle.script_reader.specs.Newline as newline
+use Rattle.command_laws.specs.Solids.{BlocksAreThere, GluesJoinSolids, SweepsKeepSolids, SweptAreThere}
+use Rattle.solid_measure.specs.Measure.{answer, face_refusal, solid_refusal, six_volume}
 use Rattle.commands.specs.declared.command.Change.TheVariants as change
+use Rattle.commands.specs.declared.command.Question.{Question}
 use Rattle.commands.specs.declared.command.Question.TheVariants as question
+use Rattle.commands.specs.declared.command.Command.{Command}
 use Rattle.commands.specs.declared.command.Command.TheVariants as command
+use Rattle.commands.specs.declared.command.Told.{Told}
 use Rattle.commands.specs.declared.command.Told.TheVariants as told
-use Rattle.commands.specs.Telling.{value_or_refusal}
+use Rattle.commands.specs.Telling.{asked, value_or_refusal}
 use Rattle.script_reader.specs.declared.command.Request.{Request}
 use Rattle.script_reader.specs.declared.command.Request.TheVariants as request
 use Rattle.solid_listing.specs.Lines.{spaced}
 use Rattle.solid_listing.specs.Replies.{reply_text}
 use Rattle.solid_listing.specs.declared.reply.Reply.TheVariants as reply
 use Rattle.script_running.specs.Histories.{LinesLeadOn, HistoriesMakeConsistent}
+use Rattle.script_running.specs.Laws.{asked_for}
 use Rattle.script_running.specs.script_judging.Judging.{done, refused, answer_when, answer_text}
-use Rattle.script_running.specs.Output.{moved, obeyed, answer_of, machine_after}
+use Rattle.script_running.specs.Output.{moved, obeyed, given, answer_of, machine_after}
 use Rattle.script_running.specs.declared.script_judging.judging.Answer.TheVariants.{Reply as Says}
 use Rattle.script_running.specs.declared.script_judging.judging.Answer.{Answer}
 use Rattle.script_laws.specs.Scripts.{EndsLine, ended, Adds}
-use Rattle.script_laws.specs.Laws.{volume_line, volume_answer, BlocksMeasure, PartsShareVolumes}
+use Rattle.script_laws.specs.Laws.{Spells, volume_answer, BlocksMeasure, PartsShareVolumes, SweepsMeasure, GluesMeasure}
 use Rattle.script_laws.proofs.Behind.{reached, from_adds, adds_from, ends_append, ends_line}
 use Rattle.script_laws.proofs.Kept.{one_answer, reached_line}
 use Rattle.script_laws.proofs.Undone.{goes, answer_is, machine_is}
 use Rattle.script_laws.proofs.Alike.{answered_ok}
 use Rattle.script_laws.proofs.Listed.{holds_sound}
-use Rattle.script_laws.proofs.Written.{block_lacks, block_spelled, split_lacks, split_spelled, volume_lacks, volume_spelled}
 
 not_refused : (o : Option Refusal) (s next : Machine) → (moved o s next).0 ≡ done → o ≡ None
 not_refused None s next e = refl
@@ -63,62 +72,175 @@ was_told : (s : Machine) (o : Option Refusal) (w z : ℤ) → answer_text s (ans
 was_told s None w z e = refl
 was_told s (Some r) w z e = absurd (refused_head s r z e)
 
--- what the volume of a solid that is there is answered
-volume_adds : (script : List ℕ) (n : ℕ) (z : ℤ) → EndsLine script → n < 2 ^ 32 → solid_refusal (held (reached script)) n ≡ None → six_volume (held (reached script)) n ≡ z → Adds script (volume_line n) (volume_answer z)
-volume_adds script n z h small there is =
-    let s = reached script in
-    let ask = codes "volume" ++ spaced (decimal n ∷ []) in
-    let said : answer_of s ask ≡ Says (reply.Volume z) = answer_is s ask (request.Give (command.Ask (question.Volume n))) (volume_spelled n small) ∙ volume_told s n there ∙ ap (λ (v : ℤ). Says (reply.Volume v)) is in
-    adds_from script (volume_line n) (volume_answer z) h (one_answer s ask (volume_lacks n small) ∙ ap (answer_text (machine_after s ask)) said ∙ volume_text z)
+-- ---- lines that spell commands
 
--- the machine behind a line that was answered `ok`, whose command is known
-module _ (script line : List ℕ) (c : Request) (o : Option Refusal) (next : Machine) (h : EndsLine script) (lacks : newline.Lacks line) (spelled : request_of line ≡ Ok c)
-    (is : obeyed (reached script) c ≡ moved o (reached script) next) (added : Adds script (ended line) (codes "ok\n")) where
+some_command : Command → Option Command → Command
+some_command d None = d
+some_command d (Some c) = c
+
+obeys : (s : Machine) (r : Request) (c : Command) → asked_for r ≡ Some c → obeyed s r ≡ given s c
+unfolding some_command
+obeys s request.Nothing c e = absurd (cc e)
+obeys s request.List c e = absurd (cc e)
+obeys s (request.Over o ps) c e = ap (λ (o : Option Command). given s (some_command c o)) e
+obeys s (request.Give d) c e = ap (λ (o : Option Command). given s (some_command c o)) e
+
+-- what a line that spells a command is answered, and the machine after it
+module _ (line : List ℕ) (c : Command) (spells : Spells line c) (s : Machine) where
+  answered_so : answer_of s line ≡ (given s c).0
+  answered_so = let a = spells.1 in answer_is s line a.0 a.1 ∙ ap (λ (x : Answer × Machine). x.0) (obeys s a.0 c a.2)
+
+  leads_so : machine_after s line ≡ (given s c).1
+  leads_so = let a = spells.1 in machine_is s line a.0 a.1 ∙ ap (λ (x : Answer × Machine). x.1) (obeys s a.0 c a.2)
+
+-- ---- questions
+
+-- the text of an answer that is no listing is that of the reply
+same_text : (s t : Machine) (a : Told) → answer_text s (answer_when a) ≡ answer_text t (answer_when a)
+same_text s t told.Done = refl
+same_text s t (told.Refused r) = refl
+same_text s t told.Memory = refl
+same_text s t (told.Plane p flat) = refl
+same_text s t (told.Volume n) = refl
+same_text s t (told.Counts n) = refl
+same_text s t a = refl
+
+-- a question about a model that is held is answered so
+asks : (script ask : List ℕ) (q : Question) (text : List ℕ) → EndsLine script → Spells ask (command.Ask q) → answer_text (reached script) (answer_when (asked (held (reached script)) q)) ≡ text → Adds script (ended ask) text
+asks script ask q text h spells is =
+    let s = reached script in
+    adds_from script (ended ask) text h (one_answer s ask spells.0 ∙ ap (answer_text (machine_after s ask)) (answered_so ask (command.Ask q) spells s) ∙ same_text (machine_after s ask) s (asked (held s) q) ∙ is)
+
+was_asked : (script ask : List ℕ) (q : Question) (text : List ℕ) → EndsLine script → Spells ask (command.Ask q) → Adds script (ended ask) text → answer_text (reached script) (answer_when (asked (held (reached script)) q)) ≡ text
+was_asked script ask q text h spells before =
+    let s = reached script in
+    same_text s (machine_after s ask) (asked (held s) q) ∙ ap (answer_text (machine_after s ask)) (sym (answered_so ask (command.Ask q) spells s)) ∙ sym (one_answer s ask spells.0) ∙ from_adds script (ended ask) text h before
+
+-- what the volume of a solid that is there is answered
+volume_adds : (script ask : List ℕ) (n : ℕ) (z : ℤ) → EndsLine script → Spells ask (command.Ask (question.Volume n)) → solid_refusal (held (reached script)) n ≡ None → six_volume (held (reached script)) n ≡ z → Adds script (ended ask) (volume_answer z)
+volume_adds script ask n z h spells there is =
+    asks script ask (question.Volume n) (volume_answer z) h spells (ap (answer_text (reached script)) (volume_told (reached script) n there) ∙ ap (λ (v : ℤ). reply_text (reply.Volume v)) is ∙ volume_text z)
+
+-- the machine behind a line that was answered `ok`
+module _ (script line : List ℕ) (c : Command) (o : Option Refusal) (next : Machine) (h : EndsLine script) (spells : Spells line c)
+    (is : given (reached script) c ≡ moved o (reached script) next) (added : Adds script (ended line) (codes "ok\n")) where
   none_refused : o ≡ None
-  none_refused = not_refused o (reached script) next (ap (λ (x : Answer × Machine). x.0) (sym is) ∙ sym (answer_is (reached script) line c spelled) ∙ answered_ok script line h lacks added)
+  none_refused = not_refused o (reached script) next (ap (λ (x : Answer × Machine). x.0) (sym is) ∙ sym (answered_so line c spells (reached script)) ∙ answered_ok script line h spells.0 added)
 
   made : reached (script ++ ended line) ≡ next
-  made = reached_line script line h lacks ∙ machine_is (reached script) line c spelled ∙ ap (λ (x : Answer × Machine). x.1) is ∙ (goes o (reached script) next none_refused).1
+  made = reached_line script line h spells.0 ∙ leads_so line c spells (reached script) ∙ ap (λ (x : Answer × Machine). x.1) is ∙ (goes o (reached script) next none_refused).1
+
+-- ---- models with the same solids
+
+same_refusal : (M N : Model) (n : ℕ) → N.solids ≡ M.solids → solid_refusal N n ≡ solid_refusal M n
+same_refusal M N n e = rw e refl
+
+same_volume : (M N : Model) (n : ℕ) → N.solids ≡ M.solids → six_volume N n ≡ six_volume M n → asked N (question.Volume n) ≡ asked M (question.Volume n)
+same_volume M N n e is = ap (λ (o : Option Refusal). value_or_refusal (answer o (told.Volume (six_volume N n)))) (same_refusal M N n e)
+    ∙ ap (λ (v : ℤ). value_or_refusal (answer (solid_refusal M n) (told.Volume v))) is
+
+plane_looks : (M : Model) (f : ℕ) → normal M f ≡ direction (plane_of M f)
+unfolding plane_of normal
+plane_looks M f = refl
+
+face_told : (M : Model) (f : ℕ) → Sound M → Has M.faces f → face_refusal M f ≡ None
+face_told M f sound there = rw (sound.faces_fit f there, there) refl
+
+gone_told : (M : Model) (n : ℕ) → is_number n ≡ true → table.has M.solids n ≡ false → solid_refusal M n ≡ Some (record { why = NoSolid; number = n })
+gone_told M n fits gone = rw (fits, gone) refl
+
+-- ---- the laws
 
 module _ (lead : LinesLeadOn) (consistent : HistoriesMakeConsistent) where
   pub blocks_measure : NewBlock → BlocksAreThere → BlocksMeasure
-  blocks_measure measure there script n x y z dx dy dz h small fit added =
-      let line = codes "block" ++ spaced (decimal n ∷ map signed_decimal (x ∷ y ∷ z ∷ dx ∷ dy ∷ dz ∷ [])) in
-      let p : Point = record { x = x; y = y; z = z } in
-      let c = request.Give (command.Change (change.Block n p dx dy dz)) in
-      let lacks = block_lacks n x y z dx dy dz small fit in
-      let spelled = block_spelled n x y z dx dy dz small fit in
+  blocks_measure measure there script line ask n p dx dy dz h spells asks_so added =
+      let c = command.Change (change.Block n p dx dy dz) in
       let s = reached script in
       let t = reached (script ++ ended line) in
-      let none : block_refusal s n p dx dy dz ≡ None = none_refused script line c (block_refusal s n p dx dy dz) (block s n p dx dy dz) h lacks spelled refl added in
-      let made : t ≡ block s n p dx dy dz = made script line c (block_refusal s n p dx dy dz) (block s n p dx dy dz) h lacks spelled refl added in
-      volume_adds (script ++ ended line) n (pos 6 *ℤ dx *ℤ dy *ℤ dz) (ends_append script (ended line) h (ends_line line)) small
+      let none : block_refusal s n p dx dy dz ≡ None = none_refused script line c (block_refusal s n p dx dy dz) (block s n p dx dy dz) h spells refl added in
+      let made : t ≡ block s n p dx dy dz = made script line c (block_refusal s n p dx dy dz) (block s n p dx dy dz) h spells refl added in
+      volume_adds (script ++ ended line) ask n (pos 6 *ℤ dx *ℤ dy *ℤ dz) (ends_append script (ended line) h (ends_line line)) asks_so
       (solid_told (held t) n (holds_sound lead consistent (script ++ ended line)) (there s t n p dx dy dz (none, made)))
       (measure s t n p dx dy dz (holds_sound lead consistent script) none made)
 
   pub parts_share_volumes : PartsAreHeld → HeldShareVolumes → PartsShareVolumes
-  parts_share_volumes there share script n m a b c d z h small small_too fit before added =
-      let line = codes "split" ++ spaced (decimal n ∷ signed_decimal a ∷ signed_decimal b ∷ signed_decimal c ∷ signed_decimal d ∷ decimal m ∷ []) in
+  parts_share_volumes there share script line one other n m a b c d z h spells asks_one asks_other before added =
       let p : Plane = plane_with a b c d in
-      let cmd = request.Give (command.Change (change.Split n a b c d m)) in
-      let lacks = split_lacks n m a b c d small small_too fit in
-      let spelled = split_spelled n m a b c d small small_too fit in
+      let cmd = command.Change (change.Split n a b c d m) in
       let s = reached script in
       let t = reached (script ++ ended line) in
-      let none : split_refusal s n p m ≡ None = none_refused script line cmd (split_refusal s n p m) (split s n p m) h lacks spelled refl added in
-      let made : t ≡ split s n p m = made script line cmd (split_refusal s n p m) (split s n p m) h lacks spelled refl added in
+      let none : split_refusal s n p m ≡ None = none_refused script line cmd (split_refusal s n p m) (split s n p m) h spells refl added in
+      let made : t ≡ split s n p m = made script line cmd (split_refusal s n p m) (split s n p m) h spells refl added in
       let ends : EndsLine (script ++ ended line) = ends_append script (ended line) h (ends_line line) in
       let sound = holds_sound lead consistent script in
       let sound_then = holds_sound lead consistent (script ++ ended line) in
       let parts = there s t n p m sound (none, made) in
-      let ask = codes "volume" ++ spaced (decimal n ∷ []) in
       let u = six_volume (held t) n in
       let v = six_volume (held t) m in
-      let text : answer_text (machine_after s ask) (answer_when (value_or_refusal (answer (solid_refusal (held s) n) (told.Volume (six_volume (held s) n))))) ≡ volume_answer z =
-      ap (answer_text (machine_after s ask)) (sym (answer_is s ask (request.Give (command.Ask (question.Volume n))) (volume_spelled n small))) ∙ sym (one_answer s ask (volume_lacks n small)) ∙ from_adds script (volume_line n) (volume_answer z) h before in (
+      let text = was_asked script one (question.Volume n) (volume_answer z) h asks_one before in (
         u,
         v,
-        volume_adds script n (u +ℤ v) h small (was_told (machine_after s ask) (solid_refusal (held s) n) (six_volume (held s) n) z text) (share s t n p m sound (none, made)),
-        volume_adds (script ++ ended line) n u ends small (solid_told (held t) n sound_then parts.0) refl,
-        volume_adds (script ++ ended line) m v ends small_too (solid_told (held t) m sound_then parts.1) refl,
+        volume_adds script one n (u +ℤ v) h asks_one (was_told s (solid_refusal (held s) n) (six_volume (held s) n) z text) (share s t n p m sound (none, made)),
+        volume_adds (script ++ ended line) one n u ends asks_one (solid_told (held t) n sound_then parts.0) refl,
+        volume_adds (script ++ ended line) other m v ends asks_other (solid_told (held t) m sound_then parts.1) refl,
       )
+
+  pub sweeps_measure : SweptSolid → OthersThanSwept → SweptAreThere → SweepsKeepSolids → SweepsMeasure
+  sweeps_measure measure stay there keep script line f d h spells added =
+      let cmd = command.Change (change.Sweep f d) in
+      let s = reached script in
+      let t = reached (script ++ ended line) in
+      let none : sweep_refusal s f d ≡ None = none_refused script line cmd (sweep_refusal s f d) (sweep s f d) h spells refl added in
+      let made : t ≡ sweep s f d = made script line cmd (sweep_refusal s f d) (sweep s f d) h spells refl added in
+      let ends : EndsLine (script ++ ended line) = ends_append script (ended line) h (ends_line line) in
+      let sound = holds_sound lead consistent script in
+      let sound_then = holds_sound lead consistent (script ++ ended line) in
+      let face = face_there (held s) f d sound none in
+      let n = solid_of (held s) f in
+      let u = six_volume (held s) n in
+      let w = u +ℤ pos 3 *ℤ dot (direction (plane_of (held s) f)) d in
+      record {
+        solid = n;
+        plane = plane_of (held s) f;
+        flat = is_flat (held s) f;
+        faced = λ ask asks_so. asks script ask (question.Plane f) (reply_text (reply.Plane (plane_of (held s) f) (is_flat (held s) f))) h asks_so
+            (ap (λ (o : Option Refusal). answer_text s (answer_when (value_or_refusal (answer o (told.Plane (plane_of (held s) f) (is_flat (held s) f)))))) (face_told (held s) f sound face));
+        grown = λ ask asks_so. (
+          u,
+          volume_adds script ask n u h asks_so (solid_told (held s) n sound (sound.faces_of_solids f face)) refl,
+          volume_adds (script ++ ended line) ask n w ends asks_so (solid_told (held t) n sound_then (there s t f d sound (none, made))) (measure s t f d sound none made ∙ ap (λ (p : Point). u +ℤ pos 3 *ℤ dot p d) (plane_looks (held s) f)),
+        );
+        others = λ ask text m other asks_so before. asks (script ++ ended line) ask (question.Volume m) text ends asks_so
+            (ap (λ (a : Told). answer_text t (answer_when a)) (same_volume (held s) (held t) m (keep s t f d (none, made)) (stay s t f d m sound none made other))
+            ∙ same_text t s (asked (held s) (question.Volume m)) ∙ was_asked script ask (question.Volume m) text h asks_so before);
+      }
+
+  pub glues_measure : GluedSolid → GluesJoinSolids → GluesMeasure
+  glues_measure measure join script line f g h spells added =
+      let cmd = command.Change (change.Glue f g) in
+      let s = reached script in
+      let t = reached (script ++ ended line) in
+      let none : glue_refusal s f g ≡ None = none_refused script line cmd (glue_refusal s f g) (glue s f g) h spells refl added in
+      let made : t ≡ glue s f g = made script line cmd (glue_refusal s f g) (glue s f g) h spells refl added in
+      let ends : EndsLine (script ++ ended line) = ends_append script (ended line) h (ends_line line) in
+      let sound = holds_sound lead consistent script in
+      let sound_then = holds_sound lead consistent (script ++ ended line) in
+      let faces = glue_goes (held s) f g none in
+      let first = solid_of (held s) f in
+      let second = solid_of (held s) g in
+      let u = six_volume (held s) first in
+      let v = six_volume (held s) second in
+      let there = join s t f g sound (none, made) in
+      record {
+        first = first;
+        second = second;
+        joined = λ one other asks_one asks_other. (
+          u,
+          v,
+          volume_adds script one first u h asks_one (solid_told (held s) first sound (sound.faces_of_solids f faces.f_there)) refl,
+          volume_adds script other second v h asks_other (solid_told (held s) second sound (sound.faces_of_solids g faces.g_there)) refl,
+          volume_adds (script ++ ended line) one first (u +ℤ v) ends asks_one (solid_told (held t) first sound_then there.0) (measure s t f g sound none made),
+        );
+        gone = λ other asks_other. asks (script ++ ended line) other (question.Volume second) (reply_text (reply.Refused (why.code_of NoSolid) second)) ends asks_other
+            (ap (λ (o : Option Refusal). answer_text t (answer_when (value_or_refusal (answer o (told.Volume (six_volume (held t) second)))))) (gone_told (held t) second (sound.solids_fit second (sound.faces_of_solids g faces.g_there)) there.1));
+      }

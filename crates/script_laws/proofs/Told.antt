@@ -1,8 +1,11 @@
 -- What a run writes where memory may be refused.
-use Rattle.std.proofs.Common.{◌≡◌, ◌⊎◌, inl, inr, ℕ, false, List, [], ◌∷◌, ◌++◌, codes, Result, Ok, Err, refl, sym, ap, subst, ◌∙◌, append-nil}
+use Rattle.std.proofs.Common.{◌≡◌, ◌≢◌, ◌⊎◌, inl, inr, ℕ, false, List, [], ◌∷◌, ◌++◌, codes, Option, Some, None, Result, Ok, Err, refl, sym, ap, subst, ◌∙◌, append-nil}
 use Rattle.std.proofs.lemmas.Bool.{false≢true}
 use Rattle.std.specs.List.{AllByRecursion}
-use Rattle.undo_journal.specs.Machine.{Machine}
+use Rattle.euler_operators.specs.Common.{Model}
+use Rattle.euler_operators.specs.declared.Refusal.{Refusal}
+use Rattle.undo_journal.specs.Machine.{Machine, held}
+use Rattle.solid_measure.specs.Measure.{answer, face_refusal, solid_refusal, plane_of, is_flat, six_volume, counts}
 use Rattle.script_reader.specs.Grammar.{request_of}
 use Rattle.script_reader.specs.Lined.{IsLined}
 use Rattle.script_reader.specs.Lines.{lines_of, within_limit}
@@ -12,6 +15,12 @@ use Rattle.undo_journal.proofs.Journals.{same_machine}
 use Rattle.script_reader.specs.Polygon.{over}
 use Rattle.commands.specs.declared.command.Command.{Command}
 use Rattle.commands.specs.declared.command.Command.TheVariants as command
+use Rattle.commands.specs.declared.command.Change.{Change}
+use Rattle.commands.specs.declared.command.Question.{Question}
+use Rattle.commands.specs.declared.command.Question.TheVariants as question
+use Rattle.commands.specs.declared.command.Told.{Told}
+use Rattle.commands.specs.declared.command.Told.TheVariants as told
+use Rattle.commands.specs.Telling.{asked, value_or_refusal, TellsSession}
 use Rattle.commands.proofs.Kept.{session_kept}
 use Rattle.script_reader.specs.declared.command.Request.{Request}
 use Rattle.script_reader.specs.declared.command.Request.TheVariants as request
@@ -20,13 +29,14 @@ use Rattle.script_reader.proofs.LinedLaws.{lines_are_lined}
 use Rattle.solid_listing.specs.declared.reply.Reply.TheVariants as reply
 use Rattle.solid_listing.specs.Replies.{reply_text}
 use Rattle.script_running.specs.script_judging.Judging.{answer_when, Gives, Obeys, Answers, Judges, answer_text, one_line}
+use Rattle.script_running.specs.Laws.{asked_for}
 use Rattle.script_running.specs.Outs.{Outs}
 use Rattle.script_running.specs.Output.{answer_of, machine_after}
 use Rattle.script_running.specs.declared.script_judging.judging.Answer.{Answer}
 use Rattle.script_running.specs.declared.script_judging.judging.Answer.TheVariants.{Reply as Says}
 use Rattle.script_running.specs.declared.script_judging.judging.Summary.{Summary}
 use Rattle.script_running.proofs.Outputs.{judges_so}
-use Rattle.script_laws.specs.Scripts.{EndsLine, ended, Tells}
+use Rattle.script_laws.specs.Scripts.{AsksForChange, EndsLine, ended, Tells}
 use Rattle.script_laws.specs.Laws.{RunsTell, BrokenRunsTell, FailedRunsTell}
 use Rattle.script_laws.proofs.Behind.{reached, adds_from, ends_append, ends_line}
 use Rattle.script_laws.proofs.Kept.{one_answer, reached_line}
@@ -48,6 +58,43 @@ answers_stay s t (Err f) a p e = p.1
 
 judges_stay : (s t : Journal) (line : List ℕ) (a : Answer) → Judges s line a t → a ≡ Says reply.Memory → t ≡ s
 judges_stay s t line a p e = answers_stay s t (request_of line) a p e
+
+-- and only a change is answered so
+is_memory : (b : Told) → answer_when b ≡ Says reply.Memory → b ≡ told.Memory
+is_memory told.Memory e = refl
+is_memory told.Done e = absurd (cc e)
+is_memory (told.Refused r) e = absurd (cc e)
+is_memory (told.Plane p flat) e = absurd (cc e)
+is_memory (told.Volume n) e = absurd (cc e)
+is_memory (told.Counts n) e = absurd (cc e)
+is_memory b e = absurd (cc e)
+
+value_told : (o : Option Refusal) (a : Told) → a ≢ told.Memory → value_or_refusal (answer o a) ≢ told.Memory
+value_told None a other = other
+value_told (Some r) a other = λ e. absurd (cc e)
+
+never_asked : (M : Model) (q : Question) → asked M q ≢ told.Memory
+never_asked M (question.Plane f) = value_told (face_refusal M f) (told.Plane (plane_of M f) (is_flat M f)) (λ e. absurd (cc e))
+never_asked M (question.Volume n) = value_told (solid_refusal M n) (told.Volume (six_volume M n)) (λ e. absurd (cc e))
+never_asked M (question.Count n) = value_told (solid_refusal M n) (told.Counts (counts M n)) (λ e. absurd (cc e))
+
+change_of : (s t : Journal) (c : Command) → TellsSession s c told.Memory t → (x : Change) × (c ≡ command.Change x)
+change_of s t (command.Change x) h = (x, refl)
+change_of s t (command.Ask q) h = absurd (never_asked (held s.machine) q (sym h.0))
+change_of s t command.Undo h = absurd h.0
+change_of s t command.Redo h = absurd h.0
+
+answers_change : (s t : Journal) (r : Result Request Fault) (a : Answer) → Answers s r a t → a ≡ Says reply.Memory → (c : Change) × ((q : Request) × (r ≡ Ok q) × (asked_for q ≡ Some (command.Change c)))
+answers_change s t (Ok (request.Over o ps)) a p e = (over o ps, (request.Over o ps, refl, refl))
+answers_change s t (Ok (request.Give c)) a p e =
+    let x = change_of s t c (subst (λ (b : Told). TellsSession s c b t) (is_memory p.0 (sym p.1 ∙ e)) p.2) in
+    (x.0, (request.Give c, refl, ap (λ (d : Command). Some d) x.1))
+answers_change s t (Ok request.Nothing) a p e = absurd (cc (sym p.0 ∙ e))
+answers_change s t (Ok request.List) a p e = absurd (cc (sym p.0 ∙ e))
+answers_change s t (Err f) a p e = absurd (cc (sym p.0 ∙ e))
+
+judges_change : (s t : Journal) (line : List ℕ) (a : Answer) → Judges s line a t → a ≡ Says reply.Memory → AsksForChange line
+judges_change s t line a p e = answers_change s t (request_of line) a p e
 
 memory_or : (a : Answer) → (a ≡ Says reply.Memory) ⊎ ((one_line a).memory ≡ 0)
 memory_or (Says reply.Memory) = inl refl
@@ -87,9 +134,12 @@ outs_tell script s (line ∷ lines) out n h at lack (a, t, judged, inl (go, eo, 
 outs_tell script s (line ∷ lines) out n h at lack (a, t, judged, inr (calm, (rest, k, eo, en, o))) = elim (memory_or a) [
   | inl e ↦
       inl (
-        rest,
-        eo ∙ ap (λ (b : Answer). answer_text t.machine b ++ rest) e ∙ ap (λ (x : List ℕ). x ++ rest) memory_text,
-        outs_tell script t lines rest k h (same_machine (judges_stay s t line a judged e) ∙ at) lack.1 o,
+        judges_change s t line a judged e,
+        (
+          rest,
+          eo ∙ ap (λ (b : Answer). answer_text t.machine b ++ rest) e ∙ ap (λ (x : List ℕ). x ++ rest) memory_text,
+          outs_tell script t lines rest k h (same_machine (judges_stay s t line a judged e) ∙ at) lack.1 o,
+        ),
       )
   | inr quiet ↦
       let r = reached script in

@@ -19,7 +19,7 @@ use Rattle.script_reader.proofs.LineLaws.{ok_line}
 use Rattle.script_reader.proofs.NewlineLaws.{Lacks-append}
 use Rattle.script_reader.proofs.PartLaws.{parted_words}
 use Rattle.solid_listing.specs.Lines.{spaced}
-use Rattle.script_laws.specs.Laws.{IsWritten}
+use Rattle.script_laws.specs.Laws.{IsWritten, BlockLinesSpell, SplitLinesSpell, VolumeLinesSpell}
 
 -- ---- words
 
@@ -125,10 +125,10 @@ module _ (n : ℕ) (x y z dx dy dz : ℤ) (h : n < 2 ^ 32) (k : AllByRecursion I
   block_words : AreWords (decimal n ∷ map signed_decimal (x ∷ y ∷ z ∷ dx ∷ dy ∷ dz ∷ []))
   block_words = (number, signed_words (x ∷ y ∷ z ∷ dx ∷ dy ∷ dz ∷ []) k)
 
-  pub block_lacks : newline.Lacks (codes "block" ++ spaced (decimal n ∷ map signed_decimal (x ∷ y ∷ z ∷ dx ∷ dy ∷ dz ∷ [])))
+  block_lacks : newline.Lacks (codes "block" ++ spaced (decimal n ∷ map signed_decimal (x ∷ y ∷ z ∷ dx ∷ dy ∷ dz ∷ [])))
   block_lacks = line_lacks (codes "block") (decimal n ∷ map signed_decimal (x ∷ y ∷ z ∷ dx ∷ dy ∷ dz ∷ [])) block_word block_words
 
-  pub block_spelled : request_of (codes "block" ++ spaced (decimal n ∷ map signed_decimal (x ∷ y ∷ z ∷ dx ∷ dy ∷ dz ∷ []))) ≡ Ok (request.Give (command.Change (change.Block n (record { x = x; y = y; z = z }) dx dy dz)))
+  block_spelled : request_of (codes "block" ++ spaced (decimal n ∷ map signed_decimal (x ∷ y ∷ z ∷ dx ∷ dy ∷ dz ∷ []))) ≡ Ok (request.Give (command.Change (change.Block n (record { x = x; y = y; z = z }) dx dy dz)))
   block_spelled = line_spells (codes "block") (decimal n ∷ map signed_decimal (x ∷ y ∷ z ∷ dx ∷ dy ∷ dz ∷ [])) block_word block_words (request.Give (command.Change (change.Block n (record { x = x; y = y; z = z }) dx dy dz))) (omega arith) (inr (
     name.Block,
     refl,
@@ -149,10 +149,10 @@ module _ (n m : ℕ) (a b c d : ℤ) (h : n < 2 ^ 32) (j : m < 2 ^ 32) (k : AllB
   split_words : AreWords (decimal n ∷ signed_decimal a ∷ signed_decimal b ∷ signed_decimal c ∷ signed_decimal d ∷ decimal m ∷ [])
   split_words = (decimal_word n (omega (arith, h)), (signed_word a k.0, (signed_word b k.1.0, (signed_word c k.1.1.0, (signed_word d k.1.1.1.0, (decimal_word m (omega (arith, j)), tt))))))
 
-  pub split_lacks : newline.Lacks (codes "split" ++ spaced (decimal n ∷ signed_decimal a ∷ signed_decimal b ∷ signed_decimal c ∷ signed_decimal d ∷ decimal m ∷ []))
+  split_lacks : newline.Lacks (codes "split" ++ spaced (decimal n ∷ signed_decimal a ∷ signed_decimal b ∷ signed_decimal c ∷ signed_decimal d ∷ decimal m ∷ []))
   split_lacks = line_lacks (codes "split") (decimal n ∷ signed_decimal a ∷ signed_decimal b ∷ signed_decimal c ∷ signed_decimal d ∷ decimal m ∷ []) split_word split_words
 
-  pub split_spelled : request_of (codes "split" ++ spaced (decimal n ∷ signed_decimal a ∷ signed_decimal b ∷ signed_decimal c ∷ signed_decimal d ∷ decimal m ∷ [])) ≡ Ok (request.Give (command.Change (change.Split n a b c d m)))
+  split_spelled : request_of (codes "split" ++ spaced (decimal n ∷ signed_decimal a ∷ signed_decimal b ∷ signed_decimal c ∷ signed_decimal d ∷ decimal m ∷ [])) ≡ Ok (request.Give (command.Change (change.Split n a b c d m)))
   split_spelled = line_spells (codes "split") (decimal n ∷ signed_decimal a ∷ signed_decimal b ∷ signed_decimal c ∷ signed_decimal d ∷ decimal m ∷ []) split_word split_words (request.Give (command.Change (change.Split n a b c d m))) (omega arith) (inr (
     name.Split,
     refl,
@@ -160,8 +160,19 @@ module _ (n m : ℕ) (a b c d : ℤ) (h : n < 2 ^ 32) (j : m < 2 ^ 32) (k : AllB
   ))
 
 module _ (n : ℕ) (h : n < 2 ^ 32) where
-  pub volume_lacks : newline.Lacks (codes "volume" ++ spaced (decimal n ∷ []))
+  volume_lacks : newline.Lacks (codes "volume" ++ spaced (decimal n ∷ []))
   volume_lacks = line_lacks (codes "volume") (decimal n ∷ []) volume_word (decimal_word n (omega (arith, h)), tt)
 
-  pub volume_spelled : request_of (codes "volume" ++ spaced (decimal n ∷ [])) ≡ Ok (request.Give (command.Ask (question.Volume n)))
+  volume_spelled : request_of (codes "volume" ++ spaced (decimal n ∷ [])) ≡ Ok (request.Give (command.Ask (question.Volume n)))
   volume_spelled = line_spells (codes "volume") (decimal n ∷ []) volume_word (decimal_word n (omega (arith, h)), tt) (request.Give (command.Ask (question.Volume n))) (omega arith) (inr (name.Volume, refl, (n, [], (says_number n h, refl), (refl, refl))))
+
+-- ---- the law
+
+pub block_lines_spell : BlockLinesSpell
+block_lines_spell n p dx dy dz small fit = (block_lacks n p.x p.y p.z dx dy dz small fit, (request.Give (command.Change (change.Block n p dx dy dz)), block_spelled n p.x p.y p.z dx dy dz small fit, refl))
+
+pub split_lines_spell : SplitLinesSpell
+split_lines_spell n m a b c d small other fit = (split_lacks n m a b c d small other fit, (request.Give (command.Change (change.Split n a b c d m)), split_spelled n m a b c d small other fit, refl))
+
+pub volume_lines_spell : VolumeLinesSpell
+volume_lines_spell n small = (volume_lacks n small, (request.Give (command.Ask (question.Volume n)), volume_spelled n small, refl))

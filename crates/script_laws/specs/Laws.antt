@@ -1,10 +1,16 @@
 -- What scripts are answered, told of their bytes alone.
-use Rattle.std.specs.Prelude.{◌≡◌, ◌≢◌, ◌<◌, ◌^◌, ℕ, false, List, [], ◌∷◌, ◌++◌, codes, map, Option, ℤ, pos, ◌+ℤ◌, ◌*ℤ◌, decimal}
+use Rattle.std.specs.Prelude.{◌≡◌, ◌≢◌, ◌<◌, ◌^◌, ℕ, Bool, false, List, [], ◌∷◌, ◌++◌, codes, map, Option, ℤ, pos, ◌+ℤ◌, ◌*ℤ◌, decimal}
 use Rattle.std.specs.Fmt.{signed_decimal}
 use Rattle.std.specs.Int.Signed.{mag}
 use Rattle.std.specs.List.{AllByRecursion}
 use Rattle.euler_operators.specs.Refusal as why
 use Rattle.euler_operators.specs.declared.Why.{Why}
+use Rattle.euler_operators.specs.declared.Why.TheVariants.{NoSolid}
+use Rattle.euler_operators.specs.Common.{Plane, Point, dot, direction}
+use Rattle.commands.specs.declared.command.Change.TheVariants as change
+use Rattle.commands.specs.declared.command.Question.TheVariants as question
+use Rattle.commands.specs.declared.command.Command.{Command}
+use Rattle.commands.specs.declared.command.Command.TheVariants.{Ask, Change}
 use Rattle.solid_listing.specs.Lines.{spaced}
 use Rattle.solid_listing.specs.Replies.{reply_text}
 use Rattle.solid_listing.specs.declared.reply.Reply.{Reply}
@@ -14,6 +20,7 @@ use Rattle.script_reader.specs.declared.command.Fault.{Fault}
 use Rattle.script_reader.specs.Newline as newline
 use Rattle.script_reader.specs.Lines.{lines_of, within_limit}
 use Rattle.script_reader.specs.Words.{words}
+use Rattle.script_running.specs.Laws.{AsksFor}
 use Rattle.script_running.specs.Runs.{Served, BreaksOff, WriteFails}
 use Rattle.script_running.specs.declared.script_judging.judging.Summary.{Summary}
 use Rattle.script_laws.specs.Scripts.{answers, EndsLine, ended, HasNo, oks, Adds, Tells, SameBehind, IsTakenBack}
@@ -75,35 +82,65 @@ EqualListingsGoOnAlike = (one other text : List ℕ) → EndsLine one → EndsLi
 
 -- ---- geometry
 
+-- the line spells this command, with whatever blanks, signs and zeros in front
+abbrev pub Spells : List ℕ → Command → Type 0
+Spells line c = newline.Lacks line × AsksFor line c
+
 -- numbers that a line may give
 abbrev pub IsWritten : ℤ → Type 0
 IsWritten z = mag z < 2 ^ 63
 
--- the lines of a block, of a split, and of a solid's volume, and what the last is answered
-abbrev pub block_line : ℕ → ℤ → ℤ → ℤ → ℤ → ℤ → ℤ → List ℕ
-block_line n x y z dx dy dz = ended (codes "block" ++ spaced (decimal n ∷ map signed_decimal (x ∷ y ∷ z ∷ dx ∷ dy ∷ dz ∷ [])))
+-- the plainest lines that spell a block, a split, and the question for a volume
+abbrev pub BlockLinesSpell : Type 0
+BlockLinesSpell = (n : ℕ) (p : Point) (dx dy dz : ℤ) → n < 2 ^ 32 → AllByRecursion IsWritten (p.x ∷ p.y ∷ p.z ∷ dx ∷ dy ∷ dz ∷ [])
+    → Spells (codes "block" ++ spaced (decimal n ∷ map signed_decimal (p.x ∷ p.y ∷ p.z ∷ dx ∷ dy ∷ dz ∷ []))) (Change (change.Block n p dx dy dz))
 
-abbrev pub split_line : ℕ → ℤ → ℤ → ℤ → ℤ → ℕ → List ℕ
-split_line n a b c d m = ended (codes "split" ++ spaced (decimal n ∷ signed_decimal a ∷ signed_decimal b ∷ signed_decimal c ∷ signed_decimal d ∷ decimal m ∷ []))
+abbrev pub SplitLinesSpell : Type 0
+SplitLinesSpell = (n m : ℕ) (a b c d : ℤ) → n < 2 ^ 32 → m < 2 ^ 32 → AllByRecursion IsWritten (a ∷ b ∷ c ∷ d ∷ [])
+    → Spells (codes "split" ++ spaced (decimal n ∷ signed_decimal a ∷ signed_decimal b ∷ signed_decimal c ∷ signed_decimal d ∷ decimal m ∷ [])) (Change (change.Split n a b c d m))
 
-abbrev pub volume_line : ℕ → List ℕ
-volume_line n = ended (codes "volume" ++ spaced (decimal n ∷ []))
+abbrev pub VolumeLinesSpell : Type 0
+VolumeLinesSpell = (n : ℕ) → n < 2 ^ 32 → Spells (codes "volume" ++ spaced (decimal n ∷ [])) (Ask (question.Volume n))
 
+-- what a question for a volume is answered
 abbrev pub volume_answer : ℤ → List ℕ
 volume_answer z = ended (codes "volume" ++ spaced (signed_decimal z ∷ []))
 
 -- behind a block that was answered `ok`, its volume is answered: six times the product of its sizes
 abbrev pub BlocksMeasure : Type 0
-BlocksMeasure = (script : List ℕ) (n : ℕ) (x y z dx dy dz : ℤ) → EndsLine script → n < 2 ^ 32 → AllByRecursion IsWritten (x ∷ y ∷ z ∷ dx ∷ dy ∷ dz ∷ [])
-    → Adds script (block_line n x y z dx dy dz) (codes "ok\n")
-    → Adds (script ++ block_line n x y z dx dy dz) (volume_line n) (volume_answer (pos 6 *ℤ dx *ℤ dy *ℤ dz))
+BlocksMeasure = (script line ask : List ℕ) (n : ℕ) (p : Point) (dx dy dz : ℤ) → EndsLine script → Spells line (Change (change.Block n p dx dy dz)) → Spells ask (Ask (question.Volume n))
+    → Adds script (ended line) (codes "ok\n") → Adds (script ++ ended line) (ended ask) (volume_answer (pos 6 *ℤ dx *ℤ dy *ℤ dz))
 
 -- behind a split that was answered `ok` the volumes of both parts sum to what was answered of the solid before
 abbrev pub PartsShareVolumes : Type 0
-PartsShareVolumes = (script : List ℕ) (n m : ℕ) (a b c d z : ℤ) → EndsLine script → n < 2 ^ 32 → m < 2 ^ 32 → AllByRecursion IsWritten (a ∷ b ∷ c ∷ d ∷ [])
-    → Adds script (volume_line n) (volume_answer z) → Adds script (split_line n a b c d m) (codes "ok\n")
-    → (u : ℤ) × (v : ℤ) × Adds script (volume_line n) (volume_answer (u +ℤ v))
-    × Adds (script ++ split_line n a b c d m) (volume_line n) (volume_answer u) × Adds (script ++ split_line n a b c d m) (volume_line m) (volume_answer v)
+PartsShareVolumes = (script line one other : List ℕ) (n m : ℕ) (a b c d z : ℤ) → EndsLine script → Spells line (Change (change.Split n a b c d m)) → Spells one (Ask (question.Volume n)) → Spells other (Ask (question.Volume m))
+    → Adds script (ended one) (volume_answer z) → Adds script (ended line) (codes "ok\n")
+    → (u : ℤ) × (v : ℤ) × Adds script (ended one) (volume_answer (u +ℤ v)) × Adds (script ++ ended line) (ended one) (volume_answer u) × Adds (script ++ ended line) (ended other) (volume_answer v)
+
+-- what becomes of volumes behind a sweep of face f by d: that of one solid grows by three times what the numbers that the plane of f was answered
+-- make of d, and every other one is answered as before
+pub record VolumesGrow (script line : List ℕ) (f : ℕ) (d : Point) : Type 0 where
+  pub solid : ℕ
+  pub plane : Plane
+  pub flat : Bool
+  pub faced : (ask : List ℕ) → Spells ask (Ask (question.Plane f)) → Adds script (ended ask) (reply_text (reply.Plane plane flat))
+  pub grown : (ask : List ℕ) → Spells ask (Ask (question.Volume solid))
+      → (u : ℤ) × Adds script (ended ask) (volume_answer u) × Adds (script ++ ended line) (ended ask) (volume_answer (u +ℤ pos 3 *ℤ dot (direction plane) d))
+  pub others : (ask text : List ℕ) (n : ℕ) → n ≢ solid → Spells ask (Ask (question.Volume n)) → Adds script (ended ask) text → Adds (script ++ ended line) (ended ask) text
+
+abbrev pub SweepsMeasure : Type 0
+SweepsMeasure = (script line : List ℕ) (f : ℕ) (d : Point) → EndsLine script → Spells line (Change (change.Sweep f d)) → Adds script (ended line) (codes "ok\n") → VolumesGrow script line f d
+
+-- what becomes of volumes behind a glue: one solid has that of two, and the other is gone
+pub record VolumesJoin (script line : List ℕ) : Type 0 where
+  pub first : ℕ
+  pub second : ℕ
+  pub joined : (one other : List ℕ) → Spells one (Ask (question.Volume first)) → Spells other (Ask (question.Volume second))
+      → (u : ℤ) × (v : ℤ) × Adds script (ended one) (volume_answer u) × Adds script (ended other) (volume_answer v) × Adds (script ++ ended line) (ended one) (volume_answer (u +ℤ v))
+  pub gone : (other : List ℕ) → Spells other (Ask (question.Volume second)) → Adds (script ++ ended line) (ended other) (reply_text (reply.Refused (why.code_of NoSolid) second))
+
+abbrev pub GluesMeasure : Type 0
+GluesMeasure = (script line : List ℕ) (f g : ℕ) → EndsLine script → Spells line (Change (change.Glue f g)) → Adds script (ended line) (codes "ok\n") → VolumesJoin script line
 
 -- ---- replies
 

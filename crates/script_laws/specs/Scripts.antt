@@ -4,6 +4,9 @@ use Rattle.std.specs.Io.KnownBytes.{Consumes, Appends, IsAtEnd}
 use Rattle.std.specs.List.{AllByRecursion}
 use Rattle.script_reader.specs.Lines.{lines_of}
 use Rattle.script_reader.specs.Words.{words}
+use Rattle.commands.specs.declared.command.Change.{Change}
+use Rattle.commands.specs.declared.command.Command.TheVariants as command
+use Rattle.script_running.specs.Laws.{AsksFor}
 use Rattle.script_running.specs.Output.{output_of}
 use Rattle.script_running.specs.declared.script_judging.judging.Summary.{Summary}
 
@@ -41,11 +44,15 @@ oks text = count_lines (codes "ok") (lines_of text)
 abbrev pub Adds : List ℕ → List ℕ → List ℕ → Type 0
 Adds script more reply = answers (script ++ more) ≡ answers script ++ reply
 
--- The text has an answer to each line in turn, behind the script: that which the script and the lines before it are given, but a line that is
--- answered `memory` counts as if it hadn't been there.
+-- the line asks for a change of the model: an operator or a larger command
+abbrev pub AsksForChange : List ℕ → Type 0
+AsksForChange line = (c : Change) × AsksFor line (command.Change c)
+
+-- The text has an answer to each line in turn, behind the script: that which the script and the lines before it are given; but a line that asks for
+-- a change may be answered `memory`, and then counts as if it hadn't been there.
 abbrev pub Tells : List ℕ → List (List ℕ) → List ℕ → Type 0
 Tells script [] text = text ≡ []
-Tells script (line ∷ lines) text = ((rest : List ℕ) × (text ≡ codes "memory\n" ++ rest) × Tells script lines rest)
+Tells script (line ∷ lines) text = (AsksForChange line × ((rest : List ℕ) × (text ≡ codes "memory\n" ++ rest) × Tells script lines rest))
     ⊎ ((reply : List ℕ) × (rest : List ℕ) × Adds script (ended line) reply × (text ≡ reply ++ rest) × Tells (script ++ ended line) lines rest)
 
 -- what comes behind one script is answered as it is behind the other, where it is of this kind

@@ -16,19 +16,22 @@
 //! where `list` is answered `empty` (`undos_lead_back`). Behind two scripts that come to equal listings all but undo and redo is
 //! answered alike (`equal_listings_go_on_alike`). Behind a block that was answered `ok`, `volume` is answered six times the product of its
 //! sizes (`blocks_measure`), and behind a split the volumes of both parts, which sum to what was answered before (`parts_share_volumes`).
+//! Behind a sweep one volume has grown by what the plane of the face tells (`sweeps_measure`); behind a glue one is the sum of two
+//! (`glues_measure`). These laws speak of any line that spells such a command (`Spells`); `lines_spell` names the plainest.
 //! A text begins with one reply at most, whose numbers tell why (`replies_tell`).
 
 ghost use Rattle.std.specs.Prelude.{IfOk};
-ghost use Rattle.script_laws.specs.Laws.{RunsAnswer, RunsTell, BrokenRunsTell, FailedRunsTell, AnsweredSo, AnswersStay, OthersCanBeLeftOut, UndoAndRedoCanBeLeftOut, UndoneLinesCanBeLeftOut, UndosLeadBack, SomeUndosLeadBack, EqualListingsGoOnAlike, BlocksMeasure, PartsShareVolumes, RepliesTell, RefusalsTell, FaultsTell};
+ghost use Rattle.script_laws.specs.Laws.{RunsAnswer, RunsTell, BrokenRunsTell, FailedRunsTell, AnsweredSo, AnswersStay, OthersCanBeLeftOut, UndoAndRedoCanBeLeftOut, UndoneLinesCanBeLeftOut, UndosLeadBack, SomeUndosLeadBack, EqualListingsGoOnAlike, BlockLinesSpell, SplitLinesSpell, VolumeLinesSpell, BlocksMeasure, PartsShareVolumes, SweepsMeasure, GluesMeasure, RepliesTell, RefusalsTell, FaultsTell};
 ghost use Rattle.script_laws.specs.Scripts.{Answered};
 
-use command_laws::solids_are_there;
+use command_laws::{glues_keep_and_join, solids_are_there};
+use gluing::glue_measures;
 use plane_split::splits_are_held;
 use script_running::{RunFault, Summary, lines_are_calls, run};
 use solid_listing::listing_tells;
 use std::alloc::Global;
 use std::io::{Read, Write};
-use sweeps::block_measures;
+use sweeps::{block_measures, sweep_measures};
 
 /// Runs a script to its end. What is written is told of the bytes read alone, by `answers`, of which the laws below speak.
 pub fn answer_script<R: Read + Drop, W: Write>(
@@ -96,6 +99,13 @@ pub fn equal_listings_go_on_alike()
     listing_tells();
 }
 
+/// The plainest lines, with one blank between words, spell a block, a split, and the question for a volume.
+pub fn lines_spell()
+    ensures block { BlockLinesSpell }
+    ensures split { SplitLinesSpell }
+    ensures volume { VolumeLinesSpell }
+{}
+
 /// Behind a block that was answered `ok`, its volume is answered: six times the product of its sizes.
 pub fn blocks_measure()
     ensures { BlocksMeasure }
@@ -111,6 +121,25 @@ pub fn parts_share_volumes()
 {
     lines_are_calls();
     splits_are_held();
+}
+
+/// Behind a sweep that was answered `ok` the volume of one solid has grown by three times what the numbers that the plane of the face was
+/// answered make of the vector; every other one is answered as before.
+pub fn sweeps_measure()
+    ensures { SweepsMeasure }
+{
+    lines_are_calls();
+    sweep_measures();
+    solids_are_there();
+}
+
+/// Behind a glue that was answered `ok` one solid has the volumes of two, and the other is gone.
+pub fn glues_measure()
+    ensures { GluesMeasure }
+{
+    lines_are_calls();
+    glue_measures();
+    glues_keep_and_join();
 }
 
 /// A text begins with one reply at most, so that answers without listings are cut into replies in one way. The number of a refusal tells why,
