@@ -10,7 +10,7 @@ from support import COMPANIONS, examples, run
 
 from gwb.version import VERSION
 
-LISTING_PROGRAMS = ('check', 'mesh', 'script', 'step', 'svg')
+LISTING_PROGRAMS = ('check', 'dxf', 'mesh', 'script', 'step', 'svg')
 PROGRAMS = (*LISTING_PROGRAMS, 'explain', 'import', 'shell', 'view')
 
 

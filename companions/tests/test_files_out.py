@@ -132,8 +132,23 @@ class Comments(InFolder):
         back = self.file('back.step', step)
         self.assertEqual(run('import', back).out.splitlines()[:3], list(comments(LOOKS)))
 
+    def test_groups_of_obj_are_written_where_they_are_asked_for(self):
+        """Many programs take each group for a mesh, so that a solid would fall apart."""
+        listed = self.file('part.txt', TWO)
+        plain, grouped = run('mesh', '--form', 'obj', listed).out, run('mesh', '--form', 'obj', '--groups', listed).out
+        self.assertEqual([line for line in plain.splitlines() if line[:2] in ('o ', 'g ')], ['o solid_1', 'o solid_2'])
+        self.assertEqual([line for line in grouped.splitlines() if not line.startswith('g ')], plain.splitlines())
+        self.assertEqual(grouped.count('g face_'), 12)
+        self.assertEqual(self.looks_back('part.obj', grouped), {})
+
+    def test_a_material_stands_where_it_changes(self):
+        text = obj_text(mesh_of(model_in(TWO)), LOOKS, 'colours.mtl')
+        used = [line for line in text.splitlines() if line.startswith(('usemtl', 'o '))]
+        self.assertTrue(all(one != other for one, other in zip(used, used[1:])), used)
+
     def test_words_that_do_not_go_together(self):
         listed = self.file('part.txt', TWO)
+        self.assertEqual(run('mesh', '--groups', listed).status, 2)
         self.assertEqual(run('mesh', '--materials', 'x.mtl', listed).status, 2)
         self.assertEqual(run('mesh', '--names', '/nowhere', listed).status, 3)
 

@@ -35,6 +35,7 @@ def refused(text, **words):
 
 
 FILES = {
+    'assimp_halves.glb': [holds(96 * 10 ** 9, 96 * 10 ** 9, box=((0, -6000, 0), (6000, 0, 6000)))],
     'blender_angle.stl': [holds(2625, box=((0, 0, 0), (40, 40, 7)))],
     'blender_cut.stl': [holds(840, box=((0, 0, 0), (10, 10, 10)))],
     'blender_flipped.obj': [refused('part 1 (flip): face that turns: at the edge from (2 0 0) to (2 0 -3) both faces run the same way, and 3 more'),

@@ -9,8 +9,9 @@ from ..geometry.model import Model
 from ..geometry.plane_figures import Exact, turn
 from ..geometry.touched_edges import TouchedEdges, touched_edges
 from ..geometry.triangulation import face_triangles
-from ..geometry.vectors import Vector, ZERO, dot, flat_axes, same_direction, total
-from .hidden_lines import Piece, Scene
+from ..geometry.vectors import Vector, dot, flat_axes, total
+from .drawn_edges import KINDS, DrawnEdges
+from .hidden_lines import Piece
 from .labels import Label, Placed, place
 from .view import View
 
@@ -61,11 +62,10 @@ class _Drawing:
 
     def __init__(self, model: Model, view: View, size: int) -> None:
         self._model, self._view = model, view
-        self._scene = Scene(model, view)
+        self._drawn = DrawnEdges(model, view)
+        self._scene = self._drawn.scene
         self._frame = _Frame(list(self._scene.spots.values()), view, size)
         self._touched = touched_edges(model)
-        self._normals = {face: normal(model, face) for face in model.faces}
-        self._pieces = {edge: self._scene.pieces(edge) for edge in model.edges}
         self._colours = dict(zip(model.solids, cycle(_COLOURS))) if len(model.solids) > 1 else {}
 
     def lines(self, names: Sequence[Label], hidden: bool) -> Iterator[str]:
@@ -82,11 +82,10 @@ class _Drawing:
         yield '</svg>'
 
     def _edges(self, classes: Sequence[str]) -> Iterator[str]:
-        drawn: Dict[str, Dict[str, List[str]]] = {name: {} for name in ('hidden', 'seam', 'visible')}
-        for edge, pieces in self._pieces.items():
-            seen = 'seam' if self._is_seam(edge) else 'visible'
+        drawn: Dict[str, Dict[str, List[str]]] = {name: {} for name in KINDS}
+        for edge, pieces in self._drawn.pieces.items():
             for piece in pieces:
-                name = 'hidden' if piece.hidden else seen
+                name = self._drawn.kind(edge, piece)
                 drawn[name].setdefault(self._ink(name, edge), []).append(self._line(edge, piece))
         for name in classes:
             for ink, lines in drawn[name].items():
@@ -107,18 +106,12 @@ class _Drawing:
             numbers = ' '.join(f'<tspan style="fill: {colour}">{solid}</tspan>' for solid, colour in self._colours.items())
             yield f'<text x="6" y="16" style="text-anchor: start">solids {numbers}</text>'
 
-    def _is_seam(self, edge: int) -> bool:
-        """Whether the edge lies within a plane: between two faces that look the same way, or within one face."""
-        across, beyond = (self._normals[self._model.face_of(half)] for half in (edge, -edge))
-        return across != ZERO and beyond != ZERO and same_direction(across, beyond)
-
     def _line(self, edge: int, piece: Piece) -> str:
         (x1, y1), (x2, y2) = (self._on_edge(edge, float(way)) for way in (piece.start, piece.end))
         return f'<line x1="{x1:.2f}" y1="{y1:.2f}" x2="{x2:.2f}" y2="{y2:.2f}"/>'
 
     def _on_edge(self, edge: int, way: float) -> Tuple[float, float]:
-        (ax, ay), (bx, by) = (self._scene.spots[vertex] for vertex in self._model.edges[edge])
-        return self._frame.place(ax + way * (bx - ax), ay + way * (by - ay))
+        return self._frame.place(*self._drawn.on_screen(edge, way))
 
     def _lone_vertices(self) -> Iterator[str]:
         for face in self._model.faces.values():
@@ -134,11 +127,11 @@ class _Drawing:
         return place(sorted(self._names(), key=lambda label: (label.kind.endswith(' away'), _BY_WORTH.index(label.kind.split(' ')[0]))))
 
     def _names(self) -> Iterator[Label]:
-        seen = {vertex for edge, pieces in self._pieces.items() for vertex in self._seen_ends(edge, pieces)}
+        seen = {vertex for edge, pieces in self._drawn.pieces.items() for vertex in self._seen_ends(edge, pieces)}
         for vertex, spot in self._scene.spots.items():
             x, y = self._frame.place(*spot)
             yield _label('vertex', vertex, x + 9, y - 4, away=vertex not in seen)
-        for edge, pieces in self._pieces.items():
+        for edge, pieces in self._drawn.pieces.items():
             if pieces:
                 piece = max(pieces, key=lambda piece: (not piece.hidden, piece.end - piece.start))
                 x, y = self._on_edge(edge, float(piece.start + piece.end) / 2)
@@ -158,7 +151,7 @@ class _Drawing:
         point, weight = _middle(self._model, face, self._touched)
         spot = self._view.spot(point)
         x, y = self._frame.place(spot[0] / weight, spot[1] / weight)
-        turned = dot(self._normals[face], self._view.into) > 0
+        turned = dot(self._drawn.normals[face], self._view.into) > 0
         return _label('face', face, x, y + (17 if turned else 4), away=turned or self._scene.is_hidden(point, spot, weight))
 
 

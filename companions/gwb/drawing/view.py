@@ -13,16 +13,16 @@ class View:
 
     def __init__(self, stand: Vector) -> None:
         """The viewer stands in this direction, which isn't zero, from the model."""
-        self.into = negative(reduced(stand))
+        self.into: Vector = negative(reduced(stand))
         level = (self.into[1], -self.into[0], 0)
-        self._across = (1, 0, 0) if level == ZERO else level
-        self._up = cross(self._across, self.into)
+        self.across: Vector = (1, 0, 0) if level == ZERO else level
+        self.up = cross(self.across, self.into)
 
     def spot(self, point: Vector) -> Spot:
         """Where the point lies on the screen."""
-        return (dot(self._across, point), dot(self._up, point))
+        return (dot(self.across, point), dot(self.up, point))
 
     @property
     def units(self) -> Tuple[float, float]:
         """How long a step across and one up are, in lengths of the model."""
-        return (1 / sqrt(dot(self._across, self._across)), 1 / sqrt(dot(self._up, self._up)))
+        return (1 / sqrt(dot(self.across, self.across)), 1 / sqrt(dot(self.up, self.up)))

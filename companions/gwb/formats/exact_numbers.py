@@ -25,6 +25,13 @@ def exact(word: str) -> Exact:
     return value.numerator if value.denominator == 1 else value
 
 
+def of_float(part: float) -> Exact:
+    """The number that a float holds. Raises NotANumber where it is none, or endless."""
+    if part != part or part in (float('inf'), float('-inf')):
+        raise NotANumber('a coordinate is no number, or endless')
+    return int(part) if part == int(part) else Fraction(part)
+
+
 def exact_or_ratio(word: str) -> Exact:
     """As exact, but the word may be a ratio of two whole numbers too, such as 5/127."""
     if not _RATIO.fullmatch(word):

@@ -3,6 +3,7 @@
 from typing import Callable, Dict
 
 from .appearance import Said
+from .glb import glb_bytes
 from .mesh import Mesh
 from .obj import obj_text
 from .off import off_text
@@ -14,4 +15,5 @@ FORMS: Dict[str, Callable[[Mesh, Said], bytes]] = {
     'obj': lambda mesh, said: obj_text(mesh, said.looks, unit=said.unit).encode('utf-8'),
     'stl': lambda mesh, said: stl_text(mesh, said.unit).encode('ascii'),
     '3mf': lambda mesh, said: three_mf_bytes(mesh, *said),
+    'glb': lambda mesh, said: glb_bytes(mesh, *said),
 }

@@ -123,12 +123,14 @@ class _Reader:
                 self._materials[material] = colour_of_parts(red, green, blue)
 
 
-def obj_text(mesh: Mesh, looks: Appearances = NO_APPEARANCES, materials: Optional[str] = None, unit: Fraction = Fraction(1)) -> str:
-    """The mesh as Wavefront OBJ, with an object for each solid and a group for each face, and the names of solids that are given.
+def obj_text(mesh: Mesh, looks: Appearances = NO_APPEARANCES, materials: Optional[str] = None, unit: Fraction = Fraction(1),
+             groups: bool = False) -> str:
+    """The mesh as Wavefront OBJ, with an object for each solid, and the names of solids that are given; with `groups` a group for each face,
+    which many programs take for a mesh of its own.
 
     With the name of a file of materials, whose text is mtl_text, solids and faces have their colours too.
     """
-    return '\n'.join([*unit_lines(unit), *_obj_lines(mesh, looks, materials)]) + '\n'
+    return '\n'.join([*unit_lines(unit), *_obj_lines(mesh, looks, materials, groups)]) + '\n'
 
 
 def mtl_text(looks: Appearances) -> str:
@@ -142,7 +144,7 @@ def _material(colour: Optional[Colour]) -> str:
     return PLAIN_MATERIAL if colour is None else f'colour_{hexadecimal(colour)[1:]}'
 
 
-def _obj_lines(mesh: Mesh, looks: Appearances, materials: Optional[str]) -> Iterator[str]:
+def _obj_lines(mesh: Mesh, looks: Appearances, materials: Optional[str], groups: bool) -> Iterator[str]:
     if materials is not None:
         yield f'mtllib {materials}'
     places = {vertex: place for place, vertex in enumerate(mesh.vertices, 1)}
@@ -151,8 +153,12 @@ def _obj_lines(mesh: Mesh, looks: Appearances, materials: Optional[str]) -> Iter
     names = unique_names(mesh.model.solids, looks, 'solid_')
     for solid in mesh.model.solids:
         yield 'o ' + ' '.join(names[solid].split())
+        used = ''
         for face in mesh.faces_of(solid):
-            yield f'g face_{face}'
-            if materials is not None:
-                yield f"usemtl {_material(look_of(looks, 'face', face).colour or look_of(looks, 'solid', solid).colour)}"
+            if groups:
+                yield f'g face_{face}'
+            material = _material(look_of(looks, 'face', face).colour or look_of(looks, 'solid', solid).colour)
+            if materials is not None and material != used:
+                yield f'usemtl {material}'
+                used = material
             yield from ('f {} {} {}'.format(*(places[vertex] for vertex in triangle)) for triangle in mesh.faces[face])

@@ -2,13 +2,11 @@
 
 import io
 import struct
-from fractions import Fraction
 from typing import Any, BinaryIO, Dict, Iterator, List, NamedTuple, Optional, Protocol, Sequence, Tuple
 
 from ..geometry.flat_face import ExactVector
-from ..geometry.plane_figures import Exact
 from .appearance import Colour
-from .exact_numbers import Numbers, shortened
+from .exact_numbers import Numbers, of_float, shortened
 from .parts import Gathered, NotAMesh, Part
 
 _TYPES = {'char': 'b', 'int8': 'b', 'uchar': 'B', 'uint8': 'B', 'short': 'h', 'int16': 'h', 'ushort': 'H', 'uint16': 'H', 'int': 'i',
@@ -140,7 +138,7 @@ class _BinaryRows:
 
     def _value(self, held: _Property) -> Any:
         if not held.counts:
-            return _exactly(self._numbers(held.kind, 1)[0])
+            return of_float(self._numbers(held.kind, 1)[0])
         count, = self._numbers(held.counts, 1)
         return self._numbers(held.kind, int(count))
 
@@ -150,10 +148,3 @@ class _BinaryRows:
         if len(data) != size:
             raise NotAMesh('it is shorter than its head says')
         return struct.unpack(f'{self._order}{count}{kind}', data)
-
-
-def _exactly(part: float) -> Exact:
-    """The number, exactly. Raises NotAMesh where it is none."""
-    if part != part or part in (float('inf'), float('-inf')):
-        raise NotAMesh('a value is no number, or endless')
-    return int(part) if part == int(part) else Fraction(part)

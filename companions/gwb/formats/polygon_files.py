@@ -8,6 +8,7 @@ from pathlib import Path
 from typing import Callable, Dict, Iterator, List, Optional
 
 from .amf import amf_parts
+from .glb import MAGIC, glb_parts
 from .obj import Beside, obj_parts
 from .off import HEADER, off_parts
 from .parts import NotAMesh, Part
@@ -17,7 +18,7 @@ from .stl import fits_binary, is_binary, stl_parts
 from .text_lines import Text, as_utf_8, whole_text
 from .three_mf.read import three_mf_parts
 
-FORMS = ('off', 'obj', 'stl', '3mf', 'ply', 'amf', 'step')
+FORMS = ('off', 'obj', 'stl', '3mf', 'ply', 'amf', 'step', 'glb')
 _ENDINGS = {**{form: form for form in FORMS}, 'stp': 'step', 'p21': 'step'}
 # The forms that are text; STL may be.
 _TEXTS = ('off', 'obj', 'stl', 'step')
@@ -37,7 +38,7 @@ def read_parts(data: bytes, form: str, beside: Optional[Beside] = None, flat: bo
     Raises NotAMesh or Unfit, with the place, where it can't be read.
     """
     readers: Dict[str, Callable[[bytes], Iterator[Part]]] = {
-        'off': off_parts, 'stl': stl_parts, '3mf': three_mf_parts, 'ply': ply_parts, 'amf': amf_parts,
+        'off': off_parts, 'stl': stl_parts, '3mf': three_mf_parts, 'ply': ply_parts, 'amf': amf_parts, 'glb': glb_parts,
         'obj': lambda held: obj_parts(held, beside or (lambda name: None)), 'step': lambda held: step_parts(whole_text(held), flat)}
     if not data:
         raise NotAMesh('the file is empty')
@@ -66,6 +67,8 @@ def form_of(data: bytes, name: str) -> str:
     ending = _ENDINGS.get(name.lower().rpartition('.')[2], '')
     if begin.startswith(b'PK'):
         return ending if ending in ('3mf', 'amf') else '3mf'
+    if data.startswith(MAGIC):
+        return 'glb'
     if begin.startswith(b'ISO-10303-21'):
         return 'step'
     if words[0] == b'ply':

@@ -6,11 +6,10 @@ from math import sqrt
 from typing import Dict, Iterator, List, NamedTuple, Optional, Sequence, Tuple
 
 from ..geometry.flat_face import ExactVector
-from ..geometry.plane_figures import Exact
 from ..geometry.vectors import Vector, cross, subtract
 from ..scripts.unit_comments import unit_line
 from .appearance import Appearance
-from .exact_numbers import NotANumber, Numbers, shortened
+from .exact_numbers import NotANumber, Numbers, of_float, shortened
 from .mesh import Mesh
 from .parts import Gathered, NotAMesh, Part, require_few
 from .text_lines import numbered_words
@@ -148,15 +147,8 @@ def _float_corner(corner: Tuple[float, ...], places: _Places) -> int:
     place = places.known(corner)
     if place is not None:
         return place
-    try:
-        x, y, z = (_exactly(part) for part in corner)
-    except (ValueError, OverflowError):
-        raise NotAMesh('a facet has a corner that is no number, or endless') from None
+    x, y, z = map(of_float, corner)
     return places.put(corner, (x, y, z))
-
-
-def _exactly(part: float) -> Exact:
-    return int(part) if part == int(part) else Fraction(part)
 
 
 def stl_text(mesh: Mesh, unit: Fraction = Fraction(1)) -> str:

@@ -1,4 +1,4 @@
-"""gwb-mesh: writes a listing as a mesh of triangles: OFF, OBJ, STL or 3MF."""
+"""gwb-mesh: writes a listing as a mesh of triangles: OFF, OBJ, STL, 3MF or GLB."""
 
 import argparse
 import os
@@ -25,10 +25,13 @@ def work(words: Optional[Sequence[str]]) -> int:
     parser = listing_parser(PROGRAM, 'Writes a listing of gwb as a mesh of triangles, triangulated exactly.')
     parser.add_argument('--form', choices=FORMS, default='off', help='the form of the mesh (default: off)')
     parser.add_argument('--materials', metavar='FILE', help='with --form obj: write the colours to this file, which the mesh names')
+    parser.add_argument('--groups', action='store_true', help='with --form obj: a group for each face, which many programs take for a mesh of its own')
     add_names(parser)
     options = parser.parse_args(words)
     if options.materials is not None and options.form != 'obj':
         parser.error('argument --materials: it goes with --form obj')
+    if options.groups and options.form != 'obj':
+        parser.error('argument --groups: it goes with --form obj')
     said = said_by(options)
     mesh = mesh_of(filled_model(options))
     write_bytes(_written(mesh, options, said))
@@ -40,11 +43,13 @@ def work(words: Optional[Sequence[str]]) -> int:
 
 def _written(mesh: Mesh, options: argparse.Namespace, said: Said) -> bytes:
     """The mesh in the form that the words want; the file of materials is written on the way."""
-    if options.form != 'obj' or options.materials is None:
+    if options.form != 'obj':
         return FORMS[options.form](mesh, said)
+    if options.materials is None:
+        return obj_text(mesh, said.looks, None, said.unit, options.groups).encode('utf-8')
     with open(options.materials, 'w', encoding='utf-8') as file:
         file.write(mtl_text(said.looks))
-    return obj_text(mesh, said.looks, os.path.basename(options.materials), said.unit).encode('utf-8')
+    return obj_text(mesh, said.looks, os.path.basename(options.materials), said.unit, options.groups).encode('utf-8')
 
 
 def warn_of_touching(model: Model, form: str) -> None:

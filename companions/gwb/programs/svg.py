@@ -12,7 +12,8 @@ PROGRAM = 'gwb-svg'
 SIZES = range(100, 10_001)
 
 
-def _view_step(word: str) -> int:
+def view_step(word: str) -> int:
+    """A whole number of a direction. Raises ArgumentTypeError."""
     try:
         step = int(word)
     except ValueError:
@@ -32,7 +33,7 @@ def work(words: Optional[Sequence[str]]) -> int:
     """Reads a listing and draws it."""
     parser = listing_parser(PROGRAM, 'Draws a listing of gwb as SVG: visible edges black, or each solid of several in its colour; '
                                      'hidden ones thin and dashed (found exactly), seams between faces of one plane grey.')
-    parser.add_argument('--view', nargs=3, type=_view_step, default=(2, -3, 2), metavar=('X', 'Y', 'Z'),
+    parser.add_argument('--view', nargs=3, type=view_step, default=(2, -3, 2), metavar=('X', 'Y', 'Z'),
                         help='the viewer stands in this direction, z is up (default: 2 -3 2)')
     parser.add_argument('--names', action='store_true',
                         help='with the numbers of faces (green), edges (blue) and vertices (red); pale where they are hidden')
