@@ -42,13 +42,18 @@ class Reading(unittest.TestCase):
             data = ''.join(chance.choice(lines[:7 + (chance.random() < .1)]) + '\n' for _ in range(chance.randrange(9))).encode()
             with self.subTest(data), mock.patch('gwb.protocol.replies._BLOCK', chance.choice((1, 20, 1_000_000))):
                 try:
-                    listings = [reply for reply in split_replies(data) if reply.is_listing]
+                    replies = split_replies(data)
+                    listings = [reply for reply in replies if reply.is_listing]
+                    words = [reply.word for reply in replies]
+                    later = next((words[::-1][:place].count('ok') for place, reply in enumerate(replies[::-1]) if reply.is_listing), 0)
                 except NotReplies as error:
                     with self.assertRaisesRegex(NotReplies, re.escape(str(error))):
                         last_listing(data)
                     outcomes.add('refused')
                 else:
-                    self.assertEqual(last_listing(data), listings[-1] if listings else None)
+                    found = last_listing(data)
+                    self.assertEqual(found and found.reply, listings[-1] if listings else None)
+                    self.assertEqual(found.later if found else 0, later)
                     outcomes.add(len(listings))
         self.assertLessEqual({'refused', 0, 1, 2}, outcomes)
 

@@ -2,6 +2,7 @@
 
 import json
 import re
+import subprocess
 import tempfile
 import unittest
 from pathlib import Path
@@ -47,7 +48,7 @@ class Pages(unittest.TestCase):
     def test_it_stands_alone_and_is_small(self):
         for script in (script for script in examples() if script.stem in stored_models()):
             outcome = run('view', str(script.with_suffix('.expected')))
-            self.assertEqual((outcome.status, outcome.err), (0, ''))
+            self.assertEqual((outcome.status, [line for line in outcome.err.splitlines() if 'changed the model after this listing' not in line]), (0, []))
             self.assertLess(len(outcome.out) - len(json.dumps(data_of(outcome.out))), 90_000)
             self.assertNotRegex(outcome.out, r'https?:|src=|@import|fetch\(|<link')
             self.assertTrue(outcome.out.isascii())
@@ -181,19 +182,76 @@ class Damaged(unittest.TestCase):
             with self.subTest(name):
                 self.refused(data)
 
-    def test_a_script_in_place_of_replies(self):
-        for script in examples():
-            self.assertIn('this is a script', self.refused(script.read_bytes()))
-
     def test_replies_in_place_of_a_script(self):
         for data in (BLOCK.encode(), b'ok\nok\n', b'refused 1 0\n', BLOCK.replace('\n', '\r\n').encode()):
             self.assertIn('these are replies', self.refused(data, '--steps'))
         self.assertIn('no command', self.refused(b'# nothing\n\n', '--steps'))
 
+    def test_a_script_without_a_solid(self):
+        program()
+        self.assertIn('the model is empty', self.refused(b'block 1 0 0 0 1 1 1\nundo\n'))
+        self.assertIn('there is no solid 2', self.refused(b'block 1 0 0 0 1 1 1\n', '--solid', '2'))
+
     def test_words(self):
         for words in (['--solid', 'x'], ['--nonsense'], ['--steps', '--solid', '1']):
             self.assertEqual(run('view', *words).status, 2)
         self.assertEqual(run('view', '/nowhere/at/all').status, 3)
+
+
+class Scripts(unittest.TestCase):
+    """A script in the place of replies is run to its end."""
+
+    SCRIPT = (b'# solid 1 name "Lid" colour #FF8000\n# unit 1/6\nblock 1 0 0 0 4 4 4\nlist\nmev +1 +1 3 2 9 9 9\n'
+              b'split 1 0 0 1 -2 2\nblock 3 9 9 9 1 1 1\n')
+
+    def viewed(self, data, *words):
+        with tempfile.TemporaryDirectory() as folder:
+            path = Path(folder, 'part')
+            path.write_bytes(data)
+            outcome = run('view', *words, str(path))
+        self.assertEqual(outcome.status, 0, outcome.err)
+        return outcome
+
+    def test_its_end_is_shown(self):
+        program()
+        outcome = self.viewed(self.SCRIPT)
+        data = data_of(outcome.out)
+        self.assertEqual(len(data['frames']), 1)
+        self.assertEqual((data['names'], data['colours']), ({'s1': 'Lid'}, {'s1': '#ff8000'}))
+        self.assertIn('<title>part, unit 1/6</title>', outcome.out)
+        self.assertEqual(outcome.err, 'gwb-view: line 5: mev +1 +1 3 2 9 9 9: refused 9 3: EdgeTaken: edge 3 is in use\n')
+        listed = subprocess.run([program()], input=self.SCRIPT + b'list\n', capture_output=True, check=False).stdout
+        self.assertEqual(data['frames'][0]['change'], data_of(self.viewed(listed).out)['frames'][0]['change'])
+        self.assertEqual(data_of(self.viewed(self.SCRIPT, '--solid', '2').out)['frames'][0]['change'],
+                         data_of(self.viewed(listed, '--solid', '2').out)['frames'][0]['change'])
+
+    def test_many_complaints(self):
+        program()
+        err = self.viewed(b'block 1 0 0 0 1 1 1\n' + b'kvfs 9\n' * 8).err.splitlines()
+        self.assertEqual((len(err), err[-1]), (6, 'gwb-view: 3 more complaints'))
+
+    def test_names_of_a_script(self):
+        with tempfile.TemporaryDirectory() as folder:
+            script = Path(folder, 'names.gwb')
+            script.write_bytes(self.SCRIPT)
+            for words in (['--names', str(script)], []):
+                data = data_of(self.viewed(BLOCK.encode(), *words).out)
+                self.assertEqual(data['names'], {'s1': 'Lid'} if words else {})
+
+
+class Later(unittest.TestCase):
+    """Commands after the last listing are told."""
+
+    def test_how_many(self):
+        for replies, said in ((BLOCK, ''), (BLOCK + 'volume 6\nrefused 1 0\n', ''), ('ok\n' + BLOCK, ''), (BLOCK + 'ok\n' + BLOCK, ''),
+                              (BLOCK + 'ok\n', '1 command changed'), (BLOCK + 'ok\n' * 1200 + 'volume 6\n', '1,200 commands changed')):
+            with tempfile.TemporaryDirectory() as folder:
+                path = Path(folder, 'replies')
+                path.write_text(replies)
+                for name in ('view', 'check', 'svg', 'mesh', 'step', 'dxf'):
+                    told = f'gwb-{name}: warning: {said} the model after this listing: `list` at the end of the script lists what it leaves\n'
+                    outcome = run(name, str(path))
+                    self.assertEqual((outcome.status, outcome.err), (0, told if said else ''))
 
 
 if __name__ == '__main__':

@@ -7,7 +7,7 @@ from typing import Callable, Optional, Sequence
 
 from ..errors import CompanionError
 from ..geometry.model import Model
-from ..protocol.listing import read_model
+from ..protocol.listing import Listed, read_listed
 from ..version import VERSION
 
 OK, FOUND, REFUSED, INTERRUPTED = 0, 1, 3, 130
@@ -68,7 +68,15 @@ def listing_parser(program: str, description: str) -> argparse.ArgumentParser:
     parser.add_argument('listing', nargs='?', metavar='FILE', help='replies of gwb with a listing (default: standard input)')
     parser.add_argument('--solid', type=int, metavar='S', help='take solid S alone')
     add_version(parser)
+    parser.set_defaults(program=program)
     return parser
+
+
+def warn_of_later(program: str, listed: Listed) -> None:
+    """One line on standard error where commands changed the model after it was listed."""
+    if listed.later:
+        commands = '1 command changed' if listed.later == 1 else f'{listed.later:,} commands changed'
+        print(f'{program}: warning: {commands} the model after this listing: `list` at the end of the script lists what it leaves', file=sys.stderr)
 
 
 def filled_model(options: argparse.Namespace) -> Model:
@@ -81,7 +89,9 @@ def filled_model(options: argparse.Namespace) -> Model:
 
 def wanted_model(options: argparse.Namespace) -> Model:
     """The model that the words of listing_parser name."""
-    model = read_model(read_bytes(options.listing))
+    listed = read_listed(read_bytes(options.listing))
+    warn_of_later(options.program, listed)
+    model = listed.model
     if options.solid is None:
         return model
     if options.solid not in model.solids:

@@ -16,8 +16,10 @@ def add_names(parser: argparse.ArgumentParser) -> None:
 
 def said_by(options: argparse.Namespace) -> Said:
     """What the script says; nothing where no script is named. The last unit counts."""
-    if options.names is None:
-        return Said()
-    data = read_bytes(options.names)
+    return Said() if options.names is None else said_in(read_bytes(options.names))
+
+
+def said_in(data: bytes) -> Said:
+    """What the comments of a script say."""
     units = [unit for unit in map(unit_in, data.split(b'\n')) if unit is not None]
     return Said(appearances_in(data.decode('utf-8', 'replace').splitlines()), units[-1] if units else Fraction(1))

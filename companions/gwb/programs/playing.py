@@ -46,6 +46,28 @@ def played(script: bytes) -> Played:
     return run if is_right else _run(script, True)[0]
 
 
+class Ended(NamedTuple):
+    """The model that a script leaves, and what is said of each command that wasn't accepted, with its line."""
+
+    model: Model
+    complaints: List[str]
+
+
+def run_to_its_end(script: bytes) -> Ended:
+    """Runs the commands of a script through the program."""
+    pipe = Pipe(find_program())
+    complaints: List[str] = []
+    try:
+        for number, line in ((number, line) for number, line in enumerate(script.split(b'\n'), 1) if is_answered(line)):
+            reply = pipe.ask(line.decode('utf-8', 'surrogateescape'))
+            if reply.is_complaint:
+                told = shortened(line.decode('ascii', 'backslashreplace').strip(), 60)
+                complaints.append(f'line {number}: {told}: {_told(line, reply)}')
+        return Ended(pipe.model(), complaints)
+    finally:
+        pipe.close()
+
+
 def _run(script: bytes, is_read: bool) -> Tuple[Played, bool]:
     """Runs the script: what that gives, and whether the model that was followed is the program's."""
     pipe = Pipe(find_program())

@@ -1,6 +1,6 @@
 """Reads the listing of a model: the one module that knows how listings are written."""
 
-from typing import Dict, List, Sequence, Tuple
+from typing import Dict, List, NamedTuple, Sequence, Tuple
 
 from ..errors import NotAListing
 from ..geometry.free_numbers import KINDS
@@ -10,12 +10,24 @@ from .replies import Reply, last_listing
 from .soundness import require_sound
 
 
+class Listed(NamedTuple):
+    """The model of a listing, and how many commands changed it after that."""
+
+    model: Model
+    later: int
+
+
 def read_model(data: bytes) -> Model:
     """The model of the last listing among the replies that the bytes hold."""
+    return read_listed(data).model
+
+
+def read_listed(data: bytes) -> Listed:
+    """As read_model, with how many commands came after it."""
     listing = last_listing(data)
     if listing is None:
         raise NotAListing('there is no listing in it: the script needs the command `list`')
-    return model_of(listing)
+    return Listed(model_of(listing.reply), listing.later)
 
 
 def model_of(reply: Reply) -> Model:

@@ -72,29 +72,50 @@ def group_lines(lines: Iterable[str]) -> List[Reply]:
     return replies + ([Reply(tuple(cutting.listing))] if cutting.listing else [])
 
 
-def last_listing(data: bytes) -> Optional[Reply]:
+class LastListing(NamedTuple):
+    """A listing, and how many commands changed the model after it."""
+
+    reply: Reply
+    later: int
+
+
+def last_listing(data: bytes) -> Optional[LastListing]:
     """The last listing among the replies that the bytes hold, or None. No other reply is kept, so many of them take little memory and time."""
-    cutting = _Cutting()
-    last: List[str] = []
+    search = _Search()
     for block in _blocks(_text(data)):
-        last = _last_in(cutting, block, last)
-    last = cutting.listing or last
-    return Reply(tuple(last)) if last else None
+        search.take(block)
+    return search.found()
 
 
-def _last_in(cutting: '_Cutting', block: List[str], last: List[str]) -> List[str]:
-    """The last listing that ended in a block of lines, or the one that ended before it."""
-    if _are_plain(block):
-        last = cutting.listing or last
-        cutting.pass_over(len(block))
-        return last
-    for line in block:
-        begins, was_listing = cutting.take(line)
-        if was_listing:
-            last = cutting.ended
-        if begins and line == 'empty':
-            last = [line]
-    return last
+class _Search:
+    """Looks for the last listing, block by block."""
+
+    def __init__(self) -> None:
+        self._cutting = _Cutting()
+        self._last: List[str] = []
+        self._later = 0
+
+    def take(self, block: List[str]) -> None:
+        """A block of lines."""
+        if _are_plain(block):
+            self._last = self._cutting.listing or self._last
+            self._cutting.pass_over(len(block))
+            self._later += block.count('ok')
+            return
+        for line in block:
+            begins, was_listing = self._cutting.take(line)
+            if was_listing:
+                self._last = self._cutting.ended
+            if begins and line == 'empty':
+                self._last = [line]
+            if begins and (line == 'empty' or self._cutting.listing):
+                self._later = 0
+            self._later += line == 'ok'
+
+    def found(self) -> Optional[LastListing]:
+        """The last listing of all blocks, None where there is none."""
+        last = self._cutting.listing or self._last
+        return LastListing(Reply(tuple(last)), self._later) if last else None
 
 
 def _are_plain(block: List[str]) -> bool:
