@@ -13,7 +13,7 @@ import tempfile
 from pathlib import Path
 from typing import Iterator, NamedTuple
 
-from counts import TOP, needs, there, told
+from counts import TOP, command_line, needs, there, told
 
 CRATE = 'boundary_model'
 BELOW = ('lattice', 'cyclic_list')
@@ -79,6 +79,7 @@ def findings(folder: Path) -> Iterator[str]:
 
 
 def main() -> int:
+    command_line(__doc__)
     needs('rt')
     for crate in BELOW:
         there(TOP / 'crates' / crate / 'out' / 'rlib' / f'{crate}.rlib' / 'format', 'library')

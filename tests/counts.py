@@ -1,11 +1,26 @@
-"""What the tests share: the file that is tried, the tools that they need, and the last line, by which .ci/run counts them."""
+"""What the tests share: the command line, the file that is tried, the tools that they need, and the last line, by which .ci/run counts them."""
+import argparse
 import shutil
 import sys
 from pathlib import Path
-from typing import Iterable, Sequence, Union
+from typing import Iterable, Optional, Sequence, Union
 
 TOP = Path(__file__).resolve().parent.parent
 GWB = TOP / 'crates' / 'gwb' / 'out' / 'gwb'
+
+
+def command_line(doc: Optional[str], *flags: str, **words: object) -> argparse.Namespace:
+    """What the command line of a test says. Each word has a name, and the value that it has where it isn't given, or, where it has to be given, its
+    type. With `--help` the test prints what it does, and ends; what it doesn't take is refused with status 2."""
+    parser = argparse.ArgumentParser(description=doc, formatter_class=argparse.RawDescriptionHelpFormatter, allow_abbrev=False)
+    for name, value in words.items():
+        if isinstance(value, type):
+            parser.add_argument(name, metavar=name.upper(), type=value)
+        else:
+            parser.add_argument(name, metavar=name.upper(), type=int if isinstance(value, int) else str, nargs='?', default=value)
+    for flag in flags:
+        parser.add_argument(flag, action='store_true')
+    return parser.parse_args()
 
 
 def closing(passed: int, failed: int, skipped: int = 0) -> str:

@@ -12,7 +12,7 @@ import sys
 import tempfile
 
 import refused_growths
-from counts import GWB, TOP, needs, there, told
+from counts import GWB, TOP, command_line, needs, there, told
 
 WANTED = {'act': 'ok', 'draft': 'ok', 'copy': 'memory'}
 BLOCKS = 'block 1 0 0 0 4 4 4;block 2 0 0 4 4 4 4'
@@ -61,8 +61,8 @@ def listed(path):
 
 
 def main():
-    given = sys.argv[1:] + [TOP / 'crates' / 'direct_calls' / 'out' / 'direct_calls', GWB][len(sys.argv) - 1:]
-    path, gwb = map(there, given[:2])
+    given = command_line(__doc__, program=TOP / 'crates' / 'direct_calls' / 'out' / 'direct_calls', gwb=GWB)
+    path, gwb = there(given.program), there(given.gwb)
     needs('cc')
     begun = listed(gwb)
     with tempfile.TemporaryDirectory() as folder:

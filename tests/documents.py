@@ -15,7 +15,7 @@ import sys
 from pathlib import Path
 from typing import Dict, Iterator, List, NamedTuple, Set, Tuple
 
-from counts import GWB, TOP, there, told
+from counts import GWB, TOP, command_line, there, told
 
 sys.path.insert(0, str(TOP / 'companions'))
 
@@ -191,9 +191,9 @@ def findings(program: Path) -> Iterator[str]:
 
 
 def main() -> int:
-    words = [word for word in sys.argv[1:] if word != '--draw']
-    program = there(words[0] if words else GWB)
-    if '--draw' in sys.argv:
+    given = command_line(__doc__, '--draw', program=GWB)
+    program = there(given.program)
+    if given.draw:
         draw(program)
     try:
         found = list(findings(program))

@@ -1,11 +1,11 @@
 #!/usr/bin/env python3
-"""No test passes by not running, and the gate counts what its tests tell it.
+"""No test passes by not running, none begins where it is asked for help, and the gate counts what its tests tell it.
 
     tests/gate.py
 
-Each test that takes a program or a library is started on one that isn't there, and those that need tools where there are none. The gate,
-.ci/run, is run in a folder of its own, in which `rt`, .ci/needs, .ci/archive and all tests are stubs that print what they are to. The last
-line counts.
+Each test that takes a program or a library is started on one that isn't there, and those that need tools where there are none. Each is asked for
+help, and given a word that it doesn't take. The gate, .ci/run, is run in a folder of its own, in which `rt`, .ci/needs, .ci/archive and all tests
+are stubs that print what they are to. The last line counts.
 """
 import os
 import shutil
@@ -15,7 +15,7 @@ import tempfile
 from pathlib import Path
 from typing import Dict, Iterator, List, NamedTuple, Sequence
 
-from counts import TOP, told
+from counts import TOP, command_line, told
 
 NOWHERE = '/nowhere'
 # Each test on a file that isn't there; what stands in the place of the other files is one that is.
@@ -59,14 +59,26 @@ def without_tools(folder: Path) -> Iterator[str]:
         yield '' if is_so else f'{" ".join(words)} without tools: status {done.returncode}: {done.stdout[-300:]}'
 
 
+def helped() -> Iterator[str]:
+    """Each script prints what it does where it is asked for help, and refuses what it doesn't take. The gate is tried as a stub below."""
+    scripts = [path for folder in ('tests', '.ci') for path in sorted((TOP / folder).iterdir()) if path.is_file() and os.access(path, os.X_OK)]
+    for path in scripts:
+        if path != TOP / '.ci' / 'run':
+            help_, other = run([str(path), '--help']), run([str(path), '--no-such-word'])
+            is_so = (help_.returncode, other.returncode) == (0, 2) and f'{path.parent.name}/{path.name}' in help_.stdout
+            yield '' if is_so else f'{path}: status {help_.returncode} for help, {other.returncode} for a word that it does not take'
+
+
 class Case(NamedTuple):
-    """A run of the gate: what it shows, what tests print in place of one test passed, the last line wanted, and words before it."""
+    """A run of the gate: what it shows, what tests print in place of one test passed, the last line wanted, words before it, what rt leaves, and the
+    words that the gate is given."""
 
     name: str
     prints: Dict[str, str]
     wanted: str
     said: str = ''
     files: Sequence[str] = ('crates/gwb/out/gwb', 'crates/direct_calls/out/direct_calls')
+    words: Sequence[str] = ()
 
 
 PASSED = '1 passed, 0 failed'
@@ -80,7 +92,10 @@ CASES = [
     Case('a test ends in an error', {'tests/quotes.py': 'Traceback'}, '{fewer} passed, 1 failed, 1 skipped', 'tests/quotes.py: status 0 after'),
     Case('a test counts below zero', {'tests/quotes.py': '-6 passed, 0 failed'}, '{fewer} passed, 1 failed, 1 skipped'),
     Case('a test tries nothing', {'tests/quotes.py': '0 passed, 0 failed'}, '{fewer} passed, 1 failed, 1 skipped'),
-    Case('no program is left', {}, '{all} passed, 1 failed, 1 skipped', 'rt ci left no crates/gwb/out/gwb or', ())]
+    Case('no program is left', {}, '{all} passed, 1 failed, 1 skipped', 'rt ci left no crates/gwb/out/gwb or', ()),
+    Case('nothing is to be installed', {}, '{all} passed, 0 failed, 1 skipped', '.ci/needs is told: --list', words=['--no-install'])]
+# Words with which the gate begins nothing: the status, and what it prints.
+ENDS = {'--help': (0, '.ci/run [--no-install]'), '--no-such-word': (2, 'there is no --no-such-word'), 'word': (2, 'too many')}
 
 
 def stub(path: Path, text: str) -> None:
@@ -96,7 +111,7 @@ def stubs(folder: Path, case: Case) -> None:
     tests = [f'tests/{path.name}' for end in ('py', 'sh') for path in (TOP / 'tests').glob(f'*.{end}')]
     for name in [*tests, 'companions/tests/run.py']:
         stub(folder / name, f"cat <<'END'\n{case.prints.get(name, PASSED)}\nEND")
-    stub(folder / '.ci' / 'needs', ':')
+    stub(folder / '.ci' / 'needs', 'echo ".ci/needs is told: $*"')
     stub(folder / '.ci' / 'archive', 'mkdir -p crates/gwb_c/out && touch crates/gwb_c/out/libgwb_c.a')
     made = ''.join(f'mkdir -p {os.path.dirname(name)}; cp .ci/needs {name}; ' for name in case.files)
     taken = 'mkdir -p crates/taken/out/rlib/taken.rlib; touch -d 2000-01-01 crates/taken/out/rlib/taken.rlib'
@@ -112,7 +127,7 @@ def gate(case: Case) -> str:
     with tempfile.TemporaryDirectory() as name:
         folder = Path(name)
         stubs(folder, case)
-        done = run([str(folder / '.ci' / 'run')], folder, PATH=f'{folder / "bin"}:{os.environ["PATH"]}')
+        done = run([str(folder / '.ci' / 'run'), *case.words], folder, PATH=f'{folder / "bin"}:{os.environ["PATH"]}')
         is_new = (folder / 'crates/taken/out/rlib/taken.rlib').stat().st_mtime > (folder / 'bin/rt').stat().st_mtime
     *lines, last = done.stdout.splitlines() or ['']
     count = sum(line.startswith('== ') for line in lines) - sum(line in ('== .ci/needs', '== crates/gwb_c/out/libgwb_c.a') for line in lines)
@@ -129,13 +144,26 @@ def gate(case: Case) -> str:
     return f'the gate where {case.name}: {"; ".join(why)}' if why else ''
 
 
+def begins_nothing(word: str, status: int, said: str) -> str:
+    """What is wrong with the gate where it is given a word with which it begins nothing."""
+    with tempfile.TemporaryDirectory() as name:
+        folder = Path(name)
+        stubs(folder, CASES[0])
+        done = run([str(folder / '.ci' / 'run'), word], folder, PATH=f'{folder / "bin"}:{os.environ["PATH"]}')
+    is_so = done.returncode == status and said in done.stdout and '==' not in done.stdout
+    return '' if is_so else f'.ci/run {word}: status {done.returncode}: {done.stdout[-300:]}'
+
+
 def findings() -> Iterator[str]:
     """For each comparison what is wrong, or nothing."""
     yield from missing()
+    yield from helped()
+    yield from (begins_nothing(word, *wanted) for word, wanted in ENDS.items())
     with tempfile.TemporaryDirectory() as folder:
         yield from without_tools(Path(folder))
     yield from map(gate, CASES)
 
 
 if __name__ == '__main__':
+    command_line(__doc__)
     sys.exit(told(findings()))

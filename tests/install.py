@@ -13,7 +13,7 @@ import tempfile
 from pathlib import Path
 from typing import Iterator, List, Optional, Sequence
 
-from counts import GWB, TOP, needs, there, told, without
+from counts import GWB, TOP, command_line, needs, there, told, without
 
 EXAMPLE = TOP / 'examples' / 'block_with_hole.gwb'
 COMPANIONS = sorted(path.name for path in (TOP / 'companions').glob('gwb-*'))
@@ -178,8 +178,9 @@ def findings(program: Path, archive: Optional[Path]) -> Iterator[str]:
 
 
 def main() -> int:
-    program = there(sys.argv[1] if len(sys.argv) > 1 else GWB)
-    archive = there(sys.argv[2], 'archive') if len(sys.argv) > 2 else None
+    given = command_line(__doc__, program=GWB, archive=None)
+    program = there(given.program)
+    archive = there(given.archive, 'archive') if given.archive else None
     needs('make', *(['cc', 'objdump'] if archive else []))
     skipped = [without(tool, 'what finds the installed library') for tool in PACKAGES if archive and shutil.which(tool) is None]
     return told(findings(program, archive), skipped)

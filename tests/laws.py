@@ -17,7 +17,7 @@ from math import prod
 from pathlib import Path
 from typing import Dict, Iterator, List, NamedTuple, Optional, Tuple
 
-from counts import GWB, TOP, there, told
+from counts import GWB, TOP, command_line, there, told
 
 LAWS = TOP / 'crates' / 'script_laws' / 'specs' / 'Laws.antt'
 OK, UNDO, REDO, LIST = b'ok\n', b'undo\n', b'redo\n', b'list\n'
@@ -234,7 +234,7 @@ def findings(program: Program) -> Iterator[str]:
 
 
 def main() -> int:
-    program = Program(there(sys.argv[1] if len(sys.argv) > 1 else GWB))
+    program = Program(there(command_line(__doc__, program=GWB).program))
     try:
         found = list(findings(program))
     except subprocess.TimeoutExpired as error:

@@ -6,9 +6,10 @@
 #
 #   tests/library.sh [ARCHIVE [PROGRAM]]
 #
-# ARCHIVE is crates/gwb_c/out/libgwb_c.a where none is given, which is built then (`rt lib`: it proves what isn't proved yet); PROGRAM is
-# crates/gwb/out/gwb where none is given. What needs a tool that isn't there, or the program where none was given and none is built, is named as
-# skipped, and counted.
+# ARCHIVE is crates/gwb_c/out/libgwb_c.a where none is given, and PROGRAM crates/gwb/out/gwb. What needs a tool that isn't there, or the program where
+# none was given and none is built, is named as skipped, and counted.
+. "$(dirname "$0")/../.ci/command_line.sh"
+command_line 2 '' "$@"
 cd "$(dirname "$0")/.." || exit 2
 archive=$(realpath -m "${1:-crates/gwb_c/out/libgwb_c.a}")
 program=$(realpath -m "${2:-crates/gwb/out/gwb}")
@@ -90,13 +91,8 @@ prints() {
     fi
 }
 
-began=$(date +%s)
-if [ $# = 0 ]; then
-    (cd crates/gwb_c && rt lib) || exit 1
-    echo "the archive took $(($(date +%s) - began)) seconds"
-fi
 if [ ! -f "$archive" ]; then
-    echo "there is no archive $archive"
+    echo "there is no archive $archive: (cd crates/gwb_c && rt lib) proves and builds it"
     echo '0 passed, 1 failed'
     exit 1
 fi

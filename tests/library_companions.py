@@ -1,9 +1,12 @@
 #!/usr/bin/env python3
-"""Runs the companions' tests of the Python session over the library that the environment variable GWB names."""
+"""Runs the companions' tests of the Python session over the library that the environment variable GWB names.
+
+    GWB=LIBRARY tests/library_companions.py
+"""
 import os
 import sys
 import unittest
-from counts import TOP, closing, there
+from counts import TOP, closing, command_line, there
 
 TESTS = TOP / 'companions' / 'tests'
 sys.path.insert(0, str(TESTS))
@@ -12,6 +15,7 @@ from counting import tried  # noqa: E402
 
 
 def main():
+    command_line(__doc__)
     if not os.environ.get('GWB'):
         print('GWB names no library', closing(0, 1), sep='\n')
         return 1

@@ -14,7 +14,8 @@ from pathlib import Path
 from random import Random
 from typing import Iterator, List, Sequence, Tuple
 
-TOP = Path(__file__).resolve().parent.parent
+from counts import TOP, command_line, there
+
 sys.path.insert(0, str(TOP / 'companions'))
 
 from gwb import Refused, Workbench  # noqa: E402
@@ -155,8 +156,10 @@ def table(program: str) -> List[str]:
 
 
 def main() -> int:
-    lines = table(sys.argv[1])
-    if '--write' in sys.argv[2:]:
+    given = command_line(__doc__, '--write', library=str)
+    there(given.library, 'library')
+    lines = table(given.library)
+    if given.write:
         TABLE.write_text('\n'.join(lines) + '\n')
     stored = TABLE.read_text().splitlines()
     wrong = [f'{old!r} is stored, {new!r} is given' for old, new in zip(stored, lines) if old != new]

@@ -11,7 +11,7 @@ import ctypes
 import subprocess
 import sys
 
-from counts import there
+from counts import command_line, there
 from library_session import Refusal, Session, loaded
 from random_lines import Lines
 
@@ -80,8 +80,9 @@ def complaint(session, line, output, at):
 
 
 def main():
-    library, program = there(sys.argv[1], 'library'), there(sys.argv[2])
-    lines = list(Lines(SEED).take(int(sys.argv[3]) if len(sys.argv) > 3 else 100000))
+    given = command_line(__doc__, library=str, program=str, lines=100_000)
+    library, program = there(given.library, 'library'), there(given.program)
+    lines = list(Lines(SEED).take(given.lines))
     output = replies(program, lines)
     session = Session(loaded(str(library)))
     if not session.open():

@@ -9,7 +9,7 @@ The models are those that the lines of random_lines.py leave, every 50th line.
 import ctypes
 import sys
 
-from counts import there
+from counts import command_line, there
 from library_session import NO_TEXT, Handle, Refusal, Session, loaded
 from random_lines import Lines
 
@@ -271,14 +271,15 @@ def closed(session, readers):
 
 
 def main():
-    library = loaded(str(there(sys.argv[1], 'library')))
+    given = command_line(__doc__, library=str, lines=20_000)
+    library = loaded(str(there(given.library, 'library')))
     session = Session(library)
     readers = Readers(library, session)
     if not session.open():
         sys.exit('no session')
     models = 0
     why = None
-    for count, line in enumerate(Lines(SEED).take(int(sys.argv[2]) if len(sys.argv) > 2 else 20000)):
+    for count, line in enumerate(Lines(SEED).take(given.lines)):
         session.line(line)
         if count % 50 == 0:
             models += 1

@@ -13,7 +13,8 @@ import tempfile
 from pathlib import Path
 from typing import Dict, List
 
-TOP = Path(__file__).resolve().parent.parent
+from counts import TOP, command_line, there
+
 INCLUDE = f'-I{TOP / "bindings" / "include"}'
 WARNINGS = ['-Wall', '-Wextra', '-Werror', INCLUDE]
 
@@ -46,7 +47,7 @@ def complaint(folder: Path, name: str, text: str, library: Path) -> str:
 
 
 def main() -> int:
-    library = Path(sys.argv[1]).resolve()
+    library = there(command_line(__doc__, library=str).library, 'library')
     found = programs((TOP / 'bindings' / 'README.md').read_text())
     if not (library.parent / 'libgwb.rlib').exists():
         found = {name: text for name, text in found.items() if not name.endswith('.rs')}

@@ -12,7 +12,7 @@ import ctypes
 import sys
 from itertools import product
 
-from counts import there
+from counts import command_line, there
 from library_calls import TypedSession
 from library_session import MEMORY, Session, loaded
 from refused_growths import SCRIPTS
@@ -102,7 +102,7 @@ def whole(session, heap, lines):
 
 
 def main():
-    library = loaded(str(there(sys.argv[1], 'library')))
+    library = loaded(str(there(command_line(__doc__, library=str).library, 'library')))
     heap = Heap(library)
     count = wrong = 0
     runs = list(product((Session, TypedSession), SCRIPTS.items())) + [(TypedSession, script) for script in TYPED.items()]

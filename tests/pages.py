@@ -14,7 +14,7 @@ import textwrap
 from pathlib import Path
 from typing import Dict, Iterator, List
 
-from counts import TOP, told, without
+from counts import TOP, command_line, told, without
 
 MANUAL = TOP / 'docs' / 'gwb.1'
 DATE = '2026-11-25'
@@ -145,7 +145,8 @@ def findings() -> Iterator[str]:
 
 
 def main() -> int:
-    if '--write' in sys.argv[1:]:
+    given = command_line(__doc__, '--write')
+    if given.write:
         MANUAL.write_text(manual())
     return told(findings(), [] if shutil.which('mandoc') else [without('mandoc', 'the look of mandoc at docs/gwb.1')])
 

@@ -3,6 +3,8 @@
 # of its standard error and its status.
 #
 #   tests/program.sh [PROGRAM]        PROGRAM is crates/gwb/out/gwb where none is given
+. "$(dirname "$0")/../.ci/command_line.sh"
+command_line 1 '' "$@"
 cd "$(dirname "$0")/.." || exit 2
 program=$(realpath -m "${1:-crates/gwb/out/gwb}")
 if [ ! -x "$program" ]; then

@@ -13,7 +13,7 @@ import sys
 from pathlib import Path
 from typing import Iterator, List, Tuple
 
-from counts import TOP, closing, told
+from counts import TOP, closing, command_line, told
 
 PAGE = TOP / 'docs' / 'PROOFS.md'
 BLOCK = re.compile(r'^```([^\n]*)\n(.*?)^```$', re.MULTILINE | re.DOTALL)
@@ -77,13 +77,14 @@ def quotations(page: str) -> Iterator[Tuple[str, str, str]]:
 
 
 def main() -> int:
+    given = command_line(__doc__, '--write')
     page = PAGE.read_text()
     try:
         found = list(quotations(page))
     except Missing as error:
         print(f'{PAGE.name}: {error}', closing(0, 1), sep='\n')
         return 1
-    if '--write' in sys.argv[1:]:
+    if given.write:
         for words, text, wanted in found:
             page = page.replace(f'```{words}\n{text}```', f'```{words}\n{wanted}```')
         PAGE.write_text(page)

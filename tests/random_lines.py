@@ -8,6 +8,8 @@ They come in parts of some 200: each begins with a few commands that are accepte
 import random
 import sys
 
+from counts import command_line
+
 WRONG = (b'', b'# note', b'mvv 1', b'kvfs x', b'kvfs', b'count 1 2', b'undo 1', b'volume \xff', b'lamina 1 0 0', b'kev 3', b'mef +1 -1 0 1000001 3',
          b'   ', b'\tlist \r', b'ringmv 1 1 off', b'mvfs 1 1 1 1 0 0 9999999999999999999', b'#' * 65536, b'a' * 65537)
 
@@ -92,8 +94,8 @@ class Lines:
 
 
 def main():
-    count, seed = [int(word) for word in (sys.argv[1:] + ['1'])[:2]]
-    for line in Lines(seed).take(count):
+    given = command_line(__doc__, lines=int, seed=1)
+    for line in Lines(given.seed).take(given.lines):
         sys.stdout.buffer.write(line + b'\n')
 
 

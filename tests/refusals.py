@@ -12,7 +12,7 @@ import sys
 from pathlib import Path
 from typing import Dict, Iterator, List, Tuple
 
-from counts import TOP, told
+from counts import TOP, command_line, told
 
 sys.path.insert(0, str(TOP / 'companions'))
 
@@ -186,8 +186,9 @@ def findings(names: Names) -> Iterator[str]:
 
 
 def main() -> int:
+    given = command_line(__doc__, '--write')
     names = kernel_names()
-    if '--write' in sys.argv[1:]:
+    if given.write:
         for file, make in MAKERS.items():
             (TOP / file).parent.mkdir(parents=True, exist_ok=True)
             (TOP / file).write_text(make(names))

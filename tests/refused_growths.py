@@ -14,7 +14,7 @@ import subprocess
 import sys
 import tempfile
 
-from counts import GWB, needs, there, told
+from counts import GWB, command_line, needs, there, told
 
 HERE = os.path.dirname(os.path.abspath(__file__))
 HOLED = ('block 1 0 0 0 6 6 6;mev +7 +7 13 9 2 2 6;kemr +13 7;mev @7 @7 13 10 2 4 6;mev -13 -13 14 11 4 4 6;mev -14 -14 15 12 4 2 6;mef -15 +13 16 7 8;'
@@ -180,7 +180,7 @@ def findings(program):
 
 
 def main():
-    path = there(sys.argv[1] if len(sys.argv) > 1 else GWB)
+    path = there(command_line(__doc__, program=GWB).program)
     needs('cc')
     with tempfile.TemporaryDirectory() as folder:
         return told(findings(Program(path, folder)))

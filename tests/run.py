@@ -14,7 +14,8 @@ from dataclasses import dataclass
 from pathlib import Path
 from typing import Iterator, List, Tuple
 
-TOP = Path(__file__).resolve().parent.parent
+from counts import GWB, TOP, command_line
+
 DIRECT_CALLS = TOP / 'crates' / 'direct_calls' / 'out' / 'direct_calls'
 _LAST = re.compile(r'(\d+) (passed|compared), (\d+) (?:failed|wrong)(?:, (\d+) skipped)?$')
 _LEFT_OUT = re.compile(r'(?:skipped|not tried): ')
@@ -97,10 +98,8 @@ def absent(*files: str) -> List[str]:
 
 
 def main() -> int:
-    if len(sys.argv) > 3:
-        sys.exit(__doc__)
-    words = [*sys.argv[1:], *['crates/gwb/out/gwb', ''][len(sys.argv) - 1:]]
-    program, archive = (str(Path(word).resolve()) if word else '' for word in words)
+    given = command_line(__doc__, program=GWB, archive='')
+    program, archive = (str(Path(word).resolve()) if word else '' for word in (given.program, given.archive))
     missing = absent(program, archive)
     if missing:
         print(*missing, f'0 passed, {len(missing)} failed, 0 skipped', sep='\n')

@@ -10,7 +10,7 @@ import re
 import subprocess
 import sys
 
-from counts import GWB, TOP, there, told
+from counts import GWB, TOP, command_line, there, told
 
 FOLDERS = TOP / 'tests' / 'scripts', TOP / 'examples'
 
@@ -61,7 +61,7 @@ def findings(program):
 
 
 def main():
-    return told(findings(there(sys.argv[1] if len(sys.argv) > 1 else GWB)))
+    return told(findings(there(command_line(__doc__, program=GWB).program)))
 
 
 if __name__ == '__main__':

@@ -7,7 +7,6 @@ The page's blocks in Python are run in order; one that begins with `from gwb imp
 its `print`. A block marked `text` behind it has the commands that it sent, and an image behind it shows the model that it left. --write writes the
 commands and the images anew. The last line counts what was compared.
 """
-import argparse
 import io
 import os
 import re
@@ -17,7 +16,7 @@ from contextlib import contextmanager, redirect_stdout
 from pathlib import Path
 from typing import Any, Dict, Iterator, List, NamedTuple, Optional, Tuple
 
-from counts import GWB, TOP, there, told
+from counts import GWB, TOP, command_line, there, told
 
 sys.path.insert(0, str(TOP / 'companions'))
 
@@ -132,10 +131,7 @@ def spare(found: List[Tuple[Piece, str, str]]) -> Iterator[str]:
 
 
 def main() -> int:
-    parser = argparse.ArgumentParser('tests/tutorial.py', description=__doc__, formatter_class=argparse.RawDescriptionHelpFormatter)
-    parser.add_argument('--write', action='store_true', help='write the commands and the images anew')
-    parser.add_argument('program', nargs='?', default=GWB, metavar='PROGRAM')
-    given = parser.parse_args()
+    given = command_line(__doc__, '--write', program=GWB)
     os.environ['GWB'] = str(there(given.program))
     found = tried()
     if given.write:

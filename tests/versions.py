@@ -11,7 +11,7 @@ import sys
 from pathlib import Path
 from typing import Iterator, List, NamedTuple
 
-from counts import TOP, closing, told, without
+from counts import TOP, closing, command_line, told, without
 
 
 class Place(NamedTuple):
@@ -60,6 +60,7 @@ def logic_complaint() -> str:
 
 
 def main() -> int:
+    command_line(__doc__)
     version = (TOP / 'VERSION').read_text().strip()
     if not re.fullmatch(r'\d+\.\d+\.\d+', version):
         print(f'VERSION: {version!r} is no version', closing(0, 1), sep='\n')

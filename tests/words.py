@@ -13,7 +13,8 @@ import sys
 from pathlib import Path
 from typing import Iterator, List, Set
 
-TOP = Path(__file__).resolve().parent.parent
+from counts import TOP, command_line
+
 README_WORDS = 1_100
 ALL_WORDS = 36_000
 CELL = 200
@@ -124,6 +125,7 @@ def findings() -> Iterator[str]:
 
 
 def main() -> int:
+    command_line(__doc__)
     found = list(findings())
     wrong = [why for why in found if why]
     print(*wrong, f'{len(found)} compared, {len(wrong)} wrong', sep='\n')
