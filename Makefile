@@ -1,6 +1,9 @@
-# Installs gwb: the program, its man page, the companions, and the library where it is built. It proves and builds nothing of the kernel.
+# Builds gwb unproved, tries what is built, and installs it: the program, its man page, the companions, and the library where it is built. It proves
+# nothing: that is .ci/run.
 #
-#   make check                               all tests that need no proof, in a minute or two: the last line counts
+#   make try                                 in about a minute: out/gwb-unproved, and in out/unproved the library for C, C++, Rust and Python
+#   make check                               all tests that need no proof: the last line counts
+#   make check-unproved                      the same on what `make try` builds
 #   make install PREFIX=/usr/local           DESTDIR=.. is put before every place, as for a package
 #   make uninstall PREFIX=/usr/local         takes away what was installed
 #
@@ -17,23 +20,50 @@ SHARE = $(ROOT)/share/gwb
 LIBRARY = $(MAKE) -C bindings PREFIX=$(abspath $(PREFIX)) DESTDIR=$(abspath $(DESTDIR)) ARCHIVE=$(abspath $(ARCHIVE))
 COMPANIONS = $(notdir $(wildcard companions/gwb-*))
 
-.PHONY: help check install uninstall install-program install-companions install-library
+# what nothing is proved of is named so
+UNPROVED = out/gwb-unproved out/libgwb_c-unproved.a
+TRIED = ../out/unproved
+SOURCES = .ci/unproved .ci/crates.py crates.txt $(shell find crates -path '*/src/*.rt')
+
+.PHONY: help try check check-unproved install uninstall install-program install-companions install-library
 help:
-	@echo 'make check                          runs all tests that need no proof on what is built'
+	@echo 'make try                            builds the program and the library in about a minute, unproved'
+	@echo 'make check                          runs all tests that need no proof on what is built and proved'
+	@echo 'make check-unproved                 runs them on what make try builds'
 	@echo 'make install PREFIX=/usr/local      installs the program, the library where it is built, the man page and the companions'
 	@echo 'make uninstall PREFIX=/usr/local    takes them away'
 	@echo '.ci/run                             proves, tests and builds everything'
 
+try:
+	@$(MAKE) -s --no-print-directory -j 2 $(UNPROVED)
+	@if command -v cc > /dev/null; then \
+	    $(MAKE) -s --no-print-directory -C bindings ARCHIVE=../out/libgwb_c-unproved.a OUT=$(TRIED) $(TRIED)/libgwb.so $(TRIED)/libgwb.a; \
+	else echo 'there is no cc, so the library for C, C++, Rust and Python is left out'; fi
+	@echo 'Built, and nothing of it proved: out/gwb-unproved, and where cc is there libgwb.a and libgwb.so in out/unproved. For example:'
+	@echo '    out/gwb-unproved examples/block_with_hole.gwb'
+	@echo '    GWB=out/gwb-unproved companions/gwb-view --steps examples/block_with_hole.gwb > block.html'
+	@echo '    bindings/examples/block.py out/unproved/libgwb.so'
+	@echo '    make check-unproved'
+
+out/gwb-unproved: $(SOURCES)
+	.ci/unproved gwb
+
+out/libgwb_c-unproved.a: $(SOURCES)
+	.ci/unproved gwb_c
+
 check: $(PROGRAM)
 	tests/run.py $(PROGRAM) $(wildcard $(ARCHIVE))
 
+check-unproved: try
+	tests/run.py $(UNPROVED)
+
 install: install-program install-companions install-library
 
-$(PROGRAM):
+$(filter-out $(UNPROVED),$(PROGRAM)):
 	@echo '$(PROGRAM) is not built. One of these proves and builds it:'
 	@echo '    (cd crates/gwb && rt run) < examples/wire.gwb'
 	@echo '    .ci/run'
-	@echo 'A program that lies elsewhere is named by PROGRAM=..'
+	@echo 'In a minute, unproved: make try. A program that lies elsewhere is named by PROGRAM=..'
 	@false
 
 install-program: $(PROGRAM)

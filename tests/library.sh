@@ -92,7 +92,7 @@ prints() {
 }
 
 if [ ! -f "$archive" ]; then
-    echo "there is no archive $archive: (cd crates/gwb_c && rt lib) proves and builds it"
+    echo "there is no archive $archive: (cd crates/gwb_c && rt lib) proves and builds it, make try an unproved one"
     echo '0 passed, 1 failed'
     exit 1
 fi
