@@ -5,7 +5,7 @@
 
 The page's blocks in Python are run in order; one that begins with `from gwb import` begins a new part. What a block prints stands in comments behind
 its `print`. A block marked `text` behind it has the commands that it sent, and an image behind it shows the model that it left. --write writes the
-commands and the images anew. The last line counts what was compared.
+commands and the images anew. README.md shows examples/bracket.py, with a picture of what it leaves. The last line counts what was compared.
 """
 import io
 import os
@@ -26,6 +26,7 @@ from gwb.protocol.replies import split_replies
 
 PAGE = TOP / 'docs' / 'TUTORIAL.md'
 PICTURES = TOP / 'docs' / 'tutorial'
+README, EXAMPLE = TOP / 'README.md', TOP / 'examples' / 'bracket.py'
 STAND = (2, -3, 2)
 _PIECE = re.compile(r'^```(python|text)\n(.*?)^```$|!\[[^]]*\]\(tutorial/([\w.]+)\)', re.MULTILINE | re.DOTALL)
 _PRINTED = re.compile(r'print\(.*\)\s+# (.*)')
@@ -113,6 +114,16 @@ def compared(page: str) -> Iterator[Tuple[Piece, str, str]]:
         part.close()
 
 
+def example() -> Iterator[str]:
+    """What is wrong with the part that README.md shows, or nothing: with its text, with what it prints, and with its picture."""
+    page, code, part = README.read_text(), EXAMPLE.read_text(), Part()
+    yield '' if f'```python\n{code}```' in page else f'{README.name} does not show {EXAMPLE.name}'
+    yield part.run(code)
+    shown = re.search(r'<img src="docs/tutorial/([\w.]+)"', page)
+    yield '' if shown and (PICTURES / shown[1]).read_text() == part.picture() else f'{README.name} shows another part than {EXAMPLE.name} makes'
+    part.close()
+
+
 def written(page: str, found: List[Tuple[Piece, str, str]]) -> str:
     """The page with the commands as they are to be; the images are written."""
     PICTURES.mkdir(exist_ok=True)
@@ -137,7 +148,9 @@ def main() -> int:
     if given.write:
         PAGE.write_text(written(PAGE.read_text(), found))
         found = tried()
-    return told([*(why for _, why, _ in found), *spare(found)])
+    with tempfile.TemporaryDirectory() as folder, within(folder):
+        first = list(example())
+    return told([*first, *(why for _, why, _ in found), *spare(found)])
 
 
 def tried() -> List[Tuple[Piece, str, str]]:
