@@ -16,7 +16,7 @@ use Rattle.command_laws.specs.Flat.{lie_flat, IsClosedFlat, BlocksLieFlat, Block
 use Rattle.command_laws.specs.LeftAlone.{StandsAsBefore}
 use Rattle.command_laws.proofs.BlockFaces.{block_has_top_and_bottom, block_has_four_sides, block_takes_six_faces}
 use Rattle.command_laws.proofs.Kept.{block_keeps_faces}
-use Rattle.command_laws.proofs.Accepted.{outer_cycles}
+use Rattle.command_laws.proofs.Outlines.{outer_cycles}
 use Rattle.command_laws.proofs.OnFaces.{loop_in_face}
 use Rattle.command_laws.proofs.LyingFlat.{faces_lie_flat, sides_lie_flat, parallelogram, stands_flat}
 use Rattle.command_laws.proofs.DrawnAlone.{block_keeps_loops, block_keeps_shapes}

@@ -1,23 +1,19 @@
--- An operator that makes or kills something within one solid leaves all that isn't of it.
-use Rattle.std.proofs.Common.{◌≡◌, ◌≢◌, ℕ, true, List, Some, None, is_some, refl, sym, ap, subst, ◌∙◌, true≢false, inl, inr}
+-- An edge drawn in a face, two loops of a face joined, and a face that becomes a ring of another leave all that isn't of the solid.
+use Rattle.std.proofs.Common.{◌≡◌, ◌≢◌, ℕ, List, Some, None, is_some, refl, sym, ap, subst, ◌∙◌, true≢false, inl, inr}
 use Rattle.std.proofs.lemmas.Bool.{eqb-false}
 use Rattle.std.proofs.lemmas.Bool.Decides.{eqb_tells}
-use Rattle.euler_operators.specs.Common.{Corner, At, Lone, HalfEdge, Point, count, code, edge_of, mate, Model, content, face_of, loop_of, solid_of, tail, Sound, Has, HasHalf, corner_loop, face_at, first_false, edge_row, effect, inverse, kemr, mef, mev_at, mev_lone, mfkrh}
+use Rattle.euler_operators.specs.Common.{Corner, HalfEdge, code, edge_of, Model, content, face_of, loop_of, solid_of, Sound, Has, HasHalf, corner_loop, face_at, first_false, effect, inverse, kemr, mef, mfkrh}
 use Rattle.euler_operators.specs.Table as table
 use Rattle.euler_operators.specs.declared.Op.{Op}
-use Rattle.euler_operators.specs.declared.Op.TheVariants.{Mev, Kev, Mef, Kef, Kemr, Mekr, Kfmrh, Mfkrh}
-use Rattle.euler_operators.proofs.Common.{same_edge, face_row, loop_there, mate_there, same_solid, solid_row, get-put_here, get-put_other, get-remove_other, row_elsewhere}
-use Rattle.euler_laws.proofs.Common.{effect_keeps_sound, inverse_goes, inverse_undoes, MakeGoes, kfmrh_goes, mfkrh_goes, kemr_goes, kev_goes, kef_goes, KemrGoes, mef_goes, MefGoes, JoinGoes, join_goes, lone_goes, mev_goes, mixed_first, mixed_second, MevGoes, LoopMoves, face_kept, face_moved, walks_same, none_else, put_before, put_none, edge_there, loop_row, one_solid_round, face_same, row_else, row_second}
+use Rattle.euler_operators.specs.declared.Op.TheVariants.{Mef, Kemr, Mekr, Kfmrh, Mfkrh}
+use Rattle.euler_operators.proofs.Common.{same_edge, face_row, loop_there, same_solid, solid_row, get-put_here, get-put_other, get-remove_other, row_elsewhere}
+use Rattle.euler_laws.proofs.Common.{effect_keeps_sound, inverse_goes, inverse_undoes, MakeGoes, kfmrh_goes, mfkrh_goes, kemr_goes, KemrGoes, mef_goes, MefGoes, JoinGoes, join_goes, LoopMoves, face_kept, face_moved, walks_same, loop_row, face_same, row_else, row_second}
 use Rattle.euler_laws.proofs.kemr.KemrSound as parted
 use Rattle.euler_laws.proofs.mef.MefSound as drawn
 use Rattle.euler_laws.proofs.mekr.Mekr.{mekr_is}
 use Rattle.euler_laws.proofs.mekr.MekrSound as joins
 use Rattle.euler_laws.proofs.mekr.MekrSound.{join_loops}
-use Rattle.euler_laws.proofs.mev.MevLoneSound.{LoneGoes}
-use Rattle.euler_laws.proofs.mev.MevSound as grown
-use Rattle.euler_laws.proofs.shared.EdgeMore.{half_old}
-use Rattle.command_laws.specs.Operators.{is_inner, solid_in}
-use Rattle.command_laws.proofs.Owners.{Agree, half_kept, is_of, solid_of_half, solid_of_loop, turned}
+use Rattle.command_laws.proofs.Owners.{Agree, is_of, solid_of_half, solid_of_loop, turned}
 
 -- two models that agree but for one solid
 abbrev pub AgreeBut : ℕ → Model → Model → Type 0
@@ -27,109 +23,13 @@ AgreeBut s M N = Agree M N (is_of s) (is_of s)
 pub same_row : (M N : Model) (q : ℕ) → Has M.loops q → table.has N.loops q ≡ table.has M.loops q → face_of N q ≡ face_of M q → content N q ≡ content M q → table.get N.loops q ≡ table.get M.loops q
 same_row M N q there has face same = loop_row N q (has ∙ there) ∙ (λ i. Some (record { face = face i; content = same i })) ∙ sym (loop_row M q there)
 
--- an edge with its tails has its row
-pub same_ends : (M N : Model) (h : ℕ) → HasHalf M h → HasHalf N h → tail N h ≡ tail M h → tail N (mate h) ≡ tail M (mate h) → table.get N.edges (edge_of h) ≡ table.get M.edges (edge_of h)
-same_ends M N h was now one two = edge_there N h now ∙ (λ i. Some (edge_row h (one i) (two i))) ∙ sym (edge_there M h was)
-
 -- what is new is of the solid
 module _ (M N : Model) (s : ℕ) (w : AgreeBut s M N) where
-  pub new_half : (h : ℕ) → HasHalf N h → table.get M.edges (edge_of h) ≡ None → solid_of_half N h ≡ s
-  new_half h there free = elim (eqb_tells (solid_of_half N h) s) [
-    | inl e ↦ e.1
-    | inr e ↦ absurd (true≢false (sym (half_kept N M (is_of s) (is_of s) (turned M N (is_of s) (is_of s) w) h there e.0).0 ∙ ap is_some free))
-  ]
-
   pub new_face : (k : ℕ) → Has N.faces k → table.get M.faces k ≡ None → solid_of N k ≡ s
   new_face k there free = elim (eqb_tells (solid_of N k) s) [
     | inl e ↦ e.1
     | inr e ↦ absurd (true≢false (sym there ∙ ap is_some ((w.faces_back k there e.0).0 ∙ free)))
   ]
-
--- ---- an edge to a new vertex
-
-module _ (M : Model) (sound : Sound M) (g k h v : ℕ) (p : Point) (goes : MevGoes M g k h v p) where
-  -- a loop that holds neither half-edge has its row, and so has an edge of which nothing moves, and a vertex that was there
-  pub loop_apart : (q : ℕ) → Has M.loops q → q ≢ loop_of M g → q ≢ loop_of M k → table.get (mev_at M g k h v p).loops q ≡ table.get M.loops q
-  loop_apart q there not_g not_k =
-      let same = grown.same M sound g k h v p goes in
-      same_row M (mev_at M g k h v p) q there (same.loop q) (same.face q) (grown.content-N M sound g k h v p goes q
-      ∙ ap (put_before k (mate h)) (put_none g h (content M q) (none_else M sound g q not_g)) ∙ put_none k (mate h) (content M q) (none_else M sound k q not_k))
-
-  pub edge_unmoved : (x : ℕ) → HasHalf M x → count x (grown.moved M sound g k h v p goes) ≡ 0 → count (mate x) (grown.moved M sound g k h v p goes) ≡ 0 →
-      table.get (mev_at M g k h v p).edges (edge_of x) ≡ table.get M.edges (edge_of x)
-  edge_unmoved x there one two = same_ends M (mev_at M g k h v p) x there (half_old (grown.new_edge M sound g k h v p goes) x there)
-      (grown.tail_kept M sound g k h v p goes x there one) (grown.tail_kept M sound g k h v p goes (mate x) (mate_there M x there) two)
-
-  pub vertex_old : (w : ℕ) → Has M.vertices w → table.get (mev_at M g k h v p).vertices w ≡ table.get M.vertices w
-  unfolding mev_at
-  vertex_old w there = get-put_other M.vertices v p w (row_elsewhere M.vertices w v there goes.vertex_free)
-
-module _ (M : Model) (sound : Sound M) (g k h v : ℕ) (p : Point) (goes : MevGoes M g k h v p) (after : Sound (mev_at M g k h v p)) where
-  abbrev G : Model
-  G = mev_at M g k h v p
-
-  abbrev sg : ℕ
-  sg = solid_of M (face_at M g)
-
-  one_solid : solid_of_half M k ≡ sg
-  one_solid = one_solid_round M sound g k goes.g_there goes.k_there (sym goes.one_tail)
-
-  grown_loop : (q : ℕ) → Has M.loops q → solid_of_loop M q ≢ sg → table.get G.loops q ≡ table.get M.loops q
-  grown_loop q there ne = loop_apart M sound g k h v p goes q there (λ e. ne (ap (solid_of_loop M) e)) (λ e. ne (ap (solid_of_loop M) e ∙ one_solid))
-
-  grown_edge : (x : ℕ) → HasHalf M x → solid_of_half M x ≢ sg → table.get G.edges (edge_of x) ≡ table.get M.edges (edge_of x)
-  grown_edge x there ne =
-      let kept : (y : ℕ) → HasHalf M y → solid_of_half M y ≢ sg → count y (grown.moved M sound g k h v p goes) ≡ 0 = λ y has off.
-      grown.not_moved M sound g k h v p goes y (λ e. off (one_solid_round M sound g y goes.g_there has (sym e))) in
-      edge_unmoved M sound g k h v p goes x there (kept x there ne) (kept (mate x) (mate_there M x there) (λ e. ne (sound.one_solid x there ∙ e)))
-
-  grown_within : AgreeBut (solid_of M (face_at M g)) M (mev_at M g k h v p)
-  grown_within =
-      let same = grown.same M sound g k h v p goes in
-      let row : (q : ℕ) → table.get G.faces q ≡ table.get M.faces q = λ q. ap (λ t. table.get t q) same.faces in
-      record {
-        before = sound;
-        after = after;
-        faces = λ q there out. (row q, out);
-        faces_back = λ q there out. (row q, out);
-        loops = λ q there out. grown_loop q there (eqb-false (solid_of_loop M q) sg out);
-        loops_back = λ q there out. grown_loop q (sym (same.loop q) ∙ there) (λ e. eqb-false (solid_of_loop G q) sg out (ap (solid_of G) (same.face q) ∙ same_solid M G (face_of M q) (row (face_of M q)) ∙ e));
-        edges = λ x there out. grown_edge x there (eqb-false (solid_of_half M x) sg out);
-      }
-
-module _ (M : Model) (sound : Sound M) (l h v u : ℕ) (p : Point) (goes : LoneGoes M l h v u p) (after : Sound (mev_lone M l h v p)) where
-  abbrev L : Model
-  L = mev_lone M l h v p
-
-  abbrev sl : ℕ
-  sl = solid_of_loop M l
-
-  lone_loop : (q : ℕ) → q ≢ l → table.get L.loops q ≡ table.get M.loops q
-  unfolding mev_lone
-  lone_loop q ne = get-put_other M.loops l _ q ne
-
-  lone_face : face_of L l ≡ face_of M l
-  unfolding mev_lone
-  lone_face = face_row (mev_lone M l h v p) l _ (get-put_here M.loops l _)
-
-  lone_rows : (q : ℕ) → table.get L.faces q ≡ table.get M.faces q
-  unfolding mev_lone
-  lone_rows q = refl
-
-  lone_edge : (x : ℕ) → HasHalf M x → table.get L.edges (edge_of x) ≡ table.get M.edges (edge_of x)
-  unfolding mev_lone
-  lone_edge x there = get-put_other M.edges (edge_of h) _ (edge_of x) (row_elsewhere M.edges (edge_of x) (edge_of h) there goes.edge_free)
-
-  lone_within : AgreeBut (solid_of_loop M l) M (mev_lone M l h v p)
-  lone_within = record {
-    before = sound;
-    after = after;
-    faces = λ q there out. (lone_rows q, out);
-    faces_back = λ q there out. (lone_rows q, out);
-    loops = λ q there out. lone_loop q (λ e. eqb-false (solid_of_loop M q) sl out (ap (solid_of_loop M) e));
-    loops_back = λ q there out. lone_loop q (λ e. eqb-false (solid_of_loop L q) sl out (ap (solid_of L) (ap (face_of L) e ∙ lone_face) ∙ same_solid M L (face_of M l) (lone_rows (face_of M l))));
-    edges = λ x there out. lone_edge x there;
-  }
 
 -- ---- an edge between two corners of a loop, and a new face
 
@@ -252,22 +152,15 @@ module _ (M : Model) (op : Op) (sound : Sound M) (e : first_false M op ≡ None)
   taken_within : (u : ℕ) → AgreeBut u (effect M op) (effect (effect M op) (inverse M op)) → AgreeBut u M (effect M op)
   taken_within u w = turned then M (is_of u) (is_of u) (subst (AgreeBut u then) (inverse_undoes M op sound e) w)
 
-mev_within : (c d : Corner) (h : HalfEdge) (v : ℕ) (p : Point) (M : Model) → Sound M → first_false M (Mev c d h v p) ≡ None → AgreeBut (solid_in M (Mev c d h v p)) M (effect M (Mev c d h v p)) × (table.get M.edges (edge_of (code h)) ≡ None)
-unfolding effect
-mev_within (At g) (At k) h v p M sound e = let goes = mev_goes M g k h v p e in (grown_within M sound (code g) (code k) (code h) v p goes (effect_keeps_sound M (Mev (At g) (At k) h v p) sound e), goes.edge_free)
-mev_within (At g) (Lone l) h v p M sound e = absurd (mixed_first M g l h v p sound e)
-mev_within (Lone l) (At k) h v p M sound e = absurd (mixed_second M l k h v p sound e)
-mev_within (Lone l) (Lone d) h v p M sound e = let goes = lone_goes M l d h v p e in (lone_within M sound l (code h) v _ p goes (effect_keeps_sound M (Mev (Lone l) (Lone d) h v p) sound e), goes.edge_free)
-
-mef_within : (g k h : HalfEdge) (f l : ℕ) (M : Model) → Sound M → first_false M (Mef g k h f l) ≡ None → AgreeBut (solid_in M (Mef g k h f l)) M (effect M (Mef g k h f l))
+pub mef_within : (g k h : HalfEdge) (f l : ℕ) (M : Model) → Sound M → first_false M (Mef g k h f l) ≡ None → AgreeBut (solid_of M (face_at M (code g))) M (effect M (Mef g k h f l))
 unfolding effect
 mef_within g k h f l M sound e = drawn_within M sound (code g) (code k) (code h) f l (mef_goes M g k h f l e)
 
-kemr_within : (h : HalfEdge) (l : ℕ) (M : Model) → Sound M → first_false M (Kemr h l) ≡ None → AgreeBut (solid_in M (Kemr h l)) M (effect M (Kemr h l))
+kemr_within : (h : HalfEdge) (l : ℕ) (M : Model) → Sound M → first_false M (Kemr h l) ≡ None → AgreeBut (solid_of M (face_at M (code h))) M (effect M (Kemr h l))
 unfolding effect
 kemr_within h l M sound e = parted_within M sound (code h) l (kemr_goes M h l e)
 
-mfkrh_within : (l f : ℕ) (M : Model) → Sound M → first_false M (Mfkrh l f) ≡ None → AgreeBut (solid_in M (Mfkrh l f)) M (effect M (Mfkrh l f))
+mfkrh_within : (l f : ℕ) (M : Model) → Sound M → first_false M (Mfkrh l f) ≡ None → AgreeBut (solid_of M (face_of M l)) M (effect M (Mfkrh l f))
 unfolding effect
 mfkrh_within l f M sound e = ring_within M sound l f (mfkrh_goes M l f e) (effect_keeps_sound M (Mfkrh l f) sound e)
 
@@ -289,32 +182,14 @@ unfolding effect
 mekr_half M c d h sound e = subst (λ N. solid_of_half N (code h) ≡ solid_of_loop M (corner_loop M c)) (sym (mekr_is M c d (code h))) (joined_half M (code h) _ _ _ _ _ _ sound (join_goes M c d h sound e))
 
 module _ (M : Model) (sound : Sound M) where
-  kev_within : (h : HalfEdge) → first_false M (Kev h) ≡ None → AgreeBut (solid_in M (Kev h)) M (effect M (Kev h))
-  unfolding inverse
-  kev_within h e =
-      let op = Kev h in
-      let N = effect M op in
-      let w = mev_within _ _ h _ _ N (effect_keeps_sound M op sound e) (inverse_goes M op sound e) in
-      let back = taken_within M op sound e _ w.0 in
-      subst (λ u. AgreeBut u M N) (sym (new_half N M _ (turned M N (is_of _) (is_of _) back) (code h) (kev_goes M h sound e).h_there w.1)) back
-
-  kef_within : (h : HalfEdge) → first_false M (Kef h) ≡ None → AgreeBut (solid_in M (Kef h)) M (effect M (Kef h))
-  unfolding inverse
-  kef_within h e =
-      let op = Kef h in
-      let N = effect M op in
-      let goes = inverse_goes M op sound e in
-      let back = taken_within M op sound e _ (mef_within _ _ h _ _ N (effect_keeps_sound M op sound e) goes) in
-      subst (λ u. AgreeBut u M N) (sym (new_half N M _ (turned M N (is_of _) (is_of _) back) (code h) (kef_goes M h e).h_there (mef_goes N _ _ h _ _ goes).edge_free)) back
-
-  mekr_within : (c d : Corner) (h : HalfEdge) → first_false M (Mekr c d h) ≡ None → AgreeBut (solid_in M (Mekr c d h)) M (effect M (Mekr c d h))
+  pub mekr_within : (c d : Corner) (h : HalfEdge) → first_false M (Mekr c d h) ≡ None → AgreeBut (solid_of_loop M (corner_loop M c)) M (effect M (Mekr c d h))
   unfolding inverse
   mekr_within c d h e =
       let op = Mekr c d h in
       let N = effect M op in
       subst (λ u. AgreeBut u M N) (mekr_half M c d h sound e) (taken_within M op sound e _ (kemr_within h _ N (effect_keeps_sound M op sound e) (inverse_goes M op sound e)))
 
-  kfmrh_within : (f g : ℕ) → first_false M (Kfmrh f g) ≡ None → AgreeBut (solid_in M (Kfmrh f g)) M (effect M (Kfmrh f g))
+  pub kfmrh_within : (f g : ℕ) → first_false M (Kfmrh f g) ≡ None → AgreeBut (solid_of M f) M (effect M (Kfmrh f g))
   unfolding inverse
   kfmrh_within f g e =
       let op = Kfmrh f g in
@@ -323,14 +198,3 @@ module _ (M : Model) (sound : Sound M) where
       let goes = inverse_goes M op sound e in
       let back = taken_within M op sound e _ (mfkrh_within _ g N (effect_keeps_sound M op sound e) goes) in
       subst (λ u. AgreeBut u M N) (sym (was.one_solid ∙ new_face N M _ (turned M N (is_of _) (is_of _) back) g was.g_there (mfkrh_goes N _ g goes).face_free)) back
-
-pub inner_within : (op : Op) (M : Model) → Sound M → first_false M op ≡ None → is_inner op ≡ true → AgreeBut (solid_in M op) M (effect M op)
-inner_within (Mev c d h v p) M sound e i = (mev_within c d h v p M sound e).0
-inner_within (Kev h) M sound e i = kev_within M sound h e
-inner_within (Mef g k h f l) M sound e i = mef_within g k h f l M sound e
-inner_within (Kef h) M sound e i = kef_within M sound h e
-inner_within (Kemr h l) M sound e i = kemr_within h l M sound e
-inner_within (Mekr c d h) M sound e i = mekr_within M sound c d h e
-inner_within (Kfmrh f g) M sound e i = kfmrh_within M sound f g e
-inner_within (Mfkrh l f) M sound e i = mfkrh_within l f M sound e
-inner_within op M sound e i = absurd (true≢false (sym i))

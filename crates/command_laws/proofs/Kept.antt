@@ -1,13 +1,13 @@
 -- The faces that were there before a command.
-use Rattle.std.proofs.Common.{◌≡◌, ℕ, zero, suc, ◌+◌, ◌≤◌, ◌<◌, ℤ, List, [], ◌∷◌, refl, sym, ap, subst, ◌∙◌, arith, length}
-use Rattle.euler_operators.specs.Common.{Point, Table, Model, empty_model}
+use Rattle.std.proofs.Common.{◌≡◌, ℕ, zero, suc, ◌+◌, ◌≤◌, ◌<◌, ℤ, List, [], ◌∷◌, sym, ap, subst, ◌∙◌, arith, length}
+use Rattle.euler_operators.specs.Common.{Point, Table, Model}
 use Rattle.euler_operators.specs.Table as table
 use Rattle.euler_operators.proofs.Common.{get-put_other}
 use Rattle.shapes.specs.Common.{loops_of, Growing, Taken, growing, taken_in, lamina_model, lamina_face, raised, prism_from, prism_model, with_side, with_sides, base_of, block_model}
 use Rattle.sweeps_laws.proofs.swept.Numbers.{riser_above, top_above}
-use Rattle.undo_journal.specs.Machine.{held}
-use Rattle.command_laws.specs.NewFaces.{up_by}
-use Rattle.command_laws.specs.Kept.{LaminaKeepsFaces, BlockKeepsFaces, SweepKeepsFaces, StartHasNoFace}
+use Rattle.undo_journal.specs.Machine.{Machine, held}
+use Rattle.command_laws.specs.NewFaces.{last_face, up_by}
+use Rattle.command_laws.specs.Commands.{IsLamina, IsBlock, IsSweep}
 use Rattle.command_laws.proofs.LaminaFaces.{lamina_counted}
 
 -- the solids stay, and the rows of the numbers that are taken
@@ -58,15 +58,15 @@ block_kept : (M : Model) (s : ℕ) (p : Point) (dx dy dz : ℤ) (k : ℕ) → k 
 unfolding block_model
 block_kept M s p dx dy dz k m = prism_kept (lamina_model M s (base_of p dx dy)) (lamina_face M) (up_by dz) k (subst (λ g. k ≤ g) (sym (lamina_counted M s (base_of p dx dy))) (omega (arith, m))) ∙ lamina_kept M s (base_of p dx dy) k m
 
-pub lamina_keeps_faces : LaminaKeepsFaces
+-- each face up to the greatest before is of the solid, and has the outer loop, that it had
+abbrev KeepsFaces : Machine → Machine → Type 0
+KeepsFaces before after = (k : ℕ) → k ≤ last_face before → table.get (held after).faces k ≡ table.get (held before).faces k
+
+pub lamina_keeps_faces : (before after : Machine) (s : ℕ) (ps : List Point) → IsLamina before after s ps → KeepsFaces before after
 lamina_keeps_faces before after s ps made k m = ap (λ x. table.get (held x).faces k) made.1 ∙ lamina_kept (held before) s ps k m
 
-pub block_keeps_faces : BlockKeepsFaces
+pub block_keeps_faces : (before after : Machine) (s : ℕ) (p : Point) (dx dy dz : ℤ) → IsBlock before after s p dx dy dz → KeepsFaces before after
 block_keeps_faces before after s p dx dy dz made k m = ap (λ x. table.get (held x).faces k) made.1 ∙ block_kept (held before) s p dx dy dz k m
 
-pub sweep_keeps_faces : SweepKeepsFaces
+pub sweep_keeps_faces : (before after : Machine) (f : ℕ) (d : Point) → IsSweep before after f d → KeepsFaces before after
 sweep_keeps_faces before after f d made k m = ap (λ x. table.get (held x).faces k) made.1 ∙ prism_kept (held before) f d k m
-
-pub start_has_no_face : StartHasNoFace
-unfolding empty_model table.empty table.greatest
-start_has_no_face = refl

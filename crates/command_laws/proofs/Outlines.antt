@@ -1,13 +1,14 @@
 -- The corners of a face without rings, and the plane that they tell.
-use Rattle.std.proofs.Common.{◌≡◌, ℕ, zero, suc, ◌<◌, List, [], ◌∷◌, ◌++◌, Some, is_some, refl, sym, ap, subst, ◌∙◌, arith, append-nil, length, get_or, map, take}
-use Rattle.euler_operators.specs.Common.{Point, origin, moved, cross, IsIn, head_or, IsPath, IsRing, Model, LoopContent, cycle, items_of, tail, content, outer, point_of, rings_of, after, Sound, Has, IsCycle}
+use Rattle.std.proofs.Common.{◌≡◌, ℕ, zero, suc, ◌<◌, ◌≤◌, false, List, [], ◌∷◌, ◌++◌, Some, is_some, refl, sym, ap, subst, ◌∙◌, arith, append-nil, length, get_or, map, take}
+use Rattle.std.proofs.lemmas.List.{length-map}
+use Rattle.euler_operators.specs.Common.{Point, is_lone, origin, moved, cross, IsIn, head_or, IsPath, IsRing, Model, LoopContent, cycle, items_of, tail, content, outer, point_of, rings_of, after, Sound, Has, IsCycle}
 use Rattle.euler_operators.specs.Table as table
 use Rattle.euler_operators.proofs.Common.{item_there, content_row, face_row, IsIn_rest, IsIn_head}
 use Rattle.sweeps_laws.proofs.swept.Lifted.{IsPathOf}
 use Rattle.sweeps_laws.proofs.Whole.{sound_path}
 use Rattle.euler_laws.proofs.Common.{loop_sound, IsLoop}
-use Rattle.shapes.specs.Common.{start, finish, loops_of, boundary, corners, area, normal, anchor, first_vertex, plane_through, plane_of}
-use Rattle.command_laws.specs.NewFaces.{corner_points, nth, area_to, plane_round}
+use Rattle.shapes.specs.Common.{start, finish, loops_of, vertices_in, vertices_on, boundary, corners, area, normal, anchor, first_vertex, plane_through, plane_of}
+use Rattle.command_laws.specs.NewFaces.{IsFaceOf, corner_points, nth, area_to, plane_round}
 
 -- one point more
 pub take_next : (ps : List Point) (k : ℕ) → k < length ps → take (suc k) ps ≡ take k ps ++ nth ps k ∷ []
@@ -77,3 +78,15 @@ module _ (M : Model) (f l : ℕ) (hs : List ℕ) (plain : rings_of M f ≡ []) (
       (λ t. plane_through ((normal_is ∙ a) t) (anchor_is t))
       ∙ ap (λ q. plane_through (area_to q (map (start M) hs)) q) (first_is hs some)
       ∙ ap plane_round (sym points_are ∙ told)
+
+-- where it has two corners or more its outer loop isn't a lone vertex
+module _ {M : Model} {f s : ℕ} {ps : List Point} (face : IsFaceOf M f s ps) where
+  many : length ps ≡ length (corners M f)
+  many = ap length (sym face.points) ∙ length-map (corners M f) (point_of M)
+
+  corners_on : corners M f ≡ vertices_on M (content M (outer M f)) ++ []
+  unfolding corners loops_of
+  corners_on = ap (λ rs. vertices_in M (outer M f ∷ rs)) face.plain
+
+  pub outer_cycles : 2 ≤ length ps → is_lone (content M (outer M f)) ≡ false
+  outer_cycles l = grind (arith, many, corners_on)

@@ -14,12 +14,16 @@ use Rattle.sweeps_laws.proofs.swept.Lifted.{IsPathOf, within, loop_here}
 use Rattle.sweeps_laws.specs.prism.SweepOps.{taken_after}
 use Rattle.sweeps_laws.proofs.swept.Bounds.{item_within, taken_free}
 use Rattle.undo_journal.specs.Machine.{held}
-use Rattle.command_laws.specs.NewFaces.{corner_points, nth, all_moved, side_over, last_face, IsFaceOf}
-use Rattle.command_laws.specs.RingedFaces.{loop_points, corner_count, IsFarFace, RingedFaceIsFar, RingedSidesStand, SweepTakesFaces}
+use Rattle.command_laws.specs.NewFaces.{corner_points, nth, all_moved, side_over, IsFaceOf}
+use Rattle.command_laws.specs.RingedFaces.{loop_points, IsFarFace, RingedFaceIsFar}
 use Rattle.command_laws.proofs.Outlines.{nth_start, as_many, same_starts, ring_path}
 use Rattle.command_laws.proofs.MovedAreas.{moved_many, nth_moved, area_kept}
 use Rattle.command_laws.proofs.SweptLoops.{Ready, Later, items, swept_once, next, raised_is, after_ready, later_all, later_whole, ready_all, from_append, taken_all, sweep_ready, face_counted}
 use Rattle.command_laws.proofs.SweptSides.{along_cycle, ring_is, ring_moved, items_taken, loop_low, side_stands}
+
+-- how many corners some loops have
+abbrev corner_count : Model → List ℕ → ℕ
+corner_count M ls = length (vertices_in M ls)
 
 module _ (M : Model) (f : ℕ) (d : Point) (sound : Sound M) (goes : prism_refusal M f d ≡ None) where
   abbrev s : ℕ
@@ -214,10 +218,3 @@ model_counted M f d sound goes = ap (λ (N : Model). table.greatest N.faces) (pr
 pub ringed_face_is_far : RingedFaceIsFar
 ringed_face_is_far before after f d sound made =
     subst (λ N. IsFarFace (held before) N f d) (sym (ap held made.1 ∙ prism_is (held before) f d sound made.0)) (far_face (held before) f d sound made.0)
-
-pub ringed_sides_stand : RingedSidesStand
-ringed_sides_stand before after f d ls rs l i sound made parts m =
-    grind (arith, held before, made, prism_is (held before) f d sound made.0, side_at (held before) f d sound made.0 ls rs l parts i m)
-
-pub sweep_takes_faces : SweepTakesFaces
-sweep_takes_faces before after f d sound made = ap last_face made.1 ∙ ap (λ (N : Model). table.greatest N.faces) (prism_is (held before) f d sound made.0) ∙ all_counted (held before) f d sound made.0

@@ -1,9 +1,3 @@
-pub mod behind
-pub mod block_cuts
 pub mod PartCaps
 pub mod Whole
-pub mod SplitCounts
 pub mod OpenedCaps
-pub mod Sizes
-pub mod Sectioned
-pub mod Crossed

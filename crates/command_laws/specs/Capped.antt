@@ -1,5 +1,5 @@
 -- The caps of a split: two faces for each cycle of its section, one by which the part below is closed, and one for the part above.
-use Rattle.std.specs.Prelude.{◌≡◌, ℕ, ◌+◌, true, List, [], ◌∷◌, map, length, get_or}
+use Rattle.std.specs.Prelude.{◌≡◌, ℕ, true, List, [], ◌∷◌, map, get_or}
 use Rattle.euler_operators.specs.Common.{Plane, Point, mate, origin, moved, cross, direction, is_on, Model, point_of, solid_of, Has, lists}
 use Rattle.shapes.specs.Common.{corners, area, normal, faces_above, with_drawings, below_halves, section_cycles, Caps, no_caps, opened_at}
 
@@ -7,25 +7,12 @@ use Rattle.shapes.specs.Common.{corners, area, normal, faces_above, with_drawing
 abbrev pub cycles_of : Model → ℕ → Plane → List (List ℕ)
 cycles_of M s p = let D = (with_drawings M s p).model in section_cycles D (below_halves D (faces_above D p s) s)
 
--- the half-edges of the section, once its faces are drawn: there a face that isn't above meets one that is
-abbrev pub section_of : Model → ℕ → Plane → List ℕ
-section_of M s p = let D = (with_drawings M s p).model in below_halves D (faces_above D p s) s
-
 -- the caps, in the order of the cycles, and those of cycle i
 abbrev pub caps_of : Model → ℕ → Plane → List Caps
 caps_of M s p = let d = with_drawings M s p in (opened_at d (faces_above d.model p s) s p).caps
 
 abbrev pub cap : Model → ℕ → Plane → ℕ → Caps
 cap M s p i = get_or (caps_of M s p) i no_caps
-
--- a cycle of m edges takes the m + 1 numbers after f: the first for its cap below, the last for its cap above
-abbrev pub lower_numbers : ℕ → List (List ℕ) → List ℕ
-lower_numbers f [] = []
-lower_numbers f (bs ∷ cs) = (f + 1) ∷ lower_numbers (f + length bs + 1) cs
-
-abbrev pub upper_numbers : ℕ → List (List ℕ) → List ℕ
-upper_numbers f [] = []
-upper_numbers f (bs ∷ cs) = (f + length bs + 1) ∷ upper_numbers (f + length bs + 1) cs
 
 -- face f is there, is of solid s, all its corners lie on the plane, and its normal along the plane's direction
 pub record IsCapOf (M : Model) (p : Plane) (s f : ℕ) : Type 0 where

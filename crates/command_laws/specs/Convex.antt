@@ -28,7 +28,8 @@ BlocksAreConvex = (before after : Machine) (s : ℕ) (p : Point) (dx dy dz : ℤ
 
 -- where no vertex of a solid lies above a plane, no vertex of the parts does into which it is split: each half-space that holds the solid holds both
 abbrev pub SplitsStayBelow : Type 0
-SplitsStayBelow = (before after : Machine) (s : ℕ) (p : Plane) (t : ℕ) (q : Plane) → Sound (held before) → IsSplit before after s p t → LiesBelow (held before) q s → LiesBelow (held after) q s × LiesBelow (held after) q t
+SplitsStayBelow = (before after : Machine) (s : ℕ) (p : Plane) (t : ℕ) (q : Plane) → Sound (held before) → IsSplit before after s p t →
+    LiesBelow (held before) q s → LiesBelow (held after) q s × LiesBelow (held after) q t
 
 -- no vertex of solid s lies below plane p
 abbrev pub LiesAbove : Model → Plane → ℕ → Type 0

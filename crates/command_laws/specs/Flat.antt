@@ -4,7 +4,7 @@ use Rattle.std.specs.List.{list_all}
 use Rattle.euler_operators.specs.Common.{Plane, Point, origin, cross, same_point, is_on, direction, Model, content, face_of, solid_of, Sound, Has, is_lone}
 use Rattle.shapes.specs.Common.{corners, is_flat, is_plane_of, normal, towards}
 use Rattle.undo_journal.specs.Machine.{Machine, held}
-use Rattle.command_laws.specs.Commands.{IsBlock, IsSweep, IsGlue}
+use Rattle.command_laws.specs.Commands.{IsBlock, IsSweep}
 use Rattle.command_laws.specs.NewFaces.{IsFaceOf, plane_round, side_over}
 
 -- the plane round some points has a direction, and all of them lie on it
@@ -35,10 +35,6 @@ pub record IsClosedFlat (M : Model) (s : ℕ) : Type 0 where
 -- a new block is
 abbrev pub BlocksLieFlat : Type 0
 BlocksLieFlat = (before after : Machine) (s : ℕ) (p : Point) (dx dy dz : ℤ) → Sound (held before) → IsBlock before after s p dx dy dz → IsClosedFlat (held after) s
-
--- and so is a solid that came of a glue
-abbrev pub GluedLieFlat : Type 0
-GluedLieFlat = (before after : Machine) (f g : ℕ) → Sound (held before) → IsGlue before after f g → IsClosedFlat (held after) (solid_of (held before) f)
 
 -- every other solid that was so before a block still is
 abbrev pub BlockKeepsFlat : Type 0

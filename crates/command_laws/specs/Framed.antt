@@ -1,10 +1,10 @@
--- What each command leaves as it was.
+-- What a lamina, a block and a sweep leave as it was.
 use Rattle.std.specs.Prelude.{ℕ, ℤ, List}
-use Rattle.euler_operators.specs.Common.{Point, Model, solid_of, Sound}
+use Rattle.euler_operators.specs.Common.{Point, Model, Sound}
 use Rattle.undo_journal.specs.Machine.{Machine, held}
-use Rattle.command_laws.specs.Commands.{IsLamina, IsBlock, IsSweep, IsGlue}
+use Rattle.command_laws.specs.Commands.{IsLamina, IsBlock, IsSweep}
 use Rattle.command_laws.specs.NewFaces.{IsFaceOf}
-use Rattle.command_laws.specs.LeftAlone.{KeepsOwners, KeepsLoops, KeepsEdges, KeepsPoints, StandsAsBefore, KeepsShapes, Each, AllBut, OfOthers, OfOthersBut}
+use Rattle.command_laws.specs.LeftAlone.{KeepsOwners, KeepsLoops, KeepsEdges, KeepsPoints, StandsAsBefore, KeepsShapes, Each, AllBut}
 
 -- a lamina: each face that is there keeps its solid, each loop its content, each edge its ends, and each vertex its point; and so each face
 -- its shape
@@ -54,22 +54,6 @@ SweepKeepsPoints = (before after : Machine) (f : ℕ) (d : Point) → Sound (hel
 
 abbrev pub SweepKeepsShapes : Type 0
 SweepKeepsShapes = (before after : Machine) (f : ℕ) (d : Point) → Sound (held before) → IsSweep before after f d → KeepsShapes (AllBut f) (held before) (held after)
-
--- a glue: so it is with the faces that aren't of the solid that goes, but for the first face and its loop
-abbrev pub GlueKeepsOwners : Type 0
-GlueKeepsOwners = (before after : Machine) (f g : ℕ) → IsGlue before after f g → KeepsOwners (OfOthersBut (held before) (solid_of (held before) g) f) (held before) (held after)
-
-abbrev pub GlueKeepsLoops : Type 0
-GlueKeepsLoops = (before after : Machine) (f g : ℕ) → Sound (held before) → IsGlue before after f g → KeepsLoops (OfOthersBut (held before) (solid_of (held before) g) f) (held before) (held after)
-
-abbrev pub GlueKeepsEdges : Type 0
-GlueKeepsEdges = (before after : Machine) (f g : ℕ) → Sound (held before) → IsGlue before after f g → KeepsEdges (OfOthers (held before) (solid_of (held before) g)) (held before) (held after)
-
-abbrev pub GlueKeepsPoints : Type 0
-GlueKeepsPoints = (before after : Machine) (f g : ℕ) → Sound (held before) → IsGlue before after f g → KeepsPoints (OfOthers (held before) (solid_of (held before) g)) (held before) (held after)
-
-abbrev pub GlueKeepsShapes : Type 0
-GlueKeepsShapes = (before after : Machine) (f g : ℕ) → Sound (held before) → IsGlue before after f g → KeepsShapes (OfOthersBut (held before) (solid_of (held before) g) f) (held before) (held after)
 
 -- a face that stands as it did is what it was known to be
 abbrev pub FacesStand : Type 0

@@ -51,7 +51,3 @@ AllBut f k = k ≢ f
 -- each face of another solid than s
 abbrev pub OfOthers : Model → ℕ → ℕ → Type 0
 OfOthers M s k = solid_of M k ≢ s
-
--- each face of another solid than s, but f
-abbrev pub OfOthersBut : Model → ℕ → ℕ → ℕ → Type 0
-OfOthersBut M s f k = OfOthers M s k × (k ≢ f)

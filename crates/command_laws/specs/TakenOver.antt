@@ -1,9 +1,7 @@
--- The faces of the solid that a glue takes over.
-use Rattle.std.specs.Prelude.{◌≡◌, ◌≢◌, ℕ, true, List, ◌++◌}
-use Rattle.euler_operators.specs.Common.{Point, IsIn, Model, solid_of, Sound, Has}
+-- A face that another solid takes over.
+use Rattle.std.specs.Prelude.{◌≡◌, ℕ, true, List, ◌++◌}
+use Rattle.euler_operators.specs.Common.{Point, IsIn, Model, solid_of, Has}
 use Rattle.shapes.specs.Common.{loops_of, plane_of, is_flat}
-use Rattle.undo_journal.specs.Machine.{Machine, held}
-use Rattle.command_laws.specs.Commands.{IsGlue}
 use Rattle.command_laws.specs.RingedFaces.{loop_points}
 
 -- qs is ps, round from another point on
@@ -21,8 +19,3 @@ pub record IsTakenOver (M N : Model) (k s : ℕ) : Type 0 where
   pub points : (l : ℕ) → IsIn l (loops_of M k) → AreTurned (loop_points M l) (loop_points N l)
   pub plane : plane_of N k ≡ plane_of M k
   pub flat : is_flat N k ≡ true
-
--- after a glue each face of the solid that goes, but the one that was glued, is the first solid's
-abbrev pub GlueTakesFaces : Type 0
-GlueTakesFaces = (before after : Machine) (f g k : ℕ) → Sound (held before) → IsGlue before after f g → Has (held before).faces k →
-    solid_of (held before) k ≡ solid_of (held before) g → k ≢ g → IsTakenOver (held before) (held after) k (solid_of (held before) f)

@@ -1,5 +1,5 @@
 //! What each command leaves as it was: the solids of faces, loops, the ends of edges and the points of vertices.
-ghost use Rattle.command_laws.specs.Framed.{LaminaKeepsOwners, LaminaKeepsLoops, LaminaKeepsEdges, LaminaKeepsPoints, LaminaKeepsShapes, BlockKeepsOwners, BlockKeepsLoops, BlockKeepsEdges, BlockKeepsPoints, BlockKeepsShapes, SweepKeepsOwners, SweepKeepsLoops, SweepKeepsEdges, SweepKeepsPoints, SweepKeepsShapes, GlueKeepsOwners, GlueKeepsLoops, GlueKeepsEdges, GlueKeepsPoints, GlueKeepsShapes, FacesStand};
+ghost use Rattle.command_laws.specs.Framed.{LaminaKeepsOwners, LaminaKeepsLoops, LaminaKeepsEdges, LaminaKeepsPoints, LaminaKeepsShapes, BlockKeepsOwners, BlockKeepsLoops, BlockKeepsEdges, BlockKeepsPoints, BlockKeepsShapes, SweepKeepsOwners, SweepKeepsLoops, SweepKeepsEdges, SweepKeepsPoints, SweepKeepsShapes, FacesStand};
 
 /// After a lamina each face that was there is of the solid that it was, each loop has its face and its content, each edge its ends, and
 /// each vertex its point; so each face has the outer loop, the rings, the corner points and the plane that it had.
@@ -27,16 +27,6 @@ pub fn sweeps_leave_alone()
     ensures edges { SweepKeepsEdges }
     ensures points { SweepKeepsPoints }
     ensures shapes { SweepKeepsShapes }
-{}
-
-/// After a glue so it is with each face that wasn't of the solid that goes, and its loops, edges and vertices, but for the first face
-/// and its loop.
-pub fn glues_leave_alone()
-    ensures owners { GlueKeepsOwners }
-    ensures loops { GlueKeepsLoops }
-    ensures edges { GlueKeepsEdges }
-    ensures points { GlueKeepsPoints }
-    ensures shapes { GlueKeepsShapes }
 {}
 
 /// A face that stands as it did still has the solid, the corner points and the plane that it was known to have.

@@ -9,7 +9,7 @@
 //! - nodes linked by `next` and `prev`, a splice of them, and what a drop frees: `raw_ring/src/rings.rt`, `raw_ring/src/nodes.rt`;
 //! - normals, planes, flat faces and counts: `solid_measure/src/measures.rt`, `solid_measure/src/solid_counts/solids.rt`;
 //! - points, sides of a plane and cut points: `lattice/src`;
-//! - the faces of new solids, what larger commands leave as it was, and what `counts` answers after them: `command_laws/src`;
+//! - the faces of new solids, what larger commands leave as it was, and which solids are convex: `command_laws/src`;
 //! - the grammar, the command line and the exit status: `script_reader/src/line.rt`, `command_line/src`.
 //!
 //! # What is proved

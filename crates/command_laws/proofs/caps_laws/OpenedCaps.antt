@@ -1,4 +1,4 @@
--- The caps once a solid is opened along all cycles of its section: their numbers, their corners, and their normals.
+-- The caps once a solid is opened along all cycles of its section: their corners and their normals.
 use Rattle.std.proofs.Common.{◌≡◌, ℕ, zero, suc, ◌+◌, ◌<◌, true, List, [], ◌∷◌, ◌++◌, length, map, get_or, refl, sym, ap, subst, ◌∙◌, arith, ◌≢◌, ◌≤◌, ℤ, ◌+ℤ◌, Bool, false, cond, nat_eq, pos, int_lt, filter, append_assoc, append-nil, eq-eqb, ne_eqb}
 use Rattle.std.proofs.lemmas.Int.{ints}
 use Rattle.std.proofs.lemmas.List.{map-append}
@@ -11,7 +11,7 @@ use Rattle.split_opening_laws.specs.sections.Capped.{ArePlain, HasCaps, IsPlain,
 use Rattle.split_opening_laws.specs.sections.InTurn.{CanBeOpenedInTurn}
 use Rattle.split_opening_laws.specs.strips.Opened.{CanBeOpened}
 use Rattle.split_opening_laws.specs.cycles.SectionCycles.{AreSectionCycles}
-use Rattle.split_opening_laws.proofs.sections.InTurn.{can_open, openings_carry, capped_carry, new_caps}
+use Rattle.split_opening_laws.proofs.sections.InTurn.{can_open, capped_carry, new_caps}
 use Rattle.split_laws.specs.opened.Told.{LiesAlong}
 use Rattle.split_laws.specs.volumes.Closing.{CanClose}
 use Rattle.split_laws.proofs.opened.Caps.{lower_normal, upper_normal, area_kept}
@@ -22,19 +22,7 @@ use Rattle.split_laws.proofs.volumes.Closed.{ClearOf, closing, closing_leads}
 use Rattle.split_laws.proofs.volumes.Taken as taken
 use Rattle.split_laws.proofs.volumes.Taken.{CanTake}
 use Rattle.split_laws.proofs.Holes.{IsOfEach, each_last}
-use Rattle.command_laws.specs.Capped.{lower_numbers, upper_numbers, area_below, sum_of}
-
--- ---- numbers
-
-pub lowers_are : (above : List ℕ) (s : ℕ) (p : Plane) (o : Opening) (cs : List (List ℕ)) → CanBeOpenedInTurn above s o cs → map (λ k. k.lower) (all_opened p above s o cs).caps ≡ map (λ k. k.lower) o.caps ++ lower_numbers o.taken.face cs
-lowers_are above s p o cs w = sym (append-nil (map (λ k. k.lower) (all_opened p above s o cs).caps))
-    ∙ openings_carry above s p (λ x ds. map (λ k. k.lower) x.caps ++ lower_numbers x.taken.face ds ≡ map (λ k. k.lower) o.caps ++ lower_numbers o.taken.face cs) (λ x bs ds w a.
-    ap (λ ks. ks ++ lower_numbers (x.taken.face + length bs + 1) ds) (map-append (λ k. k.lower) x.caps (new_caps p x bs ∷ [])) ∙ append_assoc (map (λ k. k.lower) x.caps) _ (lower_numbers (x.taken.face + length bs + 1) ds) ∙ a) o cs w refl
-
-pub uppers_are : (above : List ℕ) (s : ℕ) (p : Plane) (o : Opening) (cs : List (List ℕ)) → CanBeOpenedInTurn above s o cs → map (λ k. k.upper) (all_opened p above s o cs).caps ≡ map (λ k. k.upper) o.caps ++ upper_numbers o.taken.face cs
-uppers_are above s p o cs w = sym (append-nil (map (λ k. k.upper) (all_opened p above s o cs).caps))
-    ∙ openings_carry above s p (λ x ds. map (λ k. k.upper) x.caps ++ upper_numbers x.taken.face ds ≡ map (λ k. k.upper) o.caps ++ upper_numbers o.taken.face cs) (λ x bs ds w a.
-    ap (λ ks. ks ++ upper_numbers (x.taken.face + length bs + 1) ds) (map-append (λ k. k.upper) x.caps (new_caps p x bs ∷ [])) ∙ append_assoc (map (λ k. k.upper) x.caps) _ (upper_numbers (x.taken.face + length bs + 1) ds) ∙ a) o cs w refl
+use Rattle.command_laws.specs.Capped.{area_below, sum_of}
 
 -- ---- normals
 
@@ -105,8 +93,6 @@ outer_on M p f a v i = grind (arith, from_map, a.items, a.outer_is, a.on_plane)
 
 pub plain_lies : (M : Model) (p : Plane) (s f : ℕ) → IsPlain M s f → LiesAlong M p f → LiesOn M p f
 plain_lies M p s f plain a l there of v i = outer_on M p f a v (subst (λ q. IsIn v (vertices_on M (content M q))) (plain.no_ring l there of) i)
-
--- ---- the normals of the caps: each cap below has the area of its cycle, and those of the holes that it takes in; the cap above is its opposite
 
 -- ---- vectors
 

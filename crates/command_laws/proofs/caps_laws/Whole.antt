@@ -1,18 +1,13 @@
-use Rattle.std.proofs.Common.{◌≡◌, [], false, get_or, map, sym, subst, arith, int_lt, pos}
+-- The caps of a whole split.
+use Rattle.std.proofs.Common.{◌≡◌, [], false, get_or, map, sym, subst, int_lt, pos}
 use Rattle.euler_operators.specs.Table as table
 use Rattle.euler_operators.specs.Common.{direction, dot, moved}
 use Rattle.shapes.specs.Common.{normal, negated, holes_in, is_hole, faces_above, with_drawings}
-use Rattle.command_laws.specs.Caps.{CapsAreNumbered, CapsFaceApart, CapsHaveNormals, CapsStand, HolesAreClosed}
+use Rattle.command_laws.specs.Caps.{CapsFaceApart, CapsHaveNormals, CapsStand, HolesAreClosed}
 use Rattle.undo_journal.specs.Machine.{held}
-use Rattle.split_laws.proofs.Flags.{flags_are}
-use Rattle.split_laws.proofs.drawn.Drawn.{can_open_all}
 use Rattle.command_laws.specs.Capped.{IsCapOf, area_below, cap, cycles_of, sum_of}
-use Rattle.command_laws.proofs.caps_laws.OpenedCaps.{lowers_are, uppers_are}
 use Rattle.command_laws.proofs.caps_laws.PartCaps.{both_caps, both_gone, faces_apart, normals_told}
 use Rattle.command_laws.proofs.splits_laws.Whole.{after_is, after_sound, can}
-
-pub caps_are_numbered : CapsAreNumbered
-caps_are_numbered before after s p t sound made = grind (arith, can_open_all, lowers_are, uppers_are, flags_are)
 
 -- ---- the caps of cycle i
 

@@ -1,4 +1,4 @@
-use Rattle.command_laws.proofs.AcceptedMore.{glues_fit}
+use Rattle.command_laws.proofs.Accepted.{glues_fit}
 use Rattle.command_laws.proofs.glues_fit.Goals as goal
 
 pub returns : goal.returns

@@ -7,9 +7,8 @@ use Rattle.euler_operators.specs.Table as table
 use Rattle.euler_operators.specs.declared.Op.TheVariants.{Kfmrh}
 use Rattle.euler_operators.proofs.Common.{code-half, plus_row, same_edge, face_row, same_solid, solid_row}
 use Rattle.euler_laws.proofs.Common.{face_there, mapped_some, solid_either, loop_row}
-use Rattle.shapes.specs.Common.{draw_edge, join_edge}
 use Rattle.split_drawing_laws.proofs.drawings.Drawn.{CanDraw, CanJoin, draw_accepted, face_drawn, join_accepted, loops_joined}
-use Rattle.command_laws.proofs.Inner.{AgreeBut, inner_within}
+use Rattle.command_laws.proofs.Inner.{AgreeBut, kfmrh_within, mef_within, mekr_within}
 use Rattle.command_laws.proofs.Owners.{Agree, half_kept, is_either, is_of, neither, not_either, solid_of_edge, solid_of_half, solid_of_loop, turned}
 
 -- an edge is of the solid of each of its halves
@@ -34,15 +33,15 @@ module _ (s : ℕ) (M N : Model) (w : AgreeBut s M N) where
 
 pub draw_within : (N : Model) (u k e g l s : ℕ) → CanDraw N u k e g l → solid_of_half N u ≡ s → AgreeBut s N (face_drawn N u k e g l)
 draw_within N u k e g l s can of =
-    subst (λ x. AgreeBut x N (face_drawn N u k e g l)) (ap (solid_of_half N) (code-half u) ∙ of) (inner_within (draw_edge u k e g l) N can.sound (draw_accepted N u k e g l can) refl)
+    subst (λ x. AgreeBut x N (face_drawn N u k e g l)) (ap (solid_of_half N) (code-half u) ∙ of) (mef_within _ _ _ g l N can.sound (draw_accepted N u k e g l can))
 
 pub join_within : (N : Model) (c d e s : ℕ) → CanJoin N c d e → solid_of_half N c ≡ s → AgreeBut s N (loops_joined N c d e)
 join_within N c d e s can of =
-    subst (λ x. AgreeBut x N (loops_joined N c d e)) (ap (solid_of_half N) (code-half c) ∙ of) (inner_within (join_edge c d e) N can.sound (join_accepted N c d e can) refl)
+    subst (λ x. AgreeBut x N (loops_joined N c d e)) (ap (solid_of_half N) (code-half c) ∙ of) (mekr_within N can.sound _ _ _ (join_accepted N c d e can))
 
 pub kill_within : (N : Model) → Sound N → (f g s : ℕ) → first_false N (Kfmrh f g) ≡ None → solid_of N f ≡ s → AgreeBut s N (kfmrh N f g)
 unfolding effect
-kill_within N sound f g s accepted of = subst (λ x. AgreeBut x N (kfmrh N f g)) of (inner_within (Kfmrh f g) N sound accepted refl)
+kill_within N sound f g s accepted of = subst (λ x. AgreeBut x N (kfmrh N f g)) of (kfmrh_within N sound f g accepted)
 
 -- ---- a ring given to another face
 
