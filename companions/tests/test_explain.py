@@ -8,13 +8,16 @@ import unittest
 
 from support import REPOSITORY, box, listing, program, run, scripts
 
+from gwb import Workbench
 from gwb.errors import NotReplies
 from gwb.geometry.lattice_cuts import off_lattice_cut
+from gwb.geometry.matching_faces import _plane
 from gwb.programs.explain import annotated, complaints, join
 from gwb.protocol.language import FAULTS, TEXTS, first_word, is_answered, refusal
 from gwb.protocol.listing import read_model
 from gwb.protocol.refusals import NAMES
 from gwb.protocol.replies import split_replies
+from gwb.protocol.word_advice import _ELSEWHERE, word_advice
 
 
 def explained(script, replies):
@@ -40,6 +43,14 @@ class Complaints(unittest.TestCase):
 
     def test_memory(self):
         self.assertIn('may be given again', explained(b'undo\n', b'memory\n')[0])
+
+    def test_an_undo_behind_a_refusal(self):
+        """It is told once what it takes back."""
+        told = '    # the `undo` that follows takes back the last command that was accepted: a refused one has changed nothing'
+        lines = explained(b'kev +1\n# then\nundo\nkev +2\nundo\nkev +1\nlist\n', b'refused 5 1\nok\nrefused 5 2\nok\nrefused 5 1\nempty\n')
+        self.assertEqual([line for line in lines if line.startswith('    ')], [told])
+        self.assertEqual(lines[1], told)
+        self.assertNotIn(told, explained(b'kev +1\nundo\n', b'refused 5 1\nrefused 25 0\n'))
 
     def test_listings_count_as_one_reply(self):
         listing = b'solid 1\nface 1 1 1\nloop 1 at 1\nvertex 1 0 0 0\n'
@@ -108,6 +119,90 @@ class CutsOffTheLattice(unittest.TestCase):
         hint = ['    # with a `list` on the line before, it is told here where the plane cuts, and what would do']
         self.assertEqual(self.advice(BLOCK + SPLIT, b'ok\n' + REFUSED), hint)
         self.assertEqual(self.advice(BLOCK + b'list\nblock 2 9 9 9 1 1 1\n' + SPLIT, b'ok\n' + self.LISTED + b'ok\n' + REFUSED), hint)
+
+
+def blocks(*corners):
+    """A listing of boxes, each a solid."""
+    points, solids = [], []
+    for low, high in corners:
+        more, faces = box(low, high, len(points) + 1)
+        points += more
+        solids.append(faces)
+    return listing(points, *solids).encode()
+
+
+class FacesThatDoNotMatch(unittest.TestCase):
+    """What is said of a glue whose faces have other points. The faces of a box are its bottom, top, front, right, back and left."""
+
+    def advice(self, listed, line, hint=True):
+        script, replies = (b'block 1 0 0 0 1 1 1\nlist\n', b'ok\n' + listed) if hint else (b'block 1 0 0 0 1 1 1\n', b'ok\n')
+        lines = explained(script + line + b'\n', replies + b'refused 34 2\n')
+        return [told.strip() for told in lines[1:-1]]
+
+    def test_the_planes_and_the_face_that_does(self):
+        listed = blocks(((0, 0, 0), (4, 4, 4)), ((4, 0, 0), (6, 4, 4)))
+        self.assertEqual(self.advice(listed, b'glue 4 7'), ['# face 4 lies in x = 4, face 7 in z = 0', '# face 12 of solid 2 matches face 4:', 'glue 4 12'])
+        self.assertEqual(self.advice(listed, b'glue 1 12'), ['# face 1 lies in z = 0, face 12 in x = 4', '# face 4 of solid 1 matches face 12:', 'glue 4 12'])
+
+    def test_corners_that_only_one_has(self):
+        listed = blocks(((0, 0, 0), (4, 4, 4)), ((4, 0, 0), (6, 4, 5)))
+        self.assertEqual(self.advice(listed, b'glue 4 12'), ['# face 4 has the corner 4 0 4, and 1 more that face 12 has not',
+                                                            '# face 12 has the corner 4 0 5, and 1 more that face 4 has not',
+                                                            '# no face of another solid matches face 4 or face 12'])
+
+    def test_faces_that_look_the_same_way(self):
+        listed = blocks(((0, 0, 0), (4, 4, 4)), ((2, 0, 0), (4, 4, 4)))
+        self.assertEqual(self.advice(listed, b'glue 4 10')[0], '# both look the same way, and faces that are glued look at each other')
+
+    def test_a_slanted_plane(self):
+        points = [(0, 0, 0), (3, 0, 0), (0, 2, 0), (0, 0, -1)]
+        listed = listing(points, [[(1, 3, 2)], [(1, 2, 4)], [(2, 3, 4)], [(1, 4, 3)]])
+        other = listing(*box((9, 9, 9), (10, 10, 10), 5)).replace('solid 1', 'solid 2')
+        model = read_model(listed.encode())
+        self.assertEqual(str(_plane(model, 3)), '2x + 3y - 6z = 6')
+        self.assertIn('vertex', other)
+
+    def test_without_a_listing(self):
+        self.assertEqual(self.advice(b'', b'glue 4 7', hint=False), ['# with a `list` on the line before, it is told here which face would match'])
+
+    def test_replies_of_another_script(self):
+        listed = blocks(((0, 0, 0), (4, 4, 4)), ((4, 0, 0), (6, 4, 4)))
+        for line, part in ((b'glue 4', 'never refuses NoMatch'), (b'kvfs 1', 'never refuses NoMatch'), (b'glue 4 99', 'has not')):
+            with self.subTest(line), self.assertRaisesRegex(NotReplies, part):
+                self.advice(listed, line)
+
+
+class WordsThatCanNotBeRead(unittest.TestCase):
+    """What is said of a line that is no command."""
+
+    def test_each(self):
+        for line, fault, told in (
+                ('block 1 0 0 0 1.5 1 1', 2, '`1.5` is not whole: all numbers are; choose a finer unit, such as tenths (gwb-script --scale 10 multiplies a model)'),
+                ('kef 17', 2, '`17` is no half-edge: of edge 17 they are +17 and -17'), ('kef x', 2, '`x` is no half-edge: of edge E they are +E and -E'),
+                ('mev 3 +1 1 1 0 0 0', 2, '`3` is no corner: it is +3 or -3, a half-edge, or @3, the vertex of lone loop 3'),
+                ('kvfs +1', 2, '`+1`: a sign + stands before half-edges alone'), ('kvfs one', 2, '`one` is no number'),
+                ('mef +1 +2 1/2 1 1', 2, '`1/2` is not whole'), ('kvfs 1e3', 2, '`1e3` is not whole'),
+                ('mvfs 1 1 1 1 0 0 9999999999999999999', 2, '`9999999999999999999` has more than 18 digits'),
+                ('move 1 2 3', 1, 'gwb has no move: gwb-script makes the script of a model that is moved (--move DX DY DZ); in Python it is move'),
+                ('hole 1', 1, 'gwb has no hole: it is a method of Python: bench.hole'), ('BLOCK 1', 1, 'commands are written in small letters: block'),
+                ('kevv +1', 1, 'is kev meant?'), ('splitt', 1, 'is split meant?')):
+            with self.subTest(line):
+                found = word_advice(line, fault)
+                self.assertEqual(len(found), 1)
+                self.assertTrue(found[0].startswith(f'# {told}'), found)
+
+    def test_where_nothing_is_known(self):
+        for line, fault in (('', 1), ('zzz', 1), ('kev +1', 2), ('mev @4 +1 1 1 0 0 0', 2), ('ringmv 1 2 up', 1), ('kev', 3), ('kev +1 2', 4)):
+            self.assertEqual(word_advice(line, fault), [], line)
+
+    def test_methods_of_python_are_there(self):
+        """Each word that is told to be Python's is a method of the session."""
+        for word, told in _ELSEWHERE.items():
+            for name in re.findall(r'bench\.(\w+)|in Python it is (\w+)', told):
+                self.assertTrue(callable(getattr(Workbench, ''.join(name), None)), (word, name))
+
+    def test_below_the_complaint(self):
+        self.assertEqual(explained(b'kef 17\n', b'fault 2\n')[1:], ['    # `17` is no half-edge: of edge 17 they are +17 and -17', '1 complaint'])
 
 
 class Refusing(unittest.TestCase):

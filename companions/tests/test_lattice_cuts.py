@@ -3,6 +3,7 @@
 import random
 import subprocess
 import unittest
+from dataclasses import replace
 from fractions import Fraction
 from itertools import count
 
@@ -81,6 +82,18 @@ class Places(unittest.TestCase):
         self.assertEqual((cut.factor, cut.fits), (2, False))
         self.assertIn('# times 2 all points are whole, but the model would lie past 1,000,000,000', cut.advice(2))
 
+    def test_a_line_that_stays_the_same_is_not_said_again(self):
+        cut = off_lattice_cut(block(3, 4, 5), 1, (3, -2, 0, 0))
+        self.assertEqual((cut.factor, cut.scaled_plane), (3, cut.plane))
+        self.assertIn('# times 3 (gwb-script --scale 3) all points are whole, by the same line', cut.advice(2))
+        self.assertNotIn('split 1 3 -2 0 0 2', cut.advice(2))
+
+    def test_planes_that_move_the_cut_far_are_left_out(self):
+        moved = [Fraction(1), Fraction(4), Fraction(5)]
+        tilted = tuple(NearPlane((1, 0, at, 0), False, square) for at, square in enumerate(moved, 1))
+        cut = replace(off_lattice_cut(block(20, 3, 3), 1, (2, 0, 0, -3)), parallel=None, tilted=tilted)
+        self.assertEqual([line for line in cut.advice(2) if line.startswith('split')][1:], ['split 1 1 0 1 0 2', 'split 1 1 0 2 0 2'])
+
     def test_a_whole_cut_needs_nothing(self):
         cut = off_lattice_cut(CUBE, 1, (1, 0, 0, -1))
         self.assertEqual((cut.factor, cut.off_lattice, cut.parallel, cut.tilted, cut.advice(2)), (1, (), None, (), []))
@@ -142,7 +155,9 @@ class Near(unittest.TestCase):
             cut = off_lattice_cut(model, 1, plane)
             near = [one for one in (cut.parallel, *cut.tilted) if one is not None]
             splits = [' '.join(map(str, ('split', 1, *one.plane, 2))) for one in near]
-            self.assertEqual([line for line in cut.advice(2) if line.startswith('split')][1:], splits)
+            told = [line for line in cut.advice(2) if line.startswith('split')][plane[3] != 0:]
+            self.assertEqual(told, [split for one, split in zip(near, splits)
+                                    if one.is_parallel or one.square_moved <= max(1, Fraction(cut.longest ** 2, 100))])
             tried = ''.join(f'{line}\nundo\n' for line in splits)
             answers = replies(script + 'split 1 {} {} {} {} 2\n'.format(*plane) + tried)
             self.assertTrue(answers[2].startswith('refused 37 '), answers)

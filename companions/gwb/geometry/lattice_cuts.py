@@ -8,6 +8,7 @@
 """
 
 from dataclasses import dataclass
+from fractions import Fraction
 from math import lcm
 from typing import Iterable, Iterator, List, Optional, Tuple
 
@@ -32,6 +33,8 @@ class OffLatticeCut:
     """The nearest plane with the same normal that cuts at whole points, where there is one."""
     tilted: Tuple[NearPlane, ...]
     """Other planes that cut at whole points, the nearest first."""
+    longest: int = 0
+    """The longest side of the solid's box."""
 
     @property
     def off_lattice(self) -> Tuple[Crossing, ...]:
@@ -55,6 +58,8 @@ class OffLatticeCut:
     def _scaled(self, above: int) -> Iterator[str]:
         if not self.fits:
             yield f'# times {self.factor} all points are whole, but the model would lie past 1,000,000,000'
+        elif self.factor > 1 and self.scaled_plane == self.plane:
+            yield f'# times {self.factor} (gwb-script --scale {self.factor}) all points are whole, by the same line'
         elif self.factor > 1:
             yield f'# times {self.factor} (gwb-script --scale {self.factor}) all points are whole:'
             yield self._split(self.scaled_plane, above)
@@ -62,10 +67,14 @@ class OffLatticeCut:
     def _near(self, above: int) -> Iterator[str]:
         if self.parallel is None and self.factor > 1:
             yield '# no parallel plane cuts at whole points'
-        for near in (*([] if self.parallel is None else [self.parallel]), *self.tilted):
+        for near in (*([] if self.parallel is None else [self.parallel]), *filter(self._is_near, self.tilted)):
             way, hundredths = 'parallel' if near.is_parallel else 'tilted', near.hundredths_moved
             yield f'# {way}, the cut moves by at most {hundredths // 100}.{hundredths % 100:02} along an edge:'
             yield self._split(near.plane, above)
+
+    def _is_near(self, near: NearPlane) -> bool:
+        """Whether a plane moves the cut by at most one, or a tenth of the solid."""
+        return near.square_moved <= max(Fraction(1), Fraction(self.longest ** 2, 100))
 
     def _split(self, plane: Plane, above: int) -> str:
         return ' '.join(map(str, ('split', self.solid, *plane, above)))
@@ -86,5 +95,11 @@ def off_lattice_cut(model: Model, solid: int, plane: Plane, most: int = 3) -> Of
     reach = max((abs(part) for point in model.vertices.values() for part in point), default=0)
     fits = reach * factor <= FARTHEST and abs(plane[3]) * factor <= FARTHEST_OFFSET
     near = NearPlanes(model, solid, plane) if factor > 1 else None
-    return OffLatticeCut(solid, plane, found, factor, fits,
-                         parallel=None if near is None else near.parallel(), tilted=() if near is None else tuple(near.tilted(most)))
+    return OffLatticeCut(solid, plane, found, factor, fits, parallel=None if near is None else near.parallel(),
+                         tilted=() if near is None else tuple(near.tilted(most)), longest=_longest_side(model, solid))
+
+
+def _longest_side(model: Model, solid: int) -> int:
+    """The longest side of the box around a solid."""
+    points = [point for face in model.faces_of(solid) for point in model.face_points(face)]
+    return max(max(point[axis] for point in points) - min(point[axis] for point in points) for axis in range(3))

@@ -2,21 +2,23 @@
 
 import argparse
 from functools import lru_cache
-from typing import Iterable, Iterator, List, NamedTuple, Optional, Sequence, Tuple
+from typing import Callable, Dict, Iterable, Iterator, List, NamedTuple, Optional, Sequence, Tuple
 
 from ..errors import CompanionError, NotAListing, NotReplies
 from ..geometry.crossings import Plane
 from ..geometry.lattice_cuts import off_lattice_cut
+from ..geometry.matching_faces import glue_advice
 from ..geometry.model import Model
 from ..protocol.language import FAULTS, first_word, is_answered, refusal
 from ..protocol.listing import model_of
 from ..protocol.refusals import NAMES
 from ..protocol.replies import Reply, shortened, split_replies
+from ..protocol.word_advice import word_advice
 from .command_line import FOUND, OK, add_version, read_bytes, run
 from .inside_out import warn_of_inside_out
 
 PROGRAM = 'gwb-explain'
-NOT_LATTICE = next(number for number, name in NAMES.items() if name == 'NotLattice')
+NOT_LATTICE, NO_MATCH = (next(number for number, name in NAMES.items() if name == wanted) for wanted in ('NotLattice', 'NoMatch'))
 _WIDTH = 48
 
 
@@ -77,6 +79,7 @@ def meaning(word: str, reply: Reply) -> str:
 def complaints(name: str, joined: Iterable[Answered]) -> Iterator[str]:
     """A line for each complaint, those that say what would do, indented, and one with the number of complaints."""
     count, lines = 0, list(joined)
+    undone = next(_undone(lines), None)
     for answered, listing in zip(lines, _listings_at(lines)):
         reply = answered.reply
         if reply is not None and reply.is_complaint:
@@ -84,7 +87,17 @@ def complaints(name: str, joined: Iterable[Answered]) -> Iterator[str]:
             yield (f'{name}:{answered.number}: {shortened(answered.text)}: {reply.lines[0]}: '
                    + meaning(first_word(answered.line), reply))
             yield from (f'    {line}' for line in _advice(answered, listing))
+            if answered is undone:
+                yield '    # the `undo` that follows takes back the last command that was accepted: a refused one has changed nothing'
     yield f'{count} complaint' + ('' if count == 1 else 's')
+
+
+def _undone(joined: Sequence[Answered]) -> Iterator[Answered]:
+    """The lines that were refused and are followed by an accepted undo."""
+    replied = [answered for answered in joined if answered.reply is not None]
+    for answered, after in zip(replied, replied[1:]):
+        if answered.reply and answered.reply.is_complaint and first_word(after.line) == 'undo' and after.reply and after.reply.word == 'ok':
+            yield answered
 
 
 def _listings_at(joined: Sequence[Answered]) -> List[Optional[Reply]]:
@@ -104,10 +117,32 @@ def _carried(joined: Iterable[Answered]) -> Iterator[Optional[Reply]]:
 
 
 def _advice(answered: Answered, listing: Optional[Reply]) -> List[str]:
-    """Where a split that was refused NotLattice cuts, and what would do, as lines of a script; nothing for other complaints."""
+    """What would do in the place of a line that wasn't accepted, as lines of a script; nothing where that isn't known."""
     reply = answered.reply
-    if reply is None or reply.word != 'refused' or reply.numbers[0] != NOT_LATTICE:
-        return []
+    if reply is not None and reply.word == 'fault':
+        return word_advice(answered.text, reply.numbers[0])
+    if reply is not None and reply.word == 'refused' and reply.numbers[0] in _ADVISERS:
+        return _ADVISERS[reply.numbers[0]](answered, listing)
+    return []
+
+
+def _glue_advice(answered: Answered, listing: Optional[Reply]) -> List[str]:
+    """Why two faces don't match, and which would. Raises NotReplies where the line is no glue of faces that the listing has."""
+    words = answered.text.split()
+    if first_word(answered.line) != 'glue' or len(words) != 3 or not all(word.isdecimal() for word in words[1:]):
+        raise NotReplies(f'line {answered.number} of the script is `{shortened(answered.text)}`, which gwb never refuses NoMatch: '
+                         'the replies are of another script')
+    if listing is None:
+        return ['# with a `list` on the line before, it is told here which face would match']
+    model = _model(listing)
+    first, second = map(int, words[1:])
+    if first not in model.faces or second not in model.faces:
+        raise NotReplies(f'line {answered.number} of the script glues faces which the listing beside it has not')
+    return glue_advice(model, first, second)
+
+
+def _split_advice(answered: Answered, listing: Optional[Reply]) -> List[str]:
+    """Where a split cuts, and what would do."""
     solid, plane, above = _split_words(answered)
     if listing is None:
         return ['# with a `list` on the line before, it is told here where the plane cuts, and what would do']
@@ -126,6 +161,9 @@ def _split_words(answered: Answered) -> Tuple[int, Plane, int]:
         raise NotReplies(f'line {answered.number} of the script is `{shortened(answered.text)}`, which gwb never refuses NotLattice: '
                          'the replies are of another script')
     return solid, (a, b, c, d), above
+
+
+_ADVISERS: Dict[int, Callable[[Answered, Optional[Reply]], List[str]]] = {NOT_LATTICE: _split_advice, NO_MATCH: _glue_advice}
 
 
 @lru_cache(maxsize=1)
