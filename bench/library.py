@@ -41,6 +41,8 @@ def table(cells, counts, ways):
 
 
 def main():
+    if not Path(PROGRAM).is_file():
+        raise SystemExit('bench/library.py: there is no bench/library: make -C bindings bench builds it, and runs this')
     cells = measured()
     counts = counted() if callgrind.is_there() else {}
     ways = list(dict.fromkeys(way for _, way in cells))

@@ -186,6 +186,9 @@ def measure_kind(bench, names, sizes, a):
 
 def main():
     a = options()
+    if not os.path.isfile(a.program):
+        raise SystemExit('bench/run.py: there is no program %s: (cd crates/gwb && rt run) < examples/wire.gwb proves and builds it; --program names another'
+                         % os.path.normpath(a.program))
     subprocess.run(['make', '-s', '-C', HERE], check=True)
     if not callgrind.is_there():
         print('Instructions are left out: there is no valgrind.')

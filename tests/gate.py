@@ -4,8 +4,8 @@
     tests/gate.py
 
 Each test that takes a program or a library is started on one that isn't there, and those that need tools where there are none. Each is asked for
-help, and given a word that it doesn't take. The gate, .ci/run, is run in a folder of its own, in which `rt`, .ci/needs, .ci/archive and all tests
-are stubs that print what they are to. The last line counts.
+help, and given a word that it doesn't take. What needs something built is started where it isn't. The gate, .ci/run, is run in a folder of its own, in
+which `rt`, .ci/needs, .ci/archive and all tests are stubs that print what they are to. The last line counts.
 """
 import os
 import shutil
@@ -15,7 +15,7 @@ import tempfile
 from pathlib import Path
 from typing import Dict, Iterator, List, NamedTuple, Sequence
 
-from counts import TOP, command_line, told
+from counts import TOP, command_line, told, without
 
 NOWHERE = '/nowhere'
 # Each test on a file that isn't there; what stands in the place of the other files is one that is.
@@ -29,6 +29,11 @@ MISSING = [['tests/scripts.py', NOWHERE], ['tests/laws.py', NOWHERE], ['tests/pr
 # Each test that skips all that it does where a tool isn't there, or a part of it.
 TOOLS = [['tests/refused_growths.py', '/bin/sh'], ['tests/direct_calls.py', '/bin/sh', '/bin/sh'], ['tests/library.sh', '/bin/sh'],
          ['tests/pages.py'], ['tests/versions.py'], ['tests/unproved.py', '/bin/sh']]
+# What needs something built, on what isn't there, and what its first line tells to type.
+UNBUILT = [(['make', '-s', '-C', 'bindings', f'ARCHIVE={NOWHERE}', 'OUT={folder}'], 'rt lib'),
+           (['make', '-s', '-C', 'bench', 'library', f'LIBRARY={NOWHERE}'], 'make -C bindings bench'),
+           (['make', '-s', 'check', f'PROGRAM={NOWHERE}'], 'is not built'),
+           (['bench/run.py', '--program', NOWHERE], 'rt run')]
 ALWAYS = ['sh', 'env', 'dirname', 'realpath', 'mktemp', 'rm', 'date']
 
 
@@ -43,6 +48,14 @@ def missing() -> Iterator[str]:
         done = run(words)
         lines = done.stdout.splitlines()
         is_so = done.returncode == 1 and len(lines) == 2 and lines[-1] == '0 passed, 1 failed'
+        yield '' if is_so else f'{" ".join(words)}: status {done.returncode}: {done.stdout[-300:]}'
+
+
+def unbuilt(folder: str) -> Iterator[str]:
+    """Where what they need isn't built, commands say in a line what to type."""
+    for words, told in (row for row in UNBUILT if shutil.which(row[0][0]) or row[0][0] != 'make'):
+        done = run([word.format(folder=folder) for word in words])
+        is_so = done.returncode != 0 and told in done.stdout.split('\n', maxsplit=1)[0]
         yield '' if is_so else f'{" ".join(words)}: status {done.returncode}: {done.stdout[-300:]}'
 
 
@@ -160,10 +173,11 @@ def findings() -> Iterator[str]:
     yield from helped()
     yield from (begins_nothing(word, *wanted) for word, wanted in ENDS.items())
     with tempfile.TemporaryDirectory() as folder:
+        yield from unbuilt(folder)
         yield from without_tools(Path(folder))
     yield from map(gate, CASES)
 
 
 if __name__ == '__main__':
     command_line(__doc__)
-    sys.exit(told(findings()))
+    sys.exit(told(findings(), [] if shutil.which('make') else [without('make', 'what make says where nothing is built')]))

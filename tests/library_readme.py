@@ -3,7 +3,8 @@
 
     tests/library_readme.py LIBRARY         LIBRARY is a libgwb.a
 
-Those in Rust are left out where beside the library there is no libgwb.rlib, which `make rust` leaves there where rustc is. Each has to compile without a warning and to end with status 0. The last line counts.
+Those in Rust are left out where beside the library there is no libgwb.rlib, which `make rust` leaves there where rustc is. Each has to compile
+without a warning and to end with status 0. The last line counts.
 """
 import os
 import re

@@ -5,8 +5,8 @@
 
 Each script of refused_growths.py is run in a session as often as it asks for memory, each time with another request refused: once with
 all its commands as lines, and once with those that have one as typed calls; and so are parts and drafts, which only typed calls make. After
-`memory` depths are as before, and the command given again has its answer; a text that was refused is given when it is asked for again; a session that could not be opened opens when it is
-tried again; and when it is closed no block is held.
+`memory` depths are as before, and the command given again has its answer; a text that was refused is given when it is asked for again; a session
+that could not be opened opens when it is tried again; and when it is closed no block is held.
 """
 import ctypes
 import sys

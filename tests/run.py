@@ -4,7 +4,8 @@
     tests/run.py [PROGRAM [ARCHIVE]]      PROGRAM is crates/gwb/out/gwb where none is given
 
 A program or archive that is named and isn't there is a failure. A test whose tools aren't there is skipped, and so is what a test leaves out for
-want of one; each is named. The calls that no script reaches are tried where `rt ci` has left their program. The last line counts what passed, failed and was skipped.
+want of one; each is named. The calls that no script reaches are tried where `rt ci` has left their program. The last line counts what passed, failed
+and was skipped.
 """
 import re
 import shutil

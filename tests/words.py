@@ -4,9 +4,10 @@
     tests/words.py
 
 The README has 1,100 words at most, and all pages together 36,000: README.md and each page in docs, bench, bindings, companions and tests, but not
-CHANGELOG.md, which grows with each release, nor docs/STATEMENTS.md, which is made from the sources. A word is what stands between blanks. The cell of a table has fewer than 200 characters. Each link
-leads to a file that is there, and to a heading of it; the must-fail edits, and those that turn no code, are as many as docs/WRONG_BODIES.md
-says, and those that pages name are there; the crates of docs/DESIGN.md are those of crates.txt. The last line counts.
+CHANGELOG.md, which grows with each release, nor docs/STATEMENTS.md, which is made from the sources. A word is what stands between blanks. The cell of
+a table has fewer than 200 characters. Each link leads to a file that is there, and to a heading of it; the must-fail edits, and those that turn no
+code, are as many as docs/WRONG_BODIES.md says, and those that pages name are there; the crates of docs/DESIGN.md are those of crates.txt. The last
+line counts.
 """
 import re
 import sys

@@ -24,7 +24,7 @@ def find_program() -> str:
     program = os.environ.get('GWB') or next((str(path) for path in _places() if path.is_file()), None) or shutil.which('gwb')
     if program is None:
         raise ProgramMissing('the program gwb was not found: the environment variable GWB may name it, or it lies on the path; '
-                             'in a copy of the sources .ci/run builds it')
+                             'in a copy of the sources `make try` builds it in a minute, unproved, for GWB=out/gwb-unproved')
     return program
 
 
