@@ -14,6 +14,14 @@ struct beside {
     void *known; /* what features have read of the model, or NULL */
 };
 
+/* NULL where the kernel alone opened the session, without calls.c. */
 static inline struct beside *beside_of(const gwb *g) { return (struct beside *)g->beside; }
+
+/* Whether the caller ends what takes long. */
+static inline bool is_stopped(const gwb *g)
+{
+    const struct beside *of = beside_of(g);
+    return of != NULL && of->stop != NULL && of->stop(of->stop_user);
+}
 
 #endif

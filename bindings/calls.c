@@ -252,6 +252,8 @@ enum gwb_kind gwb_record(gwb *g)
     return beside_of(g)->record != NULL ? GWB_OK : GWB_MEMORY;
 }
 
+uint64_t gwb_changes(const gwb *g) { return g->is_open ? beside_of(g)->changes : 0; }
+
 void gwb_stop_by(gwb *g, gwb_stop stop, void *user)
 {
     if (!g->is_open)

@@ -1,6 +1,7 @@
 /* Models made of their listings. What a listing says is taken apart, as a table, by operators whose inverses are written down; these, the last
  * one first, make it with its very numbers. Rings become faces; edges between two faces go; leaves go; where no edge has either, one goes
  * that opens a handle, and what it cuts off is a face. At last there are faces of one vertex. */
+#include "beside.h"
 #include "lists.h"
 #include "walks.h"
 #include <stdlib.h>
@@ -559,12 +560,15 @@ static enum gwb_kind make(gwb *g, const struct table *table, const struct step *
     return GWB_NO_CALL;
 }
 
+/* How many steps are made for each time that the caller is asked whether to stop. */
+enum { STEPS_A_STOP = 64 };
+
 static enum gwb_kind make_all(gwb *g, const struct parts *p)
 {
     const struct step *steps = p->steps.items;
     enum gwb_kind kind = GWB_OK;
     for (size_t i = p->steps.count; i-- > 0 && kind == GWB_OK;)
-        kind = make(g, p->table, &steps[i]);
+        kind = i % STEPS_A_STOP == 0 && is_stopped(g) ? GWB_STOPPED : make(g, p->table, &steps[i]);
     return kind;
 }
 

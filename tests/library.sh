@@ -134,6 +134,8 @@ built 'machining is built' library_machining.cpp "${CXX:-c++}" -std=c++17 -Wold-
 counted 'features and cuts as in Python, and beside unit cubes' "$dir/built/library_machining"
 built 'refused memory of features is built' library_features_refused.c "${CC:-cc}" -std=gnu11 -O2
 counted 'each allocation of features refused' "$dir/built/library_features_refused" 7
+built 'the record is built' library_record.c "${CC:-cc}" -std=gnu11 -O2
+counted 'the record of commands, given again' "$dir/built/library_record"
 counted 'the table of features, by Python' python3 tests/library_features.py "$dir/built/libgwb.so"
 built 'threads are built' library_threads.c "${CC:-cc}" -std=gnu11 -O2 -pthread
 counted 'threads that read at once' "$dir/built/library_threads"
@@ -165,7 +167,7 @@ if has cargo 'cargo check where there is no archive' 'cargo doc where there is n
         --manifest-path bindings/rust/Cargo.toml
 fi
 # (each is a program that was built above)
-in_cpp='library_cpp library_results library_history library_features library_machining library_features_refused library_heap library_load library_triangles'
+in_cpp='library_cpp library_results library_history library_features library_machining library_record library_heap library_load library_triangles'
 threads='library_threads library_sharing'
 if has valgrind 'valgrind over the example in C' $in_cpp $threads; then
     tried 'valgrind over the example in C' valgrind -q --error-exitcode=9 --leak-check=full --show-leak-kinds=all "$dir/built/block_c"
@@ -190,8 +192,8 @@ sanitized() {
 echo 'int main(void) { return 0; }' > "$dir/empty.c"
 if "${CC:-cc}" $sanitizers -o "$dir/empty" "$dir/empty.c" 2> "$dir/err" && "$dir/empty"; then
     began=$(date +%s)
-    tried 'the library is built with sanitizers' make -C bindings "ARCHIVE=$archive" "OUT=$dir/sanitized" "CFLAGS=$sanitizers" "$dir/sanitized/libgwb.a"
-    for name in library_features_refused library_heap library_load library_triangles library_threads library_worked; do
+    tried 'the library is built with sanitizers' make -C bindings "ARCHIVE=$archive" "OUT=$dir/sanitized" "CFLAGS=$sanitizers" "CXXFLAGS=$sanitizers" "$dir/sanitized/libgwb.a"
+    for name in library_features_refused library_record library_heap library_load library_triangles library_threads library_worked; do
         sanitized "$name.c" "${CC:-cc}" -std=gnu11
     done
     for name in library_cpp library_history library_features library_machining library_sharing; do
@@ -199,7 +201,7 @@ if "${CC:-cc}" $sanitizers -o "$dir/empty" "$dir/empty.c" 2> "$dir/err" && "$dir
     done
     sanitized library_results.cpp "${CXX:-c++}" -std=c++17 -fno-exceptions
     wait
-    for name in $in_cpp $threads library_worked; do
+    for name in $in_cpp $threads library_worked library_features_refused; do
         cat "$dir/sanitized/$name.log"
         counted "$name with sanitizers" "$dir/sanitized/$name" 20
     done

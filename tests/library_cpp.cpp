@@ -525,6 +525,36 @@ static void try_marks()
     check(bench.mark().steps() == 0 && all(bench.numbers<Solid>()) == Wanted{1}, "back to the beginning of a draft");
 }
 
+// A mark is one of its draft alone, and of steps that are still there.
+static void try_marks_of_others()
+{
+    Workbench bench = block(), other = block();
+    Draft first = bench.draft();
+    (void)bench.block({9, 0, 0}, {4, 4, 4});
+    const Mark committed = bench.mark();
+    first.commit();
+    Draft second = bench.draft(), elsewhere = other.draft();
+    (void)bench.block({18, 0, 0}, {4, 4, 4});
+    (void)bench.block({27, 0, 0}, {4, 4, 4});
+    const std::size_t steps = bench.mark().steps();
+    check(throws<NoDraft>([&] { bench.back(committed); }) && bench.mark().steps() == steps, "the mark of a draft that was committed");
+    (void)other.block({9, 0, 0}, {4, 4, 4});
+    check(throws<NoDraft>([&] { bench.back(other.mark()); }) && bench.mark().steps() == steps, "the mark of another workbench");
+    const Mark late = bench.mark();
+    bench.back(Mark());
+    const Mark early = bench.mark();
+    (void)bench.block({9, 9, 9}, {1, 1, 1});
+    (void)bench.block({18, 9, 9}, {1, 1, 1});
+    check(throws<NoDraft>([&] { bench.back(late); }) && all(bench.numbers<Solid>()).size() == 4, "the mark of steps that were taken back");
+    const Mark middle = bench.mark();
+    for (int time = 0; time < 3; time++) {
+        (void)bench.block({27, 9, 9}, {1, 1, 1});
+        bench.back(middle);
+    }
+    bench.back(early);
+    check(all(bench.numbers<Solid>()).size() == 2 && throws<NoDraft>([&] { bench.back(middle); }), "marks one in another, again and again");
+}
+
 static void try_what_drafts_refuse()
 {
     Workbench bench = block();
@@ -552,7 +582,84 @@ static void try_what_drafts_refuse()
     check(throws<Closed>([&] { closed.commit(); }), "the draft of a closed workbench");
 }
 
+// ---- what changes nothing, what is ended, and what was accepted
+
+template <class Calls, class = void> struct CanUndo : std::false_type {};
+template <class Calls> struct CanUndo<Calls, std::void_t<decltype(std::declval<Calls &>().undo())>> : std::true_type {};
+
+static void try_const()
+{
+    static_assert(CanUndo<decltype(std::declval<Workbench &>().attempt())>::value);
+    static_assert(!CanUndo<decltype(std::declval<const Workbench &>().attempt())>::value);
+    static_assert(std::is_constructible_v<Workbench, const gwb_heap &> && !std::is_constructible_v<Workbench, gwb_heap>);
+    const Workbench bench = block();
+    check(bench.attempt().face(Face(1)) && !bench.attempt().face(Face(9)), "readers of a workbench that is const");
+    check(bench.attempt().face(Face(9)).value_or(FaceRow{Solid(7), Loop()}).solid == Solid(7), "a value in the place of none");
+}
+
+static void try_stops()
+{
+    static int asked = 0;
+    Workbench bench = block();
+    const std::string listing = Workbench(block()).listing();
+    bench.undo();
+    bool is_over = true;
+    bench.stop_by([](void *user) noexcept { return asked++, *static_cast<bool *>(user); }, &is_over);
+    check(throws<Stopped>([&] { bench.load(listing); }) && asked == 1 && bench.depth() == 0 && bench.ahead() == 1, "a model that isn't loaded");
+    is_over = false;
+    bench.load(listing);
+    check(bench.depth() == 1 && asked > 1, "one that is");
+    bench.stop_by(nullptr, nullptr);
+    const int before = asked;
+    bench.undo();
+    bench.load(listing);
+    check(asked == before, "nobody is asked");
+}
+
+static void try_record()
+{
+    Workbench bench;
+    check(bench.recorded() == 0 && bench.script().empty(), "nothing is recorded unasked");
+    bench.record();
+    const Solid first = bench.block({0, 0, 0}, {4, 4, 4});
+    {
+        Draft draft = bench.draft();
+        (void)bench.split(first, 0, 0, 1, -2);
+        check(bench.recorded() == 2 && bench.script() == "block 1 0 0 0 4 4 4\nsplit 1 0 0 1 -2 2\n", "the steps of a draft");
+    }
+    check(bench.recorded() == 1 && bench.script(1).empty() && bench.script(0, 1) == bench.script(), "without a draft that was abandoned");
+    Workbench late = block();
+    check(throws<NoCall>([&] { late.record(); }), "commands before a record");
+    const std::uint64_t changes = bench.changes();
+    check(!bench.attempt().kvfs(first) && bench.changes() == changes, "what is refused changes nothing");
+    bench.undo();
+    check(bench.changes() != changes && bench.script().empty(), "undo does");
+}
+
 // ---- ranges and workbenches
+
+// Parts a face by an edge.
+static void split_face(Workbench &bench, Face face)
+{
+    const std::vector<HalfEdge> around = bench.half_edges(bench.face(face).outer_loop);
+    (void)bench.mef(around[0], around[2]);
+}
+
+// What is made while a range is gone through isn't of it.
+static void try_making_in_ranges()
+{
+    Workbench bench = block();
+    int made = 0;
+    for (Face face : bench.numbers<Face>())
+        if (made++ < 100)
+            (void)bench.mvfs({face.number(), 9, 9});
+    check(made == 6 && all(bench.numbers<Solid>()).size() == 7, "the faces that were there");
+    made = 0;
+    for (Face face : bench.faces(Solid(1)))
+        if (made++ < 100)
+            split_face(bench, face);
+    check(made == 6 && all(bench.faces(Solid(1))).size() == 12, "and those of a solid");
+}
 
 static void try_ranges()
 {
@@ -573,7 +680,7 @@ static void try_ranges()
     for (Solid solid : bench.numbers<Solid>())
         if (solid.number() < 4)
             seen += (bench.block(Solid(solid.number() + 1), {9 * solid.number(), 9, 9}, {1, 1, 1}), 1);
-    check(seen == 3, "rising numbers go on into what has changed");
+    check(seen == 1, "rising numbers end at the greatest of their beginning");
     auto faces = bench.faces(Solid(1));
     check(all(faces) == all(faces) && *std::next(faces.begin(), 3) == Face(4), "a range is gone through as often as wanted");
 #if defined(__cpp_lib_ranges) && !(defined(__clang__) && __clang_major__ < 16) // which can't compile the views of libstdc++
@@ -610,9 +717,9 @@ static void try_moves()
 static void try_heaps()
 {
     static long held = 0, left = 1000000;
-    const auto allocate = [](void *, std::size_t size) -> void * { return left-- > 0 ? (held++, std::malloc(size)) : nullptr; };
-    const auto reallocate = [](void *, void *block, std::size_t size) -> void * { return left-- > 0 ? std::realloc(block, size) : nullptr; };
-    const auto release = [](void *, void *block) { held--, std::free(block); };
+    const auto allocate = [](void *, std::size_t size) noexcept -> void * { return left-- > 0 ? (held++, std::malloc(size)) : nullptr; };
+    const auto reallocate = [](void *, void *block, std::size_t size) noexcept -> void * { return left-- > 0 ? std::realloc(block, size) : nullptr; };
+    const auto release = [](void *, void *block) noexcept { held--, std::free(block); };
     const gwb_heap heap{allocate, reallocate, release, nullptr};
     {
         Workbench bench(heap);
@@ -660,9 +767,9 @@ static long give_at_last(Workbench &bench, const Step &step)
 
 static void try_twelve_commands()
 {
-    const auto allocate = [](void *, std::size_t size) -> void * { return requests_left-- > 0 ? std::malloc(size) : nullptr; };
-    const auto reallocate = [](void *, void *block, std::size_t size) -> void * { return requests_left-- > 0 ? std::realloc(block, size) : nullptr; };
-    const gwb_heap heap{allocate, reallocate, [](void *, void *block) { std::free(block); }, nullptr};
+    const auto allocate = [](void *, std::size_t size) noexcept -> void * { return requests_left-- > 0 ? std::malloc(size) : nullptr; };
+    const auto reallocate = [](void *, void *block, std::size_t size) noexcept -> void * { return requests_left-- > 0 ? std::realloc(block, size) : nullptr; };
+    const gwb_heap heap{allocate, reallocate, [](void *, void *block) noexcept { std::free(block); }, nullptr};
     requests_left = 1000000;
     Workbench bench(heap);
     bench.block(Solid(1), {0, 0, 0}, {9, 9, 9});
@@ -766,6 +873,10 @@ static void try_closed(Workbench &bench)
         [&] { (void)bench.vertex_rows(); },
         [&] { (void)bench.triangle_rows(); },
         [&] { (void)bench.triangle_rows(Face(1)); },
+        [&] { (void)bench.triangle_rows(Solid(1)); },
+        [&] { (void)bench.script(); },
+        [&] { (void)bench.recorded(); },
+        [&] { bench.record(); },
         [&] { bench.load("empty\n"); },
         [&] { bench.run_lines("undo"); },
         [&] { bench.run("undo"); },
@@ -808,6 +919,11 @@ int main()
                            try_stale_drafts,
                            try_what_outlives,
                            try_marks,
+                           try_marks_of_others,
+                           try_const,
+                           try_stops,
+                           try_record,
+                           try_making_in_ranges,
                            try_what_drafts_refuse,
                            try_ranges,
                            try_moves,

@@ -36,6 +36,7 @@ public:
     Held(const Attempts &bench, Solid number) : solid(number)
     {
         for (const gwb_half_edge_row &row : bench.half_edge_rows(solid)) {
+            go_on();
             const Vertex start(row.start);
             const Row read{start, Loop(row.loop), vector(*bench.vertex(start))};
             rows.emplace(row.half_edge, read);
@@ -43,6 +44,7 @@ public:
             degrees_[start]++;
         }
         for (Face face : bench.faces(solid)) {
+            go_on();
             HeldFace &made = faces.emplace_back(HeldFace{face, {}, {}});
             for (Loop loop : bench.loops_of(face))
                 put(bench, loop, made);
@@ -180,6 +182,7 @@ public:
         : held_(held), regions_(regions), faces_(bench), loops_(bench), edges_(bench), vertices_(bench)
     {
         for (std::size_t region = 0; region < regions.size(); region++) {
+            go_on();
             starts_.emplace_back();
             for (const Cycle &cycle : regions[region].cycles)
                 starts_.back().push_back(put(cycle, region));
@@ -245,6 +248,7 @@ private:
 
     bool pair_on_line(const Vector &way, const std::vector<std::size_t> &held)
     {
+        go_on();
         std::map<Wide, Vector> stops;
         for (std::size_t at : held)
             for (const Vector &end : {sides_[at].side.start, sides_[at].side.end})

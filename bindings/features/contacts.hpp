@@ -202,6 +202,7 @@ inline bool comes_into(const std::vector<Shape> &held, const std::vector<Shape> 
         for (const Vector &at : wall.points())
             around.take(at);
     for (const Shape &shape : held) {
+        go_on();
         if (!shape.box().meets(around))
             continue;
         if (std::any_of(walls.begin(), walls.end(), [&](const Shape &wall) { return wall.box().meets(shape.box()) && wall.passes_through(shape); }))
@@ -231,6 +232,7 @@ public:
         compare_vertices();
         compare_edges();
         for (const NearFace &face : faces_) {
+            go_on();
             compare_with_vertices(face);
             compare_with_edges(face);
         }
@@ -305,6 +307,7 @@ private:
     void compare_edges()
     {
         for (auto one = edges_.begin(); one != edges_.end(); ++one) {
+            go_on();
             for (auto other = std::next(one); other != edges_.end(); ++other)
                 if (one->second.box().meets(other->second.box()))
                     compare_edges(one->first, one->second, other->first, other->second);

@@ -20,18 +20,18 @@ namespace {
 
 /// How many calls of go_on come for one that asks the caller.
 constexpr unsigned asks_once_in = 32;
-thread_local const struct beside *making = nullptr;
+thread_local const gwb *making = nullptr;
 thread_local unsigned calls = 0;
 
 } // namespace
 
-Making::Making(const struct beside &of) : before_(std::exchange(making, &of)) { calls = 0; }
+Making::Making(const gwb &session) : before_(std::exchange(making, &session)) { calls = 0; }
 Making::~Making() { making = before_; }
 
 void go_on()
 {
-    if (calls++ % asks_once_in == 0 && making->stop != nullptr && making->stop(making->stop_user))
-        throw Stopped();
+    if (calls++ % asks_once_in == 0 && is_stopped(making))
+        throw EndedByCaller();
 }
 
 namespace {
@@ -98,6 +98,7 @@ gwb_kind told(const Failure &failure, gwb_refusal *why)
     case Problem::impossible: *why = {failure.number, failure.value}; return GWB_IMPOSSIBLE;
     case Problem::memory: return GWB_MEMORY;
     case Problem::no_call: return GWB_NO_CALL;
+    case Problem::stopped: return GWB_STOPPED;
     default: return GWB_CLOSED;
     }
 }
@@ -135,10 +136,11 @@ template <class Call> gwb_kind guarded(const gwb *g, Call call) noexcept
 {
     if (!gwb_is_open(g))
         return GWB_CLOSED;
-    const Making making(*beside_of(g));
+    const gwb session = *g; // which is not where it was, while something is made
+    const Making making(session);
     try {
         return call();
-    } catch (const Stopped &) {
+    } catch (const EndedByCaller &) {
         return GWB_STOPPED;
     } catch (const std::bad_alloc &) {
         return GWB_MEMORY;

@@ -12,9 +12,6 @@
 #define GWB_FEATURES_MACHINING_HPP
 #include "exact.hpp"
 #include "solids.hpp"
-extern "C" {
-#include "beside.h"
-}
 #include <set>
 
 namespace gwb_session {
@@ -92,12 +89,14 @@ inline bool clash(const Segment &side, const Segment &other, bool are_neighbours
 /// Refuses an outline that crosses or touches itself.
 inline Result<void> require_simple(const Outline &sides)
 {
-    for (std::size_t at = 0; at < sides.size(); at++)
+    for (std::size_t at = 0; at < sides.size(); at++) {
+        go_on();
         for (std::size_t beyond = at + 1; beyond < sides.size(); beyond++) {
             const bool are_neighbours = beyond - at == 1 || beyond - at == sides.size() - 1;
             if (sides[at].is_near(sides[beyond]) && clash(sides[at], sides[beyond], are_neighbours))
                 return impossible(Misfit::outline_crossed, place(at));
         }
+    }
     return {};
 }
 
@@ -270,8 +269,10 @@ class Surface {
 public:
     Surface(const Attempts &bench, Solid solid)
     {
-        for (Face face : bench.faces(solid))
+        for (Face face : bench.faces(solid)) {
+            go_on();
             put(bench, face);
+        }
     }
 
     /// Takes in a face that is new.
@@ -580,6 +581,7 @@ inline Result<ClosedPath> close_path(Attempts bench, Loop loop, const Path &path
 {
     ClosedPath made;
     for (std::size_t at = 1; at < path.size(); at++) {
+        go_on();
         const Corner corner = at == 1 ? lone(loop) : Corner(minus(made.edges.back()));
         const Result<NewVertex> grown = bench.mev(corner, corner, point(path[at]));
         if (!grown)

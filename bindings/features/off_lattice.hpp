@@ -8,6 +8,7 @@
 #ifndef GWB_FEATURES_OFF_LATTICE_HPP
 #define GWB_FEATURES_OFF_LATTICE_HPP
 #include "exact.hpp"
+#include "stopping.hpp"
 #include <cmath>
 #include <limits>
 #include <set>
@@ -317,6 +318,7 @@ public:
     {
         std::set<Edge> edges;
         for (Face face : bench.faces(solid)) {
+            go_on();
             faces_.emplace_back();
             for (Loop loop : bench.loops_of(face))
                 faces_.back().push_back(points_of(bench, loop, edges));
@@ -352,6 +354,7 @@ public:
             spans.push_back(span_of(normal, ends));
         std::optional<Wide> best;
         for (const Band &band : bands_of(spans, offset)) {
+            go_on();
             if (best && band.gap(offset) >= Band{*best, *best}.gap(offset))
                 break;
             std::set<Congruence> asked;
@@ -374,9 +377,11 @@ public:
             Plane plane;
         };
         std::vector<Ranked> ranked;
-        for (const Plane &plane : candidates())
+        for (const Plane &plane : candidates()) {
+            go_on();
             if (const std::optional<SquareMoved> square = is_whole(plane) ? square_moved(plane) : std::nullopt)
                 ranked.push_back({*square, size(plane), plane});
+        }
         std::stable_sort(ranked.begin(), ranked.end(), [](const Ranked &a, const Ranked &b) {
             const int nearer = a.square.compare(b.square);
             return nearer != 0 ? nearer < 0 : a.size < b.size;
@@ -504,6 +509,7 @@ private:
     /// Whether no face would be refused as touched or as cut too often (TouchedFace, CutOften).
     [[nodiscard]] bool is_cuttable(const Plane &plane) const
     {
+        go_on();
         return std::all_of(faces_.begin(), faces_.end(), [&](const std::vector<std::vector<Vector>> &face) {
             std::vector<std::vector<int>> heights;
             for (const std::vector<Vector> &loop : face) {

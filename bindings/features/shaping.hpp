@@ -264,6 +264,7 @@ inline Result<Parted> parted(const Held &held, const Box &box)
 {
     Parted found;
     for (const HeldFace &face : held.faces) {
+        go_on();
         if (face.cycles[0].empty())
             return refused(GWB_WHY_NOT_FLAT, face.face.number());
         if (!face.box().meets(box)) {
@@ -290,9 +291,11 @@ inline bool has_contact(const Held &held, const Parted &before, const std::vecto
 {
     const Box box = box_of(added);
     std::vector<HeldFace> faces;
-    for (const auto &[face, loops] : after.faces)
+    for (const auto &[face, loops] : after.faces) {
+        go_on();
         if (const HeldFace made = after.held(face); !made.cycles.empty() && made.box().meets(box))
             faces.push_back(made);
+    }
     const Findings known(before.faces, box, [&](HalfEdge half) { return held.rows.at(half.code()).start; });
     const Findings found(faces, box, [&](HalfEdge half) { return after.start(half); });
     if (!std::includes(known.all().begin(), known.all().end(), found.all().begin(), found.all().end()))

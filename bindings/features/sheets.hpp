@@ -379,6 +379,7 @@ private:
     /// The sheets beside a piece, left of it or right, without those that go: an added one and a held one that look against each other.
     std::optional<std::vector<std::size_t>> left_over(const Ends &ends, const Parts &parts, bool on_left)
     {
+        go_on();
         std::set<std::size_t> found;
         for (std::size_t place = 0; place < sheets_.size(); place++)
             if (covers(place, ends, parts, on_left))
@@ -426,6 +427,7 @@ private:
             }
         Pieces found;
         for (const Near &one : near) {
+            go_on();
             const std::optional<Path> stops = cut(one, near);
             if (!stops)
                 return std::nullopt;
@@ -530,6 +532,7 @@ inline Result<std::vector<Region>> overlaid(const std::vector<Sheet> &held, cons
     std::vector<InPlane> planes = by_planes(added);
     std::vector<Region> found;
     for (const Sheet &sheet : held) {
+        go_on();
         const auto plane = std::find_if(planes.begin(), planes.end(), [&](const InPlane &one) { return one.takes(sheet); });
         if (plane != planes.end())
             plane->held.push_back(sheet);

@@ -12,6 +12,7 @@
 #define GWB_FEATURES_SOLIDS_HPP
 #include "gwb.hpp"
 #include "gwb_features.h"
+#include "stopping.hpp"
 #include <unordered_map>
 
 namespace gwb_session {
@@ -79,9 +80,11 @@ public:
         if (!with_own_numbers)
             number_in_order(numbers);
         const Solid solid = with_own_numbers ? solid_ : Solid(above<Solid>());
-        for (auto step = steps_.rbegin(); step != steps_.rend(); ++step)
+        for (auto step = steps_.rbegin(); step != steps_.rend(); ++step) {
+            go_on();
             if (!make_step(*step, motion, is_mirror, numbers, solid))
                 return failure_;
+        }
         if (lists != nullptr)
             numbers.tell(*lists, spare_face_, spare_edge_);
         return solid;
@@ -214,6 +217,7 @@ private:
 
     bool ring_out(Face face, Loop ring)
     {
+        go_on();
         const Face spare(next_face_++);
         steps_.push_back({Makes::ring, {}, {}, {}, face, spare, ring, {}, {}});
         return done(bench_.mfkrh(ring, spare));
@@ -224,6 +228,7 @@ private:
     {
         std::vector<Edge> left;
         for (Edge edge : edges) {
+            go_on();
             if (loop_of(plus(edge)) == loop_of(minus(edge)))
                 left.push_back(edge);
             else if (!face_out(next(plus(edge)) == plus(edge) ? minus(edge) : plus(edge)))
@@ -259,6 +264,7 @@ private:
     bool leaf_out(HalfEdge half_edge)
     {
         while (is_there(half_edge.edge()) && is_leaf(half_edge)) {
+            go_on();
             const HalfEdge before = previous(half_edge), after = next(half_edge.twin());
             const Vertex leaf = value(bench_.end_of(half_edge));
             const bool is_last = after == half_edge;

@@ -69,9 +69,8 @@ enum gwb_kind {
     GWB_NO_CALL = 10,  /**< the arguments make no command */
     GWB_IN_DRAFT = 11, /**< a draft has no such call */
     GWB_NO_DRAFT = 12, /**< only a draft has this call */
-    /* Of the calls of gwb_features.h alone. */
-    GWB_IMPOSSIBLE = 13, /**< a feature isn't possible */
-    GWB_STOPPED = 14     /**< the caller stopped it (gwb_stop_by) */
+    GWB_IMPOSSIBLE = 13, /**< a feature isn't possible (gwb_features.h) */
+    GWB_STOPPED = 14     /**< the caller ended it (gwb_stop_by) */
 };
 
 /** Whether an answer is one that was asked for: a command that was accepted, or what a query or a line told. */
@@ -98,7 +97,7 @@ static inline const char *gwb_kind_text(enum gwb_kind kind)
     case GWB_IN_DRAFT: return "a draft is open, which has no such call";
     case GWB_NO_DRAFT: return "no draft is open";
     case GWB_IMPOSSIBLE: return "the feature isn't possible";
-    case GWB_STOPPED: return "the caller stopped it";
+    case GWB_STOPPED: return "the caller ended it";
     }
     return "";
 }
@@ -154,13 +153,19 @@ static inline size_t gwb_ahead(const gwb *g)
     return gwb_lent_ahead(&copy);
 }
 
-/** A heap: three functions, and what each of them is handed first. It stays as long as a block of it is held. */
+/** A heap: three functions, and what each of them is handed first. It stays as long as a block of it is held. None of them throws, calls longjmp,
+ * or gives a call for a session whose heap this is. */
+#if defined(__cplusplus) && __cplusplus >= 201703L
+#define GWB_NOEXCEPT noexcept
+#else
+#define GWB_NOEXCEPT
+#endif
 typedef struct gwb_heap {
     /** A block of `size` bytes, aligned as malloc does it, or NULL. `size` is not 0. */
-    void *(*allocate)(void *user, size_t size);
+    void *(*allocate)(void *user, size_t size) GWB_NOEXCEPT;
     /** The same block with `size` bytes, moved or not, or NULL: then it is as it was. */
-    void *(*reallocate)(void *user, void *block, size_t size);
-    void (*release)(void *user, void *block);
+    void *(*reallocate)(void *user, void *block, size_t size) GWB_NOEXCEPT;
+    void (*release)(void *user, void *block) GWB_NOEXCEPT;
     void *user;
 } gwb_heap;
 
@@ -614,7 +619,7 @@ size_t gwb_face_triangles(const gwb *g, uint32_t face, gwb_triangle_row *rows, s
 /** Makes the model of a listing (docs/SCRIPT.md, as `list` writes it) beside what is held, with its numbers: one command, or steps of the
  * draft that is open. It needs some numbers more on the way.
  * @return GWB_OK; GWB_REFUSED, where a number is in use or none is free: the refusal is written; GWB_MEMORY; GWB_NO_CALL, where it is no
- * listing of a sound model; GWB_CLOSED. But for GWB_OK nothing has changed except for the last answer. */
+ * listing of a sound model; GWB_STOPPED; GWB_CLOSED. But for GWB_OK nothing has changed except for the last answer. */
 enum gwb_kind gwb_load(gwb *g, const char *listing, size_t n, gwb_refusal *refusal);
 
 /** Gives the lines of a script one after another, up to the first whose answer is none that was asked for (gwb_succeeded).
@@ -622,7 +627,11 @@ enum gwb_kind gwb_load(gwb *g, const char *listing, size_t n, gwb_refusal *refus
  * @return the kind of the last one's answer: GWB_SILENT where there was none */
 enum gwb_kind gwb_lines(gwb *g, const char *script, size_t n, size_t *line);
 
-/* ---- a record of the accepted commands. Not with libgwb_c.a alone. */
+/* ---- what a session keeps beside the kernel. Not with libgwb_c.a alone. */
+
+/** A number that is another one whenever the model may have changed since: by a command, undo, redo, or steps that were taken back. 0 where the
+ * handle is closed. A reader. */
+uint64_t gwb_changes(const gwb *g);
 
 /** From here on each command that is accepted is recorded as a line of a script, and what is recorded follows undo, redo and drafts. Where
  * memory for the record is refused, calls are GWB_MEMORY.
@@ -642,13 +651,12 @@ size_t gwb_recorded(const gwb *g);
  * @return how many bytes there are. SIZE_MAX where the handle is closed; then nothing is written. */
 size_t gwb_script(const gwb *g, size_t first, size_t n, char *buf, size_t room);
 
-/* ---- work that is stopped. Not with libgwb_c.a alone. */
+/** Whether work is to end. It is asked often while it is done, by the thread that does it, and gives no call for that handle. */
+typedef bool (*gwb_stop)(void *user) GWB_NOEXCEPT;
 
-/** Whether work is to end. It is asked often while a feature is made, from the thread that makes it, and gives no call for the handle. */
-typedef bool (*gwb_stop)(void *user);
-
-/** From here on the features of a session (gwb_features.h) ask `stop` between their steps and in what takes long; where it says true their
- * answer is GWB_STOPPED, and the model and the draft are as they were. NULL: they ask nothing. Nothing happens where the handle is closed. */
+/** From here on gwb_load and the features of a session (gwb_features.h) ask `stop` between their steps and in what takes long; where it says
+ * true their answer is GWB_STOPPED, and the model and the draft are as they were. NULL: they ask nothing. Nothing happens where the handle is
+ * closed. */
 void gwb_stop_by(gwb *g, gwb_stop stop, void *user);
 
 /** The greatest number of a kind (enum gwb_entity) in use, so that the one above it is free: 0 where none is. SIZE_MAX where the handle is

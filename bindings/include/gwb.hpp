@@ -21,6 +21,7 @@
 #include "gwb_names.h"
 #include <algorithm>
 #include <array>
+#include <atomic>
 #include <charconv>
 #include <cstddef>
 #include <cstdint>
@@ -180,6 +181,8 @@ enum class Problem {
     changed,  ///< the model has changed since a walk over it began
     crossed,  ///< loops of the face cross or touch, so it has no triangles
     impossible, ///< a feature isn't possible (gwb_features.hpp): a Misfit
+    stopped,  ///< the caller ended it (stop_by)
+    version,  ///< the library that is linked is of another version than this header (GWB_VERSION)
 };
 
 /// Why a feature isn't possible, where it is no condition of a command. X is the value that goes with it.
@@ -247,15 +250,24 @@ public:
     Result(T value) : value_(std::move(value)) {}
     Result(Failure failure) : failure_(failure) {}
     [[nodiscard]] explicit operator bool() const { return value_.has_value(); }
-    /// The value, where there is one.
-    [[nodiscard]] T &operator*() { return *value_; }
-    [[nodiscard]] const T &operator*() const { return *value_; }
-    [[nodiscard]] T *operator->() { return &*value_; }
-    [[nodiscard]] const T *operator->() const { return &*value_; }
+    /// The value. Where there is none the program is terminated.
+    [[nodiscard]] T &operator*() { return *required(value_); }
+    [[nodiscard]] const T &operator*() const { return *required(value_); }
+    [[nodiscard]] T *operator->() { return &*required(value_); }
+    [[nodiscard]] const T *operator->() const { return &*required(value_); }
+    /// The value, or this one where there is none.
+    [[nodiscard]] T value_or(T other) const { return value_ ? *value_ : std::move(other); }
     /// Why there is none, where there is none.
     [[nodiscard]] const Failure &error() const { return failure_; }
 
 private:
+    template <class Held> static Held &required(Held &value)
+    {
+        if (!value)
+            std::terminate();
+        return value;
+    }
+
     std::optional<T> value_;
     Failure failure_;
 };
@@ -404,6 +416,24 @@ public:
     explicit NoDraft(std::string_view command) : Misused(std::string(command) + ": there is no draft") {}
 };
 
+/// The caller ended what was under way (stop_by); nothing has changed.
+class Stopped : public std::runtime_error {
+public:
+    Stopped() : std::runtime_error("the caller ended it") {}
+};
+
+/// The library that is linked is of another version than this header.
+class OtherVersion : public std::runtime_error {
+public:
+    OtherVersion() : std::runtime_error("libgwb has version " + number(gwb_version()) + ", and gwb.hpp is of " + number(GWB_VERSION)) {}
+
+private:
+    static std::string number(std::uint32_t version)
+    {
+        return std::to_string(version / 10'000) + "." + std::to_string(version / 100 % 100) + "." + std::to_string(version % 100);
+    }
+};
+
 /// The model has changed since a walk round a loop, a vertex or a face began.
 class Changed : public Misused {
 public:
@@ -466,6 +496,8 @@ private:
         case Problem::changed: throw Changed();
         case Problem::crossed: throw Crossed(command, failure.value);
         case Problem::impossible: throw Impossible(command, static_cast<Misfit>(failure.number), failure.value);
+        case Problem::stopped: throw Stopped();
+        case Problem::version: throw OtherVersion();
         case Problem::closed: break;
         }
         throw Closed();
@@ -490,7 +522,9 @@ private:
     using Ranges = std::array<gwb_range, 5>;
 
     std::size_t steps_ = 0;
-    Ranges made_{}; ///< by the steps until then
+    Ranges made_{};           ///< by the steps until then
+    std::uint64_t draft_ = 0; ///< which it is of: 0 of any
+    std::size_t backs_ = 0;   ///< how often that had gone back
 };
 
 /// A session, shared by its workbench, the drafts and the ranges of it. It is closed as soon as the workbench is gone; what is left of it
@@ -500,7 +534,7 @@ public:
     gwb handle{};
     /// How many commands were accepted that may have changed the model.
     std::uint64_t changes = 0;
-    /// The number of the draft that was opened last.
+    /// The number of the draft that was opened last, which no other draft has.
     std::uint64_t draft = 0;
 
     State() = default;
@@ -511,7 +545,7 @@ public:
     /// The fresh numbers of a kind: those that the last command made.
     [[nodiscard]] std::optional<gwb_range> fresh(gwb_entity kind) const
     {
-        const gwb_range range = is_kept_ ? kept_[kind] : live(kind);
+        const gwb_range range = is_kept_ ? kept_[kind] : is_whole_ ? above(kind) : live(kind);
         return range.first != 0 ? std::optional(range) : std::nullopt;
     }
 
@@ -519,8 +553,9 @@ public:
     void keep_fresh()
     {
         if (!is_kept_)
-            kept_ = live();
+            kept_ = is_whole_ ? above() : live();
         is_kept_ = true;
+        is_whole_ = false;
     }
 
     /// After a command with this answer.
@@ -528,46 +563,54 @@ public:
     {
         if (kind > GWB_MEMORY)
             return;
-        is_kept_ = false;
+        is_kept_ = is_whole_ = false;
         if (kind == GWB_OK)
             changes++;
         if (kind == GWB_OK && is_drafting_)
             add(live());
     }
 
-    /// The greatest numbers in use, by kinds.
-    using Greatest = std::array<std::uint32_t, 5>;
-    [[nodiscard]] Greatest greatest() const
+    /// The greatest number of a kind in use. It is sought from the one of the last time on.
+    [[nodiscard]] std::uint32_t greatest(std::uint32_t kind)
     {
-        Greatest numbers{};
-        for (std::uint32_t kind = 0; kind < numbers.size(); kind++)
-            numbers[kind] = static_cast<std::uint32_t>(gwb_greatest_number(&handle, kind));
-        return numbers;
+        std::uint32_t &number = greatest_[kind], found = 0;
+        if (number == 0 || gwb_number_after(&handle, kind, number - 1, &found) != GWB_FOUND || found != number)
+            return number = sought(kind);
+        for (int more = 0; more < few; more++) {
+            if (gwb_number_after(&handle, kind, number, &found) != GWB_FOUND)
+                return number;
+            number = found;
+        }
+        return number = sought(kind);
     }
 
-    /// After many commands that were one, or steps of the draft that is open, where these were the greatest numbers before.
-    void follow_all(const Greatest &before)
+    /// Before many commands that are one, or steps of the draft that is open.
+    void begin_whole()
     {
-        const Greatest now = greatest();
-        Ranges made{};
-        for (std::uint32_t kind = GWB_FACE; kind < made.size(); kind++)
-            if (gwb_number_after(&handle, kind, before[kind], &made[kind].first) == GWB_FOUND)
-                made[kind].last = now[kind];
+        for (std::uint32_t kind = GWB_FACE; kind < whole_.size(); kind++)
+            whole_[kind] = greatest(kind);
+    }
+
+    /// After them, where they were accepted.
+    void end_whole()
+    {
         changes++;
-        kept_ = made;
-        is_kept_ = true;
+        is_kept_ = false;
+        is_whole_ = true;
         if (is_drafting_)
-            add(made);
+            add(above());
     }
 
     /// After a draft was opened: its number.
     std::uint64_t begin_draft()
     {
         is_drafting_ = true;
-        is_kept_ = false;
+        is_kept_ = is_whole_ = false;
         drafted_ = {};
+        lowest_.clear();
+        backs_ = 0;
         changes++;
-        return ++draft;
+        return draft = next_draft();
     }
 
     /// How far the draft that is open has come.
@@ -576,21 +619,36 @@ public:
         Mark mark;
         mark.steps_ = steps;
         mark.made_ = drafted_;
+        mark.draft_ = draft;
+        mark.backs_ = backs_;
         return mark;
     }
 
-    /// After the steps since a mark were taken back, if there were any.
+    /// Whether the draft that is open is that of a mark, and hasn't gone back before it since.
+    [[nodiscard]] bool has(const Mark &mark) const
+    {
+        const auto later = std::find_if(lowest_.begin(), lowest_.end(), [&](const Lowest &back) { return back.number >= mark.backs_; });
+        return mark.draft_ == 0 || (mark.draft_ == draft && (later == lowest_.end() || later->steps >= mark.steps_));
+    }
+
+    /// Before the steps since a mark are taken back: room to write that down.
+    void reserve_back() { lowest_.reserve(lowest_.size() + 1); }
+
+    /// After they were.
     void go_back(const Mark &mark)
     {
+        while (!lowest_.empty() && lowest_.back().steps >= mark.steps_)
+            lowest_.pop_back();
+        lowest_.push_back({backs_++, mark.steps_});
         changes++;
-        is_kept_ = false;
+        is_kept_ = is_whole_ = false;
         drafted_ = mark.made_;
     }
 
     /// After a draft has ended; where it was committed it has made what its steps made, and else the model is the one before it.
     void end_draft(bool is_committed)
     {
-        is_drafting_ = false;
+        is_drafting_ = is_whole_ = false;
         changes++;
         is_kept_ = is_committed;
         kept_ = drafted_;
@@ -617,8 +675,37 @@ private:
         }
     }
 
-    bool is_kept_ = false, is_drafting_ = false;
+    /// The numbers of a kind that commands made that were one.
+    [[nodiscard]] gwb_range above(std::uint32_t kind) const
+    {
+        gwb_range range{0, 0};
+        if (gwb_number_after(&handle, kind, whole_[kind], &range.first) == GWB_FOUND)
+            range.last = sought(kind);
+        return range;
+    }
+    [[nodiscard]] Ranges above() const { return {gwb_range{0, 0}, above(GWB_FACE), above(GWB_LOOP), above(GWB_EDGE), above(GWB_VERTEX)}; }
+
+    [[nodiscard]] std::uint32_t sought(std::uint32_t kind) const { return static_cast<std::uint32_t>(gwb_greatest_number(&handle, kind)); }
+
+    /// A number for a draft that none in the program has had.
+    static std::uint64_t next_draft()
+    {
+        static std::atomic<std::uint64_t> drafts{0};
+        return ++drafts;
+    }
+
+    /// That the draft went back so far, as the back of this number; later ones went less far.
+    struct Lowest {
+        std::size_t number, steps;
+    };
+
+    static constexpr int few = 8;
+    bool is_kept_ = false, is_whole_ = false, is_drafting_ = false;
     Ranges kept_{}, drafted_{};
+    std::array<std::uint32_t, 5> whole_{}; ///< the greatest numbers before commands that were one
+    std::array<std::uint32_t, 5> greatest_{};
+    std::size_t backs_ = 0;
+    std::vector<Lowest> lowest_;
 };
 
 // ---- ranges
@@ -687,7 +774,8 @@ private:
     Rule rule_;
 };
 
-/// Numbers, rising: each is the least above the one before.
+/// Numbers, rising: each is the least above the one before, up to the greatest that was in use when it began, so that what is made meanwhile isn't
+/// among them.
 template <class Kind> class Rising {
 public:
     using Value = Kind;
@@ -696,13 +784,23 @@ public:
 
     Rising() = default;
     Rising(After after, std::uint32_t owner) : after_(after), owner_(owner) {}
-    std::uint32_t begin(const gwb &g) { return advance(g); }
-    std::uint32_t advance(const gwb &g) { return after_(&g, owner_, number_, &number_); }
+    std::uint32_t begin(const gwb &g)
+    {
+        const std::uint32_t answer = after_(&g, owner_, number_, &number_);
+        last_ = answer == GWB_FOUND ? gwb_greatest_number(&g, Kind::kind) : 0;
+        return answer;
+    }
+    std::uint32_t advance(const gwb &g)
+    {
+        const std::uint32_t answer = after_(&g, owner_, number_, &number_);
+        return answer == GWB_FOUND && number_ > last_ ? std::uint32_t{GWB_ABSENT} : answer;
+    }
     Kind value() const { return Kind(number_); }
 
 private:
     After after_ = nullptr;
     std::uint32_t owner_ = 0, number_ = 0;
+    std::size_t last_ = 0; ///< the greatest number in use when it began
 };
 
 /// The half-edges of a loop in their order round it, from any of them on.
@@ -925,6 +1023,8 @@ struct NewFace {
     Loop loop;
 };
 
+class Readings;
+
 /// The calls of a workbench. Where the Policy is Throwing they give their value, and throw RefusedBy where a condition is false,
 /// std::bad_alloc where memory is refused; where it is Results they give a Result and throw nothing, but for std::bad_alloc of a
 /// std::vector or a std::string that they make. Where a call is not accepted the model is as it was.
@@ -1086,9 +1186,14 @@ public:
         const std::size_t steps = gwb_mark(seen());
         return steps != SIZE_MAX ? Returned<Mark>(state_->mark(steps)) : Policy::template failed<Mark>("mark", {Problem::closed});
     }
-    /// Takes the draft's steps since a mark back, and leaves it open. NoDraft where none is open.
+    /// Takes the draft's steps since a mark back, and leaves it open; Mark() is where it begins. NoDraft where none is open, or the mark is of
+    /// another draft or of steps that were taken back.
     Returned<void> back(const Mark &mark)
     {
+        if (state_ != nullptr && !state_->has(mark))
+            return Policy::template failed<void>("back", {Problem::no_draft});
+        if (state_ != nullptr)
+            state_->reserve_back();
         const gwb_kind kind = gwb_back(held(), mark.steps());
         if (kind != GWB_OK)
             return Policy::template failed<void>("back", failure(kind));
@@ -1156,7 +1261,8 @@ public:
     template <class Kind> [[nodiscard]] Returned<Kind> next_free() const
     {
         std::size_t number = gwb_greatest_number(seen(), Kind::kind);
-        return number == SIZE_MAX ? Policy::template failed<Kind>("next_free", {Problem::closed}) : Returned<Kind>(free<Kind>());
+        return number == SIZE_MAX ? Policy::template failed<Kind>("next_free", {Problem::closed})
+                                  : Returned<Kind>(Kind(static_cast<std::uint32_t>(number) + 1));
     }
 
     // Ranges: empty where the owner is not there.
@@ -1258,12 +1364,18 @@ public:
 
     // All at once.
 
-    /// The half-edges of a solid, of all where none is given, with their vertices, neighbours, loops and faces, as gwb_read_half_edges
-    /// writes them.
-    [[nodiscard]] std::vector<gwb_half_edge_row> half_edge_rows(Solid solid = Solid()) const
+    /// The half-edges of a solid with their vertices, neighbours, loops and faces, as gwb_read_half_edges writes them.
+    [[nodiscard]] std::vector<gwb_half_edge_row> half_edge_rows(Solid solid) const
     {
+        if (solid == Solid()) // (for gwb_read_half_edges that would be all)
+            return {};
         return rows<gwb_half_edge_row>(
             [&](gwb_half_edge_row *at, std::size_t room) { return gwb_read_half_edges(seen(), solid.number(), at, room); });
+    }
+    /// Those of all solids.
+    [[nodiscard]] std::vector<gwb_half_edge_row> half_edge_rows() const
+    {
+        return rows<gwb_half_edge_row>([&](gwb_half_edge_row *at, std::size_t room) { return gwb_read_half_edges(seen(), 0, at, room); });
     }
     /// Those of a face, loop by loop.
     [[nodiscard]] std::vector<gwb_half_edge_row> half_edge_rows(Face face) const
@@ -1277,16 +1389,30 @@ public:
         return rows<gwb_vertex_row>([&](gwb_vertex_row *at, std::size_t room) { return gwb_read_vertices(seen(), at, room); });
     }
 
-    /// The triangles of a solid, of all where none is given, as gwb_read_triangles writes them: a face that is bent, or whose loops cross or
-    /// touch, has none.
-    [[nodiscard]] Returned<std::vector<gwb_triangle_row>> triangle_rows(Solid solid = Solid()) const
+    /// The triangles of a solid, as gwb_read_triangles writes them: a face that is bent, or whose loops cross or touch, has none.
+    [[nodiscard]] Returned<std::vector<gwb_triangle_row>> triangle_rows(Solid solid) const
     {
-        return triangles([&](gwb_triangle_row *at, std::size_t room) { return gwb_read_triangles(seen(), solid.number(), at, room); });
+        std::size_t most = solid != Solid() ? half_edge_count(solid) : 0;
+        for (Face face : faces(solid))
+            most += twice_the_rings(face);
+        return triangles(most, [&](gwb_triangle_row *at, std::size_t room) {
+            return solid != Solid() || !is_open() ? gwb_read_triangles(seen(), solid.number(), at, room) : 0;
+        });
+    }
+    /// Those of all solids.
+    [[nodiscard]] Returned<std::vector<gwb_triangle_row>> triangle_rows() const
+    {
+        std::size_t most = half_edge_count(Solid());
+        for (Face face : numbers<Face>())
+            most += twice_the_rings(face);
+        return triangles(most, [&](gwb_triangle_row *at, std::size_t room) { return gwb_read_triangles(seen(), 0, at, room); });
     }
     /// Those of one face.
     [[nodiscard]] Returned<std::vector<gwb_triangle_row>> triangle_rows(Face face) const
     {
-        return triangles([&](gwb_triangle_row *at, std::size_t room) { return gwb_face_triangles(seen(), face.number(), at, room); });
+        gwb_half_edge_row none{};
+        const std::size_t most = gwb_half_edge_rows(seen(), face.number(), &none, 0) + twice_the_rings(face);
+        return triangles(most, [&](gwb_triangle_row *at, std::size_t room) { return gwb_face_triangles(seen(), face.number(), at, room); });
     }
 
     // Text.
@@ -1298,33 +1424,52 @@ public:
         if (state_ == nullptr)
             return Policy::template failed<void>("load", {Problem::closed});
         gwb_refusal refusal{};
-        const State::Greatest before = state_->greatest();
+        state_->begin_whole();
         const gwb_kind kind = gwb_load(held(), listing.empty() ? "" : listing.data(), listing.size(), &refusal);
         if (kind == GWB_OK) {
-            state_->follow_all(before);
+            state_->end_whole();
             return Returned<void>();
         }
         const Failure refused{Problem::refused, refusal.number, refusal.value};
         return Policy::template failed<void>("load", kind == GWB_REFUSED ? refused : failure(kind));
     }
 
-    /// What a call of gwb_features.h gives (gwb_features.hpp).
+    /// What a call of gwb_features.h gives (gwb_features.hpp): `made` makes it of what was written, and takes no memory.
     template <class Call, class Made> auto feature(const char *command, Call call, Made made) -> Returned<decltype(made())>
     {
         using Of = decltype(made());
         if (state_ == nullptr)
             return Policy::template failed<Of>(command, {Problem::closed});
         gwb_refusal why{};
-        const State::Greatest before = state_->greatest();
+        state_->begin_whole();
         const gwb_kind kind = call(held(), &why);
         if (kind != GWB_OK)
             return Policy::template failed<Of>(command, feature_failure(kind, why));
-        state_->follow_all(before);
+        state_->end_whole();
         if constexpr (std::is_void_v<Of>)
             return Returned<void>();
         else
             return made();
     }
+
+    /// The same, where `made` takes memory: as steps that are taken back where it is refused.
+    template <class Call, class Made> auto listed_feature(const char *command, Call call, Made made) -> Returned<decltype(made())>
+    {
+        using Of = decltype(made());
+        const Steps steps(held());
+        if (state_ == nullptr || !steps.are_begun())
+            return Policy::template failed<Of>(command, failure(steps.kind()));
+        gwb_refusal why{};
+        state_->begin_whole();
+        const gwb_kind kind = call(held(), &why);
+        if (kind != GWB_OK)
+            return Policy::template failed<Of>(command, feature_failure(kind, why));
+        Returned<Of> found = made();
+        steps.keep();
+        state_->end_whole();
+        return found;
+    }
+
     [[nodiscard]] Failure feature_failure(gwb_kind kind, const gwb_refusal &why) const
     {
         if (kind == GWB_IMPOSSIBLE)
@@ -1362,7 +1507,36 @@ public:
 
     /// The same workbench, whose calls give a Result and throw nothing: `if (auto cut = bench.attempt().split(..); !cut) ..cut.error()..`.
     /// It is Closed once the workbench is gone.
-    [[nodiscard]] Commands<Results> attempt() const { return Commands<Results>(state_); }
+    [[nodiscard]] Commands<Results> attempt() { return Commands<Results>(state_); }
+    [[nodiscard]] Readings attempt() const;
+
+    // Work that is ended, and what was accepted.
+
+    /// From here on `stop` is asked whether what takes long is to end, as gwb_stop_by says: Stopped then. nullptr: nothing is asked.
+    void stop_by(gwb_stop stop, void *user) { gwb_stop_by(held(), stop, user); }
+
+    /// From here on what is accepted is recorded as lines of a script, for script(). NoCall where the workbench has done something already.
+    Returned<void> record()
+    {
+        const gwb_kind kind = gwb_record(held());
+        return kind == GWB_OK ? Returned<void>() : Policy::template failed<void>("record", failure(kind));
+    }
+    /// How many recorded commands are held, the draft that is open counted as one.
+    [[nodiscard]] Returned<std::size_t> recorded() const { return sized(gwb_recorded(seen())); }
+    /// The lines of recorded commands that are held, as gwb_script says: so many from this place on, or all.
+    [[nodiscard]] Returned<std::string> script(std::size_t first = 0, std::size_t count = SIZE_MAX) const
+    {
+        char none = 0;
+        const std::size_t length = gwb_script(seen(), first, count, &none, 0);
+        if (length == SIZE_MAX)
+            return Policy::template failed<std::string>("script", {Problem::closed});
+        std::string lines(length, '\0');
+        gwb_script(seen(), first, count, lines.data(), length);
+        return lines;
+    }
+
+    /// A number that is another one whenever the model may have changed since.
+    [[nodiscard]] std::uint64_t changes() const { return gwb_changes(seen()); }
 
     /// For the calls of gwb.h; that of a workbench that was moved from is closed. It stays where it is when the workbench is moved. What
     /// they do to a draft or to the model the ranges and drafts here don't notice.
@@ -1371,6 +1545,36 @@ public:
 
 protected:
     template <class> friend class Commands;
+    friend class Readings;
+
+    /// Steps that are one command, or of the draft that is open. They are taken back at the end of the scope, unless they are kept.
+    class Steps {
+    public:
+        explicit Steps(gwb *g) : g_(g), kind_(gwb_draft(g)), mark_(gwb_mark(g)) {}
+        Steps(const Steps &) = delete;
+        Steps &operator=(const Steps &) = delete;
+        ~Steps()
+        {
+            if (kind_ == GWB_OK)
+                gwb_abandon(g_);
+            else if (kind_ == GWB_IN_DRAFT)
+                gwb_back(g_, mark_);
+        }
+        [[nodiscard]] gwb_kind kind() const { return kind_; }
+        [[nodiscard]] bool are_begun() const { return kind_ == GWB_OK || kind_ == GWB_IN_DRAFT; }
+        void keep() const
+        {
+            if (kind_ == GWB_OK)
+                gwb_commit(g_);
+            kind_ = GWB_CLOSED;
+        }
+
+    private:
+        gwb *g_;
+        mutable gwb_kind kind_;
+        std::size_t mark_;
+    };
+
     Commands() = default;
     explicit Commands(std::shared_ptr<State> state) : state_(std::move(state)) {}
 
@@ -1380,6 +1584,9 @@ protected:
         state_ = std::make_shared<State>();
         return heap != nullptr ? gwb_open_in(&state_->handle, heap) : gwb_open(&state_->handle);
     }
+
+    /// Whether the library that is linked has the calls of this header.
+    [[nodiscard]] static bool is_of_version() { return gwb_version() / 10'000 == GWB_VERSION / 10'000; }
 
     /// Closes the session, if there is one. Its drafts and ranges are Closed from here on.
     void close()
@@ -1416,11 +1623,7 @@ private:
     }
 
     /// The number above all of a kind in use, which is out of range where no greater one is.
-    template <class Kind> [[nodiscard]] Kind free() const
-    {
-        std::size_t number = gwb_greatest_number(seen(), Kind::kind);
-        return Kind(number == SIZE_MAX ? 0 : static_cast<std::uint32_t>(number) + 1);
-    }
+    template <class Kind> [[nodiscard]] Kind free() { return is_open() ? Kind(state_->greatest(Kind::kind) + 1) : Kind(); }
 
     /// Why an answer of this kind has no value.
     [[nodiscard]] Failure failure(gwb_kind kind) const
@@ -1434,6 +1637,7 @@ private:
         case GWB_NO_CALL: return {Problem::no_call};
         case GWB_IN_DRAFT: return {Problem::in_draft};
         case GWB_NO_DRAFT: return {Problem::no_draft};
+        case GWB_STOPPED: return {Problem::stopped};
         default: return {Problem::closed};
         }
     }
@@ -1525,20 +1729,33 @@ private:
         return RangeOf<Rule>(state_ != nullptr ? state_ : std::make_shared<const State>(), rule);
     }
 
-    /// All triangles that a call writes, which is given more room where there are more.
-    template <class Write> Returned<std::vector<gwb_triangle_row>> triangles(Write write) const
+    /// All triangles that a call writes, of which there are at most so many.
+    template <class Write> Returned<std::vector<gwb_triangle_row>> triangles(std::size_t most, Write write) const
     {
         using Found = std::vector<gwb_triangle_row>;
-        Found found(64);
-        std::size_t count = write(found.data(), found.size());
-        if (count != SIZE_MAX && count > found.size()) {
-            found.resize(count);
-            count = write(found.data(), count);
-        }
+        if (!is_open())
+            return Policy::template failed<Found>("triangles", {Problem::closed});
+        Found found(most + 1); // so that it has an address
+        const std::size_t count = write(found.data(), most);
         if (count == SIZE_MAX)
-            return Policy::template failed<Found>("triangles", {is_open() ? Problem::memory : Problem::closed});
+            return Policy::template failed<Found>("triangles", {Problem::memory});
         found.resize(count);
         return found;
+    }
+
+    /// How many half-edges a solid has; for none given all.
+    [[nodiscard]] std::size_t half_edge_count(Solid solid) const
+    {
+        gwb_half_edge_row none{};
+        return gwb_read_half_edges(seen(), solid.number(), &none, 0);
+    }
+
+    [[nodiscard]] std::size_t twice_the_rings(Face face) const
+    {
+        std::size_t count = 0;
+        for (std::uint32_t ring = 0; gwb_ring_after(seen(), face.number(), ring, &ring) == GWB_FOUND; count++) {
+        }
+        return 2 * count;
     }
 
     /// All rows that a call writes, which is given room for them first.
@@ -1563,6 +1780,26 @@ private:
 /// What has the calls of a workbench that give Results.
 using Attempts = Commands<Results>;
 
+/// Those of them that change nothing.
+class Readings : private Commands<Results> {
+public:
+    using Commands::ahead, Commands::around, Commands::changes, Commands::count, Commands::depth, Commands::edge, Commands::edges_of, Commands::end_of,
+        Commands::face, Commands::face_of, Commands::faces, Commands::faces_of, Commands::fresh, Commands::greatest, Commands::half_edge_rows,
+        Commands::half_edges, Commands::half_edges_of, Commands::is_open, Commands::listing, Commands::lone_vertex, Commands::loop_of,
+        Commands::loops_of, Commands::mark, Commands::next, Commands::next_free, Commands::numbers, Commands::plane, Commands::previous,
+        Commands::recorded, Commands::reply, Commands::rings, Commands::script, Commands::six_volumes, Commands::start_of,
+        Commands::triangle_rows, Commands::vertex, Commands::vertex_rows;
+
+private:
+    template <class> friend class Commands;
+    explicit Readings(Commands<Results> calls) : Commands(std::move(calls)) {}
+};
+
+template <class Policy> Readings Commands<Policy>::attempt() const
+{
+    return Readings(Commands<Results>(state_));
+}
+
 /// A session whose calls give Results, closed at the end of its scope. It can be moved; one that was moved from is closed.
 class Session : public Commands<Results> {
 public:
@@ -1570,6 +1807,7 @@ public:
     static Result<Session> opened() { return opened_in(nullptr); }
     /// The same in a heap of its own, which is there for as long as the session.
     static Result<Session> opened(const gwb_heap &heap) { return opened_in(&heap); }
+    static Result<Session> opened(const gwb_heap &&) = delete; // which would be gone before the session
     Session(Session &&other) noexcept { take(std::move(other)); }
     Session &operator=(Session &&other) noexcept
     {
@@ -1583,6 +1821,8 @@ private:
     static Result<Session> opened_in(const gwb_heap *heap)
     {
         Session session;
+        if (!is_of_version())
+            return Failure{Problem::version};
         if (!session.open(heap))
             return Failure{Problem::memory};
         return session;
@@ -1595,18 +1835,11 @@ private:
 /// throws Closed.
 class Workbench : public Commands<Throwing> {
 public:
-    /// std::bad_alloc where memory is refused.
-    Workbench()
-    {
-        if (!open())
-            throw std::bad_alloc();
-    }
+    /// std::bad_alloc where memory is refused; OtherVersion.
+    Workbench() : Workbench(nullptr) {}
     /// The same in a heap of its own, which is there for as long as the workbench. What is kept of it beside the kernel is not of that heap.
-    explicit Workbench(const gwb_heap &heap)
-    {
-        if (!open(&heap))
-            throw std::bad_alloc();
-    }
+    explicit Workbench(const gwb_heap &heap) : Workbench(&heap) {}
+    explicit Workbench(const gwb_heap &&) = delete; // which would be gone before the workbench
     Workbench(Workbench &&other) noexcept : Commands<Throwing>() { take(std::move(other)); }
     Workbench &operator=(Workbench &&other) noexcept
     {
@@ -1614,6 +1847,15 @@ public:
         return *this;
     }
     ~Workbench() { close(); }
+
+private:
+    explicit Workbench(const gwb_heap *heap)
+    {
+        if (!is_of_version())
+            throw OtherVersion();
+        if (!open(heap))
+            throw std::bad_alloc();
+    }
 };
 
 using Draft = Workbench::Draft;

@@ -96,10 +96,25 @@ struct Notch {
 };
 
 namespace features {
-template <class Kind> std::vector<Kind> numbers(const std::vector<std::uint32_t> &rows)
-{
-    return {rows.begin(), rows.end()};
-}
+
+/// Room for what belongs to the points of an outline, of which none needs memory once a feature was made.
+template <class Kind> class ByPoints {
+public:
+    explicit ByPoints(Items<Point> points) : numbers_(points.size() + 1), made_(points.size()) {} // (so that it has an address)
+    [[nodiscard]] std::uint32_t *to() { return numbers_.data(); }
+    /// What was written.
+    [[nodiscard]] std::vector<Kind> take()
+    {
+        std::transform(numbers_.begin(), numbers_.end() - 1, made_.begin(), [](std::uint32_t number) { return Kind(number); });
+        return std::move(made_);
+    }
+
+private:
+    std::vector<std::uint32_t> numbers_;
+    std::vector<Kind> made_;
+};
+
+/// A list of what the last feature made.
 template <class Kind> std::vector<Kind> list(const gwb *g, gwb_list which)
 {
     std::uint32_t none = 0;
@@ -108,6 +123,7 @@ template <class Kind> std::vector<Kind> list(const gwb *g, gwb_list which)
         gwb_made(g, which, found.data(), found.size());
     return {found.begin(), found.end()};
 }
+
 /// The rows that a call writes.
 template <class Of, class Row> std::vector<Row> rows(std::size_t (*write)(const Of *, Row *, std::size_t), const Of *of)
 {
@@ -117,93 +133,105 @@ template <class Of, class Row> std::vector<Row> rows(std::size_t (*write)(const 
         write(of, found.data(), found.size());
     return found;
 }
+
+/// A notch, slot, groove or shoulder.
 template <class Policy, class Call> typename Policy::template Returned<Notch> notch(Commands<Policy> &bench, const char *command, Call call)
 {
-    return bench.feature(command, call, [&] {
+    return bench.listed_feature(command, call, [&] {
         return Notch{list<Face>(bench.handle(), GWB_MADE_FLOOR), list<Face>(bench.handle(), GWB_MADE_WALLS)};
     });
 }
+
 } // namespace features
 
+/// The solid goes, with all its parts.
 template <class Policy> typename Policy::template Returned<void> kill_solid(Commands<Policy> &bench, Solid solid)
 {
     return bench.feature("kill_solid", [&](gwb *g, gwb_refusal *why) { return gwb_kill_solid(g, solid.number(), why); }, [] {});
 }
+
+/// A new solid, that is another one moved; its numbers are above all in use.
 template <class Policy> typename Policy::template Returned<Solid> copy_solid(Commands<Policy> &bench, Solid solid, const Motion &motion = {})
 {
     std::uint32_t made = 0;
     return bench.feature("copy_solid", [&](gwb *g, gwb_refusal *why) { return gwb_copy_solid(g, solid.number(), &motion.row(), &made, why); },
                          [&] { return Solid(made); });
 }
+
+/// A solid lies elsewhere, with the numbers that it has; some of its edges may run the other way.
 template <class Policy> typename Policy::template Returned<void> move_solid(Commands<Policy> &bench, Solid solid, const Motion &motion)
 {
     return bench.feature("move_solid", [&](gwb *g, gwb_refusal *why) { return gwb_move_solid(g, solid.number(), &motion.row(), why); }, [] {});
 }
 
+/// A new solid: the outline through the points, moved along the vector.
 template <class Policy>
 typename Policy::template Returned<Profile> profile(Commands<Policy> &bench, Solid solid, Items<Point> points, Point along)
 {
     gwb_profile_made made{};
-    std::vector<std::uint32_t> sides(points.size() + 1);
+    features::ByPoints<Face> sides(points);
     return bench.feature(
         "profile",
         [&](gwb *g, gwb_refusal *why) {
-            return gwb_profile(g, solid.number(), points.data(), points.size(), &along, &made, sides.data(), why);
+            return gwb_profile(g, solid.number(), points.data(), points.size(), &along, &made, sides.to(), why);
         },
-        [&] { return sides.pop_back(), Profile{solid, Face(made.far), Face(made.base), features::numbers<Face>(sides)}; });
+        [&] { return Profile{solid, Face(made.far), Face(made.base), sides.take()}; });
 }
 template <class Policy> typename Policy::template Returned<Profile> profile(Commands<Policy> &bench, Items<Point> points, Point along)
 {
-    const Result<Solid> solid = bench.attempt().template next_free<Solid>();
-    return profile(bench, solid ? *solid : Solid(), points, along);
+    return profile(bench, bench.attempt().template next_free<Solid>().value_or(Solid()), points, along);
 }
+
+/// A face inside the face, with the outline through the points, and a ring around it.
 template <class Policy> typename Policy::template Returned<Ring> ring(Commands<Policy> &bench, Face face, Items<Point> points)
 {
     gwb_outline_made made{};
-    std::vector<std::uint32_t> edges(points.size() + 1), vertices(points.size() + 1);
+    features::ByPoints<Edge> edges(points);
+    features::ByPoints<Vertex> vertices(points);
     return bench.feature(
         "ring",
         [&](gwb *g, gwb_refusal *why) {
-            return gwb_ring(g, face.number(), points.data(), points.size(), &made, edges.data(), vertices.data(), why);
+            return gwb_ring(g, face.number(), points.data(), points.size(), &made, edges.to(), vertices.to(), why);
         },
-        [&] {
-            edges.pop_back(), vertices.pop_back();
-            return Ring{Face(made.face), Loop(made.loop), features::numbers<Edge>(edges), features::numbers<Vertex>(vertices)};
-        });
+        [&] { return Ring{Face(made.face), Loop(made.loop), edges.take(), vertices.take()}; });
 }
+
+/// A pocket so deep behind the outline in the face.
 template <class Policy>
 typename Policy::template Returned<Pocket> pocket(Commands<Policy> &bench, Face face, Items<Point> points, std::int64_t depth)
 {
     gwb_outline_made made{};
-    std::vector<std::uint32_t> sides(points.size() + 1);
+    features::ByPoints<Face> sides(points);
     return bench.feature(
         "pocket",
-        [&](gwb *g, gwb_refusal *why) {
-            return gwb_pocket(g, face.number(), points.data(), points.size(), depth, &made, sides.data(), why);
-        },
-        [&] { return sides.pop_back(), Pocket{Face(made.face), Loop(made.loop), features::numbers<Face>(sides)}; });
+        [&](gwb *g, gwb_refusal *why) { return gwb_pocket(g, face.number(), points.data(), points.size(), depth, &made, sides.to(), why); },
+        [&] { return Pocket{Face(made.face), Loop(made.loop), sides.take()}; });
 }
+
+/// A boss so high on the outline in the face.
 template <class Policy>
 typename Policy::template Returned<Pocket> boss(Commands<Policy> &bench, Face face, Items<Point> points, std::int64_t height)
 {
     gwb_outline_made made{};
-    std::vector<std::uint32_t> sides(points.size() + 1);
+    features::ByPoints<Face> sides(points);
     return bench.feature(
         "boss",
-        [&](gwb *g, gwb_refusal *why) {
-            return gwb_boss(g, face.number(), points.data(), points.size(), height, &made, sides.data(), why);
-        },
-        [&] { return sides.pop_back(), Pocket{Face(made.face), Loop(made.loop), features::numbers<Face>(sides)}; });
+        [&](gwb *g, gwb_refusal *why) { return gwb_boss(g, face.number(), points.data(), points.size(), height, &made, sides.to(), why); },
+        [&] { return Pocket{Face(made.face), Loop(made.loop), sides.take()}; });
 }
+
+/// A hole from the outline in the face through to the face opposite to it, which is parallel.
 template <class Policy> typename Policy::template Returned<Hole> hole(Commands<Policy> &bench, Face face, Items<Point> points)
 {
     gwb_outline_made made{};
-    std::vector<std::uint32_t> sides(points.size() + 1);
+    features::ByPoints<Face> sides(points);
     return bench.feature(
         "hole",
-        [&](gwb *g, gwb_refusal *why) { return gwb_hole(g, face.number(), points.data(), points.size(), &made, sides.data(), why); },
-        [&] { return sides.pop_back(), Hole{Face(made.face), Loop(made.loop), features::numbers<Face>(sides)}; });
+        [&](gwb *g, gwb_refusal *why) { return gwb_hole(g, face.number(), points.data(), points.size(), &made, sides.to(), why); },
+        [&] { return Hole{Face(made.face), Loop(made.loop), sides.take()}; });
 }
+
+/// A pocket whose outline may reach the edges of the face.
 template <class Policy>
 typename Policy::template Returned<Notch> notch(Commands<Policy> &bench, Face face, Items<Point> points, std::int64_t depth)
 {
@@ -211,23 +239,32 @@ typename Policy::template Returned<Notch> notch(Commands<Policy> &bench, Face fa
         return gwb_notch(g, face.number(), points.data(), points.size(), depth, why);
     });
 }
+
+/// A channel of this width along the line between two points on edges of the face, with a flat floor.
 template <class Policy>
 typename Policy::template Returned<Notch> slot(Commands<Policy> &bench, Face face, Point start, Point end, std::int64_t width, std::int64_t depth)
 {
     return features::notch(bench, "slot", [&](gwb *g, gwb_refusal *why) { return gwb_slot(g, face.number(), &start, &end, width, depth, why); });
 }
+
+/// A channel alike, like a V.
 template <class Policy>
 typename Policy::template Returned<Notch> groove(Commands<Policy> &bench, Face face, Point start, Point end, std::int64_t width, std::int64_t depth)
 {
     return features::notch(bench, "groove",
                            [&](gwb *g, gwb_refusal *why) { return gwb_groove(g, face.number(), &start, &end, width, depth, why); });
 }
+
+/// A step of this width and depth along an edge of the face.
 template <class Policy>
 typename Policy::template Returned<Notch> shoulder(Commands<Policy> &bench, Face face, Edge edge, std::int64_t width, std::int64_t depth)
 {
     return features::notch(bench, "shoulder",
                            [&](gwb *g, gwb_refusal *why) { return gwb_shoulder(g, face.number(), edge.number(), width, depth, why); });
 }
+
+/// The edge becomes a sloping face, so far into the face of its first half-edge, and so far into the other one: where no second width is given as
+/// far. An edge whose faces bend inwards is filled.
 template <class Policy>
 typename Policy::template Returned<Face> chamfer(Commands<Policy> &bench, Edge edge, std::int64_t width, std::optional<std::int64_t> other = {})
 {

@@ -18,7 +18,7 @@ struct Triangle {
 };
 
 /// Why a face has no triangles. It asks for the face's plane, so it is a measure.
-inline Failure uncut(const Attempts &bench, Face face)
+inline Failure uncut(const Readings &bench, Face face)
 {
     const Result<gwb_plane> plane = bench.plane(face);
     if (!plane)
