@@ -2,13 +2,30 @@
 // loaded. The last line counts.
 #include "gwb_features.hpp"
 #include "gwb_triangles.hpp"
+#include <cstdlib>
+#include <functional>
 #include <iostream>
 #include <map>
+#include <new>
 #include <set>
 
 using namespace gwb_session;
 
 static int passed = 0, failed = 0;
+
+// ---- memory of this program, of which one request is refused: what the library takes is of the session's heap
+
+static long until_refused = -1;
+
+__attribute__((noinline)) void *operator new(std::size_t size)
+{
+    void *block = until_refused >= 0 && until_refused-- == 0 ? nullptr : std::malloc(size);
+    if (block == nullptr)
+        throw std::bad_alloc();
+    return block;
+}
+__attribute__((noinline)) void operator delete(void *block) noexcept { std::free(block); }
+__attribute__((noinline)) void operator delete(void *block, std::size_t) noexcept { std::free(block); }
 
 static void check(bool holds, const std::string &what)
 {
@@ -318,9 +335,99 @@ static void try_refusals()
     check(copy_solid(attempt, Solid(9)).error().is(GWB_WHY_NO_SOLID) && *copy_solid(attempt, block) == Solid(2), "by attempts");
 }
 
+// ---- memory refused in the faces of C++
+
+// A block in a session or a draft of it, and what is held of it.
+struct Held {
+    std::string listing;
+    std::size_t depth, mark;
+};
+
+static Held held(const Workbench &bench)
+{
+    return {bench.listing(), bench.depth(), bench.mark().steps()};
+}
+
+static bool is_same(const Held &a, const Held &b)
+{
+    return a.listing == b.listing && a.depth == b.depth && a.mark == b.mark;
+}
+
+using Feature = std::function<void(Workbench &)>;
+
+// The feature with one request refused: whether there was one.
+static bool try_refused(const Feature &feature, bool is_drafting, long nth, const std::string &name)
+{
+    Workbench bench;
+    (void)bench.block({0, 0, 0}, {8, 8, 8});
+    std::optional<Draft> draft;
+    if (is_drafting)
+        draft.emplace(bench.draft());
+    (void)bench.block(Solid(7), {20, 0, 0}, {1, 1, 1});
+    const Held before = held(bench);
+    bool was_thrown = false;
+    until_refused = nth;
+    try {
+        feature(bench);
+    } catch (const std::bad_alloc &) {
+        was_thrown = true;
+    }
+    const bool was_refused = until_refused < 0;
+    until_refused = -1;
+    check(was_thrown == was_refused && (!was_thrown || is_same(held(bench), before)), name + ", request " + std::to_string(nth));
+    return was_refused;
+}
+
+static void try_refused_memory()
+{
+    const Point up{0, 0, 9};
+    const std::vector<Point> square = {{2, 2, 8}, {4, 2, 8}, {4, 4, 8}, {2, 4, 8}};
+    const std::map<std::string, Feature> features = {
+        {"profile", [&](Workbench &bench) { (void)profile(bench, square, up); }},
+        {"ring", [&](Workbench &bench) { (void)ring(bench, Face(1), square); }},
+        {"pocket", [&](Workbench &bench) { (void)pocket(bench, Face(1), square, 3); }},
+        {"boss", [&](Workbench &bench) { (void)boss(bench, Face(1), square, 3); }},
+        {"hole", [&](Workbench &bench) { (void)hole(bench, Face(1), square); }},
+        {"notch", [&](Workbench &bench) { (void)notch(bench, Face(1), square, 3); }},
+        {"slot", [&](Workbench &bench) { (void)slot(bench, Face(1), {6, 0, 8}, {6, 8, 8}, 2, 3); }},
+        {"chamfer", [&](Workbench &bench) { (void)chamfer(bench, Edge(1), 2); }},
+        {"copy", [&](Workbench &bench) { (void)copy_solid(bench, Solid(1), Motion::move({40, 0, 0})); }},
+        {"split", [&](Workbench &bench) { (void)split_solid(bench, Solid(1), {0, 0, 1, -4}); }},
+        {"move", [&](Workbench &bench) { move_solid(bench, Solid(1), Motion::quarter_turns(2)); }},
+        {"load", [&](Workbench &bench) { bench.load("solid 9\nface 90 9 90\nloop 90 at 90\nvertex 90 1 1 1\n"); }},
+    };
+    for (const auto &[name, feature] : features)
+        for (bool is_drafting : {false, true})
+            for (long nth = 0; try_refused(feature, is_drafting, nth, name); nth++) {
+            }
+}
+
+// ---- what is made, by name
+
+static void try_names()
+{
+    Workbench bench;
+    const Block block = bench.block({0, 0, 0}, {8, 8, 8});
+    check(block.top == Face(1) && block.bottom == Face(2) && block.sides[3] == Face(6) && Solid(block) == Solid(1), "a block");
+    const Lamina sheet = bench.lamina({{20, 0, 0}, {24, 0, 0}, {20, 4, 0}});
+    check(sheet.front == Face(7) && sheet.back == Face(8) && sheet.solid == Solid(2), "a lamina");
+    const Split cut = split_solid(bench, block, {0, 0, 1, -4});
+    check(cut.lower_caps.size() == 1 && cut.upper_caps.size() == 1 && bench.face(cut.upper_caps[0]).solid == cut.above, "a split");
+    check(narrow(bench.plane(cut.lower_caps[0]).c) > 0 && narrow(bench.plane(cut.upper_caps[0]).c) < 0, "its caps look at each other");
+    const Copy copy = copy_solid(bench, cut.above, Motion::mirror(2));
+    const Face cap = copy.of(cut.upper_caps[0]);
+    check(bench.face(cap).solid == copy.solid && narrow(bench.plane(cap).c) > 0 && copy.of(Face(999)) == Face(), "a copy's face");
+    const HalfEdge side = *bench.around(bench.face(cut.upper_caps[0]).outer_loop).begin();
+    const Vertex start = bench.start_of(side);
+    check(bench.vertex(copy.of(start)).z == -4 && bench.vertex(start).z == 4, "and vertex");
+    check(bench.start_of(copy.of(side)) == copy.of(start) && bench.end_of(copy.of(side)) == copy.of(bench.end_of(side)), "and half-edge");
+}
+
 int main()
 {
     try {
+        try_names();
+        try_refused_memory();
         try_solid("a pocket", pocket);
         try_solid("a hole", hole);
         try_solid("two holes", two_holes);

@@ -54,7 +54,7 @@ static void try_drafts(Session &session)
 static void try_layers(Session &session)
 {
     Notes<Face, int> notes;
-    Result<Solid> copy = copy_solid(session, Solid(1), Motion::move({9, 0, 0}));
+    const Result<Copy> copy = copy_solid(session, Solid(1), Motion::move({9, 0, 0}));
     check(copy && *copy == Solid(2) && copy_solid(session, Solid(9)).error().is(GWB_WHY_NO_SOLID), "a copy");
     notes[*session.greatest<Face>()] = 7;
     const Changes changes = follow(session, [&] { (void)kill_solid(session, *copy); }, notes);

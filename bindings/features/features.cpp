@@ -69,7 +69,7 @@ public:
     Borrowed(const Borrowed &) = delete;
     Borrowed &operator=(const Borrowed &) = delete;
     ~Borrowed() { *g_ = std::exchange(state_->handle, gwb{}); }
-    [[nodiscard]] const Attempts &bench() const { return bench_; }
+    [[nodiscard]] Attempts &bench() { return bench_; }
 
 private:
     gwb *g_;
@@ -111,7 +111,7 @@ template <class Make, class Put> gwb_kind made_at_once(gwb *g, gwb_refusal *why,
     const std::uint64_t before = of.changes;
     const bool was_known = known.is_of(before);
     known.clear();
-    using Made = decltype(make(std::declval<const Attempts &>(), std::declval<Together &>(), known));
+    using Made = decltype(make(std::declval<Attempts &>(), std::declval<Together &>(), known));
     const Made made = [&]() -> Made {
         Borrowed session(g);
         Together commands(session.bench());
@@ -173,7 +173,7 @@ gwb_kind raised(gwb *g, std::uint32_t face, const gwb_point *points, std::size_t
 {
     return made(
         g, why,
-        [&](const Attempts &bench, Together &, Known &) {
+        [&](Attempts &bench, Together &, Known &) {
             return length < 1 ? Result<Pocket>(machining::refused(GWB_WHY_SIZE_RANGE, 1))
                               : machining::raise(bench, Face(face), items(points, n), is_pocket ? -length : length);
         },
@@ -188,7 +188,7 @@ template <class Make> gwb_kind cut(gwb *g, gwb_refusal *why, Make make)
 {
     return made(
         g, why,
-        [&](const Attempts &bench, Together &, Known &known) -> Result<bool> {
+        [&](Attempts &bench, Together &, Known &known) -> Result<bool> {
             const Result<Notch> notch = make(bench);
             if (!notch)
                 return notch.error();
@@ -199,6 +199,19 @@ template <class Make> gwb_kind cut(gwb *g, gwb_refusal *why, Make make)
             return true;
         },
         [](bool) {});
+}
+
+/// The faces of a solid above a number that lie in a plane.
+void put_caps(const Attempts &bench, Solid solid, Face above, const gwb_cut_plane &plane, std::vector<std::uint32_t> &caps)
+{
+    const auto is_on = [&](const exact::Vector &at) { return plane.a * at[0] + plane.b * at[1] + plane.c * at[2] + plane.d == 0; };
+    for (Face face : bench.faces(solid)) {
+        if (face <= above)
+            continue;
+        const std::vector<machining::Path> loops = machining::loops_at(bench, face);
+        if (std::all_of(loops.begin(), loops.end(), [&](const machining::Path &loop) { return std::all_of(loop.begin(), loop.end(), is_on); }))
+            caps.push_back(face.number());
+    }
 }
 
 gwb_wide wide(exact::Wide number) { return {static_cast<std::int64_t>(number >> 64), static_cast<std::uint64_t>(number)}; }
@@ -234,7 +247,7 @@ gwb_kind gwb_kill_solid(gwb *g, std::uint32_t solid, gwb_refusal *why)
 {
     return made(
         g, why,
-        [&](const Attempts &bench, Together &, Known &) -> Result<bool> {
+        [&](Attempts &bench, Together &, Known &) -> Result<bool> {
             const Result<void> done = TakenApart(bench).take(Solid(solid));
             return done ? Result<bool>(true) : Result<bool>(done.error());
         },
@@ -247,7 +260,7 @@ gwb_kind gwb_copy_solid(gwb *g, std::uint32_t solid, const gwb_motion *motion, s
         return gwb_is_open(g) ? GWB_NO_CALL : GWB_CLOSED;
     return made(
         g, why,
-        [&](const Attempts &bench, Together &commands, Known &known) {
+        [&](Attempts &bench, Together &commands, Known &known) {
             return copied(bench, commands, Solid(solid), Motion(*motion), known.lists);
         },
         [&](Solid made) { *out = made.number(); });
@@ -258,7 +271,23 @@ gwb_kind gwb_move_solid(gwb *g, std::uint32_t solid, const gwb_motion *motion, g
     if (!Motion(*motion).is_one())
         return gwb_is_open(g) ? GWB_NO_CALL : GWB_CLOSED;
     return made(
-        g, why, [&](const Attempts &bench, Together &, Known &) { return moved(bench, Solid(solid), Motion(*motion)); }, [](Solid) {});
+        g, why, [&](Attempts &bench, Together &, Known &) { return moved(bench, Solid(solid), Motion(*motion)); }, [](Solid) {});
+}
+
+gwb_kind gwb_split_solid(gwb *g, std::uint32_t solid, const gwb_cut_plane *plane, std::uint32_t above, gwb_refusal *why)
+{
+    return made(
+        g, why,
+        [&](Attempts &bench, Together &, Known &known) -> Result<bool> {
+            const Face before = *bench.greatest<Face>();
+            const Result<void> done = bench.split(Solid(solid), plane->a, plane->b, plane->c, plane->d, Solid(above));
+            if (!done)
+                return done.error();
+            put_caps(bench, Solid(solid), before, *plane, known.lists[GWB_MADE_LOWER_CAPS]);
+            put_caps(bench, Solid(above), before, *plane, known.lists[GWB_MADE_UPPER_CAPS]);
+            return true;
+        },
+        [](bool) {});
 }
 
 gwb_kind gwb_profile(gwb *g, std::uint32_t solid, const gwb_point *points, std::size_t n, const gwb_point *along, gwb_profile_made *out,
@@ -266,7 +295,7 @@ gwb_kind gwb_profile(gwb *g, std::uint32_t solid, const gwb_point *points, std::
 {
     return made(
         g, why,
-        [&](const Attempts &bench, Together &, Known &) { return machining::make_profile(bench, Solid(solid), items(points, n), *along); },
+        [&](Attempts &bench, Together &, Known &) { return machining::make_profile(bench, Solid(solid), items(points, n), *along); },
         [&](const Profile &made) {
             *out = {made.far.number(), made.base.number()};
             write(made.sides, sides);
@@ -277,7 +306,7 @@ gwb_kind gwb_ring(gwb *g, std::uint32_t face, const gwb_point *points, std::size
                   std::uint32_t *vertices, gwb_refusal *why)
 {
     return made(
-        g, why, [&](const Attempts &bench, Together &, Known &) { return machining::make_ring(bench, Face(face), items(points, n)); },
+        g, why, [&](Attempts &bench, Together &, Known &) { return machining::make_ring(bench, Face(face), items(points, n)); },
         [&](const Ring &made) {
             *out = {made.face.number(), made.loop.number()};
             write(made.edges, edges);
@@ -301,7 +330,7 @@ gwb_kind gwb_hole(gwb *g, std::uint32_t face, const gwb_point *points, std::size
                   gwb_refusal *why)
 {
     return made(
-        g, why, [&](const Attempts &bench, Together &, Known &) { return machining::make_hole(bench, Face(face), items(points, n)); },
+        g, why, [&](Attempts &bench, Together &, Known &) { return machining::make_hole(bench, Face(face), items(points, n)); },
         [&](const Hole &made) {
             *out = {made.other.number(), made.loop.number()};
             write(made.sides, sides);
@@ -310,7 +339,7 @@ gwb_kind gwb_hole(gwb *g, std::uint32_t face, const gwb_point *points, std::size
 
 gwb_kind gwb_notch(gwb *g, std::uint32_t face, const gwb_point *points, std::size_t n, std::int64_t depth, gwb_refusal *why)
 {
-    return cut(g, why, [&](const Attempts &bench) {
+    return cut(g, why, [&](Attempts &bench) {
         return shaping::cut_in_face(bench, Face(face), items(points, n), {depth}, [&](const machining::Path &path) {
             return shaping::notch_tool(bench, Face(face), path, depth);
         });
@@ -319,7 +348,7 @@ gwb_kind gwb_notch(gwb *g, std::uint32_t face, const gwb_point *points, std::siz
 
 gwb_kind gwb_slot(gwb *g, std::uint32_t face, const gwb_point *start, const gwb_point *end, std::int64_t width, std::int64_t depth, gwb_refusal *why)
 {
-    return cut(g, why, [&](const Attempts &bench) {
+    return cut(g, why, [&](Attempts &bench) {
         return shaping::cut_in_face(bench, Face(face), {*start, *end}, {width, depth}, [&](const machining::Path &ends) {
             return shaping::slot_tool(bench, Face(face), ends, width, depth);
         });
@@ -329,7 +358,7 @@ gwb_kind gwb_slot(gwb *g, std::uint32_t face, const gwb_point *start, const gwb_
 gwb_kind gwb_groove(gwb *g, std::uint32_t face, const gwb_point *start, const gwb_point *end, std::int64_t width, std::int64_t depth,
                     gwb_refusal *why)
 {
-    return cut(g, why, [&](const Attempts &bench) {
+    return cut(g, why, [&](Attempts &bench) {
         return shaping::cut_in_face(bench, Face(face), {*start, *end}, {width, depth}, [&](const machining::Path &ends) {
             return shaping::groove_tool(bench, Face(face), ends, width, depth);
         });
@@ -338,13 +367,13 @@ gwb_kind gwb_groove(gwb *g, std::uint32_t face, const gwb_point *start, const gw
 
 gwb_kind gwb_shoulder(gwb *g, std::uint32_t face, std::uint32_t edge, std::int64_t width, std::int64_t depth, gwb_refusal *why)
 {
-    return cut(g, why, [&](const Attempts &bench) { return shaping::cut_shoulder(bench, Face(face), Edge(edge), width, depth); });
+    return cut(g, why, [&](Attempts &bench) { return shaping::cut_shoulder(bench, Face(face), Edge(edge), width, depth); });
 }
 
 gwb_kind gwb_chamfer(gwb *g, std::uint32_t edge, std::int64_t width, std::int64_t other, std::uint32_t *face, gwb_refusal *why)
 {
     return made(
-        g, why, [&](const Attempts &bench, Together &, Known &) { return shaping::make_chamfer(bench, Edge(edge), width, other); },
+        g, why, [&](Attempts &bench, Together &, Known &) { return shaping::make_chamfer(bench, Edge(edge), width, other); },
         [&](Face made) { *face = made.number(); });
 }
 

@@ -577,7 +577,7 @@ struct ClosedPath {
 };
 
 /// Draws a closed path from the lone vertex of a loop, where its first point lies.
-inline Result<ClosedPath> close_path(Attempts bench, Loop loop, const Path &path)
+inline Result<ClosedPath> close_path(Attempts &bench, Loop loop, const Path &path)
 {
     ClosedPath made;
     for (std::size_t at = 1; at < path.size(); at++) {
@@ -598,7 +598,7 @@ inline Result<ClosedPath> close_path(Attempts bench, Loop loop, const Path &path
 }
 
 /// The ring through points that run as a ring does, and the face inside it, whose half-edges are the second ones of the edges.
-inline Result<Ring> draw(Attempts bench, Face face, const Path &path)
+inline Result<Ring> draw(Attempts &bench, Face face, const Path &path)
 {
     const HalfEdge start = *bench.around(bench.face(face)->outer_loop).begin();
     const Result<NewVertex> spur = bench.mev(start, start, point(path[0]));
@@ -616,7 +616,7 @@ inline Result<Ring> draw(Attempts bench, Face face, const Path &path)
 }
 
 /// Moves a face, and finds the sides over half-edges of it.
-inline Result<std::vector<Face>> sides_of_sweep(Attempts bench, Face face, const Vector &way, const std::vector<Edge> &edges, bool of_first)
+inline Result<std::vector<Face>> sides_of_sweep(Attempts &bench, Face face, const Vector &way, const std::vector<Edge> &edges, bool of_first)
 {
     const Result<void> swept = bench.sweep(face, point(way));
     if (!swept)
@@ -634,7 +634,7 @@ struct FlatSolid {
     std::vector<Edge> edges;
 };
 
-inline Result<FlatSolid> flat_solid(Attempts bench, const Path &path, Solid solid)
+inline Result<FlatSolid> flat_solid(Attempts &bench, const Path &path, Solid solid)
 {
     const Result<Face> face = bench.next_free<Face>();
     const Result<Loop> loop = bench.next_free<Loop>();
@@ -648,7 +648,7 @@ inline Result<FlatSolid> flat_solid(Attempts bench, const Path &path, Solid soli
     return made ? Result<FlatSolid>(FlatSolid{*face, made->inside, made->edges}) : Result<FlatSolid>(made.error());
 }
 
-inline Result<Profile> make_profile(Attempts bench, Solid solid, Items<Point> points, Point along)
+inline Result<Profile> make_profile(Attempts &bench, Solid solid, Items<Point> points, Point along)
 {
     const Result<Path> path = path_of(points);
     if (!path)
@@ -695,7 +695,7 @@ inline Result<Drawing> drawing(const Attempts &bench, Face face, Items<Point> po
     return path ? Result<Drawing>(Drawing{&known, row->solid, plane->across(), *path, *path != *given}) : Result<Drawing>(path.error());
 }
 
-inline Result<Ring> make_ring(Attempts bench, Face face, Items<Point> points)
+inline Result<Ring> make_ring(Attempts &bench, Face face, Items<Point> points)
 {
     const Result<Drawing> drawn = drawing(bench, face, points);
     if (!drawn)
@@ -714,7 +714,7 @@ inline Result<Ring> make_ring(Attempts bench, Face face, Items<Point> points)
 }
 
 /// Draws an outline and moves the face inside it.
-inline Result<Pocket> draw_and_sweep(Attempts bench, Face face, const Drawing &drawn, const Vector &way)
+inline Result<Pocket> draw_and_sweep(Attempts &bench, Face face, const Drawing &drawn, const Vector &way)
 {
     const Result<Ring> ring = draw(bench, face, drawn.path);
     if (!ring)
@@ -732,7 +732,7 @@ inline void put_sides(Surface &surface, const Attempts &bench, Face face, const 
 }
 
 /// Moves an outline in a face along the face's normal: by a length that is below zero for a pocket.
-inline Result<Pocket> raise(Attempts bench, Face face, Items<Point> points, std::int64_t length)
+inline Result<Pocket> raise(Attempts &bench, Face face, Items<Point> points, std::int64_t length)
 {
     const Result<Drawing> drawn = drawing(bench, face, points);
     if (!drawn)
@@ -755,7 +755,7 @@ inline Result<Pocket> raise(Attempts bench, Face face, Items<Point> points, std:
     return made;
 }
 
-inline Result<Hole> make_hole(Attempts bench, Face face, Items<Point> points)
+inline Result<Hole> make_hole(Attempts &bench, Face face, Items<Point> points)
 {
     const Result<Drawing> drawn = drawing(bench, face, points);
     if (!drawn)

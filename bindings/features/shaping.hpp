@@ -349,7 +349,7 @@ inline Result<Change> changed(const Attempts &bench, Face face, const std::vecto
 }
 
 /// Cuts a tool out of the solid of a face, in which its lid lies, or puts it on.
-inline Result<Notch> change(Attempts bench, Face face, const Result<Tool> &tool, bool is_cut)
+inline Result<Notch> change(Attempts &bench, Face face, const Result<Tool> &tool, bool is_cut)
 {
     if (!tool)
         return tool.error();
@@ -389,7 +389,7 @@ inline Result<void> given(const Attempts &bench, Face face, std::initializer_lis
 
 /// A feature in a face by a tool that is made of points and sizes.
 template <class MakeTool>
-Result<Notch> cut_in_face(const Attempts &bench, Face face, Items<Point> points, std::initializer_list<std::int64_t> sizes, MakeTool make)
+Result<Notch> cut_in_face(Attempts &bench, Face face, Items<Point> points, std::initializer_list<std::int64_t> sizes, MakeTool make)
 {
     const Result<void> allowed = given(bench, face, sizes);
     if (!allowed)
@@ -398,7 +398,7 @@ Result<Notch> cut_in_face(const Attempts &bench, Face face, Items<Point> points,
     return path ? change(bench, face, make(*path), true) : Result<Notch>(path.error());
 }
 
-inline Result<Notch> cut_shoulder(const Attempts &bench, Face face, Edge edge, std::int64_t width, std::int64_t depth)
+inline Result<Notch> cut_shoulder(Attempts &bench, Face face, Edge edge, std::int64_t width, std::int64_t depth)
 {
     const Result<void> allowed = given(bench, face, {width, depth});
     if (!allowed)
@@ -411,7 +411,7 @@ inline Result<Notch> cut_shoulder(const Attempts &bench, Face face, Edge edge, s
     return change(bench, face, shoulder_tool(bench, (*faces)[0] == face ? plus(edge) : minus(edge), width, depth), true);
 }
 
-inline Result<Face> make_chamfer(const Attempts &bench, Edge edge, std::int64_t width, std::int64_t other)
+inline Result<Face> make_chamfer(Attempts &bench, Edge edge, std::int64_t width, std::int64_t other)
 {
     if (width < 1 || other < 1)
         return refused(GWB_WHY_SIZE_RANGE, width < 1 ? 1 : 2);

@@ -50,7 +50,7 @@ private:
 };
 
 /// Lists of what was made, by enum gwb_list.
-using Lists = std::array<std::vector<std::uint32_t>, GWB_MADE_TURNED + 1>;
+using Lists = std::array<std::vector<std::uint32_t>, GWB_MADE_UPPER_CAPS + 1>;
 
 /// A solid taken apart, as what makes it again. For the functions below.
 class TakenApart {
@@ -128,18 +128,17 @@ private:
             return half_edge.is_second() == turned_[half_edge.edge().number()] ? first : first.twin();
         }
         void turn(Edge edge, bool is_turned) { turned_[edge.number()] = is_turned; }
-        /// Writes down which numbers became which.
+        /// Writes down which numbers became which, by the old ones, rising.
         void tell(Lists &lists, std::uint32_t spare_face, std::uint32_t spare_edge) const
         {
-            const std::array<const Of *, 4> kinds = {&faces_, &loops_, &edges_, &vertices_};
-            const std::array<std::uint32_t, 4> spare = {spare_face, UINT32_MAX, spare_edge, UINT32_MAX};
-            for (std::size_t kind = 0; kind < kinds.size(); kind++)
-                for (auto [old, made] : kinds[kind]->given)
-                    if (old < spare[kind])
-                        lists[GWB_MADE_FACES + kind].insert(lists[GWB_MADE_FACES + kind].end(), {old, made});
+            tell(faces_, spare_face, lists[GWB_MADE_FACES]);
+            tell(loops_, UINT32_MAX, lists[GWB_MADE_LOOPS]);
+            tell(edges_, spare_edge, lists[GWB_MADE_EDGES]);
+            tell(vertices_, UINT32_MAX, lists[GWB_MADE_VERTICES]);
             for (auto [edge, is_turned] : turned_)
                 if (const auto made = edges_.given.find(edge); is_turned && made != edges_.given.end())
                     lists[GWB_MADE_TURNED].push_back(made->second);
+            std::sort(lists[GWB_MADE_TURNED].begin(), lists[GWB_MADE_TURNED].end());
         }
         Corner corner(const Place &place, bool is_mirror)
         {
@@ -166,6 +165,15 @@ private:
             of.next += is_new;
             return found->second;
         }
+        static void tell(const Of &of, std::uint32_t spare, std::vector<std::uint32_t> &list)
+        {
+            std::vector<std::pair<std::uint32_t, std::uint32_t>> pairs(of.given.begin(), of.given.end());
+            std::sort(pairs.begin(), pairs.end());
+            for (auto [old, made] : pairs)
+                if (old < spare)
+                    list.insert(list.end(), {old, made});
+        }
+
         bool is_same_;
         Of faces_, loops_, edges_, vertices_;
         std::unordered_map<std::uint32_t, bool> turned_;
@@ -374,7 +382,7 @@ private:
 /// functions below.
 class Together {
 public:
-    explicit Together(const Attempts &bench) : bench_(bench), draft_(bench_.draft())
+    explicit Together(Attempts &bench) : bench_(bench), draft_(bench_.draft())
     {
         if (is_within())
             mark_ = *bench_.mark();
@@ -407,7 +415,7 @@ private:
 };
 
 /// A new solid, that is another moved; its numbers are above all in use.
-inline Result<Solid> copied(const Attempts &bench, Together &commands, Solid solid, const Motion &motion, Lists &lists)
+inline Result<Solid> copied(Attempts &bench, Together &commands, Solid solid, const Motion &motion, Lists &lists)
 {
     TakenApart parts(bench);
     const Result<void> done = parts.take(solid);
@@ -418,7 +426,7 @@ inline Result<Solid> copied(const Attempts &bench, Together &commands, Solid sol
 }
 
 /// A solid lies elsewhere, with the numbers that it has.
-inline Result<Solid> moved(const Attempts &bench, Solid solid, const Motion &motion)
+inline Result<Solid> moved(Attempts &bench, Solid solid, const Motion &motion)
 {
     TakenApart parts(bench);
     const Result<void> done = parts.take(solid);

@@ -270,6 +270,38 @@ static inline uint32_t gwb_fresh(const gwb *g, uint32_t entity, gwb_range *range
     return gwb_lent_fresh(&copy, entity, range);
 }
 
+/** The faces of a block: its top and bottom, where z is greatest and least, and its sides, where y is least, x greatest, y greatest and x
+ * least. */
+typedef struct gwb_block_faces {
+    uint32_t top, bottom, sides[4];
+} gwb_block_faces;
+
+/** The faces of the block that the last command made: GWB_ABSENT where that made no faces. After another command it tells nothing. A reader. */
+static inline uint32_t gwb_last_block(const gwb *g, gwb_block_faces *faces)
+{
+    gwb_range fresh = {0, 0};
+    const uint32_t found = gwb_fresh(g, GWB_FACE, &fresh);
+    if (found == GWB_FOUND) {
+        faces->top = fresh.first;
+        faces->bottom = fresh.first + 1;
+        for (uint32_t side = 0; side < 4; side++)
+            faces->sides[side] = fresh.first + 2 + side;
+    }
+    return found;
+}
+
+/** The faces of the lamina that the last command made, alike: round the front its points run counterclockwise as seen from outside. A reader. */
+static inline uint32_t gwb_last_lamina(const gwb *g, uint32_t *front, uint32_t *back)
+{
+    gwb_range fresh = {0, 0};
+    const uint32_t found = gwb_fresh(g, GWB_FACE, &fresh);
+    if (found == GWB_FOUND) {
+        *front = fresh.first;
+        *back = fresh.first + 1;
+    }
+    return found;
+}
+
 /* ---- the model held, in a draft the draft's, read without text */
 
 /** A face: its solid and its outer loop. */

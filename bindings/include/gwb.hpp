@@ -249,6 +249,11 @@ template <class T> class [[nodiscard]] Result {
 public:
     Result(T value) : value_(std::move(value)) {}
     Result(Failure failure) : failure_(failure) {}
+    /// Of a result whose value stands for one of this type, as a block for its solid.
+    template <class Other, class = std::enable_if_t<std::is_convertible_v<const Other &, T>>>
+    Result(const Result<Other> &other) : value_(other ? std::optional<T>(*other) : std::nullopt), failure_(other.error())
+    {
+    }
     [[nodiscard]] explicit operator bool() const { return value_.has_value(); }
     /// The value. Where there is none the program is terminated.
     [[nodiscard]] T &operator*() { return *required(value_); }
@@ -1025,6 +1030,21 @@ struct NewFace {
 
 class Readings;
 
+/// What block makes; it stands for its solid.
+struct Block {
+    Solid solid;
+    Face top, bottom;          ///< where z is greatest, and least
+    std::array<Face, 4> sides; ///< where y is least, x greatest, y greatest, x least
+    operator Solid() const { return solid; }
+};
+
+/// What lamina makes; it stands for its solid.
+struct Lamina {
+    Solid solid;
+    Face front, back; ///< round the first the points run counterclockwise as seen from outside
+    operator Solid() const { return solid; }
+};
+
 /// The calls of a workbench. Where the Policy is Throwing they give their value, and throw RefusedBy where a condition is false,
 /// std::bad_alloc where memory is refused; where it is Results they give a Result and throw nothing, but for std::bad_alloc of a
 /// std::vector or a std::string that they make. Where a call is not accepted the model is as it was.
@@ -1138,20 +1158,27 @@ public:
     {
         return told("lamina", gwb_lamina(held(), solid.number(), points.data(), points.size()));
     }
-    Returned<Solid> lamina(Items<Point> points)
+    Returned<Lamina> lamina(Items<Point> points)
     {
         const Solid solid = free<Solid>();
-        return with(solid, "lamina", gwb_lamina(held(), solid.number(), points.data(), points.size()));
+        const gwb_kind kind = gwb_lamina(held(), solid.number(), points.data(), points.size());
+        std::uint32_t front = 0, back = 0;
+        gwb_last_lamina(seen(), &front, &back);
+        return with(Lamina{solid, Face(front), Face(back)}, "lamina", kind);
     }
     /// A new solid, the block with this lowest corner and edges along the axes as long as the sizes.
     Returned<void> block(Solid solid, Point corner, Point sizes)
     {
         return told("block", gwb_block(held(), solid.number(), corner.x, corner.y, corner.z, sizes.x, sizes.y, sizes.z));
     }
-    Returned<Solid> block(Point corner, Point sizes)
+    Returned<Block> block(Point corner, Point sizes)
     {
         const Solid solid = free<Solid>();
-        return with(solid, "block", gwb_block(held(), solid.number(), corner.x, corner.y, corner.z, sizes.x, sizes.y, sizes.z));
+        const gwb_kind kind = gwb_block(held(), solid.number(), corner.x, corner.y, corner.z, sizes.x, sizes.y, sizes.z);
+        gwb_block_faces made{};
+        gwb_last_block(seen(), &made);
+        const std::array<Face, 4> sides = {Face(made.sides[0]), Face(made.sides[1]), Face(made.sides[2]), Face(made.sides[3])};
+        return with(Block{solid, Face(made.top), Face(made.bottom), sides}, "block", kind);
     }
     /// The face moves by a vector, and a new face rises over each of its half-edges. Sweep a lamina's first face along its normal: against
     /// it the solid is inside out, and its volume negative.

@@ -52,7 +52,10 @@ enum gwb_list {
     GWB_MADE_LOOPS = 3,    /**< loops alike */
     GWB_MADE_EDGES = 4,    /**< edges alike */
     GWB_MADE_VERTICES = 5, /**< vertices alike */
-    GWB_MADE_TURNED = 6    /**< the new edges of a copy that run the other way than those that they are of */
+    GWB_MADE_TURNED = 6,   /**< the new edges of a copy that run the other way than those that they are of */
+    /* Of a split: the faces that close both parts. */
+    GWB_MADE_LOWER_CAPS = 7, /**< of the part below the plane, which keeps its number */
+    GWB_MADE_UPPER_CAPS = 8  /**< of the part above it */
 };
 
 /** Writes a list of what the last feature of the session made, as far as there is room. A reader, between features.
@@ -66,6 +69,14 @@ enum gwb_kind gwb_kill_solid(gwb *g, uint32_t solid, gwb_refusal *why);
 enum gwb_kind gwb_copy_solid(gwb *g, uint32_t solid, const gwb_motion *motion, uint32_t *made, gwb_refusal *why);
 /** A solid lies elsewhere, with the numbers that it has; some of its edges may run the other way. */
 enum gwb_kind gwb_move_solid(gwb *g, uint32_t solid, const gwb_motion *motion, gwb_refusal *why);
+
+/** The plane a x + b y + c z + d = 0. */
+typedef struct gwb_cut_plane {
+    int64_t a, b, c, d;
+} gwb_cut_plane;
+
+/** What gwb_split does. Lists: the caps. Refused as gwb_split. */
+enum gwb_kind gwb_split_solid(gwb *g, uint32_t solid, const gwb_cut_plane *plane, uint32_t above, gwb_refusal *why);
 
 typedef struct gwb_profile_made {
     uint32_t far, base; /**< the face that was moved, and the one that stayed */
@@ -92,11 +103,6 @@ enum gwb_kind gwb_slot(gwb *g, uint32_t face, const gwb_point *start, const gwb_
 enum gwb_kind gwb_groove(gwb *g, uint32_t face, const gwb_point *start, const gwb_point *end, int64_t width, int64_t depth, gwb_refusal *why);
 enum gwb_kind gwb_shoulder(gwb *g, uint32_t face, uint32_t edge, int64_t width, int64_t depth, gwb_refusal *why);
 enum gwb_kind gwb_chamfer(gwb *g, uint32_t edge, int64_t width, int64_t other, uint32_t *face, gwb_refusal *why);
-
-/** The plane a x + b y + c z + d = 0. */
-typedef struct gwb_cut_plane {
-    int64_t a, b, c, d;
-} gwb_cut_plane;
 
 /** A plane beside another one. */
 typedef struct gwb_near_plane {

@@ -95,6 +95,51 @@ struct Notch {
     std::vector<Face> floor, walls;
 };
 
+/// What split_solid makes: the solid above the plane, and the faces that close both parts.
+struct Split {
+    Solid above;
+    std::vector<Face> lower_caps, upper_caps;
+    operator Solid() const { return above; }
+};
+
+/// A copy of a solid, which it stands for, and which of its parts are of which.
+class Copy {
+public:
+    /// What gwb_made has of the copy that was made last.
+    Copy(const gwb *g, Solid made);
+    Solid solid;
+    operator Solid() const { return solid; }
+
+    /// The part of the copy that is of this one: none of what isn't of the solid.
+    [[nodiscard]] Face of(Face face) const { return Face(find(faces_, face.number())); }
+    [[nodiscard]] Loop of(Loop loop) const { return Loop(find(loops_, loop.number())); }
+    [[nodiscard]] Edge of(Edge edge) const { return Edge(find(edges_, edge.number())); }
+    [[nodiscard]] Vertex of(Vertex vertex) const { return Vertex(find(vertices_, vertex.number())); }
+    /// The half-edge from the vertex of this one to that of its other end.
+    [[nodiscard]] HalfEdge of(HalfEdge half_edge) const
+    {
+        const Edge edge = of(half_edge.edge());
+        const bool is_turned = std::binary_search(turned_.begin(), turned_.end(), edge.number());
+        return half_edge.is_second() == is_turned ? plus(edge) : minus(edge);
+    }
+
+private:
+    /// Old numbers, rising, each with the new one after it.
+    using Pairs = std::vector<std::uint32_t>;
+    static std::uint32_t find(const Pairs &pairs, std::uint32_t old)
+    {
+        std::size_t low = 0, high = pairs.size() / 2;
+        while (low < high) {
+            const std::size_t middle = (low + high) / 2;
+            (pairs[2 * middle] < old ? low : high) = pairs[2 * middle] < old ? middle + 1 : middle;
+        }
+        return low < pairs.size() / 2 && pairs[2 * low] == old ? pairs[2 * low + 1] : 0;
+    }
+
+    Pairs faces_, loops_, edges_, vertices_;
+    std::vector<std::uint32_t> turned_;
+};
+
 namespace features {
 
 /// Room for what belongs to the points of an outline, of which none needs memory once a feature was made.
@@ -115,13 +160,22 @@ private:
 };
 
 /// A list of what the last feature made.
-template <class Kind> std::vector<Kind> list(const gwb *g, gwb_list which)
+inline std::vector<std::uint32_t> listed(const gwb *g, gwb_list which)
 {
     std::uint32_t none = 0;
     std::vector<std::uint32_t> found(gwb_made(g, which, &none, 0));
     if (!found.empty())
         gwb_made(g, which, found.data(), found.size());
-    return {found.begin(), found.end()};
+    return found;
+}
+inline std::vector<Face> faces(const gwb *g, gwb_list which)
+{
+    const std::vector<std::uint32_t> found = listed(g, which);
+    std::vector<Face> made;
+    made.reserve(found.size());
+    for (std::uint32_t face : found)
+        made.emplace_back(face);
+    return made;
 }
 
 /// The rows that a call writes.
@@ -138,7 +192,7 @@ template <class Of, class Row> std::vector<Row> rows(std::size_t (*write)(const 
 template <class Policy, class Call> typename Policy::template Returned<Notch> notch(Commands<Policy> &bench, const char *command, Call call)
 {
     return bench.listed_feature(command, call, [&] {
-        return Notch{list<Face>(bench.handle(), GWB_MADE_FLOOR), list<Face>(bench.handle(), GWB_MADE_WALLS)};
+        return Notch{faces(bench.handle(), GWB_MADE_FLOOR), faces(bench.handle(), GWB_MADE_WALLS)};
     });
 }
 
@@ -150,18 +204,40 @@ template <class Policy> typename Policy::template Returned<void> kill_solid(Comm
     return bench.feature("kill_solid", [&](gwb *g, gwb_refusal *why) { return gwb_kill_solid(g, solid.number(), why); }, [] {});
 }
 
+inline Copy::Copy(const gwb *g, Solid made)
+    : solid(made), faces_(features::listed(g, GWB_MADE_FACES)), loops_(features::listed(g, GWB_MADE_LOOPS)),
+      edges_(features::listed(g, GWB_MADE_EDGES)), vertices_(features::listed(g, GWB_MADE_VERTICES)),
+      turned_(features::listed(g, GWB_MADE_TURNED))
+{
+}
+
 /// A new solid, that is another one moved; its numbers are above all in use.
-template <class Policy> typename Policy::template Returned<Solid> copy_solid(Commands<Policy> &bench, Solid solid, const Motion &motion = {})
+template <class Policy> typename Policy::template Returned<Copy> copy_solid(Commands<Policy> &bench, Solid solid, const Motion &motion = {})
 {
     std::uint32_t made = 0;
-    return bench.feature("copy_solid", [&](gwb *g, gwb_refusal *why) { return gwb_copy_solid(g, solid.number(), &motion.row(), &made, why); },
-                         [&] { return Solid(made); });
+    return bench.listed_feature("copy_solid",
+                                [&](gwb *g, gwb_refusal *why) { return gwb_copy_solid(g, solid.number(), &motion.row(), &made, why); },
+                                [&] { return Copy(bench.handle(), Solid(made)); });
 }
 
 /// A solid lies elsewhere, with the numbers that it has; some of its edges may run the other way.
 template <class Policy> typename Policy::template Returned<void> move_solid(Commands<Policy> &bench, Solid solid, const Motion &motion)
 {
     return bench.feature("move_solid", [&](gwb *g, gwb_refusal *why) { return gwb_move_solid(g, solid.number(), &motion.row(), why); }, [] {});
+}
+
+/// What the command split does, with the faces that close both parts. Refused as split.
+template <class Policy>
+typename Policy::template Returned<Split> split_solid(Commands<Policy> &bench, Solid solid, const gwb_cut_plane &plane, Solid above)
+{
+    return bench.listed_feature(
+        "split", [&](gwb *g, gwb_refusal *why) { return gwb_split_solid(g, solid.number(), &plane, above.number(), why); }, [&] {
+            return Split{above, features::faces(bench.handle(), GWB_MADE_LOWER_CAPS), features::faces(bench.handle(), GWB_MADE_UPPER_CAPS)};
+        });
+}
+template <class Policy> typename Policy::template Returned<Split> split_solid(Commands<Policy> &bench, Solid solid, const gwb_cut_plane &plane)
+{
+    return split_solid(bench, solid, plane, bench.attempt().template next_free<Solid>().value_or(Solid()));
 }
 
 /// A new solid: the outline through the points, moved along the vector.
