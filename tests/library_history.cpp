@@ -1,4 +1,5 @@
 // Tries gwb_history.hpp: what commands made, removed and split, and values on faces and edges that follow it. The last line counts.
+#include "gwb_features.hpp"
 #include "gwb_history.hpp"
 #include <array>
 #include <iostream>
@@ -118,9 +119,88 @@ static void try_gone()
     check(bench.face(Face(90)).solid == Solid(1), "notes follow the steps of a draft");
 }
 
+// A number that comes again has the value that it had when it went by that command, and none of another command.
+static void try_numbers_used_again()
+{
+    Workbench bench;
+    const Solid block = bench.block({0, 0, 0}, {4, 4, 4});
+    Notes<Face, std::string> colours;
+    colours[Face(3)] = "red";
+    follow(bench, [&] { bench.split(block, 0, 0, 1, -2); }, colours);
+    follow_undo(bench, colours);
+    colours.erase(Face(3));
+    follow(bench, [&] { bench.block({40, 0, 0}, {4, 4, 4}); }, colours);
+    follow_undo(bench, colours);
+    follow_redo(bench, colours);
+    check(colours.all().empty(), "a block that has the numbers of a part has no colour of it");
+
+    Workbench other;
+    other.block({0, 0, 0}, {4, 4, 4});
+    Notes<Face, std::string> names;
+    names[Face(1)] = "red";
+    follow(other, [&] { kill_solid(other, Solid(1)); }, names);
+    follow(other, [&] { other.block(Solid(1), {9, 9, 9}, {4, 4, 4}); }, names);
+    follow(other, [&] { kill_solid(other, Solid(1)); }, names);
+    follow_undo(other, names);
+    check(names.all().empty(), "nor has one with the numbers of one that is gone");
+    follow_undo(other, names);
+    follow_undo(other, names);
+    check(names.all().size() == 1 && *names.find(Face(1)) == "red", "which has it when it is there again");
+    follow_redo(other, names);
+    follow_redo(other, names);
+    names[Face(1)] = "blue";
+    follow_redo(other, names);
+    follow_undo(other, names);
+    check(*names.find(Face(1)) == "blue", "the colour that it had when it went");
+    other.undo();
+    other.undo();
+    follow(other, [&] { (void)other.mvfs({30, 0, 0}); }, names);
+    follow_undo(other, names);
+    check(!names.find(Face(7)), "commands that nothing followed");
+}
+
+// What is accepted before a throw is followed, and what undo refuses is told.
+static void try_throws()
+{
+    Workbench bench;
+    const Solid block = bench.block({0, 0, 0}, {4, 4, 4});
+    Notes<Face, std::string> colours;
+    colours[Face(3)] = "red";
+    bool was_thrown = false;
+    try {
+        follow(bench, [&] { bench.split(block, 0, 0, 1, -2), bench.split(block, 0, 0, 1, -9); }, colours);
+    } catch (const RefusedBy<GWB_WHY_PLANE_MISSES> &) {
+        was_thrown = true;
+    }
+    check(was_thrown && colours.all().size() == 2, "a command before one that throws");
+    Workbench empty;
+    Attempts attempt = empty.attempt();
+    check(!follow_undo(attempt, colours) && !follow_redo(attempt, colours), "nothing to undo or redo");
+    const Draft draft = bench.draft();
+    Attempts drafting = bench.attempt();
+    check(follow_undo(drafting, colours).error().problem == Problem::in_draft && colours.all().size() == 2, "undo in a draft");
+}
+
+// Walls are no parts of the face that is moved; a copy has the values of what it is of.
+static void try_walls_and_copies()
+{
+    Workbench bench;
+    const Block block = bench.block({0, 0, 0}, {8, 8, 8});
+    Notes<Face, std::string> colours;
+    colours[block.top] = "red";
+    follow(bench, [&] { bench.sweep(block.top, {0, 0, 3}); }, colours);
+    check(colours.all().size() == 1, "a face that is moved");
+    follow(bench, [&] { (void)pocket(bench, block.top, {{2, 2, 11}, {4, 2, 11}, {4, 4, 11}}, 2); }, colours);
+    check(colours.all().size() == 1, "a pocket in it");
+    std::optional<Copy> copy;
+    follow(bench, [&] { copy = copy_solid(bench, block, Motion::move({20, 0, 0})); }, colours);
+    colours.copied(*copy);
+    check(colours.all().size() == 2 && *colours.find(copy->of(block.top)) == "red", "and its copy");
+}
+
 int main()
 {
-    for (void (*part)() : {try_operators, try_splits, try_gone}) {
+    for (void (*part)() : {try_operators, try_splits, try_gone, try_numbers_used_again, try_throws, try_walls_and_copies}) {
         try {
             part();
         } catch (const std::exception &thrown) {

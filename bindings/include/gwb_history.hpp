@@ -31,10 +31,18 @@ template <class Kind> struct ChangesOf {
     std::vector<Change<Kind>> removed;
 };
 
+/// How the model changed.
+enum class Turn { commands, undo, redo };
+
 /// What commands did to a model.
 struct Changes {
     ChangesOf<Face> faces;
     ChangesOf<Edge> edges;
+    Turn turn = Turn::commands;
+    /// How many commands could be undone before and after them.
+    std::size_t from = 0, to = 0;
+    /// What bench.changes() was before and after them.
+    std::uint64_t began = 0, ended = 0;
 
     template <class Kind> [[nodiscard]] const ChangesOf<Kind> &of() const
     {
@@ -49,7 +57,7 @@ struct Changes {
 class Reading {
 public:
     /// Of all solids.
-    template <class Policy> explicit Reading(const Commands<Policy> &bench)
+    template <class Policy> explicit Reading(const Commands<Policy> &bench) : depth_(gwb_depth(bench.handle())), changes_(bench.changes())
     {
         for (const gwb_vertex_row &row : bench.vertex_rows())
             points_.emplace(row.vertex, row.point);
@@ -66,11 +74,17 @@ public:
 
     /// What happened between two readings.
     ///
-    /// A new face was split from the one that had a half-edge of it, or else an edge along one of its own from the same vertex. A new edge
-    /// was split from the one that ran along it from the same vertex. A face that is gone was joined to the one that has a half-edge of it.
-    friend Changes between(const Reading &before, const Reading &after)
+    /// A new face was split from the one that had a half-edge of it, or else an edge along one of its own from the same vertex, if it lies in that
+    /// face's plane and looks the same way. A new edge was split from the one that ran along it from the same vertex. A face that is gone was
+    /// joined to the one that has a half-edge of it.
+    friend Changes between(const Reading &before, const Reading &after, Turn turn)
     {
         Changes changes;
+        changes.turn = turn;
+        changes.from = before.depth_;
+        changes.to = after.depth_;
+        changes.began = before.changes_;
+        changes.ended = after.changes_;
         for (Face face : missing(after.faces_, before.faces_))
             changes.faces.made.push_back({face, after.face_before(face, before)});
         for (Face face : missing(before.faces_, after.faces_))
@@ -104,12 +118,47 @@ private:
     [[nodiscard]] Face face_before(Face face, const Reading &before) const
     {
         if (Face survivor = face_of_survivor(face, before); survivor != Face())
-            return survivor;
+            return is_part(face, before, survivor) ? survivor : Face();
         const auto [first, last] = borders_.equal_range(face.number());
         for (auto at = first; at != last; ++at)
-            if (const gwb_half_edge_row *along = along_in(before, at->second))
+            if (const gwb_half_edge_row *along = along_in(before, at->second); along != nullptr && is_part(face, before, Face(along->face)))
                 return Face(along->face);
         return Face();
+    }
+
+    __extension__ typedef __int128 Wide;
+    using Vector = std::array<Wide, 3>;
+    static Vector minus_of(Point a, Point b) { return {Wide{a.x} - b.x, Wide{a.y} - b.y, Wide{a.z} - b.z}; }
+
+    /// A point of a face, and a vector across it, as long as twice its area: zero where that is.
+    [[nodiscard]] std::pair<Point, Vector> plane(Face face) const
+    {
+        const auto [first, last] = borders_.equal_range(face.number());
+        const Point origin = first != last ? start_of(first->second) : Point{};
+        Vector across{};
+        for (auto at = first; at != last; ++at) {
+            const Vector a = minus_of(start_of(at->second), origin), b = minus_of(start_of(at->second ^ 1u), origin);
+            for (std::size_t axis = 0; axis < 3; axis++)
+                across[axis] += a[(axis + 1) % 3] * b[(axis + 2) % 3] - a[(axis + 2) % 3] * b[(axis + 1) % 3];
+        }
+        return {origin, across};
+    }
+
+    /// Whether a face lies in the plane of one of another reading, and doesn't look the other way.
+    [[nodiscard]] bool is_part(Face face, const Reading &other, Face of) const
+    {
+        const auto [origin, across] = other.plane(of);
+        const auto [first, last] = borders_.equal_range(face.number());
+        for (auto at = first; at != last; ++at) {
+            const Vector way = minus_of(start_of(at->second), origin);
+            if (across[0] * way[0] + across[1] * way[1] + across[2] * way[2] != 0)
+                return false;
+        }
+        const Vector own = plane(face).second;
+        for (std::size_t axis = 0; axis < 3; axis++)
+            if ((across[axis] > 0 && own[axis] < 0) || (across[axis] < 0 && own[axis] > 0))
+                return false;
+        return true;
     }
 
     /// The edge in another reading that runs along an edge of this one from the same vertex, and that this reading or the other has still.
@@ -134,6 +183,8 @@ private:
         return nullptr;
     }
 
+    [[nodiscard]] Point start_of(std::uint32_t half_edge) const { return points_.at(sides_.at(half_edge).start); }
+
     /// From where a half-edge starts to where it ends.
     [[nodiscard]] Point way(std::uint32_t half_edge) const
     {
@@ -151,6 +202,8 @@ private:
             && (a.y < 0) == (b.y < 0) && (a.z < 0) == (b.z < 0);
     }
 
+    std::size_t depth_;
+    std::uint64_t changes_;
     std::vector<Face> faces_;
     std::vector<Edge> edges_;
     std::unordered_map<std::uint32_t, Point> points_;
@@ -158,8 +211,8 @@ private:
     std::multimap<std::uint32_t, std::uint32_t> borders_, starts_;
 };
 
-/// Values on faces or on edges, which follow what becomes of them: a part that was split off has a copy of the value; what is gone has
-/// none, and has it back where undo or redo makes it again.
+/// Values on faces or on edges, which follow what becomes of them: a part that was split off has a copy of the value; what is gone has none, and has
+/// it back where undo or redo of the command by which it went makes it again. A copy of a solid has the values that copied() gives it.
 template <class Kind, class Value> class Notes {
 public:
     /// The value of a number, which is made where it has none.
@@ -174,56 +227,126 @@ public:
     /// All that have one, rising.
     [[nodiscard]] const std::map<Kind, Value> &all() const { return values_; }
 
-    /// After commands that changed so much. `is_turn` says that it was undo or redo.
-    void follow(const Changes &changes, bool is_turn)
+    /// After commands that changed so much. What commands did that it didn't follow can't be undone with their values.
+    void follow(const Changes &changes)
     {
         const ChangesOf<Kind> &these = changes.of<Kind>();
-        std::map<Kind, Value> parts;
+        Step *step = step_of(changes);
+        Values parts, gone;
         for (const Change<Kind> &made : these.made)
-            if (const Value *value = value_of(made, is_turn))
+            if (const Value *value = value_of(made, step, changes.turn))
                 parts.insert_or_assign(made.id, *value);
         for (const Change<Kind> &removed : these.removed)
             if (auto held = values_.extract(removed.id))
-                gone_.insert_or_assign(removed.id, std::move(held.mapped()));
+                gone.insert_or_assign(removed.id, std::move(held.mapped()));
         for (auto &[id, value] : parts)
+            values_.insert_or_assign(id, std::move(value));
+        if (step != nullptr)
+            keep(these, std::move(gone), changes.turn == Turn::undo ? step->undone : step->done);
+    }
+
+    /// The parts of a copy have the values of those that they are of (copy_solid of gwb_features.hpp).
+    template <class Copy> void copied(const Copy &copy)
+    {
+        Values made;
+        for (const auto &[id, value] : values_)
+            if (const Kind of = copy.of(id); of != Kind())
+                made.insert_or_assign(of, value);
+        for (auto &[id, value] : made)
             values_.insert_or_assign(id, std::move(value));
     }
 
 private:
-    [[nodiscard]] const Value *value_of(const Change<Kind> &made, bool is_turn) const
+    using Values = std::map<Kind, Value>;
+
+    /// Followed commands, of those that could be undone the ones from a place up to another; and the values of what went when they were done, and of
+    /// what went when they were undone.
+    struct Step {
+        std::size_t from, to;
+        Values done, undone;
+    };
+
+    /// The step that changed, a new one for new commands; none where it wasn't followed, or was within a draft.
+    Step *step_of(const Changes &changes)
     {
-        if (auto had = gone_.find(made.id); is_turn && had != gone_.end())
-            return &had->second;
+        if (std::exchange(seen_, changes.ended) != changes.began)
+            steps_.clear();
+        if (changes.turn == Turn::commands) {
+            while (!steps_.empty() && steps_.back().to > changes.from)
+                steps_.pop_back();
+            return changes.to > changes.from ? &steps_.emplace_back(Step{changes.from, changes.to, {}, {}}) : nullptr;
+        }
+        const std::size_t command = std::min(changes.from, changes.to);
+        const auto found = std::find_if(steps_.rbegin(), steps_.rend(), [&](const Step &step) { return step.from <= command; });
+        return found != steps_.rend() && command < found->to ? &*found : nullptr;
+    }
+
+    [[nodiscard]] const Value *value_of(const Change<Kind> &made, const Step *step, Turn turn) const
+    {
+        if (step != nullptr && turn != Turn::commands) {
+            const Values &before = turn == Turn::undo ? step->done : step->undone;
+            if (const auto had = before.find(made.id); had != before.end())
+                return &had->second;
+        }
         return made.other != Kind() ? find(made.other) : nullptr;
     }
 
-    std::map<Kind, Value> values_, gone_;
+    /// Of what went the values; what had none has none.
+    static void keep(const ChangesOf<Kind> &these, Values gone, Values &kept)
+    {
+        for (const Change<Kind> &removed : these.removed)
+            kept.erase(removed.id);
+        kept.merge(gone);
+    }
+
+    Values values_;
+    std::vector<Step> steps_;
+    std::uint64_t seen_ = 0;
 };
 
-/// Gives commands, and lets notes follow them. Undo and redo are given by follow_undo and follow_redo.
+/// What happened since a reading, which notes follow.
+template <class Policy, class... AllNotes> Changes followed(const Commands<Policy> &bench, const Reading &before, Turn turn, AllNotes &...notes)
+{
+    const Changes changes = between(before, Reading(bench), turn);
+    (notes.follow(changes), ...);
+    return changes;
+}
+
+/// Gives commands, and lets notes follow them, also those before one that throws. Undo and redo are given by follow_undo and follow_redo.
 template <class Policy, class Call, class... AllNotes> Changes follow(const Commands<Policy> &bench, Call &&call, AllNotes &...notes)
 {
     const Reading before(bench);
+#if defined(__cpp_exceptions)
+    try {
+        std::forward<Call>(call)();
+    } catch (...) {
+        followed(bench, before, Turn::commands, notes...);
+        throw;
+    }
+#else
     std::forward<Call>(call)();
-    const Changes changes = between(before, Reading(bench));
-    (notes.follow(changes, false), ...);
-    return changes;
+#endif
+    return followed(bench, before, Turn::commands, notes...);
 }
 
 /// Takes the last command back, and lets notes follow it.
-template <class Policy, class... AllNotes> Changes follow_undo(Commands<Policy> &bench, AllNotes &...notes)
+template <class Policy, class... AllNotes> typename Policy::template Returned<Changes> follow_undo(Commands<Policy> &bench, AllNotes &...notes)
 {
-    const Changes changes = follow(bench, [&] { (void)bench.undo(); });
-    (notes.follow(changes, true), ...);
-    return changes;
+    const Reading before(bench);
+    const Result<void> done = bench.attempt().undo();
+    if (!done)
+        return Policy::template failed<Changes>("undo", done.error());
+    return followed(bench, before, Turn::undo, notes...);
 }
 
 /// Does the command again that was taken back last, and lets notes follow it.
-template <class Policy, class... AllNotes> Changes follow_redo(Commands<Policy> &bench, AllNotes &...notes)
+template <class Policy, class... AllNotes> typename Policy::template Returned<Changes> follow_redo(Commands<Policy> &bench, AllNotes &...notes)
 {
-    const Changes changes = follow(bench, [&] { (void)bench.redo(); });
-    (notes.follow(changes, true), ...);
-    return changes;
+    const Reading before(bench);
+    const Result<void> done = bench.attempt().redo();
+    if (!done)
+        return Policy::template failed<Changes>("redo", done.error());
+    return followed(bench, before, Turn::redo, notes...);
 }
 
 } // namespace gwb_session
