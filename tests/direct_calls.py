@@ -17,7 +17,7 @@ from counts import GWB, TOP, command_line, needs, there, told
 WANTED = {'act': 'ok', 'draft': 'ok', 'copy': 'memory'}
 BLOCKS = 'block 1 0 0 0 4 4 4;block 2 0 0 4 4 4 4'
 GROWTHS = 10  # that the fourteen steps of their glue ask for
-NO_WORD = 'points by'
+NO_WORD = 'spliced at'
 
 
 class Program(refused_growths.Program):

@@ -1,7 +1,5 @@
-//! An arena copied, and a loop of the copy given other content.
-use boundary_model::{Content, Kind};
+//! An arena copied.
 use euler_operators::{Corner, HalfEdge, Op, Point};
-use halfedge_arena::Arena;
 use solid_listing::write_listing;
 use std::alloc::Global;
 use undo_journal::{Failure, Session};
@@ -33,48 +31,10 @@ fn list_copy(rt: &HostRuntime, session: &Session) {
     }
 }
 
-/// Makes loop 1 lone at vertex 1, where the loop is there: its ring is loose then.
-fn bared(arena: &mut Arena) {
-    if arena.has(Kind::Loop, 1) {
-        arena.set_content(1, Content::Lone(1));
-    }
-}
-
-/// The loop of the first half-edge of edge 1, 0 where it is in none; none where the edge isn't there.
-fn loop_of_edge(arena: &Arena) -> Option<u32> {
-    if arena.has(Kind::Edge, 1) {
-        Some(arena.loop_of(HalfEdge::plus(1)))
-    } else {
-        None
-    }
-}
-
-/// Prints in which loop +1 stands in a copy, before and after the copy's loop 1 is made lone, and in the arena that was copied.
-fn tell_contents(rt: &HostRuntime, session: &Session) {
-    let Ok(mut copy) = session.arena().copy(rt.alloc()) else {
-        let _ = println!(rt; "{}", crate::MEMORY);
-        return;
-    };
-    let before = loop_of_edge(&copy);
-    bared(&mut copy);
-    let after = loop_of_edge(&copy);
-    drop(copy);
-    let first = loop_of_edge(session.arena());
-    let _ = println!(rt;
-        "+1 of the copy in loop {}, then in {}; of the first arena in {}",
-        before.unwrap_or(9),
-        after.unwrap_or(9),
-        first.unwrap_or(9)
-    );
-}
-
-/// The copy of a wire listed, and then changed.
+/// The copy of a wire listed.
 pub(crate) fn tell(rt: &HostRuntime) {
     match wire(rt.alloc()) {
-        Ok(session) => {
-            list_copy(rt, &session);
-            tell_contents(rt, &session);
-        }
+        Ok(session) => list_copy(rt, &session),
         Err(_) => {
             let _ = println!(rt; "{}", crate::MEMORY);
         }

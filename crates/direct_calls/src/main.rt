@@ -1,14 +1,11 @@
 #![tactic(auto)]
 //! Calls of the kernel that no script reaches, made once each, with what they answer.
 //!
-//! `rings` links codes by the raw rings, `points` orders points, `arenas` copies an arena and changes a loop's content, and `sessions`
-//! goes on after a large lamina, `steps` glues by the steps of a draft. With one word, `lamina`, `act`, `draft` or `copy`, the program makes a lamina of 64
-//! points and then does only what the word says, so that whoever counts allocations or refuses one sees what that call asks for; with `committed` or
-//! `abandoned` it takes the steps of a glue, and with `larger` it takes larger commands as the steps of a draft.
+//! `rings` links codes by the raw rings, `arenas` copies an arena, `sessions` goes on after a large lamina, `steps` glues by the steps of a draft.
+//! With one word, `lamina`, `act`, `draft` or `copy`, the program makes a lamina of 64 points and then does only what the word says, so that whoever
+//! counts allocations or refuses one sees what that call asks for; with `committed` or `abandoned` it takes the steps of a glue.
 
 mod arenas;
-mod larger;
-mod points;
 mod rings;
 mod sessions;
 mod steps;
@@ -31,7 +28,6 @@ fn word(rt: &HostRuntime) -> Option<String> {
 
 /// What every call answers, a line each.
 fn tell_all(rt: &HostRuntime) {
-    let _ = println!(rt; "{}", points::ordered());
     rings::tell(rt);
     arenas::tell(rt);
     sessions::tell(rt);
@@ -42,7 +38,6 @@ fn tell(rt: &HostRuntime, word: &str) {
     match word {
         "committed" => steps::tell_glue(rt, true),
         "abandoned" => steps::tell_glue(rt, false),
-        "larger" => larger::tell(rt),
         _ => {
             let _ = println!(rt; "{}", sessions::after_a_lamina(rt.alloc(), word));
         }
