@@ -627,6 +627,90 @@ class Sections(PageCase):
         self.assertEqual(tab.value('document.activeElement.id'), 'cut-at')
 
 
+class Handles(PageCase):
+    """The section's handle in the picture."""
+
+    def test_dragging_it_moves_the_section(self):
+        tab = self.opened(page_of(stored('block_with_hole')), MIDDLE, 'section=z3', calm=True)
+        tab.settle()
+        (x, y), (right, down) = (tab.value(f'View.cutHandle().{name}.slice(0, 2)') for name in ('at', 'way'))
+        self.assertTrue(abs(right) < 1 and down < -1, (right, down))
+        before = tab.value('[View.view.turn, View.view.lift]')
+        tab.drag([(x, y), (x, y + down / 2), (x + 7, y + down)])
+        self.assertEqual((tab.value('View.state.cut.place'), tab.value('[View.view.turn, View.view.lift]')), (4, before))
+        self.assertEqual(self.text(tab, '#cut-told'), 'z = 4')
+        self.assertEqual(tab.value('View.state.picked'), None)
+        tab.drag([(x, y + down), (x, y + 90 * down)])
+        self.assertEqual(tab.value('View.state.cut.place'), tab.value('+document.getElementById("cut-at").max'))
+
+    def test_it_is_drawn_where_there_is_a_section(self):
+        tab = self.opened(page_of(stored('block_with_hole')), MIDDLE, 'section=x3', calm=True)
+        tab.settle()
+        self.assertEqual(len(tab.value('View.cutHandle().outline')), 4)
+        x, y = tab.value('View.cutHandle().at.slice(0, 2)')
+        self.assertIn((255, 255, 255), tab.colours(x, y, 5, 5))
+        tab.click_on('#cut-close')
+        tab.until('View.state.cut === null')
+        self.assertIsNone(tab.value('View.cutHandle()'))
+
+
+class Distances(PageCase):
+    """The line along which a distance is measured."""
+
+    def ends(self, tab, *things):
+        tab.value(f'View.state.measured = {json.dumps([{"kind": kind, "number": number} for kind, number in things])}')
+        return tab.value('Measure.ends(View.model, ...View.state.measured)')
+
+    def test_its_ends(self):
+        model = model_in(listing(*box((0, 0, 0), (4, 5, 6))))
+        tab = self.opened(page_of(model), MIDDLE, calm=True)
+        vertex = {point: number for number, point in model.vertices.items()}
+        edge = {frozenset(model.vertices[end] for end in ends): number for number, ends in model.edges.items()}
+        low, high, right = vertex[0, 0, 0], vertex[4, 5, 6], edge[frozenset([(4, 0, 0), (4, 5, 0)])]
+        upright, back = edge[frozenset([(0, 0, 0), (0, 0, 6)])], edge[frozenset([(0, 5, 0), (0, 5, 6)])]
+        for things, wanted in (((('v', low), ('v', high)), [[0, 0, 0], [4, 5, 6]]), ((('v', low), ('e', right)), [[0, 0, 0], [4, 0, 0]]),
+                               ((('f', 2), ('v', low)), [[0, 0, 0], [0, 0, 6]]), ((('e', upright), ('e', back)), [[0, 0, 3], [0, 5, 3]]),
+                               ((('e', upright), ('e', right)), [[0, 0, 0], [4, 0, 0]]), ((('e', right), ('f', 2)), [[4, 2.5, 0], [4, 2.5, 6]])):
+            self.assertEqual(self.ends(tab, *things), wanted, things)
+        first, second = self.ends(tab, ('f', 1), ('f', 2))
+        self.assertEqual((first[:2], first[2], second[2]), (second[:2], 0, 6))
+        self.assertIsNone(self.ends(tab, ('f', 1), ('f', 3)))
+        self.assertIsNone(self.ends(tab, ('e', upright), ('f', 1)))
+
+    def test_it_is_drawn(self):
+        model = model_in(listing(*box((0, 0, 0), (4, 4, 4))))
+        tab = self.opened(page_of(model), MIDDLE, calm=True)
+        tab.press('m')
+        self.assertIsNone(tab.value('View.state.line || null'))
+        for point in ((4, 0, 0), (0, 0, 4)):
+            tab.click(*self.place(tab, point))
+        tab.until('View.state.line')
+        self.assertEqual([[round(x) for x in end[:2]] for end in tab.value('View.state.line')],
+                         [[round(x) for x in self.place(tab, point)] for point in ((4, 0, 0), (0, 0, 4))])
+
+    def test_the_same_thing_twice_is_one(self):
+        tab = self.opened(page_of(model_in(listing(*box((0, 0, 0), (4, 4, 4))))), MIDDLE, calm=True)
+        tab.press('m')
+        for _ in range(2):
+            tab.value('View.choose({kind: "f", number: 2})')
+        self.assertEqual(len(tab.value('View.state.measured')), 1)
+
+
+class Numbers(PageCase):
+    """Numbers of what is seen are chosen before those of what is hidden."""
+
+    def test_a_plate_of_many_holes_has_them_all_over(self):
+        model = model_in(plate(15))
+        tab = self.opened(page_of(model), (1000, 800), 'numbers=all&turn=-1.57&lift=1.57', calm=True)
+        tab.settle()
+        labels = tab.value('View.state.labels.map(label => [label.kind, label.x, label.y])')
+        self.assertGreater(len(labels), 100)
+        self.assertIn('f', {kind for kind, _, _ in labels})
+        (left, bottom), (right, top) = self.places(tab, [(0, 0, 2), (60, 60, 2)])
+        self.assertGreater(max(x for _, x, _ in labels) - min(x for _, x, _ in labels), .5 * (right - left))
+        self.assertGreater(max(y for _, _, y in labels) - min(y for _, _, y in labels), .5 * (bottom - top))
+
+
 class Lists(PageCase):
     """The list of solids, the panel and the steps."""
 
@@ -760,12 +844,34 @@ class Phones(PageCase):
         sizes = tab.value('[...document.querySelectorAll("#tools button")].map(it => it.getBoundingClientRect()).map(b => [b.height, b.left, b.right])')
         self.assertEqual(len(sizes), 11)
         self.assertTrue(all(high >= 40 and left >= 0 and right <= 360 for high, left, right in sizes), sizes)
+        zoom = tab.value('View.view.zoom')
         tab.tap(*tab.middle('[data-key=h]'))
         self.assertTrue(tab.until('View.state.isHidden'))
-        tab.tap(*tab.middle('[data-key=c]'))
-        self.assertTrue(tab.until('document.getElementById("cut").offsetWidth > 0'))
-        tab.tap(*tab.middle('#tools-button'))
         self.assertTrue(tab.until('!document.getElementById("tools").offsetWidth'))
+        tab.tap(*tab.middle('#tools-button'))
+        tab.until('document.getElementById("tools").offsetWidth')
+        tab.tap(*tab.middle('[data-key=c]'))
+        self.assertTrue(tab.until('document.getElementById("cut").offsetWidth > 0 && !document.getElementById("tools").offsetWidth'))
+        self.assertGreater(tab.until('View.view.zoom'), .6 * zoom)
+        for _ in range(2):
+            tab.tap(*tab.middle('#tools-button'))
+        self.assertTrue(tab.until('!document.getElementById("tools").offsetWidth'))
+
+    def test_a_section_covers_no_facts_and_is_closed(self):
+        tab = self.opened(page_of(stored('split_block')), PHONE, touch=True)
+        tab.value('View.choose({kind: "f", number: 14})')
+        tab.press('c')
+        tab.settle()
+        info, cut = tab.value('["info", "cut"].map(id => (b => [b.top, b.bottom])(document.getElementById(id).getBoundingClientRect()))')
+        self.assertTrue(0 < info[0] < info[1] <= cut[0] < cut[1] < 640, (info, cut))
+        tab.tap(*tab.middle('#cut-close'))
+        self.assertTrue(tab.until('!document.getElementById("cut").offsetWidth && View.state.cut === null'))
+        self.assertEqual(tab.value('document.querySelector("[data-key=c]").getAttribute("aria-expanded")'), 'false')
+        tab.press('?')
+        left, top, right, bottom = tab.value('(b => [b.left, b.top, b.right, b.bottom])(document.getElementById("help").getBoundingClientRect())')
+        self.assertTrue(0 <= left and right <= 360 and right - left > 290 and top >= 0 and bottom <= 640, (left, top, right, bottom))
+        tab.tap(*tab.middle('#help-close'))
+        self.assertTrue(tab.until('!document.getElementById("help").offsetWidth'))
 
     def test_a_tap_picks_and_the_panel_folds(self):
         tab = self.opened(page_of(stored('block_with_hole')), PHONE, touch=True)
@@ -916,6 +1022,25 @@ class Wishes(PageCase):
             tab.settle()
             tab.settle()
             self.assertLess(min(sum(colour) for colour in tab.colours(*self.place(tab, (40, 20, 0)), 5, 5)), 300)
+
+    def test_forced_colours(self):
+        """What is pressed is told from the rest, and the colours of solids stay."""
+        tab = self.opened(page_of(stored('split_block')))
+        tab.ask('Emulation.setEmulatedMedia', features=[{'name': 'forced-colors', 'value': 'active'}])
+        tab.press('h')
+        tab.settle()
+        colour = "getComputedStyle(document.querySelector('[data-key={}]')).backgroundColor"
+        self.assertNotEqual(tab.value(colour.format('h')), tab.value(colour.format('x')))
+        self.assertNotEqual(*tab.value("[...document.querySelectorAll('.swatch')].map(it => getComputedStyle(it).backgroundColor)"))
+
+    def test_print(self):
+        """The model and its title alone."""
+        tab = self.opened(page_of(stored('split_block'), 'my part'))
+        tab.value('View.choose({kind: "f", number: 3})')
+        tab.press('c')
+        tab.ask('Emulation.setEmulatedMedia', media='print')
+        self.assertEqual(tab.value("[...document.querySelectorAll('button, input, select, section')].filter(it => it.offsetWidth).length"), 0)
+        self.assertTrue(self.shown(tab, 'h1') and self.shown(tab, '#solid'))
 
     def test_motion(self):
         for calm in (True, False):

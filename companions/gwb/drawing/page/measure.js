@@ -107,6 +107,35 @@ const Measure = (() => {
             ff: () => betweenFaces(a, b)}[a.kind + b.kind]();
   }
 
+  const number = values => values.map(Number);
+  const along = (point, way, by) => point.map((x, i) => x + by * way[i]);
+  const foot = (point, {point: on, normal}) => along(point, normal, -dot(minus(point, on), normal) / dot(normal, normal));
+  const middle = ({point, end}) => end ? point.map((x, i) => (x + end[i]) / 2) : point;
+
+  // Where the line of an edge, or with `isBounded` the edge itself, is nearest to a point.
+  function onEdge(point, edge, isBounded) {
+    const way = dot(minus(point, edge.point), edge.along) / (dot(edge.along, edge.along) || 1);
+    return along(edge.point, edge.along, isBounded ? Math.max(0, Math.min(1, way)) : way);
+  }
+
+  // The points of two lines at which they are nearest; of parallel ones, those beside the middle of the first edge.
+  function onLines(a, b) {
+    const normal = cross(a.along, b.along), square = dot(normal, normal), between = minus(b.point, a.point);
+    if (square === 0) return [middle(a), onEdge(middle(a), b, false)];
+    return [along(a.point, a.along, dot(cross(between, b.along), normal) / square), along(b.point, b.along, dot(cross(between, a.along), normal) / square)];
+  }
+
+  // The two points whose distance is told of two things, as rounded numbers; null where no distance is.
+  function ends(model, first, second) {
+    if (![first, second].every(it => isFlat(model, it))) return null;
+    const asNumbers = it => Object.fromEntries(Object.entries(shape(model, it)).map(([name, held]) => [name, name === 'kind' ? held : number(held)]));
+    const order = 'vef', [a, b] = [first, second].map(asNumbers).sort((p, q) => order.indexOf(p.kind) - order.indexOf(q.kind));
+    const isParallel = (p, q) => dot(p, q) === 0, {point} = a;
+    return {vv: () => [point, b.point], ve: () => [point, onEdge(point, b, true)], vf: () => [point, foot(point, b)], ee: () => onLines(a, b),
+            ef: () => isParallel(a.along, b.normal) ? [middle(a), foot(middle(a), b)] : null,
+            ff: () => cross(a.normal, b.normal).some(Boolean) ? null : [point, foot(point, b)]}[a.kind + b.kind]();
+  }
+
   const area = plane => root(dot(big(plane.slice(0, 3)), big(plane.slice(0, 3))), 4n);
   const facesOf = (model, solid) => Object.values(model.faces).filter(row => row[0] === solid);
 
@@ -141,5 +170,5 @@ const Measure = (() => {
     return kind === 'f' ? [['area', area(model.faces[number][2])]] : [];
   }
 
-  return {between, own, solid, facesOf};
+  return {between, ends, own, solid, facesOf};
 })();

@@ -8,7 +8,7 @@ const View = (() => {
   // Which edges are drawn: by the least angle of the faces beside them, as its cosine.
   const EDGES = [{name: 'auto', cosine: null}, {name: 'all', cosine: 2}, {name: 'from 5°', cosine: degrees(5)}, {name: 'from 15°', cosine: degrees(15)},
                  {name: 'from 30°', cosine: degrees(30)}, {name: 'none', cosine: -2}];
-  const MANY_SHALLOW = 500, SHALLOW = 3;
+  const MANY_SHALLOW = 500, SHALLOW = 3, HANDLE = 9;
   const data = JSON.parse(at('data').textContent), over = at('labels'), pen = over.getContext('2d');
   const isCalm = matchMedia('(prefers-reduced-motion: reduce)'), isDark = matchMedia('(prefers-color-scheme: dark)');
   const state = {step: 0, off: new Set(), isHidden: false, isXray: false, isPerspective: false, numbers: 0, edges: 0, cut: null, picked: null,
@@ -17,7 +17,7 @@ const View = (() => {
   const models = new Map([[0, Picture.changed({}, data.frames[0].change)]]);
   const fingers = new Map();
   const fitted = {zoom: 1, is: true, glide: 0};
-  let front = at('solid'), moved = 0, whole = null, screen = null, gl = null, isLost = false, ball = null, spots = null, asked = false, timer = null;
+  let front = at('solid'), moved = 0, whole = null, screen = null, gl = null, isLost = false, ball = null, spots = null, asked = false, timer = null, held = null;
   const drawnEdges = {cosine: 2, room: Infinity};
   let drawn = '', placed = '', look = null, isCutStale = false;
 
@@ -129,6 +129,58 @@ const View = (() => {
     return shown.length;
   }
 
+  // A line of several screen points.
+  function strokeLine(points, isClosed = false) {
+    pen.beginPath();
+    points.forEach(([x, y], i) => i ? pen.lineTo(x, y) : pen.moveTo(x, y));
+    if (isClosed) pen.closePath();
+    pen.stroke();
+  }
+
+  // The line along which a distance was measured, with a stroke at each end, and its length.
+  function drawMeasured() {
+    const things = state.measured || [], ends = things.length === 2 ? Measure.ends(app.model, ...things) : null;
+    state.line = ends && ends.map(app.place);
+    if (!ends) return 0;
+    const [[ax, ay], [bx, by]] = state.line, long = Math.hypot(bx - ax, by - ay) || 1, [x, y] = [6 * (ay - by) / long, 6 * (bx - ax) / long];
+    const [, told = ''] = Measure.between(app.model, ...things).find(([name]) => name.startsWith('distance')) || [];
+    for (const [colour, width] of [[theme('--halo'), 6], [theme('--point'), 2]]) {
+      [pen.strokeStyle, pen.lineWidth] = [colour, width];
+      strokeLine(state.line);
+      for (const [u, v] of state.line) strokeLine([[u - x, v - y], [u + x, v + y]]);
+    }
+    pen.font = 'bold 14px system-ui, sans-serif';
+    [pen.lineWidth, pen.strokeStyle, pen.fillStyle] = [4, theme('--halo'), theme('--point')];
+    const text = [told.split('≈ ').pop(), (ax + bx) / 2 + 2.2 * x, (ay + by) / 2 + 2.2 * y];
+    pen.strokeText(...text);
+    pen.fillText(...text);
+    return 1;
+  }
+
+  // The outline of the section's plane, and its handle with the way along which it is dragged.
+  function drawHandle() {
+    const handle = cutHandle();
+    if (!handle) return 0;
+    const {at: [x, y], way: [u, v], outline} = handle, long = Math.hypot(u, v), [p, q] = long > 1e-6 ? [u / long, v / long] : [0, 0];
+    pen.strokeStyle = theme('--side');
+    pen.lineWidth = 1.5;
+    pen.setLineDash([6, 4]);
+    strokeLine(outline, true);
+    pen.setLineDash([]);
+    pen.fillStyle = theme('--key');
+    pen.beginPath();
+    pen.arc(x, y, HANDLE, 0, 7);
+    pen.fill();
+    pen.stroke();
+    pen.lineWidth = 2;
+    for (const sign of p || q ? [1, -1] : []) {
+      const tip = [x + 24 * sign * p, y + 24 * sign * q], back = side => [tip[0] - 7 * sign * p - 5 * side * q, tip[1] - 7 * sign * q + 5 * side * p];
+      strokeLine([[x + HANDLE * sign * p, y + HANDLE * sign * q], tip]);
+      strokeLine([back(1), tip, back(-1)]);
+    }
+    return 1;
+  }
+
   function drawLabels() {
     pen.setTransform(over.width / view.width, 0, 0, over.height / view.height, 0, 0);
     if (state.written) pen.clearRect(0, 0, view.width, view.height);
@@ -150,7 +202,7 @@ const View = (() => {
       pen.strokeText(label.text, label.x, label.y);
       pen.fillText(label.text, label.x, label.y);
     }
-    state.written = marks + state.labels.length;
+    state.written = marks + state.labels.length + drawMeasured() + drawHandle();
     over.style.opacity = state.written ? 1 : 0;
   }
 
@@ -250,7 +302,8 @@ const View = (() => {
   // --- what is shown
   function choose(picked) {
     if (state.measured) {
-      if (picked && picked.kind !== 's') state.measured = [...(state.measured.length < 2 ? state.measured : []), picked];
+      const before = state.measured.length < 2 ? state.measured.filter(it => !picked || it.kind !== picked.kind || it.number !== picked.number) : [];
+      if (picked && picked.kind !== 's') state.measured = [...before, picked];
       if (picked) say(`${Panels.title(app, picked)} measured`);
     } else {
       state.picked = picked;
@@ -329,6 +382,33 @@ const View = (() => {
     return {normal: normal.map(x => sign * x), offset: sign * (base + state.cut.place - middle) / ball.radius};
   }
 
+  // The section's handle on the screen: where it is, how far it goes with a length of the model, and the corners of the plane's outline; null
+  // where there is no section.
+  function cutHandle() {
+    const found = state.cut && cutAxis();
+    if (!found) return null;
+    const {normal, base} = found, away = base + state.cut.place - normal.reduce((sum, x, k) => sum + x * ball.middle[k], 0);
+    const middle = ball.middle.map((x, k) => x + away * normal[k]), unit = .2 * ball.radius, [u, v] = Section.axesOf(normal);
+    const by = (p, q) => middle.map((x, k) => x + .75 * ball.radius * (p * u[k] + q * v[k]));
+    const [here, there] = [middle, middle.map((x, k) => x + unit * normal[k])].map(point => app.place(point));
+    return {at: here, way: [(there[0] - here[0]) / unit, (there[1] - here[1]) / unit],
+            outline: [[-1, -1], [1, -1], [1, 1], [-1, 1]].map(([p, q]) => app.place(by(p, q)))};
+  }
+
+  // Whether a place of the screen is on the handle.
+  function isOnHandle(x, y) {
+    const handle = cutHandle();
+    return handle !== null && Math.hypot(handle.at[0] - x, handle.at[1] - y) <= HANDLE + 8;
+  }
+
+  // Moves the section with the pointer: by so much of its move as lies along the handle's way.
+  function dragCut(right, down) {
+    const {way: [u, v]} = cutHandle(), square = u * u + v * v, {min, max, step} = at('cut-at');
+    if (square < 1e-9) return;
+    held.place = Math.max(+min, Math.min(+max, held.place + (right * u + down * v) / square));
+    cutAt(Math.round(held.place / step) * step);
+  }
+
   // Where the slider begins and ends, in lengths of the model, and its step.
   function cutRange({normal, base}) {
     let [low, high] = [Infinity, -Infinity];
@@ -369,6 +449,11 @@ const View = (() => {
 
   function startCut() {
     at('cut-at').oninput = event => cutAt(+event.target.value);
+    at('cut-close').onclick = () => {
+      toggleCut();
+      Panels.showTools(app);
+      over.focus();
+    };
     at('cut-turn').onclick = () => { state.cut.isTurned = !state.cut.isTurned; cutAt(state.cut.place); };
     at('cut-axis').onchange = event => {
       const face = state.picked && state.picked.kind === 'f' && app.model.faces[state.picked.number][3] ? state.picked.number : null;
@@ -432,6 +517,7 @@ const View = (() => {
   // Fits at once, where nothing was moved by hand; else keeps what is seen in its size to the window.
   function refit() {
     document.documentElement.style.setProperty('--top', `${document.querySelector('header').offsetHeight + 16}px`);
+    document.documentElement.style.setProperty('--cut', `${at('cut').offsetHeight ? at('cut').offsetHeight + 10 : 0}px`);
     const to = fitFrom({turn: view.turn, lift: view.lift}), kept = to.zoom / fitted.zoom;
     fitted.zoom = to.zoom;
     if (fitted.is) Object.assign(view, to); else Object.assign(view, {zoom: view.zoom * kept, right: view.right * kept, down: view.down * kept});
@@ -477,10 +563,14 @@ const View = (() => {
   function movePointer(event) {
     state.pointer = [event.clientX, event.clientY];
     const before = fingers.get(event.pointerId);
-    if (!before) return ask();
+    if (!before) {
+      over.style.cursor = isOnHandle(...state.pointer) ? 'grab' : '';
+      return ask();
+    }
     const dx = event.clientX - before[0], dy = event.clientY - before[1];
     moved += Math.abs(dx) + Math.abs(dy);
-    if (fingers.size === 2) {
+    if (held) dragCut(dx, dy);
+    else if (fingers.size === 2) {
       const other = [...fingers].find(([id]) => id !== event.pointerId)[1];
       const span = p => Math.hypot(p[0] - other[0], p[1] - other[1]) || 1;
       zoomBy(span(state.pointer) / span(before), other[0], other[1]);
@@ -495,6 +585,7 @@ const View = (() => {
       if (!fingers.size) moved = 0;
       if (!at('help').hidden) KEYS['?']();
       Panels.showTools(app);
+      held = !fingers.size && isOnHandle(event.clientX, event.clientY) ? {place: state.cut.place} : null;
       fingers.set(event.pointerId, [event.clientX, event.clientY]);
       over.setPointerCapture(event.pointerId);
     };
@@ -504,7 +595,7 @@ const View = (() => {
       if (event.pointerType === 'touch') state.pointer = null;
     };
     // Not when the finger goes up: the click that follows would fall on the panel that a pick shows.
-    over.onclick = event => { if (moved < 5) choose(Picture.pick(app.scene, screen, event.clientX, event.clientY)); };
+    over.onclick = event => { if (moved < 5 && !held) choose(Picture.pick(app.scene, screen, event.clientX, event.clientY)); };
     over.onpointercancel = event => fingers.delete(event.pointerId);
     over.onpointerleave = () => { state.pointer = null; ask(); };
     over.oncontextmenu = event => event.preventDefault();
@@ -621,7 +712,7 @@ const View = (() => {
     refit();
   }
 
-  const app = {data, state, view, EDGES, css, colourOf, choose, unpick, turnOff, isolate, go, play, refit, aim, ask, draw, light,
+  const app = {cutHandle, data, state, view, EDGES, css, colourOf, choose, unpick, turnOff, isolate, go, play, refit, aim, ask, draw, light,
                model: models.get(0), scene: null, solids: [], listed: null,
                place: point => [...Picture.placed(Picture.inBall(point, ball), Picture.axes(view), Picture.middleOf(view))]};
 
@@ -646,6 +737,7 @@ const View = (() => {
     Panels.fold(app, 'list', isWide && app.solids.length > 1);
     onresize = resize;
     onhashchange = readAddress;
+    onbeforeprint = () => draw();
     isDark.onchange = () => { recolour(); ask(); };
     resize();
     readAddress();

@@ -94,6 +94,10 @@ const Panels = (() => {
     at('none').onclick = () => app.turnOff(shown(), true);
     at('solids').addEventListener('keydown', walkList);
     at('list-button').onclick = () => fold(app, 'list');
+    at('list-close').onclick = () => {
+      fold(app, 'list', false);
+      at('list-button').focus();
+    };
     at('steps-button').onclick = () => fold(app, 'steps');
   }
 
@@ -215,21 +219,32 @@ const Panels = (() => {
     set('m', 'aria-pressed', Boolean(state.measured));
     set('c', 'aria-expanded', Boolean(state.cut));
     set('?', 'aria-expanded', !at('help').hidden);
-    document.querySelector('[data-key=n]').textContent = `numbers: ${['near', 'all', 'none'][state.numbers]}`;
-    document.querySelector('[data-key=e]').textContent = `edges: ${EDGES[state.edges].name}`;
+    document.querySelector('[data-key=n] span').textContent = `numbers: ${['near', 'all', 'none'][state.numbers]}`;
+    document.querySelector('[data-key=e] span').textContent = `edges: ${EDGES[state.edges].name}`;
+  }
+
+  // Opens or closes the drawer of tools that a small window has; the model has the room that it leaves.
+  function openTools(app, isOpen) {
+    if ((at('tools-button').getAttribute('aria-expanded') === 'true') === isOpen) return;
+    document.querySelector('header').classList.toggle('open', isOpen);
+    at('tools-button').setAttribute('aria-expanded', isOpen);
+    app.refit();
   }
 
   function startTools(app, keys) {
     for (const button of document.querySelectorAll('[data-key]')) {
       button.onclick = () => {
         keys[button.dataset.key]();
+        openTools(app, false);
         showTools(app);
         app.ask();
       };
     }
-    at('tools-button').onclick = () => {
-      const isOpen = document.querySelector('header').classList.toggle('open');
-      at('tools-button').setAttribute('aria-expanded', isOpen);
+    at('tools-button').onclick = () => openTools(app, at('tools-button').getAttribute('aria-expanded') !== 'true');
+    at('help-close').onclick = () => {
+      keys['?']();
+      showTools(app);
+      at('labels').focus();
     };
   }
 
@@ -240,16 +255,17 @@ const Panels = (() => {
     for (const {name, axis, sign} of AXES) {
       const label = `view from ${sign < 0 ? '-' : '+'}${name}`, turn = [[0, 0], [Math.PI / 2, 0], [-Math.PI / 2, Math.PI / 2]][axis];
       const to = axis === 2 ? {turn: turn[0], lift: sign * turn[1]} : {turn: turn[0] + (sign < 0 ? Math.PI : 0), lift: 0};
+      if (sign > 0) element('i', '', at('triad'), {className: name});
       element('button', sign < 0 ? '-' + name : name, at('triad'), {className: name + (sign < 0 ? ' back' : ''), title: label, onclick: () => app.aim(to)}, {'aria-label': label});
     }
   }
 
   function showTriad({right, up, stand}) {
+    const ends = at('triad').querySelectorAll('button'), lines = at('triad').querySelectorAll('i');
     AXES.forEach(({axis, sign}, i) => {
-      const {style} = at('triad').children[i];
-      style.left = `${48 + 34 * sign * right[axis]}px`;
-      style.top = `${48 - 34 * sign * up[axis]}px`;
-      style.zIndex = Math.round(10 + 9 * sign * stand[axis]);
+      const [x, y, z] = [34 * sign * right[axis], -34 * sign * up[axis], Math.round(10 + 9 * sign * stand[axis])];
+      Object.assign(ends[i].style, {left: `${48 + x}px`, top: `${48 + y}px`, zIndex: z});
+      if (sign > 0) Object.assign(lines[axis].style, {width: `${Math.hypot(x, y)}px`, transform: `rotate(${Math.atan2(y, x)}rad)`, zIndex: Math.min(z, 10)});
     });
   }
 

@@ -1,7 +1,7 @@
 'use strict';
 // What the page reckons, apart from what it shows: no function here knows of the document.
 const Picture = (() => {
-  const NEAR_VERTEX = 9, NEAR_EDGE = 6, MOST_NAMES = 160, SIDE = 32, EYE = 4;
+  const NEAR_VERTEX = 9, NEAR_EDGE = 6, MOST_NAMES = 160, MOST_OF_ALL = 1500, SIDE = 32, EYE = 4;
   const KINDS = ['faces', 'edges', 'vertices'];
 
   // The model after a change: for each kind the new rows by number, null for what has gone.
@@ -297,9 +297,12 @@ const Picture = (() => {
       const spot = screen.spot(i);
       return {kind: kindOf(scene, i), number: scene.things[i], first: firsts.has(i), away: Math.hypot(spot[0] - place[0], spot[1] - place[1]), spot};
     });
-    const nearest = found.sort((a, b) => b.first - a.first || a.away - b.away).slice(0, MOST_NAMES);
-    return nearest.sort((a, b) => b.first - a.first || rank[a.kind] - rank[b.kind] || a.away - b.away)
-      .filter(it => it.first || ((it.kind !== 'f' || screen.seenFaces[it.number]) && isSeen(scene, screen, it.spot)));
+    const nearest = [], isShown = it => it.first || ((it.kind !== 'f' || screen.seenFaces[it.number]) && isSeen(scene, screen, it.spot));
+    for (const it of found.sort((a, b) => b.first - a.first || a.away - b.away)) {
+      if (nearest.length === (limit === Infinity ? MOST_OF_ALL : MOST_NAMES)) break;
+      if (isShown(it)) nearest.push(it);
+    }
+    return nearest.sort((a, b) => b.first - a.first || rank[a.kind] - rank[b.kind] || a.away - b.away);
   }
 
   // Places for labels, the first ones first, none over another; what finds no place is left out.

@@ -100,10 +100,16 @@ const Section = (() => {
     return rows;
   }
 
-  // The cap of a solid, as the face below zero that has the solid's number, and its outline, as edges without a number.
-  function putCap(work, rows, edges, solid, segments, {normal, offset}) {
+  // Two directions across a normal of length one and each other.
+  function axesOf(normal) {
     const across = Math.abs(normal[2]) < .9 ? [-normal[1], normal[0], 0] : [0, -normal[2], normal[1]], long = Math.hypot(...across);
     const u = across.map(x => x / long), v = [0, 1, 2].map(k => normal[(k + 1) % 3] * u[(k + 2) % 3] - normal[(k + 2) % 3] * u[(k + 1) % 3]);
+    return [u, v];
+  }
+
+  // The cap of a solid, as the face below zero that has the solid's number, and its outline, as edges without a number.
+  function putCap(work, rows, edges, solid, segments, {normal, offset}) {
+    const [u, v] = axesOf(normal);
     const flat = spot => [u, v].map(axis => axis.reduce((sum, x, k) => sum + x * work.added[3 * (spot - work.count) + k], 0));
     const put = ([x, y]) => work.count + work.added.push(...normal.map((n, k) => n * offset + u[k] * x + v[k] * y)) / 3 - 1;
     for (const [start, end] of segments) putEdge(edges, 0, start, end, -solid, -solid, -1);
@@ -148,5 +154,5 @@ const Section = (() => {
   const trapezoid = (left, right, bottom, top) =>
     [[left, bottom], [right, bottom], [right, top], [left, top]].map(([side, level]) => [rightOf(side, level), level]);
 
-  return {cut};
+  return {axesOf, cut};
 })();
