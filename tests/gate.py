@@ -8,6 +8,7 @@ help, and given a word that it doesn't take. What needs something built is start
 which `rt`, .ci/needs, .ci/archive and all tests are stubs that print what they are to. The last line counts.
 """
 import os
+import re
 import shutil
 import subprocess
 import sys
@@ -98,14 +99,14 @@ PASSED = '1 passed, 0 failed'
 # In the last line wanted {all} is the number of parts that are run, {fewer} one fewer, and {others} has scripts.py with 5 or 3 in place of 1.
 CASES = [
     Case('all pass', {}, '{all} passed, 0 failed, 1 skipped', 'skipped: rt ci left no crates/gwb/out/gwb.by-rattle'),
-    Case('a test fails', {'tests/scripts.py': '5 passed, 2 failed'}, '{others} passed, 2 failed, 1 skipped'),
+    Case('a test fails', {'tests/scripts.py': '5 passed, 2 failed'}, '{others} passed, 2 failed, 1 skipped', 'FAILED tests/scripts.py crates/gwb/out/gwb: 2'),
     Case('a comparison is wrong', {'tests/scripts.py': '5 compared, 2 wrong'}, '{others} passed, 2 failed, 1 skipped'),
     Case('a test skips', {'tests/pages.py': 'skipped: this: there is no that\n1 passed, 0 failed, 1 skipped'},
          '{all} passed, 0 failed, 2 skipped', 'skipped: tests/pages.py: this: there is no that'),
-    Case('a test ends in an error', {'tests/quotes.py': 'Traceback'}, '{fewer} passed, 1 failed, 1 skipped', 'tests/quotes.py: status 0 after'),
+    Case('a test ends in an error', {'tests/quotes.py': 'Traceback'}, '{fewer} passed, 1 failed, 1 skipped', 'FAILED tests/quotes.py: status 0 after'),
     Case('a test counts below zero', {'tests/quotes.py': '-6 passed, 0 failed'}, '{fewer} passed, 1 failed, 1 skipped'),
     Case('a test tries nothing', {'tests/quotes.py': '0 passed, 0 failed'}, '{fewer} passed, 1 failed, 1 skipped'),
-    Case('no program is left', {}, '{all} passed, 1 failed, 1 skipped', 'rt ci left no crates/gwb/out/gwb or', ()),
+    Case('no program is left', {}, '{all} passed, 1 failed, 1 skipped', 'FAILED rt ci left no crates/gwb/out/gwb or', ()),
     Case('nothing is to be installed', {}, '{all} passed, 0 failed, 1 skipped', '.ci/needs is told: --list', words=['--no-install'])]
 # Words with which the gate begins nothing: the status, and what it prints.
 ENDS = {'--help': (0, '.ci/run [--no-install]'), '--no-such-word': (2, 'there is no --no-such-word'), 'word': (2, 'too many')}
@@ -126,6 +127,7 @@ def stubs(folder: Path, case: Case) -> None:
         stub(folder / name, f"cat <<'END'\n{case.prints.get(name, PASSED)}\nEND")
     stub(folder / '.ci' / 'needs', 'echo ".ci/needs is told: $*"')
     stub(folder / '.ci' / 'archive', 'mkdir -p crates/gwb_c/out && touch crates/gwb_c/out/libgwb_c.a')
+    (folder / 'crates.txt').touch()
     made = ''.join(f'mkdir -p {os.path.dirname(name)}; cp .ci/needs {name}; ' for name in case.files)
     taken = 'mkdir -p crates/taken/out/rlib/taken.rlib; touch -d 2000-01-01 crates/taken/out/rlib/taken.rlib'
     stub(folder / 'bin' / 'rt', f'ls -d crates/*/out/rlib; {made}\n{taken}\necho "{PASSED}"')
@@ -141,20 +143,77 @@ def gate(case: Case) -> str:
         folder = Path(name)
         stubs(folder, case)
         done = run([str(folder / '.ci' / 'run'), *case.words], folder, PATH=f'{folder / "bin"}:{os.environ["PATH"]}')
+        written = ''.join((folder / 'out' / name).read_text() for name in ('rt-ci.log', 'lanes.log')).splitlines()
         is_new = (folder / 'crates/taken/out/rlib/taken.rlib').stat().st_mtime > (folder / 'bin/rt').stat().st_mtime
     *lines, last = done.stdout.splitlines() or ['']
-    count = sum(line.startswith('== ') for line in lines) - sum(line in ('== .ci/needs', '== crates/gwb_c/out/libgwb_c.a') for line in lines)
+    count = sum(line.startswith('== ') for line in [*lines, *written]) - 2  # (.ci/needs and .ci/archive count nothing)
     numbers = {'all': count, 'others': count + (2 if 'compared' in str(case.prints) else 4), 'fewer': count - 1}
     why: List[str] = []
     if last != case.wanted.format(**numbers) or done.returncode != (' 0 failed' not in last):
         why.append(f'status {done.returncode}, last line {last!r}')
     if not any(line.startswith(case.said) for line in lines):
         why.append(f'no line {case.said!r}')
-    if [line for line in lines if line.endswith('/out/rlib')] != ['crates/built_by_hand/out/rlib']:
+    if any(line.startswith('FAILED') for line in lines) != any(line.startswith('FAILED') for line in lines[-4:]):
+        why.append('what failed is not told at the end')
+    if [line for line in written if line.endswith('/out/rlib')] != ['crates/built_by_hand/out/rlib']:
         why.append('rt ci finds libraries of an earlier run, or those of other commands are gone')
     if not is_new:
         why.append('a library that rt ci took from an earlier run is older than the sources')
     return f'the gate where {case.name}: {"; ".join(why)}' if why else ''
+
+
+# What a run of rt writes, in short, and what is told of it, without the time.
+WRITTEN = """== lattice
+fn lattice::point_in_range: proved
+statements core: modules loaded=203 checked=0
+./src/planes.rt:1:1: note: large solution
+rt: lattice proved
+rt: lattice: trying its must-fail edits (6)
+rt: cyclic_list is kept: an earlier run on this machine proved the same files over the same libraries
+rt: cyclic_list: 3 of its 3 must-fail edits were tried by an earlier run on this machine, and nothing that they stand on has changed
+== boundary_model
+fn boundary_model::mate: proved
+./src/lib.rt:12:3: error[unproved]: it may overflow
+rt: boundary_model NOT PROVED
+rt: must-fail lattice/one.edit: refused, as it must be: ./src/points.rt:3:1: error
+rt: must-fail lattice/two.edit: NOT TRIED: its check ended with status 2
+what it said
+rt: FAILED: boundary_model lattice/two.edit
+6 passed, 2 failed"""
+FAILED = """FAILED boundary_model NOT PROVED
+FAILED must-fail lattice/two.edit: NOT TRIED: its check ended with status 2
+FAILED boundary_model lattice/two.edit"""
+TOLD = """sh SCRIPT: all that it writes is in LOG
+1 of 3 crates proved: lattice, after 0:00
+lattice: 6 edits begun, so far 6 of 2
+2 of 3 crates proved: cyclic_list, kept from an earlier run
+cyclic_list: 3 edits tried in an earlier run, so far 9 of 2
+FAILED boundary_model NOT PROVED
+    ./src/lib.rt:12:3: error[unproved]: it may overflow
+FAILED must-fail lattice/two.edit: NOT TRIED: its check ended with status 2
+    what it said
+FAILED boundary_model lattice/two.edit
+""" + FAILED + """
+6 passed, 2 failed"""
+
+
+def progress() -> Iterator[str]:
+    """What .ci/progress tells of a run, and what it keeps; of a command that only fails it tells the status."""
+    with tempfile.TemporaryDirectory() as name:
+        folder = Path(name)
+        shutil.copytree(TOP / '.ci', folder / '.ci')
+        (folder / 'crates.txt').write_text('lattice:\ncyclic_list:\nboundary_model: cyclic_list lattice\n')
+        for edit in ('one', 'two'):
+            (folder / 'crates' / 'lattice' / 'must-fail').mkdir(parents=True, exist_ok=True)
+            (folder / 'crates' / 'lattice' / 'must-fail' / f'{edit}.edit').touch()
+        script, log = folder / 'script', folder / 'log'
+        script.write_text(f"cat <<'END'\n{WRITTEN}\nEND\nexit 1\n")
+        done = run([str(folder / '.ci' / 'progress'), str(log), 'sh', str(script)], folder)
+        told = re.sub(r'(?m)^\[\d\d:\d\d, \d+:\d\d\] ', '', done.stdout).replace(str(script), 'SCRIPT').replace(str(log), 'LOG')
+        yield '' if (done.returncode, told) == (1, f'{TOLD}\n') else f'.ci/progress: status {done.returncode}, told: {told}'
+        yield '' if log.read_text() == f'{WRITTEN}\n' else '.ci/progress does not keep what is written'
+        done = run([str(folder / '.ci' / 'progress'), str(log), 'false'], folder)
+        yield '' if done.returncode == 1 and 'FAILED false: status 1' in done.stdout else f'.ci/progress false: {done.stdout}'
 
 
 def begins_nothing(word: str, status: int, said: str) -> str:
@@ -171,6 +230,7 @@ def findings() -> Iterator[str]:
     """For each comparison what is wrong, or nothing."""
     yield from missing()
     yield from helped()
+    yield from progress()
     yield from (begins_nothing(word, *wanted) for word, wanted in ENDS.items())
     with tempfile.TemporaryDirectory() as folder:
         yield from unbuilt(folder)
