@@ -1,7 +1,8 @@
 use crate::operators::Ranges;
 use crate::{Error, Operators, Session};
-use std::mem::ManuallyDrop;
+use std::mem::{take, ManuallyDrop};
 use std::ops::{Deref, DerefMut};
+use std::sync::atomic::{AtomicU64, Ordering};
 
 /// A draft of the next command of a session, which it borrows: its operators and larger commands are steps, and readers and measures speak
 /// of its model.
@@ -38,7 +39,7 @@ use std::ops::{Deref, DerefMut};
 /// # Ok::<(), Error>(())
 /// ```
 ///
-/// It has no line, undo or redo:
+/// It has no undo or redo:
 ///
 /// ```compile_fail,E0599
 /// # let mut session = gwb::Session::new().unwrap();
@@ -49,35 +50,57 @@ use std::ops::{Deref, DerefMut};
 #[must_use = "a draft is abandoned where it is dropped"]
 pub struct Draft<'session> {
     session: &'session mut Session,
+    /// A number that no other draft has.
+    number: u64,
+    /// How often it went back.
+    backs: usize,
+    /// The steps to which it went back, as the back of this number; later ones went less far.
+    lowest: Vec<(usize, usize)>,
 }
+
+static DRAFTS: AtomicU64 = AtomicU64::new(0);
 
 /// How far a draft had come.
 #[derive(Clone, Copy, Debug)]
 pub struct Mark {
     steps: usize,
     made: Option<Ranges>,
+    draft: u64,
+    backs: usize,
 }
 
 impl<'session> Draft<'session> {
     pub(crate) fn new(session: &'session mut Session) -> Self {
-        Self { session }
+        Self { session, number: DRAFTS.fetch_add(1, Ordering::Relaxed), backs: 0, lowest: Vec::new() }
     }
 
     /// How far the draft has come, for [`back`](Self::back).
     #[must_use]
     pub fn mark(&self) -> Mark {
-        Mark { steps: self.steps(), made: self.drafted() }
+        Mark { steps: self.steps(), made: self.drafted(), draft: self.number, backs: self.backs }
     }
 
-    /// Takes the steps since a mark back; where there are none, nothing changes. It takes no memory.
+    /// Takes the steps since a mark back; where there are none, nothing changes.
     ///
     /// # Errors
-    /// [`Error::NoDraft`] as of [`commit`](Self::commit).
+    /// [`Error::NoDraft`] where the mark is of another draft, or of steps that were taken back.
     pub fn back(&mut self, mark: Mark) -> Result<(), Error> {
+        if !self.has(mark) {
+            return Err(Error::NoDraft);
+        }
         // SAFETY: the session is borrowed, so its handle is open.
         self.answered(unsafe { gwb_sys::gwb_back(self.handle(), mark.steps) })?;
         self.go_back(mark.made);
+        self.lowest.retain(|&(_, steps)| steps < mark.steps);
+        self.lowest.push((self.backs, mark.steps));
+        self.backs += 1;
         Ok(())
+    }
+
+    /// Whether the mark is one of this draft, which hasn't gone back before it since.
+    fn has(&self, mark: Mark) -> bool {
+        let later = self.lowest.iter().find(|&&(number, _)| number >= mark.backs);
+        mark.draft == self.number && later.map_or(true, |&(_, steps)| steps >= mark.steps)
     }
 
     /// The steps are one command from here on, also where there are none. It takes no memory.
@@ -86,6 +109,7 @@ impl<'session> Draft<'session> {
     /// [`Error::NoDraft`] where the draft is not open, which only the calls of `gwb_sys` can bring about.
     pub fn commit(self) -> Result<(), Error> {
         let mut draft = ManuallyDrop::new(self);
+        drop(take(&mut draft.lowest));
         // SAFETY: the session is borrowed, so its handle is open.
         let answer = unsafe { gwb_sys::gwb_commit(draft.session.handle()) };
         draft.session.end_draft(answer == gwb_sys::kind::OK);

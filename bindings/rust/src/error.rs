@@ -25,11 +25,16 @@ pub enum Error {
     Memory,
     /// The arguments make no command: more than 64 points, or a part of no faces.
     NoCall,
-    /// A draft is open, which has no line, undo, redo or second draft. A [`Draft`](crate::Draft) borrows its session, so this comes only
+    /// A draft is open, which has no undo, redo or second draft. A [`Draft`](crate::Draft) borrows its session, so this comes only
     /// after one was forgotten (`std::mem::forget`).
     InDraft,
-    /// No draft is open that could be committed. A [`Draft`](crate::Draft) is open as long as it is there, so this doesn't come from one.
+    /// No draft is open that could be committed, which a [`Draft`](crate::Draft) is as long as it is there; or a mark is of another draft, or of
+    /// steps that were taken back.
     NoDraft,
+    /// The caller ended what was under way ([`Session::stop_when`](crate::Session::stop_when)).
+    Stopped,
+    /// The library that is linked is of this version, in the form of [`gwb_sys::VERSION`], and the crate of another one.
+    OtherVersion(u32),
     /// The library answers with a kind or a condition of this number, which the crate does not know: they are of different versions.
     Unknown(u32),
 }
@@ -76,6 +81,8 @@ impl fmt::Display for Error {
             Self::NoCall => f.write_str("the arguments make no command"),
             Self::InDraft => f.write_str("a draft is open, which has no such call"),
             Self::NoDraft => f.write_str("there is no draft"),
+            Self::Stopped => f.write_str("the caller ended it"),
+            Self::OtherVersion(version) => write!(f, "libgwb has version {version}, and the crate is of {}", gwb_sys::VERSION),
             Self::Unknown(number) => write!(f, "the library answers {number}, which this version does not know"),
         }
     }

@@ -1,7 +1,8 @@
 //! Features, by the calls of gwb_features.h. Each is one command of a session, or steps of a draft; what isn't possible is
 //! [`Error::Impossible`], or refused as a command would be, and then nothing has changed.
-use crate::{Draft, Edge, Error, Face, Loop, Misfit, Point, Session, Solid, Vertex};
+use crate::{minus, plus, Draft, Edge, Error, Face, HalfEdge, Id, Loop, Misfit, Point, Session, Solid, Vertex};
 use gwb_sys::{kind, Gwb, OutlineMade};
+use std::collections::BTreeMap;
 
 /// Where points go: each axis to an axis, either way round, and then by a vector.
 #[derive(Clone, Copy, Debug, PartialEq, Eq)]
@@ -115,6 +116,70 @@ pub struct Notch {
     pub walls: Vec<Face>,
 }
 
+/// What [`split_solid`](Draft::split_solid) makes: the solid above the plane, and the faces that close both parts.
+#[derive(Clone, Debug, PartialEq, Eq)]
+#[allow(missing_docs)]
+pub struct Split {
+    pub above: Solid,
+    pub lower_caps: Vec<Face>,
+    pub upper_caps: Vec<Face>,
+}
+/// A copy of a solid, and which of its parts are of which.
+#[derive(Clone, Debug, PartialEq, Eq)]
+pub struct Copied {
+    /// The copy.
+    pub solid: Solid,
+    faces: BTreeMap<Face, Face>,
+    loops: BTreeMap<Loop, Loop>,
+    edges: BTreeMap<Edge, HalfEdge>,
+    vertices: BTreeMap<Vertex, Vertex>,
+}
+
+impl Copied {
+    /// The face of the copy that is of this one: none of what isn't of the solid.
+    #[must_use]
+    pub fn face(&self, of: Face) -> Option<Face> {
+        self.faces.get(&of).copied()
+    }
+
+    /// The loop alike.
+    #[must_use]
+    pub fn of_loop(&self, of: Loop) -> Option<Loop> {
+        self.loops.get(&of).copied()
+    }
+
+    /// The edge alike.
+    #[must_use]
+    pub fn edge(&self, of: Edge) -> Option<Edge> {
+        self.edges.get(&of).map(|half_edge| half_edge.edge())
+    }
+
+    /// The half-edge from the vertex of this one to that of its other end.
+    #[must_use]
+    pub fn half_edge(&self, of: HalfEdge) -> Option<HalfEdge> {
+        self.edges.get(&of.edge()).map(|&first| if of.is_second() { first.twin() } else { first })
+    }
+
+    /// The vertex alike.
+    #[must_use]
+    pub fn vertex(&self, of: Vertex) -> Option<Vertex> {
+        self.vertices.get(&of).copied()
+    }
+}
+
+/// Lists of enum gwb_list.
+mod list {
+    pub const FLOOR: u32 = 0;
+    pub const WALLS: u32 = 1;
+    pub const FACES: u32 = 2;
+    pub const LOOPS: u32 = 3;
+    pub const EDGES: u32 = 4;
+    pub const VERTICES: u32 = 5;
+    pub const TURNED: u32 = 6;
+    pub const LOWER_CAPS: u32 = 7;
+    pub const UPPER_CAPS: u32 = 8;
+}
+
 const MISFITS: [Misfit; 13] = [
     Misfit::NoArea, Misfit::NotInPlane, Misfit::OutlineCrossed, Misfit::AlongPlane, Misfit::OutlineOutside, Misfit::OutlineAroundRing,
     Misfit::OffLattice, Misfit::Meets, Misfit::NoOpposite, Misfit::NotParallel, Misfit::NotOfFace, Misfit::FlatEdge, Misfit::NothingLeft,
@@ -148,6 +213,15 @@ impl Draft<'_> {
         found
     }
 
+    fn made_faces(&self, list: u32) -> Vec<Face> {
+        self.made(list).into_iter().map(Face).collect()
+    }
+
+    /// A list of old and new numbers.
+    fn made_pairs<N: Id>(&self, list: u32) -> BTreeMap<N, N> {
+        self.made(list).chunks_exact(2).map(|pair| (N::from_number(pair[0]), N::from_number(pair[1]))).collect()
+    }
+
     fn outline(
         &mut self,
         points: &[impl Copy + Into<Point>],
@@ -160,7 +234,7 @@ impl Draft<'_> {
 
     fn notched(&mut self, call: impl FnOnce(*mut Gwb, *mut gwb_sys::Refusal) -> u32) -> Result<Notch, Error> {
         self.feature(call)?;
-        Ok(Notch { floor: self.made(0).into_iter().map(Face).collect(), walls: self.made(1).into_iter().map(Face).collect() })
+        Ok(Notch { floor: self.made_faces(list::FLOOR), walls: self.made_faces(list::WALLS) })
     }
 
     /// A solid goes, with all its parts.
@@ -173,10 +247,26 @@ impl Draft<'_> {
 
     /// A new solid, that is another moved; its numbers are above all in use.
     #[allow(missing_docs, clippy::missing_errors_doc)]
-    pub fn copy_solid(&mut self, solid: Solid, motion: Motion) -> Result<Solid, Error> {
+    pub fn copy_solid(&mut self, solid: Solid, motion: Motion) -> Result<Copied, Error> {
         let mut made = 0;
         self.feature(|g, why| unsafe { gwb_sys::gwb_copy_solid(g, solid.0, &motion.row(), &mut made, why) })?;
-        Ok(Solid(made))
+        let turned = self.made(list::TURNED);
+        let edge = |(old, new): (Edge, Edge)| (old, if turned.binary_search(&new.0).is_ok() { minus(new) } else { plus(new) });
+        Ok(Copied {
+            solid: Solid(made),
+            faces: self.made_pairs(list::FACES),
+            loops: self.made_pairs(list::LOOPS),
+            edges: self.made_pairs(list::EDGES).into_iter().map(edge).collect(),
+            vertices: self.made_pairs(list::VERTICES),
+        })
+    }
+
+    /// What [`split`](crate::Operators::split) does, with the faces that close both parts.
+    #[allow(clippy::missing_errors_doc)]
+    pub fn split_solid(&mut self, solid: Solid, [a, b, c, d]: [i64; 4], above: impl Into<Option<Solid>>) -> Result<Split, Error> {
+        let (above, plane) = (self.named(above), gwb_sys::CutPlane { a, b, c, d });
+        self.feature(|g, why| unsafe { gwb_sys::gwb_split_solid(g, solid.0, &plane, above.0, why) })?;
+        Ok(Split { above, lower_caps: self.made_faces(list::LOWER_CAPS), upper_caps: self.made_faces(list::UPPER_CAPS) })
     }
 
     /// A solid lies elsewhere, with the numbers that it has.
@@ -288,7 +378,8 @@ macro_rules! also_alone {
 }
 also_alone! {
     kill_solid(solid: Solid) -> ();
-    copy_solid(solid: Solid, motion: Motion) -> Solid;
+    copy_solid(solid: Solid, motion: Motion) -> Copied;
+    split_solid(solid: Solid, plane: [i64; 4], above: impl Into<Option<Solid>>) -> Split;
     move_solid(solid: Solid, motion: Motion) -> ();
     profile(solid: impl Into<Option<Solid>>, points: &[impl Copy + Into<Point>], along: impl Into<Point>) -> Profile;
     ring(face: Face, points: &[impl Copy + Into<Point>]) -> Ring;

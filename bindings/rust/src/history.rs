@@ -1,6 +1,7 @@
 //! What commands made, removed and split of a model, and values on faces and edges that follow it.
 use crate::{minus, plus, Edge, Error, Face, HalfEdge, HalfEdgeRow, Id, Point, Readers, Session, Vertex};
 use std::collections::{BTreeMap, BTreeSet, HashMap};
+use std::ops::Range;
 
 /// A number that is new or gone.
 #[derive(Clone, Copy, Debug, PartialEq, Eq)]
@@ -20,12 +21,28 @@ pub struct ChangesOf<N> {
     pub removed: Vec<Change<N>>,
 }
 
+/// How a model changed.
+#[derive(Clone, Copy, Debug, Default, PartialEq, Eq)]
+#[allow(missing_docs)]
+pub enum Turn {
+    #[default]
+    Commands,
+    Undo,
+    Redo,
+}
+
 /// What commands did to a model.
 #[derive(Clone, Debug, PartialEq, Eq)]
 #[allow(missing_docs)]
 pub struct Changes {
     pub faces: ChangesOf<Face>,
     pub edges: ChangesOf<Edge>,
+    /// Whether they were undone, or done again.
+    pub turn: Turn,
+    /// How many commands could be undone before and after them.
+    pub depths: [usize; 2],
+    /// What [`changes`](Readers::changes) was before and after them.
+    pub counts: [u64; 2],
 }
 
 /// What values can be noted on: [`Face`] and [`Edge`].
@@ -54,6 +71,8 @@ pub struct Reading {
     sides: HashMap<HalfEdge, HalfEdgeRow>,
     borders: HashMap<Face, Vec<HalfEdge>>,
     leaving: HashMap<Vertex, Vec<HalfEdge>>,
+    depth: usize,
+    count: u64,
 }
 
 impl Reading {
@@ -73,16 +92,22 @@ impl Reading {
             sides: rows.into_iter().map(|row| (row.half_edge, row)).collect(),
             borders,
             leaving,
+            depth: readers.depth(),
+            count: readers.changes(),
         }
     }
 
     /// What happened since an earlier reading.
     ///
-    /// A new face was split from the one that had a half-edge of it, or else an edge along one of its own from the same vertex. A new edge
-    /// was split from the one that ran along it from the same vertex. A face that is gone was joined to the one that has a half-edge of it.
+    /// A new face was split from the one that had a half-edge of it, or else an edge along one of its own from the same vertex, if it lies in that
+    /// face's plane and looks the same way. A new edge was split from the one that ran along it from the same vertex. A face that is gone was
+    /// joined to the one that has a half-edge of it.
     #[must_use]
-    pub fn since(&self, before: &Self) -> Changes {
+    pub fn since(&self, before: &Self, turn: Turn) -> Changes {
         Changes {
+            turn,
+            depths: [before.depth, self.depth],
+            counts: [before.count, self.count],
             faces: ChangesOf {
                 made: missing(&self.faces, &before.faces, |face| self.face_before(face, before)),
                 removed: missing(&before.faces, &self.faces, |face| before.survivor(face, self)),
@@ -104,7 +129,35 @@ impl Reading {
     }
 
     fn face_before(&self, face: Face, before: &Self) -> Option<Face> {
-        self.survivor(face, before).or_else(|| self.border(face).iter().find_map(|&at| self.along(at, before)).map(|row| row.face))
+        let is_part = |&of: &Face| self.is_part(face, before, of);
+        if let Some(survivor) = self.survivor(face, before) {
+            return Some(survivor).filter(is_part);
+        }
+        self.border(face).iter().filter_map(|&at| self.along(at, before)).map(|row| row.face).find(is_part)
+    }
+
+    fn start(&self, at: HalfEdge) -> [i128; 3] {
+        let Point { x, y, z } = self.points[&self.sides[&at].start];
+        [x, y, z].map(i128::from)
+    }
+
+    /// A point of a face, and a vector across it, as long as twice its area: zero where that is.
+    fn plane(&self, face: Face) -> ([i128; 3], [i128; 3]) {
+        let origin = self.border(face).first().map_or([0; 3], |&at| self.start(at));
+        let across = self.border(face).iter().fold([0; 3], |sum, &at| {
+            let (a, b) = (minus_of(self.start(at), origin), minus_of(self.start(at.twin()), origin));
+            let part = |axis: usize| a[(axis + 1) % 3] * b[(axis + 2) % 3] - a[(axis + 2) % 3] * b[(axis + 1) % 3];
+            [sum[0] + part(0), sum[1] + part(1), sum[2] + part(2)]
+        });
+        (origin, across)
+    }
+
+    /// Whether a face lies in the plane of one of another reading, and doesn't look the other way.
+    fn is_part(&self, face: Face, other: &Self, of: Face) -> bool {
+        let (origin, across) = other.plane(of);
+        let height = |at: HalfEdge| -> i128 { minus_of(self.start(at), origin).iter().zip(across).map(|(way, across)| way * across).sum() };
+        let is_against = |(a, b): (&i128, i128)| a.signum() * b.signum() < 0;
+        self.border(face).iter().all(|&at| height(at) == 0) && !self.plane(face).1.iter().zip(across).any(is_against)
     }
 
     /// The edge in another reading that runs along an edge of this one from the same vertex.
@@ -130,6 +183,10 @@ fn missing<N: Id>(ids: &BTreeSet<N>, others: &BTreeSet<N>, from: impl Fn(N) -> O
     ids.difference(others).map(|&id| Change { id, other: from(id) }).collect()
 }
 
+fn minus_of(a: [i128; 3], b: [i128; 3]) -> [i128; 3] {
+    [a[0] - b[0], a[1] - b[1], a[2] - b[2]]
+}
+
 /// Whether two vectors have one direction. Each part is within 2,000,000,000 either way, so what is compared fits in 64 bits.
 fn is_one_way(a: Point, b: Point) -> bool {
     let are_parallel = a.x * b.y == a.y * b.x && a.y * b.z == a.z * b.y && a.z * b.x == a.x * b.z;
@@ -147,34 +204,76 @@ impl Session {
     /// let (_, changes) = session.followed(|session| session.split(block, [0, 0, 1, -2], None))?;
     /// colours.follow(&changes);
     /// assert_eq!(colours.iter().count(), 2); // face 3, and the part of it that is above
-    /// let ((), changes) = session.followed(Session::undo)?;
-    /// colours.follow_turn(&changes);
+    /// let changes = session.followed_undo()?;
+    /// colours.follow(&changes);
     /// assert_eq!(colours.iter().count(), 1);
     /// # Ok::<(), Error>(())
     /// ```
     ///
     /// # Errors
-    /// That of the commands. Those before it were given.
-    pub fn followed<T>(&mut self, give: impl FnOnce(&mut Self) -> Result<T, Error>) -> Result<(T, Changes), Error> {
+    /// That of the commands, with what those before it did.
+    pub fn followed<T>(&mut self, give: impl FnOnce(&mut Self) -> Result<T, Error>) -> Result<(T, Changes), (Error, Box<Changes>)> {
         let before = Reading::of(self);
-        let value = give(self)?;
-        Ok((value, Reading::of(self).since(&before)))
+        let given = give(self);
+        let changes = Reading::of(self).since(&before, Turn::Commands);
+        match given {
+            Ok(value) => Ok((value, changes)),
+            Err(error) => Err((error, Box::new(changes))),
+        }
+    }
+
+    /// Takes the last command back, and says what that did.
+    ///
+    /// # Errors
+    /// As [`undo`](Self::undo).
+    pub fn followed_undo(&mut self) -> Result<Changes, Error> {
+        let before = Reading::of(self);
+        self.undo()?;
+        Ok(Reading::of(self).since(&before, Turn::Undo))
+    }
+
+    /// Does the command again that was taken back last, and says what that did.
+    ///
+    /// # Errors
+    /// As [`redo`](Self::redo).
+    pub fn followed_redo(&mut self) -> Result<Changes, Error> {
+        let before = Reading::of(self);
+        self.redo()?;
+        Ok(Reading::of(self).since(&before, Turn::Redo))
     }
 }
 
-/// Values on faces or on edges, which follow what becomes of them: a part that was split off has a copy of the value; what is gone has
-/// none, and has it back where undo or redo makes it again.
+impl From<(Error, Box<Changes>)> for Error {
+    /// Of commands whose changes nobody follows.
+    fn from((error, _): (Error, Box<Changes>)) -> Self {
+        error
+    }
+}
+
+/// Values on faces or on edges, which follow what becomes of them: a part that was split off has a copy of the value; what is gone has none, and has
+/// it back where undo or redo of the command by which it went makes it again. A copy of a solid has the values that
+/// [`copied`](Self::copied) gives it.
 #[derive(Clone, Debug, PartialEq, Eq)]
 pub struct Notes<N, V> {
     values: BTreeMap<N, V>,
-    gone: BTreeMap<N, V>,
+    steps: Vec<Step<N, V>>,
+    seen: u64,
+}
+
+/// Followed commands, of those that could be undone the ones of these places; and the values of what went when they were done, and of what went when
+/// they were undone.
+#[derive(Clone, Debug, PartialEq, Eq)]
+struct Step<N, V> {
+    commands: Range<usize>,
+    done: BTreeMap<N, V>,
+    undone: BTreeMap<N, V>,
 }
 
 impl<N: Noted, V: Clone> Notes<N, V> {
     /// No values.
     #[must_use]
     pub fn new() -> Self {
-        Self { values: BTreeMap::new(), gone: BTreeMap::new() }
+        Self { values: BTreeMap::new(), steps: Vec::new(), seen: 0 }
     }
 
     /// Gives a number a value; the one that it had is returned.
@@ -198,31 +297,56 @@ impl<N: Noted, V: Clone> Notes<N, V> {
         self.values.iter().map(|(&id, value)| (id, value))
     }
 
-    /// After commands.
+    /// After commands that changed so much. What commands did that it didn't follow can't be undone with their values.
     pub fn follow(&mut self, changes: &Changes) {
-        self.change(changes, |_| None);
-    }
-
-    /// After undo or redo.
-    pub fn follow_turn(&mut self, changes: &Changes) {
-        let gone = self.gone.clone();
-        self.change(changes, |id| gone.get(&id).cloned());
-    }
-
-    fn change(&mut self, changes: &Changes, had: impl Fn(N) -> Option<V>) {
-        let of = N::of(changes);
-        let value = |made: &Change<N>| had(made.id).or_else(|| self.values.get(&made.other?).cloned());
+        let (of, step) = (N::of(changes), self.step_of(changes));
+        let had = step.filter(|_| changes.turn != Turn::Commands).map(|at| self.steps[at].gone(changes.turn == Turn::Undo));
+        let value = |made: &Change<N>| had.and_then(|had| had.get(&made.id)).or_else(|| self.values.get(&made.other?)).cloned();
         let parts: Vec<(N, V)> = of.made.iter().filter_map(|made| value(made).map(|value| (made.id, value))).collect();
         for removed in &of.removed {
-            self.gone.extend(self.values.remove(&removed.id).map(|value| (removed.id, value)));
+            let value = self.values.remove(&removed.id);
+            if let Some(step) = step.map(|at| &mut self.steps[at]) {
+                let gone = if changes.turn == Turn::Undo { &mut step.undone } else { &mut step.done };
+                gone.remove(&removed.id);
+                gone.extend(value.map(|value| (removed.id, value)));
+            }
         }
         self.values.extend(parts);
+    }
+
+    /// The parts of a copy have the values of those that they are of: `notes.copied(|face| copy.face(face))`.
+    pub fn copied(&mut self, of: impl Fn(N) -> Option<N>) {
+        let made: Vec<(N, V)> = self.values.iter().filter_map(|(&id, value)| Some((of(id)?, value.clone()))).collect();
+        self.values.extend(made);
+    }
+
+    /// The step that changed, a new one for new commands; none where it wasn't followed, or was within a draft.
+    fn step_of(&mut self, changes: &Changes) -> Option<usize> {
+        let [from, to] = changes.depths;
+        if std::mem::replace(&mut self.seen, changes.counts[1]) != changes.counts[0] {
+            self.steps.clear();
+        }
+        if changes.turn == Turn::Commands {
+            self.steps.retain(|step| step.commands.end <= from);
+            if to > from {
+                self.steps.push(Step { commands: from..to, done: BTreeMap::new(), undone: BTreeMap::new() });
+            }
+            return self.steps.len().checked_sub(1).filter(|_| to > from);
+        }
+        self.steps.iter().rposition(|step| step.commands.contains(&from.min(to)))
+    }
+}
+
+impl<N, V> Step<N, V> {
+    /// What went when it was done, or undone.
+    fn gone(&self, is_done: bool) -> &BTreeMap<N, V> {
+        if is_done { &self.done } else { &self.undone }
     }
 }
 
 impl<N: Noted, V, const COUNT: usize> From<[(N, V); COUNT]> for Notes<N, V> {
     fn from(values: [(N, V); COUNT]) -> Self {
-        Self { values: BTreeMap::from(values), gone: BTreeMap::new() }
+        Self { values: BTreeMap::from(values), steps: Vec::new(), seen: 0 }
     }
 }
 

@@ -30,7 +30,6 @@
 
 mod draft;
 mod error;
-mod exact;
 mod features;
 mod history;
 mod ids;
@@ -43,15 +42,15 @@ mod session;
 
 pub use draft::{Draft, Mark};
 pub use error::{Error, Misfit};
-pub use features::{Hole, Motion, Notch, Pocket, Profile, Ring};
+pub use features::{Copied, Hole, Motion, Notch, Pocket, Profile, Ring, Split};
 pub use gwb_sys::Heap;
-pub use history::{Change, Changes, ChangesOf, Noted, Notes, Reading};
+pub use history::{Change, Changes, ChangesOf, Noted, Notes, Reading, Turn};
 pub use ids::{lone, minus, plus, Corner, Edge, Face, HalfEdge, Id, Loop, Solid, Vertex};
 pub use off_lattice::{EdgeCut, Fraction, NearPlane, OffLattice};
 pub use operators::Operators;
 pub use readers::{Numbers, Readers, Shared};
 pub use refusal::Refusal;
-pub use rows::{Counts, EdgeRow, FaceRow, HalfEdgeRow, NewFace, NewSolid, Plane, Point};
+pub use rows::{Block, Counts, EdgeRow, FaceRow, HalfEdgeRow, Lamina, NewFace, NewSolid, Plane, Point};
 pub use session::Session;
 
 /// The version of the library that is linked: 3.0.0 is `(3, 0, 0)`.

@@ -1,17 +1,31 @@
 use crate::readers::Readers;
 use crate::{Corner, Edge, Error, Face, HalfEdge, Id, Loop, NewFace, NewSolid, Point, Refusal, Solid, Vertex};
 use gwb_sys::{kind, Gwb, Range};
+use std::ffi::c_void;
 use std::ops::{Deref, RangeInclusive};
 use std::ptr::NonNull;
+use std::sync::atomic::{AtomicBool, Ordering};
+use std::sync::Arc;
 
 /// What a [`Session`](crate::Session) and a [`Draft`](crate::Draft) both have: the operators and, by [`Readers`], the readers.
 ///
 /// An operator makes what it is given numbers for. In the place of each such number [`None`] may stand: it takes the number above all in
 /// use then. What is made is returned. A command that isn't accepted leaves the model as it was; it returns [`Error::Refused`] with the
 /// first of its conditions that is false (docs/SCRIPT.md has them by commands), or [`Error::Memory`].
-pub struct Operators {
+///
+/// It has no size that is known, so that no two of them can be swapped: a draft stays that of its session.
+///
+/// ```compile_fail,E0277
+/// # let (mut session, mut other) = (gwb::Session::new().unwrap(), gwb::Session::new().unwrap());
+/// let mut draft = session.draft().unwrap();
+/// std::mem::swap(&mut *draft, &mut *other);
+/// ```
+pub struct Operators<Tail: ?Sized = [u8]> {
     readers: Readers,
     fresh: Fresh,
+    /// What stops long work, as long as the library may ask it.
+    stop: Option<Arc<AtomicBool>>,
+    _tail: Tail,
 }
 
 /// The fresh numbers of the last command, where a line was given after it or it was a draft, and those of the steps of a draft.
@@ -37,10 +51,32 @@ fn joined(one: Range, other: Range) -> Range {
 // this mutably, so no other call runs. What a call writes to is a value of its own.
 impl Operators {
     /// A session that holds the empty model.
-    pub(crate) fn new() -> Result<Self, Error> {
+    pub(crate) fn new() -> Result<Box<Self>, Error> {
+        let version = unsafe { gwb_sys::gwb_version() };
+        if version / 10_000 != gwb_sys::VERSION / 10_000 {
+            return Err(Error::OtherVersion(version));
+        }
         let handle = NonNull::from(Box::leak(Box::new(Gwb::CLOSED)));
-        let operators = Self { readers: Readers::new(handle), fresh: Fresh::default() };
+        let sized: Box<Operators<[u8; 0]>> = Box::new(Operators { readers: Readers::new(handle), fresh: Fresh::default(), stop: None, _tail: [] });
+        let operators: Box<Self> = sized;
         unsafe { gwb_sys::gwb_open(operators.handle()) }.then_some(operators).ok_or(Error::Memory)
+    }
+
+    /// Whether long work ends is what the flag says from here on, from any thread: features, [`load`](Self::load) and
+    /// [`off_lattice`](Readers::off_lattice) then give [`Error::Stopped`], and nothing has changed. None: nothing ends them.
+    pub fn stop_when(&mut self, flag: Option<Arc<AtomicBool>>) {
+        let user = flag.as_ref().map_or(std::ptr::null_mut(), |flag| Arc::as_ptr(flag) as *mut c_void);
+        unsafe { gwb_sys::gwb_stop_by(self.handle(), flag.is_some().then_some(is_set), user) };
+        self.stop = flag;
+    }
+
+    /// From here on what is accepted is recorded as lines of a script, for [`script`](Readers::script).
+    ///
+    /// # Errors
+    /// [`Error::Memory`]; [`Error::NoCall`] where the session has done something already.
+    pub fn record(&mut self) -> Result<(), Error> {
+        let answer = unsafe { gwb_sys::gwb_record(self.handle()) };
+        self.answered(answer)
     }
 
     /// A new solid with one face, whose outer loop stands at one new vertex.
@@ -363,6 +399,7 @@ impl Operators {
             kind::NO_CALL => Err(Error::NoCall),
             kind::IN_DRAFT => Err(Error::InDraft),
             kind::NO_DRAFT => Err(Error::NoDraft),
+            kind::STOPPED => Err(Error::Stopped),
             0..=kind::LISTING => Ok(()),
             _ => Err(Error::Unknown(answer)),
         }
@@ -387,7 +424,13 @@ pub(crate) fn named(refusal: gwb_sys::Refusal) -> Error {
     Refusal::from_number(number).map_or(Error::Unknown(number), |refusal| Error::Refused { refusal, value })
 }
 
-impl Deref for Operators {
+/// Whether the flag is set.
+unsafe extern "C" fn is_set(user: *mut c_void) -> bool {
+    // SAFETY: the flag is kept by the operators as long as the library has it.
+    unsafe { &*user.cast::<AtomicBool>() }.load(Ordering::Relaxed)
+}
+
+impl<Tail: ?Sized> Deref for Operators<Tail> {
     type Target = Readers;
 
     fn deref(&self) -> &Readers {
@@ -395,12 +438,12 @@ impl Deref for Operators {
     }
 }
 
-impl Drop for Operators {
+impl<Tail: ?Sized> Drop for Operators<Tail> {
     fn drop(&mut self) {
         // SAFETY: the handle was leaked from a box in `new`, and is given back once.
         unsafe {
-            gwb_sys::gwb_close(self.handle());
-            drop(Box::from_raw(self.handle()));
+            gwb_sys::gwb_close(self.readers.handle());
+            drop(Box::from_raw(self.readers.handle()));
         }
     }
 }

@@ -1,8 +1,11 @@
 use crate::operators::named;
-use crate::{minus, plus, Counts, Edge, EdgeRow, Error, Face, FaceRow, HalfEdge, HalfEdgeRow, Id, Loop, Plane, Point, Solid, Vertex};
+use crate::ids::sealed::Kind;
+use crate::{
+    minus, plus, Block, Counts, Edge, EdgeRow, Error, Face, FaceRow, HalfEdge, HalfEdgeRow, Id, Lamina, Loop, Plane, Point, Solid, Vertex,
+};
 use gwb_sys::{kind, Gwb, Wide, FOUND};
 use std::iter;
-use std::ops::Deref;
+use std::ops::{Deref, Range};
 use std::ptr::NonNull;
 
 type After = unsafe extern "C" fn(*mut Gwb, u32, u32, *mut u32) -> u32;
@@ -268,8 +271,11 @@ impl Readers {
     /// another in their order round it, the outer loop of each face before its rings, faces and rings rising.
     #[must_use]
     pub fn half_edge_rows(&self, solid: impl Into<Option<Solid>>) -> Vec<HalfEdgeRow> {
-        let solid = solid.into().unwrap_or_default();
-        let rows = rows(|rows: *mut gwb_sys::HalfEdgeRow, room| unsafe { gwb_sys::gwb_read_half_edges(self.handle(), solid.0, rows, room) });
+        let solid = match number_of(solid) {
+            Some(solid) => solid,
+            None => return Vec::new(),
+        };
+        let rows = rows(|rows: *mut gwb_sys::HalfEdgeRow, room| unsafe { gwb_sys::gwb_read_half_edges(self.handle(), solid, rows, room) });
         rows.into_iter().map(HalfEdgeRow::from).collect()
     }
 
@@ -295,7 +301,9 @@ impl Readers {
     /// # Errors
     /// [`Error::Memory`].
     pub fn triangles(&self, face: Face) -> Result<Vec<[Vertex; 3]>, Error> {
-        let rows = triangle_rows(|rows, room| unsafe { gwb_sys::gwb_face_triangles(self.handle(), face.0, rows, room) })?;
+        let half_edges = unsafe { gwb_sys::gwb_lent_half_edge_rows(&mut self.lent(), face.0, NonNull::dangling().as_ptr(), 0) };
+        let most = half_edges + 2 * self.rings(face).count();
+        let rows = triangle_rows(most, |rows, room| unsafe { gwb_sys::gwb_face_triangles(self.handle(), face.0, rows, room) })?;
         Ok(rows.into_iter().map(|(_, corners)| corners).collect())
     }
 
@@ -304,8 +312,61 @@ impl Readers {
     /// # Errors
     /// [`Error::Memory`].
     pub fn triangle_rows(&self, solid: impl Into<Option<Solid>>) -> Result<Vec<(Face, [Vertex; 3])>, Error> {
-        let solid = solid.into().unwrap_or_default();
-        triangle_rows(|rows, room| unsafe { gwb_sys::gwb_read_triangles(self.handle(), solid.0, rows, room) })
+        let solid = match number_of(solid) {
+            Some(solid) => solid,
+            None => return Ok(Vec::new()),
+        };
+        let rings = |face| self.rings(face).count();
+        let rings: usize = if solid == 0 { self.numbers().map(rings).sum() } else { self.faces(Solid(solid)).map(rings).sum() };
+        let half_edges = unsafe { gwb_sys::gwb_read_half_edges(self.handle(), solid, NonNull::dangling().as_ptr(), 0) };
+        triangle_rows(half_edges + 2 * rings, |rows, room| unsafe { gwb_sys::gwb_read_triangles(self.handle(), solid, rows, room) })
+    }
+
+    /// The lines of what is recorded and held, those of an open draft too: none before [`record`](crate::Operators::record).
+    #[must_use]
+    pub fn script(&self) -> String {
+        self.script_of(0..usize::MAX)
+    }
+
+    /// The lines of the recorded commands of these places, of which the first is 0 and an open draft the last. A command of a draft has a line for
+    /// each step; gwb.h says which lines no script has.
+    #[must_use]
+    pub fn script_of(&self, commands: Range<usize>) -> String {
+        let write = |buf, room| unsafe { gwb_sys::gwb_script(self.handle(), commands.start, commands.len(), buf, room) };
+        let mut lines = vec![0; write(NonNull::dangling().as_ptr(), 0)];
+        write(lines.as_mut_ptr(), lines.len());
+        String::from_utf8_lossy(&lines).into_owned()
+    }
+
+    /// How many recorded commands are held, an open draft counted as one.
+    #[must_use]
+    pub fn recorded(&self) -> usize {
+        unsafe { gwb_sys::gwb_recorded(self.handle()) }
+    }
+
+    /// A number that is another one whenever the model may have changed since.
+    #[must_use]
+    pub fn changes(&self) -> u64 {
+        unsafe { gwb_sys::gwb_changes(self.handle()) }
+    }
+
+    /// The faces of the block that the last command made. After another command they tell nothing.
+    #[must_use]
+    pub fn last_block(&self) -> Option<Block> {
+        let first = self.first_fresh_face()?;
+        Some(Block { top: Face(first), bottom: Face(first + 1), sides: [2, 3, 4, 5].map(|place| Face(first + place)) })
+    }
+
+    /// The faces of the lamina that the last command made, alike.
+    #[must_use]
+    pub fn last_lamina(&self) -> Option<Lamina> {
+        let first = self.first_fresh_face()?;
+        Some(Lamina { front: Face(first), back: Face(first + 1) })
+    }
+
+    fn first_fresh_face(&self) -> Option<u32> {
+        let fresh: gwb_sys::Range = self.found(|g, range| unsafe { gwb_sys::gwb_lent_fresh(g, Face::KIND, range) })?;
+        Some(fresh.first)
     }
 
     /// The greatest number of a kind in use, if any is: `greatest::<Edge>()`.
@@ -331,14 +392,15 @@ impl Readers {
     }
 }
 
-/// All triangles that a call writes, which is given more room where there are more.
-fn triangle_rows(write: impl Fn(*mut gwb_sys::TriangleRow, usize) -> usize) -> Result<Vec<(Face, [Vertex; 3])>, Error> {
-    let mut rows = vec![gwb_sys::TriangleRow::default(); 64];
-    let mut count = write(rows.as_mut_ptr(), rows.len());
-    if count != usize::MAX && count > rows.len() {
-        rows.resize(count, gwb_sys::TriangleRow::default());
-        count = write(rows.as_mut_ptr(), count);
-    }
+/// The number of a solid, 0 for all where none is given; none for the solid 0, which is never there.
+fn number_of(solid: impl Into<Option<Solid>>) -> Option<u32> {
+    solid.into().map_or(Some(0), |solid| Some(solid.0).filter(|&number| number != 0))
+}
+
+/// All triangles that a call writes, of which there are at most so many.
+fn triangle_rows(most: usize, write: impl Fn(*mut gwb_sys::TriangleRow, usize) -> usize) -> Result<Vec<(Face, [Vertex; 3])>, Error> {
+    let mut rows = vec![gwb_sys::TriangleRow::default(); most];
+    let count = write(rows.as_mut_ptr(), most);
     if count == usize::MAX {
         return Err(Error::Memory);
     }

@@ -32,6 +32,23 @@ impl From<gwb_sys::Point> for Point {
     }
 }
 
+/// The faces of a block: its top and bottom, where z is greatest and least, and its sides, where y is least, x greatest, y greatest, x least.
+#[derive(Clone, Copy, Debug, PartialEq, Eq)]
+#[allow(missing_docs)]
+pub struct Block {
+    pub top: Face,
+    pub bottom: Face,
+    pub sides: [Face; 4],
+}
+
+/// The faces of a lamina: round the front its points run counterclockwise as seen from outside.
+#[derive(Clone, Copy, Debug, PartialEq, Eq)]
+#[allow(missing_docs)]
+pub struct Lamina {
+    pub front: Face,
+    pub back: Face,
+}
+
 impl From<Point> for gwb_sys::Point {
     fn from(Point { x, y, z }: Point) -> Self {
         Self { x, y, z }

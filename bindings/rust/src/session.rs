@@ -25,7 +25,7 @@ use std::ops::{Deref, DerefMut};
 /// # Ok::<(), gwb::Error>(())
 /// ```
 pub struct Session {
-    operators: Operators,
+    operators: Box<Operators>,
 }
 
 // SAFETY, for all calls in this file: as in operators.rs.
@@ -33,7 +33,7 @@ impl Session {
     /// Opens a session that holds the empty model.
     ///
     /// # Errors
-    /// [`Error::Memory`].
+    /// [`Error::Memory`]; [`Error::OtherVersion`].
     pub fn new() -> Result<Self, Error> {
         Operators::new().map(|operators| Self { operators })
     }

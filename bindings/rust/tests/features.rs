@@ -44,7 +44,7 @@ fn pocket(session: &mut Session, is_through: bool) -> Solid {
 /// Two of them side by side, glued together.
 fn two_holes(session: &mut Session) -> Solid {
     let first = pocket(session, true);
-    let second = session.copy_solid(first, Motion::by([8, 0, 0])).unwrap();
+    let second = session.copy_solid(first, Motion::by([8, 0, 0])).unwrap().solid;
     let at_eight = |solid, sign: i128| {
         session.faces(solid).find(|&face| session.plane(face).map(|plane| plane.a * sign > 0 && plane.d == -8 * plane.a).unwrap()).unwrap()
     };
@@ -81,7 +81,7 @@ fn try_solid(make: impl Fn(&mut Session) -> Solid) {
         let mut session = Session::new().unwrap();
         let solid = make(&mut session);
         let (depth, before, wanted) = (session.depth(), session.listing().unwrap(), shape(&session, solid, motion));
-        let copy = session.copy_solid(solid, motion).unwrap();
+        let copy = session.copy_solid(solid, motion).unwrap().solid;
         assert_eq!((shape(&session, copy, Motion::default()), session.depth()), (wanted.clone(), depth + 1));
         assert_eq!(session.count(copy), session.count(solid));
         session.kill_solid(copy).unwrap();
@@ -111,7 +111,7 @@ fn in_a_draft_they_are_steps() {
     let mut session = Session::new().unwrap();
     let block = session.block(None, [0, 0, 0], [4, 4, 4]).unwrap();
     let mut draft = session.draft().unwrap();
-    let copy = draft.copy_solid(block, Motion::by([9, 0, 0])).unwrap();
+    let copy = draft.copy_solid(block, Motion::by([9, 0, 0])).unwrap().solid;
     let mark = draft.mark();
     draft.move_solid(copy, Motion::mirror(1)).unwrap();
     draft.kill_solid(block).unwrap();

@@ -1,11 +1,13 @@
 //! A session from outside: what commands make, what refuses them, and what readers find.
 use gwb::{
-    lone, minus, plus, version, Change, Draft, Edge, EdgeRow, Error, Face, FaceRow, HalfEdge, Heap, Loop, Notes, Operators, Plane, Point,
+    lone, minus, plus, version, Change, Draft, Edge, EdgeRow, Error, Face, FaceRow, HalfEdge, Heap, Loop, Motion, Notes, Operators, Plane, Point,
     Refusal, Session, Solid, Vertex,
 };
 use std::cell::Cell;
 use std::ffi::c_void;
 use std::ptr::NonNull;
+use std::sync::atomic::{AtomicBool, Ordering};
+use std::sync::Arc;
 
 const NO_POINTS: [Point; 0] = [];
 
@@ -382,11 +384,107 @@ fn colours_follow_splits() {
     }
     assert_eq!(counts, [(10, 12), (13, 18), (16, 23)]);
     let whole = colours.clone();
-    for turn in [Session::undo, Session::undo, Session::redo, Session::redo] {
-        let ((), changes) = session.followed(turn).unwrap();
-        colours.follow_turn(&changes);
+    for turn in [Session::followed_undo, Session::followed_undo, Session::followed_redo, Session::followed_redo] {
+        colours.follow(&turn(&mut session).unwrap());
     }
     assert!(colours.iter().eq(whole.iter()));
+}
+
+/// A number that comes again has the value that it had when it went by that command, and none of another command.
+#[test]
+fn numbers_used_again_have_no_colour() {
+    let mut session = block();
+    let mut colours = Notes::from([(Face(1), "red")]);
+    let follow = |session: &mut Session, colours: &mut Notes<_, _>, give: fn(&mut Session) -> Result<(), Error>| {
+        colours.follow(&session.followed(give).unwrap().1);
+    };
+    follow(&mut session, &mut colours, |session| session.kill_solid(Solid(1)));
+    follow(&mut session, &mut colours, |session| session.block(Solid(1), [9, 9, 9], [4, 4, 4]).map(drop));
+    follow(&mut session, &mut colours, |session| session.kill_solid(Solid(1)));
+    colours.follow(&session.followed_undo().unwrap());
+    assert_eq!(colours.iter().count(), 0);
+    colours.follow(&session.followed_undo().unwrap());
+    colours.follow(&session.followed_undo().unwrap());
+    assert_eq!((colours.get(Face(1)), colours.iter().count()), (Some(&"red"), 1));
+}
+
+/// What is accepted before a refusal is followed; walls are no parts of the face that is moved; a copy has the values of what it is of.
+#[test]
+fn what_notes_follow() {
+    let mut session = block();
+    let mut colours = Notes::from([(Face(1), "red"), (Face(3), "blue")]);
+    let (error, changes) = session
+        .followed(|session| session.split(Solid(1), [0, 0, 1, -2], None).and_then(|_| session.split(Solid(1), [0, 0, 1, -9], None)))
+        .unwrap_err();
+    colours.follow(&changes);
+    assert_eq!((Err(error), colours.iter().count()), (refused::<()>(Refusal::PlaneMisses, 1), 3));
+    colours.follow(&session.followed(|session| session.sweep(Face(1), [0, 0, 3])).unwrap().1);
+    assert_eq!(colours.iter().count(), 3);
+    let (copy, changes) = session.followed(|session| session.copy_solid(Solid(1), Motion::by([20, 0, 0]))).unwrap();
+    colours.follow(&changes);
+    colours.copied(|face| copy.face(face));
+    assert_eq!((colours.get(copy.face(Face(3)).unwrap()), colours.iter().count()), (Some(&"blue"), 4));
+    assert_eq!(session.followed_redo().map(drop), refused(Refusal::NothingToRedo, 0));
+}
+
+#[test]
+fn marks_are_of_their_draft() {
+    let mut session = block();
+    let mut draft = session.draft().unwrap();
+    draft.block(None, [9, 0, 0], [4, 4, 4]).unwrap();
+    let committed = draft.mark();
+    draft.commit().unwrap();
+    let mut draft = session.draft().unwrap();
+    let first = draft.mark();
+    draft.block(None, [18, 0, 0], [4, 4, 4]).unwrap();
+    let late = draft.mark();
+    assert_eq!((draft.back(committed), draft.numbers::<Solid>().count()), (Err(Error::NoDraft), 3));
+    draft.back(first).unwrap();
+    draft.block(None, [27, 0, 0], [4, 4, 4]).unwrap();
+    draft.block(None, [36, 0, 0], [4, 4, 4]).unwrap();
+    assert_eq!((draft.back(late), draft.numbers::<Solid>().count()), (Err(Error::NoDraft), 4));
+    draft.back(first).unwrap();
+    assert_eq!(draft.numbers::<Solid>().count(), 2);
+}
+
+#[test]
+fn a_record_and_a_stop() {
+    let mut session = Session::new().unwrap();
+    assert_eq!((session.script(), session.recorded()), (String::new(), 0));
+    session.record().unwrap();
+    let block = session.block(None, [0, 0, 0], [4, 4, 4]).unwrap();
+    assert_eq!(session.last_block().map(|made| (made.top, made.sides[3])), Some((Face(1), Face(6))));
+    let flag = Arc::new(AtomicBool::new(true));
+    session.stop_when(Some(flag.clone()));
+    let (changes, outline) = (session.changes(), [[1, 1, 4], [3, 1, 4], [3, 3, 4]]);
+    assert_eq!(session.pocket(Face(1), &outline, 2).map(drop), Err(Error::Stopped));
+    assert_eq!(session.off_lattice(block, [2, 0, 0, -3], 3).map(drop), Err(Error::Stopped));
+    flag.store(false, Ordering::Relaxed);
+    assert!(session.pocket(Face(1), &outline, 2).is_ok() && session.changes() > changes);
+    session.stop_when(None);
+    assert_eq!((session.recorded(), session.script_of(0..1)), (2, "block 1 0 0 0 4 4 4\n".to_owned()));
+    let mut other = Session::new().unwrap();
+    other.run_lines(&session.script()).unwrap();
+    assert_eq!(other.listing(), session.listing());
+    assert_eq!(other.record(), Err(Error::NoCall));
+}
+
+#[test]
+fn what_is_made_has_names() {
+    let mut session = block();
+    let cut = session.split_solid(Solid(1), [0, 0, 1, -2], None).unwrap();
+    let normal = |session: &Session, face| session.plane(face).unwrap().c.signum();
+    assert_eq!((cut.lower_caps.len(), normal(&session, cut.lower_caps[0]), normal(&session, cut.upper_caps[0])), (1, 1, -1));
+    let copy = session.copy_solid(cut.above, Motion::mirror(2)).unwrap();
+    let cap = copy.face(cut.upper_caps[0]).unwrap();
+    assert_eq!((session.face(cap).map(|row| row.solid), normal(&session, cap)), (Some(copy.solid), 1));
+    let side = session.around(session.face(cut.upper_caps[0]).unwrap().outer_loop).next().unwrap();
+    let made = copy.half_edge(side).unwrap();
+    assert_eq!(session.start_of(made), copy.vertex(session.start_of(side).unwrap()));
+    assert_eq!((session.end_of(made), copy.edge(side.edge())), (copy.vertex(session.end_of(side).unwrap()), Some(made.edge())));
+    assert_eq!((copy.face(Face(999)), session.half_edge_rows(Solid(0)).len(), session.triangle_rows(Solid(0))), (None, 0, Ok(vec![])));
+    session.lamina(None, &[[20, 0, 0], [24, 0, 0], [20, 4, 0]]).unwrap();
+    assert!(session.last_lamina().map_or(false, |sheet| normal(&session, sheet.front) == 1));
 }
 
 #[test]
@@ -395,7 +493,8 @@ fn what_operators_did_is_known() {
     let (_, changes) = session.followed(|session| session.mef(plus(Edge(7)), plus(Edge(11)), Edge(20), Face(20), Loop(20))).unwrap();
     assert_eq!(changes.faces.made, [Change { id: Face(20), other: Some(Face(1)) }]);
     assert_eq!((changes.edges.made, changes.edges.removed), (vec![Change { id: Edge(20), other: None }], vec![]));
-    assert_eq!(session.followed(|session| session.kvfs(Solid(1))), refused(Refusal::NotBare, 1));
+    let (error, changes) = session.followed(|session| session.kvfs(Solid(1))).unwrap_err();
+    assert_eq!((Err(error), changes.faces.made.len()), (refused::<()>(Refusal::NotBare, 1), 0));
     let after = session.next(minus(Edge(7))).unwrap();
     let ends = session.edge(Edge(7)).map(|row| (session.vertex(row.from).unwrap(), session.vertex(row.to).unwrap())).unwrap();
     let middle = [(ends.0.x + ends.1.x) / 2, (ends.0.y + ends.1.y) / 2, (ends.0.z + ends.1.z) / 2];

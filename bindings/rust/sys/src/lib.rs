@@ -82,6 +82,26 @@ pub struct Heap {
     pub user: *mut c_void,
 }
 
+/// Whether work is to end, which is asked often while it is done.
+pub type Stop = unsafe extern "C" fn(user: *mut c_void) -> bool;
+
+/// What is to be said of a cut; it is seen by its calls alone.
+#[repr(C)]
+#[derive(Debug)]
+pub struct Advice {
+    hidden: [u8; 0],
+}
+
+/// A plane beside another one.
+#[repr(C)]
+#[derive(Clone, Copy, Debug, Default, PartialEq)]
+#[allow(missing_docs)]
+pub struct NearPlane {
+    pub plane: CutPlane,
+    pub is_parallel: bool,
+    pub moved: f64,
+}
+
 /// What a reader says where it has written its value.
 pub const FOUND: u32 = 1;
 
@@ -199,6 +219,26 @@ rows! {
         #[allow(missing_docs)]
         base: u32
     }
+    /// The plane a x + b y + c z + d = 0.
+    CutPlane {
+        #[allow(missing_docs)]
+        a: i64,
+        #[allow(missing_docs)]
+        b: i64,
+        #[allow(missing_docs)]
+        c: i64,
+        #[allow(missing_docs)]
+        d: i64
+    }
+    /// An edge that a plane cuts, and where: three fractions.
+    EdgeCut {
+        #[allow(missing_docs)]
+        edge: u32,
+        #[allow(missing_docs)]
+        numerators: [Wide; 3],
+        #[allow(missing_docs)]
+        denominators: [Wide; 3]
+    }
     /// What a feature of an outline makes.
     OutlineMade {
         #[allow(missing_docs)]
@@ -305,6 +345,21 @@ extern "C" {
     pub fn gwb_load(g: *mut Gwb, listing: *const u8, n: usize, refusal: *mut Refusal) -> u32;
     pub fn gwb_lines(g: *mut Gwb, script: *const u8, n: usize, line: *mut usize) -> u32;
     pub fn gwb_greatest_number(g: *const Gwb, entity: u32) -> usize;
+
+    pub fn gwb_changes(g: *const Gwb) -> u64;
+    pub fn gwb_record(g: *mut Gwb) -> u32;
+    pub fn gwb_recorded(g: *const Gwb) -> usize;
+    pub fn gwb_script(g: *const Gwb, first: usize, n: usize, buf: *mut u8, room: usize) -> usize;
+    pub fn gwb_stop_by(g: *mut Gwb, stop: Option<Stop>, user: *mut c_void);
+
+    pub fn gwb_split_solid(g: *mut Gwb, solid: u32, plane: *const CutPlane, above: u32, why: *mut Refusal) -> u32;
+    pub fn gwb_off_lattice(g: *const Gwb, solid: u32, plane: *const CutPlane, most: usize, advice: *mut *mut Advice, why: *mut Refusal) -> u32;
+    pub fn gwb_advice_free(advice: *mut Advice);
+    pub fn gwb_advice_factor(advice: *const Advice) -> Wide;
+    pub fn gwb_advice_fits(advice: *const Advice) -> bool;
+    pub fn gwb_advice_cuts(advice: *const Advice, rows: *mut EdgeCut, room: usize) -> usize;
+    pub fn gwb_advice_planes(advice: *const Advice, rows: *mut NearPlane, room: usize) -> usize;
+    pub fn gwb_advice_text(advice: *const Advice, above: u32, buf: *mut u8, room: usize) -> usize;
 
     pub fn gwb_made(g: *const Gwb, list: u32, buf: *mut u32, room: usize) -> usize;
     pub fn gwb_kill_solid(g: *mut Gwb, solid: u32, why: *mut Refusal) -> u32;
