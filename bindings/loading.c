@@ -1,11 +1,11 @@
 /* Models made of their listings. What a listing says is taken apart, as a table, by operators whose inverses are written down; these, the last
  * one first, make it with its very numbers. Rings become faces; edges between two faces go; leaves go; where no edge has either, one goes
- * that opens a handle, and what it cuts off is a face. At last there are faces of one vertex. */
+ * that opens a handle, and what it cuts off is a face. At last there are faces of one vertex. To find the steps takes time n log n. */
 #include "beside.h"
 #include "lists.h"
+#include "trees.h"
 #include "walks.h"
 #include <stdlib.h>
-
 
 /* ---- a listing as a table. All numbers of a kind rise. */
 
@@ -188,7 +188,7 @@ static int read_table(const char *listing, size_t n, struct table *table)
             kind++;
         }
     }
-    claim_text(&text, text.at == text.end);
+    claim_text(&text, n != 0 && text.at == text.end);
     return text.outcome;
 }
 
@@ -217,6 +217,7 @@ struct parts {
     uint32_t *next, *before, *node; /* of each half-edge */
     uint32_t *left;                 /* the places of edges that are not gone */
     bool *is_gone;                  /* of each edge */
+    struct tree_node *loops;        /* where handles go: of each half-edge, 1 further, in the tree of its loop, whose root has the loop's node */
     struct list nodes, roots, steps;
     uint32_t face, loop, edge;     /* spare numbers for what is gone again at once */
     uint32_t last_face, last_loop; /* the last spare numbers that were given */
@@ -257,14 +258,30 @@ static void add_root(struct parts *p, const struct node *node, uint32_t vertex)
         p->outcome = NO_MEMORY;
 }
 
-/* The loop in which a half-edge stands now. */
-static struct node *loop_at(struct parts *p, uint32_t half_edge)
+/* The node of the loop in which a half-edge stands, as long as no handle has gone. */
+static uint32_t united_node(struct parts *p, uint32_t half_edge)
 {
     struct node *nodes = p->nodes.items;
     uint32_t at = p->node[half_edge];
     while (nodes[at].parent != at)
         at = nodes[at].parent = nodes[nodes[at].parent].parent;
-    return &nodes[at];
+    return at;
+}
+
+/* The same where handles go: the half-edge comes to the root of its loop's tree. */
+static uint32_t node_at_root(struct parts *p, uint32_t half_edge)
+{
+    uint32_t root = half_edge + 1;
+    while (p->loops[root].parent != 0)
+        root = p->loops[root].parent;
+    tree_splay(p->loops, half_edge + 1);
+    return p->node[half_edge] = p->node[root - 1];
+}
+
+/* The loop in which a half-edge stands now. */
+static struct node *loop_at(struct parts *p, uint32_t half_edge)
+{
+    return (struct node *)p->nodes.items + (p->loops != NULL ? node_at_root(p, half_edge) : united_node(p, half_edge));
 }
 
 /* The least number above one that neither the listing nor the model has. */
@@ -368,22 +385,6 @@ static void twig_out(struct parts *p, uint32_t half_edge)
     }
 }
 
-/* An edge with one loop on both sides goes, and what lies behind it is the loop of a spare face. */
-static void handle_out(struct parts *p, uint32_t first)
-{
-    struct node ring = *loop_at(p, first);
-    uint32_t at = p->next[first], start = at;
-    add_step(p, (struct step){MEKR, {number_of(p, p->next[first + 1]), number_of(p, at), edge_of(p, first)->number}});
-    ring.loop = spare_loop(p);
-    ring_out(p, &ring);
-    unlink_edge(p, first);
-    uint32_t node = add_node(p, ring);
-    do {
-        p->node[at] = node;
-        at = p->next[at];
-    } while (at != start);
-}
-
 /* Edges between two faces go: how many others are left. */
 static size_t faces_out(struct parts *p, size_t count)
 {
@@ -413,14 +414,131 @@ static size_t twigs_out(struct parts *p, size_t count)
     return kept;
 }
 
+/* An edge with one loop on both sides goes, and what lies behind it is the loop of a spare face. */
+static void handle_out(struct parts *p, uint32_t first)
+{
+    struct node ring = *loop_at(p, first);
+    uint32_t loop = p->node[first];
+    add_step(p, (struct step){MEKR, {number_of(p, p->next[first + 1]), number_of(p, p->next[first]), edge_of(p, first)->number}});
+    ring.loop = spare_loop(p);
+    ring_out(p, &ring);
+    unlink_edge(p, first);
+    uint32_t one = first + 1, other = first + 2, after = tree_split(p->loops, one);
+    tree_splay(p->loops, other);
+    bool is_after = p->loops[one].parent == 0;
+    uint32_t rest = tree_split(p->loops, other);
+    uint32_t behind = is_after ? other : tree_join(p->loops, after, other), before = is_after ? tree_join(p->loops, one, rest) : rest;
+    p->node[behind - 1] = add_node(p, ring);
+    p->node[before - 1] = loop;
+}
+
+/* An edge between two loops goes, which are one then. */
+static void border_out(struct parts *p, uint32_t first)
+{
+    uint32_t one = first + 1, other = first + 2, after_one = tree_split(p->loops, one), after_other = tree_split(p->loops, other);
+    uint32_t loop = p->node[first];
+    struct node *nodes = p->nodes.items;
+    face_out(p, first, &nodes[loop], &nodes[p->node[first + 1]]);
+    uint32_t root = tree_join(p->loops, tree_join(p->loops, tree_join(p->loops, one, after_other), other), after_one);
+    p->node[root - 1] = loop;
+}
+
+/* Puts the half-edges of a loop into a tree, from one of them on, and writes down their places. */
+static void plant(struct parts *p, uint32_t half_edge, uint32_t *places)
+{
+    uint32_t at = half_edge, root = 0, place = 0, node = united_node(p, half_edge);
+    do {
+        p->loops[at + 1] = (struct tree_node){0, {0, 0}};
+        if (root != 0)
+            tree_hang(p->loops, at + 1, 0, root);
+        root = at + 1;
+        p->node[at] = node;
+        places[at] = place++;
+        at = p->next[at];
+    } while (at != half_edge);
+}
+
+/* Puts the loops of all edges left into trees. What hangs nowhere yet has itself as its parent. */
+static void plant_all(struct parts *p, size_t count, uint32_t *places)
+{
+    for (size_t i = 0; i < 2 * count; i++) {
+        uint32_t half_edge = 2 * p->left[i / 2] + i % 2;
+        p->loops[half_edge + 1].parent = half_edge + 1;
+    }
+    for (size_t i = 0; i < 2 * count; i++) {
+        uint32_t half_edge = 2 * p->left[i / 2] + i % 2;
+        if (p->loops[half_edge + 1].parent == half_edge + 1)
+            plant(p, half_edge, places);
+    }
+}
+
+/* An edge left, and how far apart its half-edges are in their loop. */
+struct reach {
+    uint32_t length, edge;
+};
+
+static int by_length(const void *one, const void *other)
+{
+    const struct reach *a = one, *b = other;
+    return a->length != b->length ? (a->length > b->length) - (a->length < b->length) : (a->edge > b->edge) - (a->edge < b->edge);
+}
+
+/* Puts the edges left into the order in which they go: those that cut little off first, as the model is made the faster then. */
+static void sort_left(struct parts *p, size_t count, const uint32_t *places)
+{
+    struct list reaches = {.size = sizeof(struct reach)};
+    for (size_t i = 0; i < count && p->outcome == SOUND; i++) {
+        uint32_t edge = p->left[i], one = places[2 * edge], other = places[2 * edge + 1];
+        if (!list_add(&reaches, &(struct reach){one > other ? one - other : other - one, edge}))
+            p->outcome = NO_MEMORY;
+    }
+    if (p->outcome == SOUND)
+        qsort(reaches.items, count, sizeof(struct reach), by_length);
+    for (size_t i = 0; i < count && p->outcome == SOUND; i++)
+        p->left[i] = ((struct reach *)reaches.items)[i].edge;
+    list_free(&reaches);
+}
+
+/* An edge goes that has no leaf, and with it those that have one then. */
+static void edge_out(struct parts *p, uint32_t first)
+{
+    uint32_t before = p->before[first], before_other = p->before[first + 1];
+    if (loop_at(p, first) == loop_at(p, first + 1))
+        handle_out(p, first);
+    else
+        border_out(p, first);
+    if (p->outcome != SOUND)
+        return;
+    twig_out(p, before);
+    twig_out(p, before_other);
+}
+
+/* Of the edges left, one that opens a handle goes, then one that the two loops have between them, and so on; and those that have a leaf then. */
+static void handles_out(struct parts *p, size_t count)
+{
+    size_t half_edges = 2 * p->table->edges.count;
+    struct tried block = rattle_alloc((half_edges + 1) * (sizeof(struct tree_node) + sizeof(uint32_t)), 16);
+    if (!block.ok) {
+        p->outcome = NO_MEMORY;
+        return;
+    }
+    p->loops = block.at;
+    p->loops[0] = (struct tree_node){0, {0, 0}};
+    uint32_t *places = (uint32_t *)(p->loops + half_edges + 1);
+    plant_all(p, count, places);
+    sort_left(p, count, places);
+    for (size_t i = 0; i < count && p->outcome == SOUND; i++)
+        if (!p->is_gone[p->left[i]])
+            edge_out(p, 2 * p->left[i]);
+    rattle_dealloc(block.at);
+    p->loops = NULL;
+}
+
 static void edges_out(struct parts *p)
 {
-    size_t count = p->table->edges.count;
-    while (p->outcome == SOUND && count != 0) {
-        count = twigs_out(p, faces_out(p, count));
-        if (count != 0 && p->outcome == SOUND)
-            handle_out(p, 2 * p->left[--count]);
-    }
+    size_t count = p->outcome == SOUND ? twigs_out(p, faces_out(p, p->table->edges.count)) : 0;
+    if (count != 0 && p->outcome == SOUND)
+        handles_out(p, count);
 }
 
 /* The faces of one vertex that a solid has from a place of `roots` on go, but for the first, and then the solid: where the next solid begins. */

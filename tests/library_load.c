@@ -1,5 +1,6 @@
 /* Loads listings (gwb_load) with one thing or another changed in them: what is accepted has just this listing, and what isn't leaves the
- * session as it was. Then each request for memory is refused in turn. The last line is 'N passed, M failed'. */
+ * session as it was. Then each request for memory is refused in turn. Random maps of many handles are loaded too. The last line is 'N passed, M
+ * failed'. */
 #include "gwb.h"
 #include <stdio.h>
 #include <stdlib.h>
@@ -132,6 +133,115 @@ static void try_model(size_t model)
     gwb_close(&g);
 }
 
+/* ---- random maps: a connected graph, and an order of the half-edges round each vertex, which makes loops */
+
+enum { EDGES = 4000, LISTING = 1 << 18 };
+
+struct map {
+    uint32_t vertices, edges, faces, loops;
+    uint32_t ends[2 * EDGES];  /* the vertex at which each half-edge starts, of edge 0 on */
+    uint32_t after[2 * EDGES]; /* the half-edge after each round its vertex, and then in its loop */
+    uint32_t loop[2 * EDGES], face[2 * EDGES];
+};
+
+/* Edges between random vertices, each of which has one to an earlier vertex. */
+static void draw_edges(struct map *map, uint32_t vertices, uint32_t edges)
+{
+    map->vertices = vertices, map->edges = edges;
+    for (uint32_t i = 0; i < edges; i++) {
+        uint32_t one = i + 1 < vertices ? i + 1 : random_below(vertices), other = random_below(i + 1 < vertices ? i + 1 : vertices);
+        map->ends[2 * i] = one;
+        map->ends[2 * i + 1] = other != one ? other : (one + 1) % vertices;
+    }
+}
+
+/* Puts each half-edge at a random place into the order round its vertex, and makes of these orders those of the loops. */
+static void draw_orders(struct map *map)
+{
+    static uint32_t round[2 * EDGES];
+    uint32_t last[EDGES + 1];
+    memset(last, 0xff, sizeof last);
+    for (uint32_t i = 0; i < 2 * map->edges; i++) {
+        uint32_t at = last[map->ends[i]];
+        for (uint32_t steps = at != UINT32_MAX ? random_below(5) : 0; steps > 0; steps--)
+            at = round[at];
+        round[i] = at != UINT32_MAX ? round[at] : i;
+        round[at != UINT32_MAX ? at : i] = i;
+        last[map->ends[i]] = i;
+    }
+    for (uint32_t i = 0; i < 2 * map->edges; i++)
+        map->after[i] = round[i ^ 1];
+}
+
+/* Numbers the loops by their least half-edges; some are rings of the last face. */
+static void draw_faces(struct map *map)
+{
+    memset(map->loop, 0, sizeof map->loop);
+    map->loops = map->faces = 0;
+    for (uint32_t i = 0; i < 2 * map->edges; i++) {
+        if (map->loop[i] != 0)
+            continue;
+        map->faces += map->faces == 0 || random_below(4) != 0;
+        map->face[map->loops++] = map->faces;
+        for (uint32_t at = i; map->loop[at] == 0; at = map->after[at])
+            map->loop[at] = map->loops;
+    }
+}
+
+static char *write_map_loops(const struct map *map, char *at)
+{
+    uint32_t written = 0;
+    for (uint32_t i = 0; i < 2 * map->edges; i++) {
+        if (map->loop[i] <= written)
+            continue;
+        at += sprintf(at, "loop %u", ++written);
+        uint32_t half_edge = i;
+        do {
+            at += sprintf(at, " %c%u", half_edge % 2 == 0 ? '+' : '-', half_edge / 2 + 1);
+            half_edge = map->after[half_edge];
+        } while (half_edge != i);
+        *at++ = '\n';
+    }
+    return at;
+}
+
+static size_t write_map(const struct map *map, char *text)
+{
+    char *at = text + sprintf(text, "solid 1");
+    for (uint32_t i = 0; i < map->loops; i++)
+        at += i == 0 || map->face[i] != map->face[i - 1] ? sprintf(at, "\nface %u 1 %u", map->face[i], i + 1) : sprintf(at, " %u", i + 1);
+    *at++ = '\n';
+    at = write_map_loops(map, at);
+    for (uint32_t i = 0; i < map->edges; i++)
+        at += sprintf(at, "edge %u %u %u\n", i + 1, map->ends[2 * i] + 1, map->ends[2 * i + 1] + 1);
+    for (uint32_t i = 0; i < map->vertices; i++)
+        at += sprintf(at, "vertex %u %u %u 0\n", i + 1, random_below(100), i);
+    return (size_t)(at - text);
+}
+
+static void try_map(uint32_t vertices, uint32_t edges, bool is_refused)
+{
+    static struct map map;
+    static char text[LISTING], found[LISTING];
+    gwb g = {0};
+    gwb_refusal refusal;
+    draw_edges(&map, vertices, edges), draw_orders(&map), draw_faces(&map);
+    size_t length = write_map(&map, text);
+    bool is_loaded = gwb_open(&g) && gwb_load(&g, text, length, &refusal) == GWB_OK && gwb_depth(&g) == 1;
+    check(is_loaded && gwb_read_listing(&g, found, sizeof found) == length && memcmp(text, found, length) == 0, "a map");
+    gwb_close(&g);
+    if (is_refused)
+        try_refused(text, length);
+}
+
+static void try_maps(void)
+{
+    for (long i = 0; i < changes / 8 + 4; i++)
+        try_map(2 + random_below(8), 9 + random_below(30), i % 50 == 0);
+    for (uint32_t i = 0; i < 4; i++)
+        try_map(2 + i * i * i * 100, EDGES, false);
+}
+
 static void try_lines(void)
 {
     static const char script[] = "# a comment\nblock 1 0 0 0 4 4 4\n\nkvfs 1\nundo\n";
@@ -141,6 +251,8 @@ static void try_lines(void)
     check(gwb_lines(&g, script, sizeof script - 1, &line) == GWB_CLOSED && line == 0, "a closed handle");
     check(gwb_open(&g) && gwb_lines(&g, script, sizeof script - 1, &line) == GWB_REFUSED && line == 4 && gwb_depth(&g) == 1, "a script up to its line 4");
     check(gwb_load(&g, "solid 1\n", 8, &refusal) == GWB_NO_CALL && gwb_depth(&g) == 1, "a solid without a face");
+    check(gwb_load(&g, "", 0, &refusal) == GWB_NO_CALL && gwb_load(&g, "\n", 1, &refusal) == GWB_NO_CALL && gwb_depth(&g) == 1, "no line");
+    check(gwb_load(&g, "empty\n", 6, &refusal) == GWB_OK && gwb_depth(&g) == 2 && gwb_undo(&g) == GWB_OK, "the empty model");
     check(gwb_draft(&g) == GWB_OK && gwb_load(&g, "solid 2\nface 9 2 9\nloop 9 at 9\nvertex 9 1 2 3\n", 46, &refusal) == GWB_OK, "a vertex in a draft");
     check(gwb_mark(&g) == 1 && gwb_load(&g, "solid 1\nface 8 1 8\nloop 8 at 8\nvertex 8 1 2 3\n", 46, &refusal) == GWB_REFUSED && refusal.value == 1 &&
               gwb_mark(&g) == 1,
@@ -153,6 +265,7 @@ int main(int count, char **words)
 {
     changes = count > 1 ? atol(words[1]) : changes;
     try_lines();
+    try_maps();
     for (size_t model = 0; model < sizeof scripts / sizeof *scripts; model++)
         try_model(model);
     printf("%d passed, %d failed\n", passed, failed);
