@@ -4,6 +4,7 @@
  * lie next to each other on the line are tested, so no two that cross are missed (M. Shamos, D. Hoey: Geometric intersection problems, 1976).
  * Coordinates lie within 1,000,000,000, so that each test fits in 64 bits. */
 #include "lists.h"
+#include "trees.h"
 #include "walks.h"
 #include <stdlib.h>
 
@@ -37,14 +38,13 @@ struct link {
     uint32_t corner, before;
 };
 
-/* A span. Behind a corner at which two became one it has both of their chains, until the next corner. All spans are a treap. The one at place
- * 0 lies below all and is none: the tree hangs at it. */
+/* A span. Behind a corner at which two became one it has both of their chains, until the next corner. The one at place 0 is none: it lies
+ * below all, and above all. */
 struct span {
     uint32_t edges[2];
     struct chain chains[2]; /* the first of them alone, or those at its floor and its ceiling */
     bool has_both;
     uint32_t neighbours[2]; /* the spans below it and above it */
-    uint32_t parent, children[2], rank;
 };
 
 enum { NO_LINK = UINT32_MAX };
@@ -54,9 +54,10 @@ enum outcome { CUT, UNCUT, NO_MEMORY };
 struct cutting {
     const gwb *g;
     struct list halves, corners, events, links, spans;
-    int x, y;             /* the coordinates that are its x and y as it is seen from its front */
-    size_t loops;         /* of the face, but for those of one vertex */
-    uint32_t rank;        /* the last rank that was drawn */
+    struct list tree; /* the spans from below, at their places */
+    uint32_t root;
+    int x, y;     /* the coordinates that are its x and y as it is seen from its front */
+    size_t loops; /* of the face, but for those of one vertex */
     gwb_triangle_row *rows;
     size_t room, count;
     uint32_t face;
@@ -118,57 +119,45 @@ static bool passes_below(const struct cutting *c, uint32_t floor, uint32_t edge)
 
 /* ---- the spans, from below */
 
-/* Turns the tree, so that a span bears the one that bore it. */
-static void raise(struct cutting *c, uint32_t place)
-{
-    uint32_t below = span_at(c, place)->parent, parent = span_at(c, below)->parent;
-    int side = span_at(c, below)->children[1] == place;
-    uint32_t moved = span_at(c, place)->children[!side];
-    span_at(c, parent)->children[span_at(c, parent)->children[1] == below] = place;
-    span_at(c, below)->children[side] = moved;
-    span_at(c, moved)->parent = below;
-    span_at(c, place)->children[!side] = below;
-    span_at(c, below)->parent = place;
-    span_at(c, place)->parent = parent;
-}
-
 /* Adds a span, next above another. */
 static uint32_t add_span(struct cutting *c, uint32_t below)
 {
+    struct tree_node *tree = c->tree.items;
     uint32_t place = (uint32_t)c->spans.count++, above = span_at(c, below)->neighbours[1];
-    bool is_free = span_at(c, below)->children[1] == 0;
-    c->rank ^= c->rank << 13, c->rank ^= c->rank >> 17, c->rank ^= c->rank << 5;
-    *span_at(c, place) = (struct span){.neighbours = {below, above}, .parent = is_free ? below : above, .rank = c->rank >> 1};
+    *span_at(c, place) = (struct span){.neighbours = {below, above}};
     span_at(c, below)->neighbours[1] = span_at(c, above)->neighbours[0] = place;
-    span_at(c, is_free ? below : above)->children[is_free] = place;
-    while (span_at(c, span_at(c, place)->parent)->rank < span_at(c, place)->rank)
-        raise(c, place);
+    tree[place] = (struct tree_node){0, {0, 0}};
+    tree_hang(tree, place, 1, below != 0 ? tree_split(tree, below) : c->root);
+    tree_hang(tree, place, 0, below);
+    c->root = place;
     return place;
 }
 
 static void remove_span(struct cutting *c, uint32_t place)
 {
-    struct span *span = span_at(c, place), *children[2];
-    while (span->children[0] != 0 || span->children[1] != 0) {
-        children[0] = span_at(c, span->children[0]), children[1] = span_at(c, span->children[1]);
-        bool second = span->children[0] == 0 || (span->children[1] != 0 && children[1]->rank > children[0]->rank);
-        raise(c, span->children[second]);
-    }
-    struct span *parent = span_at(c, span->parent);
-    parent->children[parent->children[1] == place] = 0;
-    span_at(c, span->neighbours[0])->neighbours[1] = span->neighbours[1];
-    span_at(c, span->neighbours[1])->neighbours[0] = span->neighbours[0];
+    struct tree_node *tree = c->tree.items;
+    const struct span *span = span_at(c, place);
+    uint32_t below = span->neighbours[0], above = span->neighbours[1], after = tree_split(tree, place), before = tree[place].children[0];
+    tree[before].parent = 0;
+    c->root = tree_join(tree, before, after);
+    span_at(c, below)->neighbours[1] = above;
+    span_at(c, above)->neighbours[0] = below;
 }
 
 /* The last span whose floor passes below an edge that begins at the line: 0 where none does. */
-static uint32_t span_below(const struct cutting *c, uint32_t edge)
+static uint32_t span_below(struct cutting *c, uint32_t edge)
 {
-    uint32_t found = 0, at = span_at(c, 0)->children[1];
-    while (at != 0) {
+    struct tree_node *tree = c->tree.items;
+    uint32_t found = 0, last = c->root;
+    for (uint32_t at = c->root; at != 0;) {
         bool is = passes_below(c, span_at(c, at)->edges[FLOOR], edge);
         found = is ? at : found;
-        at = span_at(c, at)->children[is];
+        last = at;
+        at = tree[at].children[is];
     }
+    if (last != 0)
+        tree_splay(tree, last);
+    c->root = last;
     return found;
 }
 
@@ -428,16 +417,19 @@ static bool read_half_edges(struct cutting *c)
 }
 
 /* Makes room for all that the half-edges of a face ask for: each corner is added to chains four times at most, and at most every second one
- * begins a span. */
+ * begins a span, besides the one that is none. */
 static bool make_room(struct cutting *c)
 {
     size_t count = c->halves.count;
     c->corners.count = c->events.count = c->links.count = c->loops = 0;
     bool has_room = list_reserve(&c->corners, count) && list_reserve(&c->events, count) && list_reserve(&c->links, 4 * count) &&
-                    list_reserve(&c->spans, count / 2 + 2);
-    if (has_room)
-        *span_at(c, 0) = (struct span){.rank = UINT32_MAX};
+                    list_reserve(&c->spans, count / 2 + 1) && list_reserve(&c->tree, count / 2 + 1);
+    if (has_room) {
+        *span_at(c, 0) = (struct span){.has_both = false};
+        *(struct tree_node *)c->tree.items = (struct tree_node){0, {0, 0}};
+    }
     c->spans.count = 1;
+    c->root = 0;
     return has_room;
 }
 
@@ -477,12 +469,12 @@ static struct cutting begin(const gwb *g, gwb_triangle_row *rows, size_t room)
 {
     return (struct cutting){.g = g, .halves = {.size = sizeof(gwb_half_edge_row)}, .corners = {.size = sizeof(struct corner)},
                             .events = {.size = sizeof(struct event)}, .links = {.size = sizeof(struct link)},
-                            .spans = {.size = sizeof(struct span)}, .rank = 1, .rows = rows, .room = room};
+                            .spans = {.size = sizeof(struct span)}, .tree = {.size = sizeof(struct tree_node)}, .rows = rows, .room = room};
 }
 
 static void finish(struct cutting *c)
 {
-    struct list *lists[] = {&c->halves, &c->corners, &c->events, &c->links, &c->spans};
+    struct list *lists[] = {&c->halves, &c->corners, &c->events, &c->links, &c->spans, &c->tree};
     for (size_t i = 0; i < sizeof lists / sizeof *lists; i++)
         list_free(lists[i]);
 }
