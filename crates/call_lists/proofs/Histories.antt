@@ -1,18 +1,19 @@
--- A list of calls is a history.
-use Rattle.std.proofs.Common.{◌≡◌, suc, inl, inr, Option, List, [], ◌∷◌, refl, sym, ap, subst, ◌∙◌}
-use Rattle.call_lists.specs.Common.{Call, Change, Command, Commit, DraftJournal, DraftState, Drafting, Give, IsCall, IsFurther, IsWhole, Machine, Mark, MayLack, Op, Open, Refusal, Session, Stage, Tells, TellsDraft, Told, accepted, after_calls, commit, draft_step, held, made, open_draft, plain, refusal_of, tried, unless}
+-- A call of a session or a draft is one of a history.
+use Rattle.std.proofs.Common.{◌≡◌, inl, inr, Option, List, [], ◌∷◌, refl, sym, ap, subst, ◌∙◌}
+use Rattle.call_lists.specs.Common.{Call, Change, Command, Commit, DraftJournal, DraftState, Drafting, Give, IsCall, IsFurther, IsWhole, Machine, Mark, MayLack, Op, Open, Refusal, Session, Stage, Tells, TellsDraft, Told, accepted, commit, draft_step, held, made, open_draft, plain, refusal_of, tried, unless}
 use Rattle.euler_laws.specs.Laws.{AreAccepted, effects}
 use Rattle.undo_journal.specs.Histories as histories
 use Rattle.undo_journal.proofs.Journals.{same_machine}
+use Rattle.undo_journal.proofs.Marks.{further_session}
 use Rattle.commands.specs.Calls.{CommandsAreCalls}
 use Rattle.commands.proofs.Calls.{stopped}
 use Rattle.commands.proofs.Settling.{ended}
-use Rattle.call_lists.specs.Laws.{machine_of, ListsAreHistories}
+use Rattle.call_lists.specs.Laws.{machine_of}
 
 -- whatever a draft is told, its session stays
 pub session_stays : (d e : DraftJournal) (c : Command) (a : Told) → TellsDraft d c a e → e.session ≡ d.session
 session_stays d e (Change c) a h = elim (ended (refusal_of d.model c) (MayLack d.model c) (e ≡ d) ((e.model ≡ made d.model c) × IsFurther d e) a h) [
-  | inl x ↦ x.2.1.session
+  | inl x ↦ further_session d e x.2.1
   | inr (inl r) ↦ ap (λ (x : DraftJournal). x.session) r.3
   | inr (inr m) ↦ ap (λ (x : DraftJournal). x.session) m.1
 ]
@@ -33,23 +34,13 @@ led : (m : Machine) (g h : Stage) → h ≡ g → IsCall m (machine_of g) → Is
 led m g h is call = subst (λ (k : Stage). IsCall m (machine_of k)) (sym is) call
 
 -- a call of a session or a draft is one, whatever it is told
-stage_call : CommandsAreCalls → (g h : Stage) (c : Call) (a : Told) → IsWhole g → Tells g c a h → IsCall (machine_of g) (machine_of h)
+pub stage_call : CommandsAreCalls → (g h : Stage) (c : Call) (a : Told) → IsWhole g → Tells g c a h → IsCall (machine_of g) (machine_of h)
+unfolding IsFurther
 stage_call l (Session s) h (Give c) a whole x = led s.machine (Session x.0) h x.1 (l s x.0 c a whole.held_sound x.2)
 stage_call l (Session s) h Open a whole (inl x) = stopped s.machine _ (ap machine_of x.1)
 stage_call l (Session s) h Open a whole (inr x) = stopped s.machine _ (ap machine_of x.1)
 stage_call l (Session s) h c a whole x = stopped s.machine _ (ap machine_of x.1)
 stage_call l (Drafting d) h (Give c) a whole x = stopped d.draft.session.machine _ (ap machine_of x.1 ∙ same_machine (session_stays d.draft x.0.draft c a x.2))
 stage_call l (Drafting d) h Mark a whole x = stopped d.draft.session.machine _ (ap machine_of x.3)
-stage_call l (Drafting d) h Commit a whole x = led d.draft.session.machine _ h x.1 (committed d.draft whole.2.operators whole.2.are_accepted whole.2.make)
+stage_call l (Drafting d) h Commit a whole x = led d.draft.session.machine _ h x.1 (committed d.draft whole.2.0 whole.2.1 (sym (ap (λ (x : DraftJournal). x.model) whole.2.2)))
 stage_call l (Drafting d) h c a whole x = stopped d.draft.session.machine _ (ap machine_of x.1)
-
-pub lists_are_histories : CommandsAreCalls → ListsAreHistories
-lists_are_histories l g h [] [] whole x = record { history = []; as_many = refl; leads = sym (ap machine_of x) }
-lists_are_histories l g h (c ∷ calls) (a ∷ answers) whole x =
-    let first = stage_call l g x.0 c a whole x.1 in
-    let later = lists_are_histories l x.0 h calls answers x.2 x.3 in record {
-      history = first.call ∷ later.history;
-      as_many = ap suc later.as_many;
-      leads = ap (λ (m : Machine). after_calls m later.history) first.leads ∙ later.leads;
-    }
-lists_are_histories l g h _ _ whole x = absurd x

@@ -1,9 +1,9 @@
 -- Lists of calls, one more at a time, and cut in two.
 use Rattle.std.proofs.Common.{◌≡◌, inl, inr, false, List, [], ◌∷◌, ◌++◌, refl, sym, ap, subst, ◌∙◌, append_assoc, ◌⊎◌}
-use Rattle.call_lists.specs.Common.{Call, Done, IsWhole, Stage, Tells, Told}
+use Rattle.call_lists.specs.Common.{Call, Done, Stage, Tells, Told}
 use Rattle.commands.proofs.Kept.{only_done_changes}
 use Rattle.call_lists.specs.Making.{MakesAll, AreTold}
-use Rattle.call_lists.specs.Laws.{is_done, ListsKeepWhole, EachIsWhole}
+use Rattle.call_lists.specs.Laws.{is_done}
 
 -- a call is told `Done`, or changes nothing
 pub done_or_idle : (g h : Stage) (c : Call) (a : Told) → Tells g c a h → ((a ≡ Done) × Tells g c Done h) ⊎ ((is_done a ≡ false) × (h ≡ g))
@@ -11,31 +11,12 @@ done_or_idle g h c Done x = inl (refl, x)
 done_or_idle g h c a x = inr (refl, only_done_changes g h c a (λ e. cc e) x)
 
 -- one call more
-pub one_more : (g k h : Stage) (calls : List Call) (answers : List Told) (c : Call) (a : Told) → MakesAll g calls answers k → Tells k c a h → IsWhole h → MakesAll g (calls ++ c ∷ []) (answers ++ a ∷ []) h
-one_more g k h [] [] c a is m whole = (h, subst (λ (x : Stage). Tells x c a h) is m, whole, refl)
-one_more g k h (d ∷ calls) (b ∷ answers) c a x m whole = (x.0, x.1, x.2, one_more x.0 k h calls answers c a x.3 m whole)
-one_more g k h _ _ c a x m whole = absurd x
+pub one_more : (g k h : Stage) (calls : List Call) (answers : List Told) (c : Call) (a : Told) → MakesAll g calls answers k → Tells k c a h → MakesAll g (calls ++ c ∷ []) (answers ++ a ∷ []) h
+one_more g k h [] [] c a is m = (h, subst (λ (x : Stage). Tells x c a h) is m, refl)
+one_more g k h (d ∷ calls) (b ∷ answers) c a x m = (x.0, x.1, one_more x.0 k h calls answers c a x.2 m)
+one_more g k h _ _ c a x m = absurd x
 
 -- one answer more
-pub told_more : (g k h : Stage) (calls : List Call) (old mid new : List Told) (c : Call) (a : Told) → AreTold g calls old mid k → new ≡ mid ++ a ∷ [] → Tells k c a h → IsWhole h → AreTold g (calls ++ c ∷ []) old new h
-told_more g k h calls old mid new c a x is m whole =
-    (x.0 ++ a ∷ [], is ∙ ap (λ (xs : List Told). xs ++ a ∷ []) x.1 ∙ append_assoc old x.0 (a ∷ []), one_more g k h calls x.0 c a x.2 m whole)
-
-pub lists_keep_whole : ListsKeepWhole
-lists_keep_whole g h [] [] whole x = subst IsWhole (sym x) whole
-lists_keep_whole g h (c ∷ calls) (a ∷ answers) whole x = lists_keep_whole x.0 h calls answers x.2 x.3
-lists_keep_whole g h _ _ whole x = absurd x
-
-pub each_is_whole : EachIsWhole
-each_is_whole g h [] more answers whole x = record { between = g; told = []; later = answers; answers_are = refl; before = refl; whole = whole; after = x }
-each_is_whole g h (c ∷ calls) more [] whole x = absurd x
-each_is_whole g h (c ∷ calls) more (a ∷ answers) whole x =
-    let rest = each_is_whole x.0 h calls more answers x.2 x.3 in record {
-      between = rest.between;
-      told = a ∷ rest.told;
-      later = rest.later;
-      answers_are = ap (λ (xs : List Told). a ∷ xs) rest.answers_are;
-      before = (x.0, x.1, x.2, rest.before);
-      whole = rest.whole;
-      after = rest.after;
-    }
+pub told_more : (g k h : Stage) (calls : List Call) (old mid new : List Told) (c : Call) (a : Told) → AreTold g calls old mid k → new ≡ mid ++ a ∷ [] → Tells k c a h → AreTold g (calls ++ c ∷ []) old new h
+told_more g k h calls old mid new c a x is m =
+    (x.0 ++ a ∷ [], is ∙ ap (λ (xs : List Told). xs ++ a ∷ []) x.1 ∙ append_assoc old x.0 (a ∷ []), one_more g k h calls x.0 c a x.2 m)

@@ -1,6 +1,6 @@
 -- What isn't done changes nothing; and where memory isn't refused, calls have one list of answers.
 use Rattle.std.proofs.Common.{◌≡◌, inl, inr, Bool, true, false, Option, List, [], ◌∷◌, refl, sym, ap, subst, ◌∙◌, true≢false, ◌≢◌, cond}
-use Rattle.call_lists.specs.Common.{Abandon, Ask, Back, Call, Change, Command, Commit, Done, DraftJournal, Drafting, Give, IsWhole, Journal, Machine, Mark, Memory, Model, Open, Redo, Refusal, Refused, Session, Settled, Stage, Tells, TellsDraft, TellsSession, Told, Undo, accepted, asked, held, made, redo, redo_refusal, refusal_of, undo, undo_refusal}
+use Rattle.call_lists.specs.Common.{Abandon, Ask, Back, Call, Change, Command, Commit, Done, DraftJournal, Drafting, Give, Journal, Machine, Mark, Memory, Model, Open, Redo, Refusal, Refused, Session, Settled, Stage, Tells, TellsDraft, TellsSession, Told, Undo, accepted, asked, held, made, redo, redo_refusal, refusal_of, undo, undo_refusal}
 use Rattle.undo_journal.proofs.Journals.{same_machine}
 use Rattle.commands.proofs.Settling.{ended}
 use Rattle.commands.proofs.Kept as kept
@@ -15,7 +15,7 @@ only_done_changes = kept.only_done_changes
 
 pub idle_lists_stay : IdleListsStay
 idle_lists_stay g h [] [] other x = x
-idle_lists_stay g h (c ∷ calls) (a ∷ answers) other x = idle_lists_stay x.0 h calls answers other.1 x.3 ∙ only_done_changes g x.0 c a other.0 x.1
+idle_lists_stay g h (c ∷ calls) (a ∷ answers) other x = idle_lists_stay x.0 h calls answers other.1 x.2 ∙ only_done_changes g x.0 c a other.0 x.1
 idle_lists_stay g h _ _ other x = absurd x
 
 -- ---- calls that are told `Memory` can be left out
@@ -24,14 +24,14 @@ told_memory : (a : Told) → is_memory a ≡ true → a ≢ Done
 told_memory a is e = true≢false (sym is ∙ ap is_memory e)
 
 -- the first call is left out, or it isn't
-module _ (g k h : Stage) (c : Call) (a : Told) (calls : List Call) (answers : List Told) (first : Tells g c a k) (whole : IsWhole k) (rest : MakesAll k (heard calls answers) (told_else answers) h) where
+module _ (g k h : Stage) (c : Call) (a : Told) (calls : List Call) (answers : List Told) (first : Tells g c a k) (rest : MakesAll k (heard calls answers) (told_else answers) h) where
   first_or_not : (b : Bool) → is_memory a ≡ b → MakesAll g (cond b (heard calls answers) (c ∷ heard calls answers)) (cond b (told_else answers) (a ∷ told_else answers)) h
   first_or_not true is = subst (λ (x : Stage). MakesAll x (heard calls answers) (told_else answers) h) (only_done_changes g k c a (told_memory a is) first) rest
-  first_or_not false is = (k, first, whole, rest)
+  first_or_not false is = (k, first, rest)
 
 pub memory_can_be_left_out : MemoryCanBeLeftOut
 memory_can_be_left_out g h [] [] x = x
-memory_can_be_left_out g h (c ∷ calls) (a ∷ answers) x = first_or_not g x.0 h c a calls answers x.1 x.2 (memory_can_be_left_out x.0 h calls answers x.3) (is_memory a) refl
+memory_can_be_left_out g h (c ∷ calls) (a ∷ answers) x = first_or_not g x.0 h c a calls answers x.1 (memory_can_be_left_out x.0 h calls answers x.2) (is_memory a) refl
 memory_can_be_left_out g h _ _ x = absurd x
 
 -- ---- one list of answers
@@ -109,7 +109,7 @@ lists_have_one_answer g k h j [] [] (b ∷ others) un na nb is x y = absurd y
 lists_have_one_answer g k h j (c ∷ calls) (a ∷ answers) [] un na nb is x y = absurd y
 lists_have_one_answer g k h j (c ∷ calls) (a ∷ answers) (b ∷ others) un na nb is x y =
     let first = one_call g k x.0 y.0 c a b un.0 na.0 nb.0 is x.1 y.1 in
-    let later = lists_have_one_answer x.0 y.0 h j calls answers others un.1 na.1 nb.1 first.1 x.3 y.3 in (
+    let later = lists_have_one_answer x.0 y.0 h j calls answers others un.1 na.1 nb.1 first.1 x.2 y.2 in (
       λ i. first.0 i ∷ later.0 i,
       later.1,
     )

@@ -1,11 +1,13 @@
 -- How many commands can be undone, and redone, after a list of calls.
 use Rattle.std.proofs.Common.{◌≡◌, ℕ, suc, ◌+◌, ◌-◌, Bool, true, false, inl, inr, None, List, [], ◌∷◌, length, is_some, refl, sym, ap, ◌∙◌, arith, true≢false, cond}
-use Rattle.call_lists.specs.Common.{Ask, Call, Change, Command, Commit, Done, Drafting, Give, IsConsistent, IsWhole, Journal, Mark, Model, Open, Redo, Session, Stage, Tells, TellsSession, Told, Undo, ahead, depth, held, redo, redo_refusal, redos, undo, undo_refusal, undos}
+use Rattle.call_lists.specs.Common.{Ask, Call, Change, Command, Commit, Done, Drafting, Give, Journal, Mark, Model, Open, Redo, Session, Stage, Tells, TellsSession, Told, Undo, ahead, depth, held, redo, redo_refusal, redos, undo, undo_refusal, undos}
+use Rattle.commands.specs.Calls.{CommandsAreCalls}
 use Rattle.undo_journal.proofs.Journals.{same_machine}
 use Rattle.undo_journal.proofs.Copies.{redone_to_last}
 use Rattle.call_lists.specs.Laws.{Place, machine_of, place_of, after_command, after_done, place_after, place_after_all, PlacesAreCounted, UndosLeadToTheFirst, RedosLeadToTheLast}
 use Rattle.call_lists.proofs.Histories.{session_stays}
-use Rattle.call_lists.proofs.Lists.{done_or_idle, lists_keep_whole}
+use Rattle.call_lists.proofs.Lists.{done_or_idle}
+use Rattle.call_lists.proofs.Whole.{machine_whole, lists_keep_whole}
 
 abbrev placed : ℕ → ℕ → Bool → Place
 placed a b drafting = record { behind = a; ahead = b; drafting = drafting }
@@ -55,16 +57,12 @@ one_place g h c a x = elim (done_or_idle g h c a x) [
 
 pub places_are_counted : PlacesAreCounted
 places_are_counted g h [] [] x = ap place_of x
-places_are_counted g h (c ∷ calls) (a ∷ answers) x = places_are_counted x.0 h calls answers x.3 ∙ ap (λ (p : Place). place_after_all p calls answers) (one_place g x.0 c a x.1)
+places_are_counted g h (c ∷ calls) (a ∷ answers) x = places_are_counted x.0 h calls answers x.2 ∙ ap (λ (p : Place). place_after_all p calls answers) (one_place g x.0 c a x.1)
 places_are_counted g h _ _ x = absurd x
 
-machine_whole : (g : Stage) → IsWhole g → IsConsistent (machine_of g)
-machine_whole (Session s) whole = whole
-machine_whole (Drafting d) whole = whole.0
-
-pub undos_lead_to_the_first : UndosLeadToTheFirst
-undos_lead_to_the_first g h calls answers whole x =
-    ap (λ (p : Place). held (undos p.behind (machine_of h))) (sym (places_are_counted g h calls answers x)) ∙ (machine_whole h (lists_keep_whole g h calls answers whole x)).undone
+pub undos_lead_to_the_first : CommandsAreCalls → UndosLeadToTheFirst
+undos_lead_to_the_first l g h calls answers whole x =
+    ap (λ (p : Place). held (undos p.behind (machine_of h))) (sym (places_are_counted g h calls answers x)) ∙ (machine_whole h (lists_keep_whole l g h calls answers whole x)).undone
 
 pub redos_lead_to_the_last : RedosLeadToTheLast
 redos_lead_to_the_last g h calls answers x = ap (λ (p : Place). held (redos p.ahead (machine_of h))) (sym (places_are_counted g h calls answers x)) ∙ redone_to_last (machine_of h)

@@ -56,7 +56,7 @@ one_more s r t n x (inr one) = (suc n, (r, one.0, x, one.1, one.2))
 all_grow : (s : Journal) (g h : Stage) (calls : List Call) (answers : List Told) (n : ℕ) → Grows s n (journal_of g) → Each IsOnward calls → MakesAll g calls answers h → (m : ℕ) × Grows s m (journal_of h)
 all_grow s g h [] [] n x on is = (n, subst (λ (k : Stage). Grows s n (journal_of k)) (sym is) x)
 all_grow s g h (c ∷ calls) (a ∷ answers) n x on y =
-    let one = one_more s (journal_of g) (journal_of y.0) n x (adds g y.0 c a on.0 y.1) in all_grow s y.0 h calls answers one.0 one.1 on.1 y.3
+    let one = one_more s (journal_of g) (journal_of y.0) n x (adds g y.0 c a on.0 y.1) in all_grow s y.0 h calls answers one.0 one.1 on.1 y.2
 all_grow s g h _ _ n x on y = absurd y
 
 grown_depth : (s : Journal) (n : ℕ) (t : Journal) → Grows s n t → depth t.machine ≡ depth s.machine + n
@@ -153,7 +153,7 @@ module _ (c : Command) (move : Machine → Machine) (room : Machine → ℕ) (le
   all_done zero t [] g le x = (refl, x)
   all_done (suc n) t (a ∷ answers) g le x =
       let first = one t x.1.0 a n le x.1.2 in
-      let rest = subst (λ (k : Stage). MakesAll k (replicate n (Give c)) answers g) (x.1.1 ∙ ap Session first.1) x.3 in
+      let rest = subst (λ (k : Stage). MakesAll k (replicate n (Give c)) answers g) (x.1.1 ∙ ap Session first.1) x.2 in
       let later = all_done n (moved t (move t.machine)) answers g (less t.machine n le) rest in (
         λ i. first.0 i ∷ later.0 i,
         later.1,

@@ -1,13 +1,14 @@
 -- The words of the crates below that the files here and promises cite, passed on from one place. Declares nothing.
 pub use Rattle.commands.specs.Calls.{IsCall}
 pub use Rattle.commands.specs.Changes.{MayLack, made, refusal_of}
-pub use Rattle.commands.specs.Telling.{IsWhole, Settled, Tells, TellsDraft, TellsSession, asked, shown}
+pub use Rattle.commands.specs.Telling.{IsWhole, Settled, Tells, TellsDraft, TellsSession, asked, shown, steps_in}
 pub use Rattle.commands.specs.declared.command.Call.TheVariants.{Abandon, Back, Commit, Give, Mark, Open}
 pub use Rattle.commands.specs.declared.command.Call.{Call}
 pub use Rattle.commands.specs.declared.command.Command.TheVariants.{Ask, Change, Redo, Undo}
 pub use Rattle.commands.specs.declared.command.Command.{Command}
 pub use Rattle.commands.specs.declared.command.Told.TheVariants.{Done, InDraft, Memory, NoDraft, Refused}
 pub use Rattle.commands.specs.declared.command.Told.{Told}
+pub use Rattle.commands.specs.declared.stage.OpenDraft.{OpenDraft}
 pub use Rattle.commands.specs.declared.stage.Stage.TheVariants.{Drafting, Session}
 pub use Rattle.commands.specs.declared.stage.Stage.{Stage}
 pub use Rattle.euler_operators.specs.Common.{Model, empty_model, first_refusal, never, verdict}

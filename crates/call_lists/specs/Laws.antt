@@ -1,7 +1,8 @@
 -- The laws of lists of calls.
-use Rattle.std.specs.Prelude.{◌≡◌, ◌≢◌, ℕ, ◌+◌, ◌-◌, Bool, true, false, cond, List, [], ◌∷◌, ◌++◌, length, take, replicate}
-use Rattle.call_lists.specs.Common.{Abandon, Ask, Back, Call, Change, Command, Commit, Done, Drafting, Give, IsWhole, Journal, Machine, Mark, Memory, Model, Open, Record, Redo, Session, Stage, Tells, Told, Undo, after_calls, ahead, depth, empty_model, held, model_at, redos, shown, undos}
+use Rattle.std.specs.Prelude.{◌≡◌, ◌≢◌, ℕ, ◌+◌, ◌-◌, ◌≤◌, Bool, true, false, cond, List, [], ◌∷◌, ◌++◌, length, take, replicate}
+use Rattle.call_lists.specs.Common.{Abandon, Ask, Back, Call, Change, Command, Commit, Done, Drafting, Give, IsWhole, Journal, Machine, Mark, Memory, Model, Open, OpenDraft, Record, Redo, Session, Stage, Tells, Told, Undo, after_calls, ahead, depth, empty_model, held, model_at, redos, shown, steps_in, undos}
 use Rattle.undo_journal.specs.Histories as histories
+use Rattle.commands.specs.declared.command.Told.TheVariants as told
 use Rattle.call_lists.specs.Making.{MakesAll}
 
 -- the machine of a session; of a draft that of the session in which it was opened
@@ -168,3 +169,19 @@ view_of g = record { machine = machine_of g; model = shown g; drafting = is_draf
 abbrev pub ListsHaveOneAnswer : Type 0
 ListsHaveOneAnswer = (g k h j : Stage) (calls : List Call) (answers others : List Told) → Each IsUnmarked calls → Each (λ a. a ≢ Memory) answers → Each (λ b. b ≢ Memory) others
     → view_of k ≡ view_of g → MakesAll g calls answers h → MakesAll k calls others j → (others ≡ answers) × (view_of j ≡ view_of h)
+
+-- a call in a draft that neither ends it nor goes back before step n
+abbrev pub GoesOnFrom : ℕ → Call → Type 0
+GoesOnFrom n (Back m) = n ≤ m
+GoesOnFrom n Commit = ⊥
+GoesOnFrom n Abandon = ⊥
+GoesOnFrom n c = Unit {0}
+
+-- how many steps a draft has is a mark of it, also where that was read, and not told to a call
+abbrev pub StepsAreMarks : Type 0
+StepsAreMarks = (d : OpenDraft) → IsWhole (Drafting d) → Tells (Drafting d) Mark (told.Steps (steps_in (Drafting d))) (Drafting d)
+
+-- behind a mark that was told n, and calls that neither end the draft nor go back before it, going back to n is done, and the draft is what it was
+abbrev pub MarksLeadBack : Type 0
+MarksLeadBack = (g k h j : Stage) (n : ℕ) (calls : List Call) (answers : List Told) (a : Told) → Tells g Mark (told.Steps n) k → Each (GoesOnFrom n) calls → MakesAll k calls answers h
+    → Tells h (Back n) a j → (a ≡ Done) × (j ≡ g)

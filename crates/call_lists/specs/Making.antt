@@ -1,13 +1,13 @@
 -- What calls may be told, one after the other, and the session or draft to which they lead.
 use Rattle.std.specs.Prelude.{◌≡◌, List, [], ◌∷◌, ◌++◌}
-use Rattle.call_lists.specs.Common.{Call, IsWhole, Stage, Tells, Told}
+use Rattle.call_lists.specs.Common.{Call, Stage, Tells, Told}
 
--- a list of calls, each from the stage to which those before it lead, with one answer each; every stage on the way is whole
+-- a list of calls, each from the stage to which those before it lead, with one answer each
 abbrev pub MakesAll : Stage → List Call → List Told → Stage → Type 0
 MakesAll g [] [] h = h ≡ g
 MakesAll g [] (a ∷ rest) h = ⊥
 MakesAll g (c ∷ calls) [] h = ⊥
-MakesAll g (c ∷ calls) (a ∷ answers) h = (k : Stage) × Tells g c a k × IsWhole k × MakesAll k calls answers h
+MakesAll g (c ∷ calls) (a ∷ answers) h = (k : Stage) × Tells g c a k × MakesAll k calls answers h
 
 -- the answers to calls are appended to what was told before
 abbrev pub AreTold : Stage → List Call → List Told → List Told → Stage → Type 0

@@ -1,5 +1,5 @@
 //! The laws of lists of calls. Each function does nothing: its contract is what is proved, over every session or draft and every list.
-ghost use Rattle.call_lists.specs.Laws.{ListsAreHistories, ListsKeepWhole, EachIsWhole, PlacesAreCounted, UndosLeadToTheFirst, RedosLeadToTheLast, CommandsAreTakenBack, ListsHaveOneAnswer, OnlyDoneChanges, IdleListsStay, MemoryCanBeLeftOut};
+ghost use Rattle.call_lists.specs.Laws.{ListsAreHistories, ListsKeepWhole, EachIsWhole, PlacesAreCounted, UndosLeadToTheFirst, RedosLeadToTheLast, CommandsAreTakenBack, ListsHaveOneAnswer, OnlyDoneChanges, IdleListsStay, MemoryCanBeLeftOut, StepsAreMarks, MarksLeadBack};
 
 use commands::commands_are_calls;
 
@@ -19,7 +19,9 @@ pub fn undos_and_redos_lead_to_the_ends()
     ensures counted { PlacesAreCounted }
     ensures undos { UndosLeadToTheFirst }
     ensures redos { RedosLeadToTheLast }
-{}
+{
+    commands_are_calls();
+}
 
 /// Where a list without undo and redo did n commands, n undos are all done, and lead to the model before it, with the models behind that and
 /// the records of earlier commands as they were; then n redos are all done, and lead to the session after the list, its records too.
@@ -34,4 +36,11 @@ pub fn lists_have_one_answer()
     ensures kept { OnlyDoneChanges }
     ensures idle { IdleListsStay }
     ensures memory { MemoryCanBeLeftOut }
+{}
+
+/// How many steps a draft has is a mark of it. Going back to a mark, behind calls that neither end the draft nor go back before it, is done,
+/// and gives the draft as it was there.
+pub fn marks_lead_back()
+    ensures steps { StepsAreMarks }
+    ensures back { MarksLeadBack }
 {}

@@ -10,8 +10,9 @@
 //! for the answers is made first. `lists_are_histories`: such a list is a history of as many calls of the plain machine, and each model
 //! on the way is sound. `undos_and_redos_lead_to_the_ends`: how many commands can be undone and redone is counted from the calls and
 //! answers, and so many undos and redos lead to the empty model and to the last one. `commands_are_taken_back`: n commands are taken back by n
-//! undos, and made again by n redos. `lists_have_one_answer`: a call that isn't told `Done` changes
-//! nothing, one told `Memory` can be left out, and where no answer is `Memory` there is one list of answers, and one machine and model after it.
+//! undos, and made again by n redos. `lists_have_one_answer`: a call that isn't told `Done` changes nothing, one told `Memory` can be left out,
+//! and where no answer is `Memory` a list without marks has one list of answers, and leads to one machine and model. `marks_lead_back`: going
+//! back to a mark gives the draft as it was there.
 
 mod laws;
 mod making;
@@ -20,7 +21,7 @@ pub use commands::{Call, Change, Command, Points, Question, Stage, Told, make};
 pub use euler_operators::{Op, Refusal};
 pub use gluing::six_volume;
 pub use laws::{
-    commands_are_taken_back, lists_are_histories, lists_have_one_answer,
+    commands_are_taken_back, lists_are_histories, lists_have_one_answer, marks_lead_back,
     undos_and_redos_lead_to_the_ends,
 };
 pub use making::make_all;

@@ -1,7 +1,7 @@
 -- The types of this crate and the words of the journal that its files cite, passed on from one place. Declares nothing.
 pub use Rattle.euler_operators.specs.Common.{Model, Sound}
 pub use Rattle.euler_operators.specs.declared.Refusal.{Refusal}
-pub use Rattle.undo_journal.specs.Histories.{Follows, IsConsistent}
+pub use Rattle.undo_journal.specs.Histories.{IsConsistent}
 pub use Rattle.undo_journal.specs.Journal.{DraftJournal, IsFurther, IsMark, IsRecorded, Journal, after_act, after_commit, after_redo, after_step, after_undo, back_at, new_draft}
 pub use Rattle.undo_journal.specs.Machine.{Machine, accepted, ahead, depth, held, redo_refusal, undo_refusal}
 pub use Rattle.undo_journal.specs.declared.session.Failure.{Failure}

@@ -1,7 +1,7 @@
 -- What a call of a session, or of a draft of its next command, is told, and to what it leads.
 use Rattle.std.specs.Prelude.{◌≡◌, ◌⊎◌, ℕ, length, Option, Some, None, Result, Ok, Err}
 use Rattle.solid_measure.specs.Measure.{answer, face_refusal, solid_refusal, plane_of, is_flat, six_volume, counts}
-use Rattle.commands.specs.Common.{Call, Command, Done, DraftJournal, Drafting, Failure, Follows, InDraft, IsConsistent, IsFurther, IsMark, IsRecorded, Journal, Memory, Model, NoDraft, OpenDraft, Question, Refusal, Refused, Session, Sound, Stage, Told, accepted, after_commit, after_redo, after_undo, ahead, back_at, depth, held, new_draft, redo_refusal, undo_refusal}
+use Rattle.commands.specs.Common.{Call, Command, Done, DraftJournal, Drafting, Failure, InDraft, IsConsistent, IsFurther, IsMark, IsRecorded, Journal, Memory, Model, NoDraft, OpenDraft, Question, Refusal, Refused, Session, Sound, Stage, Told, accepted, after_commit, after_redo, after_undo, ahead, back_at, depth, held, new_draft, redo_refusal, undo_refusal}
 use Rattle.commands.specs.declared.command.Call.TheVariants as call
 use Rattle.commands.specs.declared.command.Command.TheVariants as command
 use Rattle.undo_journal.specs.declared.session.Failure.TheVariants as failure
@@ -72,10 +72,10 @@ abbrev pub shown : Stage → Model
 shown (Session s) = held s.machine
 shown (Drafting d) = d.draft.model
 
--- every model of the session is sound, and so is the draft's, which accepted operators make of the one that is held
+-- every model of the session is sound, and so is the draft's; the draft is what its steps, each accepted in its turn, make of a new one
 abbrev pub IsWhole : Stage → Type 0
 IsWhole (Session s) = IsConsistent s.machine
-IsWhole (Drafting d) = IsConsistent d.draft.session.machine × Sound d.draft.model × Follows (held d.draft.session.machine) d.draft.model
+IsWhole (Drafting d) = IsConsistent d.draft.session.machine × Sound d.draft.model × IsFurther (new_draft d.draft.session) d.draft
 
 -- how many commands can be undone, and how many redone: in a draft none
 abbrev pub undos : Stage → ℕ

@@ -86,7 +86,7 @@ impl Stage {
         }
     }
 
-    /// Every model of the session is sound, and the draft's is. It does nothing: its contract is what is proved.
+    /// Every model of the session is sound, and the draft's is, and its steps lead to it. It does nothing: its contract is what is proved.
     pub fn stays_whole(&self)
         ensures { IsWhole self.now }
     {

@@ -56,6 +56,7 @@ fn neighbours(arena: &Arena, item: HalfEdge) -> (HalfEdge, HalfEdge)
 
 /// Makes the two solids one, and the outer loops of the two faces one loop: `partner`, of the other face, comes before `first`, of face
 /// f.
+#[tactic(auto, using(undo_journal::proofs::Marks::further_on))]
 fn open_seam(
     draft: &mut Draft,
     f: u32,
@@ -105,6 +106,7 @@ fn close_item(
 ///
 /// Once the seam is open it holds the items that aren't glued yet and, back along them, their partners: the partner of the first
 /// one comes before it.
+#[tactic(auto, using(undo_journal::proofs::Marks::further_on))]
 fn take_steps(draft: &mut Draft, f: u32, other: u32) -> Result<(), AllocError>
     requires { glue_refusal draft.old.model f other ≡ None }
     ensures model { OnOk result (draft.new.model ≡ glue_model draft.old.model f other) }
@@ -142,7 +144,7 @@ fn join(draft: &mut Draft, f: u32, other: u32) -> Result<(), AllocError>
 }
 
 /// Glues the other face of the draft's model to face f, where that isn't refused. On `AllocError` the draft is as it was.
-#[tactic(auto, using(undo_journal::proofs::Marks::further_none, undo_journal::proofs::Marks::further_back))]
+#[tactic(auto, using(undo_journal::proofs::Marks::further_none, undo_journal::proofs::Marks::further_back, undo_journal::proofs::Marks::back_at_mark))]
 pub(crate) fn try_join(draft: &mut Draft, f: u32, other: u32) -> Result<(), AllocError>
     requires { glue_refusal draft.old.model f other ≡ None }
     ensures model { OnOk result (draft.new.model ≡ glue_model draft.old.model f other) }

@@ -21,6 +21,7 @@ use undo_journal::{Draft, Failure};
 
 /// Opens solid s along its section once its faces are drawn, and parts what is above the plane as solid `upper`. On `AllocError` some
 /// steps may be taken.
+#[tactic(auto, using(undo_journal::proofs::Marks::further_on))]
 fn part_drawn(
     alloc: Global,
     draft: &mut Draft,
@@ -43,6 +44,7 @@ fn part_drawn(
 /// Splits solid s of the draft's model by the plane, where that can begin and these are its cuts: the edges that cross it are cut, the
 /// faces that straddle it are drawn, and then, where the solid can be opened along its section, what is above is parted as solid
 /// `upper`. It tells the refusal where it can't. On a refusal or `AllocError` some steps may be taken.
+#[tactic(auto, using(undo_journal::proofs::Marks::further_on))]
 fn take_steps(
     alloc: Global,
     draft: &mut Draft,
@@ -102,7 +104,7 @@ fn carry_out(
 
 /// Splits solid s of the draft's model by the plane, where that can begin and these are its cuts. On a refusal or `Memory` the draft is as
 /// it was.
-#[tactic(auto, using(undo_journal::proofs::Marks::further_none, undo_journal::proofs::Marks::further_back))]
+#[tactic(auto, using(undo_journal::proofs::Marks::further_none, undo_journal::proofs::Marks::further_back, undo_journal::proofs::Marks::back_at_mark))]
 pub(crate) fn try_split(
     alloc: Global,
     draft: &mut Draft,

@@ -15,17 +15,18 @@
 //! # What is proved
 //!
 //! Nothing of its own: each function calls the laws of the crates below, or makes a call, and has what they say as its contract. They stand
-//! in this order: lists of calls, one call of each kind, records and volumes (`every_list_of_calls_is_answered` and those after it);
-//! conditions, operators and their inverses (from `refusals_name_the_first_false`); splices of rings (from `splices_cut_and_join`); the plain
+//! in this order: lists of calls, marks and handles of C, one call of each kind, records and volumes (`every_list_of_calls_is_answered` and those
+//! after it); conditions, operators and their inverses (from `refusals_name_the_first_false`); splices of rings (from `splices_cut_and_join`); the plain
 //! machine and its histories (from `sessions_are_copies_and_a_place`); what larger commands make and measure, and what a session holds after
 //! them (from `laminas_are_made`); listings, lines and scripts (from `listings_tell_models`); and scripts in words of bytes alone (from
 //! `every_script_is_answered`).
 
 ghost use Rattle.std.specs.Prelude.{◌≡◌, ◌↔◌, ◌+◌, ◌<◌, OnOk, OnErr, IfOk, IfErr, None, Some, Err, slice_index_or};
 ghost use Rattle.call_lists.specs.Common.{IsConsistent, IsWhole, Tells, act_refusal, after_act, after_commit, after_redo, after_step, after_undo, ahead, answer, depth, first_false, held, model_at, new_draft, new_journal, redo_refusal, six_volume, solid_refusal, undo_refusal, verdict};
-ghost use Rattle.call_lists.specs.Laws.{ListsAreHistories, ListsKeepWhole, EachIsWhole, PlacesAreCounted, UndosLeadToTheFirst, RedosLeadToTheLast, CommandsAreTakenBack, ListsHaveOneAnswer, OnlyDoneChanges, IdleListsStay, MemoryCanBeLeftOut};
+ghost use Rattle.call_lists.specs.Laws.{ListsAreHistories, ListsKeepWhole, EachIsWhole, PlacesAreCounted, UndosLeadToTheFirst, RedosLeadToTheLast, CommandsAreTakenBack, ListsHaveOneAnswer, OnlyDoneChanges, IdleListsStay, MemoryCanBeLeftOut, StepsAreMarks, MarksLeadBack};
 ghost use Rattle.call_lists.specs.Making.{AreTold};
 ghost use Rattle.pool_rings.specs.Laws.{EachCodeHasItsRing, RingsAreRotations, CodesShareOrHaveTwo, SplicedPoolsCut, SplicedPoolsJoin, SplicedPoolsKeepOthers, SplicedPoolsStay, PoolsLeadBack};
+ghost use Rattle.promises.specs.Slots.{SlotsMakeAll};
 ghost use Rattle.promises.specs.Splices.{SplicesCut, SplicesJoin, SplicesKeepOthers};
 ghost use Rattle.script_laws.specs.Laws.{RunsTell, BrokenRunsTell, FailedRunsTell, AnsweredSo, AnswersStay, OthersCanBeLeftOut, UndoAndRedoCanBeLeftOut, UndoneLinesCanBeLeftOut, UndosLeadBack, SomeUndosLeadBack, EqualListingsGoOnAlike, BlocksMeasure, PartsShareVolumes, RepliesTell, RefusalsTell, FaultsTell};
 ghost use Rattle.script_laws.specs.Scripts.{Answered};
@@ -36,7 +37,7 @@ ghost use Rattle.script_running.specs.laws_below.{AcceptedIsAppended, AreAccepte
 
 use call_lists::{
     Call, Draft, Failure, Op, Record, Refusal, Session, Stage, Told, commands_are_taken_back,
-    lists_are_histories, lists_have_one_answer, make, make_all, six_volume,
+    lists_are_histories, lists_have_one_answer, make, make_all, marks_lead_back, six_volume,
     undos_and_redos_lead_to_the_ends,
 };
 use pool_rings::{codes_have_one_ring, splices_of_pools};
@@ -99,6 +100,26 @@ pub fn lists_of_calls_have_one_answer()
     ensures memory { MemoryCanBeLeftOut }
 {
     lists_have_one_answer();
+}
+
+/// How many steps a draft has is a mark of it. Behind a mark, and calls that neither end the draft nor go back before it, going back to the mark
+/// is done, and the draft is what it was: its model, its steps and the session in which it was opened.
+pub fn marks_lead_back_to_the_draft()
+    ensures steps { StepsAreMarks }
+    ensures back { MarksLeadBack }
+{
+    marks_lead_back();
+}
+
+/// What a handle of C holds: a new session is whole, and calls on the slot behind a handle are such a list of calls, so what it holds after them
+/// is whole, and all that is said of lists here holds of it. The slot keeps what the last call was told, but for one that concerns a mark or
+/// that the session or draft hasn't.
+pub fn handles_hold_lists_of_calls()
+    ensures begun { IsWhole (Stage.Session new_journal) }
+    ensures made { SlotsMakeAll }
+{
+    every_history_is_consistent();
+    lists_are_histories();
 }
 
 /// So it is of one call: a change, as an operator, a lamina, a block, a sweep, a glue or a split, in a session one command and in a draft

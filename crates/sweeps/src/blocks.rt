@@ -119,6 +119,7 @@ fn counted_with_base(taken: &Counters) -> Counters
 
 /// Draws a block whose conditions hold: the lamina of its base, and then the sweep of the lamina's first face, of which all half-edges are
 /// known. Where memory is refused the draft holds what was drawn so far.
+#[tactic(auto, using(undo_journal::proofs::Marks::further_on))]
 fn draw_base_and_walls(
     draft: &mut Draft,
     taken: &Counters,

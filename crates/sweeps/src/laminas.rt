@@ -110,6 +110,7 @@ fn point_at(points: &[Point], index: usize) -> Point
 
 /// Draws a lamina whose conditions hold: its operators, one after the other. Where memory is refused the draft holds what was
 /// drawn so far.
+#[tactic(auto, using(undo_journal::proofs::Marks::further_on))]
 pub(crate) fn draw_lamina(
     draft: &mut Draft,
     taken: &Counters,
@@ -153,7 +154,7 @@ pub(crate) fn draw_lamina(
 }
 
 /// Draws a lamina whose conditions hold. Where memory is refused the draft is as it was.
-#[tactic(auto, using(undo_journal::proofs::Marks::further_none, undo_journal::proofs::Marks::further_back))]
+#[tactic(auto, using(undo_journal::proofs::Marks::further_none, undo_journal::proofs::Marks::further_back, undo_journal::proofs::Marks::back_at_mark))]
 fn try_lamina(
     draft: &mut Draft,
     taken: &Counters,

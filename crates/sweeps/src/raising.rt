@@ -144,6 +144,7 @@ fn item_at(items: &[HalfEdge], index: usize) -> HalfEdge
 }
 
 /// Sweeps the loop that holds these half-edges, in the order of listings. On `AllocError` the draft may have taken some steps.
+#[tactic(auto, using(undo_journal::proofs::Marks::further_on))]
 pub(crate) fn raise_items(
     draft: &mut Draft,
     taken: &Counters,
@@ -190,6 +191,7 @@ fn raise_loop(
 }
 
 /// Sweeps face f of the draft's model by the shift, where that isn't refused. On `AllocError` the draft may have taken some steps.
+#[tactic(auto, using(undo_journal::proofs::Marks::further_on))]
 pub(crate) fn raise(
     alloc: Global,
     draft: &mut Draft,

@@ -1,5 +1,5 @@
 -- Every machine to which a history leads is consistent.
-use Rattle.std.proofs.Common.{sym, subst, ap, ◌∙◌, arith, true≢false, ◌≡◌, ℕ, zero, suc, ◌+◌, ◌<◌, ◌≤◌, List, [], ◌∷◌, ◌++◌, length, reverse, get_or, Option, Some, None, is_some, refl}
+use Rattle.std.proofs.Common.{sym, subst, ap, ◌∙◌, arith, true≢false, ◌≡◌, ℕ, zero, suc, ◌+◌, ◌<◌, ◌≤◌, List, [], ◌∷◌, ◌++◌, length, reverse, drop, get_or, Option, Some, None, is_some, refl}
 use Rattle.euler_operators.specs.Common.{Model, empty_model, Sound, first_false, effect}
 use Rattle.euler_operators.specs.declared.Op.{Op}
 use Rattle.euler_operators.specs.declared.Refusal.{Refusal}
@@ -166,6 +166,38 @@ grown_calls s (call ∷ calls) grown = grown_calls (after_call s call) calls (gr
 
 pub histories_are_consistent : HistoriesAreConsistent
 histories_are_consistent calls = grown_consistent (after_calls start calls) (grown_calls start calls (record { begins = refl; follow = tt }))
+
+-- ---- and a call of a consistent machine leads to one
+
+first_of_list : {X : Type 0} (xs : List X) (y : X) (ys : List X) → (a : X) × (later : List X) × (xs ++ y ∷ ys ≡ a ∷ later)
+first_of_list [] y ys = (y, ys, refl)
+first_of_list (x ∷ xs) y ys = (x, xs ++ y ∷ ys, refl)
+
+all_follow : (A : Model) (Ms : List Model) (d : Model) → ((i : ℕ) → i < length Ms → Follows (get_or (A ∷ Ms) i d) (get_or Ms i d)) → AllFollow A Ms
+all_follow A [] d each = tt
+all_follow A (M ∷ Ms) d each = (each 0 (omega arith), all_follow M Ms d (λ i h. each (suc i) (omega (arith, h))))
+
+-- a list of copies, cut at the model held
+parted : (Ps : List Model) (M : Model) (Ns : List Model) (A : Model) (later : List Model) → reverse Ps ++ M ∷ Ns ≡ A ∷ later → A ≡ empty_model → AllFollow A later → Begins M Ps × AllFollow M Ns
+parted [] M Ns A later are empty all = (
+  ap (λ (Xs : List Model). get_or Xs 0 empty_model) are ∙ empty,
+  subst (λ (Xs : List Model). AllFollow M Xs) (sym (ap (drop 1) are)) (subst (λ (X : Model). AllFollow X later) (sym (ap (λ (Xs : List Model). get_or Xs 0 empty_model) are)) all),
+)
+parted (P ∷ Ps) M Ns A later are empty all =
+    let before = parted Ps P (M ∷ Ns) A later (sym (one_more Ps P (M ∷ Ns)) ∙ are) empty all in ((before.1.0, before.0), before.1.1)
+
+consistent_grown : (s : Machine) → IsConsistent s → Grown s
+consistent_grown s kept =
+    let begun = first_of_list (reverse s.past) s.present s.future in
+    let A = begun.0 in let later = begun.1 in let are = begun.2 in
+    let many : length later ≡ depth s + ahead s = let a : suc (length later) ≡ length (models s) = ap length (sym are) in let b = how_many s in omega (arith, a, b) in
+    let at : (i : ℕ) → model_at s i ≡ get_or (A ∷ later) i empty_model = λ i. ap (λ (Xs : List Model). get_or Xs i empty_model) are in
+    let next : (i : ℕ) → model_at s (i + 1) ≡ get_or later i empty_model = λ i. ap (model_at s) (let n : i + 1 ≡ suc i = omega arith in n) ∙ at (suc i) in
+    let all = all_follow A later empty_model (λ i h. subst (λ (X : Model). Follows X (get_or later i empty_model)) (at i) (subst (λ (X : Model). Follows (model_at s i) X) (next i) (kept.linked i (omega (arith, h, many))))) in
+    let cut = parted s.past s.present s.future A later are (sym (at 0) ∙ kept.first) all in record { begins = cut.0; follow = cut.1 }
+
+pub consistent_call : (s : Machine) (call : Call) → IsConsistent s → IsConsistent (after_call s call)
+consistent_call s call kept = grown_consistent (after_call s call) (grown_call s call (consistent_grown s kept))
 
 -- records that lead on
 lead_follow : (A : Model) (rs : List Record) → AllLead A rs → AllFollow A (models_ahead A rs)

@@ -9,9 +9,9 @@ use Rattle.euler_laws.specs.Laws.{effects, AreAccepted}
 use Rattle.euler_laws.proofs.Common.{inverse_goes, inverse_undoes, effects-append, AreAccepted-append}
 use Rattle.low_euler.specs.Ready.{IsReady}
 use Rattle.undo_journal.specs.declared.record.Record.{Record}
-use Rattle.undo_journal.specs.Journal.{new_journal}
+use Rattle.undo_journal.specs.Journal.{new_journal, each_inverse}
 use Rattle.low_euler.specs.Room.{IsStepped, KeepsRoom}
-use Rattle.undo_journal.specs.Sessions.{past_of, future_of, journal_of, LeadsBothWays, IsJournal, AllHaveRoom, RecordsHaveRoom, IsKept, opened, command_of, each_inverse, IsDrafted, all_after}
+use Rattle.undo_journal.specs.Sessions.{past_of, future_of, journal_of, LeadsBothWays, IsJournal, AllHaveRoom, RecordsHaveRoom, IsKept, opened, command_of, IsDrafted, all_after}
 use Rattle.undo_journal.proofs.Consistent.{journal_consistent}
 use Rattle.undo_journal.proofs.Marks.{each-append, rest_goes_back, rest_undone, front_opened, front_leads, front_paired}
 use Rattle.undo_journal.proofs.Journals.{journal_start, journal_more, journal_on, journal_back}

@@ -1,13 +1,14 @@
 -- Steps since a mark, taken back.
-use Rattle.std.proofs.Common.{sym, subst, ap, ◌∙◌, ◌≡◌, ℕ, zero, suc, List, [], ◌∷◌, ◌++◌, length, take, drop, reverse, refl, Result, Ok, Err, OnOk, OnErr, take-append-drop, take_at, append-nil, append_assoc}
+use Rattle.std.proofs.Common.{sym, subst, ap, ◌∙◌, ◌≡◌, ℕ, suc, List, [], ◌∷◌, ◌++◌, length, take, drop, reverse, refl, Result, Ok, Err, OnOk, OnErr, None, take-append-drop, take_at, append-nil, append_assoc}
 use Rattle.std.proofs.lemmas.List.{reverse-append}
-use Rattle.euler_operators.specs.Common.{Model, Sound, effect, inverse}
+use Rattle.euler_operators.specs.Common.{Model, Sound, effect, first_false, inverse}
 use Rattle.euler_operators.specs.declared.Op.{Op}
 use Rattle.euler_laws.specs.Laws.{effects, AreAccepted, inverses}
-use Rattle.euler_laws.proofs.Common.{effects-append, AreAccepted-front, AreAccepted-back, effects_keep_sound, inverses_undo, inverses_go}
-use Rattle.undo_journal.specs.Sessions.{LeadsBothWays, opened, command_of, each_inverse}
+use Rattle.euler_laws.proofs.Common.{effects-append, AreAccepted-append, AreAccepted-front, AreAccepted-back, effects_keep_sound, inverses_undo, inverses_go}
+use Rattle.undo_journal.specs.Sessions.{LeadsBothWays, opened, command_of}
 use Rattle.undo_journal.specs.Machine.{held}
-use Rattle.undo_journal.specs.Journal.{DraftJournal, after_step, IsMark, IsFurther, back_at}
+use Rattle.undo_journal.specs.declared.record.Record.{Record}
+use Rattle.undo_journal.specs.Journal.{Journal, DraftJournal, new_draft, after_step, after_steps, after_commit, recorded, each_inverse, IsMark, IsFurther, IsRecorded, back_at}
 
 -- ---- inverses in their order
 
@@ -84,41 +85,56 @@ module _ (A M : Model) (forward back : List Op) (n : ℕ) (sound : Sound A) (goe
 
 -- ---- further steps
 
+pub further_steps : (d : DraftJournal) (ops : List Op) → AreAccepted d.model ops → IsFurther d (after_steps d ops)
+unfolding IsFurther
+further_steps d ops goes = (ops, goes, refl)
+
+no_steps : (d : DraftJournal) → after_steps d [] ≡ d
+no_steps d i = record { session = d.session; model = d.model; forward = append-nil d.forward i; back = append-nil d.back i }
+
 pub further_none : (d : DraftJournal) → IsFurther d d
-further_none d = record { session = refl; steps = []; forward = sym (append-nil d.forward); inverses = []; back = sym (append-nil d.back) }
+further_none d = subst (IsFurther d) (no_steps d) (further_steps d [] tt)
 
 pub further_same : (d e : DraftJournal) → e ≡ d → IsFurther d e
 further_same d e same = subst (IsFurther d) (sym same) (further_none d)
 
-pub further_step : (d : DraftJournal) (o : Op) → IsFurther d (after_step d o)
-further_step d o = record { session = refl; steps = o ∷ []; forward = refl; inverses = inverse d.model o ∷ []; back = refl }
+pub further_tried : {X Y : Type 0} (d e : DraftJournal) (o : Op) (r : Result X Y) → first_false d.model o ≡ None → OnOk r (e ≡ after_step d o) → OnErr r (e ≡ d) → IsFurther d e
+further_tried d e o (Ok x) goes ok err = subst (IsFurther d) (sym ok) (further_steps d (o ∷ []) (goes, tt))
+further_tried d e o (Err y) goes ok err = further_same d e err
 
-pub further_tried : {X Y : Type 0} (d e : DraftJournal) (o : Op) (r : Result X Y) → OnOk r (e ≡ after_step d o) → OnErr r (e ≡ d) → IsFurther d e
-further_tried d e o (Ok x) ok err = subst (IsFurther d) (sym ok) (further_step d o)
-further_tried d e o (Err y) ok err = further_same d e err
+after_both : (d : DraftJournal) (ops more : List Op) → after_steps (after_steps d ops) more ≡ after_steps d (ops ++ more)
+after_both d ops more =
+    let back = append_assoc d.back (each_inverse d.model ops) (each_inverse (effects d.model ops) more) ∙ ap (λ (xs : List Op). d.back ++ xs) (sym (each-append d.model ops more)) in
+    λ i. record { session = d.session; model = sym (effects-append d.model ops more) i; forward = append_assoc d.forward ops more i; back = back i }
 
 pub further_on : (d e f : DraftJournal) → IsFurther d e → IsFurther e f → IsFurther d f
-further_on d e f a b = record {
-  session = b.session ∙ a.session;
-  steps = a.steps ++ b.steps;
-  forward = b.forward ∙ ap (λ (xs : List Op). xs ++ b.steps) a.forward ∙ append_assoc d.forward a.steps b.steps;
-  inverses = a.inverses ++ b.inverses;
-  back = b.back ∙ ap (λ (xs : List Op). xs ++ b.inverses) a.back ∙ append_assoc d.back a.inverses b.inverses;
-}
+unfolding IsFurther
+further_on d e f a b = (
+  a.0 ++ b.0,
+  AreAccepted-append d.model a.0 b.0 a.1 (subst (λ (x : DraftJournal). AreAccepted x.model b.0) a.2 b.1),
+  b.2 ∙ ap (λ (x : DraftJournal). after_steps x b.0) a.2 ∙ after_both d a.0 b.0,
+)
+
+pub further_session : (d e : DraftJournal) → IsFurther d e → e.session ≡ d.session
+unfolding IsFurther
+further_session d e further = ap (λ (x : DraftJournal). x.session) further.2
+
+-- a draft that was opened, went further and was committed leaves one record
+pub further_recorded : (s t : Journal) (d e : DraftJournal) → d ≡ new_draft s → IsFurther d e → t ≡ after_commit e → IsRecorded s t
+further_recorded s t d e opened further is =
+    let command : Record = record { forward = e.forward; back = reverse e.back } in
+    let session = further_session d e further ∙ ap (λ (x : DraftJournal). x.session) opened in
+    record { command = command; appended = ap (λ (j : Journal). j.records) is ∙ ap (λ (j : Journal). recorded j command) session }
 
 -- going back to a mark gives the draft as it was there
 module _ (d e : DraftJournal) (n : ℕ) (mark : IsMark d n) (further : IsFurther d e) where
-  forward_is : take n e.forward ≡ d.forward
-  forward_is = ap (take n) further.forward ∙ take_at d.forward further.steps n (sym mark.steps)
-
-  back_is : take n e.back ≡ d.back
-  back_is = ap (take n) further.back ∙ take_at d.back further.inverses n (sym mark.inverses)
-
-  model_is : effects (held e.session.machine) (take n e.forward) ≡ d.model
-  model_is = ap (λ (xs : List Op). effects (held e.session.machine) xs) forward_is ∙ ap (λ s. effects (held s.machine) d.forward) further.session ∙ sym mark.model
-
   pub back_at_mark : back_at e n ≡ d
-  back_at_mark i = record { session = further.session i; model = model_is i; forward = forward_is i; back = back_is i }
+  unfolding IsFurther
+  back_at_mark =
+      let forward = take_at d.forward further.0 n (sym mark.steps) in
+      let back = take_at d.back (each_inverse d.model further.0) n (sym mark.inverses) in
+      let model = ap (effects (held d.session.machine)) forward ∙ sym mark.model in
+      ap (λ (x : DraftJournal). back_at x n) further.2 ∙ (λ i. record { session = d.session; model = model i; forward = forward i; back = back i })
 
   pub further_back : (f : DraftJournal) → f ≡ back_at e n → IsFurther d f
   further_back f is = further_same d f (is ∙ back_at_mark)

@@ -6,7 +6,7 @@ use Rattle.euler_operators.specs.declared.Op.{Op}
 use Rattle.euler_laws.specs.Laws.{effects}
 use Rattle.undo_journal.specs.declared.record.Record.{Record}
 use Rattle.undo_journal.specs.Machine.{Machine, held, depth, ahead, accepted, undo, redo}
-use Rattle.undo_journal.specs.Journal.{Journal, DraftJournal, recorded, after_act, after_undo, after_redo, new_draft, after_step, after_commit, IsMark, back_at}
+use Rattle.undo_journal.specs.Journal.{Journal, DraftJournal, recorded, after_act, after_undo, after_redo, new_draft, after_step, after_commit, IsFurther, IsMark, back_at}
 use Rattle.undo_journal.specs.Recorded.{model_at}
 use Rattle.low_euler.specs.Ready.{IsReady}
 use Rattle.low_euler.specs.Room.{IsStepped}
@@ -93,6 +93,15 @@ module _ (s : Store) (records : List Record) (place : ℕ) (forward back : List 
     inverses = sym (ap length kept.paired ∙ each-length (opened s.model back) forward);
     model = sym kept.leads.forward;
   })
+
+  -- the draft is what its steps make of a new one
+  pub steps_seen : IsFurther (new_draft d.session) d
+  unfolding IsFurther
+  steps_seen = subst (λ (x : DraftJournal). IsFurther (new_draft x.session) x) seen (
+    forward,
+    kept.leads.forward_goes,
+    λ i. record { session = journal_of (opened s.model back) records place; model = sym kept.leads.forward i; forward = forward; back = kept.paired i },
+  )
 
   -- the place at which the command is recorded
   committed : take place records ++ command_of forward back ∷ [] ≡ recorded (journal_of (opened s.model back) records place) (command_of forward back)

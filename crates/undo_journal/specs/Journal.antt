@@ -3,8 +3,8 @@ use Rattle.std.specs.Prelude.{◌≡◌, ℕ, List, [], ◌∷◌, ◌++◌, len
 use Rattle.std.specs.Coded.{Coded, code_by, coded×, coded_list}
 use Rattle.euler_operators.specs.contracts.Op as operator
 use Rattle.euler_operators.specs.declared.Op.{Op}
-use Rattle.euler_operators.specs.Common.{Model, inverse}
-use Rattle.euler_laws.specs.Laws.{effects}
+use Rattle.euler_operators.specs.Common.{Model, effect, inverse}
+use Rattle.euler_laws.specs.Laws.{effects, AreAccepted}
 use Rattle.low_euler.specs.Codes.{coded_model}
 use Rattle.undo_journal.specs.contracts.record.Record as command
 use Rattle.undo_journal.specs.declared.record.Record.{Record}
@@ -66,13 +66,18 @@ pub record IsMark (d : DraftJournal) (mark : ℕ) : Type 0 where
   pub inverses : mark ≡ length d.back
   pub model : d.model ≡ effects (held d.session.machine) d.forward
 
--- a draft to which further steps may have come
-pub record IsFurther (old new : DraftJournal) : Type 0 where
-  pub session : new.session ≡ old.session
-  pub steps : List Op
-  pub forward : new.forward ≡ old.forward ++ steps
-  pub inverses : List Op
-  pub back : new.back ≡ old.back ++ inverses
+-- the inverse of each of some operators, in their order
+abbrev pub each_inverse : Model → List Op → List Op
+each_inverse M [] = []
+each_inverse M (o ∷ os) = inverse M o ∷ each_inverse (effect M o) os
+
+-- some steps more, each with its inverse
+abbrev pub after_steps : DraftJournal → List Op → DraftJournal
+after_steps d ops = record { session = d.session; model = effects d.model ops; forward = d.forward ++ ops; back = d.back ++ each_inverse d.model ops }
+
+-- a draft to which further steps may have come, each accepted in its turn
+unfoldable pub IsFurther : DraftJournal → DraftJournal → Type 0
+IsFurther old new = (ops : List Op) × AreAccepted old.model ops × (new ≡ after_steps old ops)
 
 -- the draft with its first steps alone
 abbrev pub back_at : DraftJournal → ℕ → DraftJournal

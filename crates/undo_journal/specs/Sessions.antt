@@ -1,13 +1,13 @@
 -- What a session and a draft hold: one arena, the records of the commands, and a place among them.
 use Rattle.std.specs.Prelude.{◌≡◌, ℕ, ◌≤◌, List, [], ◌∷◌, length, take, drop, reverse}
-use Rattle.euler_operators.specs.Common.{Model, empty_model, effect, inverse}
+use Rattle.euler_operators.specs.Common.{Model, empty_model}
 use Rattle.low_euler.specs.Store.{Store}
 use Rattle.euler_operators.specs.declared.Op.{Op}
 use Rattle.euler_laws.specs.Laws.{effects, AreAccepted}
 use Rattle.low_euler.specs.Ready.{IsReady, HasRoomFor}
 use Rattle.undo_journal.specs.declared.record.Record.{Record}
 use Rattle.undo_journal.specs.Machine.{Machine}
-use Rattle.undo_journal.specs.Journal.{Journal, DraftJournal}
+use Rattle.undo_journal.specs.Journal.{Journal, DraftJournal, each_inverse}
 
 -- the models behind M, the nearest first: records that lead to it are taken back, the last one first
 abbrev pub models_back : Model → List Record → List Model
@@ -82,11 +82,6 @@ draft_of M records place forward back = record { session = journal_of (opened M 
 -- the command that the steps of a draft make
 abbrev pub command_of : List Op → List Op → Record
 command_of forward back = record { forward = forward; back = reverse back }
-
--- the inverse of each of some operators, in their order
-abbrev pub each_inverse : Model → List Op → List Op
-each_inverse M [] = []
-each_inverse M (o ∷ os) = inverse M o ∷ each_inverse (effect M o) os
 
 -- what holds of a draft
 pub record IsDrafted (s : Store) (records : List Record) (place : ℕ) (forward back : List Op) : Type 0 where

@@ -2,10 +2,9 @@
 ghost use Rattle.std.specs.Prelude.{◌≡◌, ◌↔◌, OnOk, OnErr, IfOk, IfErr, None, Some, Err};
 ghost use Rattle.low_euler.specs.Ready.{IsReady};
 ghost use Rattle.euler_operators.specs.Common.{Sound, first_false};
-ghost use Rattle.undo_journal.specs.Machine.{held};
 ghost use Rattle.undo_journal.specs.Journal.{new_draft, after_step, after_commit, IsMark, IsFurther, back_at};
 ghost use Rattle.undo_journal.specs.Sessions.{RecordsHaveRoom, AllHaveRoom};
-ghost use Rattle.undo_journal.specs.Histories.{Follows, IsConsistent};
+ghost use Rattle.undo_journal.specs.Histories.{IsConsistent};
 ghost use Rattle.euler_operators.specs.declared.Refusal.{Refusal};
 
 use crate::record::{OpList, PLACES, Record, Spare, no_spare};
@@ -93,12 +92,12 @@ impl Draft {
         &*self.arena
     }
 
-    /// The session of a draft is as `Session::stays_consistent` says, and accepted operators make the draft's model of the model that it
-    /// holds. It does nothing: its contract is what is proved.
+    /// The session of a draft is as `Session::stays_consistent` says, and the draft is what its steps make of a new one, each accepted in
+    /// its turn. It does nothing: its contract is what is proved.
     pub fn stays_consistent(&self)
         ensures session { IsConsistent self.now.session.machine }
         ensures model { Sound self.now.model }
-        ensures follows { Follows (held self.now.session.machine) self.now.model }
+        ensures further { IsFurther (new_draft self.now.session) self.now }
     {
         let _ = &*self.arena;
     }

@@ -18,6 +18,7 @@ use undo_journal::Draft;
 
 /// Opens solid s along a cycle along which it can be opened, with the numbers after those taken. On `AllocError` some steps may be
 /// taken.
+#[tactic(auto, using(undo_journal::proofs::Marks::further_on))]
 pub(crate) fn open_cycle(
     draft: &mut Draft,
     s: u32,

@@ -29,6 +29,7 @@ fn join_strips(draft: &mut Draft, from: &Counters, count: u32) -> Result<(), All
 }
 
 /// Makes two caps of so many strips, where each of these operators is accepted in its turn. On `AllocError` some may be taken.
+#[tactic(auto, using(undo_journal::proofs::Marks::further_on))]
 pub(crate) fn make_caps(draft: &mut Draft, from: &Counters, count: u32) -> Result<(), AllocError>
     requires some { 1 ≤ count }
     requires faces_left { from.now.faces + count + 1 ≤ 1000000 }

@@ -17,7 +17,7 @@ use undo_journal::Draft;
 /// Opens solid s along each cycle of its section in turn, and closes it there by two caps: the caps of each cycle, in their order.
 ///
 /// On `AllocError` some steps may be taken; the session that the draft came from stands, and `abandon` gives it back.
-#[tactic(auto, using(undo_journal::proofs::Marks::further_none))]
+#[tactic(auto, using(undo_journal::proofs::Marks::further_none, undo_journal::proofs::Marks::further_on))]
 pub(crate) fn open_section(
     alloc: Global,
     draft: &mut Draft,

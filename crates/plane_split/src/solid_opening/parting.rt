@@ -32,6 +32,7 @@ fn outer_caps(caps: &[Caps]) -> Caps
 }
 
 /// Makes the caps of a hole rings of the outer caps, where both operators are accepted in turn.
+#[tactic(auto, using(undo_journal::proofs::Marks::further_on))]
 fn close_hole(draft: &mut Draft, outer: Caps, hole: Caps) -> Result<(), AllocError>
     requires { AreAccepted draft.old.model (Kfmrh outer.lower hole.lower ∷ Kfmrh outer.upper hole.upper ∷ []) }
     ensures model { OnOk result (draft.new.model ≡ effects draft.old.model (Kfmrh outer.lower hole.lower ∷ Kfmrh outer.upper hole.upper ∷ [])) }
@@ -43,7 +44,7 @@ fn close_hole(draft: &mut Draft, outer: Caps, hole: Caps) -> Result<(), AllocErr
 
 /// Makes the caps of each hole rings of the outer caps, where each of these operators is accepted in its turn. On `AllocError` some
 /// may be taken.
-#[tactic(auto, using(undo_journal::proofs::Marks::further_none))]
+#[tactic(auto, using(undo_journal::proofs::Marks::further_none, undo_journal::proofs::Marks::further_on))]
 fn close_holes(draft: &mut Draft, outer: Caps, caps: &[Caps]) -> Result<(), AllocError>
     requires { AreAccepted draft.old.model (holes_ops (caps_of outer) caps.now) }
     ensures model { OnOk result (draft.new.model ≡ effects draft.old.model (holes_ops (caps_of outer) caps.now)) }
@@ -88,6 +89,7 @@ fn push_outer(list: &mut FaceList, caps: &[Caps]) -> Result<(), AllocError>
 
 /// Makes the caps of the holes rings of the caps of the first outer cycle, and then parts the faces above and the caps above that are
 /// left from solid s as solid `upper`, where each of these operators is accepted in its turn. On `AllocError` some may be taken.
+#[tactic(auto, using(undo_journal::proofs::Marks::further_on))]
 pub(crate) fn part_upper(
     alloc: Global,
     draft: &mut Draft,

@@ -18,6 +18,7 @@ use undo_journal::Draft;
 /// Draws edges between the pairs of face f: those in different loops are joined, and then each that is left cuts a new face off.
 /// With one pair the rings above the plane go to the new face. It tells how far the drawing has come then. In the list it keeps the
 /// pairs that are left, whatever was there. On `AllocError` some edges may be drawn.
+#[tactic(auto, using(undo_journal::proofs::Marks::further_on))]
 pub(crate) fn draw_face(
     alloc: Global,
     draft: &mut Draft,

@@ -19,7 +19,7 @@ use undo_journal::Draft;
 
 /// Draws edges between the pairs of some faces, one face after the other, and tells how far the drawing has come then. The pairs come
 /// one face after the other. On `AllocError` some may be drawn.
-#[tactic(auto, using(undo_journal::proofs::Marks::further_none))]
+#[tactic(auto, using(undo_journal::proofs::Marks::further_none, undo_journal::proofs::Marks::further_on))]
 fn draw_faces(
     alloc: Global,
     draft: &mut Draft,
@@ -58,6 +58,7 @@ fn draw_faces(
 /// computed, and noted then.
 ///
 /// On `AllocError` some steps may be taken; the session that the draft came from stands, and `abandon` gives it back.
+#[tactic(auto, using(undo_journal::proofs::Marks::further_on))]
 pub fn draw_solid(
     alloc: Global,
     draft: &mut Draft,

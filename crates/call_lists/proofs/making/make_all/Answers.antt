@@ -26,7 +26,7 @@ loop-call-preserved c =
     record {
       all = append_assoc at.yielded (call ∷ []) _ ∙ rw (← steps) at.invariant.all;
       many = let was = at.invariant.many in let gone = c.in-Some.ensures.steps.1 in omega arith;
-      told = told_more _ _ _ _ _ _ _ call _ at.invariant.told (rw c.unwrap.ensures at c.push.ensures.items) c.make-next.ensures.told c.make-next.ensures.whole;
+      told = told_more _ _ _ _ _ _ _ call _ at.invariant.told (rw c.unwrap.ensures at c.push.ensures.items) c.make-next.ensures.told;
       room = let was = at.invariant.room in let long = rw c.unwrap.ensures at c.push.ensures.len in let wide = c.push.ensures.capacity in omega (arith, was, long, wide, short);
     }
 

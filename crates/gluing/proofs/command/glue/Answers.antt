@@ -3,6 +3,7 @@ use Rattle.shapes.specs.glue.Glue as shapes
 use Rattle.shapes.specs.Common.{glue_model}
 use Rattle.undo_journal.specs.Journal.{Journal, DraftJournal}
 use Rattle.undo_journal.specs.Machine.{accepted}
+use Rattle.undo_journal.proofs.Marks.{further_recorded, further_session}
 use Rattle.gluing.specs.glue_checks.Conditions.{early_refusal}
 use Rattle.gluing.proofs.glue_checks_laws.Conditions.{none_early}
 use Rattle.gluing.proofs.command.glue.Goals as goal
@@ -16,7 +17,7 @@ try_join-requires c = ap (λ (d : DraftJournal). shapes.glue_refusal d.model c.a
 pub returns-in-Ok-try_join-clause-ok : goal.returns-in-Ok-try_join-clause-ok
 returns-in-Ok-try_join-clause-ok c =
     let model = c.in-Ok-try_join.ensures.model ∙ ap (λ (d : DraftJournal). glue_model d.model c.args.f c.args.other) c.in-Ok.ensures.ok in
-    let session = c.in-Ok-try_join.ensures.further.session ∙ ap (λ (d : DraftJournal). d.session) c.in-Ok.ensures.ok in (
+    let session = further_session _ _ c.in-Ok-try_join.ensures.further ∙ ap (λ (d : DraftJournal). d.session) c.in-Ok.ensures.ok in (
       sym (ap (λ M. shapes.glue_refusal M c.args.f c.args.other) c.arena.ensures.model) ∙ c.in_default.ensures.ok,
       ap (λ (j : Journal). j.machine) c.commit.ensures ∙ (λ t. accepted (session t).machine (model t)),
     )
@@ -37,3 +38,6 @@ returns-in-Err-open-clause-memory c = λ error is.
 pub returns-in-Err-try_join-clause-memory : goal.returns-in-Err-try_join-clause-memory
 returns-in-Err-try_join-clause-memory c = λ error is.
     sym (ap (λ M. early_refusal M c.args.f c.args.other) c.arena.ensures.model) ∙ none_early c.arena.result.now.model c.args.f c.args.other c.in_default.ensures.ok
+
+pub returns-in-Ok-try_join-clause-recorded : goal.returns-in-Ok-try_join-clause-recorded
+returns-in-Ok-try_join-clause-recorded c = further_recorded _ _ _ _ c.in-Ok.ensures.ok c.in-Ok-try_join.ensures.further c.commit.ensures

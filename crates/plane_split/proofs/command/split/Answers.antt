@@ -5,6 +5,7 @@ use Rattle.undo_journal.specs.Journal.{Journal, DraftJournal}
 use Rattle.shapes.specs.Common.{split_refusal, split_model}
 use Rattle.split_checks.specs.begin_checks.Conditions.{early_refusal}
 use Rattle.split_checks.proofs.begin_checks_laws.Stages.{none_early}
+use Rattle.undo_journal.proofs.Marks.{further_recorded, further_session}
 use Rattle.plane_split.proofs.Conditions.{same_failure}
 use Rattle.plane_split.proofs.Planes.{plane_is}
 use Rattle.plane_split.proofs.command.split.Goals as goal
@@ -25,7 +26,7 @@ returns-in-Ok-try_split-clause-ok c =
     let opened = c.in-Ok-open.ensures.ok in (
       sym (λ i. split_refusal (opened i).model c.args.s (plane i) c.args.upper) ∙ c.in-Ok-try_split.ensures.ok.0,
       ap (λ (j : Journal). j.machine) c.commit.ensures
-          ∙ (λ i. accepted (c.in-Ok-try_split.ensures.further.session i).machine (c.in-Ok-try_split.ensures.ok.1 i))
+          ∙ (λ i. accepted (further_session _ _ c.in-Ok-try_split.ensures.further i).machine (c.in-Ok-try_split.ensures.ok.1 i))
           ∙ (λ i. accepted (opened i).session.machine (split_model (opened i).model c.args.s (plane i) c.args.upper)),
     )
 
@@ -47,3 +48,6 @@ returns-clause-memory c = λ error is.
     let plane : c.plane_of-plane.result ≡ record { a = c.args.a; b = c.args.b; c = c.args.c; d = c.args.d } =
     c.plane_of-plane.ensures ∙ plane_is c.args.a c.args.b c.args.c c.args.d c.ranges.a c.ranges.b c.ranges.c c.ranges.d in
     sym (λ i. early_refusal (c.arena.ensures.model i) c.args.s (plane i) c.args.upper) ∙ none_early c.arena.result.now.model c.args.s c.plane_of-plane.result c.args.upper c.in-Ok.ensures.ok
+
+pub returns-in-Ok-try_split-clause-recorded : goal.returns-in-Ok-try_split-clause-recorded
+returns-in-Ok-try_split-clause-recorded c = further_recorded _ _ _ _ c.in-Ok-open.ensures.ok c.in-Ok-try_split.ensures.further c.commit.ensures

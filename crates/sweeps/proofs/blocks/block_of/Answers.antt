@@ -3,12 +3,13 @@ use Rattle.shapes.specs.Common.{taken_in, block_refusal, block_model}
 use Rattle.undo_journal.specs.Journal.{Journal, DraftJournal}
 use Rattle.undo_journal.specs.Machine.{accepted}
 use Rattle.euler_laws.proofs.Common.{verdict_passed}
+use Rattle.undo_journal.proofs.Marks.{further_recorded, further_session}
 use Rattle.sweeps.proofs.blocks.block_of.Goals as goal
 
 pub returns-in-Ok-try_block-clause-ok : goal.returns-in-Ok-try_block-clause-ok
 returns-in-Ok-try_block-clause-ok c =
     let model = c.in-Ok-try_block.ensures.ok ∙ ap (λ (d : DraftJournal). block_model d.model c.args.solid c.args.corner c.args.size.x c.args.size.y c.args.size.z) c.in-Ok.ensures.ok in
-    let session = c.in-Ok-try_block.ensures.further.session ∙ ap (λ (d : DraftJournal). d.session) c.in-Ok.ensures.ok in (
+    let session = further_session _ _ c.in-Ok-try_block.ensures.further ∙ ap (λ (d : DraftJournal). d.session) c.in-Ok.ensures.ok in (
       sym (ap (λ M. block_refusal M c.args.solid c.args.corner c.args.size.x c.args.size.y c.args.size.z) c.arena-arena.ensures.model) ∙ verdict_passed _ _ (sym c.in_default.is ∙ c.check_block.ensures),
       ap (λ (j : Journal). j.machine) c.commit.ensures ∙ (λ t. accepted (session t).machine (model t)),
     )
@@ -24,3 +25,6 @@ returns-in-Err-try_block-clause-recorded c = tt
 
 pub returns-in-Err-try_block-clause-err : goal.returns-in-Err-try_block-clause-err
 returns-in-Err-try_block-clause-err c = search rules
+
+pub returns-in-Ok-try_block-clause-recorded : goal.returns-in-Ok-try_block-clause-recorded
+returns-in-Ok-try_block-clause-recorded c = further_recorded _ _ _ _ c.in-Ok.ensures.ok c.in-Ok-try_block.ensures.further c.commit.ensures

@@ -3,12 +3,13 @@ use Rattle.shapes.specs.Common.{taken_in, prism_refusal, prism_model}
 use Rattle.undo_journal.specs.Journal.{Journal, DraftJournal}
 use Rattle.undo_journal.specs.Machine.{accepted}
 use Rattle.euler_laws.proofs.Common.{verdict_passed}
+use Rattle.undo_journal.proofs.Marks.{further_recorded, further_session}
 use Rattle.sweeps.proofs.sweeping.sweep.Goals as goal
 
 pub returns-in-Ok-try_raise-clause-ok : goal.returns-in-Ok-try_raise-clause-ok
 returns-in-Ok-try_raise-clause-ok c =
     let model = c.in-Ok-try_raise.ensures.model ∙ ap (λ (d : DraftJournal). prism_model d.model c.args.f c.args.shift) c.in-Ok.ensures.ok in
-    let session = c.in-Ok-try_raise.ensures.further.session ∙ ap (λ (d : DraftJournal). d.session) c.in-Ok.ensures.ok in (
+    let session = further_session _ _ c.in-Ok-try_raise.ensures.further ∙ ap (λ (d : DraftJournal). d.session) c.in-Ok.ensures.ok in (
       sym (ap (λ M. prism_refusal M c.args.f c.args.shift) c.arena-arena.ensures.model) ∙ verdict_passed _ _ (sym c.in_default.is ∙ c.check_sweep.ensures),
       ap (λ (j : Journal). j.machine) c.commit.ensures ∙ (λ t. accepted (session t).machine (model t)),
     )
@@ -24,3 +25,6 @@ returns-in-Err-try_raise-clause-recorded c = tt
 
 pub returns-in-Err-try_raise-clause-err : goal.returns-in-Err-try_raise-clause-err
 returns-in-Err-try_raise-clause-err c = search rules
+
+pub returns-in-Ok-try_raise-clause-recorded : goal.returns-in-Ok-try_raise-clause-recorded
+returns-in-Ok-try_raise-clause-recorded c = further_recorded _ _ _ _ c.in-Ok.ensures.ok c.in-Ok-try_raise.ensures.further c.commit.ensures

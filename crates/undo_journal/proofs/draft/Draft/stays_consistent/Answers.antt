@@ -1,14 +1,14 @@
 use Rattle.std.proofs.Common.{subst}
 use Rattle.euler_operators.specs.Common.{Sound}
-use Rattle.undo_journal.specs.Machine.{held}
 use Rattle.undo_journal.specs.Journal.{DraftJournal}
-use Rattle.undo_journal.specs.Histories.{Follows, IsConsistent}
+use Rattle.undo_journal.specs.Histories.{IsConsistent}
 use Rattle.undo_journal.proofs.Consistent.{journal_consistent}
+use Rattle.undo_journal.proofs.Seen.{steps_seen}
 use Rattle.undo_journal.proofs.draft.Draft.stays_consistent.Goals as goal
 
 pub returns : goal.returns
 returns c = record {
   session = subst (λ (d : DraftJournal). IsConsistent d.session.machine) c.self.view_is (journal_consistent _ _ _ c.self.invariant.1.journal);
   model = subst (λ (d : DraftJournal). Sound d.model) c.self.view_is c.self.invariant.1.ready.sound;
-  follows = subst (λ (d : DraftJournal). Follows (held d.session.machine) d.model) c.self.view_is (record { operators = c.self.inside.forward.items; are_accepted = c.self.invariant.1.leads.forward_goes; make = c.self.invariant.1.leads.forward });
+  further = steps_seen _ _ _ _ _ _ c.self.invariant.1 c.self.view_is;
 }

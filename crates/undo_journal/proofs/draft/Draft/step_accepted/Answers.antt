@@ -63,5 +63,5 @@ returns-clause-ok c =
 pub returns-clause-further : goal.returns-clause-further
 returns-clause-further c =
     let at = c.deref_mut.ensures.value in
-    further_tried _ _ c.args.op c.step.result (returns-clause-ok c)
+    further_tried _ _ c.args.op c.step.result c.requires (returns-clause-ok c)
     (seen_err _ c.step.new.arena _ _ _ _ _ c.self.invariant.1 (goes_on c) c.step.new.forward.items _ _ c.self.view_is c.step.result (grown_at _ _ _ c.args.op at _ c.step.ensures.err) c.step.ensures.err_forward c.step.ensures.err_back)

@@ -1,0 +1,21 @@
+-- Calls of C on what a handle holds: a slot with a session or a draft, and the last answer.
+use Rattle.std.specs.Prelude.{◌≡◌, Some, List, [], ◌∷◌}
+use Rattle.call_lists.specs.Common.{Call, IsWhole, Stage, Told}
+use Rattle.call_lists.specs.Making.{MakesAll}
+use Rattle.script_running.specs.declared.script_judging.judging.Answer.{Answer}
+use Rattle.session_slots.specs.Common.{Slot, Slot_makes, answer_after}
+
+-- calls one after the other, each on the slot to which those before it lead
+abbrev pub SlotsMake : Slot → List Call → Slot → Type 0
+SlotsMake old [] new = new ≡ old
+SlotsMake old (c ∷ calls) new = (between : Slot) × Slot_makes old c between × SlotsMake between calls new
+
+-- the last answer once calls were told so
+abbrev pub last_answer : Answer → List Told → Answer
+last_answer b [] = b
+last_answer b (a ∷ answers) = last_answer (answer_after b a) answers
+
+-- so they are a list of calls of the session or draft in it, which stays whole, and the slot keeps what the last one was told
+abbrev pub SlotsMakeAll : Type 0
+SlotsMakeAll = (old new : Slot) (calls : List Call) (g : Stage) → old.stage ≡ Some g → IsWhole g → SlotsMake old calls new
+    → (h : Stage) × (answers : List Told) × (new.stage ≡ Some h) × MakesAll g calls answers h × IsWhole h × (new.answer ≡ last_answer old.answer answers)
