@@ -3,7 +3,7 @@
 
     tests/words.py
 
-The README has 1,100 words at most, and all pages together 36,000: README.md and each page in docs, bench, bindings, companions and tests, but not
+The README has 1,100 words at most, and all pages together, without their blocks of code, 32,000: README.md and each page in docs, bench, bindings, companions and tests, but not
 CHANGELOG.md, which grows with each release, nor docs/STATEMENTS.md, which is made from the sources. A word is what stands between blanks. The cell of
 a table has fewer than 200 characters. Each link leads to a file that is there, and to a heading of it; the must-fail edits, and those that turn no
 code, are as many as docs/WRONG_BODIES.md says, and those that pages name are there; the crates of docs/DESIGN.md are those of crates.txt. The last
@@ -17,7 +17,7 @@ from typing import Iterator, List, Set
 from counts import TOP, command_line
 
 README_WORDS = 1_100
-ALL_WORDS = 36_000
+ALL_WORDS = 32_000
 CELL = 200
 _LINK = re.compile(r'\]\(([^)\s]+)\)')
 _EDIT = re.compile(r'`([a-z_]+/[a-z_0-9]+)`')
@@ -34,9 +34,9 @@ def name_of(path: Path) -> str:
     return str(path.relative_to(TOP))
 
 
-def words(path: Path) -> int:
-    """How many words a page has."""
-    return len(path.read_text().split())
+def words(text: str) -> int:
+    """How many words a text has."""
+    return len(text.split())
 
 
 def too_many(name: str, found: int, most: int) -> str:
@@ -116,10 +116,9 @@ def listed_crates() -> Iterator[str]:
 
 def findings() -> Iterator[str]:
     """For each comparison what is wrong, or nothing."""
-    found = {path: words(path) for path in pages()}
-    yield too_many('README.md', found[TOP / 'README.md'], README_WORDS)
-    yield too_many('all pages', sum(found.values()), ALL_WORDS)
-    for path in found:
+    yield too_many('README.md', words((TOP / 'README.md').read_text()), README_WORDS)
+    yield too_many('all pages', sum(words(prose(path)) for path in pages()), ALL_WORDS)
+    for path in pages():
         yield from (long_cells(path), broken_links(path), missing_edits(path))
     yield from counted_edits()
     yield from listed_crates()
