@@ -1,12 +1,13 @@
 -- The solids that are there after each command.
-use Rattle.std.proofs.Common.{ℕ, ℤ, pos, List, is_some, ap, ◌∙◌}
-use Rattle.euler_operators.specs.Common.{Point, Model, solid_of, Has}
+use Rattle.std.proofs.Common.{◌≡◌, ℕ, ℤ, pos, List, None, is_some, ap, ◌∙◌, arith}
+use Rattle.euler_operators.specs.Common.{Point, Model, solid_of, Sound, Has}
 use Rattle.euler_operators.specs.Table as table
-use Rattle.euler_operators.proofs.Common.{get-put_here}
-use Rattle.shapes.specs.Common.{lamina_model, lamina_face, vector, base_of, block_model}
+use Rattle.euler_operators.proofs.Common.{get-put_here, get-remove_here, get-remove_other}
+use Rattle.shapes.specs.Common.{glue_refusal, glue_model, lamina_model, lamina_face, vector, base_of, block_model}
+use Rattle.shapes.proofs.glue.Facts.{glue_goes}
 use Rattle.sweeps_laws.proofs.prism.Accepted.{face_there}
 use Rattle.undo_journal.specs.Machine.{held}
-use Rattle.command_laws.specs.Solids.{BlocksAreThere, LaminasAreThere, SweptAreThere, SweepsKeepSolids}
+use Rattle.command_laws.specs.Solids.{BlocksAreThere, LaminasAreThere, SweptAreThere, SweepsKeepSolids, GluesJoinSolids}
 use Rattle.command_laws.proofs.Kept.{prism_keeps}
 
 pub lamina_there : (M : Model) (s : ℕ) (ps : List Point) → Has (lamina_model M s ps).solids s
@@ -16,6 +17,14 @@ lamina_there M s ps = ap is_some (get-put_here M.solids s tt)
 pub block_there : (M : Model) (s : ℕ) (p : Point) (dx dy dz : ℤ) → Has (block_model M s p dx dy dz).solids s
 unfolding block_model
 block_there M s p dx dy dz = ap (λ t. table.has t s) (prism_keeps (lamina_model M s (base_of p dx dy)) (lamina_face M) (vector (pos 0) (pos 0) dz)).solids ∙ lamina_there M s (base_of p dx dy)
+
+first_stays : (M : Model) (f g : ℕ) → Sound M → glue_refusal M f g ≡ None → Has (glue_model M f g).solids (solid_of M f)
+unfolding glue_model
+first_stays M f g sound e = let goes = glue_goes M f g e in ap is_some (get-remove_other M.solids (solid_of M g) (solid_of M f) goes.solids_apart) ∙ sound.faces_of_solids f goes.f_there
+
+second_goes : (M : Model) (f g : ℕ) → table.get (glue_model M f g).solids (solid_of M g) ≡ None
+unfolding glue_model
+second_goes M f g = get-remove_here M.solids (solid_of M g)
 
 -- ---- the laws
 
@@ -31,3 +40,6 @@ sweeps_keep_solids before after f d made = ap (λ m. (held m).solids) made.1 ∙
 pub swept_are_there : SweptAreThere
 swept_are_there before after f d sound made = ap (λ t. table.has t (solid_of (held before) f)) (sweeps_keep_solids before after f d made)
     ∙ sound.faces_of_solids f (face_there (held before) f d sound made.0)
+
+pub glues_join_solids : GluesJoinSolids
+glues_join_solids before after f g sound made = grind (arith, first_stays, second_goes)

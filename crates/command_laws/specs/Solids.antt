@@ -1,8 +1,9 @@
--- The solids that are there after a block, a lamina and a sweep.
-use Rattle.std.specs.Prelude.{◌≡◌, ℕ, ℤ, List}
+-- The solids that are there after each command.
+use Rattle.std.specs.Prelude.{◌≡◌, ℕ, ℤ, false, List}
 use Rattle.euler_operators.specs.Common.{Point, solid_of, Sound, Has}
+use Rattle.euler_operators.specs.Table as table
 use Rattle.undo_journal.specs.Machine.{Machine, held}
-use Rattle.command_laws.specs.Commands.{IsLamina, IsBlock, IsSweep}
+use Rattle.command_laws.specs.Commands.{IsLamina, IsBlock, IsSweep, IsGlue}
 
 -- a new block and a new lamina
 abbrev pub BlocksAreThere : Type 0
@@ -18,3 +19,8 @@ SweptAreThere = (before after : Machine) (f : ℕ) (d : Point) → Sound (held b
 -- and every solid that was there before a sweep
 abbrev pub SweepsKeepSolids : Type 0
 SweepsKeepSolids = (before after : Machine) (f : ℕ) (d : Point) → IsSweep before after f d → (held after).solids ≡ (held before).solids
+
+-- after a glue the solid of the first face is there, and that of the second is gone
+abbrev pub GluesJoinSolids : Type 0
+GluesJoinSolids = (before after : Machine) (f g : ℕ) → Sound (held before) → IsGlue before after f g →
+    Has (held after).solids (solid_of (held before) f) × (table.has (held after).solids (solid_of (held before) g) ≡ false)

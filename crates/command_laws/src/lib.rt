@@ -6,7 +6,7 @@
 //!
 //! - *New faces* (here): those of a lamina, of a block, and of a sweep of a face without rings, each with its number, solid, corner points and
 //!   plane.
-//! - *Accepted commands* (here): when a block and a glue are; that the solid of a new block, a lamina and a sweep is there.
+//! - *Accepted commands* (here): when a block and a glue are; that the solid of a new block, a lamina, a sweep and a glue is there.
 //! - *What stays* (`frames`): after a lamina, a block and a sweep each loop there before has its face and its content, each edge its ends,
 //!   each vertex its point, and so each face its solid, rings, corner points and plane, but for the face that was swept.
 //! - *Flat faces* (`flat`): those whose corners lie on one plane, the sides of a sweep, a swept face as it was, all of a new block.
@@ -22,7 +22,7 @@ mod splits;
 ghost use Rattle.command_laws.specs.NewFaces.{LaminaHasTwoFaces, LaminaTakesTwoFaces, BlockHasTopAndBottom, BlockHasFourSides, BlockTakesSixFaces, SweptFaceIsFar, SidesStand};
 ghost use Rattle.command_laws.specs.RingedFaces.{RingedFaceIsFar};
 ghost use Rattle.command_laws.specs.Accepted.{BlocksFit, GluesFit};
-ghost use Rattle.command_laws.specs.Solids.{BlocksAreThere, LaminasAreThere, SweptAreThere, SweepsKeepSolids};
+ghost use Rattle.command_laws.specs.Solids.{BlocksAreThere, LaminasAreThere, SweptAreThere, SweepsKeepSolids, GluesJoinSolids};
 
 pub use caps::{caps_close_the_parts, caps_face_apart};
 pub use convex::{
@@ -59,6 +59,11 @@ pub fn solids_are_there()
     ensures lamina { LaminasAreThere }
     ensures sweep { SweptAreThere }
     ensures others { SweepsKeepSolids }
+{}
+
+/// After a glue the solid of the first face is there, so that its measures are answered, and that of the second is gone.
+pub fn glues_keep_and_join()
+    ensures solids { GluesJoinSolids }
 {}
 
 /// A block is accepted where its number is new, its sizes are 1 or more, both corners are in range, and numbers are left.
