@@ -37,7 +37,7 @@ int main(void)
 CMAKE = '''cmake_minimum_required(VERSION 3.10)
 project(try C CXX)
 find_package(gwb {version} REQUIRED)
-set(CMAKE_CXX_STANDARD 17)
+set(CMAKE_CXX_STANDARD 14)
 add_executable(shared try.c)
 target_link_libraries(shared gwb::gwb)
 add_executable(static try.cpp)
@@ -56,18 +56,20 @@ class Installation:
         self._environment['PKG_CONFIG_PATH'] = str(self.prefix / 'lib' / 'pkgconfig')
         self._environment['PATH'] = f'{self.prefix / "bin"}:{os.environ["PATH"]}'
 
-    def make(self, goal: str, stage: Path = Path(), program: Optional[Path] = None) -> subprocess.CompletedProcess:
+    def make(self, goal: str, stage: Path = Path(), program: Optional[Path] = None,
+             libdir: Optional[Path] = None) -> subprocess.CompletedProcess:
         """Runs make for a goal. The archive is one that isn't there where none was given."""
         archive = self.archive or self._out / 'no_archive'
         words = [f'PREFIX={self.prefix}', f'PROGRAM={program or self.program}', f'ARCHIVE={archive}', f'OUT={self._out}']
         words += [f'DESTDIR={stage}'] if stage != Path() else []
+        words += [f'LIBDIR={libdir}'] if libdir else []
         return self.run(['make', '-s', '-C', str(TOP), goal, *words])
 
     def run(self, words: Sequence[object], data: bytes = b'') -> subprocess.CompletedProcess:
         """Runs a command with the installed ones before others on the path; the status is 127 where it isn't there, as a shell has it."""
         all_words = list(map(str, words))
         try:
-            return subprocess.run(all_words, input=data, capture_output=True, timeout=120, env=self._environment, cwd=self.prefix.parent)
+            return subprocess.run(all_words, input=data, capture_output=True, timeout=600, env=self._environment, cwd=self.prefix.parent)
         except FileNotFoundError as error:
             return subprocess.CompletedProcess(all_words, 127, b'', str(error).encode())
 
@@ -117,7 +119,7 @@ def packages(at: Installation) -> Iterator[str]:
 
 
 def cmake(at: Installation) -> Iterator[str]:
-    """Programs in C and C++ that CMake builds with the package that it finds; of another first number it finds none."""
+    """Programs in C and C++ that CMake builds with the package that it finds, which asks for C++17; of another first number it finds none."""
     build = ['cmake', '-S', '.', '-B', 'build', f'-DCMAKE_PREFIX_PATH={at.prefix}']
     source = at.prefix.parent / 'CMakeLists.txt'
     source.write_text(CMAKE.replace('{version}', VERSION))
@@ -161,6 +163,19 @@ def taken_away(at: Installation) -> Iterator[str]:
     yield '' if not files(at.stage) else f'left in the stage: {files(at.stage)}'
 
 
+def elsewhere(at: Installation) -> Iterator[str]:
+    """The library in another folder than lib, where pkg-config finds it, and CMake its headers."""
+    folder = at.prefix / 'lib' / 'elsewhere'
+    yield complaint(at.make('install', libdir=folder))
+    yield '' if (folder / 'libgwb.a').exists() and not (at.prefix / 'lib' / 'libgwb.a').exists() else f'not in {folder}'
+    text = (folder / 'pkgconfig' / 'gwb.pc').read_text()
+    yield '' if f'libdir={folder}\n' in text else f'gwb.pc says {text!r}'
+    text = (folder / 'cmake' / 'gwb' / 'gwb-config.cmake').read_text()
+    yield '' if '/../../../../include" ABSOLUTE' in text else f'gwb-config.cmake says {text!r}'
+    yield complaint(at.make('uninstall', libdir=folder))
+    yield '' if not files(at.prefix) else f'left: {files(at.prefix)}'
+
+
 def without_program(at: Installation) -> Iterator[str]:
     """What isn't built is said, with what to run, and nothing is installed."""
     yield complaint(at.make('install', program=at.prefix / 'no_program'), b'rt run', status=2)
@@ -176,6 +191,8 @@ def findings(program: Path, archive: Optional[Path]) -> Iterator[str]:
         if archive is not None:
             yield from library(at)
         yield from taken_away(at)
+        if archive is not None:
+            yield from elsewhere(at)
 
 
 def main() -> int:
