@@ -5,7 +5,7 @@
 
 Each test that takes a program or a library is started on one that isn't there, and those that need tools where there are none. Each is asked for
 help, and given a word that it doesn't take. What needs something built is started where it isn't. The gate, .ci/run, is run in a folder of its own, in
-which `rt`, .ci/needs, .ci/archive and all tests are stubs that print what they are to. The last line counts.
+which `rt`, .ci/needs, .ci/archive, .ci/unused and all tests are stubs that print what they are to. The last line counts.
 """
 import os
 import re
@@ -126,6 +126,7 @@ def stubs(folder: Path, case: Case) -> None:
     for name in [*tests, 'companions/tests/run.py']:
         stub(folder / name, f"cat <<'END'\n{case.prints.get(name, PASSED)}\nEND")
     stub(folder / '.ci' / 'needs', 'echo ".ci/needs is told: $*"')
+    stub(folder / '.ci' / 'unused', f'echo "{PASSED}"')
     stub(folder / '.ci' / 'archive', 'mkdir -p crates/gwb_c/out && touch crates/gwb_c/out/libgwb_c.a')
     (folder / 'crates.txt').touch()
     made = ''.join(f'mkdir -p {os.path.dirname(name)}; cp .ci/needs {name}; ' for name in case.files)
