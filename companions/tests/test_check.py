@@ -1,8 +1,10 @@
 """`check` finds planted slips, each with the numbers concerned, and nothing where there is none."""
 
+import tempfile
 import unittest
+from pathlib import Path
 
-from support import box, examples, lamina, listing, model_in, turned
+from support import box, examples, lamina, listing, model_in, run, turned
 
 from gwb.checks.check import check
 from gwb.protocol.listing import read_model
@@ -119,6 +121,87 @@ class Check(unittest.TestCase):
             with self.subTest(script.stem):
                 findings = check(read_model(script.with_suffix('.expected').read_bytes())).findings
                 self.assertEqual(findings, [])
+
+
+class Between(unittest.TestCase):
+    """Solids that share room, where it is asked for."""
+
+    def pairs(self, *corners, twist=None):
+        points, solids = [], []
+        for low, high in corners:
+            more, faces = box(low, high, len(points) + 1)
+            points += more
+            solids.append(faces)
+        if twist:
+            points = [twist(point) for point in points]
+        model = model_in(listing(points, *solids))
+        self.assertEqual(check(model).findings, [])
+        return [str(finding) for finding in check(model, between=True).findings]
+
+    def test_blocks(self):
+        whole, told = ((0, 0, 0), (4, 4, 4)), ['overlapping: solids 1 and 2 share room']
+        for name, other, overlap in (
+                ('a corner in it', ((2, 2, 2), (6, 6, 6)), True), ('the same', whole, True), ('within', ((1, 1, 1), (3, 3, 3)), True),
+                ('within, at a face', ((1, 1, 0), (3, 3, 2)), True), ('shifted along an axis', ((2, 0, 0), (6, 4, 4)), True),
+                ('a thin slab whose edges lie on faces', ((1, 0, -90), (2, 4, 900)), True), ('a bar through it', ((1, 1, -5), (2, 2, 9)), True),
+                ('a half of it', ((0, 0, 0), (2, 4, 4)), True), ('beside it', ((4, 0, 0), (6, 4, 4)), False), ('at an edge', ((4, 4, 0), (6, 6, 4)), False),
+                ('at a corner', ((4, 4, 4), (6, 6, 6)), False), ('a part of a face', ((4, 1, 1), (6, 3, 3)), False), ('apart', ((9, 0, 0), (12, 4, 4)), False)):
+            with self.subTest(name):
+                for pair in ((whole, other), (other, whole)):
+                    self.assertEqual(self.pairs(*pair), told if overlap else [])
+                    self.assertEqual(self.pairs(*pair, twist=lambda p: (p[0] + p[1], p[1] + 2 * p[2], p[2] + 3 * p[0])), told if overlap else [])
+
+    def test_which_of_several(self):
+        self.assertEqual(self.pairs(((0, 0, 0), (4, 4, 4)), ((4, 0, 0), (8, 4, 4)), ((3, 1, 1), (5, 3, 3))),
+                         ['overlapping: solids 1 and 3 share room', 'overlapping: solids 2 and 3 share room'])
+
+    def test_one_in_the_hollow_of_another(self):
+        points, faces = box((0, 0, 0), (9, 9, 9))
+        hollow, walls = box((2, 2, 2), (7, 7, 7), 9)
+        for low, overlap in ((3, False), (2, False), (1, True)):
+            inner, others = box((low, 3, 3), (6, 6, 6), 17)
+            found = check(model_in(listing(points + hollow + inner, faces + turned(walls), others)), between=True).findings
+            self.assertEqual(len(found), overlap, low)
+
+    def test_a_bent_solid_is_named(self):
+        points, faces = box((0, 0, 0), (4, 4, 4))
+        points[6] = (4, 4, 5)
+        more, others = box((1, 1, 1), (2, 2, 2), 9)
+        lines = list(check(model_in(listing(points + more, faces, others)), between=True).lines())
+        self.assertIn("not compared with other solids: solid 1: face 2 isn't flat: vertex 7 lies off its plane", [line.replace('vertex 6', 'vertex 7') for line in lines])
+
+
+class Slivers(unittest.TestCase):
+    """Thin faces and solids, where they are asked for."""
+
+    def found(self, points, *solids, most=1000):
+        return [str(finding) for finding in check(model_in(listing(points, *solids)), slivers=most).findings if finding.kind == 'sliver']
+
+    def test_a_plate(self):
+        points, faces = box((0, 0, 0), (10 ** 6, 10 ** 6, 1))
+        told = self.found(points, faces)
+        self.assertEqual(told[-1], 'sliver: solid 1 is 1,414,216 times as long as it is thick')
+        self.assertEqual(sum(line.startswith('sliver: face ') for line in told), 4)
+        self.assertEqual(self.found(*box((0, 0, 0), (100, 100, 1))), [])
+        self.assertEqual(self.found(*box((0, 0, 0), (100, 100, 1)), most=100)[-1], 'sliver: solid 1 is 144 times as long as it is thick')
+
+    def test_a_needle(self):
+        told = self.found([(0, 0, 0), (1, 0, 0), (0, 1, 0), (0, 0, 10 ** 6)], [[(1, 3, 2)], [(1, 2, 4)], [(2, 3, 4)], [(1, 4, 3)]])
+        self.assertEqual(len(told), 4)
+        self.assertIn('sliver: face 2 is 1,000,000 times as long as it is wide', told)
+
+    def test_a_cube(self):
+        self.assertEqual(self.found(*box((0, 0, 0), (7, 7, 7)), most=6), [])
+
+    def test_the_words(self):
+        with tempfile.TemporaryDirectory() as folder:
+            path = Path(folder, 'replies')
+            path.write_text(listing(*box((0, 0, 0), (10 ** 6, 10 ** 6, 1))))
+            self.assertEqual(run('check', str(path)), ('no findings\n', '', 0))
+            outcome = run('check', '--slivers', '1000', '--between', str(path))
+            self.assertEqual((outcome.status, outcome.out.splitlines()[-1]), (1, '5 findings'))
+            for word in ('0', '-1', 'x', '1e3', '9' * 50):
+                self.assertEqual(run('check', '--slivers', word, str(path)).status, 2, word)
 
 
 if __name__ == '__main__':

@@ -1,33 +1,43 @@
 """Looks for slips that gwb doesn't: where the geometry of a sound model isn't that of solids."""
 
-from typing import Iterator, List, NamedTuple
+from typing import Dict, Iterator, List, NamedTuple, Optional
 
 from ..geometry.measures import normal
 from ..geometry.model import Model
 from ..geometry.vectors import ZERO
 from .face_checks import face_findings
 from .findings import Finding
+from .overlap_checks import overlap_findings, unfit_solids
+from .sliver_checks import sliver_findings
 from .solid_checks import SolidCheck
 
 
 class Report(NamedTuple):
-    """What was found, and the faces without an area, which weren't looked at."""
+    """What was found, the faces without an area, which weren't looked at, and the solids that weren't compared with others, with the reasons."""
 
     findings: List[Finding]
     without_area: List[int]
+    alone: Dict[int, str] = {}
 
     def lines(self) -> Iterator[str]:
         """The report, line by line."""
         yield from map(str, self.findings)
         for face in self.without_area:
             yield f'not looked at: face {face} has no area'
+        for solid, why in self.alone.items():
+            yield f'not compared with other solids: solid {solid}: {why}'
         count = len(self.findings)
         yield f'{count or "no"} finding{"" if count == 1 else "s"}'
 
 
-def check(model: Model) -> Report:
-    """Looks at each face, and at each solid by itself."""
+def check(model: Model, between: bool = False, slivers: Optional[int] = None) -> Report:
+    """Looks at each face, and at each solid by itself; with `between` for solids that share room too, with `slivers` for faces and solids that
+    are more than so many times as long as they are wide or thick."""
     without_area = [face for face in model.faces if normal(model, face) == ZERO]
     findings = [finding for face in model.faces if face not in without_area for finding in face_findings(model, face)]
     findings += [finding for solid in model.solids for finding in SolidCheck(model, solid).findings()]
-    return Report(findings, without_area)
+    if slivers is not None:
+        findings += sliver_findings(model, slivers)
+    if between:
+        findings += overlap_findings(model)
+    return Report(findings, without_area, unfit_solids(model) if between and len(model.solids) > 1 else {})

@@ -3,7 +3,6 @@
 import json
 import math
 import struct
-from array import array
 from fractions import Fraction
 from itertools import chain
 from typing import Any, Dict, Iterator, List, NamedTuple, Optional, Sequence, Tuple
@@ -97,15 +96,15 @@ class _Writer:
         if far is not None:
             raise Unfit('the point {} {} {} lies past {:,}, and GLB holds no more exactly'.format(*far, _LARGEST))
         low, high = ([end(parts) for parts in zip(*points)] for end in (min, max))
-        return self._accessor(array('f', chain.from_iterable(points)), _VERTICES, {
+        return self._accessor('f', list(chain.from_iterable(points)), _VERTICES, {
             'componentType': _FLOAT, 'count': len(points), 'type': 'VEC3', 'min': low, 'max': high})
 
     def _corners(self, corners: Sequence[int]) -> int:
         """The accessor of the corners of triangles."""
-        return self._accessor(array('I', corners), _INDICES, {'componentType': _UNSIGNED_INT, 'count': len(corners), 'type': 'SCALAR'})
+        return self._accessor('I', corners, _INDICES, {'componentType': _UNSIGNED_INT, 'count': len(corners), 'type': 'SCALAR'})
 
-    def _accessor(self, numbers: 'array[Any]', target: int, described: Dict[str, Any]) -> int:
-        data = struct.pack(f'<{len(numbers)}{numbers.typecode}', *numbers)
+    def _accessor(self, letter: str, numbers: Sequence[int], target: int, described: Dict[str, Any]) -> int:
+        data = struct.pack(f'<{len(numbers)}{letter}', *numbers)
         self._views.append({'buffer': 0, 'byteOffset': len(self.buffer), 'byteLength': len(data), 'target': target})
         self._accessors.append({'bufferView': len(self._views) - 1, **described})
         self.buffer += data
