@@ -12,12 +12,12 @@
 //! is `command_line`'s, and proved there.
 
 pub use command_line::{Trouble, WordsFault, end, not_text, serve};
-pub use script_running::{RunFault, Summary};
+pub use script_running::{Console, RunFault, Summary};
 use std::alloc::AllocError;
-use std::env;
 use std::fs::File;
 use std::io::{BufWriter, ErrorKind};
 use std::process::ExitCode;
+use std::{env, mem};
 
 /// The words of the command line.
 fn given(rt: &HostRuntime) -> Result<Vec<String>, WordsFault> {
@@ -32,14 +32,26 @@ fn given(rt: &HostRuntime) -> Result<Vec<String>, WordsFault> {
     }
 }
 
-/// Runs the script that the command line chooses.
+/// Runs the script that the command line chooses. Its session isn't freed node by node: it goes with the process, which ends next.
 fn begin(rt: &HostRuntime) -> Result<Summary, Trouble> {
     let words = given(rt)?;
     let Ok(mut writer) = BufWriter::new(rt.alloc(), rt.stdout()) else {
         return Err(Trouble::Run(RunFault::Memory));
     };
+    let Ok(mut console) = Console::new(rt.alloc()) else {
+        return Err(Trouble::Run(RunFault::Memory));
+    };
     let open = |name: &str| File::open(rt, name).ok();
-    serve(rt.alloc(), words.as_slice(), rt.stdin(), open, &mut writer).0
+    let (ended, _) = serve(
+        rt.alloc(),
+        words.as_slice(),
+        rt.stdin(),
+        open,
+        &mut console,
+        &mut writer,
+    );
+    mem::forget(console);
+    ended
 }
 
 fn main(rt: HostRuntime) -> ExitCode {

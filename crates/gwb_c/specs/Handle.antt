@@ -8,7 +8,7 @@ use Rattle.gwb_c.specs.declared.fresh.Range.{Range}
 -- C is told a number alone, and nothing has changed; or R leads to a slot, and C is told the kind of its answer
 abbrev pub Unless : Bool → ℕ → (Slot → Slot → Type 0) → Slot → Option Slot → ℕ → Type 0
 Unless true n R x new kind = (new ≡ Some x) × (kind ≡ n)
-Unless false n R x new kind = (y : Slot) × (new ≡ Some y) × (kind ≡ status_of y.answer) × R x y
+Unless false n R x new kind = (y : Slot) × (new ≡ Some y) × (kind ≡ status_of y.console.answer) × R x y
 
 -- what C is told of a call that a session or a draft hasn't
 abbrev pub lacking : Option Stage → ℕ
@@ -17,7 +17,7 @@ lacking o = cond (is_draft o) 11 12
 -- a call, but where the session or the draft hasn't it; a closed handle stays as it is
 abbrev pub Calls : (Option Stage → Bool) → (Slot → Slot → Type 0) → Option Slot → Option Slot → ℕ → Type 0
 Calls without R None new kind = (new ≡ None) × (kind ≡ 9)
-Calls without R (Some x) new kind = Unless (without x.stage) (lacking x.stage) R x new kind
+Calls without R (Some x) new kind = Unless (without x.console.stage) (lacking x.console.stage) R x new kind
 
 -- each session and each draft has it
 abbrev pub none : Option Stage → Bool
@@ -30,7 +30,7 @@ Hears old line new kind = Calls (lacks_said (spoken line)) (λ x y. Slot_notes x
 -- a number that the session or the draft tells; a closed handle tells the greatest 64-bit number
 abbrev pub Numbers : (Stage → ℕ) → Option Slot → ℕ → Type 0
 Numbers f None n = n ≡ 2 ^ 64 - 1
-Numbers f (Some x) n = (g : Stage) → x.stage ≡ Some g → n ≡ f g
+Numbers f (Some x) n = (g : Stage) → x.console.stage ≡ Some g → n ≡ f g
 
 -- the text of the answer, as far as there is room, and its length; or memory was refused, and nothing is written
 abbrev pub Writes : List ℕ → List ℕ → List ℕ → ℕ → Type 0
@@ -39,11 +39,11 @@ Writes text old new n = ((n ≡ length text) × (new ≡ laid_over text old)) �
 -- the text of an answer; a closed handle has none
 abbrev pub Says : (Slot → Answer) → Option Slot → List ℕ → List ℕ → ℕ → Type 0
 Says f None old new n = (n ≡ 2 ^ 64 - 1) × (new ≡ old)
-Says f (Some x) old new n = (g : Stage) → x.stage ≡ Some g → Writes (text_in (shown g) (f x)) old new n
+Says f (Some x) old new n = (g : Stage) → x.console.stage ≡ Some g → Writes (text_in (shown g) (f x)) old new n
 
 -- that of the last answer, and the listing of the model shown
 abbrev pub Replies : Option Slot → List ℕ → List ℕ → ℕ → Type 0
-Replies o old new n = Says (λ x. x.answer) o old new n
+Replies o old new n = Says (λ x. x.console.answer) o old new n
 
 abbrev pub Lists_model : Option Slot → List ℕ → List ℕ → ℕ → Type 0
 Lists_model o old new n = Says (λ x. Answer.Listing) o old new n
@@ -74,27 +74,27 @@ gives_plane a = GivesBy joined_plane (plane_in a)
 -- what the last answer gives; a closed handle has none
 abbrev pub Recalls : {X : Type 0} → (Answer → X → X → ℕ → Type 0) → Option Slot → X → X → ℕ → Type 0
 Recalls G None old new told = (told ≡ 9) × (new ≡ old)
-Recalls G (Some y) old new told = G y.answer old new told
+Recalls G (Some y) old new told = G y.console.answer old new told
 
 -- a value of the model shown; a closed handle has none
 abbrev pub Reads : {X : Type 0} → (Model → Option X) → Option Slot → X → X → ℕ → Type 0
 Reads f None old new told = (told ≡ 9) × (new ≡ old)
-Reads f (Some y) old new told = (g : Stage) → y.stage ≡ Some g → Gives (f (shown g)) old new told
+Reads f (Some y) old new told = (g : Stage) → y.console.stage ≡ Some g → Gives (f (shown g)) old new told
 
 -- a number that a relation to the model shown fixes; a closed handle has none
 abbrev pub Finds : (Model → Option ℕ → Type 0) → Option Slot → ℕ → ℕ → ℕ → Type 0
 Finds R None old new told = (told ≡ 9) × (new ≡ old)
-Finds R (Some y) old new told = (g : Stage) → y.stage ≡ Some g → (n : Option ℕ) × R (shown g) n × Gives n old new told
+Finds R (Some y) old new told = (g : Stage) → y.console.stage ≡ Some g → (n : Option ℕ) × R (shown g) n × Gives n old new told
 
 -- the fresh numbers of the kind k; a closed handle has none
 abbrev pub GivesFresh : ℕ → Option Slot → Range → Range → ℕ → Type 0
 GivesFresh k None old new told = (told ≡ 9) × (new ≡ old)
-GivesFresh k (Some y) old new told = (g : Stage) → y.stage ≡ Some g → Gives (fresh_in (taken_of y.before) (taken_in (shown g)) k) old new told
+GivesFresh k (Some y) old new told = (g : Stage) → y.console.stage ≡ Some g → Gives (fresh_in (taken_of y.before) (taken_in (shown g)) k) old new told
 
 -- a list that a relation to the model shown allows; a closed handle has none
 abbrev pub Lists : {X : Type 0} → (Model → List X → Type 0) → Option Slot → List X → List X → ℕ → Type 0
 Lists R None old new n = (n ≡ 2 ^ 64 - 1) × (new ≡ old)
-Lists R (Some y) old new n = (g : Stage) → y.stage ≡ Some g → WritesOne (R (shown g)) old new n
+Lists R (Some y) old new n = (g : Stage) → y.console.stage ≡ Some g → WritesOne (R (shown g)) old new n
 
 -- an answer in numbers: its kind, what it gives, and what it refuses; what it hasn't is not written
 abbrev pub Reports : {X : Type 0} → (Answer → X → X → ℕ → Type 0) → Answer → X → X → Refused → Refused → ℕ → Type 0
@@ -103,4 +103,4 @@ Reports G a old new was is kind = (kind ≡ status_of a) × (told : ℕ) × G a 
 -- what a question is answered of the model shown; a closed handle has no answer
 abbrev pub Measures : {X : Type 0} → (Answer → X → X → ℕ → Type 0) → Question → Option Slot → X → X → Refused → Refused → ℕ → Type 0
 Measures G q None old new was is kind = (kind ≡ 9) × (new ≡ old) × (is ≡ was)
-Measures G q (Some x) old new was is kind = (g : Stage) → x.stage ≡ Some g → Reports G (answer_after Answer.Silent (asked (shown g) q)) old new was is kind
+Measures G q (Some x) old new was is kind = (g : Stage) → x.console.stage ≡ Some g → Reports G (answer_after Answer.Silent (asked (shown g) q)) old new was is kind

@@ -21,7 +21,7 @@ pub(crate) fn call(alloc: Global, gwb: &mut Gwb, wanted: Call<'_>) -> u32
     }
     let mut slot = slot;
     make(alloc, slot.slot_mut(), wanted);
-    let kind = status(&slot.slot().answer);
+    let kind = status(&slot.slot().console.answer);
     put(gwb, slot);
     kind
 }

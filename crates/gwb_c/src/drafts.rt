@@ -47,5 +47,5 @@ pub extern "C" fn gwb_lent_mark(gwb: &mut GwbLent) -> usize
     ensures state { gwb.new.lent.loan ≡ gwb.old.lent.loan }
     ensures value { Numbers steps_in (slot_in gwb.old.lent.loan) result }
 {
-    told_of!(gwb, usize::MAX, slot => staged(slot).stage().steps())
+    told_of!(gwb, usize::MAX, slot => staged(slot).steps())
 }

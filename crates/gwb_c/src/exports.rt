@@ -43,7 +43,7 @@ pub extern "C" fn gwb_line(alloc: Global, gwb: &mut Gwb, line: &[u8]) -> u32
 }
 
 fn write_text(alloc: Global, slot: &Slot, answer: &Answer, buf: &mut [u8]) -> usize
-    requires { is_staged slot.now.stage ≡ true }
+    requires { is_staged slot.now.console.stage ≡ true }
     ensures { Says (λ _. answer.now) (Some slot.now) buf.old buf.new result }
 {
     match text_of(alloc, staged(slot).arena(), answer) {
@@ -59,7 +59,7 @@ pub extern "C" fn gwb_lent_reply(alloc: Global, gwb: &mut GwbLent, buf: &mut [u8
     ensures state { gwb.new.lent.loan ≡ gwb.old.lent.loan }
     ensures text { Replies (slot_in gwb.old.lent.loan) buf.old buf.new result }
 {
-    told_of!(gwb, usize::MAX, slot => write_text(alloc, slot, &slot.answer, buf))
+    told_of!(gwb, usize::MAX, slot => write_text(alloc, slot, &slot.console.answer, buf))
 }
 
 /// Writes the listing of the model shown, as far as there is room, and says how long it is: `SIZE_MAX` where memory is refused, or there is
@@ -78,7 +78,7 @@ pub extern "C" fn gwb_lent_depth(gwb: &mut GwbLent) -> usize
     ensures state { gwb.new.lent.loan ≡ gwb.old.lent.loan }
     ensures value { Numbers undos (slot_in gwb.old.lent.loan) result }
 {
-    told_of!(gwb, usize::MAX, slot => staged(slot).stage().depth())
+    told_of!(gwb, usize::MAX, slot => staged(slot).depth())
 }
 
 /// How many commands can be redone, in a draft none: `SIZE_MAX` where there is no session.
@@ -87,5 +87,5 @@ pub extern "C" fn gwb_lent_ahead(gwb: &mut GwbLent) -> usize
     ensures state { gwb.new.lent.loan ≡ gwb.old.lent.loan }
     ensures value { Numbers redos (slot_in gwb.old.lent.loan) result }
 {
-    told_of!(gwb, usize::MAX, slot => staged(slot).stage().ahead())
+    told_of!(gwb, usize::MAX, slot => staged(slot).ahead())
 }

@@ -7,13 +7,6 @@ use euler_operators::Point;
 use session_slots::{Call, Change, Command, Gwb};
 use std::alloc::Global;
 
-/// A larger command.
-fn carry(alloc: Global, gwb: &mut Gwb, wanted: Change<'_>) -> u32
-    ensures { Changes gwb.old.kept.value wanted.entry gwb.new.kept.value result }
-{
-    call(alloc, gwb, Call::Give(Command::Change(wanted)))
-}
-
 /// Makes a block from a corner, of the sizes along x, y and z.
 #[unsafe(no_mangle)]
 pub extern "C" fn gwb_block(
@@ -30,7 +23,8 @@ pub extern "C" fn gwb_block(
     ensures { Changes gwb.old.kept.value (Change.Block solid (record { x = x; y = y; z = z }) dx dy dz) gwb.new.kept.value result }
 {
     let corner = Point { x, y, z };
-    carry(alloc, gwb, Change::Block(solid, corner, dx, dy, dz))
+    let wanted = Change::Block(solid, corner, dx, dy, dz);
+    call(alloc, gwb, Call::Give(Command::Change(wanted)))
 }
 
 /// Moves a face by a vector, with a wall at each of its edges.
@@ -50,7 +44,8 @@ pub extern "C" fn gwb_sweep(
         y: dy,
         z: dz,
     };
-    carry(alloc, gwb, Change::Sweep(face, vector))
+    let wanted = Change::Sweep(face, vector);
+    call(alloc, gwb, Call::Give(Command::Change(wanted)))
 }
 
 /// Glues two solids along a face of each.
@@ -58,7 +53,8 @@ pub extern "C" fn gwb_sweep(
 pub extern "C" fn gwb_glue(alloc: Global, gwb: &mut Gwb, face: u32, other: u32) -> u32
     ensures { Changes gwb.old.kept.value (Change.Glue face other) gwb.new.kept.value result }
 {
-    carry(alloc, gwb, Change::Glue(face, other))
+    let wanted = Change::Glue(face, other);
+    call(alloc, gwb, Call::Give(Command::Change(wanted)))
 }
 
 /// Splits a solid by the plane `a x + b y + c z + d = 0`: what lies above becomes a new solid.
@@ -75,7 +71,8 @@ pub extern "C" fn gwb_split(
 ) -> u32
     ensures { Changes gwb.old.kept.value (Change.Split solid a b c d above) gwb.new.kept.value result }
 {
-    carry(alloc, gwb, Change::Split(solid, a, b, c, d, above))
+    let wanted = Change::Split(solid, a, b, c, d, above);
+    call(alloc, gwb, Call::Give(Command::Change(wanted)))
 }
 
 /// Takes the last command back. A draft hasn't this call.

@@ -21,7 +21,7 @@ fn act(alloc: Global, gwb: &mut Gwb, op: Op) -> u32
     };
     let mut slot = slot;
     session_slots::act(slot.slot_mut(), op);
-    let kind = status(&slot.slot().answer);
+    let kind = status(&slot.slot().console.answer);
     put(gwb, slot);
     kind
 }

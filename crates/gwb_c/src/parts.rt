@@ -17,7 +17,7 @@ fn part(alloc: Global, gwb: &mut Gwb, faces: &[u32], solid: u32) -> u32
     };
     let mut slot = slot;
     session_slots::part(alloc, slot.slot_mut(), faces, solid);
-    let kind = status(&slot.slot().answer);
+    let kind = status(&slot.slot().console.answer);
     put(gwb, slot);
     kind
 }

@@ -17,8 +17,8 @@ fn ask<T: Value>(alloc: Global, gwb: &mut Gwb, question: Question, out: &mut T) 
     };
     let mut slot = slot;
     session_slots::ask(slot.slot_mut(), question);
-    let kind = status(&slot.slot().answer);
-    T::give(&slot.slot().answer, out);
+    let kind = status(&slot.slot().console.answer);
+    T::give(&slot.slot().console.answer, out);
     put(gwb, slot);
     kind
 }

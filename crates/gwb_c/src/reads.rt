@@ -7,6 +7,7 @@ ghost use Rattle.gwb_c.specs.Handle.{Reads, Finds, Lists, GivesFresh};
 use crate::fresh::{Range, fresh_of};
 use crate::told::{CLOSED, give, told_of};
 use session_slots::{EdgeRow, FaceRow, GwbLent, HalfEdgeRow, Place, staged};
+use solid_walks::counters_of;
 
 /// The solid and the outer loop of a face.
 #[unsafe(no_mangle)]
@@ -99,10 +100,7 @@ pub extern "C" fn gwb_lent_vertex_half_edge(gwb: &mut GwbLent, vertex: u32, item
     ensures state { gwb.new.lent.loan ≡ gwb.old.lent.loan }
     ensures value { Finds (IsStart vertex) (slot_in gwb.old.lent.loan) item.old item.new result }
 {
-    told_of!(gwb, CLOSED, slot => {
-        let stage = staged(slot);
-        give(session_slots::vertex_half_edge(stage.arena(), stage.greatest(), vertex), item)
-    })
+    told_of!(gwb, CLOSED, slot => give(session_slots::vertex_half_edge(staged(slot).arena(), vertex), item))
 }
 
 /// Writes the half-edges of a loop in their order round it, from any of them on, as far as there is room, and says how many there are:
@@ -178,5 +176,5 @@ pub extern "C" fn gwb_lent_fresh(gwb: &mut GwbLent, entity: u32, range: &mut Ran
     ensures state { gwb.new.lent.loan ≡ gwb.old.lent.loan }
     ensures value { GivesFresh entity (slot_in gwb.old.lent.loan) range.old range.new result }
 {
-    told_of!(gwb, CLOSED, slot => give(fresh_of(slot.before, staged(slot).greatest(), entity), range))
+    told_of!(gwb, CLOSED, slot => give(fresh_of(slot.before, counters_of(staged(slot).arena()), entity), range))
 }

@@ -12,7 +12,7 @@ fn recall<T: Value>(gwb: &mut GwbLent, out: &mut T) -> u32
     ensures state { gwb.new.lent.loan ≡ gwb.old.lent.loan }
     ensures value { Recalls T.gives (slot_in gwb.old.lent.loan) out.old out.new result }
 {
-    told_of!(gwb, CLOSED, slot => T::give(&slot.answer, out))
+    told_of!(gwb, CLOSED, slot => T::give(&slot.console.answer, out))
 }
 
 /// What the last answer refused.
@@ -30,7 +30,7 @@ pub extern "C" fn gwb_lent_last_fault(gwb: &mut GwbLent, number: &mut u32) -> u3
     ensures state { gwb.new.lent.loan ≡ gwb.old.lent.loan }
     ensures value { Recalls (λ a. Gives (fault_in a)) (slot_in gwb.old.lent.loan) number.old number.new result }
 {
-    told_of!(gwb, CLOSED, slot => give(fault_of(&slot.answer), number))
+    told_of!(gwb, CLOSED, slot => give(fault_of(&slot.console.answer), number))
 }
 
 /// What the last answer counted.

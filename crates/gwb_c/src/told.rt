@@ -16,7 +16,7 @@ const NO_DRAFT: u32 = 12;
 
 /// What a call says that the session or draft hasn't.
 pub(crate) fn lacking(slot: &Slot) -> u32
-    ensures { result ≡ lacking slot.now.stage }
+    ensures { result ≡ lacking slot.now.console.stage }
 {
     if is_drafting(slot) {
         IN_DRAFT
@@ -27,10 +27,10 @@ pub(crate) fn lacking(slot: &Slot) -> u32
 
 /// What a call says of a line: the kind of its answer, or, where it wasn't heard, that the draft hasn't it.
 pub(crate) fn told_of_line(slot: &Slot, heard: bool) -> u32
-    ensures { result ≡ cond heard (status_of slot.now.answer) (lacking slot.now.stage) }
+    ensures { result ≡ cond heard (status_of slot.now.console.answer) (lacking slot.now.console.stage) }
 {
     if heard {
-        status(&slot.answer)
+        status(&slot.console.answer)
     } else {
         lacking(slot)
     }

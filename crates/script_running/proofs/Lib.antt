@@ -1,4 +1,6 @@
-pub mod script_judging_laws
+pub mod Acting
+pub mod Hearing
+pub mod Judged
 pub mod Counting
 pub mod RunLaws
 pub mod Outputs

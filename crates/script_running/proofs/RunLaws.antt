@@ -1,23 +1,26 @@
 -- One line after another.
-use Rattle.std.proofs.Common.{◌≡◌, inl, inr, ℕ, ◌<◌, Bool, true, false, List, [], ◌∷◌, ◌++◌, length, refl, sym, ap, subst, ◌∙◌, arith, append_assoc, Option, Ok, Err, append-nil, ◌⊎◌, nat_lt, IfOk, IfErr, Result, if◌then◌else◌}
+use Rattle.std.proofs.Common.{◌≡◌, inl, inr, ℕ, ◌<◌, Bool, true, false, List, [], ◌∷◌, ◌++◌, length, refl, sym, ap, subst, ◌∙◌, arith, append_assoc, Option, Some, Ok, Err, append-nil, ◌⊎◌, nat_lt, IfOk, IfErr, Result, if◌then◌else◌}
 use Rattle.std.proofs.lemmas.Bool.{false≢true}
 use Rattle.std.proofs.lemmas.Bool.Decides.{nat_tests}
 use Rattle.std.proofs.KnownBytes.{Appends-nil, Appends-kept}
 use Rattle.std.specs.Io.KnownBytes.{Appends, Keeps, Consumes, IsAtEnd}
-use Rattle.script_running.specs.Common.{Answer, EndsEarly, Fault, Found, Gathers, HasRead, IsFresh, Journal, Lines, LongLine, NotAscii, Outgoing, Puts, Says, Request, RunFault, Stops, Summary, request_of, request_of_words, is_ascii, line_of, lines_of, new_journal, outgoing, reader_of, taken_of, to_come, unread_of, within_limit}
+use Rattle.script_running.specs.Common.{Answer, EndsEarly, Fault, Found, Gathers, HasRead, IsFresh, Journal, Lines, LongLine, NotAscii, Outgoing, Puts, Says, Session, Request, RunFault, Stops, Summary, request_of, request_of_words, is_ascii, line_of, lines_of, new_journal, outgoing, reader_of, taken_of, to_come, unread_of, within_limit}
 use Rattle.script_reader.specs.Next.{Went}
 use Rattle.script_reader.specs.Words.{words}
 use Rattle.script_reader.specs.declared.lines.Found.TheVariants as found
 use Rattle.script_reader.proofs.ScriptLaws.{has_begun, has_line_more, has_long_more, is_read_out, breaks_at_fault, breaks_at_limit, falls_by_line, falls_by_long}
 use Rattle.solid_listing.proofs.TellingLaws.{Breaks, Gathers-nil, Gathers-trans, Breaks-after, all_out, went_out}
 use Rattle.solid_listing.specs.declared.reply.Reply.TheVariants as reply
-use Rattle.script_running.specs.script_judging.Settling.{Decides}
+use Rattle.script_running.specs.script_judging.Consoles.{UnlessLacking}
+use Rattle.script_running.specs.script_judging.Hearing.{Hears as ConsoleHears, lacks_said, spoken}
 use Rattle.script_running.specs.script_judging.Judging.{Judges, Answers, answer_text, no_lines, one_line, counted}
 use Rattle.script_running.specs.Outs.{stops, was_stopped, Outs}
 use Rattle.script_running.specs.Output.{output_of, output_from, summary_of, summary_from}
 use Rattle.script_running.specs.Runs.{Moves, Served, BreaksOff, WriteFails, IsTooLong, Runs}
 use Rattle.script_running.specs.declared.running.RunFault.TheVariants as faults
 use Rattle.script_running.proofs.Counting.{counted_assoc, counted_none, none_counted, stop_counted, calm_counted, none_calm}
+use Rattle.script_running.proofs.Judged.{session_hears}
+use Rattle.script_running.specs.declared.script_judging.calls.Console.{Console}
 use Rattle.script_running.proofs.Outputs.{text_at, counts_at, after_to, outs_so, outs_to}
 
 -- what some lines are answered goes before what the lines after them are answered
@@ -72,27 +75,29 @@ long_told line h = let e : nat_lt 65536 (length line) ≡ true = grind (arith, n
 abbrev pub Hears : {R : Type 0} → (R → Option (List ℕ)) → Lines R → Lines R → Journal → Answer → Journal → Type 0
 Hears remaining old new s a t = (Went remaining old new found.Line × Judges s (line_of new) a t) ⊎ (Went remaining old new found.Long × (a ≡ Says (reply.Fault 6)) × (t ≡ s))
 
+-- a run so far, in the session of a console
+pub record IsAt {R : Type 0} (remaining : R → Option (List ℕ)) (first : Option (List ℕ)) (lines : Lines R) (old : Option (List ℕ)) (new : Outgoing) (stop : Bool) (console : Console) (n : Summary) : Type 0 where
+  pub session : Journal
+  pub there : console.stage ≡ Some (Session session)
+  pub progress : Progress remaining first lines old new stop session n
+
+-- the next line was heard in this session, and the console has the one to which it leads
+pub record Heard {R : Type 0} (remaining : R → Option (List ℕ)) (lines next : Lines R) (s : Journal) (console : Console) : Type 0 where
+  pub session : Journal
+  pub there : console.stage ≡ Some (Session session)
+  pub hears : Hears remaining lines next s console.answer session
+
 module _ {R : Type 0} (remaining : R → Option (List ℕ)) (lines next : Lines R) (s : Journal) where
-  heard_as : (t u : Journal) (a b : Answer) → Hears remaining lines next s a t → b ≡ a → u ≡ t → Hears remaining lines next s b u
-  heard_as t u a b h ea et = rw (ea, et) h
-
-  heard_judged : (line : List ℕ) (t u : Journal) (a b : Answer) → Went remaining lines next found.Line → line ≡ line_of next → Judges s line a t → b ≡ a → u ≡ t → Hears remaining lines next s b u
-  heard_judged line t u a b went is judged = heard_as t u a b (inl (went, subst (λ (l : List ℕ). Judges s l a t) is judged))
-
-  -- a line that is answered where the session lies
-  pub heard_line : (line : List ℕ) (done : Bool) (t u : Journal) (a b : Answer) → Went remaining lines next found.Line → line ≡ line_of next → Decides s (λ x y. Judges s line x y) done a t → done ≡ true → b ≡ a → u ≡ t
-      → Hears remaining lines next s b u
-  heard_line line done t u a b went is decided e = heard_judged line t u a b went is (subst (λ (d : Bool). Decides s (λ x y. Judges s line x y) d a t) e decided)
-
-  -- a line for which the session was moved
-  pub heard_moved : (line again : List ℕ) (done : Bool) (m t u : Journal) (x a b : Answer) → Went remaining lines next found.Line → again ≡ line_of next → Decides s (λ y z. Judges s line y z) done x m → done ≡ false
-      → Judges m again a t → b ≡ a → u ≡ t → Hears remaining lines next s b u
-  heard_moved line again true m t u x a b went is decided e judged = absurd (cc e)
-  heard_moved line again false m t u x a b went is stays e judged = heard_judged again t u a b went is (subst (λ (q : Journal). Judges q again a t) stays judged)
+  pub heard_line : (line : List ℕ) (x y z : Console) (heard : Bool) → Went remaining lines next found.Line → line ≡ line_of next → x.stage ≡ Some (Session s)
+      → UnlessLacking (lacks_said (spoken line) x.stage) (λ u v. ConsoleHears u line v) x y heard → z ≡ y → Heard remaining lines next s z
+  heard_line line x y z heard went is there h same =
+      let (t, after, judged) = session_hears x y s line heard there h in
+      subst (Heard remaining lines next s) (sym same) (record { session = t; there = after; hears = inl (went, subst (λ (l : List ℕ). Judges s l y.answer t) is judged) })
 
   -- a line that is too long
-  pub heard_long : (n : ℕ) (b : Answer) (u : Journal) → Went remaining lines next found.Long → n ≡ 6 → b ≡ Says (reply.Fault n) → u ≡ s → Hears remaining lines next s b u
-  heard_long n b u went six told same = inr (went, told ∙ ap (λ (k : ℕ). Says (reply.Fault k)) six, same)
+  pub heard_long : (n : ℕ) (x z : Console) → Went remaining lines next found.Long → n ≡ 6 → x.stage ≡ Some (Session s) → z ≡ record x { answer = Says (reply.Fault n) } → Heard remaining lines next s z
+  heard_long n x z went six there same =
+      subst (Heard remaining lines next s) (sym same) (record { session = s; there = there; hears = inr (went, ap (λ (k : ℕ). Says (reply.Fault k)) six, refl) })
 
 pub turn_of : {R : Type 0} (remaining : R → Option (List ℕ)) (first : Option (List ℕ)) (lines next : Lines R) (old : Option (List ℕ)) (new : Outgoing) (stop : Bool) (s : Journal) (n : Summary) (a : Answer) (t : Journal)
     → Progress remaining first lines old new stop s n → Hears remaining lines next s a t → Turn remaining first next old new stop s n a t
@@ -271,10 +276,6 @@ flush_fails remaining first lines old mid new stop s n f p broken is_write =
 pub from_start : {R : Type 0} (remaining : R → Option (List ℕ)) (given : R) (lines : Lines R) (old new : Option (List ℕ)) (stop : Bool) (r : Result Summary RunFault)
     → IsFresh given lines → Runs (remaining (reader_of lines)) old new stop r → Runs (remaining given) old new stop r
 from_start {R = R} remaining given lines old new stop r fresh h = subst (λ (reader : R). Runs (remaining reader) old new stop r) fresh.reader h
-
--- the run that left this, under other names
-pub same_run : (first old mid new : Option (List ℕ)) (stop : Bool) (r q : Result Summary RunFault) → new ≡ mid → q ≡ r → Runs first old mid stop r → Runs first old new stop q
-same_run first old mid new stop r q e f h = subst (λ (end : Result Summary RunFault). Runs first old new stop end) (sym f) (subst (λ (text : Option (List ℕ)). Runs first old text stop r) (sym e) h)
 
 -- the first memory was refused
 pub nothing_begins : (first last old : Option (List ℕ)) → Consumes first last [] → (m : Moves first old old) × (m.given ≡ []) × (m.out ≡ [])

@@ -1,2 +1,3 @@
 pub mod Judging
-pub mod Settling
+pub mod Consoles
+pub mod Hearing

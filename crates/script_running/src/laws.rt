@@ -1,6 +1,7 @@
 //! Laws of what a run does and writes. Each function does nothing: its contract is what is proved.
 ghost use Rattle.script_running.specs.Histories.{LinesAreCalls, LinesLeadOn, HistoriesMakeConsistent, RunsTellHistories};
 ghost use Rattle.script_running.specs.Laws.{LinesAreTold, OneOutput, HasNoMemory};
+ghost use Rattle.script_running.specs.script_judging.Hearing.{LinesAreJudged};
 
 use commands::commands_are_calls;
 use sweeps::histories_are_consistent;
@@ -8,6 +9,11 @@ use sweeps::histories_are_consistent;
 /// A line that spells a command is answered what the call to give that command to the session is told, and leads on to the same session.
 pub fn lines_are_told()
     ensures { LinesAreTold }
+{}
+
+/// A line that a session hears in a console is answered as a script's line may be, and leads on as it may.
+pub fn lines_are_judged()
+    ensures { LinesAreJudged }
 {}
 
 /// Where no reply is `memory`, the lines of a script have one output, and one summary.

@@ -1,15 +1,16 @@
 #![tactic(auto)]
 //! Running: a whole script answered, from the bytes of a reader to those of a writer.
 //!
-//! `script_judging` has the answer to one line, and what its command does to the session; `running` the lines one after the other.
+//! `script_judging` has a console, which hears a line or takes a call, and what it answers; `running` the lines one after the other.
 //! `one_output` does nothing: its contract is the law that a script has one output where no reply is `memory`. `laws_below` passes on the
 //! laws of the crates below.
 //!
 //! # What is proved
 //!
-//! `judge` answers a line as a session may be told what the line asks for (`Judges`), or leaves it, since the session has to be moved for it,
-//! and nothing has changed; `carry_out` answers any line likewise. A command is answered what the call to give it is told
-//! (`answer_when`; `lines_are_told`). Where the answer is something other than `ok`, the session is as it was, its records too. `complains`
+//! A call is made on a console's session or draft, and answered, as `commands` says that it may be told (`Makes`). `hear` makes the call that a
+//! line spells, or answers the line by itself (`Hears`), but leaves all as it is where a draft hasn't the call; so a session answers it as it
+//! may be told what the line asks for (`Judges`; `lines_are_judged`), and a command what the call to give it is told (`answer_when`;
+//! `lines_are_told`). Where the answer is something other than `ok`, the session is as it was, its records too. `complains`
 //! is true exactly of the answers that begin with `refused`, `fault` or `memory`; `Summary` counts lines and answers (`count`),
 //! and is clean (`is_clean`) exactly where it has none of these. `run` writes replies that the plain machine may give to the
 //! lines of the bytes read, in order, and its `Summary` counts them, whatever comes after these bytes: all lines, or those up to
@@ -26,6 +27,10 @@ mod script_judging;
 #[cfg(test)]
 mod tests;
 
-pub use laws::{lines_are_calls, lines_are_told, one_output, runs_tell_histories};
-pub use running::{RunFault, run};
-pub use script_judging::{Answer, Summary, answer_when, carry_out, judge};
+pub use laws::{
+    lines_are_calls, lines_are_judged, lines_are_told, one_output, runs_tell_histories,
+};
+pub use running::{RunFault, run, run_in};
+pub use script_judging::{
+    Answer, Console, Summary, act, ask, hear, is_drafting, keep_outcome, make, measure,
+};

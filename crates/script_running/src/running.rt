@@ -1,18 +1,20 @@
 //! A whole run.
-ghost use Rattle.std.specs.Prelude.{◌≡◌, [], false, IfOk, IfErr};
+ghost use Rattle.std.specs.Prelude.{◌≡◌, [], false, IfOk, IfErr, Some};
 ghost use Rattle.std.specs.Io.KnownBytes.{Keeps};
-ghost use Rattle.script_running.specs.Common.{IsFresh, Puts, Tells, has_newline, new_journal, outgoing, reader_of, unread_of};
+ghost use Rattle.commands.specs.declared.stage.Stage.TheVariants as stage;
+ghost use Rattle.undo_journal.specs.Journal.{Journal};
+ghost use Rattle.script_running.specs.Common.{IsFresh, Puts, Tells, has_newline, outgoing, reader_of, unread_of};
+ghost use Rattle.script_running.specs.script_judging.Consoles.{IsNew};
 ghost use Rattle.script_running.specs.script_judging.Judging.{answer_text};
 ghost use Rattle.script_running.specs.Outs.{stops};
 ghost use Rattle.script_running.specs.Runs.{Runs};
 
-use crate::script_judging::{Answer, Summary, carry_out, complains, judge};
+use crate::script_judging::{Answer, Console, Summary, complains, hear};
 use script_reader::{Fault, Found, Lines};
 use solid_listing::{Reply, Text, release, tell_listing, tell_reply};
 use std::alloc::Global;
 use std::io::{Read, Write};
 use thiserror::Error;
-use undo_journal::Session;
 
 /// Why a run ended before the end of its script.
 #[derive(Clone, Copy, Debug, PartialEq, Eq, Error)]
@@ -31,22 +33,17 @@ pub enum RunFault {
     Memory,
 }
 
-/// Puts an answer behind the text.
-fn say<W: Write>(
-    text: &mut Text,
-    writer: &mut W,
-    session: &Session,
-    answer: &Answer,
-) -> Result<(), RunFault>
-    ensures tells { Tells (outgoing (W.contents writer.old) text.old) (outgoing (W.contents writer.new) text.new) (answer_text session.now.machine answer.now) result }
+/// Puts the console's answer behind the text.
+fn say<W: Write>(text: &mut Text, writer: &mut W, console: &Console) -> Result<(), RunFault>
+    ensures tells { (s : Journal) → console.now.stage ≡ Some (stage.Session s) → Tells (outgoing (W.contents writer.old) text.old) (outgoing (W.contents writer.new) text.new) (answer_text s.machine console.now.answer) result }
     ensures fault { IfErr result (λ e. e ≡ RunFault.Write) }
 {
-    match answer {
-        Answer::Silent => Ok(()),
-        Answer::Reply(reply) => tell_reply(reply, text, writer).map_err(|_| RunFault::Write),
-        Answer::Listing => {
-            tell_listing(session.arena(), text, writer).map_err(|_| RunFault::Write)
+    match (&console.answer, &console.stage) {
+        (Answer::Reply(reply), _) => tell_reply(reply, text, writer).map_err(|_| RunFault::Write),
+        (Answer::Listing, Some(stage)) => {
+            tell_listing(stage.arena(), text, writer).map_err(|_| RunFault::Write)
         }
+        _ => Ok(()),
     }
 }
 
@@ -119,16 +116,15 @@ fn finish<W: Write>(writer: &mut W, summary: Summary) -> Result<Summary, RunFaul
 fn run_lines<R: Read, W: Write>(
     alloc: Global,
     lines: &mut Lines<R>,
-    mut session: Session,
+    console: &mut Console,
     writer: &mut W,
     stop: bool,
 ) -> Result<Summary, RunFault>
     requires fresh { IsFresh (reader_of lines.old) lines.old }
-    requires start { session ≡ new_journal }
+    requires start { IsNew console.old }
     ensures { Runs (R.remaining (reader_of lines.old)) (W.contents writer.old) (W.contents writer.new) stop result }
 {
     let mut text = Text::new();
-    let mut answer = Answer::Silent;
     let mut summary = Summary::default();
     'script: loop {
         if let Err(fault) = flush(lines, &mut text, writer) {
@@ -136,36 +132,51 @@ fn run_lines<R: Read, W: Write>(
         }
         match lines.advance() {
             Found::Line => {
-                if !judge(&mut session, lines.line(), &mut answer) {
-                    let (next, told) = carry_out(alloc, session, lines.line());
-                    session = next;
-                    answer = told;
-                }
+                hear(alloc, console, lines.line());
             }
-            Found::Long => answer = Answer::Reply(Reply::Fault(Fault::LongLine.code())),
+            Found::Long => console.answer = Answer::Reply(Reply::Fault(Fault::LongLine.code())),
             Found::End => break Ok(summary),
             Found::Read => break Err(RunFault::Read),
             Found::TooLong => break Err(RunFault::TooLong),
         }
-        summary.count(&answer);
-        if let Err(fault) = say(&mut text, writer, &session, &answer) {
+        summary.count(&console.answer);
+        if let Err(fault) = say(&mut text, writer, console) {
             break Err(fault);
         }
-        if stops(stop, &answer) {
+        if stops(stop, &console.answer) {
             break leave(&mut text, writer, summary);
         }
     }
 }
 
-/// Runs a script: judges each line of what the reader gives, in order, and writes its answer. Answers are flushed
-/// before each read that may wait, and at the end. Where `stop` is set, the run ends after the first reply that begins with `refused`,
-/// `fault` or `memory`; bytes after that line may have been read.
+/// Runs a script in a console that has a new session: hears each line of what the reader gives, in order, and writes its answer. Answers are
+/// flushed before each read that may wait, and at the end. Where `stop` is set, the run ends after the first reply that begins with `refused`,
+/// `fault` or `memory`; bytes after that line may have been read. The session that the script leaves is still there, for who lent the console.
 ///
 /// `RunFault::Memory` comes only where the first memory was refused, and then nothing is read or written. After `Read` or
 /// `TooLong` the replies to the lines that were read to their newline are written, and nothing else; after `Write` a prefix
 /// of the replies to the lines read so far.
 ///
 /// A read that a signal interrupts is tried again, at most 1,000,000 times in a row.
+pub fn run_in<R: Read + Drop, W: Write>(
+    alloc: Global,
+    reader: R,
+    console: &mut Console,
+    writer: &mut W,
+    stop: bool,
+) -> Result<Summary, RunFault>
+    requires start { IsNew console.old }
+    ensures { Runs (R.remaining reader) (W.contents writer.old) (W.contents writer.new) stop result }
+{
+    let Ok(mut lines) = Lines::new(alloc, reader) else {
+        return Err(RunFault::Memory);
+    };
+    let summary = run_lines(alloc, &mut lines, console, writer, stop)?;
+    finish(writer, summary)
+}
+
+/// Runs a script: hears each line of what the reader gives, in order, and writes its answer. It is `run_in` in a session of its own, which is
+/// freed at the end.
 pub fn run<R: Read + Drop, W: Write>(
     alloc: Global,
     reader: R,
@@ -174,12 +185,8 @@ pub fn run<R: Read + Drop, W: Write>(
 ) -> Result<Summary, RunFault>
     ensures { Runs (R.remaining reader) (W.contents writer.old) (W.contents writer.new) stop result }
 {
-    let Ok(mut lines) = Lines::new(alloc, reader) else {
+    let Ok(mut console) = Console::new(alloc) else {
         return Err(RunFault::Memory);
     };
-    let Ok(session) = Session::new(alloc) else {
-        return Err(RunFault::Memory);
-    };
-    let summary = run_lines(alloc, &mut lines, session, writer, stop)?;
-    finish(writer, summary)
+    run_in(alloc, reader, &mut console, writer, stop)
 }

@@ -1,8 +1,10 @@
 //! Judging: the answer to a line of a script, and what it does to the session.
 
-mod carrying;
+mod calls;
+mod hearing;
 mod judging;
 
-pub use carrying::carry_out;
+pub use calls::{Console, act, ask, is_drafting, keep_outcome, make, measure};
+pub use hearing::hear;
 pub(crate) use judging::complains;
-pub use judging::{Answer, Summary, answer_when, judge};
+pub use judging::{Answer, Summary};

@@ -6,10 +6,7 @@ mod Values
 mod Loans
 mod Spoken
 mod KeptSteps
-pub mod Acting
-mod Queried
-mod Unchanged
 mod Hearing
-mod Judged
+mod Queried
 mod Walking
 mod Pointers

@@ -2,7 +2,6 @@ pub mod Common
 pub mod Spokes
 pub mod Stages
 pub mod Slots
-pub mod Lines
 pub mod Written
 pub mod Answered
 pub mod Reading
@@ -10,4 +9,3 @@ pub mod Parting
 pub mod Owned
 pub mod Opening
 pub mod Arguments
-pub mod Laws

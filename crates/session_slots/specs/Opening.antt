@@ -5,12 +5,12 @@ use Rattle.session_slots.specs.Common.Below.{new_journal, Answer, Stage, Slot}
 -- what a handle holds: a session or a draft
 abbrev pub stage_in : Option Slot → Option Stage
 stage_in None = None
-stage_in (Some x) = x.stage
+stage_in (Some x) = x.console.stage
 
 -- the answer to the last command
 abbrev pub answer_in : Option Slot → Option Answer
 answer_in None = None
-answer_in (Some x) = Some x.answer
+answer_in (Some x) = Some x.console.answer
 
 -- whether there is a session or a draft
 abbrev pub is_staged : Option Stage → Bool
@@ -20,7 +20,7 @@ is_staged (Some g) = true
 -- whether a handle is closed, or has a session or a draft
 abbrev pub is_whole : Option Slot → Bool
 is_whole None = true
-is_whole (Some x) = is_staged x.stage
+is_whole (Some x) = is_staged x.console.stage
 
 -- a closed handle gets a new session that has answered nothing; else nothing has changed
 abbrev pub Opened : Option Slot → Option Slot → Bool → Type 0

@@ -38,7 +38,7 @@ fn end(gwb: Gwb)
 /// Hands a session over to C, in a closed handle.
 pub fn put(gwb: &mut Gwb, slot: Held)
     requires closed { gwb.old.kept.value ≡ None }
-    requires staged { is_staged slot.stage ≡ true }
+    requires staged { is_staged slot.console.stage ≡ true }
     ensures { gwb.new.kept.value ≡ Some slot }
 {
     let open = Gwb {
@@ -51,7 +51,7 @@ pub fn put(gwb: &mut Gwb, slot: Held)
 /// The session, if there is one: until it is handed over again the handle is closed.
 pub fn take(alloc: Global, gwb: &mut Gwb) -> Option<Held>
     ensures left { gwb.new.kept.value ≡ None }
-    ensures staged { IfSome result (λ h. is_staged h.stage ≡ true) }
+    ensures staged { IfSome result (λ h. is_staged h.console.stage ≡ true) }
     ensures slot { MatchOption result (gwb.old.kept.value ≡ None) (λ h. gwb.old.kept.value ≡ Some h) }
 {
     let Gwb { is_open, kept } = mem::replace(gwb, closed());

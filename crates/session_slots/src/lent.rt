@@ -98,7 +98,7 @@ fn closed() -> GwbLent
 /// What is lent, if the handle is open: until it is given back, the copy is one of a closed handle.
 pub fn show(gwb: &mut GwbLent) -> Option<Shown>
     ensures left { gwb.new.lent.loan ≡ None }
-    ensures staged { IfSome result (λ s. is_staged s.loan.0.stage ≡ true) }
+    ensures staged { IfSome result (λ s. is_staged s.loan.0.console.stage ≡ true) }
     ensures shown { MatchOption result (gwb.old.lent.loan ≡ None) (λ s. gwb.old.lent.loan ≡ Some s.loan) }
 {
     let GwbLent { is_open, lent } = mem::replace(gwb, closed());
@@ -121,7 +121,7 @@ fn end(gwb: GwbLent)
 /// Gives back what is lent.
 pub fn hide(gwb: &mut GwbLent, shown: Shown)
     requires closed { gwb.old.lent.loan ≡ None }
-    requires staged { is_staged shown.loan.0.stage ≡ true }
+    requires staged { is_staged shown.loan.0.console.stage ≡ true }
     ensures { gwb.new.lent.loan ≡ Some shown.loan }
 {
     let open = GwbLent {

@@ -2,17 +2,17 @@
 //! Sessions and drafts in slots: a session or a draft of its next command, beside the answer to the last command and the greatest numbers
 //! in use before it.
 //!
-//! `counted_stage` has a session or a draft with the greatest numbers in use, `calls` what a call does to a slot that is given as a value,
-//! and `lines` what a line does; `parts` makes some faces a solid of their own. `answers` gives the last answer as values, `readers`, `cycles`
+//! `slot` has a console, as a script's run has one, with these numbers; `calls` what a call that is given as a value does to it, and what a line
+//! does; `parts` makes some faces a solid of their own. `answers` gives the last answer as values, `readers`, `cycles`
 //! and `spokes` read the model shown. `handle` has a slot that lies with C, by a pointer (`kept`, `loose`), and is taken out of it for a call
 //! (`held`); `lent` has a copy of a handle whose slot is lent to readers, of which any number may run at once. `arguments` has what C gives
-//! to a call, as the kernel takes it. `laws` has what lines have to do with a script.
+//! to a call, as the kernel takes it.
 //!
 //! # What is proved
 //!
 //! `make` makes a call of any kind on a session or a draft, and `act` an operator, as `commands` says that they may be told (`Slot_does`).
 //! `hear` makes the call that a line spells, or answers the line by itself (`Slot_notes`), but leaves all as it is where a draft hasn't the
-//! call; so a session answers it as the plain machine may in a script (`lines_are_judged`). `ask` tells what the model shown gives, and
+//! call; so a session answers it as the plain machine may in a script (`script_running::lines_are_judged`). `ask` tells what the model shown gives, and
 //! changes no more (`Slot_asks`), and `measure` not even the last answer; `part` does what the operator does (`Slot_makes_part`). The greatest
 //! numbers in use are those of the model shown, whatever was done. What the last answer told, and what a reader tells, are equations, but for
 //! where a loop's list of half-edges begins.
@@ -20,14 +20,11 @@
 mod answers;
 mod arguments;
 mod calls;
-mod counted_stage;
 mod cycles;
 mod handle;
 mod held;
 mod kept;
-mod laws;
 mod lent;
-mod lines;
 mod loose;
 mod parts;
 mod readers;
@@ -39,16 +36,13 @@ pub use answers::{
     status, volume_of,
 };
 pub use arguments::{corner, kev, plus, polygon, ringmv};
-pub use calls::{act, ask, make, measure};
+pub use calls::{act, ask, hear, make, measure};
 pub use commands::{Call, Change, Command, OpenDraft, Points, Question, Stage};
-pub use counted_stage::CountedStage;
 pub use cycles::{HalfEdgeRow, half_edge_rows, half_edges};
 pub use handle::{Gwb, begin, put, take};
 pub use held::Held;
 pub use kept::Kept;
-pub use laws::lines_are_judged;
 pub use lent::{GwbLent, Lent, Shown, hide, show};
-pub use lines::hear;
 pub use parts::part;
 pub use readers::{
     EdgeRow, FaceRow, Place, edge, face, face_after, face_of_loop, first_half_edge, half_edge_loop,

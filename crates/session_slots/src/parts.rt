@@ -2,11 +2,11 @@
 ghost use Rattle.std.specs.Prelude.{◌≡◌, ◌<◌, length, get_or, IfOk};
 ghost use Rattle.session_slots.specs.Common.{solid_of, answer, face_refusal, shown, told_of, part_of, Moves_faces, Slot_parts, Slot_makes_part};
 
-use crate::calls::keep_outcome;
-use crate::counted_stage::CountedStage;
 use crate::slot::{Slot, counted_in};
+use commands::Stage;
 use euler_conditions::Arena;
 use euler_operators::{FaceList, Kind, Op, Refusal, Why, is_number};
+use script_running::keep_outcome;
 use std::alloc::{AllocError, Global};
 use undo_journal::Failure;
 
@@ -43,7 +43,7 @@ fn solid_of(arena: &Arena, face: u32) -> Result<u32, Refusal>
 }
 
 /// Parts some faces, of which there is one, from the solid of the first. Their list is made before the operator's conditions are tested.
-fn part_on(alloc: Global, stage: &mut CountedStage, faces: &[u32], made: u32) -> Result<(), Failure>
+fn part_on(alloc: Global, stage: &mut Stage, faces: &[u32], made: u32) -> Result<(), Failure>
     requires { 0 < length faces.now }
     ensures { Moves_faces (face_refusal (shown stage.old) (get_or faces.now 0 0)) stage.old (part_of (shown stage.old) faces.now made) (told_of result) stage.new }
 {
@@ -52,7 +52,7 @@ fn part_on(alloc: Global, stage: &mut CountedStage, faces: &[u32], made: u32) ->
         Err(refusal) => return Err(Failure::Refused(refusal)),
     };
     match listed(alloc, faces) {
-        Ok(list) => stage.act(Op::Part(from, made, list)),
+        Ok(list) => commands::act(stage, Op::Part(from, made, list)),
         Err(error) => Err(Failure::Memory(error)),
     }
 }
@@ -61,9 +61,9 @@ fn part_in(alloc: Global, slot: &mut Slot, faces: &[u32], made: u32)
     requires { 0 < length faces.now }
     ensures { Slot_parts slot.old faces.now made slot.new }
 {
-    if let Some(stage) = &mut slot.stage {
+    if let Some(stage) = &mut slot.console.stage {
         let ended = part_on(alloc, stage, faces, made);
-        keep_outcome(ended, &mut slot.answer);
+        keep_outcome(ended, &mut slot.console.answer);
     }
 }
 

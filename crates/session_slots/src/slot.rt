@@ -1,38 +1,34 @@
 //! A session or a draft in a slot with its last answer.
 ghost use Rattle.std.specs.Prelude.{◌≡◌, IfSome, Some, length, true};
 ghost use Rattle.euler_conditions.specs.Ready.{IsReady};
-ghost use Rattle.session_slots.specs.Common.{new_journal, is_draft, is_staged, lacks, text_in, Counts_in, laid_over};
+ghost use Rattle.session_slots.specs.Common.{IsNew, is_draft, is_staged, lacks, text_in, Counts_in, laid_over};
 
-use crate::counted_stage::CountedStage;
 use commands::{Call, Command, Stage};
 use euler_conditions::Arena;
-use script_running::Answer;
-use solid_listing::{Reply, write_listing, write_reply};
-use solid_walks::Counters;
+use script_running::{Answer, Console};
+use solid_listing::{write_listing, write_reply};
+use solid_walks::{Counters, counters_of};
 use std::alloc::Global;
-use undo_journal::Session;
 
-/// A session or a draft, and the answer to the last command.
+/// A session or a draft, with the answer to the last command and the greatest numbers in use before it.
 #[derive(Drop)]
 pub struct Slot {
-    pub stage: Option<CountedStage>,
-    pub answer: Answer,
+    pub console: Console,
     /// The greatest numbers in use before the last command.
     pub before: Counters,
 }
 
 /// A new session in its box.
 pub(crate) fn made(alloc: Global) -> Option<Box<Slot, Global>>
-    ensures { IfSome result (λ b. (b.value.stage ≡ Some (Stage.Session new_journal)) × (b.value.answer ≡ Answer.Silent)) }
+    ensures { IfSome result (λ b. IsNew b.value.console × (b.value.console.answer ≡ Answer.Silent)) }
 {
-    let Ok(session) = Session::new(alloc) else {
+    let Ok(console) = Console::new(alloc) else {
         return None;
     };
     Box::new(
         alloc,
         Slot {
-            stage: Some(CountedStage::of(Stage::Session(session))),
-            answer: Answer::Silent,
+            console,
             before: Counters {
                 faces: 0,
                 loops: 0,
@@ -46,40 +42,38 @@ pub(crate) fn made(alloc: Global) -> Option<Box<Slot, Global>>
 
 /// The session or the draft of a slot that has one.
 #[inline(always)]
-pub fn staged(slot: &Slot) -> &CountedStage
-    requires { is_staged slot.now.stage ≡ true }
-    ensures { slot.now.stage ≡ Some result.now }
+pub fn staged(slot: &Slot) -> &Stage
+    requires { is_staged slot.now.console.stage ≡ true }
+    ensures { slot.now.console.stage ≡ Some result.now }
 {
-    match &slot.stage {
+    match &slot.console.stage {
         Some(stage) => stage,
         None => unreachable!(),
     }
 }
 
 /// The greatest numbers in use.
+#[inline(always)]
 pub(crate) fn counted_in(slot: &Slot) -> Counters
     ensures { Counts_in slot.now result }
 {
-    match &slot.stage {
-        Some(stage) => stage.greatest(),
+    match &slot.console.stage {
+        Some(stage) => counters_of(stage.arena()),
         None => slot.before,
     }
 }
 
 /// Whether there is a draft.
 pub fn is_drafting(slot: &Slot) -> bool
-    ensures { result ≡ is_draft slot.now.stage }
+    ensures { result ≡ is_draft slot.now.console.stage }
 {
-    match &slot.stage {
-        Some(stage) => matches!(stage.stage(), Stage::Drafting(_)),
-        None => false,
-    }
+    script_running::is_drafting(&slot.console)
 }
 
 /// Whether the session or draft hasn't the call.
 #[inline(always)]
 pub fn lacks(slot: &Slot, wanted: &Call<'_>) -> bool
-    ensures { result ≡ lacks wanted.now slot.now.stage }
+    ensures { result ≡ lacks wanted.now slot.now.console.stage }
 {
     match wanted {
         Call::Give(Command::Undo) => is_drafting(slot),

@@ -7,7 +7,7 @@ ghost use Rattle.session_slots.specs.Spokes.{IsStart, IsStartOf, IsStartWithin};
 use crate::readers::ends;
 use euler_conditions::Arena;
 use euler_operators::Kind;
-use solid_walks::Counters;
+use solid_walks::{Counters, counters_of};
 
 /// So many numbers on each side of the likely one are looked at first.
 const NEAR: u32 = 3;
@@ -98,14 +98,15 @@ fn far_half_edge(arena: &Arena, greatest: u32, v: u32) -> Option<u32>
     start_within(arena, v, 0, low)
 }
 
-/// A half-edge that starts at a vertex, where no greater numbers are in use than these.
+/// A half-edge that starts at a vertex.
 ///
 /// Any is right, so it looks first where one is likely: about where an edge of the vertex lies if edges and vertices rise evenly, then
 /// by halving for the edge that came with the vertex, and at each edge from there on. Where neither finds one, it looks at all others.
-pub fn vertex_half_edge(arena: &Arena, greatest: Counters, v: u32) -> Option<u32>
+pub fn vertex_half_edge(arena: &Arena, v: u32) -> Option<u32>
     requires { IsReady arena.now }
     ensures { IsStart v arena.now.model result }
 {
+    let greatest = counters_of(arena);
     let place = even_place(greatest, v);
     if let Some(half) = start_within(
         arena,

@@ -9,10 +9,11 @@ pub use Rattle.euler_operators.specs.declared.{Op.Op, Refusal.Refusal}
 pub use Rattle.script_reader.specs.Grammar.{request_of}
 pub use Rattle.script_reader.specs.declared.command.{Fault.Fault, Request.Request}
 pub use Rattle.script_running.specs.declared.script_judging.judging.Answer.{Answer}
-pub use Rattle.script_running.specs.script_judging.Judging.{Judges, answer_when, faulty}
-pub use Rattle.script_running.specs.script_judging.Settling.{unless_not_ascii}
+pub use Rattle.script_running.specs.declared.script_judging.calls.Console.{Console}
+pub use Rattle.script_running.specs.script_judging.Consoles.{IsNew, Makes, Measures, UnlessLacking, act_of, answer_after, is_draft, lacks}
+pub use Rattle.script_running.specs.script_judging.Hearing.{Hears, Spoken, gives, lacks_said, spoken, tells}
+unfoldable pub use Rattle.script_running.specs.script_judging.Hearing.{Says}
 pub use Rattle.session_slots.specs.declared.answers.{Counts.Counts, PlaneRow.PlaneRow, Refused.Refused, Wide.Wide}
-pub use Rattle.session_slots.specs.declared.counted_stage.Way.{Way}
 pub use Rattle.session_slots.specs.declared.cycles.HalfEdgeRow.{HalfEdgeRow}
 pub use Rattle.session_slots.specs.declared.readers.{EdgeRow.EdgeRow, FaceRow.FaceRow, Place.Place}
 pub use Rattle.session_slots.specs.declared.slot.Slot.{Slot}

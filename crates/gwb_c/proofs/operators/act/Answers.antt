@@ -15,10 +15,10 @@ pub returns : goal.returns
 returns c =
     let wanted = call.Give (command.Change (change.Act c.args.op)) in let after = c.act.new.slot in
     goes_on none (λ x y. Slot_does x wanted y) c.args.gwb.now.kept.value c.in-Some.slot c.in-Some.ensures.slot c.put.new.gwb.kept.value c.status-kind.result refl after c.put.ensures
-    (c.status-kind.ensures ∙ ap (λ (x : Slot). status_of x.answer) c.slot.ensures) (subst (λ x. Slot_does x wanted after) c.slot_mut.ensures.value c.act.ensures)
+    (c.status-kind.ensures ∙ ap (λ (x : Slot). status_of x.console.answer) c.slot.ensures) (subst (λ x. Slot_does x wanted after) c.slot_mut.ensures.value c.act.ensures)
 
 pub put-requires-clause-staged : goal.put-requires-clause-staged
 put-requires-clause-staged c =
     let wanted = call.Give (command.Change (change.Act c.args.op)) in let after = c.act.new.slot in
     let made = subst (λ x. Slot_does x wanted after) c.slot_mut.ensures.value c.act.ensures in
-    stays c.in-Some.slot.stage after.stage c.in-Some.ensures.staged (λ g e. ap is_staged (made.0 g e).2)
+    stays c.in-Some.slot.console.stage after.console.stage c.in-Some.ensures.staged (λ g e. ap is_staged (made.0 g e).2)

@@ -9,4 +9,4 @@ pub returns : goal.returns
 returns c =
     let fs = c.args.faces.now in let t = c.args.solid in let after = c.part.new.slot in
     goes_on none (λ x y. Slot_makes_part x fs t y) c.args.gwb.now.kept.value c.in-Some.slot c.in-Some.ensures.slot c.put.new.gwb.kept.value c.status-kind.result refl after c.put.ensures
-    (c.status-kind.ensures ∙ ap (λ (x : Slot). status_of x.answer) c.slot.ensures) (subst (λ x. Slot_makes_part x fs t after) c.slot_mut.ensures.value c.part.ensures)
+    (c.status-kind.ensures ∙ ap (λ (x : Slot). status_of x.console.answer) c.slot.ensures) (subst (λ x. Slot_makes_part x fs t after) c.slot_mut.ensures.value c.part.ensures)

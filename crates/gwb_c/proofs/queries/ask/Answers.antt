@@ -12,4 +12,4 @@ pub returns-clause-state : goal.returns-clause-state
 returns-clause-state g c =
     let q = c.args.question in let after = c.ask.new.slot in
     goes_on none (λ x y. Slot_asks x q y) c.args.gwb.now.kept.value c.in-Some.slot c.in-Some.ensures.slot c.put.new.gwb.kept.value c.status-kind.result refl after c.put.ensures
-    (c.status-kind.ensures ∙ ap (λ (x : Slot). status_of x.answer) c.slot.ensures) (subst (λ x. Slot_asks x q after) c.slot_mut.ensures.value c.ask.ensures)
+    (c.status-kind.ensures ∙ ap (λ (x : Slot). status_of x.console.answer) c.slot.ensures) (subst (λ x. Slot_asks x q after) c.slot_mut.ensures.value c.ask.ensures)

@@ -1,12 +1,12 @@
 use Rattle.std.proofs.Common.{◌+◌, ◌≤◌}
 use Rattle.script_running.specs.Common.{outgoing, reader_of, taken_of, to_come, unread_of}
 use Rattle.script_running.proofs.Counting.{IsWithin}
-use Rattle.script_running.proofs.RunLaws.{Progress}
+use Rattle.script_running.proofs.RunLaws.{IsAt}
 use Rattle.script_running.proofs.running.run_lines.Given as goal
 
 abbrev pub invariant-script : goal.invariant-script
 invariant-script g l = record {
-  progress : Progress g.R.Read.remaining (g.R.Read.remaining (reader_of l.fn.lines)) l.lines (g.W.Write.contents l.fn.writer) (outgoing (g.W.Write.contents l.writer) l.text) l.stop l.session l.summary;
+  at : IsAt g.R.Read.remaining (g.R.Read.remaining (reader_of l.fn.lines)) l.lines (g.W.Write.contents l.fn.writer) (outgoing (g.W.Write.contents l.writer) l.text) l.stop l.console l.summary;
   within : IsWithin l.summary;
   bound : l.summary.lines + to_come (taken_of l.lines) (unread_of l.lines) ≤ 67108865;
 }

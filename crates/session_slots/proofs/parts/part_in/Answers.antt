@@ -1,6 +1,6 @@
 use Rattle.std.proofs.Common.{get_or, refl, subst}
 use Rattle.session_slots.specs.Common.{face_refusal, Stage, shown, told_of, part_of, Moves_faces}
-use Rattle.session_slots.proofs.Acting.{the_same}
+use Rattle.script_running.proofs.Acting.{the_same}
 use Rattle.session_slots.proofs.parts.part_in.Goals as goal
 
 pub returns-in-Some : goal.returns-in-Some
@@ -9,6 +9,6 @@ returns-in-Some c = λ g is.
       h,
       a,
       refl,
-      subst (λ (k : Stage). Moves_faces (face_refusal (shown k) (get_or fs 0 0)) k (part_of (shown k) fs t) a h) (the_same c.in-Some.stage g c.args.slot.now.stage c.in-Some.is is) c.part_on-ended.ensures,
+      subst (λ (k : Stage). Moves_faces (face_refusal (shown k) (get_or fs 0 0)) k (part_of (shown k) fs t) a h) (the_same c.in-Some.stage g c.args.slot.now.console.stage c.in-Some.is is) c.part_on-ended.ensures,
       c.keep_outcome.ensures,
     )

@@ -11,7 +11,7 @@ returns-in-Err c =
 
 pub returns-in-Ok-listed : goal.returns-in-Ok-listed
 returns-in-Ok-listed c =
-    let fs = c.args.faces.now in let f = get_or fs 0 0 in let g = c.args.stage.now in let h = c.act.new.self in
+    let fs = c.args.faces.now in let f = get_or fs 0 0 in let g = c.args.stage.now in let h = c.act.new.stage in
     let told = is_told (face_refusal c.arena.result.now.model f) (solid_of c.arena.result.now.model f) c.in-Ok.from c.in-Ok.ensures in
     let a_face : face_refusal (shown g) f ≡ None = subst (λ (M : Model). face_refusal M f ≡ None) c.arena.ensures.model told.0 in
     let from : c.in-Ok.from ≡ solid_of (shown g) f = told.1 ∙ ap (λ (M : Model). solid_of M f) c.arena.ensures.model in

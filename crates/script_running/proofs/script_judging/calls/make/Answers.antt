@@ -1,0 +1,7 @@
+use Rattle.std.proofs.Common.{sym, subst}
+use Rattle.commands.specs.declared.command.Call.{Call}
+use Rattle.script_running.specs.script_judging.Consoles.{Makes}
+use Rattle.script_running.proofs.script_judging.calls.make.Goals as goal
+
+pub returns-in-Give : goal.returns-in-Give
+returns-in-Give c = subst (λ (k : Call). Makes c.args.console.now k c.give.new.console) (sym c.in-Give.is) c.give.ensures

@@ -1,0 +1,14 @@
+use Rattle.std.proofs.Common.{◌∙◌, Some, refl, ap}
+use Rattle.commands.specs.declared.command.{Call.Call, Command.Command}
+use Rattle.commands.specs.declared.stage.Stage.{Stage}
+use Rattle.commands.proofs.Settling.{settled_move}
+use Rattle.script_running.specs.Common.{told_of_move}
+use Rattle.script_running.specs.script_judging.Consoles.{is_draft}
+use Rattle.script_running.proofs.Acting.{done_there, makes_so}
+use Rattle.script_running.proofs.script_judging.calls.undo.Goals as goal
+
+pub returns-in-Some-Session : goal.returns-in-Some-Session
+returns-in-Some-Session c =
+    let e = c.undo-ended in let t = e.new.self in let there = c.in-Some-Session.is ∙ ap (λ (g : Stage). Some g) c.in-Some-Session.field-0-is in
+    done_there _ _ _ _ (ap is_draft there) (makes_so _ _ _ _ (Call.Give Command.Undo) _ (Stage.Session t) (told_of_move e.result) there refl
+    (t, refl, settled_move _ _ _ e.result e.ensures.ok e.ensures.refused e.ensures.err) c.keep_move.ensures)

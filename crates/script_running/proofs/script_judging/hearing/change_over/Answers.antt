@@ -1,0 +1,7 @@
+use Rattle.std.proofs.Common.{◌∙◌, ap, subst}
+use Rattle.script_reader.specs.Polygon.{over}
+use Rattle.script_running.specs.script_judging.Hearing.{Says, changes}
+use Rattle.script_running.proofs.script_judging.hearing.change_over.Goals as goal
+
+pub returns : goal.returns
+returns c = subst (λ w. Says c.args.console.now (changes w) c.change.new.console) (c.over.ensures ∙ ap (over c.args.outline) c.corners-corners.ensures) c.change.ensures
