@@ -1,7 +1,8 @@
 -- What the program does with its words, standard input and the file that the words name.
-use Rattle.std.specs.Prelude.{◌≡◌, ℕ, ◌⊎◌, Bool, List, [], Option, Some, None, Result, Err, option_map, string_bytes}
+use Rattle.std.specs.Prelude.{◌≡◌, ℕ, ◌⊎◌, Bool, List, [], Option, Some, None, Result, Err, option_map, string_bytes, Ok, ⊤}
 use Rattle.clap.specs.Words.{Text, matches_of}
 use Rattle.clap.specs.Faults.{fault_of}
+use Rattle.script_running.specs.Reaching.{HandsOn}
 use Rattle.script_running.specs.declared.script_judging.judging.Summary.{Summary}
 use Rattle.command_line.specs.Words.{command_line, Chosen, IsCaused}
 use Rattle.command_line.specs.Endings.{trouble_of, Answered}
@@ -36,3 +37,9 @@ Follows {O} {F} opening opens remaining input old new words r = (c : Choice) × 
 
 abbrev pub Serves : {O F : Type 0} → O → (Text → Option F → Type 0) → (F → Option (List ℕ)) → (input old new : Option (List ℕ)) → List Text → Outcome O → Type 0
 Serves {O} {F} opening opens remaining input old new words r = Refuses opening words old new r ⊎ Follows opening opens remaining input old new words r
+
+-- the answers of a run are handed on
+abbrev pub AllHandedOn : Option (List ℕ) → Option (List ℕ) → Result Summary Trouble → Type 0
+AllHandedOn reached contents (Ok summary) = HandsOn reached contents (Ok summary)
+AllHandedOn reached contents (Err (trouble.Run fault)) = HandsOn reached contents (Err fault)
+AllHandedOn reached contents (Err other) = ⊤

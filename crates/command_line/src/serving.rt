@@ -3,16 +3,16 @@ ghost use Rattle.std.specs.Prelude.{◌≡◌, map, option_map, string_bytes};
 ghost use Rattle.std.specs.Fn.{FnOnceReturnsAt};
 ghost use Rattle.script_running.specs.script_judging.Consoles.{IsNew};
 ghost use Rattle.command_line.specs.Endings.{Answered};
-ghost use Rattle.command_line.specs.Serving.{RunsFile, RunsOpened, Serves};
+ghost use Rattle.command_line.specs.Serving.{AllHandedOn, RunsFile, RunsOpened, Serves};
 
 use crate::ending::Trouble;
 use crate::words::{Choice, read_words};
-use script_running::{Console, Summary, run_in};
+use script_running::{Console, Outlet, Summary, run_in};
 use std::alloc::Global;
-use std::io::{Read, Write};
+use std::io::Read;
 
 /// Runs a script.
-fn answer<R: Read + Drop, W: Write>(
+fn answer<R: Read + Drop, W: Outlet>(
     alloc: Global,
     script: R,
     console: &mut Console,
@@ -20,13 +20,14 @@ fn answer<R: Read + Drop, W: Write>(
     stop: bool,
 ) -> Result<Summary, Trouble>
     requires { IsNew console.old }
-    ensures { Answered (R.remaining script) (W.contents writer.old) (W.contents writer.new) stop result }
+    ensures runs { Answered (R.remaining script) (W.contents writer.old) (W.contents writer.new) stop result }
+    ensures reached { AllHandedOn (W.reached writer.new) (W.contents writer.new) result }
 {
     run_in(alloc, script, console, writer, stop).map_err(Trouble::Run)
 }
 
 /// Runs what was opened.
-fn run_opened<F: Read + Drop, W: Write>(
+fn run_opened<F: Read + Drop, W: Outlet>(
     alloc: Global,
     opened: Option<F>,
     console: &mut Console,
@@ -34,7 +35,8 @@ fn run_opened<F: Read + Drop, W: Write>(
     stop: bool,
 ) -> Result<Summary, Trouble>
     requires { IsNew console.old }
-    ensures { RunsOpened F.remaining (W.contents writer.old) (W.contents writer.new) stop result opened }
+    ensures runs { RunsOpened F.remaining (W.contents writer.old) (W.contents writer.new) stop result opened }
+    ensures reached { AllHandedOn (W.reached writer.new) (W.contents writer.new) result }
 {
     match opened {
         Some(script) => answer(alloc, script, console, writer, stop),
@@ -43,7 +45,7 @@ fn run_opened<F: Read + Drop, W: Write>(
 }
 
 /// Runs the script that was chosen; `opening` is handed back where no file is named.
-fn follow<R: Read + Drop, F: Read + Drop, O: FnOnce(&str) -> Option<F> + Drop, W: Write>(
+fn follow<R: Read + Drop, F: Read + Drop, O: FnOnce(&str) -> Option<F> + Drop, W: Outlet>(
     alloc: Global,
     choice: &Choice,
     input: R,
@@ -53,7 +55,8 @@ fn follow<R: Read + Drop, F: Read + Drop, O: FnOnce(&str) -> Option<F> + Drop, W
 ) -> (Result<Summary, Trouble>, Option<O>)
     requires callable { O.IsAlwaysCallable opening }
     requires start { IsNew console.old }
-    ensures { RunsFile opening (FnOnceReturnsAt O.FnOnce opening) F.remaining (R.remaining input) (W.contents writer.old) (W.contents writer.new) choice.now.stop result (option_map string_bytes choice.now.file) }
+    ensures runs { RunsFile opening (FnOnceReturnsAt O.FnOnce opening) F.remaining (R.remaining input) (W.contents writer.old) (W.contents writer.new) choice.now.stop result (option_map string_bytes choice.now.file) }
+    ensures reached { AllHandedOn (W.reached writer.new) (W.contents writer.new) result.0 }
 {
     match &choice.file {
         Some(name) => {
@@ -74,8 +77,8 @@ fn follow<R: Read + Drop, F: Read + Drop, O: FnOnce(&str) -> Option<F> + Drop, W
 /// they give no choice. The script is answered in the console given, whose new session is then the caller's to keep or to let go.
 ///
 /// `Trouble::Words` comes where the words are refused or ask for help or the version, `Trouble::Open` where `opening` gives nothing;
-/// then nothing is read or written. `Trouble::Run` is the run's, or says that memory was refused while the words were read.
-pub fn serve<R: Read + Drop, F: Read + Drop, O: FnOnce(&str) -> Option<F> + Drop, W: Write>(
+/// then nothing is read or written. What is written has been handed on when it ends, but where a write failed. `Trouble::Run` is the run's, or says that memory was refused while the words were read.
+pub fn serve<R: Read + Drop, F: Read + Drop, O: FnOnce(&str) -> Option<F> + Drop, W: Outlet>(
     alloc: Global,
     words: &[String],
     input: R,
@@ -85,7 +88,8 @@ pub fn serve<R: Read + Drop, F: Read + Drop, O: FnOnce(&str) -> Option<F> + Drop
 ) -> (Result<Summary, Trouble>, Option<O>)
     requires callable { O.IsAlwaysCallable opening }
     requires start { IsNew console.old }
-    ensures { Serves opening (FnOnceReturnsAt O.FnOnce opening) F.remaining (R.remaining input) (W.contents writer.old) (W.contents writer.new) (map string_bytes words.now) result }
+    ensures serves { Serves opening (FnOnceReturnsAt O.FnOnce opening) F.remaining (R.remaining input) (W.contents writer.old) (W.contents writer.new) (map string_bytes words.now) result }
+    ensures reached { AllHandedOn (W.reached writer.new) (W.contents writer.new) result.0 }
 {
     match read_words(alloc, words) {
         Ok(choice) => follow(alloc, &choice, input, opening, console, writer),

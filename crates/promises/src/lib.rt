@@ -32,6 +32,7 @@ ghost use Rattle.script_laws.specs.Laws.{RunsTell, BrokenRunsTell, FailedRunsTel
 ghost use Rattle.script_laws.specs.Scripts.{Answered};
 ghost use Rattle.script_running.specs.Histories.{LinesAreCalls, LinesLeadOn, HistoriesMakeConsistent, RunsTellHistories};
 ghost use Rattle.script_running.specs.Laws.{LinesAreTold, OneOutput, HasNoMemory};
+ghost use Rattle.script_running.specs.Reaching.{HandsOn};
 ghost use Rattle.script_running.specs.Runs.{Runs};
 ghost use Rattle.script_running.specs.laws_below.{AcceptedIsAppended, AreAccepted, BlocksAreAccepted, BlocksAreCalls, BlocksAreSound, EffectsAreSound, EmptyIsSound, EulerNumberGrows, GlueAdds, GluedAreSound, GluedSolid, GluesAreAccepted, GluesAreCalls, GluesMakeGlued, HeldAreSound, HeldIsAtThePlace, HeldKeepOthers, HeldLieOnEitherSide, HeldShareVolumes, HistoriesAreConsistent, InversesAreAccepted, InversesOfRunsAreAccepted, InversesOfRunsUndo, InversesUndo, LaminaIsSound, LaminasAreCalls, LargerCommandsAreCalls, ListingTells, NewBlock, NewFlatLamina, NewLamina, NothingIsRefusedWhereAllHold, OperatorsAreAccepted, OperatorsMakeBlocks, OperatorsMakeLamina, OthersStay, OthersThanBlock, OthersThanGlued, OthersThanLamina, OthersThanSwept, PartsAreHeld, PartsAreSolids, PrismsAreSound, RedoMovesThePlace, RefusalsNameTheFirstFalse, RunsAreSound, SplitAreSound, SplitsAreAccepted, SplitsAreCalls, SplitsAreHeld, SplitsKeepOthers, SplitsMakeSplit, SplitsShareVolumes, SweepsAreAccepted, SweepsAreCalls, SweepsMakePrisms, SweptSolid, UndoGivesTheModelBefore, UndoMovesThePlace, VerticesLieOnEitherSide, effects};
 
@@ -47,11 +48,11 @@ use script_laws::{
     undo_and_redo_can_be_left_out, undone_lines_can_be_left_out, undos_lead_back,
 };
 use script_running::{
-    RunFault, Summary, laws_below, lines_are_calls, lines_are_told, one_output, run,
+    Outlet, RunFault, Summary, laws_below, lines_are_calls, lines_are_told, one_output, run,
     runs_tell_histories,
 };
 use std::alloc::{AllocError, Global};
-use std::io::{Read, Write};
+use std::io::Read;
 
 /// After any list of commands, drafts with marks, undos and redos the workbench holds, with equal numbers, coordinates and cyclic loops, the
 /// model of a plain machine that keeps a whole copy of every model. Undoing gives the model before and redoing the model after. A refused
@@ -497,14 +498,16 @@ pub fn every_run_tells_a_history()
 /// What `gwb` does with a script: each line of what the reader gives is answered, in order, and the answers are written. After Ok these
 /// are the answers to all lines, up to the one that stopped the run where `stop` is set; where no reply was `memory` they are the script's
 /// one output. After `Read` or `TooLong` they are those to the lines that came with their newline, after `Write` a prefix of the answers to
-/// the lines that were read, and after `Memory` nothing was read or written.
-pub fn every_line_is_answered<R: Read + Drop, W: Write>(
+/// the lines that were read, and after `Memory` nothing was read or written. But where a write failed, all that was written has been handed on
+/// by the writer; and so it had been when the read began that ended the run.
+pub fn every_line_is_answered<R: Read + Drop, W: Outlet>(
     alloc: Global,
     reader: R,
     writer: &mut W,
     stop: bool,
 ) -> Result<Summary, RunFault>
-    ensures { Runs (R.remaining reader) (W.contents writer.old) (W.contents writer.new) stop result }
+    ensures runs { Runs (R.remaining reader) (W.contents writer.old) (W.contents writer.new) stop result }
+    ensures reached { HandsOn (W.reached writer.new) (W.contents writer.new) result }
 {
     run(alloc, reader, writer, stop)
 }
@@ -512,7 +515,7 @@ pub fn every_line_is_answered<R: Read + Drop, W: Write>(
 /// A script that is run to its end, told of its bytes alone. What is written has an answer to each line in turn; a line that is answered
 /// `memory` counts for those behind it as if it hadn't been there. Where there is none, all that is written is a function of the bytes
 /// that were read, `answers`.
-pub fn every_script_is_answered<R: Read + Drop, W: Write>(
+pub fn every_script_is_answered<R: Read + Drop, W: Outlet>(
     alloc: Global,
     reader: R,
     writer: &mut W,

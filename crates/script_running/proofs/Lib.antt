@@ -3,6 +3,7 @@ pub mod Hearing
 pub mod Judged
 pub mod Counting
 pub mod RunLaws
+pub mod Reaching
 pub mod Outputs
 pub mod Histories
 pub mod Saying

@@ -3,6 +3,7 @@ pub mod script_judging
 pub mod Outs
 pub mod Output
 pub mod Runs
+pub mod Reaching
 pub mod Laws
 pub mod Histories
 pub mod laws_below

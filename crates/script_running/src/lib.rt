@@ -1,7 +1,8 @@
 #![tactic(auto)]
 //! Running: a whole script answered, from the bytes of a reader to those of a writer.
 //!
-//! `script_judging` has a console, which hears a line or takes a call, and what it answers; `running` the lines one after the other.
+//! `script_judging` has a console, which hears a line or takes a call, and what it answers; `running` the lines one after the other; `outlet` the
+//! writer of a run, which knows what it has handed on.
 //! `one_output` does nothing: its contract is the law that a script has one output where no reply is `memory`. `laws_below` passes on the
 //! laws of the crates below.
 //!
@@ -17,11 +18,13 @@
 //! the reply that stops it. Where no reply stopped it, the reader gave its end; where none is `memory`, what was written is
 //! `output_of` the lines, a function of the text of the script. After a read fault, or where the script is too long, exactly the
 //! lines that came with their newlines are answered; after a write fault a prefix of the replies is out; and where the first
-//! memory was refused nothing was read or written. It returns for every reader. `one_output`: where no reply is `memory`, the
+//! memory was refused nothing was read or written. But where a write failed, all that was written has been handed on when the run ends, and so
+//! it was when the read began that ended it (`HandsOn`). It returns for every reader. `one_output`: where no reply is `memory`, the
 //! lines of a script have one output, and one summary.
 
 mod laws;
 pub mod laws_below;
+mod outlet;
 mod running;
 mod script_judging;
 #[cfg(test)]
@@ -30,6 +33,7 @@ mod tests;
 pub use laws::{
     lines_are_calls, lines_are_judged, lines_are_told, one_output, runs_tell_histories,
 };
+pub use outlet::Outlet;
 pub use running::{RunFault, run, run_in};
 pub use script_judging::{
     Answer, Console, Summary, act, ask, hear, is_drafting, keep_outcome, make, measure,

@@ -1,5 +1,5 @@
 //! A whole run.
-ghost use Rattle.std.specs.Prelude.{◌≡◌, [], false, IfOk, IfErr, Some};
+ghost use Rattle.std.specs.Prelude.{◌≡◌, [], false, Err, IfOk, IfErr, OnOk, Some};
 ghost use Rattle.std.specs.Io.KnownBytes.{Keeps};
 ghost use Rattle.commands.specs.declared.stage.Stage.TheVariants as stage;
 ghost use Rattle.undo_journal.specs.Journal.{Journal};
@@ -8,12 +8,14 @@ ghost use Rattle.script_running.specs.script_judging.Consoles.{IsNew};
 ghost use Rattle.script_running.specs.script_judging.Judging.{answer_text};
 ghost use Rattle.script_running.specs.Outs.{stops};
 ghost use Rattle.script_running.specs.Runs.{Runs};
+ghost use Rattle.script_running.specs.Reaching.{HandsOn, Reaches};
 
+use crate::outlet::Outlet;
 use crate::script_judging::{Answer, Console, Summary, complains, hear};
 use script_reader::{Fault, Found, Lines};
 use solid_listing::{Reply, Text, release, tell_listing, tell_reply};
 use std::alloc::Global;
-use std::io::{Read, Write};
+use std::io::Read;
 use thiserror::Error;
 
 /// Why a run ended before the end of its script.
@@ -34,7 +36,7 @@ pub enum RunFault {
 }
 
 /// Puts the console's answer behind the text.
-fn say<W: Write>(text: &mut Text, writer: &mut W, console: &Console) -> Result<(), RunFault>
+fn say<W: Outlet>(text: &mut Text, writer: &mut W, console: &Console) -> Result<(), RunFault>
     ensures tells { (s : Journal) → console.now.stage ≡ Some (stage.Session s) → Tells (outgoing (W.contents writer.old) text.old) (outgoing (W.contents writer.new) text.new) (answer_text s.machine console.now.answer) result }
     ensures fault { IfErr result (λ e. e ≡ RunFault.Write) }
 {
@@ -54,42 +56,41 @@ fn stops(stop: bool, answer: &Answer) -> bool
     stop && complains(answer)
 }
 
-/// Brings the answers out, to their end where a read comes that may wait.
-fn bring_out<W: Write>(text: &mut Text, writer: &mut W, waits: bool) -> Result<(), RunFault>
+/// Brings the answers out, and has them handed on.
+fn bring_out<W: Outlet>(text: &mut Text, writer: &mut W) -> Result<(), RunFault>
     ensures tells { Tells (outgoing (W.contents writer.old) text.old) (outgoing (W.contents writer.new) text.new) [] result }
     ensures none { text.new ≡ [] }
+    ensures reached { OnOk result (Reaches (W.reached writer.new) (W.contents writer.new)) }
     ensures fault { IfErr result (λ e. e ≡ RunFault.Write) }
 {
     let Ok(()) = release(text, writer) else {
         return Err(RunFault::Write);
     };
-    if !waits {
-        return Ok(());
-    }
-    match writer.flush() {
+    match writer.hand_on() {
         Ok(()) => Ok(()),
         Err(_) => Err(RunFault::Write),
     }
 }
 
-/// Brings the answers out where no whole line is left, to their end before a read that may wait.
-fn flush<R: Read, W: Write>(
+/// Brings the answers out, and has them handed on, where no whole line is left: before each read, which may wait.
+fn flush<R: Read, W: Outlet>(
     lines: &Lines<R>,
     text: &mut Text,
     writer: &mut W,
 ) -> Result<(), RunFault>
     ensures tells { Tells (outgoing (W.contents writer.old) text.old) (outgoing (W.contents writer.new) text.new) [] result }
     ensures none { has_newline (unread_of lines.now) ≡ false → text.new ≡ [] }
+    ensures reached { has_newline (unread_of lines.now) ≡ false → OnOk result (Reaches (W.reached writer.new) (W.contents writer.new)) }
     ensures fault { IfErr result (λ e. e ≡ RunFault.Write) }
 {
     if lines.has_whole_line() {
         return Ok(());
     }
-    bring_out(text, writer, !lines.has_line())
+    bring_out(text, writer)
 }
 
 /// Brings the answers out where the run stops.
-fn leave<W: Write>(text: &mut Text, writer: &mut W, summary: Summary) -> Result<Summary, RunFault>
+fn leave<W: Outlet>(text: &mut Text, writer: &mut W, summary: Summary) -> Result<Summary, RunFault>
     ensures puts { Puts (W.contents writer.old) (W.contents writer.new) text.old result }
     ensures ok { IfOk result (λ s. s ≡ summary) }
     ensures fault { IfErr result (λ e. e ≡ RunFault.Write) }
@@ -100,20 +101,21 @@ fn leave<W: Write>(text: &mut Text, writer: &mut W, summary: Summary) -> Result<
     }
 }
 
-/// Brings the last answers out.
-fn finish<W: Write>(writer: &mut W, summary: Summary) -> Result<Summary, RunFault>
+/// Has the last answers handed on.
+fn finish<W: Outlet>(writer: &mut W, summary: Summary) -> Result<Summary, RunFault>
     ensures kept { Keeps (W.contents writer.old) (W.contents writer.new) }
     ensures ok { IfOk result (λ s. s ≡ summary) }
+    ensures reached { OnOk result (Reaches (W.reached writer.new) (W.contents writer.new)) }
     ensures fault { IfErr result (λ e. e ≡ RunFault.Write) }
 {
-    match writer.flush() {
-        Ok(()) => Ok(summary),
-        Err(_) => Err(RunFault::Write),
+    if writer.hand_on().is_err() {
+        return Err(RunFault::Write);
     }
+    Ok(summary)
 }
 
 /// Answers the lines of a script from its start, in a new session.
-fn run_lines<R: Read, W: Write>(
+fn run_lines<R: Read, W: Outlet>(
     alloc: Global,
     lines: &mut Lines<R>,
     console: &mut Console,
@@ -122,7 +124,8 @@ fn run_lines<R: Read, W: Write>(
 ) -> Result<Summary, RunFault>
     requires fresh { IsFresh (reader_of lines.old) lines.old }
     requires start { IsNew console.old }
-    ensures { Runs (R.remaining (reader_of lines.old)) (W.contents writer.old) (W.contents writer.new) stop result }
+    ensures runs { Runs (R.remaining (reader_of lines.old)) (W.contents writer.old) (W.contents writer.new) stop result }
+    ensures reached { IfErr result (λ e. HandsOn (W.reached writer.new) (W.contents writer.new) (Err e)) }
 {
     let mut text = Text::new();
     let mut summary = Summary::default();
@@ -150,7 +153,8 @@ fn run_lines<R: Read, W: Write>(
 }
 
 /// Runs a script in a console that has a new session: hears each line of what the reader gives, in order, and writes its answer. Answers are
-/// flushed before each read that may wait, and at the end. Where `stop` is set, the run ends after the first reply that begins with `refused`,
+/// handed on before each read, which may wait, and at the end: whatever the read gives that ends a run, all answers had been handed on when it
+/// began. Where `stop` is set, the run ends after the first reply that begins with `refused`,
 /// `fault` or `memory`; bytes after that line may have been read. The session that the script leaves is still there, for who lent the console.
 ///
 /// `RunFault::Memory` comes only where the first memory was refused, and then nothing is read or written. After `Read` or
@@ -158,7 +162,7 @@ fn run_lines<R: Read, W: Write>(
 /// of the replies to the lines read so far.
 ///
 /// A read that a signal interrupts is tried again, at most 1,000,000 times in a row.
-pub fn run_in<R: Read + Drop, W: Write>(
+pub fn run_in<R: Read + Drop, W: Outlet>(
     alloc: Global,
     reader: R,
     console: &mut Console,
@@ -166,7 +170,8 @@ pub fn run_in<R: Read + Drop, W: Write>(
     stop: bool,
 ) -> Result<Summary, RunFault>
     requires start { IsNew console.old }
-    ensures { Runs (R.remaining reader) (W.contents writer.old) (W.contents writer.new) stop result }
+    ensures runs { Runs (R.remaining reader) (W.contents writer.old) (W.contents writer.new) stop result }
+    ensures reached { HandsOn (W.reached writer.new) (W.contents writer.new) result }
 {
     let Ok(mut lines) = Lines::new(alloc, reader) else {
         return Err(RunFault::Memory);
@@ -177,13 +182,14 @@ pub fn run_in<R: Read + Drop, W: Write>(
 
 /// Runs a script: hears each line of what the reader gives, in order, and writes its answer. It is `run_in` in a session of its own, which is
 /// freed at the end.
-pub fn run<R: Read + Drop, W: Write>(
+pub fn run<R: Read + Drop, W: Outlet>(
     alloc: Global,
     reader: R,
     writer: &mut W,
     stop: bool,
 ) -> Result<Summary, RunFault>
-    ensures { Runs (R.remaining reader) (W.contents writer.old) (W.contents writer.new) stop result }
+    ensures runs { Runs (R.remaining reader) (W.contents writer.old) (W.contents writer.new) stop result }
+    ensures reached { HandsOn (W.reached writer.new) (W.contents writer.new) result }
 {
     let Ok(mut console) = Console::new(alloc) else {
         return Err(RunFault::Memory);

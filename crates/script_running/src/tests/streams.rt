@@ -1,4 +1,5 @@
 //! Readers and writers over memory that cut and fail.
+use crate::Outlet;
 use std::io::{self, ErrorKind, Read, Write};
 
 /// A reader of a few bytes at a time, which fails after so many reads.
@@ -79,6 +80,12 @@ impl Write for Taker {
     }
 }
 
+impl Outlet for Taker {
+    fn hand_on(&mut self) -> io::Result<()> {
+        self.flush()
+    }
+}
+
 /// A writer that takes everything, and fails after so many flushes.
 #[derive(Drop)]
 pub struct Flushed {
@@ -96,5 +103,11 @@ impl Write for Flushed {
         }
         self.left -= 1;
         Ok(())
+    }
+}
+
+impl Outlet for Flushed {
+    fn hand_on(&mut self) -> io::Result<()> {
+        self.flush()
     }
 }

@@ -4,6 +4,7 @@ use Rattle.script_running.specs.script_judging.Judging.{no_lines}
 use Rattle.script_running.proofs.Counting.{IsWithin, same_counts, counted_within, one_more}
 use Rattle.script_running.proofs.RunLaws.{Progress, Heard, begins, flushed, turn_of, goes_on, heard_line, heard_long, ends, read_fails, too_long, telling_fails, stops_there, flush_fails, falls}
 use Rattle.script_running.proofs.running.run_lines.Goals.{in-Line, in-Long}
+use Rattle.script_running.proofs.Reaching.{failed_write, left}
 use Rattle.script_reader.specs.declared.lines.Found.TheVariants as found
 use Rattle.script_reader.proofs.EndLaws.{no_whole_line}
 use Rattle.script_running.proofs.running.run_lines.Goals as goal
@@ -24,30 +25,30 @@ script-init g c =
       bound = rw (zero, fresh.taken, fresh.unread) (omega arith);
     }
 
-pub returns-in-Err : goal.returns-in-Err
-returns-in-Err g c =
+pub returns-in-Err-clause-runs : goal.returns-in-Err-clause-runs
+returns-in-Err-clause-runs g c =
     flush_fails g.R.Read.remaining _ c.script.lines _ (outgoing (g.W.Write.contents c.script.writer) c.script.text) (outgoing (g.W.Write.contents c.flush.new.writer) c.flush.new.text) c.args.stop _ _ c.in-Err.fault c.script.invariant.at.progress c.in-Err.ensures.tells c.in-Err.ensures.fault
 
-pub returns-in-End : goal.returns-in-End
-returns-in-End g c =
+pub returns-in-End-clause-runs : goal.returns-in-End-clause-runs
+returns-in-End-clause-runs g c =
     let at = flushed g.R.Read.remaining _ c.script.lines _ (outgoing (g.W.Write.contents c.script.writer) c.script.text) (outgoing (g.W.Write.contents c.flush.new.writer) c.flush.new.text) _ _ _ c.script.invariant.at.progress c.in_default.ensures.tells in
     ends g.R.Read.remaining _ c.script.lines c.advance.new.self _ (outgoing (g.W.Write.contents c.flush.new.writer) c.flush.new.text) _ _ _ at c.in-End.ensures
     (c.in_default.ensures.none (no_whole_line g.R.Read.remaining c.script.lines c.advance.new.self found.End tt c.in-End.ensures))
 
-pub returns-in-Read : goal.returns-in-Read
-returns-in-Read g c =
+pub returns-in-Read-clause-runs : goal.returns-in-Read-clause-runs
+returns-in-Read-clause-runs g c =
     let at = flushed g.R.Read.remaining _ c.script.lines _ (outgoing (g.W.Write.contents c.script.writer) c.script.text) (outgoing (g.W.Write.contents c.flush.new.writer) c.flush.new.text) _ _ _ c.script.invariant.at.progress c.in_default.ensures.tells in
     read_fails g.R.Read.remaining _ c.script.lines c.advance.new.self _ (outgoing (g.W.Write.contents c.flush.new.writer) c.flush.new.text) _ _ _ at c.in-Read.ensures
     (c.in_default.ensures.none (no_whole_line g.R.Read.remaining c.script.lines c.advance.new.self found.Read tt c.in-Read.ensures))
 
-pub returns-in-TooLong : goal.returns-in-TooLong
-returns-in-TooLong g c =
+pub returns-in-TooLong-clause-runs : goal.returns-in-TooLong-clause-runs
+returns-in-TooLong-clause-runs g c =
     let at = flushed g.R.Read.remaining _ c.script.lines _ (outgoing (g.W.Write.contents c.script.writer) c.script.text) (outgoing (g.W.Write.contents c.flush.new.writer) c.flush.new.text) _ _ _ c.script.invariant.at.progress c.in_default.ensures.tells in
     too_long g.R.Read.remaining _ c.script.lines c.advance.new.self _ (outgoing (g.W.Write.contents c.flush.new.writer) c.flush.new.text) _ _ _ at c.in-TooLong.ensures
     (c.in_default.ensures.none (no_whole_line g.R.Read.remaining c.script.lines c.advance.new.self found.TooLong tt c.in-TooLong.ensures))
 
-pub returns-in-Err-say : goal.returns-in-Err-say
-returns-in-Err-say g c =
+pub returns-in-Err-say-clause-runs : goal.returns-in-Err-say-clause-runs
+returns-in-Err-say-clause-runs g c =
     let told : Heard g.R.Read.remaining c.script.lines c.advance.new.self c.script.invariant.at.session c.match-advance.console = elim c.match-advance.branch [
       | in-Line w ↦ heard_line g.R.Read.remaining _ _ _ w.line.result.now c.script.console w.hear.new.console _ w.hear.result w.in-Line.ensures w.line.ensures c.script.invariant.at.there w.hear.ensures w.console-is
       | in-Long w ↦ heard_long g.R.Read.remaining _ _ _ _ c.script.console _ w.in-Long.ensures w.code.ensures c.script.invariant.at.there w.console-is
@@ -57,8 +58,8 @@ returns-in-Err-say g c =
     telling_fails g.R.Read.remaining _ c.advance.new.self _ (outgoing (g.W.Write.contents c.flush.new.writer) c.flush.new.text) (outgoing (g.W.Write.contents c.say.new.writer) c.say.new.text) _ _ _ c.match-advance.console.answer told.session c.in-Err-say.fault turn
     (c.in-Err-say.ensures.tells told.session told.there) c.in-Err-say.ensures.fault
 
-pub returns-then-stops : goal.returns-then-stops
-returns-then-stops g c =
+pub returns-then-stops-clause-runs : goal.returns-then-stops-clause-runs
+returns-then-stops-clause-runs g c =
     let told : Heard g.R.Read.remaining c.script.lines c.advance.new.self c.script.invariant.at.session c.match-advance.console = elim c.match-advance.branch [
       | in-Line w ↦ heard_line g.R.Read.remaining _ _ _ w.line.result.now c.script.console w.hear.new.console _ w.hear.result w.in-Line.ensures w.line.ensures c.script.invariant.at.there w.hear.ensures w.console-is
       | in-Long w ↦ heard_long g.R.Read.remaining _ _ _ _ c.script.console _ w.in-Long.ensures w.code.ensures c.script.invariant.at.there w.console-is
@@ -67,6 +68,21 @@ returns-then-stops g c =
     let turn = turn_of g.R.Read.remaining _ c.script.lines c.advance.new.self _ _ _ _ _ c.match-advance.console.answer told.session at told.hears in
     stops_there g.R.Read.remaining _ c.advance.new.self _ (outgoing (g.W.Write.contents c.flush.new.writer) c.flush.new.text) (outgoing (g.W.Write.contents c.say.new.writer) c.say.new.text) (g.W.Write.contents c.leave.new.writer) _ _ _ _ c.match-advance.console.answer told.session c.leave.result
     turn (sym c.stops.ensures ∙ c.if-stops.true) (c.in_default-say.ensures.tells told.session told.there) c.count.ensures c.leave.ensures.puts c.leave.ensures.ok c.leave.ensures.fault
+
+pub returns-in-Err-clause-reached : goal.returns-in-Err-clause-reached
+returns-in-Err-clause-reached g c = failed_write _ _ c.in-Err.fault c.in-Err.ensures.fault
+
+pub returns-in-Read-clause-reached : goal.returns-in-Read-clause-reached
+returns-in-Read-clause-reached g c = c.in_default.ensures.reached (no_whole_line g.R.Read.remaining c.script.lines c.advance.new.self found.Read tt c.in-Read.ensures)
+
+pub returns-in-TooLong-clause-reached : goal.returns-in-TooLong-clause-reached
+returns-in-TooLong-clause-reached g c = c.in_default.ensures.reached (no_whole_line g.R.Read.remaining c.script.lines c.advance.new.self found.TooLong tt c.in-TooLong.ensures)
+
+pub returns-in-Err-say-clause-reached : goal.returns-in-Err-say-clause-reached
+returns-in-Err-say-clause-reached g c = failed_write _ _ c.in-Err-say.fault c.in-Err-say.ensures.fault
+
+pub returns-then-stops-clause-reached : goal.returns-then-stops-clause-reached
+returns-then-stops-clause-reached g c = left _ _ c.leave.result c.leave.ensures.fault
 
 pub count-requires-clause-lines : goal.count-requires-clause-lines
 count-requires-clause-lines g c =
