@@ -1,5 +1,5 @@
 -- The solids that are there after each command.
-use Rattle.std.proofs.Common.{◌≡◌, ℕ, ℤ, pos, List, None, is_some, ap, ◌∙◌, arith}
+use Rattle.std.proofs.Common.{◌≡◌, ℕ, ℤ, pos, List, None, is_some, ap, ◌∙◌}
 use Rattle.euler_operators.specs.Common.{Point, Model, solid_of, Sound, Has}
 use Rattle.euler_operators.specs.Table as table
 use Rattle.euler_operators.proofs.Common.{get-put_here, get-remove_here, get-remove_other}
@@ -42,4 +42,7 @@ swept_are_there before after f d sound made = ap (λ t. table.has t (solid_of (h
     ∙ sound.faces_of_solids f (face_there (held before) f d sound made.0)
 
 pub glues_join_solids : GluesJoinSolids
-glues_join_solids before after f g sound made = grind (arith, first_stays, second_goes)
+glues_join_solids before after f g sound made = (
+  ap (λ m. table.has (held m).solids (solid_of (held before) f)) made.1 ∙ first_stays (held before) f g sound made.0,
+  ap (λ m. table.has (held m).solids (solid_of (held before) g)) made.1 ∙ ap is_some (second_goes (held before) f g),
+)
