@@ -39,31 +39,45 @@ static inline void skip_blanks(struct words *w)
         w->at++;
 }
 
-/* Goes to the next word; false where there is none or the line is at fault. */
+/* Goes to the next word; false where there is none or the line is at fault. Mostly one space lies before it. */
 static inline bool next_word(struct words *w)
 {
     if (w->fault)
         return false;
+    if (*w->at == ' ' && w->at[1] > ' ') {
+        w->at++;
+        return true;
+    }
     skip_blanks(w);
     if (*w->at == '\n')
         w->fault = MISSING_WORD;
     return !w->fault;
 }
 
-/* The digits up to the end of the word, up to `greatest`. */
-static inline u64 read_digits(struct words *w, u64 greatest)
+/* The same digits where they are many, none, or not all of the word: each of them is tested. */
+static __attribute__((noinline, cold)) u64 read_digits_slowly(struct words *w, const unsigned char *at, u64 greatest)
 {
-    const unsigned char *at = w->at;
     u64 n = 0;
-    bool large = false;
-    for (; (unsigned)(*at - '0') < 10; at++) {
+    bool large = at == w->at;
+    for (; at < w->at; at++) {
         large |= n >> 60 != 0;
         n = 10 * n + (*at - '0');
     }
-    if (at == w->at || large || n > greatest || !is_word_end(*at))
+    if (large || n > greatest || !is_word_end(*at))
         w->fault = BAD_NUMBER;
-    w->at = at;
     return n;
+}
+
+/* The digits up to the end of the word, up to `greatest`: as many as fit in 64 bits whatever they are are tested once, behind the last. */
+static inline u64 read_digits(struct words *w, u64 greatest)
+{
+    const unsigned char *first = w->at, *at = first;
+    u64 n = 0;
+    for (; (unsigned)(*at - '0') < 10; at++)
+        n = 10 * n + (*at - '0');
+    w->at = at;
+    bool is_usual = (u64)(at - first - 1) < 18 && n <= greatest && (*at == ' ' || *at == '\n');
+    return __builtin_expect(is_usual, true) ? n : read_digits_slowly(w, first, greatest);
 }
 
 static inline u32 read_thing(struct words *w)
