@@ -235,9 +235,8 @@ tried 'models by readers' python3 tests/library_readers.py "$dir/built/libgwb.so
 tried 'the library over a heap that refuses' cc -O2 -shared -fPIC -Ibindings/include -o "$dir/built/counting.so" bindings/heap.c tests/counting_heap.c \
     -Wl,--whole-archive "$archive" -Wl,--no-whole-archive -Wl,--wrap=malloc,--wrap=realloc,--wrap=free
 counted 'each allocation refused' python3 tests/library_refusals.py "$dir/built/counting.so"
-if has "$program" '100,000 random lines' 'the example in Python over the program'; then
+if has "$program" '100,000 random lines'; then
     tried '100,000 random lines' python3 tests/library_lines.py "$dir/built/libgwb.so" "$program"
-    prints 'the example in Python over the program' bindings/examples/block_python.expected bindings/examples/block.py "$program"
 fi
 counted 'the session in Python over the library' env "GWB=$dir/built/libgwb.so" python3 tests/library_companions.py
 echo "$passed passed, $failed failed, $skipped skipped"

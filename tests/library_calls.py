@@ -1,9 +1,7 @@
 """Commands given to the library as typed calls, for the tests."""
 import ctypes
 
-from library_session import Session
-
-from gwb.session.library import Point  # which library_session has made known
+from library_session import Point, Session
 
 LONE = 1 << 31
 

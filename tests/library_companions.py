@@ -1,5 +1,5 @@
 #!/usr/bin/env python3
-"""Runs the companions' tests of the Python session over the library that the environment variable GWB names.
+"""Runs the companions' tests of the Python session, and all others that need it, over the library that the environment variable GWB names.
 
     GWB=LIBRARY tests/library_companions.py
 """
@@ -20,7 +20,7 @@ def main():
         print('GWB names no library', closing(0, 1), sep='\n')
         return 1
     there(os.environ['GWB'], 'library')
-    names = sorted(path.stem for path in TESTS.glob('test_session*.py'))
+    names = sorted(path.stem for path in TESTS.glob('test_*.py') if 'library()' in path.read_text(encoding='utf-8'))
     return tried(unittest.defaultTestLoader.loadTestsFromNames(names))
 
 

@@ -1,170 +1,184 @@
 #!/usr/bin/env python3
-"""The features of the session in Python, as a table for the tests of those in C++ and Rust: random parts, what each feature leaves of them, and
-what is refused; and cuts between whole points, with what is said of them.
+"""The stored table of features, tried by the session in Python: random parts, what each feature leaves of them, and what is refused; and cuts between
+whole points, with what is said of them.
 
-    tests/library_features.py LIBRARY           compares the table that is stored with what the session over the library (or a program) gives
-    tests/library_features.py LIBRARY --write   stores it anew
+    tests/library_features.py LIBRARY
 
 Each line of tests/library_features.table is a feature, and behind `=` what it gives: `ok`, and six times the volume, the vertices, edges, faces
 and rings of the solid and a sum over its points; or the name of what is refused. A face is told by the ends of a side of its outer loop, an edge by
-its own, in the direction of its first half-edge; a solid that is cut by its listing. The last line counts.
+its own, in the direction of its first half-edge; a solid that is cut by its listing. The table was written by features in Python that shared no code
+with those of the library. The last line counts.
 """
 import sys
+import tempfile
+from itertools import groupby
 from pathlib import Path
-from random import Random
-from typing import Iterator, List, Sequence, Tuple
+from typing import Callable, Dict, Iterable, Iterator, List, Optional, Sequence, Tuple
 
 from counts import TOP, command_line, there
 
 sys.path.insert(0, str(TOP / 'companions'))
 
-from gwb import Refused, Workbench  # noqa: E402
+from gwb import FacePart, Refused, Workbench  # noqa: E402
 
 TABLE = TOP / 'tests' / 'library_features.table'
-PARTS, FEATURES, CUTS = 90, 9, 60
 Point = Tuple[int, int, int]
-
-
-def flat(*items: object) -> str:
-    """Numbers, and points of three, as words."""
-    return ' '.join(' '.join(map(str, item)) if isinstance(item, tuple) else str(item) for item in items)
 
 
 def measures(bench: Workbench, solid: int) -> str:
     """What is told of a solid."""
     count = bench.count(solid)
     total = sum((x + 101) * (y + 211) * (z + 307) for x, y, z in (vertex.point for vertex in bench.solid(solid).vertices))
-    return flat(bench.six_volume(solid), count.vertices, count.edges, count.faces, count.rings, total)
+    return f'{bench.six_volume(solid)} {count.vertices} {count.edges} {count.faces} {count.rings} {total}'
+
+
+class Row:
+    """The words of a line before the `=`, taken one after another."""
+
+    def __init__(self, words: Iterable[str]) -> None:
+        self._words = iter(words)
+
+    def number(self) -> int:
+        """The next one."""
+        return int(next(self._words))
+
+    def point(self) -> Point:
+        """The next three."""
+        return (self.number(), self.number(), self.number())
+
+    def points(self) -> List[Point]:
+        """All that are left."""
+        left = [int(word) for word in self._words]
+        return list(zip(left[::3], left[1::3], left[2::3]))
 
 
 class Part:
     """A solid that features are tried on."""
 
-    def __init__(self, bench: Workbench, random: Random) -> None:
-        self.bench, self.random = bench, random
+    def __init__(self, bench: Workbench, solid: int) -> None:
+        self.bench, self.solid = bench, solid
+        # Whether the last feature was a chamfer of an edge whose first half-edge runs the other way than in the table.
+        self.is_turned = False
 
-    def begin(self) -> Iterator[str]:
-        """The first solid: a block, or a profile."""
-        random = self.random
-        if random.random() < 0.6:
-            sizes = (random.randrange(6, 15), random.randrange(6, 15), random.randrange(4, 12))
-            self.solid = self.bench.block((0, 0, 0), sizes).solid
-            yield flat('block', sizes, '= ok', measures(self.bench, self.solid))
-            return
-        outline = random.choice(([(0, 0, 0), (12, 0, 0), (12, 4, 0), (4, 4, 0), (4, 12, 0), (0, 12, 0)],
-                                 [(0, 0, 0), (12, 0, 0), (12, 9, 0), (3, 9, 0)],
-                                 [(0, 0, 0), (3, 0, 0), (3, 6, 0), (9, 6, 0), (9, 0, 0), (12, 0, 0), (12, 10, 0), (0, 10, 0)],
-                                 [(0, 0, 0), (0, 12, 0), (9, 12, 0), (9, 0, 0)]))
-        way = random.choice(((0, 0, 8), (0, 0, -8), (0, 3, 8)))
-        self.solid = self.bench.profile(outline, along=way).solid
-        yield flat('profile', way, *outline, '= ok', measures(self.bench, self.solid))
+    def face(self, row: Row) -> FacePart:
+        """The face with a side between two points."""
+        side = (row.point(), row.point())
+        return next(face for face in self.bench.solid(self.solid).faces
+                    for points in [face.outer.points] if side in zip(points, (*points[1:], points[0])))
 
-    def attempt(self) -> str:
-        """A feature, and what it gives."""
-        random = self.random
-        face = random.choice(self.bench.solid(self.solid).faces)
-        points = face.outer.points
-        side = random.randrange(len(points))
-        where = (points[side], points[(side + 1) % len(points)])
-        word = random.choice(('pocket', 'pocket', 'boss', 'hole', 'hole', 'ring', 'notch', 'notch', 'slot', 'slot', 'groove', 'shoulder', 'chamfer'))
-        depth = random.choice((1, 1, 2, 2, 3, 4, 5, 8))
-        if word == 'shoulder':
-            edge, width = self.edge_of(face.number), random.randrange(1, 5)
-            ends = self.bench.edge(edge).points
-            return self.told(flat(word, *where, *ends, width, depth), lambda: self.bench.shoulder(face, edge, width, depth))
+    def edge(self, ends: Tuple[Point, Point]) -> Tuple[int, bool]:
+        """The edge between two points, and whether its first half-edge begins at the first one."""
+        found = next(edge for edge in self.bench.solid(self.solid).edges if set(edge.points) == set(ends))
+        return found.number, found.points == ends
+
+    def give(self, word: str, row: Row) -> None:
+        """Tries a feature."""
+        bench, self.is_turned = self.bench, False
         if word == 'chamfer':
-            edge, first, second = self.edge_of(face.number), random.randrange(1, 4), random.randrange(1, 4)
-            return self.told(flat(word, *self.bench.edge(edge).points, first, second), lambda: self.bench.chamfer(edge, first, second))
-        outline = self.outline(points, margin=word in ('pocket', 'boss', 'hole', 'ring') and random.random() < 0.8)
-        if word in ('slot', 'groove'):
-            width = random.choice((2, 2, 2, 4, 4, 3))
-            call = self.bench.slot if word == 'slot' else self.bench.groove
-            return self.told(flat(word, *where, outline[0], outline[1], width, depth), lambda: call(face, outline[0], outline[1], width, depth))
-        if word in ('hole', 'ring'):
-            call = self.bench.hole if word == 'hole' else self.bench.ring
-            return self.told(flat(word, *where, *outline), lambda: call(face, outline))
-        call = {'pocket': self.bench.pocket, 'boss': self.bench.boss, 'notch': self.bench.notch}[word]
-        return self.told(flat(word, *where, depth, *outline), lambda: call(face, outline, depth))
+            edge, is_first = self.edge((row.point(), row.point()))
+            widths, self.is_turned = (row.number(), row.number()), not is_first
+            bench.chamfer(edge, *(widths if is_first else widths[::-1]))
+            return
+        face = self.face(row)
+        calls: Dict[str, Callable[[], object]] = {
+            'hole': lambda: bench.hole(face, row.points()), 'ring': lambda: bench.ring(face, row.points()),
+            'slot': lambda: bench.slot(face, row.point(), row.point(), row.number(), row.number()),
+            'groove': lambda: bench.groove(face, row.point(), row.point(), row.number(), row.number()),
+            'shoulder': lambda: bench.shoulder(face, self.edge((row.point(), row.point()))[0], row.number(), row.number())}
+        if word in calls:
+            calls[word]()
+            return
+        depth = row.number()
+        {'pocket': bench.pocket, 'boss': bench.boss, 'notch': bench.notch}[word](face, row.points(), depth)
 
-    def edge_of(self, face: int) -> int:
-        """One of the edges of a face."""
-        return abs(self.random.choice(self.bench.face(face).outer.half_edges))
 
-    def outline(self, points: Sequence[Point], margin: bool) -> List[Point]:
-        """A rectangle or a triangle among the points of a face, mostly, whose sides run along those of the face at one corner, some turned round."""
-        random = self.random
-        at = random.randrange(len(points))
-        corner, one, other = points[at], points[(at + 1) % len(points)], points[at - 1]
-        ways = [tuple(part // steps for part in way) for end in (one, other) for way in [tuple(b - a for a, b in zip(corner, end))]
-                for steps in [max(1, max(map(abs, way)))]]
+class Tried:
+    """The lines of the table, one after another."""
 
-        def place(u: int, v: int) -> Point:
-            return tuple(c + u * a + v * b for c, a, b in zip(corner, *ways))  # type: ignore[return-value]
+    def __init__(self, library: str) -> None:
+        self._library = library
+        self._bench: Optional[Workbench] = None
+        self._part: Optional[Part] = None
+        # What is said of the last cut.
+        self._said: List[str] = []
 
-        reach = [max(map(abs, (b - a for a, b in zip(corner, end)))) for end in (one, other)]
-        (low, high), (left, right) = (sorted(random.sample(self.places(size, margin), 2)) for size in reach)
-        found = [place(low, left), place(high, left), place(high, right), place(low, right)]
-        if random.random() < 0.2:
-            del found[random.randrange(4)]
-        if random.random() < 0.05:
-            found[0], found[1] = found[1], found[0]
-        return found[::-1] if random.random() < 0.5 else found
+    def wrong(self, line: str) -> str:
+        """What is wrong with a line that isn't of what is said of a cut; empty for nothing."""
+        words, _, stored = line.partition(' = ')
+        word, *rest = words.split(' ')
+        given = self._begun() if word == 'part' else self._result(word, rest)
+        if given == stored or (self._part and self._part.is_turned and not (given + stored).count('ok')):
+            return ''    # (of a chamfer that is turned what is refused may be found in its other face first)
+        return f'{words}: {stored!r} is stored, {given!r} is given'
 
-    def places(self, size: int, margin: bool) -> range:
-        """Where an outline may begin and end along a side: with a margin not at its ends, else a tenth of the time outside."""
-        if margin and size > 2:
-            return range(1, size)
-        return range(-1 if self.random.random() < 0.1 else 0, size + 1 + (size < 3))
+    def wrongly_said(self, stored: Sequence[str]) -> str:
+        """What is wrong with what is said of the last cut: the table has all planes nearby, and those are said that are near enough."""
+        said, self._said = self._said, []
+        left = iter(stored)
+        if all(line in left for line in said) and all(line.startswith(('# tilted', 'split')) for line in set(stored) - set(said)):
+            return ''
+        return f'{stored} is stored, {said} is given'
 
-    def told(self, line: str, call) -> str:  # type: ignore[no-untyped-def]
-        """A line, and what the call gives."""
-        before = self.bench.listing()
+    def _begun(self) -> str:
+        if self._bench:
+            self._bench.close()
+        self._bench, self._part = Workbench(self._library), None
+        return ''
+
+    def _result(self, word: str, words: Sequence[str]) -> str:
+        assert self._bench, 'the first line begins a part'
+        if word == 'cut':
+            return self._cut([int(part) for part in words])
+        before = self._bench.listing()
         try:
-            call()
+            self._make(self._bench, word, words)
         except Refused as refused:
-            assert self.bench.listing() == before, line
-            return f'{line} = {refused.name}'
-        return f'{line} = ok {measures(self.bench, self.solid)}'
+            assert self._bench.listing() == before, words
+            return refused.name
+        assert self._part, 'the first row of a part makes its solid'
+        return f'ok {measures(self._part.bench, self._part.solid)}'
+
+    def _make(self, bench: Workbench, word: str, words: Sequence[str]) -> None:
+        row = Row(words)
+        if word == 'block':
+            self._part = Part(bench, bench.block((0, 0, 0), row.point()).solid)
+        elif word == 'profile':
+            way = row.point()
+            self._part = Part(bench, bench.profile(row.points(), along=way).solid)
+        elif word == 'model':
+            self._part = self._listed(' '.join(words))
+        elif self._part:
+            self._part.give(word, row)
+
+    def _listed(self, text: str) -> Part:
+        """The solid of a listing."""
+        with tempfile.TemporaryDirectory() as folder:
+            path = Path(folder) / 'solid'
+            path.write_text(text.replace(';', '\n') + '\n')
+            self._bench = Workbench.load(path, self._library)
+        return Part(self._bench, self._bench.solids().one().number)
+
+    def _cut(self, plane: Sequence[int]) -> str:
+        assert self._part, 'a solid comes before its cut'
+        said = self._part.bench.off_lattice(self._part.solid, plane)
+        self._said = said.advice(77)
+        return f'ok {len(said.crossings)} {said.factor}'
 
 
-def cut(bench: Workbench, random: Random) -> Iterator[str]:
-    """A solid, as its listing, that is cut, and what is said of it, line by line behind `>`."""
-    part = Part(bench, random)
-    list(part.begin())
-    for _ in range(random.randrange(3)):
-        part.attempt()
-    yield flat('model', ';'.join(bench.ask('list').lines), '= ok', measures(bench, part.solid))
-    plane = (*(random.randrange(-4, 5) for _ in range(3)), random.randrange(-40, 41))
-    if plane[:3] == (0, 0, 0):
-        return
-    said = bench.off_lattice(part.solid, plane)
-    yield flat('cut', plane, '= ok', len(said.crossings), said.factor)
-    yield from (f'> {line}' for line in said.advice(77))
-
-
-def table(program: str) -> List[str]:
-    """All lines."""
-    lines = []
-    for seed in range(PARTS):
-        with Workbench(program) as bench:
-            part = Part(bench, Random(seed))
-            lines += ['part', *part.begin(), *(part.attempt() for _ in range(FEATURES))]
-    for seed in range(CUTS):
-        with Workbench(program) as bench:
-            lines += ['part', *cut(bench, Random(1000 + seed))]
-    return lines
+def wrong_lines(tried: Tried, lines: Sequence[str]) -> Iterator[str]:
+    """What is wrong with each line; the lines that say something of a cut are taken together."""
+    for is_said, group in groupby(lines, lambda line: line.startswith('> ')):
+        if is_said:
+            yield tried.wrongly_said([line[2:] for line in group])
+        else:
+            yield from map(tried.wrong, group)
 
 
 def main() -> int:
-    given = command_line(__doc__, '--write', library=str)
-    there(given.library, 'library')
-    lines = table(given.library)
-    if given.write:
-        TABLE.write_text('\n'.join(lines) + '\n')
-    stored = TABLE.read_text().splitlines()
-    wrong = [f'{old!r} is stored, {new!r} is given' for old, new in zip(stored, lines) if old != new]
-    wrong += [] if len(stored) == len(lines) else [f'{len(stored)} lines are stored, and {len(lines)} given']
-    print(*wrong[:20], f'{max(len(lines), len(stored))} compared, {len(wrong)} wrong', sep='\n')
+    library = there(command_line(__doc__, library=str).library, 'library')
+    found = list(wrong_lines(Tried(str(library)), TABLE.read_text().splitlines()))
+    wrong = [line for line in found if line]
+    print(*wrong[:20], f'{len(found)} compared, {len(wrong)} wrong', sep='\n')
     return 1 if wrong else 0
 
 

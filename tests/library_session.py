@@ -1,13 +1,33 @@
 """A session of the library for the tests: its calls as they are, with kinds and depths."""
 import ctypes
-import sys
-from pathlib import Path
-
-sys.path.insert(0, str(Path(__file__).resolve().parent.parent / 'companions'))
-from gwb.session.library import Handle, Refusal, load  # noqa: E402, F401
+from ctypes import POINTER, c_bool, c_char_p, c_int64, c_size_t, c_uint32, c_void_p
 
 MEMORY = 4
-NO_TEXT = ctypes.c_size_t(-1).value
+NO_TEXT = c_size_t(-1).value
+
+
+class Handle(ctypes.Structure):
+    """What the library keeps in its caller's memory."""
+
+    _fields_ = [('is_open', c_bool), ('held', c_void_p), ('beside', c_void_p)]
+
+
+class Refusal(ctypes.Structure):
+    """The condition that is false, and the value that goes with it."""
+
+    _fields_ = [('number', c_uint32), ('value', c_uint32)]
+
+
+class Point(ctypes.Structure):
+    """Three coordinates."""
+
+    _fields_ = [('x', c_int64), ('y', c_int64), ('z', c_int64)]
+
+
+# By call of the kernel: what it returns, and what it takes after the handle.
+CALLS = {'open': (c_bool, []), 'close': (None, []), 'line': (c_uint32, [c_char_p, c_size_t]), 'reply': (c_size_t, [c_char_p, c_size_t]),
+         'depth': (c_size_t, []), 'ahead': (c_size_t, [])}
+READERS = ('reply', 'depth', 'ahead')
 
 
 class Session:
@@ -47,9 +67,10 @@ class Session:
 
 
 def loaded(path):
-    """The library, with the types of the depths too."""
-    library = load(path)
-    for name in ('gwb_depth', 'gwb_ahead'):
-        function = getattr(library, name)
-        function.restype, function.argtypes = ctypes.c_size_t, [ctypes.POINTER(Handle)]
+    """The library with the types of its calls."""
+    library = ctypes.PyDLL(path)
+    for name, (result, words) in CALLS.items():
+        function = getattr(library, ('gwb_lent_' if name in READERS else 'gwb_') + name)
+        function.restype, function.argtypes = result, [POINTER(Handle), *words]
+        setattr(library, 'gwb_' + name, function)
     return library

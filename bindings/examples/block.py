@@ -1,8 +1,7 @@
 #!/usr/bin/env python3
-"""A block is made, cut in two and put back, and two operators become one command. It runs over the library and over the program alike.
+"""A block is made, cut in two and put back, and two operators become one command.
 
     bindings/examples/block.py bindings/out/libgwb.so
-    bindings/examples/block.py crates/gwb/out/gwb
 """
 import sys
 from pathlib import Path

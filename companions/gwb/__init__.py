@@ -10,8 +10,8 @@ from .geometry.solid_measures import BoundingBox, Inertia, NotParallel, NoVolume
 from .protocol.listing import read_model
 from .session.cutting import Cut
 from .session.reading import EdgePart, FacePart, LoopPart, Part, Selection, SolidPart, VertexPart
-from .session.results import Block, Count, Hole, Lamina, Lone, NewEdge, NewFace, NewSolid, Plane, Pocket, Profile, Ring, Split, Sweep
-from .session.shaping import Notch
+from .session.results import (Block, Count, Hole, Lamina, Lone, NewEdge, NewFace, NewSolid, Notch, Plane, Pocket, Profile, Ring, Split,
+                              Sweep)
 from .session.solids import Copy
 from .session.workbench import Workbench
 from .version import VERSION as __version__

@@ -1,7 +1,10 @@
 #!/usr/bin/env python3
 """Runs all tests of the companions. The last line says how many passed, failed and were skipped; those are named before it.
 
-    companions/tests/run.py [PROGRAM]       PROGRAM is what GWB names, or crates/gwb/out/gwb, where none is given
+    companions/tests/run.py [PROGRAM [LIBRARY]]
+
+PROGRAM is what GWB names, or crates/gwb/out/gwb, where none is given; LIBRARY is bindings/out/libgwb.so. Where there is no library, what needs it, the
+session in Python, is named as skipped: tests/library_companions.py tries that.
 """
 
 import os
@@ -19,8 +22,31 @@ def main() -> int:
     if not os.path.isfile(program):
         print(f'there is no program {program}', '0 passed, 1 failed', sep='\n')
         return 1
-    os.environ['GWB'] = program
-    return tried(unittest.defaultTestLoader.discover(str(TESTS)))
+    library = os.path.abspath(sys.argv[2] if len(sys.argv) > 2 else REPOSITORY / 'bindings' / 'out' / 'libgwb.so')
+    if len(sys.argv) > 2 and not os.path.isfile(library):
+        print(f'there is no library {library}', '0 passed, 1 failed', sep='\n')
+        return 1
+    os.environ['GWB'], os.environ['LIBRARY'] = program, library
+    return tried(suite(os.path.isfile(library)))
+
+
+def suite(has_library: bool) -> unittest.TestSuite:
+    """All tests; without a library those of the session are one that is skipped."""
+    found = unittest.TestSuite()
+    for path in sorted(TESTS.glob('test_*.py')):
+        if has_library or not path.stem.startswith('test_session'):
+            found.addTest(unittest.defaultTestLoader.loadTestsFromName(path.stem))
+    if not has_library:
+        found.addTest(TheSession())
+    return found
+
+
+class TheSession(unittest.TestCase):
+    """Stands for the tests of the session in Python."""
+
+    def runTest(self) -> None:
+        """They need the library."""
+        self.skipTest('the session in Python needs the library')
 
 
 if __name__ == '__main__':

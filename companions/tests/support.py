@@ -72,9 +72,19 @@ def scripts() -> List[Path]:
 
 def program() -> str:
     """The program that the environment names, or the one built in this repository; the test is skipped where none is."""
-    path = Path(os.environ.get('GWB') or REPOSITORY / 'crates' / 'gwb' / 'out' / 'gwb')
+    named = os.environ.get('GWB', '')
+    path = Path(named if named and not named.endswith('.so') else REPOSITORY / 'crates' / 'gwb' / 'out' / 'gwb')
     if not path.is_file():
         raise unittest.SkipTest(f'needs gwb, which is not built at {path}; GWB may name it')
+    return str(path)
+
+
+def library() -> str:
+    """The library that the environment names, by LIBRARY or GWB, or the one built in this repository; the test is skipped where none is."""
+    named = os.environ.get('LIBRARY') or os.environ.get('GWB', '')
+    path = Path(named if named.endswith('.so') else REPOSITORY / 'bindings' / 'out' / 'libgwb.so')
+    if not path.is_file():
+        raise unittest.SkipTest(f'needs the library, which is not built at {path}; LIBRARY may name it')
     return str(path)
 
 
@@ -150,9 +160,6 @@ def model_in(text: str):
     return import_module('gwb').read_model(text.encode())
 
 
-def in_mirror(bench):
-    """The model that the session's mirror has."""
-    mirror = bench._bench.kernel.mirror()
-    rows = [{number: read(number) for number in mirror.numbers(kind)}
-            for kind, read in (('face', mirror.face), ('loop', mirror.loop), ('edge', mirror.edge), ('vertex', mirror.vertex))]
-    return import_module('gwb').Model(mirror.numbers('solid'), *rows)
+def as_listed(bench):
+    """The model that the command `list` says of a session."""
+    return import_module('gwb.protocol.listing').model_of(bench.ask('list'))

@@ -10,7 +10,7 @@ from support import program
 from gwb.programs.playing import played
 from gwb.scripts import followed
 from gwb.scripts.followed import Followed
-from gwb.session.pipe import Pipe
+from gwb.programs.pipe import Pipe
 
 WORDS = ('mvfs', 'kvfs', 'mev', 'kev', 'mef', 'kef', 'kemr', 'mekr', 'kfmrh', 'mfkrh', 'ringmv', 'lamina', 'block', 'sweep', 'glue', 'split',
          'undo', 'redo')

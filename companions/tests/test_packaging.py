@@ -31,9 +31,23 @@ class Packaging(unittest.TestCase):
             built = subprocess.run([sys.executable, '-c', BUILD, folder], cwd=tree, capture_output=True, text=True)
             self.assertEqual(built.returncode, 0, built.stderr)
             self.assertEqual(files_in(tree), before)
+            self.assertTrue(built.stdout.splitlines()[-1].endswith('-none-any.whl'))
             held = ZipFile(Path(folder) / built.stdout.splitlines()[-1]).namelist()
         package = [str(path.relative_to(COMPANIONS)) for path in (COMPANIONS / 'gwb').rglob('*') if path.is_file() and path.parent.name != '__pycache__']
         self.assertEqual(sorted(name for name in held if name.startswith('gwb/')), sorted(package))
+
+    @unittest.skipUnless(find_spec('setuptools') and find_spec('wheel'), 'needs setuptools and wheel')
+    def test_the_wheel_carries_the_library_that_is_built_beside_it(self):
+        with tempfile.TemporaryDirectory() as folder:
+            tree = Path(shutil.copytree(COMPANIONS, Path(folder) / 'companions', ignore=shutil.ignore_patterns('__pycache__')))
+            library = Path(folder) / 'bindings' / 'out' / 'libgwb.so'
+            library.parent.mkdir(parents=True)
+            library.write_bytes(b'built')
+            built = subprocess.run([sys.executable, '-c', BUILD, folder], cwd=tree, capture_output=True, text=True)
+            self.assertEqual(built.returncode, 0, built.stderr)
+            name = built.stdout.splitlines()[-1]
+            self.assertRegex(name, '-none-(?!any)[a-z0-9_]+[.]whl$')
+            self.assertEqual(ZipFile(Path(folder) / name).read('gwb/_lib/libgwb.so'), b'built')
 
 
 class Folders(unittest.TestCase):

@@ -7,7 +7,7 @@ import unittest
 from contextlib import redirect_stdout
 from unittest import mock
 
-from support import COMPANIONS, program, scripts
+from support import COMPANIONS, library, scripts
 
 from gwb.programs.explain import complaints, join
 from gwb.protocol.replies import split_replies
@@ -32,7 +32,7 @@ class Readme(unittest.TestCase):
     def test_the_session(self):
         block = next(block for block in blocks() if 'Workbench() as' in block)
         printed = io.StringIO()
-        with mock.patch.dict(os.environ, GWB=program()), redirect_stdout(printed):
+        with mock.patch.dict(os.environ, GWB=library()), redirect_stdout(printed):
             exec(compile(block, 'README.md', 'exec'), {})
         self.assertEqual(printed.getvalue().splitlines(), re.findall(r'print\(.*# (.*)', block))
 

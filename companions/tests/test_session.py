@@ -1,20 +1,23 @@
 """The Python session gives what the scripts do: on every worked script, and on its own."""
 
 import copy
+import ctypes.util
+import os
 import pickle
 import tempfile
 import unittest
 from pathlib import Path
+from unittest import mock
 
-from support import program, scripts
+from support import library, scripts
 
 from gwb import Complaint, Faulted, Lone, Refused, Workbench
-from gwb.errors import CompanionError
+from gwb.errors import Ended, ProgramMissing
 from gwb.programs.explain import join
 from gwb.protocol.complaints import complaint
 from gwb.protocol.listing import model_of
 from gwb.protocol.replies import Reply, split_replies
-from gwb.session.pipe import Ended, ProgramMissing
+from gwb.session.library import find_path
 
 
 def corner(word):
@@ -47,7 +50,7 @@ class Scripts(unittest.TestCase):
     """Every example and every worked script, by calls."""
 
     def test_every_script(self):
-        path = program()
+        path = library()
         for script in scripts():
             with self.subTest(script.stem), Workbench(path) as bench:
                 replies = split_replies(script.with_suffix('.expected').read_bytes())
@@ -79,7 +82,7 @@ class Session(unittest.TestCase):
     """The workbench by itself."""
 
     def setUp(self):
-        self.bench = Workbench(program())
+        self.bench = Workbench(library())
         self.addCleanup(self.bench.close)
 
     def test_a_block_with_a_hole_without_a_number_given(self):
@@ -240,16 +243,16 @@ class Session(unittest.TestCase):
         self.assertEqual((bench.script(), repr(bench)), ('block 1 0 0 0 9 9 9\n', '<Workbench, 1 command held>'))
 
     def test_paths(self):
-        with Workbench(Path(program())) as bench, tempfile.TemporaryDirectory() as folder:
+        with Workbench(Path(library())) as bench, tempfile.TemporaryDirectory() as folder:
             bench.block((0, 0, 0), (1, 1, 1))
             bench.save(Path(folder) / 'part.gwb')
-            with Workbench.load(Path(folder) / 'part.gwb', Path(program())) as again:
+            with Workbench.load(Path(folder) / 'part.gwb', Path(library())) as again:
                 self.assertEqual(again.script(), bench.script())
         for call in (bench.save, Workbench.load):
             for path in (None, 1, b'part'):
                 with self.assertRaisesRegex(TypeError, '^path: a path is wanted'):
                     call(path)
-        with self.assertRaisesRegex(TypeError, '^program: a path is wanted'):
+        with self.assertRaisesRegex(TypeError, '^library: a path is wanted'):
             Workbench(3)
 
     def test_it_is_not_copied(self):
@@ -258,12 +261,12 @@ class Session(unittest.TestCase):
                 call(self.bench)
 
 
-class WithoutAProgram(unittest.TestCase):
+class WithoutALibrary(unittest.TestCase):
     """What can be said without one."""
 
-    def test_a_program_that_is_missing(self):
-        with self.assertRaises(ProgramMissing):
-            Workbench('/nowhere/gwb')
+    def test_a_library_that_is_missing(self):
+        with self.assertRaisesRegex(ProgramMissing, r'^/nowhere/libgwb.so: .*needs? libgwb\.so$'):
+            Workbench('/nowhere/libgwb.so')
 
     def test_a_library_that_is_another(self):
         with tempfile.TemporaryDirectory() as folder:
@@ -272,11 +275,28 @@ class WithoutAProgram(unittest.TestCase):
             with self.assertRaises(ProgramMissing):
                 Workbench(str(path))
 
-    def test_a_program_that_is_another(self):
-        with Workbench('/bin/cat') as bench, self.assertRaises(CompanionError):
-            bench.undo()
-        with Workbench('/bin/true') as bench, self.assertRaises(CompanionError):
-            bench.undo()
+    def test_what_is_no_library_of_gwb(self):
+        for path in ('/bin/true', ctypes.util.find_library('c')):
+            self.assertRaisesRegex(ProgramMissing, path, Workbench, path)
+
+    def test_a_library_of_another_version(self):
+        with mock.patch('gwb.session.library._MAJOR', 2):
+            self.assertRaisesRegex(ProgramMissing, r': version 3\.[0-9]+\.[0-9]+ of the library, where 2 is needed$', Workbench, library())
+
+    def test_the_name_of_a_version(self):
+        with tempfile.TemporaryDirectory() as folder:
+            path = Path(folder) / 'libgwb.so.3.0.0'
+            path.symlink_to(library())
+            with mock.patch.dict(os.environ, GWB=str(path)), Workbench() as bench:
+                bench.block((0, 0, 0), (1, 1, 1))
+
+    def test_one_that_lies_in_the_package(self):
+        with tempfile.TemporaryDirectory() as folder, mock.patch.dict(os.environ, GWB='/work/gwb'):
+            package = Path(folder) / 'gwb'
+            (package / '_lib').mkdir(parents=True)
+            (package / '_lib' / 'libgwb.so').symlink_to(library())
+            with mock.patch('gwb.session.library._PACKAGE', package):
+                self.assertEqual(find_path(), str(package / '_lib' / 'libgwb.so'))
 
     def test_refused_memory(self):
         self.assertIsInstance(complaint('undo', Reply(('memory',))), Complaint)

@@ -6,7 +6,7 @@ from copy import copy
 from fractions import Fraction
 
 from solid_cases import solid_cases
-from support import program
+from support import library
 
 from gwb import CompanionError, Lone, Refused, Workbench
 
@@ -97,7 +97,7 @@ WITHOUT_ARGUMENTS = {'close', 'draft', 'group', 'listing', 'page', 'script', 'sh
 class Silent:
     """Lines that may not be sent."""
 
-    in_step = True
+    is_open, is_drafting, depth = True, False, 0
 
     def require_open(self):
         """The session goes on."""
@@ -110,7 +110,7 @@ class Arguments(unittest.TestCase):
     """All of the methods, over the transport that the environment names."""
 
     def setUp(self):
-        self.bench = Workbench(program())
+        self.bench = Workbench(library())
         self.lines = self.bench._bench.kernel.lines
         self.addCleanup(self.lines.close)
         self.bench._bench.kernel.lines = Silent()
@@ -146,7 +146,7 @@ class Things(unittest.TestCase):
     ALL = ('solid', 'face', 'loop', 'edge', 'vertex')
 
     def setUp(self):
-        self.bench, self.other = Workbench(program()), Workbench(program())
+        self.bench, self.other = Workbench(library()), Workbench(library())
         self.addCleanup(self.bench.close)
         self.addCleanup(self.other.close)
         for bench in (self.bench, self.other):
@@ -211,7 +211,7 @@ class Things(unittest.TestCase):
         self.assertEqual(moved.of(bench.solid(first)), bench.solid(moved.solid))
         for part in (bench.solid(second), bench.face(second.top), bench.edge(second.edges[0]), bench.vertex(second.vertices[0])):
             self.assertRaises(KeyError, moved.of, part)
-        with Workbench(program()) as other:
+        with Workbench(library()) as other:
             other.block((0, 0, 0), (1, 1, 1))
             for part in (other.solid(first), other.face(first.top), other.edge(first.edges[0])):
                 self.assertRaisesRegex(ValueError, ' of another workbench$', moved.of, part)

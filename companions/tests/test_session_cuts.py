@@ -10,7 +10,7 @@ from itertools import count
 from pathlib import Path
 from random import Random
 
-from support import program
+from support import library
 from voxel_parts import AXES, World, cells_of, squares_of
 
 from gwb import Refused, Workbench
@@ -31,7 +31,7 @@ class Stepwise(unittest.TestCase):
     """A bench, and what each step on it leaves."""
 
     def setUp(self):
-        self.bench = Workbench(program())
+        self.bench = Workbench(library())
         self.addCleanup(self.bench.close)
 
     def one_step(self, act):
@@ -241,7 +241,7 @@ class RandomCuts(unittest.TestCase):
     def test_oblique_cuts_are_taken_back_by_unions(self):
         told = Counter()
         for seed in range(int(os.environ.get('RANDOM_CUTS', 12))):
-            with self.subTest(seed=seed), Workbench(program()) as bench:
+            with self.subTest(seed=seed), Workbench(library()) as bench:
                 self.try_part(World(bench, Random(seed)), told)
         self.assertGreater(told['made anew'], 0)
         self.assertGreater(told['split'], 0)
@@ -330,7 +330,7 @@ class NothingCut(Stepwise):
         self.assertEqual([look.name for look in bench.labels.values()], ['right'])
         self.assertEqual(bench.block((90, 0, 0), (1, 1, 1)).top, max(bench.listing().faces) - 5)
         bench.save(self.folder / 'part.gwb')
-        with Workbench.load(self.folder / 'part.gwb', program()) as again:
+        with Workbench.load(self.folder / 'part.gwb', library()) as again:
             self.assertEqual(again.listing(), bench.listing())
 
     def setUp(self):

@@ -6,7 +6,7 @@ import tempfile
 import unittest
 from random import Random
 
-from support import in_mirror, program
+from support import as_listed, library
 
 from gwb import Complaint, InDraft, Lone, MemoryRefused, NoDraft, Refused, Unfit, Workbench
 from gwb.errors import Ended
@@ -28,7 +28,7 @@ class Drafts(unittest.TestCase):
     """Over a block, after which another one can be redone."""
 
     def setUp(self):
-        self.bench = Workbench(program())
+        self.bench = Workbench(library())
         self.addCleanup(self.bench.close)
         self.block = self.bench.block((0, 0, 0), (9, 9, 9))
         self.bench.block((20, 0, 0), (1, 1, 1))
@@ -144,7 +144,7 @@ class Drafts(unittest.TestCase):
                 self.assertEqual((bench.listing(), bench.script()), (self.held, 'block 1 0 0 0 9 9 9\n'))
                 with bench.draft():
                     given()
-                    self.assertEqual((len(bench.listing().faces), in_mirror(bench)), (len(made.faces), bench.listing()))
+                    self.assertEqual((len(bench.listing().faces), as_listed(bench)), (len(made.faces), bench.listing()))
                 self.assertEqual((len(bench.listing().faces), bench.script().count('\n')), (len(made.faces), script.count('\n')))
                 if made != self.held:
                     bench.undo(command=True)
@@ -178,7 +178,7 @@ class Drafts(unittest.TestCase):
             with self.assertRaises(GivenUp), bench.draft(), bench.draft():
                 bench.delete(1)
                 raise GivenUp
-            self.assertEqual((bench.listing(), in_mirror(bench)), (kept, kept))
+            self.assertEqual((bench.listing(), as_listed(bench)), (kept, kept))
             self.assertNotEqual(kept, held)
         bench.undo()
         self.assertEqual(bench.listing(), self.held)
@@ -220,7 +220,7 @@ class Drafts(unittest.TestCase):
             cut(self.bench)
         with tempfile.TemporaryDirectory() as folder:
             self.bench.save(f'{folder}/part.gwb')
-            with Workbench.load(f'{folder}/part.gwb', program()) as again:
+            with Workbench.load(f'{folder}/part.gwb', library()) as again:
                 self.assertEqual((again.listing(), again.script()), (self.bench.listing(), self.bench.script()))
 
     def test_a_ring_is_one_command(self):
@@ -246,36 +246,41 @@ class Drafts(unittest.TestCase):
 
     def refuse_memory(self, after):
         """Memory for the call after so many is refused."""
-        do, given = self.bench._bench.kernel.lines.do, []
+        ask, given = self.bench._bench.kernel.lines.ask, []
 
-        def refusing(call):
-            given.append(call)
+        def refusing(line):
+            given.append(line)
             if len(given) == after + 1:
                 raise MemoryRefused('memory was refused')
-            return do(call)
+            return ask(line)
 
-        self.bench._bench.kernel.lines.do = refusing
+        self.bench._bench.kernel.lines.ask = refusing
 
     def half_has_left_no_trace(self):
         self.assertEqual((self.bench.listing(), self.bench.script()), (self.held, self.script))
         self.bench.redo()
         self.assertEqual(self.bench.listing(), self.both)
 
-    def test_a_ring_that_is_refused_half_way_leaves_no_trace(self):
+    def row(self):
+        """Three blocks in a row, which two gluings join."""
+        return [self.block, *(self.bench.block((9 * place, 0, 0), (9, 9, 9)) for place in (1, 2))]
+
+    def test_a_chain_that_is_refused_half_way_leaves_no_trace(self):
+        row, self.held = self.row(), self.bench.listing()
         self.forget_a_vertex()
-        self.refuse_memory(3)
+        self.refuse_memory(1)
         with self.assertRaises(MemoryRefused):
-            self.bench.ring(self.block.bottom, [(1, 1, 0), (1, 4, 0), (4, 1, 0)])
+            self.bench.glue_all(row)
         self.half_has_left_no_trace()
 
-    def test_a_ring_that_is_refused_half_way_leaves_its_draft_open(self):
-        bench = self.bench
+    def test_a_chain_that_is_refused_half_way_leaves_its_draft_open(self):
+        bench, row = self.bench, self.row()
         with bench.draft():
-            cut(bench)
+            bench.pocket(self.block.top, TRIANGLE, 2)
             made = bench.listing()
-            self.refuse_memory(3)
+            self.refuse_memory(1)
             with self.assertRaises(MemoryRefused):
-                bench.ring(self.block.bottom, [(1, 1, 0), (1, 4, 0), (4, 1, 0)])
+                bench.glue_all(row)
             self.assertEqual(bench.listing(), made)
             cut(bench)
         self.assertEqual(len(bench.face(self.block.top).rings), 2)
@@ -296,7 +301,7 @@ class Twelve(unittest.TestCase):
     """A hole through a block, which gets longer by a block that is cut and glued on: twelve commands, with numbers of their own."""
 
     def setUp(self):
-        self.bench = bench = Workbench(program())
+        self.bench = bench = Workbench(library())
         self.addCleanup(bench.close)
         bench.block((0, 0, 0), (9, 9, 9))
         bench.block((0, 20, 0), (1, 1, 1))
@@ -335,9 +340,9 @@ class Twelve(unittest.TestCase):
 
     def require_made(self):
         """All twelve are one command."""
-        self.assertEqual((self.bench.listing(), self.bench.script(), in_mirror(self.bench)), (self.models[12], self.script, self.models[12]))
+        self.assertEqual((self.bench.listing(), self.bench.script(), as_listed(self.bench)), (self.models[12], self.script, self.models[12]))
         self.bench.undo(command=True)
-        self.assertEqual((self.bench.listing(), in_mirror(self.bench)), (self.held, self.held))
+        self.assertEqual((self.bench.listing(), as_listed(self.bench)), (self.held, self.held))
         with self.assertRaises(Refused):
             self.bench.redo(), self.bench.redo()
         self.assertEqual(self.bench.listing(), self.models[12])
@@ -358,7 +363,7 @@ class TwelveCommands(Twelve):
         with self.bench.draft():
             for place, command in enumerate(self.commands, 1):
                 command()
-                self.assertEqual((self.bench.listing(), in_mirror(self.bench)), (self.models[place],) * 2)
+                self.assertEqual((self.bench.listing(), as_listed(self.bench)), (self.models[place],) * 2)
         self.require_made()
 
     def test_saved_and_loaded(self):
@@ -366,7 +371,7 @@ class TwelveCommands(Twelve):
             self.give()
         with tempfile.TemporaryDirectory() as folder:
             self.bench.save(f'{folder}/part.gwb')
-            with Workbench.load(f'{folder}/part.gwb', program()) as self.bench:
+            with Workbench.load(f'{folder}/part.gwb', library()) as self.bench:
                 self.require_made()
 
     def test_refused_at_each_step(self):
@@ -391,16 +396,16 @@ class TwelveCommands(Twelve):
 
     def out_of_memory(self, place, is_caught):
         lines = self.bench._bench.kernel.lines
-        do, refused = lines.do, MemoryRefused('memory was refused')
+        ask, refused = lines.ask, MemoryRefused('memory was refused')
 
-        def refusing(call):
-            lines.do = do
+        def refusing(line):
+            lines.ask = ask
             raise refused
 
         try:
             with self.bench.draft():
                 self.give(end=place)
-                lines.do = refusing
+                lines.ask = refusing
                 try:
                     self.commands[place]()
                 except MemoryRefused:
@@ -425,7 +430,7 @@ class TwelveCommands(Twelve):
                             self.give(start=later)
                         self.assertEqual(self.bench.listing(), self.models[12])
                         raise GivenUp
-                    self.assertEqual((self.bench.listing(), in_mirror(self.bench)), (self.models[place],) * 2)
+                    self.assertEqual((self.bench.listing(), as_listed(self.bench)), (self.models[place],) * 2)
                     self.give(start=place)
                 self.require_made()
 
@@ -468,12 +473,9 @@ class OutOfMemory(Twelve):
     """Over the library each request for memory in the draft is refused in turn."""
 
     def setUp(self):
-        if not program().endswith('.so'):
-            self.skipTest('the program takes its memory in a process of its own')
-        library, self.heap = ctypes.PyDLL(program()), Heap()
-        library.gwb_use_heap.argtypes, library.gwb_use_heap.restype = [ctypes.c_void_p], ctypes.c_void_p
-        before = library.gwb_use_heap(ctypes.addressof(self.heap))
-        self.addCleanup(library.gwb_use_heap, before)
+        use_heap, self.heap = ctypes.PyDLL(library()).gwb_use_heap, Heap()
+        use_heap.argtypes, use_heap.restype = [ctypes.c_void_p], ctypes.c_void_p
+        self.addCleanup(use_heap, use_heap(ctypes.addressof(self.heap)))
         super().setUp()
 
     def test_each_request_is_refused_in_turn(self):
@@ -495,7 +497,7 @@ class OutOfMemory(Twelve):
                         command()
                     except MemoryRefused:
                         refusals += 1
-                        self.assertEqual((self.bench.listing(), in_mirror(self.bench)), (self.models[place],) * 2)
+                        self.assertEqual((self.bench.listing(), as_listed(self.bench)), (self.models[place],) * 2)
                         command()
         except MemoryRefused:
             self.heap.refuse(None)
@@ -529,7 +531,7 @@ class RandomDrafts(unittest.TestCase):
 
     def test_random_drafts(self):
         for seed in range(int(os.environ.get('RANDOM_DRAFTS', 400)) // 40):
-            with Workbench(program()) as bench:
+            with Workbench(library()) as bench:
                 self.play(bench, Random(seed), seed)
 
     def play(self, bench, random, seed):
@@ -547,7 +549,7 @@ class RandomDrafts(unittest.TestCase):
             at += moved or 1
             self.assertEqual(bench.listing(), past[at], (seed, turn, call.__name__))
             if random.random() < 0.2:
-                self.assertEqual(in_mirror(bench), past[at], (seed, turn, call.__name__))
+                self.assertEqual(as_listed(bench), past[at], (seed, turn, call.__name__))
 
     def operator(self, bench, random):
         """One operator, or a ring: whether it was accepted."""
@@ -622,7 +624,7 @@ class RandomLargerDrafts(unittest.TestCase):
 
     def test_random_drafts_with_larger_commands(self):
         for seed in range(int(os.environ.get('RANDOM_DRAFTS', 400)) // 20):
-            with Workbench(program()) as self.bench:
+            with Workbench(library()) as self.bench:
                 self.random, self.seed = Random(seed), seed
                 self.bench.block((0, 0, 0), (8, 8, 8))
                 for _ in range(5):
@@ -657,7 +659,7 @@ class RandomLargerDrafts(unittest.TestCase):
                 self.require(before)
 
     def require(self, model):
-        self.assertEqual((self.bench.listing(), in_mirror(self.bench)), (model, model), self.seed)
+        self.assertEqual((self.bench.listing(), as_listed(self.bench)), (model, model), self.seed)
 
     def within(self, depth):
         with self.random.choice((self.bench.draft, self.bench.group))():
@@ -714,12 +716,12 @@ class RandomLargerDrafts(unittest.TestCase):
     def replayed(self):
         """The lines one by one, and what was saved, make the same."""
         made, script = self.bench.listing(), self.bench.script()
-        with Workbench(program()) as other, tempfile.TemporaryDirectory() as folder:
+        with Workbench(library()) as other, tempfile.TemporaryDirectory() as folder:
             for line in script.splitlines():
                 self.assertEqual(other.ask(line).lines, ('ok',), (self.seed, line))
             self.assertEqual(other.listing(), made, self.seed)
             self.bench.save(f'{folder}/part.gwb')
-            with Workbench.load(f'{folder}/part.gwb', program()) as again:
+            with Workbench.load(f'{folder}/part.gwb', library()) as again:
                 self.assertEqual((again.listing(), again.script()), (made, script), self.seed)
 
 

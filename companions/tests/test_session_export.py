@@ -8,7 +8,7 @@ import warnings
 from fractions import Fraction
 from pathlib import Path
 
-from support import COMPANIONS, program
+from support import COMPANIONS, library
 
 from gwb import Refused, Unfit, Workbench
 from gwb.formats.appearance import Appearance, appearances_in
@@ -20,7 +20,7 @@ class Exports(unittest.TestCase):
     """A block named Base with a red top, and a block beside it."""
 
     def setUp(self):
-        self.bench = Workbench(program())
+        self.bench = Workbench(library())
         self.addCleanup(self.bench.close)
         folder = tempfile.TemporaryDirectory()
         self.addCleanup(folder.cleanup)
@@ -39,7 +39,7 @@ class Exports(unittest.TestCase):
         """The volumes of the solids that the script makes, rising."""
         path = self.folder / 'imported.gwb'
         path.write_text(script, encoding='utf-8')
-        with Workbench.load(path, program()) as bench:
+        with Workbench.load(path, library()) as bench:
             return sorted(bench.volume(solid) for solid in bench.solids())
 
     def test_each_form_is_read_again(self):
@@ -72,6 +72,8 @@ class Exports(unittest.TestCase):
         self.assertEqual(list(self.bench.labels), [('solid', self.base.solid)])
         self.assertEqual(self.bench.script(), script)
         self.bench.undo()
+        self.assertEqual(dict(self.bench.labels), {})
+        self.bench.redo()
         self.assertEqual(list(self.bench.labels), [('solid', self.base.solid)])
 
     def test_copies_and_parts_have_those_of_what_they_were(self):
@@ -105,7 +107,7 @@ class Exports(unittest.TestCase):
     def test_they_are_saved_and_loaded(self):
         path = self.folder / 'part.gwb'
         self.bench.save(path)
-        with Workbench.load(path, program()) as bench:
+        with Workbench.load(path, library()) as bench:
             self.assertEqual(bench.labels, self.bench.labels)
             self.assertEqual(bench.listing(), self.bench.listing())
 
@@ -116,7 +118,7 @@ class Exports(unittest.TestCase):
             self.bench.label(self.bench.solid(1), colour='red')
         with self.assertRaises(Refused):
             self.bench.label(self.bench.solid(99), 'Lid')
-        with Workbench(program()) as second:
+        with Workbench(library()) as second:
             second.block((0, 0, 0), (1, 1, 1))
             with self.assertRaises(ValueError):
                 self.bench.label(second.solid(1), 'Lid')
@@ -156,7 +158,7 @@ class Exports(unittest.TestCase):
             self.bench.export(self.folder / 'part.obj')
 
     def test_nothing_is_no_file(self):
-        with Workbench(program()) as bench:
+        with Workbench(library()) as bench:
             for ending in FORMS:
                 self.assertRaisesRegex(Unfit, 'no solid is held', bench.export, self.folder / f'none{ending}')
             bench.export(self.folder / 'none.html')

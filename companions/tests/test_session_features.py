@@ -10,7 +10,7 @@ from pathlib import Path
 from random import Random
 from unittest import mock
 
-from support import TESTS, program
+from support import TESTS, library
 
 from gwb import CompanionError, Impossible, NotOne, Refused, Workbench
 from gwb.checks.check import check
@@ -34,7 +34,7 @@ class Parts(unittest.TestCase):
     def test_each_part(self):
         self.assertGreaterEqual(len(PARTS), 12)
         for path in PARTS:
-            with self.subTest(path.stem), Workbench(program()) as bench:
+            with self.subTest(path.stem), Workbench(library()) as bench:
                 self.try_part(bench, part(path))
 
     def try_part(self, bench, module):
@@ -57,7 +57,7 @@ class RandomFeatures(unittest.TestCase):
     def test_random_pockets_and_holes(self):
         random, left, made = Random(7), int(os.environ.get('RANDOM_FEATURES', 60)), 0
         while left > 0:
-            with Workbench(program()) as bench:
+            with Workbench(library()) as bench:
                 bench.block((0, 0, 0), (30, 20, 10))
                 count = min(left, 10)
                 made += sum(self.try_feature(bench, random) for _ in range(count))
@@ -102,7 +102,7 @@ class Refusals(unittest.TestCase):
     """What isn't possible is refused by name, and nothing has changed."""
 
     def setUp(self):
-        self.bench = Workbench(program())
+        self.bench = Workbench(library())
         self.addCleanup(self.bench.close)
         self.block = self.bench.block((0, 0, 0), (10, 10, 10))
 
@@ -276,7 +276,7 @@ class Scripts(unittest.TestCase):
     """Scripts written and taken up again."""
 
     def test_steps_are_saved_and_loaded(self):
-        with Workbench(program()) as bench, tempfile.TemporaryDirectory() as folder:
+        with Workbench(library()) as bench, tempfile.TemporaryDirectory() as folder:
             block = bench.block((0, 0, 0), (9, 9, 9))
             bench.pocket(block.top, [(1, 1, 9), (4, 1, 9), (1, 4, 9)], 2)
             with bench.group():
@@ -284,7 +284,7 @@ class Scripts(unittest.TestCase):
                 bench.ring(block.bottom, [(1, 1, 0), (1, 4, 0), (4, 1, 0)])
             bench.ring(block.sides[0], [(1, 0, 1), (4, 0, 1), (1, 0, 4)])
             bench.save(f'{folder}/part.gwb')
-            with Workbench.load(f'{folder}/part.gwb', program()) as again:
+            with Workbench.load(f'{folder}/part.gwb', library()) as again:
                 for _ in range(4):
                     self.assertEqual((again.script(), again.listing()), (bench.script(), bench.listing()))
                     again.undo()
@@ -303,30 +303,30 @@ class Scripts(unittest.TestCase):
                     ('replies', 'solid 1\nface 1 1 1\n', r'replies: ')):
                 Path(folder, name).write_text(text)
                 with self.subTest(text), self.assertRaisesRegex(CompanionError, words):
-                    Workbench.load(f'{folder}/{name}', program())
+                    Workbench.load(f'{folder}/{name}', library())
 
     def test_save_and_load(self):
-        with Workbench(program()) as bench, tempfile.TemporaryDirectory() as folder:
+        with Workbench(library()) as bench, tempfile.TemporaryDirectory() as folder:
             block = bench.block((0, 0, 0), (9, 9, 9))
             bench.drill(block.top, (4, 4, 9), 2, 8)
             bench.block((20, 0, 0), (1, 1, 1))
             bench.undo()
             bench.save(f'{folder}/part.gwb')
-            with Workbench.load(f'{folder}/part.gwb', program()) as again:
+            with Workbench.load(f'{folder}/part.gwb', library()) as again:
                 self.assertEqual(again.listing(), bench.listing())
                 self.assertEqual(again.script(), bench.script())
                 self.assertEqual(again.block((40, 0, 0), (1, 1, 1))[1:], bench.block((40, 0, 0), (1, 1, 1))[1:])
 
     def test_a_listing_is_taken_up_again(self):
-        with Workbench(program()) as bench, tempfile.TemporaryDirectory() as folder:
+        with Workbench(library()) as bench, tempfile.TemporaryDirectory() as folder:
             block = bench.block((0, 0, 0), (9, 9, 9))
             bench.drill(block.top, (4, 4, 9), 2, 8)
             Path(folder, 'replies').write_text('\n'.join(bench.ask('list').lines) + '\n')
-            with Workbench.load(f'{folder}/replies', program()) as again:
+            with Workbench.load(f'{folder}/replies', library()) as again:
                 self.assertEqual(again.listing(), bench.listing())
 
     def test_it_is_shown(self):
-        with Workbench(program()) as bench:
+        with Workbench(library()) as bench:
             bench.block((0, 0, 0), (1, 1, 1))
             with mock.patch('gwb.session.workbench.open_in_browser') as opened:
                 path = bench.show()
@@ -336,7 +336,7 @@ class Scripts(unittest.TestCase):
             self.assertIn('&lt;!DOCTYPE html&gt;', bench._repr_html_())
 
     def test_it_draws_itself(self):
-        with Workbench(program()) as bench:
+        with Workbench(library()) as bench:
             self.assertIsNone(bench._repr_svg_())
             bench.block((0, 0, 0), (1, 1, 1))
             self.assertTrue(bench._repr_svg_().startswith('<svg'))

@@ -5,7 +5,7 @@ import unittest
 from fractions import Fraction
 from pathlib import Path
 
-from support import STORED, program
+from support import STORED, library
 
 from gwb import CompanionError, InDraft, Workbench
 from gwb.formats.appearance import Appearance
@@ -37,7 +37,7 @@ class Imports(unittest.TestCase):
     """A bench that holds a block, whose numbers the files have too."""
 
     def setUp(self):
-        self.bench = Workbench(program())
+        self.bench = Workbench(library())
         self.addCleanup(self.bench.close)
         folder = tempfile.TemporaryDirectory()
         self.addCleanup(folder.cleanup)
@@ -152,7 +152,7 @@ class Imports(unittest.TestCase):
     def test_saved_with_the_rest(self):
         self.bench.import_file(STORED / 'programs' / 'freecad_two.step')
         self.bench.save(self.folder / 'part.gwb')
-        with Workbench.load(self.folder / 'part.gwb', program()) as again:
+        with Workbench.load(self.folder / 'part.gwb', library()) as again:
             self.assertEqual((again.listing(), again.labels), (self.bench.listing(), self.bench.labels))
             again.undo()
             self.assertEqual(again.solids().numbers, (1,))

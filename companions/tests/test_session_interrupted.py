@@ -1,4 +1,4 @@
-"""A call that an exception leaves, at whatever place, is whole or has left nothing; threads wait for each other; a program may die."""
+"""A call that an exception leaves, at whatever place, is whole or has left nothing; threads wait for each other."""
 
 import inspect
 import linecache
@@ -9,17 +9,16 @@ import threading
 import unittest
 from pathlib import Path
 
-from support import in_mirror, program
+from support import as_listed, library
 
 import gwb
 from gwb import Complaint, InDraft, InGroup, OutOfStep, Workbench
-from gwb.errors import Ended
 
 FOLDER = str(Path(gwb.__file__).parent / 'session')
 # The modules in which an exception may come at each line.
 TRACED = {f'{FOLDER}/{name}.py' for name in (
-    'workbench', 'bench', 'kernel', 'conversation', 'new_numbers', 'pipe', 'library', 'journal', 'steps', 'turns', 'commands', 'feature_methods',
-    'features', 'following', 'mirror', 'surroundings', 'selection', 'refining', 'solids', 'solid_methods')}
+    'workbench', 'bench', 'kernel', 'notes', 'new_numbers', 'library', 'steps', 'turns', 'commands', 'feature_methods', 'feature_calls', 'features',
+    'labelling', 'selection', 'refining', 'cutting', 'uniting', 'solids', 'solid_methods')}
 # Python looks for signals where a call begins or returns: not between a line and the `try:` after it, nor between a block and its `finally`.
 NOT_BEFORE = ('try:', '.is_inside =', 'group_from = outer')
 SQUARE = [(5, 5, 20), (15, 5, 20), (15, 15, 20), (5, 15, 20)]
@@ -100,7 +99,7 @@ LONG = {'a finer cut': 23}
 
 def prepared():
     """A bench with a pocket and a draft, which two undos take back, and two steps that can be redone."""
-    bench = Workbench(program())
+    bench = Workbench(library())
     bench.block((0, 0, 0), (20, 20, 20))
     drafted(bench)
     bench.pocket(1, [(3, 16, 20), (4, 16, 20), (4, 18, 20)], 3)
@@ -161,13 +160,13 @@ class Interrupted(unittest.TestCase):
             except Left:
                 pass
             bench.faces()
-            self.assertEqual(in_mirror(bench), bench.listing(), (name, line))
+            self.assertEqual(as_listed(bench), bench.listing(), (name, line))
             self.assertIn(what_follows(bench), allowed, (name, line))
             return interrupter.has_come
 
     def test_a_call_left_and_caught_in_a_draft_or_a_group(self):
         for block in ('draft', 'group'):
-            with self.subTest(block), Workbench(program()) as bench:
+            with self.subTest(block), Workbench(library()) as bench:
                 bench.block((0, 0, 0), (20, 20, 20))
                 held = bench.listing()
                 with getattr(bench, block)():
@@ -181,7 +180,7 @@ class Interrupted(unittest.TestCase):
 
     def test_a_call_left_and_caught_in_a_draft_within_another_that_is_given_up(self):
         for line in range(3, 300, 11):
-            with self.subTest(line), Workbench(program()) as bench:
+            with self.subTest(line), Workbench(library()) as bench:
                 block = bench.block((0, 0, 0), (20, 20, 20))
                 held = bench.listing()
                 with bench.draft():
@@ -194,125 +193,46 @@ class Interrupted(unittest.TestCase):
                             bench.volume(1), bench.pocket(block.top, [(16, 16, 20), (17, 16, 20), (17, 17, 20)], 3)
                         bench.mvfs((3, 3, 3))
                         1 / 0
-                    self.assertEqual((bench.listing(), in_mirror(bench)), (made, made))
+                    self.assertEqual((bench.listing(), as_listed(bench)), (made, made))
                     bench.mvfs((3, 3, 3))
                 self.assertEqual(len(bench.solids()), 2)
                 bench.undo()
                 self.assertEqual(bench.listing(), held)
 
     def test_a_handler_that_gives_a_call_in_a_call(self):
-        with Workbench(program()) as bench:
+        with Workbench(library()) as bench:
             bench.block((0, 0, 0), (2, 2, 2))
-            do = bench._bench.kernel.lines.do
+            ask = bench._bench.kernel.lines.ask
 
-            def within(call):
+            def within(line):
                 with self.assertRaises(OutOfStep):
                     bench.block((5, 5, 5), (1, 1, 1))
-                return do(call)
+                return ask(line)
 
-            bench._bench.kernel.lines.do = within
+            bench._bench.kernel.lines.ask = within
             bench.block((9, 0, 0), (1, 1, 1))
-            bench._bench.kernel.lines.do = do
+            bench._bench.kernel.lines.ask = ask
             self.assertEqual([bench.volume(solid) for solid in (1, 2)], [8, 1])
 
 
-class OverThePipe(unittest.TestCase):
-    """What can happen to a program in a process of its own."""
+class Forked(unittest.TestCase):
+    """A process that was forked."""
 
-    def setUp(self):
-        if program().endswith('.so'):
-            self.skipTest('the library has no process of its own')
-        self.bench = Workbench(program())
-        self.addCleanup(self.bench.close)
-        self.bench.block((0, 0, 0), (20, 20, 20))
-        self.bench.block((50, 0, 0), (1, 1, 1))
-
-    def interrupted(self, call):
-        """The call waits for the program, which stands still, and a handler raises."""
-        def stop(*_):
-            raise KeyboardInterrupt
-
-        process = self.bench._bench.kernel.lines._process.pid
-        os.kill(process, signal.SIGSTOP)
-        before = signal.signal(signal.SIGALRM, stop)
-        try:
-            signal.setitimer(signal.ITIMER_REAL, 0.05)
-            with self.assertRaises(KeyboardInterrupt):
-                call()
-        finally:
-            signal.signal(signal.SIGALRM, before)
-            os.kill(process, signal.SIGCONT)
-
-    def test_a_query_that_is_interrupted(self):
-        bench = self.bench
-        self.interrupted(lambda: bench.volume(1))
-        self.assertEqual((bench.volume(2), bench.volume(1), bench.count(1).faces, len(bench.listing().solids)), (1, 8000, 6, 2))
-
-    def test_a_command_that_is_interrupted_is_not_held(self):
-        bench = self.bench
-        script = bench.script()
-        self.interrupted(lambda: bench.block((60, 0, 0), (2, 2, 2)))
-        self.assertEqual((bench.script(), len(bench.solids())), (script, 2))
-        self.assertEqual(bench.volume(bench.block((60, 0, 0), (2, 2, 2))), 8)
-
-    def test_it_stands_in_a_process_group_of_its_own(self):
-        self.assertNotEqual(os.getpgid(self.bench._bench.kernel.lines._process.pid), os.getpgrp())
-
-    def test_a_session_that_is_closed_after_an_interrupt(self):
-        self.interrupted(lambda: self.bench.volume(1))
-        self.bench.close()
-        with self.assertRaises(Ended):
-            self.bench.volume(1)
-
-    def test_it_is_closed_after_an_interrupt_without_being_started_anew(self):
-        bench, started = self.bench, self.bench._bench.kernel.lines._process.pid
-        self.interrupted(lambda: bench.volume(1))
-        self.assertEqual(bench.script().count('\n'), 2)
-        self.assertEqual((bench.close(), bench._bench.kernel.lines._process.pid), (-signal.SIGKILL, started))
-
-    def test_a_process_that_was_forked_has_no_session(self):
-        process = os.fork()
-        if process == 0:
-            try:
-                self.bench.volume(1)
-            except OutOfStep:
-                os._exit(0)
-            os._exit(1)
-        self.assertEqual(os.waitpid(process, 0)[1], 0)
-        self.assertEqual((self.bench.volume(2), self.bench.volume(1)), (1, 8000))
-
-    def test_a_program_that_dies_in_a_feature(self):
-        bench, script, given = self.bench, self.bench.script(), []
-        do = bench._bench.kernel.lines.do
-
-        def dying(call):
-            given.append(call)
-            if len(given) == 4:
-                bench._bench.kernel.lines._process.kill()
-            return do(call)
-
-        bench._bench.kernel.lines.do = dying
-        with self.assertRaisesRegex(Ended, 'ended with status -9'):
-            bench.pocket(1, SQUARE, 3)
-        self.assertEqual((len(given), bench.script()), (4, script))
-        with self.assertRaisesRegex(Ended, 'ended with status -9'):
-            bench.volume(1)
-
-    def test_a_program_that_is_gone_when_a_call_was_interrupted(self):
-        path, bench = program(), self.bench
-        self.interrupted(lambda: bench.volume(1))
-        bench._bench.kernel.lines._program = '/nowhere/gwb'
-        with self.assertRaisesRegex(Ended, 'could not be given anew.*nowhere'):
-            bench.volume(1)
-        self.assertEqual(bench.script().count('\n'), 2)
-        bench._bench.kernel.lines._program = path
+    def test_it_has_a_session_of_its_own(self):
+        with Workbench(library()) as bench:
+            bench.block((0, 0, 0), (2, 2, 2))
+            process = os.fork()
+            if process == 0:
+                os._exit(0 if bench.volume(bench.block((9, 0, 0), (1, 1, 1))) == 1 and len(bench.solids()) == 2 else 1)
+            self.assertEqual(os.waitpid(process, 0)[1], 0)
+            self.assertEqual(len(bench.solids()), 1)
 
 
 class Features(unittest.TestCase):
     """A feature or a group that an exception leaves."""
 
     def setUp(self):
-        self.bench = Workbench(program())
+        self.bench = Workbench(library())
         self.addCleanup(self.bench.close)
         self.bench.block((0, 0, 0), (20, 20, 20))
         self.bench.block((50, 0, 0), (1, 1, 1))
@@ -327,20 +247,25 @@ class Features(unittest.TestCase):
         with self.assertRaises(Complaint):
             self.bench.redo()
 
-    def test_a_pocket_that_is_left_by_a_keyboard_interrupt(self):
-        do, given = self.bench._bench.kernel.lines.do, []
-
-        def leaving(call):
-            given.append(call)
-            if len(given) == 5:
-                raise KeyboardInterrupt
-            return do(call)
-
-        self.bench._bench.kernel.lines.do = leaving
-        with self.assertRaises(KeyboardInterrupt):
-            self.bench.pocket(1, SQUARE, 3)
-        self.bench._bench.kernel.lines.do = do
-        self.nothing_has_changed()
+    def test_a_feature_that_is_left_by_a_keyboard_interrupt(self):
+        with Workbench(library()) as bench:
+            top = bench.block((0, 0, 0), (400, 400, 20)).top
+            for x in range(0, 400, 20):
+                for y in range(0, 400, 20):
+                    bench.pocket(top, [(x + 5, y + 5, 20), (x + 15, y + 5, 20), (x + 15, y + 15, 20), (x + 5, y + 15, 20)], 3)
+            bench.undo()
+            script, model = bench.script(), bench.listing()
+            before = signal.signal(signal.SIGALRM, signal.default_int_handler)
+            try:
+                signal.setitimer(signal.ITIMER_REAL, 0.01)
+                with self.assertRaises(KeyboardInterrupt):
+                    bench.copy(1, move=(0, 0, 100))
+            finally:
+                signal.setitimer(signal.ITIMER_REAL, 0)
+                signal.signal(signal.SIGALRM, before)
+            self.assertEqual((bench.script(), bench.listing()), (script, model))
+            bench.redo()
+            self.assertEqual(len(bench.face(top).rings), 400)
 
     def test_a_group_is_one_step(self):
         bench = self.bench
@@ -400,7 +325,7 @@ class Threads(unittest.TestCase):
         interval = sys.getswitchinterval()
         self.addCleanup(sys.setswitchinterval, interval)
         sys.setswitchinterval(1e-5)
-        self.bench = Workbench(program())
+        self.bench = Workbench(library())
         self.addCleanup(self.bench.close)
         self.failed = []
 

@@ -3,7 +3,7 @@
 import unittest
 from fractions import Fraction
 
-from support import program
+from support import library
 
 from gwb import NotParallel, NoVolume, Refused, Workbench
 
@@ -12,7 +12,7 @@ class Measures(unittest.TestCase):
     """A block of 2 by 3 by 6, and one of 5 beside it."""
 
     def setUp(self):
-        self.bench = Workbench(program())
+        self.bench = Workbench(library())
         self.addCleanup(self.bench.close)
         self.block = self.bench.block((0, 0, 0), (2, 3, 6))
         self.other = self.bench.block((100, 0, 0), (5, 5, 5))
@@ -86,7 +86,7 @@ class Measures(unittest.TestCase):
     def test_things_of_another_kind_or_bench(self):
         with self.assertRaises(TypeError):
             self.bench.centroid(self.bench.face(self.block.top))
-        with Workbench(program()) as second:
+        with Workbench(library()) as second:
             second.block((0, 0, 0), (1, 1, 1))
             with self.assertRaises(ValueError):
                 self.bench.centroid(second.solid(1))

@@ -4,7 +4,7 @@ import os
 import unittest
 from random import Random
 
-from support import in_mirror, program
+from support import as_listed, library
 
 from gwb import Complaint, Lone, Workbench
 from gwb.geometry.free_numbers import KINDS
@@ -114,7 +114,7 @@ class Numbers(unittest.TestCase):
     def test_random_commands(self):
         left, seed = int(os.environ.get('RANDOM_COMMANDS', 2000)), 0
         while left > 0:
-            with Workbench(program()) as bench:
+            with Workbench(library()) as bench:
                 left, seed = left - self.play(bench, seed, min(left, 25)), seed + 1
 
     def play(self, bench, seed, count):
@@ -127,9 +127,9 @@ class Numbers(unittest.TestCase):
                 continue
             after = bench.listing()
             self.compare(name, result, before, after, seed)
-            self.assertEqual(tuple(bench._bench.numbers.greatest(kind) for kind in KINDS), greatest_of(after), (seed, name))
-            if play.random.random() < 0.2:  # else what the mirror has not been asked for stays as it is
-                self.assertEqual(in_mirror(bench), after, (seed, name))
+            self.assertEqual(tuple(bench._bench.kernel.lines.greatest(kind) for kind in KINDS), greatest_of(after), (seed, name))
+            if play.random.random() < 0.2:
+                self.assertEqual(as_listed(bench), after, (seed, name))
             before = after
         return count
 
@@ -157,7 +157,7 @@ class Steps(unittest.TestCase):
     """Undo and redo by features and by commands."""
 
     def setUp(self):
-        self.bench = Workbench(program())
+        self.bench = Workbench(library())
         self.addCleanup(self.bench.close)
 
     def test_a_feature_is_one_step(self):

@@ -8,7 +8,7 @@ import unittest
 from contextlib import contextmanager, redirect_stdout
 from unittest import mock
 
-from support import REPOSITORY, program
+from support import REPOSITORY, library
 
 from gwb import Workbench
 
@@ -19,7 +19,7 @@ class Page(unittest.TestCase):
     """Its blocks of code, and its words."""
 
     def test_the_code(self):
-        found = os.path.abspath(program())
+        found = os.path.abspath(library())
         for block in re.findall(r'```python\n(.*?)```', PAGE, re.S):
             printed = io.StringIO()
             with self.in_a_folder(), mock.patch.dict(os.environ, GWB=found), redirect_stdout(printed):

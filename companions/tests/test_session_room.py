@@ -4,12 +4,14 @@ import os
 import unittest
 from random import Random
 
-from support import program
+from oracle import outlined
+from oracle.held import Held
+from support import library
 
-from gwb import Face, Impossible, Loop, Model, Refused, Workbench
+from gwb import Face, Loop, Model, Refused, Workbench
 from gwb.checks.check import check
+from gwb.geometry.outlines import steps_along
 from gwb.geometry.vectors import add
-from gwb.session.features import opposite, region
 
 
 def with_feature(model, face, path, way, other=None):
@@ -89,7 +91,7 @@ class Room(unittest.TestCase):
         wanted, made, met, seed = int(os.environ.get('RANDOM_ROOM', 100)), 0, 0, 0
         while made + met < wanted:
             seed += 1
-            with Workbench(program()) as bench:
+            with Workbench(library()) as bench:
                 parts = Parts(bench, Random(seed))
                 parts.make()
                 for _ in range(60):
@@ -103,34 +105,43 @@ class Room(unittest.TestCase):
         if found is None:
             return None
         face, points = found
-        kind, length = parts.random.choice(('pocket', 'boss', 'hole')), parts.random.randrange(1, 8)
+        kind, length = parts.random.choice(('pocket', 'boss', 'hole')), parts.random.randrange(1, 8) * self.unit(parts.frame)
         before = bench.listing()
+        expected, moved = self.expected(before, kind, face, points, length)
         try:
-            made = bench.hole(face, points) if kind == 'hole' else getattr(bench, kind)(face, points, length * self.unit(parts.frame))
-        except Impossible as refused:
+            made = bench.hole(face, points) if kind == 'hole' else getattr(bench, kind)(face, points, length)
+        except Refused as refused:
+            self.assertEqual(refused.name, expected, (seed, kind, face, points, length))
             if refused.name != 'Meets':
                 return None
-            self.refused_rightly(bench, before, kind, face, points, length * self.unit(parts.frame), seed)
+            path, way, other = moved
+            self.assertFalse(is_clean(before, with_feature(before, face, path, way, other)), (seed, kind, face, points, length))
             return False
-        except Refused:
-            return None
+        self.assertEqual(expected, '', (seed, kind, face, points, length))
         self.assertEqual(check(bench.listing()).findings, [], (seed, kind, face, points, made))
         return True
 
     @staticmethod
+    def expected(model, kind, face, points, length):
+        """The name of the refusal that Python works out, empty for none, and where the outline goes, as far as that can be said."""
+        held, moved = Held(model), None
+        try:
+            path = held.region(face).ring_path(face, points)
+            if kind == 'hole':
+                other, way = outlined.opposite(held, face, path[0])
+                moved = (path, way, other)
+                outlined.hole(held, face, points)
+            else:
+                length = length if kind == 'boss' else -length
+                moved = (path, steps_along(held.region(face).across, length), None)
+                outlined.raised(held, face, points, length)
+        except Refused as refused:
+            return refused.name, moved
+        return '', moved
+
+    @staticmethod
     def unit(vectors):
         return int(sum(part * part for part in vectors[0]) ** 0.5)
-
-    def refused_rightly(self, bench, before, kind, face, points, length, seed):
-        held = region(bench._bench, face)
-        path = held.ring_path(face, points)
-        if kind == 'hole':
-            other, way = opposite(bench._bench, face, path[0])
-        else:
-            square = sum(part * part for part in held.across)
-            factor = length * (1 if kind == 'boss' else -1)
-            other, way = None, tuple(factor * part // int(square ** 0.5) for part in held.across)
-        self.assertFalse(is_clean(before, with_feature(before, face, path, way, other)), (seed, kind, face, points, length))
 
 
 if __name__ == '__main__':

@@ -3,15 +3,24 @@
 import os
 import unittest
 from collections import Counter
-from unittest import mock
+from fractions import Fraction
 
-from support import program
+from oracle.shaping import Shaping
+from support import library
 from test_session_cuts import Stepwise
 from voxel_parts import summary, try_parts
 
 from gwb.checks.check import check
 from gwb.geometry.free_numbers import begun_at
-from gwb.session.surroundings import Surroundings
+from gwb.geometry.measures import six_volume
+
+
+def faces_of(model):
+    """The faces of a model by the points of their loops."""
+    def cycle(loop):
+        points = tuple(model.loop_points(loop))
+        return begun_at(points, min(points))
+    return Counter((cycle(face.outer), frozenset(map(cycle, face.rings))) for face in model.faces.values())
 
 
 class Shaped(Stepwise):
@@ -115,13 +124,13 @@ class Shaped(Stepwise):
         made = self.one_step(lambda: self.bench.chamfer(self.edge((34, 0, 6), (34, 20, 6)), 2))
         self.assertEqual((self.missing(), self.bench.face(made).normal), (440, (80, 0, 80)))
 
-    def test_few_commands_whatever_else_there_is(self):
+    def test_no_more_commands_than_the_solid_is_taken_apart_and_made_by(self):
         for x in range(2, 38, 4):
             self.bench.hole(self.top, [(x, 12, 10), (x + 1, 12, 10), (x + 1, 14, 10), (x, 14, 10)])
         for x in range(2, 38, 4):
             given = len(self.bench.script().splitlines())
             self.one_step(lambda: self.bench.notch(self.top, [(x, 0, 10), (x + 2, 0, 10), (x + 2, 3, 10), (x, 3, 10)], 4))
-            self.assertLess(len(self.bench.script().splitlines()), given + 50)
+            self.assertLess(len(self.bench.script().splitlines()), given + 5 * self.bench.count(1).edges)
 
     def test_faces_that_stay_keep_their_numbers(self):
         before = self.bench.listing()
@@ -204,12 +213,7 @@ class ManyRings(Stepwise):
 
     def faces(self):
         """The faces of the model by the points of their loops."""
-        model = self.bench.listing()
-
-        def cycle(loop):
-            points = tuple(model.loop_points(loop))
-            return begun_at(points, min(points))
-        return Counter((cycle(face.outer), frozenset(map(cycle, face.rings))) for face in model.faces.values())
+        return faces_of(self.bench.listing())
 
     def lines(self, act):
         """How many commands it takes; it is taken back."""
@@ -228,15 +232,14 @@ class ManyRings(Stepwise):
         self.pockets()
         for name, act in self.ACTS.items():
             with self.subTest(name):
-                if name in alone:
+                if name == 'union':
                     self.assertLessEqual(self.lines(act), alone[name] + 8)
                 self.one_step(lambda: self.one_command(act))
                 made = self.faces(), self.volume(1)
                 self.bench.undo()
-                with mock.patch.object(Surroundings, 'rings_but', lambda *_: ()):
-                    self.one_step(lambda: self.one_command(act))
-                self.assertEqual((self.faces(), self.volume(1)), made)
-                self.bench.undo()
+                if not name.startswith('union'):
+                    left = act(Shaping(self.bench.listing()), self.top)
+                    self.assertEqual((faces_of(left), Fraction(six_volume(left, left.faces), 6)), made)
 
     def test_all_in_turn(self):
         self.pockets()
@@ -250,7 +253,7 @@ class RandomParts(unittest.TestCase):
 
     def test_random_parts_of_cells(self):
         count = int(os.environ.get('RANDOM_PARTS', 20))
-        told = try_parts(program(), count)
+        told = try_parts(library(), count)
         print(f'\n{summary(count, told)}')
         for name in ('notch', 'slot', 'shoulder', 'cut', 'union', 'notch Meets'):
             self.assertGreater(told[name], 0, name)

@@ -2,7 +2,7 @@
 
 import unittest
 
-from support import program, scripts
+from support import library, scripts
 from voxel_parts import loaded
 
 from gwb import Lone, Refused, Workbench
@@ -34,7 +34,7 @@ class Whole(unittest.TestCase):
     """Each way, and what it leaves."""
 
     def setUp(self):
-        self.bench = Workbench(program())
+        self.bench = Workbench(library())
         self.addCleanup(self.bench.close)
 
     def six_volume(self, solid):
@@ -65,7 +65,7 @@ class Whole(unittest.TestCase):
         tried = 0
         for stem, model in listings():
             for solid in model.solids:
-                with self.subTest(stem, solid=solid), loaded('\n'.join(script_of(model)), program()) as self.bench:
+                with self.subTest(stem, solid=solid), loaded('\n'.join(script_of(model)), library()) as self.bench:
                     tried += self.try_ways(model, solid)
         self.assertGreater(tried, 300)
 

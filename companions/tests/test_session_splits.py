@@ -5,7 +5,7 @@ import unittest
 from collections import Counter
 from random import Random
 
-from support import in_mirror, program
+from support import as_listed, library
 
 from gwb import Refused, Workbench
 
@@ -36,7 +36,7 @@ class Followed(unittest.TestCase):
     def test_random_splits(self):
         told = Counter()
         for seed in range(int(os.environ.get('RANDOM_SPLITS', 40))):
-            with self.subTest(seed=seed), Workbench(program()) as bench:
+            with self.subTest(seed=seed), Workbench(library()) as bench:
                 self.split_all(bench, Random(seed), told)
         for name in ('ok', 'rings', 'TouchedFace', 'CutOften', 'several pairs'):
             self.assertGreater(told[name], 0, name)
@@ -64,15 +64,15 @@ class Followed(unittest.TestCase):
             told[refused.name] += 1
             return
         after = bench.listing()
-        self.assertEqual(in_mirror(bench), after)
+        self.assertEqual(as_listed(bench), after)
         for found, kind in ((made.faces, 'faces'), (made.edges, 'edges'), (made.vertices, 'vertices')):
             self.assertEqual(found, tuple(sorted(set(getattr(after, kind)) - set(getattr(before, kind)))))
         self.assertEqual({after.faces[face].solid for face in made.lower_caps}, {solid})
         self.assertEqual({after.faces[face].solid for face in made.upper_caps}, {made.solid})
         bench.undo()
-        self.assertEqual(in_mirror(bench), before)
+        self.assertEqual(as_listed(bench), before)
         self.assertEqual(bench.ask('split {} {} {} {} {} {}'.format(solid, *plane, made.solid)).lines, ('ok',))
-        self.assertEqual((in_mirror(bench), bench.listing()), (after, after))
+        self.assertEqual((as_listed(bench), bench.listing()), (after, after))
         self.assertEqual(bench.block((0, 0, 90), (1, 1, 1)).top, max(after.faces) + 1)
         bench.undo()
         told['ok'] += 1

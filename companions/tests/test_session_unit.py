@@ -7,7 +7,7 @@ import zipfile
 from fractions import Fraction
 from pathlib import Path
 
-from support import program, run
+from support import library, run
 
 from gwb import Refused, Workbench
 from gwb.checks.check import check
@@ -19,7 +19,7 @@ class Unit(unittest.TestCase):
     """A block of 7 by 5 by 3, which the plane cuts between whole coordinates, and a cube beside it."""
 
     def setUp(self):
-        self.bench = Workbench(program())
+        self.bench = Workbench(library())
         self.addCleanup(self.bench.close)
         folder = tempfile.TemporaryDirectory()
         self.addCleanup(folder.cleanup)
@@ -160,7 +160,7 @@ class Unit(unittest.TestCase):
                     self.bench.split(self.block, PLANE, scale=True)
                 path = self.folder / 'part.gwb'
                 self.bench.save(path)
-                with Workbench.load(path, program()) as again:
+                with Workbench.load(path, library()) as again:
                     self.assertEqual((again.unit, again.listing()), (Fraction(1, 6), self.bench.listing()))
                     again.save(self.folder / 'again.gwb')
                     self.assertEqual((self.folder / 'again.gwb').read_text(), path.read_text())
@@ -172,13 +172,13 @@ class Unit(unittest.TestCase):
         with self.bench.draft():
             self.bench.cut(self.block, PLANE, scale=True)
             self.bench.save(self.folder / 'part.gwb')
-        with Workbench.load(self.folder / 'part.gwb', program()) as again:
+        with Workbench.load(self.folder / 'part.gwb', library()) as again:
             self.assertEqual(again.unit, Fraction(1, 6))
 
     def test_a_script_may_begin_with_its_unit(self):
         path = self.folder / 'part.gwb'
         path.write_text('# unit 1/60\nblock 1 0 0 0 60 60 60\n')
-        with Workbench.load(path, program()) as bench:
+        with Workbench.load(path, library()) as bench:
             self.assertEqual(bench.unit, Fraction(1, 60))
             bench.undo()
             self.assertEqual(bench.unit, Fraction(1, 60))
@@ -190,7 +190,7 @@ class Unit(unittest.TestCase):
         for ending, options in (('.step', {}), ('.3mf', {'rounded': True})):
             with self.subTest(ending):
                 path = self.exported(f'part{ending}')
-                with Workbench(program()) as again:
+                with Workbench(library()) as again:
                     made = again.import_file(path, scale=6, **options)
                     self.assertEqual(sorted(map(again.volume, made)), sorted(self.bench.volume(solid) for solid in self.bench.solids()))
                 taken = self.bench.import_file(path, **options)
@@ -231,7 +231,7 @@ class Unit(unittest.TestCase):
     def test_other_forms_are_read_again(self):
         self.bench.split(self.block, PLANE, scale=True)
         for ending in ('.obj', '.off', '.stl', '.3mf', '.step'):
-            with self.subTest(ending), Workbench(program()) as again:
+            with self.subTest(ending), Workbench(library()) as again:
                 made = again.import_file(self.exported(f'part{ending}'), scale=6 if ending in ('.3mf', '.step') else 1)
                 self.assertEqual(sum(map(again.volume, made)), 216 * (105 + 8))
                 self.assertEqual(again.labels, {})
@@ -241,23 +241,23 @@ class Began(unittest.TestCase):
     """A session that begins in a unit of its own."""
 
     def test_sixtieths_of_a_millimetre(self):
-        with tempfile.TemporaryDirectory() as folder, Workbench(program(), unit=Fraction(1, 60)) as bench:
+        with tempfile.TemporaryDirectory() as folder, Workbench(library(), unit=Fraction(1, 60)) as bench:
             bench.block((0, 0, 0), (60, 120, 180))
             self.assertEqual(bench.unit, Fraction(1, 60))
             for ending in ('.step', '.3mf', '.obj', '.gwb'):
                 file = Path(folder) / f'part{ending}'
                 (bench.save if ending == '.gwb' else bench.export)(file)
                 if ending in ('.step', '.3mf'):
-                    with Workbench(program()) as again:
+                    with Workbench(library()) as again:
                         self.assertEqual(again.volume(again.import_file(file).one()), 6, ending)
             self.assertTrue((Path(folder) / 'part.obj').read_text().startswith('# unit 1/60\n'))
-            with Workbench.load(Path(folder) / 'part.gwb', program()) as again:
+            with Workbench.load(Path(folder) / 'part.gwb', library()) as again:
                 self.assertEqual((again.unit, again.listing()), (bench.unit, bench.listing()))
                 again.undo()
                 self.assertEqual(again.unit, Fraction(1, 60))
 
     def test_a_finer_unit_is_part_of_it(self):
-        with Workbench(program(), unit=Fraction(1, 4)) as bench:
+        with Workbench(library(), unit=Fraction(1, 4)) as bench:
             bench.split(bench.block((0, 0, 0), (7, 5, 3)), PLANE, scale=True)
             self.assertEqual(bench.unit, Fraction(1, 24))
             bench.undo()
@@ -265,9 +265,9 @@ class Began(unittest.TestCase):
 
     def test_what_is_no_unit(self):
         for unit in (0, -1, Fraction(-1, 2)):
-            self.assertRaisesRegex(ValueError, '^unit: .* is not above zero$', Workbench, program(), unit=unit)
+            self.assertRaisesRegex(ValueError, '^unit: .* is not above zero$', Workbench, library(), unit=unit)
         for unit in (.5, True, '1/60', None):
-            self.assertRaisesRegex(TypeError, '^unit: a whole number or a fraction is wanted, ', Workbench, program(), unit=unit)
+            self.assertRaisesRegex(TypeError, '^unit: a whole number or a fraction is wanted, ', Workbench, library(), unit=unit)
 
 
 if __name__ == '__main__':

@@ -16,7 +16,7 @@ from gwb.geometry.vectors import ZERO, cross, dot, subtract, total
 from gwb.programs.playing import played
 from gwb.protocol.language import is_answered
 from gwb.protocol.listing import read_model
-from gwb.session.pipe import Pipe
+from gwb.programs.pipe import Pipe
 
 BLOCK = listing(*box((0, 0, 0), (4, 4, 4)))
 

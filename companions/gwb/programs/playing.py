@@ -8,8 +8,8 @@ from ..geometry.model import Model
 from ..protocol.language import first_word, is_answered
 from ..protocol.replies import Reply, shortened
 from ..scripts.followed import Followed, no_changes
-from ..session.pipe import Pipe, find_program
 from .explain import meaning
+from .pipe import Pipe, find_program
 
 
 class Played(NamedTuple):

@@ -19,9 +19,9 @@ from ..geometry.model import Model
 from ..protocol.language import COMMANDS, first_word, is_answered
 from ..protocol.listing import model_of
 from ..protocol.replies import Reply
-from ..session.pipe import Pipe, find_program
 from .command_line import FOUND, OK, add_version, read_bytes, run
 from .explain import Answered, complaints, meaning
+from .pipe import Pipe, find_program
 
 PROGRAM = 'gwb-shell'
 PROMPT = 'gwb> '

@@ -16,13 +16,6 @@ def complaint(line: str, reply: Reply) -> Complaint:
     return refused(line, number, value)
 
 
-def reply_to(error: Complaint) -> Reply:
-    """The reply that an error stands for."""
-    if isinstance(error, Refused):
-        return Reply((f'refused {error.number} {error.value}',))
-    return Reply((f'fault {error.number}' if isinstance(error, Faulted) else 'memory',))
-
-
 def memory_refused(line: str) -> MemoryRefused:
     """The error for a line for which memory was refused."""
     return MemoryRefused(f'{line}: memory was refused')

@@ -31,6 +31,8 @@ _WITH_A_SOLID = (NewSolid, Lamina, Block, Profile)
 
 def whole(name: str, value: object) -> int:
     """A whole number, as an int or what counts as one. A bool, a float, a str and a thing of the model are none."""
+    if type(value) is int:
+        return value
     if isinstance(value, bool) or not isinstance(value, Integral):
         raise TypeError(f'{name}: a whole number is wanted, not {_kind_of(value)}')
     return int(value)

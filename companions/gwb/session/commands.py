@@ -7,6 +7,7 @@ from ..geometry.free_numbers import numbers_of
 from ..geometry.vectors import Vector, dot
 from . import arguments
 from .bench import Methods
+from .reading import FacePart
 from .results import Block, Corner, Count, Lamina, NewEdge, NewFace, NewSolid, Numbers, Plane, Split, Sweep
 
 
@@ -19,12 +20,12 @@ class Commands(Methods):
         place = arguments.point('point', point)
         made = NewSolid(self._bench.new('solid', solid), self._bench.new('face', face),
                         self._bench.new('loop', loop), self._bench.new('vertex', vertex))
-        self._bench.conversation.do('mvfs', *made, *place)
+        self._bench.kernel.do('mvfs', *made, *place)
         return made
 
     def kvfs(self, solid: arguments.Solid) -> None:
         """The solid goes, with its one face, loop and vertex."""
-        self._bench.conversation.do('kvfs', self._bench.number('solid', solid))
+        self._bench.kernel.do('kvfs', self._bench.number('solid', solid))
 
     def mev(self, first: Corner, second: Corner, point: arguments.Point, *,
             edge: Optional[int] = None, vertex: Optional[int] = None) -> NewEdge:
@@ -32,87 +33,90 @@ class Commands(Methods):
         corners = self._bench.corner('first', first), self._bench.corner('second', second)
         place = arguments.point('point', point)
         made = NewEdge(self._bench.new('edge', edge), self._bench.new('vertex', vertex))
-        self._bench.conversation.do('mev', *corners, *made, *place)
+        self._bench.kernel.do('mev', *corners, *made, *place)
         return made
 
     def kev(self, half: arguments.Edge) -> None:
         """The edge goes, and the vertex at which the half-edge ends."""
-        self._bench.conversation.do('kev', self._bench.half_edge('half', half))
+        self._bench.kernel.do('kev', self._bench.half('half', half))
 
     def mef(self, first: arguments.Edge, second: arguments.Edge, *, edge: Optional[int] = None,
             face: Optional[int] = None, loop: Optional[int] = None) -> NewFace:
         """A new edge across a face; the part of its loop from the first half-edge to before the second is of the new face."""
-        halves = self._bench.half_edge('first', first), self._bench.half_edge('second', second)
+        halves = self._bench.half('first', first), self._bench.half('second', second)
         made = NewFace(self._bench.new('edge', edge), self._bench.new('face', face), self._bench.new('loop', loop))
-        self._bench.conversation.do('mef', *halves, *made)
+        self._bench.kernel.do('mef', *halves, *made)
         return made
 
     def kef(self, half: arguments.Edge) -> None:
         """The edge goes, and the face on the other side of the half-edge."""
-        self._bench.conversation.do('kef', self._bench.half_edge('half', half))
+        self._bench.kernel.do('kef', self._bench.half('half', half))
 
     def kemr(self, half: arguments.Edge, *, loop: Optional[int] = None) -> int:
         """The edge goes, and the part of its loop after the half-edge is a new ring: its number."""
-        word, made = self._bench.half_edge('half', half), self._bench.new('loop', loop)
-        self._bench.conversation.do('kemr', word, made)
+        word, made = self._bench.half('half', half), self._bench.new('loop', loop)
+        self._bench.kernel.do('kemr', word, made)
         return made
 
     def mekr(self, first: Corner, second: Corner, *, edge: Optional[int] = None) -> int:
         """A new edge from the first corner to one in a ring of the same face, which becomes part of the first one's loop."""
         corners, made = (self._bench.corner('first', first), self._bench.corner('second', second)), self._bench.new('edge', edge)
-        self._bench.conversation.do('mekr', *corners, made)
+        self._bench.kernel.do('mekr', *corners, made)
         return made
 
     def kfmrh(self, face: arguments.Face, other: arguments.Face) -> None:
         """The other face goes, and its loop becomes a ring of the face."""
-        self._bench.conversation.do('kfmrh', self._bench.number('face', face), self._bench.number('other', other, 'face'))
+        self._bench.kernel.do('kfmrh', self._bench.number('face', face), self._bench.number('other', other, 'face'))
 
     def mfkrh(self, ring: arguments.LoopNumber, *, face: Optional[int] = None) -> int:
         """The ring becomes the outer loop of a new face: its number."""
         loop, made = self._bench.number('ring', ring, 'loop'), self._bench.new('face', face)
-        self._bench.conversation.do('mfkrh', loop, made)
+        self._bench.kernel.do('mfkrh', loop, made)
         return made
 
     def ringmv(self, ring: arguments.LoopNumber, face: arguments.Face, way: str) -> None:
         """The ring becomes a ring of the face (way `in`), or its outer loop (way `out`)."""
-        self._bench.conversation.do('ringmv', self._bench.number('ring', ring, 'loop'), self._bench.number('face', face), arguments.way('way', way))
+        self._bench.kernel.do('ringmv', self._bench.number('ring', ring, 'loop'), self._bench.number('face', face), arguments.way('way', way))
 
     def lamina(self, points: arguments.Points, *, solid: Optional[int] = None) -> Lamina:
         """A new solid of two faces, back to back, through up to 64 points. The front is seen with the points counterclockwise."""
         places = arguments.points('points', points, arguments.MOST_LAMINA_POINTS)
         number = self._bench.new('solid', solid)
-        fresh = self._bench.conversation.do('lamina', number, *(part for place in places for part in place))
+        self._bench.kernel.do('lamina', number, *(part for place in places for part in place))
+        fresh = self._bench.fresh()
         front, back = fresh['face']
-        return Lamina(number, front, back, tuple(fresh['edge']), tuple(fresh['vertex']))
+        return Lamina(number, front, back, fresh['edge'], fresh['vertex'])
 
     def block(self, point: arguments.Point, sizes: arguments.Point, *, solid: Optional[int] = None) -> Block:
         """A new solid: the block from the point on with edges along the axes, so long as the sizes say."""
         place, lengths = arguments.point('point', point), arguments.point('sizes', sizes)
         number = self._bench.new('solid', solid)
-        fresh = self._bench.conversation.do('block', number, *place, *lengths)
+        self._bench.kernel.do('block', number, *place, *lengths)
+        fresh = self._bench.fresh()
         top, bottom, *sides = fresh['face']
-        return Block(number, top, bottom, tuple(sides), tuple(fresh['edge']), tuple(fresh['vertex']))
+        return Block(number, top, bottom, tuple(sides), fresh['edge'], fresh['vertex'])
 
     def sweep(self, face: arguments.Face, vector: arguments.Point) -> Sweep:
         """The face moves by the vector and leaves a side behind each of its half-edges.
 
         A lamina's front is swept along its normal, its back along the opposite one: the other way the solid is inside out."""
         number, way = self._bench.number('face', face), arguments.point('vector', vector)
-        fresh = self._bench.conversation.do('sweep', number, *way)
+        self._bench.kernel.do('sweep', number, *way)
+        fresh = self._bench.fresh()
         rising: Numbers = ()
         far: Numbers = ()
         edges = fresh['edge']
-        for size in self._bench.conversation.face_sizes(number):
+        for size in (len(loop.half_edges) for loop in FacePart(self._bench.kernel, number).loops):
             round_loop, edges = edges[:2 * size], edges[2 * size:]
             rising += (round_loop[0], *round_loop[1:-1:2])
             far += (*round_loop[2::2], round_loop[-1])
-        return Sweep(number, tuple(fresh['face']), rising, far, tuple(fresh['vertex']))
+        return Sweep(number, fresh['face'], rising, far, fresh['vertex'])
 
     def glue(self, face: arguments.Face, other: arguments.Face) -> int:
         """The solids of the two faces become one along them: its number."""
         faces = self._bench.number('face', face), self._bench.number('other', other, 'face')
-        kept = self._bench.kernel.reader().face(faces[0])
-        self._bench.conversation.do('glue', *faces)
+        kept = self._bench.kernel.lines.face(faces[0])
+        self._bench.kernel.do('glue', *faces)
         assert kept is not None, 'glue is refused where there is no such face'
         return kept.solid
 
@@ -120,8 +124,8 @@ class Commands(Methods):
         """The solid is cut by the plane a x + b y + c z + d = 0, four numbers or what `plane` returns; what lies above it becomes a new solid."""
         cut, coefficients = self._bench.number('solid', solid), arguments.plane('plane', plane)
         number = self._bench.new('solid', above, 'above')
-        fresh = self._bench.conversation.do('split', cut, *coefficients, number)
-        reader = self._bench.kernel.reader()
+        self._bench.kernel.do('split', cut, *coefficients, number)
+        fresh, reader = self._bench.fresh(), self._bench.kernel.lines
         model = self._bench.model_of([face for side in (cut, number) for face in reader.faces_of(side)])
         numbers = numbers_of(model)
         made = {kind: tuple(found for found in numbers[kind] if found in new) for kind, new in fresh.items()}
@@ -133,17 +137,19 @@ class Commands(Methods):
         """The last step is taken back: a command, or all those of a feature or a group; with `command=True` one command of it. A draft is one
         command. Refused: NothingToUndo. In a draft InDraft, in a group InGroup."""
         one = arguments.flag('command', command)
-        self._bench.steps.undo(one)
+        self._bench.kernel.step('undo', 1 if one else self._bench.kernel.notes.step_back())
 
     def redo(self, *, command: bool = False) -> None:
         """The step that was taken back last is done again; with `command=True` one command of it. Refused: NothingToRedo."""
         one = arguments.flag('command', command)
-        self._bench.steps.redo(one)
+        self._bench.kernel.step('redo', 1 if one else self._bench.kernel.notes.step_ahead())
 
     def plane(self, face: arguments.Face) -> Plane:
         """The plane of the face, which `split` and `faces` take."""
         number = self._bench.number('face', face)
-        return self._bench.kernel.lines.plane(number)
+        reply = self._bench.kernel.lines.asked(f'plane {number}')
+        a, b, c, d = reply.numbers
+        return Plane(a, b, c, d, reply.lines[0].endswith(' flat'))
 
     def volume(self, solid: arguments.Solid) -> Fraction:
         """The volume of the solid, exactly: in cubes of the unit, a fraction whose denominator is 1, 2, 3 or 6."""
@@ -152,12 +158,12 @@ class Commands(Methods):
     def six_volume(self, solid: arguments.Solid) -> int:
         """Six times the volume of the solid, which is whole: what the command `volume` says."""
         number = self._bench.number('solid', solid)
-        return self._bench.kernel.lines.volume(number)
+        return self._bench.kernel.lines.asked(f'volume {number}').numbers[0]
 
     def count(self, solid: arguments.Solid) -> Count:
         """How many things of each kind the solid has."""
         number = self._bench.number('solid', solid)
-        return self._bench.kernel.lines.count(number)
+        return Count(*self._bench.kernel.lines.asked(f'count {number}').numbers)
 
 
 def _height(plane: Sequence[int], point: Vector) -> int:

@@ -23,6 +23,8 @@ from ..joining.assembly import Names, Take, assembled
 from ..joining.combining import findings_near, require_flat, sheets_of
 from .bench import Bench
 from .commands import Commands
+from .labelling import LabelledFaces
+from .results import Split
 from .solids import Numbers, delete, give
 
 Plane = Tuple[int, int, int, int]
@@ -68,9 +70,8 @@ def cut(bench: Bench, solid: int, plane: Plane, above: Optional[int]) -> Cut:
     number = bench.new('solid', above, 'above')
     model = bench.solid_model(solid)
     with _another_way(), bench.step():
-        made = Commands(bench).split(solid, plane, above=number)
+        made = split(bench, solid, plane, number)
         _require_apart(model, plane, [bench.solid_model(part) for part in (solid, number)])
-        bench.label_parts(solid, number)
         return Cut(solid, number, made.lower_caps, made.upper_caps)
     require_free(bench, number)
     numbers = Numbers(bench)
@@ -82,11 +83,21 @@ def cut(bench: Bench, solid: int, plane: Plane, above: Optional[int]) -> Cut:
     return Cut(solid, number, halves.below.caps, halves.above.caps)
 
 
+def split(bench: Bench, solid: int, plane: Plane, above: Optional[int]) -> Split:
+    """The command, and the labels of the solid and its faces for the parts above."""
+    labelled = LabelledFaces(bench.kernel, solid)
+    with bench.step():
+        made = Commands(bench).split(solid, plane, above=above)
+        bench.label_alike('solid', [(solid, made.solid)])
+        labelled.label_parts((solid, made.solid), (*made.lower_caps, *made.upper_caps))
+        return made
+
+
 def trimmed(bench: Bench, solid: int, plane: Plane) -> Tuple[int, ...]:
     """What lies above the plane is cut off and thrown away, as one command: the caps of what is left, which keeps its number."""
     model = bench.solid_model(solid)
     with _another_way(), bench.step():
-        made = Commands(bench).split(solid, plane)
+        made = split(bench, solid, plane, None)
         _require_apart(model, plane, [bench.solid_model(solid)])
         delete(bench, made.solid)
         return made.lower_caps

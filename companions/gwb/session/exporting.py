@@ -32,8 +32,8 @@ class _Held(NamedTuple):
 
 
 class Exporting(Methods):
-    """Labels go by number and are no commands: undo leaves them, and what isn't there has none in a file. Copies and parts above a cut get
-    those of what they were."""
+    """Labels go by number, and with the command after which they were given: its undo takes them back, and redo gives them again. What is gone
+    has none. Copies and parts of faces get those of what they were."""
 
     @property
     def labels(self) -> Appearances:
@@ -48,15 +48,12 @@ class Exporting(Methods):
             raise TypeError(f'thing: a solid or a face is wanted, not {thing!r}')
         number = self._bench.number('thing', thing, thing.kind)
         _there = thing.faces if isinstance(thing, SolidPart) else thing.solid
-        if look == Appearance():
-            self._bench.labels.pop((thing.kind, number), None)
-        else:
-            self._bench.labels[thing.kind, number] = look
+        self._bench.kernel.notes.put((thing.kind, number), None if look == Appearance() else look)
 
     @property
     def unit(self) -> Fraction:
         """How many millimetres a coordinate stands for: as the session began, but where coordinates were multiplied for a finer unit."""
-        return self._bench.kernel.journal.unit
+        return self._bench.kernel.notes.unit
 
     def page(self) -> str:
         """A page in HTML to turn the model and to pick from it, as `gwb-view` makes it, with the labels."""
@@ -91,9 +88,8 @@ class Exporting(Methods):
         options = files_in.Options(
             files_in.known_form(arguments.text('form', form)), arguments.factor('scale', scale), arguments.flag('rounded', rounded),
             arguments.flag('keep_triangles', keep_triangles), arguments.flag('repair', repair))
-        taken = files_in.take_in(self._bench, arguments.path('path', path), options)
-        self._bench.labels.update(taken.looks)
-        return Selection('solid', '', [SolidPart(self._bench.kernel, solid) for solid in taken.solids])
+        solids = files_in.take_in(self._bench, arguments.path('path', path), options)
+        return Selection('solid', '', [SolidPart(self._bench.kernel, solid) for solid in solids])
 
 
 def _name(value: object) -> str:

@@ -1,9 +1,12 @@
-"""The methods of a workbench that make features of outlines (features.py)."""
+"""The methods of a workbench that make features of outlines."""
 
-from typing import Optional, Sequence
+from ctypes import addressof
+from typing import List, Optional, Sequence, Tuple
 
+from ..geometry.vectors import Vector
 from . import arguments, features
 from .bench import Methods
+from .library import Point
 from .results import Hole, Pocket, Profile, Ring
 
 _MOST_SIDES = 1_000_000
@@ -17,8 +20,10 @@ class FeatureMethods(Methods):
 
         Refused: FewPoints, RepeatedPoint; NoArea: the outline has no area; NotInPlane: a point lies off the plane of the others;
         OutlineCrossed: the outline crosses or touches itself; AlongPlane: the vector lies in the plane of the points."""
-        outline, way = arguments.points('points', points), arguments.point('along', along)
-        return features.profile(self._bench, outline, way, self._bench.new('solid', solid))
+        outline, way = arguments.points('points', points), Point(*arguments.point('along', along))
+        number = self._bench.new('solid', solid)
+        made = self._bench.features.outline('profile', number, outline, addressof(way))
+        return Profile(number, made.first, made.second, made.along)
 
     def ring(self, face: arguments.Face, points: arguments.Points) -> Ring:
         """A face inside the face, with the outline through the points, and a ring around it.
@@ -26,7 +31,8 @@ class FeatureMethods(Methods):
         Refused: NoFace; NotFlat: the face isn't flat; FewPoints, RepeatedPoint; NoArea: the outline has no area; NotInPlane: a point lies off
         the plane of the face; OutlineCrossed: the outline crosses or touches itself; OutlineOutside: it crosses or touches the boundary of the
         face, or doesn't lie inside; OutlineAroundRing: a ring of the face lies inside the outline."""
-        return features.ring(self._bench, self._bench.number('face', face), arguments.points('points', points))
+        made = self._bench.features.outline('ring', *self._outline(face, points), of_vertices=True)
+        return Ring(*made)
 
     def pocket(self, face: arguments.Face, points: arguments.Points, depth: int) -> Pocket:
         """A pocket so deep behind the outline in the face.
@@ -35,8 +41,8 @@ class FeatureMethods(Methods):
         the plane of the face; OutlineCrossed: the outline crosses or touches itself; OutlineOutside: it crosses or touches the boundary of the
         face, or doesn't lie inside; OutlineAroundRing: a ring of the face lies inside the outline; OffLattice: no whole vector along the
         normal is so long; Meets: the pocket would come through, or meet or touch something of the solid."""
-        length = -arguments.positive('depth', depth)
-        return features.raised(self._bench, self._bench.number('face', face), arguments.points('points', points), length)
+        made = self._bench.features.outline('pocket', *self._outline(face, points), arguments.positive('depth', depth))
+        return Pocket(made.first, made.second, made.along)
 
     def boss(self, face: arguments.Face, points: arguments.Points, height: int) -> Pocket:
         """A boss so high on the outline in the face.
@@ -45,8 +51,8 @@ class FeatureMethods(Methods):
         the plane of the face; OutlineCrossed: the outline crosses or touches itself; OutlineOutside: it crosses or touches the boundary of the
         face, or doesn't lie inside; OutlineAroundRing: a ring of the face lies inside the outline; OffLattice: no whole vector along the
         normal is so long; Meets: the boss would meet or touch something of the solid."""
-        length = arguments.positive('height', height)
-        return features.raised(self._bench, self._bench.number('face', face), arguments.points('points', points), length)
+        made = self._bench.features.outline('boss', *self._outline(face, points), arguments.positive('height', height))
+        return Pocket(made.first, made.second, made.along)
 
     def hole(self, face: arguments.Face, points: arguments.Points) -> Hole:
         """A hole from the outline in the face through to the opposite face.
@@ -56,7 +62,13 @@ class FeatureMethods(Methods):
         face or of the opposite one, or doesn't lie inside; OutlineAroundRing: a ring of either face lies inside the outline; NoOpposite: there
         is nothing behind the outline; NotParallel: the face behind it isn't parallel; OffLattice: its plane lies off the lattice behind the
         face; Meets: the hole would meet or touch something else of the solid."""
-        return features.hole(self._bench, self._bench.number('face', face), arguments.points('points', points))
+        number, outline = self._outline(face, points)
+        made = self._bench.features.outline('hole', number, outline)
+        return Hole(made.first, made.second, made.along, tuple(outline))
+
+    def _outline(self, face: arguments.Face, points: arguments.Points) -> Tuple[int, List[Vector]]:
+        """The number of a face, and an outline."""
+        return self._bench.number('face', face), arguments.points('points', points)
 
     def drill(self, face: arguments.Face, center: arguments.Point, radius: int, sides: int, *, depth: Optional[int] = None) -> Hole:
         """A hole with a polygon of so many sides around the center, on whole numbers nearest to the circle of the radius: through, or so
@@ -73,10 +85,9 @@ class FeatureMethods(Methods):
             raise ValueError(f'sides: {count} is outside 3 to {_MOST_SIDES}')
         deep = None if depth is None else arguments.positive('depth', depth)
         outline = features.polygon_in(self._bench, number, middle, reach, count)
-        if deep is None:
-            return features.hole(self._bench, number, outline)
-        made = features.raised(self._bench, number, outline, -deep)
-        return Hole(made.face, made.loop, made.sides, tuple(outline))
+        made = (self._bench.features.outline('hole', number, outline) if deep is None
+                else self._bench.features.outline('pocket', number, outline, deep))
+        return Hole(made.first, made.second, made.along, tuple(outline))
 
     def glue_all(self, solids: Sequence[arguments.Solid]) -> int:
         """The solids become one along the faces that match: its number, the first one's.

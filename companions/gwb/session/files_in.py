@@ -2,9 +2,9 @@
 
 import os
 from fractions import Fraction
-from typing import Dict, List, NamedTuple
+from typing import List, NamedTuple
 
-from ..formats.appearance import LONGEST_NAME, Appearance, Thing
+from ..formats.appearance import LONGEST_NAME
 from ..formats.importing import read_file
 from ..formats.polygon_files import FORMS
 from ..geometry.free_numbers import renumbered
@@ -25,13 +25,6 @@ class Options(NamedTuple):
     repair: bool
 
 
-class TakenIn(NamedTuple):
-    """The solids that came of a file, and the names and colours of these and of their faces."""
-
-    solids: List[int]
-    looks: Dict[Thing, Appearance]
-
-
 def known_form(form: str) -> str:
     """A form of files, or '' where it is to be found out. Raises ValueError."""
     if form and form not in FORMS:
@@ -39,17 +32,20 @@ def known_form(form: str) -> str:
     return form
 
 
-def take_in(bench: Bench, path: str, options: Options) -> TakenIn:
-    """Makes the solids of a file, with numbers that are free, as one command, and warns of what is wrong with them.
+def take_in(bench: Bench, path: str, options: Options) -> List[int]:
+    """Makes the solids of a file, with numbers that are free, as one command, labels what has a name or a colour, and warns of what is wrong:
+    their numbers.
 
     Raises OSError, NotAMesh or Unfit, with the place, where the file can't be read or has no closed surfaces. Refused: NumbersSpent."""
-    scale = Fraction(options.scale) / bench.kernel.journal.unit
+    scale = Fraction(options.scale) / bench.kernel.notes.unit
     found = read_file(os.path.abspath(path), form=options.form or None, scale=scale.numerator if scale.denominator == 1 else scale,
                       rounded=options.rounded, keep_triangles=options.keep_triangles, repair=options.repair)
     for wrong in found.wrong:
         warn(f'{path}: {wrong}')
     numbers = Numbers(bench)
     new = numbers.instead_of(found.model)
-    give(bench, numbers.making(renumbered(found.model, new)))
-    return TakenIn([new['solid'][solid] for solid in found.model.solids],
-                   {(kind, new[kind][number]): look._replace(name=look.name[:LONGEST_NAME]) for (kind, number), look in found.looks.items()})
+    with bench.step():
+        give(bench, numbers.making(renumbered(found.model, new)))
+        for (kind, number), look in found.looks.items():
+            bench.kernel.notes.put((kind, new[kind][number]), look._replace(name=look.name[:LONGEST_NAME]))
+    return [new['solid'][solid] for solid in found.model.solids]

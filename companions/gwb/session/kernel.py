@@ -1,52 +1,63 @@
-"""The program or the library, and the journal of what it accepted.
+"""The session of the library, the notes on its commands, and the drafts and groups that are open in it."""
 
-The journal is what is held: a call that an exception leaves half-way isn't in it. Program and journal may then disagree, so the next turn begins
-with the program started anew and given all that the journal has.
-"""
-
-import re
 from contextlib import contextmanager
-from typing import Callable, Iterator, List, Optional, Sequence, Union
+from fractions import Fraction
+from typing import Any, Callable, Iterator, List, Optional, TypeVar
 
-from ..errors import CompanionError, OutOfStep
+from ..errors import InDraft, InGroup, OutOfStep
 from ..geometry.model import Model
-from .following import Following
-from .journal import Done, Journal, Mark
+from ..protocol.complaints import complaint
+from ..protocol.language import first_word
+from ..protocol.replies import Reply
 from .library import Library
-from .mirror import Mirror
-from .pipe import Pipe
-from .reading import Reader
-from .turns import Turns, in_turn
+from .new_numbers import NewNumbers
+from .notes import Notes
+from .turns import Turns
 
-
-# The name of a shared object, with or without a version behind it: libgwb.so, libgwb.so.2.
-_SHARED_OBJECT = re.compile(r'\.so(\.[0-9]+)*$')
-
-
-class OpenMark:
-    """A mark in the draft that may be gone back to: by the journal, and by the library, which says so anew where the draft is given anew."""
-
-    def __init__(self, at: Mark, place: int) -> None:
-        self.at, self.place = at, place
+Said = TypeVar('Said')
+_NOTHING_TO_REDO = Reply(('refused 26 0',))
+# The commands after which numbers may be free that were in use.
+_FREEING = ('kvfs', 'kev', 'kef', 'kemr', 'mekr', 'kfmrh', 'glue', 'undo')
 
 
 class Kernel(Turns):
-    """A running gwb, what it accepted, and whether the two agree. Each turn with it begins in agreement."""
+    """A session, and what is held beside it. Each turn begins with both in agreement."""
 
-    def __init__(self, path: str) -> None:
-        """Starts the program at the path; where that is a shared object, it is loaded in place of it."""
+    def __init__(self, path: str, unit: Fraction) -> None:
         super().__init__()
-        self.lines: Union[Library, Pipe] = Library(path) if _SHARED_OBJECT.search(path) else Pipe(path)
-        self.journal = Journal()
-        self.marks: List[OpenMark] = []
-        self.following = Following(self.journal)
-        self.agrees = True
+        self.lines = Library(path)
+        self.notes = Notes(unit)
+        self.numbers = NewNumbers(self.lines)
+        # The drafts and groups that are open, each within the ones before it (steps.py).
+        self.blocks: List[Any] = []
+        self._is_giving = False
+        # Whether things may have gone that have labels, and whether this turn has given nothing yet.
+        self._may_have_gone, self._is_first = False, True
         self._listing: Optional[Model] = None
+        self._ended: Optional[List[str]] = None
 
-    def close(self) -> int:
-        """Ends the program; its status."""
+    def close(self) -> None:
+        """Ends the session. Its script is kept."""
+        if self.lines.is_open:
+            self.numbers.note()
+            self._ended = self.commands()
         self.has_changed()
-        return self.lines.close()
+        self.lines.close()
+
+    def begin_turn(self) -> None:
+        """What an exception left half-way is put right: a draft that nobody has begun is given up, and the notes follow the commands."""
+        self._is_first, self._is_giving = True, False
+        if not self.lines.is_open:
+            return
+        if self.lines.is_drafting and not any(block.is_draft for block in self.blocks):
+            self.lines.abandon()
+            self.notes.end_draft(False)
+        self.settle()
+
+    def settle(self) -> None:
+        """The notes follow the commands."""
+        if self.lines.is_open:
+            self.notes.settle(self.lines.depth)
 
     # What is held
 
@@ -61,115 +72,92 @@ class Kernel(Turns):
         """What was read of the model no longer holds."""
         self._listing = None
 
-    @in_turn
-    def reader(self) -> Reader:
-        """Who answers questions about the model: the library, or over the pipe its mirror."""
-        if isinstance(self.lines, Library):
-            return self.lines
-        self.lines.require_open()
-        return self.following.now()
+    def commands(self) -> List[str]:
+        """The lines of each command that is held, and then those of the draft, if one is open."""
+        if self._ended is not None:
+            return self._ended
+        return [self.lines.script(place, 1) for place in range(self.lines.depth + self.lines.is_drafting)]
 
-    @in_turn
-    def mirror(self) -> Mirror:
-        """The model held as it follows from the commands."""
-        self.lines.require_open()
-        return self.following.now()
+    def script(self) -> str:
+        """The lines of what is held."""
+        return ''.join(self._ended) if self._ended is not None else self.lines.script(0, self.lines.depth + 1)
 
-    # Agreement of program and journal
+    # Commands
 
-    def begin_turn(self) -> None:
-        """Where an exception left an earlier call half-way, the program is started anew and given what the journal has."""
-        if self.agrees and self.lines.in_step:
-            return
-        self.has_changed()
-        try:
-            self.lines.restart()
-            self._replay()
-        except CompanionError as reason:
-            self.lines.end(f'after a call that was left half-way the commands could not be given anew: {reason}')
-        self.agrees = True
+    def do(self, *words: object) -> None:
+        """Gives a command of these words. A complaint is raised."""
+        line = ' '.join(map(str, words))
+        reply = self.ask(line)
+        if reply.is_complaint:
+            raise complaint(line, reply)
 
-    def _replay(self) -> None:
-        """Gives all commands of the journal, and undoes those that are undone there."""
-        ahead = self.journal.ahead
-        for done in (*self.journal.held, *ahead):
-            self.lines.give(done.calls)
-        self.unmake(ahead)
-        if self.journal.is_drafting:
-            self.lines.open_draft()
-            for steps, call in enumerate(self.journal.draft):
-                self._mark_again(steps)
-                self.lines.do(call)
-            self._mark_again(len(self.journal.draft))
+    def ask(self, line: str) -> Reply:
+        """The reply to any line. What it makes, undoes or redoes is taken account of."""
+        word = first_word(line.encode('utf-8', 'surrogateescape'))
+        if word in ('undo', 'redo'):
+            self.refuse_steps(line)
+        if line.split() == ['redo'] and not self.notes.ahead():
+            # (what was given up in a group is undone in the library, and isn't to be redone)
+            self.lines.require_open()
+            return _NOTHING_TO_REDO
+        return self.giving(lambda: self.lines.ask(line), word in _FREEING, word not in ('undo', 'redo'))
 
-    def _mark_again(self, steps: int) -> None:
-        """The marks after so many steps of the draft are taken anew."""
-        for mark in self.marks:
-            if mark.at.steps == steps:
-                mark.place = self.lines.mark()
-
-    def unmake(self, made: Sequence[Done]) -> None:
-        """Undoes the last commands, which are these. A complaint is raised."""
-        for done in reversed(made):
-            self.lines.step('undo', len(done.calls))
-
-    # Marks in the draft
-
-    def open_mark(self) -> OpenMark:
-        """A mark where the draft is now, which is open until it is closed."""
-        mark = OpenMark(self.journal.mark(), self.lines.mark())
-        self.marks.append(mark)
-        return mark
-
-    def close_mark(self, mark: OpenMark) -> None:
-        """The mark, and those after it, are no longer needed."""
-        if mark in self.marks:
-            del self.marks[self.marks.index(mark):]
-
-    def go_back(self, mark: OpenMark) -> None:
-        """The steps of the draft since the mark are taken back."""
-        steps = len(self.journal.draft) - mark.at.steps
-        self.follow(lambda: self.journal.go_back(mark.at), lambda: self.lines.back(mark.place, steps))
-
-    def require_agreement(self) -> None:
-        """Raises OutOfStep in a call that is under way, as for a handler of signals."""
-        if not self.agrees:
+    def giving(self, give: Callable[[], Said], frees: bool, is_new: bool = True) -> Said:
+        """Gives what may be a new command, or a step of the draft; `frees` where numbers may be free after it that were in use."""
+        if self._is_giving:
             raise OutOfStep('another call is under way')
+        if frees:
+            self.numbers.note()
+        with self._accounted(is_new):
+            self.has_changed()
+            if is_new:
+                self._forget_gone()
+            self._may_have_gone = self._may_have_gone or frees
+            return give()
 
     @contextmanager
-    def disagreeing(self) -> Iterator[None]:
-        """While a command is given and accounted for, program and journal may disagree; by an exception they do until the next turn."""
-        self.require_agreement()
-        was_inside, self.is_inside, self.agrees = self.is_inside, True, False
+    def _accounted(self, is_new: bool) -> Iterator[None]:
+        is_command = is_new and not self.lines.is_drafting
+        if is_command:
+            self.notes.expect()
+        self._is_giving = True
         try:
             yield
-            self.agrees = True
         finally:
-            self.is_inside = was_inside
+            self._is_giving = False
+            self.settle()
 
-    def unless_refused(self, give: Callable[[], None]) -> None:
-        """Gives what changes nothing where it is refused: program and journal then agree."""
+    def _forget_gone(self) -> None:
+        """What is gone has no label any more, before a turn makes something that may have its number. Undo gives it back."""
+        if not (self._is_first and self._may_have_gone and self.notes.labels):
+            return
+        self._is_first = self._may_have_gone = False
+        for kind, number in [thing for thing in self.notes.labels if not self.lines.in_use(*thing)]:
+            self.notes.drop((kind, number))
+
+    def refuse_steps(self, words: str) -> None:
+        """Raises InDraft or InGroup where nothing is undone or redone now."""
+        if self.lines.is_drafting:
+            raise InDraft(f'{words}: a draft is open, in which nothing is undone or redone')
+        if self.notes.group_from is not None:
+            raise InGroup(f'{words}: a group is open, which is undone when it has ended')
+
+    def step(self, word: str, commands: int) -> None:
+        """Undoes or redoes so many commands, the word says which: all of them or none. A complaint is raised."""
+        self.refuse_steps(word)
+        before = self.lines.depth
         try:
-            give()
-        except CompanionError:
-            self.agrees = True
+            for _ in range(commands):
+                self.do(word)
+        except BaseException:
+            self.go_to(before)
             raise
 
-    def follow(self, change: Callable[[], None], way_back: Callable[[], None]) -> None:
-        """The journal changes to what it was before some calls, whatever exception comes, and the program goes the way back, or is brought into
-        step by the next turn."""
-        agreed, was_inside, has_changed = self.agrees and self.lines.in_step, self.is_inside, False
-        self.agrees = False
-        try:
-            self.has_changed()
-            change()
-            has_changed, self.is_inside = True, True
-            if agreed:
-                way_back()
-                self.agrees = True
-        except CompanionError:
-            pass
-        finally:
-            if not has_changed:
-                change()
-            self.is_inside = was_inside
+    def go_to(self, depth: int) -> None:
+        """So many commands are held, of those that are held or can be redone."""
+        while self.lines.is_open and self.lines.depth != depth:
+            reply = self.lines.ask('undo' if self.lines.depth > depth else 'redo')
+            if reply.is_complaint:
+                raise complaint('undo', reply)
+        self.has_changed()
+        self.settle()

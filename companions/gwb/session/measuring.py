@@ -8,7 +8,7 @@ from ..geometry.flat_face import ExactVector
 from ..geometry.model import Model
 from . import arguments
 from .bench import Bench, Methods
-from .reading import EdgePart, FacePart, SolidPart
+from .reading import EdgePart, FacePart
 
 
 class Measuring(Methods):
@@ -73,25 +73,24 @@ class Measuring(Methods):
 def _solid_read(bench: Bench, solid: arguments.Solid) -> Tuple[Model, int]:
     """The solid alone, and its number."""
     number = bench.number('solid', solid)
-    return _model_with(bench, SolidPart(bench.kernel, number)), number
+    return bench.solid_model(number), number
 
 
 def _face_read(bench: Bench, face: arguments.Face) -> Tuple[Model, int]:
-    numbers = _faces_read(bench, face, face)
-    return numbers[0], numbers[1]
+    """The face alone, and its number."""
+    number = bench.number('face', face)
+    FacePart(bench.kernel, number).loops
+    return bench.model_of([number]), number
 
 
 def _faces_read(bench: Bench, face: arguments.Face, other: arguments.Face) -> Tuple[Model, int, int]:
     numbers = bench.number('face', face), bench.number('other', other, 'face')
-    return (_model_with(bench, *(FacePart(bench.kernel, number).solid for number in numbers)), *numbers)
+    for number in numbers:
+        FacePart(bench.kernel, number).loops
+    return (bench.model_of(sorted(set(numbers))), *numbers)
 
 
 def _edge_read(bench: Bench, edge: arguments.Edge) -> Tuple[Model, int]:
     number = abs(bench.half_edge('edge', edge))
     ends = EdgePart(bench.kernel, number).vertices
     return Model((), {}, {}, {number: (ends[0].number, ends[1].number)}, {end.number: end.point for end in ends}), number
-
-
-def _model_with(bench: Bench, *solids: SolidPart) -> Model:
-    """The solids as they are read, each of which is there."""
-    return bench.solids_as_read(sorted({solid.number for solid in solids if solid.faces}))

@@ -1,27 +1,25 @@
-"""The faces of a solid near a place as a model of their own: one face stands in it for all of the rest, so that it is closed.
+"""Parts of a solid near a place, in which one face stands for the rest, so that what is made of them can be put into the whole again."""
 
-What is done to faces near a place leaves that face as it is, so the operators that turn one such model into another do so in the solid.
-"""
+from typing import Dict, Iterable, Iterator, List, Mapping, NamedTuple, Optional, Sequence, Set, TypeVar
 
-from typing import Dict, Iterable, Iterator, List, Mapping, NamedTuple, Sequence, Set, TypeVar
-
-from ..geometry.box_index import Box
+from ..geometry.box_index import Box, box_of, boxes_meet
 from ..geometry.free_numbers import LARGEST, from_least, sorted_model
+from ..geometry.measures import loop_normal
 from ..geometry.model import Face, Loop, Model
+from ..geometry.regions import LoopShape, Region as FaceRegion, region_of
 from ..geometry.sheets import Region
 from ..geometry.traced_cycles import Side
-from ..geometry.vectors import ZERO
-from .bench import Bench
-from .mirror import Mirror
-from .part_models import model_of_faces
+from ..geometry.vectors import ZERO, dot
 
+# The number of the face that stands for the rest, and the first one of its loops.
 _REST = LARGEST + 1
 Row = TypeVar('Row')
 
 
 class NearPart(NamedTuple):
-    """Some faces of a solid, with the face that stands for the rest where they aren't all, and the rings of these faces that aren't in it."""
+    """Some faces of a whole solid, with the face that stands for the rest where they aren't all, and the rings of these faces that aren't in it."""
 
+    whole: Model
     model: Model
     elsewhere: Mapping[int, Sequence[int]]
 
@@ -39,9 +37,9 @@ class NearPart(NamedTuple):
         cycles = [[Side(model.point(half), model.point(-half), half) for half in model.loops[loop].halves] for loop in model.faces[_REST].loops]
         return [Region((_REST,), (), ZERO, cycles)]
 
-    def put_into(self, whole: Model, made: Model) -> Model:
+    def put_in(self, made: Model) -> Model:
         """The whole solid after the part has become what was made of it."""
-        old, new = self.near, without_rest(made)
+        whole, old, new = self.whole, self.near, without_rest(made)
         return sorted_model(whole.solids, _replaced(whole.faces, old.faces, new.faces), _replaced(whole.loops, old.loops, new.loops),
                             _replaced(whole.edges, old.edges, new.edges), _replaced(whole.vertices, old.vertices, new.vertices))
 
@@ -55,26 +53,39 @@ def without_rest(model: Model) -> Model:
     return Model(model.solids, faces, loops, model.edges, model.vertices)
 
 
-def near_part(bench: Bench, solid: int, box: Box, faces: Sequence[int] = (), *, all_rings: bool = False) -> NearPart:
-    """The faces of the solid whose boxes meet a box, and these faces of it, without those of their rings whose boxes don't, but where all rings
-    are wanted."""
-    mirror, near = bench.kernel.mirror(), bench.near()
-    held = sorted({*near.faces_near(solid, box), *faces})
-    loops = near.loops_near(solid, box)
-    elsewhere = {} if all_rings else {face: rings for face in held for rings in [near.rings_but(face, loops)] if rings}
-    model = model_of_faces(mirror, held, {ring for rings in elsewhere.values() for ring in rings})
-    halves = {half for loop in model.loops.values() for half in loop.halves}
-    rest = {_REST + place: Loop(from_least(cycle)) for place, cycle in enumerate(_rest_cycles(mirror, halves))}
-    if not rest and elsewhere:
-        return near_part(bench, solid, box, faces, all_rings=True)
+def near_part(whole: Model, box: Box, *, all_rings: bool = False) -> NearPart:
+    """The faces of a solid whose boxes meet a box, without those of their rings whose boxes don't, but where all rings are wanted."""
+    faces = {face: row for face, row in whole.faces.items() if boxes_meet(box_of(whole.loop_points(row.outer)), box)}
+    elsewhere = {} if all_rings else {face: rings for face in faces for rings in [_far_rings(whole, face, box)] if rings}
+    faces = {face: row._replace(rings=tuple(ring for ring in row.rings if ring not in elsewhere.get(face, ()))) for face, row in faces.items()}
+    loops = {loop: whole.loops[loop] for row in faces.values() for loop in row.loops}
+    halves = {half for loop in loops.values() for half in loop.halves}
+    rest = {_REST + place: Loop(from_least(cycle)) for place, cycle in enumerate(_rest_cycles(whole, halves))}
     if not rest:
-        return NearPart(model if len(model.faces) == len(mirror.faces_of(solid)) else bench.solid_model(solid), {})
-    row = Face(solid, _REST, tuple(rest)[1:])
-    return NearPart(Model(model.solids, {**model.faces, _REST: row}, {**model.loops, **rest}, model.edges, model.vertices), elsewhere)
+        return near_part(whole, box, all_rings=True) if elsewhere else NearPart(whole, whole, {})
+    edges = {abs(half): whole.edges[abs(half)] for half in halves}
+    vertices = {vertex: whole.vertices[vertex] for ends in edges.values() for vertex in ends}
+    row = Face(whole.solids[0], _REST, tuple(rest)[1:])
+    return NearPart(whole, sorted_model(whole.solids, {**faces, _REST: row}, {**loops, **rest}, edges, vertices), elsewhere)
 
 
-def _rest_cycles(mirror: Mirror, near: Set[int]) -> Iterator[List[int]]:
-    """The half-edges of the rest whose mates are near, in cycles: each leads to the next one round the vertex at its end."""
+def region(model: Model, face: int) -> Optional[FaceRegion]:
+    """A face as a region of its plane; None where it isn't a plain flat one."""
+    return region_of([LoopShape(tuple(model.loop_points(loop)), model.loops[loop].is_lone) for loop in model.faces[face].loops])
+
+
+def _far_rings(whole: Model, face: int, box: Box) -> Sequence[int]:
+    """The rings of a face that don't meet the box, where it is flat and looks the same way without them; otherwise none."""
+    row = whole.faces[face]
+    rings = [ring for ring in row.rings if not boxes_meet(box_of(whole.loop_points(ring)), box)]
+    held = region(whole, face) if rings else None
+    return rings if held and dot(held.across, loop_normal(whole, row.outer)) > 0 else ()
+
+
+def _rest_cycles(whole: Model, near: Set[int]) -> Iterator[List[int]]:
+    """The half-edges of the rest whose mates are near, in cycles: each leads to the next one round the vertex at its end, where edges of which
+    neither side is near are missing."""
+    after = {half: following for loop in whole.loops.values() for half, following in zip(loop.halves, loop.halves[1:] + loop.halves[:1])}
     left = dict.fromkeys(-half for half in near if -half not in near)
     while left:
         half = next(iter(left))
@@ -82,18 +93,12 @@ def _rest_cycles(mirror: Mirror, near: Set[int]) -> Iterator[List[int]]:
         while half in left:
             del left[half]
             cycle.append(half)
-            half = _next_beside(mirror, near, half)
+            half = after[half]
+            while -half not in near:
+                half = after[-half]
         yield cycle
 
 
-def _next_beside(mirror: Mirror, near: Set[int], half: int) -> int:
-    """The next half-edge of the rest with a mate that is near, where edges of which neither side is near are missing."""
-    following = mirror.after(half)
-    while -following not in near:
-        following = mirror.after(-following)
-    return following
-
-
-def _replaced(whole: Dict[int, Row], old: Iterable[int], new: Dict[int, Row]) -> Dict[int, Row]:
+def _replaced(whole: Mapping[int, Row], old: Iterable[int], new: Mapping[int, Row]) -> Dict[int, Row]:
     gone = set(old)
     return {**{number: row for number, row in whole.items() if number not in gone}, **new}

@@ -3,47 +3,34 @@
 from typing import Dict
 
 from ..geometry.free_numbers import KINDS, LARGEST
-from .journal import Greatest
-from .kernel import Kernel
 from .library import Library
-from .numbering import Seeker
 
 
 class NewNumbers:
-    """Which numbers of what the kernel holds are in use, and which come next."""
+    """Which numbers of what a session holds are in use, and which come next."""
 
-    def __init__(self, kernel: Kernel) -> None:
-        self._kernel = kernel
-        self._seeker = Seeker(self.in_use, self._greatest_read)
+    def __init__(self, lines: Library) -> None:
+        self._lines = lines
         self._ever = dict.fromkeys(KINDS, 0)
         self._gaps: Dict[str, int] = {}
 
     def in_use(self, kind: str, number: int) -> bool:
         """Whether the number of the kind is in use."""
-        lines = self._kernel.lines
-        return lines.in_use(kind, number) if isinstance(lines, Library) else self._kernel.mirror().in_use(kind, number)
+        return self._lines.in_use(kind, number)
 
-    def greatest(self, kind: str) -> int:
-        """The greatest number of the kind in use."""
-        return self._seeker.greatest(self._kernel.journal.greatest, kind)
-
-    def _greatest_read(self, kind: str) -> int:
-        return max(self._kernel.reader().numbers(kind), default=0)
-
-    def were_used(self, greatest: Greatest) -> None:
-        """Numbers up to these are or were in use."""
-        for kind, bound in zip(KINDS, greatest.bounds):
-            if bound > self._ever[kind]:
-                self._ever[kind] = bound
+    def note(self) -> None:
+        """The numbers that are in use now may be free after what comes."""
+        for kind in KINDS:
+            self._ever[kind] = max(self._ever[kind], self._lines.greatest(kind))
 
     def ever(self, kind: str) -> int:
-        """The greatest number of the kind that is in use or was, as far as there is such a number."""
-        return min(self._ever[kind], LARGEST)
+        """The greatest number of the kind that is in use or was."""
+        return max(self._ever[kind], self._lines.greatest(kind))
 
     def next(self, kind: str) -> int:
         """One above all that are in use or were; where the greatest there is was used, the least after the last one so given that isn't in
         use."""
-        above = self._ever[kind] + 1
+        above = self.ever(kind) + 1
         return above if above <= LARGEST else self._in_gap(kind)
 
     def _in_gap(self, kind: str) -> int:

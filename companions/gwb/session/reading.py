@@ -3,9 +3,8 @@
 from typing import Callable, Generic, Iterable, Iterator, Optional, Protocol, Sequence, Tuple, TypeVar, Union, overload
 
 from ..errors import NotOne, Refused
-from ..geometry.free_numbers import numbers_of
 from ..geometry.measures import area_vector
-from ..geometry.model import Face, Loop, Model
+from ..geometry.model import Face, Loop
 from ..geometry.vectors import Vector, ZERO, dot, subtract, total
 from ..protocol.language import refusal
 from .turns import PartOfTurns
@@ -16,56 +15,23 @@ _PLURALS = {'vertex': 'vertices'}
 
 
 class Reader(Protocol):
-    """Who knows the model: the library, or a listing."""
+    """Who knows the model."""
 
     def numbers(self, kind: str) -> Tuple[int, ...]: ...
     def faces_of(self, solid: int) -> Tuple[int, ...]: ...
     def face(self, face: int) -> Optional[Face]: ...
+    def solid_of(self, face: int) -> int: ...
     def loop(self, loop: int) -> Optional[Loop]: ...
     def face_of_loop(self, loop: int) -> int: ...
     def edge(self, edge: int) -> Optional[Tuple[int, int]]: ...
     def vertex(self, vertex: int) -> Optional[Vector]: ...
 
 
-class ListingReader:
-    """Answers from a listing as the library does."""
-
-    def __init__(self, model: Model) -> None:
-        self._model = model
-
-    def numbers(self, kind: str) -> Tuple[int, ...]:
-        """All numbers of a kind in use, rising."""
-        return tuple(numbers_of(self._model)[kind])
-
-    def faces_of(self, solid: int) -> Tuple[int, ...]:
-        """The faces of a solid, rising."""
-        return tuple(self._model.faces_of(solid))
-
-    def face(self, face: int) -> Optional[Face]:
-        """A face; None where it is not there."""
-        return self._model.faces.get(face)
-
-    def loop(self, loop: int) -> Optional[Loop]:
-        """A loop; None where it is not there."""
-        return self._model.loops.get(loop)
-
-    def face_of_loop(self, loop: int) -> int:
-        """The face of a loop that is there."""
-        return next(number for number, face in self._model.faces.items() if loop in face.loops)
-
-    def edge(self, edge: int) -> Optional[Tuple[int, int]]:
-        """The vertices of an edge; None where it is not there."""
-        return self._model.edges.get(edge)
-
-    def vertex(self, vertex: int) -> Optional[Vector]:
-        """The point of a vertex; None where it is not there."""
-        return self._model.vertices.get(vertex)
-
-
 class Holder(Protocol):
-    """Who holds the model and lends its reader."""
+    """Who holds the model."""
 
-    def reader(self) -> Reader: ...
+    @property
+    def lines(self) -> Reader: ...
 
 
 class Part(PartOfTurns):
@@ -96,7 +62,7 @@ class Part(PartOfTurns):
         raise NotImplementedError
 
     def _read(self) -> Reader:
-        return self._kernel.reader()
+        return self._kernel.lines
 
     def _none(self) -> Refused:
         meaning = refusal(self._missing, self.number)
@@ -268,7 +234,10 @@ class FacePart(Part):
     @property
     def solid(self) -> 'SolidPart':
         """The solid it is of."""
-        return SolidPart(self._kernel, self._row().solid)
+        found = self._read().solid_of(self.number)
+        if not found:
+            raise self._none()
+        return SolidPart(self._kernel, found)
 
     @property
     def loops(self) -> Tuple[LoopPart, ...]:

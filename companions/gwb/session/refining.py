@@ -59,4 +59,4 @@ def refine(bench: Bench, factor: int) -> None:
     with bench.step():
         for before, after in zip(solids_apart(held), solids_apart(finer)):
             give(bench, [*numbers.taking_away(before), *numbers.making(after)])
-        bench.kernel.journal.set_unit(bench.kernel.journal.unit / factor)
+        bench.kernel.notes.unit = bench.kernel.notes.unit / factor

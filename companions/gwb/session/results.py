@@ -137,3 +137,10 @@ class Hole(NamedTuple):
     loop: int
     sides: Numbers
     points: Tuple[Tuple[int, int, int], ...]
+
+
+class Notch(NamedTuple):
+    """What a notch, slot, groove or shoulder leaves: its floor, in as many faces as there are, none where it goes through, and its walls."""
+
+    floor: Numbers
+    walls: Numbers

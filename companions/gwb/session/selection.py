@@ -36,7 +36,7 @@ class Selecting(Methods):
 
     def solids(self) -> 'Selection[SolidPart]':
         """All solids."""
-        return Selection('solid', '', [SolidPart(self._bench.kernel, number) for number in self._bench.kernel.reader().numbers('solid')])
+        return Selection('solid', '', [SolidPart(self._bench.kernel, number) for number in self._bench.kernel.lines.numbers('solid')])
 
     def faces(self, *, solid: Optional[arguments.Solid] = None, plane: Optional[arguments.Point] = None,
               normal: Optional[arguments.Point] = None, containing: Optional[arguments.Point] = None,
@@ -88,7 +88,7 @@ class Selecting(Methods):
         elif solid is not None:
             found = {edge.number for edge in self.solid(solid).edges}
         else:
-            found = set(self._bench.kernel.reader().numbers('edge'))
+            found = set(self._bench.kernel.lines.numbers('edge'))
         if between is not None and solid is not None:
             found &= {edge.number for edge in self.solid(solid).edges}
         return found
@@ -96,7 +96,7 @@ class Selecting(Methods):
     def vertices(self, *, solid: Optional[arguments.Solid] = None, at: Optional[arguments.Point] = None) -> 'Selection[VertexPart]':
         """The vertices of the solid, or all; `at` a point."""
         place = None if at is None else arguments.point('at', at)
-        parts = ([VertexPart(self._bench.kernel, number) for number in self._bench.kernel.reader().numbers('vertex')] if solid is None
+        parts = ([VertexPart(self._bench.kernel, number) for number in self._bench.kernel.lines.numbers('vertex')] if solid is None
                  else list(self.solid(solid).vertices))
         return Selection('vertex', _wanted(solid=solid, at=at), [part for part in parts if place is None or part.point == place])
 
@@ -104,7 +104,7 @@ class Selecting(Methods):
 def _faces_in(bench: Bench, solid: Optional[arguments.Solid]) -> Sequence[FacePart]:
     """The faces of the solid, or all."""
     if solid is None:
-        return [FacePart(bench.kernel, number) for number in bench.kernel.reader().numbers('face')]
+        return [FacePart(bench.kernel, number) for number in bench.kernel.lines.numbers('face')]
     return SolidPart(bench.kernel, bench.number('solid', solid)).faces
 
 

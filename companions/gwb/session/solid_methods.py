@@ -1,20 +1,17 @@
 """The methods of a workbench that take solids as wholes (solids.py), cut (cutting.py) and unite them (uniting.py), and shape them up to the edges of
-their faces (shaping.py)."""
+their faces."""
 
-from typing import Optional, Sequence, Tuple
+from typing import Callable, Optional, Sequence, Tuple
 
-from ..geometry.model import Model
 from ..geometry.moved import Change, mirroring, moving, scaling
-from ..geometry.outlines import Impossible
 from ..geometry.vectors import ZERO
-from . import arguments, cutting, refining, shaping, solids, uniting
+from . import arguments, cutting, refining, solids, uniting
 from .bench import Bench, Methods
-from .commands import Commands
 from .cutting import Cut, Keep, Plane
-from .part_models import model_of_faces
-from .reading import EdgePart, FacePart
-from .results import Split
-from .shaping import Notch
+from .feature_calls import FLOOR, WALLS, FeatureCalls
+from .labelling import LabelledFaces
+from .reading import EdgePart
+from .results import Notch, Split
 from .solids import Copy
 
 
@@ -58,7 +55,7 @@ class SolidMethods(Methods):
     def scale(self, factor: int) -> None:
         """All coordinates of all solids are multiplied by a whole number from 1 on. Refused: PointRange."""
         times = arguments.positive('factor', factor)
-        solids.place(self._bench, self._bench.kernel.reader().numbers('solid'), scaling(times))
+        solids.place(self._bench, self._bench.kernel.lines.numbers('solid'), scaling(times))
 
     def split(self, solid: arguments.Solid, plane: arguments.Point, *, above: Optional[int] = None, scale: bool = False) -> Split:
         """The solid is cut by the plane a x + b y + c z + d = 0, four numbers or what `plane` returns; what lies above it becomes a new solid.
@@ -70,11 +67,8 @@ class SolidMethods(Methods):
         new = None if above is None else arguments.number('above', above)
         if not arguments.flag('scale', scale):
             with refining.telling_what_helps(self._bench, number, level):
-                made = Commands(self._bench).split(number, level, above=new)
-        else:
-            made = refining.with_finer_unit(self._bench, number, level, lambda plane: Commands(self._bench).split(number, plane, above=new))
-        self._bench.label_parts(number, made.solid)
-        return made
+                return cutting.split(self._bench, number, level, new)
+        return refining.with_finer_unit(self._bench, number, level, lambda plane: cutting.split(self._bench, number, plane, new))
 
     def cut(self, solid: arguments.Solid, plane: arguments.Point, *, keep: str = 'both', above: Optional[int] = None, scale: bool = False) -> Cut:
         """The solid is cut by the plane a x + b y + c z + d = 0. What lies below it stays the solid, and what lies above it becomes a new one,
@@ -116,35 +110,28 @@ class SolidMethods(Methods):
         would touch itself."""
         number, outline = self._bench.number('face', face), arguments.points('points', points)
         deep = arguments.positive('depth', depth)
-        model = _face_alone(self._bench, number)
-        return shaping.cut_out(self._bench, number, shaping.notch_tool(model, number, outline, deep))
+        return _shaped(self._bench, number, lambda features: features.notch(number, outline, deep))
 
     def slot(self, face: arguments.Face, start: arguments.Point, end: arguments.Point, width: int, depth: int) -> Notch:
         """A slot with a flat floor, so wide and deep, whose middle line runs in the face from one point to another. Refused as notch is;
         OffLattice: half of the width isn't whole across the line."""
         number, ends = self._bench.number('face', face), (arguments.point('start', start), arguments.point('end', end))
         wide, deep = arguments.positive('width', width), arguments.positive('depth', depth)
-        return shaping.cut_out(self._bench, number, shaping.slot_tool(_face_alone(self._bench, number), number, ends, wide, deep))
+        return _shaped(self._bench, number, lambda features: features.strip('slot', number, ends, wide, deep))
 
     def groove(self, face: arguments.Face, start: arguments.Point, end: arguments.Point, width: int, depth: int) -> Notch:
         """A groove like a V, so wide at the face and so deep under its middle line, which runs from one point to another; it has no floor.
         Refused as notch is; OffLattice: half of the width isn't whole across the line."""
         number, ends = self._bench.number('face', face), (arguments.point('start', start), arguments.point('end', end))
         wide, deep = arguments.positive('width', width), arguments.positive('depth', depth)
-        return shaping.cut_out(self._bench, number, shaping.groove_tool(_face_alone(self._bench, number), number, ends, wide, deep))
+        return _shaped(self._bench, number, lambda features: features.strip('groove', number, ends, wide, deep))
 
     def shoulder(self, face: arguments.Face, edge: arguments.Edge, width: int, depth: int) -> Notch:
         """A step along an edge of the face: so wide in the face, from the edge on, and so deep behind it. Refused as notch is; NoEdge,
         NotOfFace: the edge isn't one of the face."""
         number, along = self._bench.number('face', face), self._bench.number('edge', edge)
         wide, deep = arguments.positive('width', width), arguments.positive('depth', depth)
-        FacePart(self._bench.kernel, number).loops
-        EdgePart(self._bench.kernel, along).vertices
-        model = _outlines(self._bench, [number], along)
-        half = next((side for side in model.face_halves(number) if abs(side) == along), None)
-        if half is None:
-            raise Impossible('NotOfFace', along, f'edge {along} is none of face {number}')
-        return shaping.cut_out(self._bench, number, shaping.shoulder_tool(model, half, wide, deep))
+        return _shaped(self._bench, number, lambda features: features.give('shoulder', number, along, wide, deep, frees=True))
 
     def chamfer(self, edge: arguments.Edge, width: int, other: Optional[int] = None) -> int:
         """The edge becomes a sloping face, which begins so far from it in the face of its half-edge `+e`, and in the other one as far, or so
@@ -154,24 +141,23 @@ class SolidMethods(Methods):
         corner wouldn't be whole; OutlineOutside, Meets: there is no room for it."""
         number, wide = self._bench.number('edge', edge), arguments.positive('width', width)
         far = wide if other is None else arguments.positive('other', other)
+        lines = self._bench.kernel.lines
         EdgePart(self._bench.kernel, number).vertices
-        mirror = self._bench.kernel.mirror()
-        model = _outlines(self._bench, sorted({mirror.face_of_loop(mirror.loop_of(half)) for half in (number, -number)}), number)
-        outwards = shaping.bends_outwards(model, number)
-        if outwards is None:
-            raise Impossible('FlatEdge', number, f'the faces of edge {number} lie in one plane')
-        shape = shaping.cut_out if outwards else shaping.put_on
-        made = shape(self._bench, model.face_of(number), shaping.chamfer_tool(model, number, wide, far))
-        return made.floor[0]
+        labelled = LabelledFaces(self._bench.kernel, self._bench.solid_of(lines.face_of_loop(lines.loop_of(number))))
+        with self._bench.step():
+            made = self._bench.features.chamfer(number, wide, far)
+            labelled.label_parts([self._bench.solid_of(made)], [made])
+        return made
 
 
 def _copied(bench: Bench, solid: arguments.Solid, ways: Sequence[Sequence[Change]]) -> Tuple[Copy, ...]:
     """Copies of a solid, one for each way to place it, with the labels that the solid and its faces have."""
     number = bench.number('solid', solid)
-    made = solids.copies(bench, number, ways)
-    for copy in made:
-        bench.label_alike('solid', [(number, copy.solid)])
-        bench.label_alike('face', copy.faces.items())
+    with bench.step():
+        made = solids.copies(bench, number, ways)
+        for copy in made:
+            bench.label_alike('solid', [(number, copy.solid)])
+            bench.label_alike('face', copy.faces.items())
     return made
 
 
@@ -183,17 +169,15 @@ def _cut(bench: Bench, solid: int, plane: Plane, wanted: Keep, above: Optional[i
     return Cut(None, solid, (), cutting.trimmed(bench, solid, cutting.opposite(plane)))
 
 
-def _face_alone(bench: Bench, face: int) -> Model:
-    """The model of a face alone, as `_outlines` has it. Refused: NoFace."""
-    FacePart(bench.kernel, face).loops
-    return _outlines(bench, [face])
-
-
-def _outlines(bench: Bench, faces: Sequence[int], *edges: int) -> Model:
-    """The model of faces alone; of flat ones without the rings along which none of these edges runs."""
-    mirror, near = bench.kernel.mirror(), bench.near()
-    wanted = {mirror.loop_of(half) for edge in edges for half in (edge, -edge)}
-    return model_of_faces(mirror, faces, {ring for face in faces for ring in near.rings_but(face, wanted)})
+def _shaped(bench: Bench, face: int, give: Callable[[FeatureCalls], None]) -> Notch:
+    """Gives a feature that leaves a floor and walls in the solid of a face, whose labels the parts of its faces get. Refused: NoFace."""
+    solid = bench.solid_of(face)
+    labelled = LabelledFaces(bench.kernel, solid)
+    with bench.step():
+        give(bench.features)
+        made = Notch(bench.features.made(FLOOR), bench.features.made(WALLS))
+        labelled.label_parts([solid], (*made.floor, *made.walls))
+    return made
 
 
 def _placed(bench: Bench, solid: arguments.Solid, change: Change) -> int:

@@ -4,14 +4,17 @@ A solid is taken apart and made anew, as a script of its listing would make it (
 whatever a sound solid has, rings, handles, wires, laminae and several shells, it keeps, and the faces need not be flat.
 """
 
+import ctypes
 from dataclasses import dataclass, field
+from fractions import Fraction
 from functools import reduce
-from typing import Container, Dict, Iterator, List, Mapping, Optional, Sequence, Tuple
+from typing import AbstractSet, Container, Dict, Iterator, List, Mapping, Optional, Sequence, Tuple
 
 from ..errors import Refused, Unfit
+from ..geometry.flat_face import ExactVector
 from ..geometry.free_numbers import KINDS, LARGEST, FreeNumbers, numbers_of, renumbered, renumbering
 from ..geometry.model import Model
-from ..geometry.moved import Change, Displaced, changed, moving, turning
+from ..geometry.moved import FARTHEST, Change, Displaced, changed, moving, turning
 from ..geometry.outlines import Impossible
 from ..geometry.solids_apart import solids_apart
 from ..geometry.vectors import ZERO
@@ -19,7 +22,8 @@ from ..scripts.changing import script_between
 from ..scripts.inversion import Step, steps_apart
 from . import arguments
 from .bench import Bench
-from .calls import call_in
+from .feature_calls import EDGES, FACES, LOOPS, TURNED, VERTICES, Motion
+from .library import Point
 from .reading import Found
 
 AXES = ('x', 'y', 'z')
@@ -38,6 +42,7 @@ class Copy:
     vertices: Mapping[int, int]
     original: int
     _bench: Bench = field(repr=False, compare=False)
+    _turned: AbstractSet[int] = field(default=frozenset(), repr=False)
 
     def face(self, face: arguments.Face) -> int:
         """The copy of the face."""
@@ -54,7 +59,8 @@ class Copy:
     def half_edge(self, half: arguments.Edge) -> int:
         """The copy of the half-edge: it starts at the copy of its vertex. In a mirrored copy the loop of its mate has it."""
         edge = self._bench.half_edge('half', half)
-        return self.edges[edge] if edge > 0 else -self.edges[-edge]
+        copied = self.edges[abs(edge)]
+        return copied if (edge > 0) == (copied not in self._turned) else -copied
 
     def vertex(self, vertex: arguments.Vertex) -> int:
         """The copy of the vertex."""
@@ -130,18 +136,57 @@ def _spent(error: Unfit) -> Refused:
 def give(bench: Bench, lines: Sequence[str]) -> None:
     """Gives operators as one command, or as steps of the draft that is open; where one isn't accepted, all is as before."""
     with bench.step():
-        for line in lines:
-            call = call_in(line)
-            bench.conversation.do(call.word, *call.values)
+        bench.kernel.giving(lambda: bench.kernel.lines.give(lines), frees=True)
 
 
 def delete(bench: Bench, solid: int) -> None:
     """Takes a solid away. Refused: NoSolid."""
-    give(bench, Numbers(bench).taking_away(bench.solid_model(solid)))
+    bench.features.give('kill_solid', solid, frees=True)
 
 
 def copies(bench: Bench, solid: int, ways: Sequence[Sequence[Change]]) -> Tuple[Copy, ...]:
-    """A copy of the solid for each sequence of changes of place. Refused: NoSolid, PointRange, OffLattice, NumbersSpent."""
+    """A copy of the solid for each sequence of changes of place, by the library where these are of its kind, numbers above all in use are left, and
+    no point would leave the range, which is told of the original. Refused: NoSolid, PointRange, OffLattice, NumbersSpent."""
+    motions = [_motion(way) for way in ways]
+    try:
+        if all(motions):
+            with bench.step():
+                return tuple(_copied(bench, solid, motion) for motion in motions if motion)
+    except Refused as refused:
+        if refused.name not in ('PointRange', 'NumbersSpent'):
+            raise
+    return _copies_anew(bench, solid, ways)
+
+
+def _motion(way: Sequence[Change]) -> Optional[Motion]:
+    """Changes of place as the library has them; None where they aren't of axes, or go far out of range."""
+    def place(point: ExactVector) -> ExactVector:
+        for change in way:
+            point = change.place(point)  # type: ignore[arg-type]
+        return point
+
+    start = place(ZERO)
+    axes = [0, 0, 0]
+    for number, unit in enumerate(((1, 0, 0), (0, 1, 0), (0, 0, 1)), 1):
+        image = [Fraction(one) - other for one, other in zip(place(unit), start)]
+        if sorted(part * part for part in image) != [0, 0, 1]:
+            return None
+        axis = next(axis for axis in range(3) if image[axis])
+        axes[axis] = int(image[axis]) * number
+    if any(part.denominator != 1 or part > 4 * FARTHEST or part < -4 * FARTHEST for part in start):
+        return None
+    return Motion((ctypes.c_int32 * 3)(*axes), Point(*map(int, start)))
+
+
+def _copied(bench: Bench, solid: int, motion: Motion) -> Copy:
+    """A copy by the library."""
+    number = bench.features.copy(solid, motion)
+    faces, loops, edges, vertices = (dict(sorted(bench.features.pairs(which).items())) for which in (FACES, LOOPS, EDGES, VERTICES))
+    return Copy(number, faces, loops, edges, vertices, solid, bench, frozenset(bench.features.made(TURNED)))
+
+
+def _copies_anew(bench: Bench, solid: int, ways: Sequence[Sequence[Change]]) -> Tuple[Copy, ...]:
+    """Copies with any numbers that are free, by operators."""
     model, numbers = bench.solid_model(solid), Numbers(bench)
     renumberings = [numbers.instead_of(model) for _ in ways]
     made = [renumbered(reduce(placed, way, model), new) for way, new in zip(ways, renumberings)]

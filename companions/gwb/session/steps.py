@@ -1,150 +1,202 @@
-"""Steps to undo: single commands, groups of them, and drafts, which are one command."""
+"""Drafts, which are one command, and groups of commands, which are one step to undo: what isn't made whole leaves nothing behind."""
 
-from contextlib import contextmanager
-from typing import Iterator, Sequence
+from typing import List, Optional, Type
 
 from ..errors import MemoryRefused, NoDraft
-from .conversation import Conversation
-from .journal import Done, State
 from .kernel import Kernel
 
-_ENDED_TEXT = 'the draft has ended before its block did'
 
+class _Draft:
+    """A draft of the library. One without steps leaves everything as it was."""
 
-class Steps:
-    """Commands of a conversation given together: what isn't made whole leaves nothing behind."""
+    is_draft = True
 
-    def __init__(self, kernel: Kernel, conversation: Conversation) -> None:
-        self._kernel, self._journal, self._conversation = kernel, kernel.journal, conversation
+    def __init__(self, kernel: Kernel) -> None:
+        self._kernel = kernel
+        self._is_kept = False
 
-    @contextmanager
-    def draft(self) -> Iterator[None]:
-        """The calls given in it are one command, or within another draft part of it. By an exception they are taken back."""
-        with self._kernel.lock:
-            self._begin_turn()
-            with self._within_draft() if self._journal.is_drafting else self._new_draft():
-                yield
+    @property
+    def is_open(self) -> bool:
+        """Whether it hasn't ended yet."""
+        return self in self._kernel.blocks
 
-    @contextmanager
-    def _new_draft(self) -> Iterator[None]:
+    def end(self, is_whole: bool) -> None:
+        """It is over, and kept if it is whole."""
         try:
-            with self._kernel.disagreeing():
-                self._kernel.unless_refused(self._kernel.lines.open_draft)
-                self._journal.open_draft()
-            yield
-            self._commit()
-        except BaseException:
-            self._abandon()
-            raise
-
-    @contextmanager
-    def _within_draft(self) -> Iterator[None]:
-        """Steps of the draft that is open, up to a mark that is gone back to by an exception."""
-        mark = self._kernel.open_mark()
-        try:
-            yield
-            if mark not in self._kernel.marks:
-                raise NoDraft(_ENDED_TEXT)
-        except BaseException:
-            if mark in self._kernel.marks:
-                self._kernel.go_back(mark)
-            raise
+            if is_whole:
+                self._kernel.lines.require_open()
+                self.keep()
+                self._is_kept = True
         finally:
-            self._kernel.close_mark(mark)
+            self._end()
 
-    @contextmanager
-    def group(self) -> Iterator[None]:
-        """The calls given in it are one step to undo, or in a draft part of it. By an exception all of them are taken back."""
-        with self._kernel.lock:
-            self._begin_turn()
-            with self._within_draft() if self._journal.is_drafting else self._new_group():
-                yield
-
-    @contextmanager
-    def _new_group(self) -> Iterator[None]:
-        before, outer = self._journal.state, self._journal.group_from
+    def _end(self) -> None:
+        """It is over, with all within it that is still open. Where it isn't kept all is as before, whatever exception comes meanwhile."""
         try:
-            if outer is None:
-                self._journal.group_from = before.at
-            yield
-        except BaseException:
-            self._undo_to(before)
-            raise
+            self._unless_kept()
         finally:
-            self._journal.group_from = outer
+            try:
+                self._unless_kept()
+            finally:
+                self._leave()
 
-    def _begin_turn(self) -> None:
-        if not self._kernel.is_inside:
-            self._kernel.begin_turn()
+    def _unless_kept(self) -> None:
+        if not self._is_kept and self._kernel.lines.is_open:
+            self._kernel.has_changed()
+            self._kernel.numbers.note()
+            self.take_back()
 
-    def undo(self, one_command: bool) -> None:
-        """Takes the last step back, or one command of it."""
-        self._through('undo', 1 if one_command else self._journal.step_back())
+    def _leave(self) -> None:
+        blocks = self._kernel.blocks
+        for block in reversed(blocks[blocks.index(self):]):
+            blocks.remove(block)
+            block.leave()
+        if not blocks:
+            self._kernel.let_go()
 
-    def redo(self, one_command: bool) -> None:
-        """Does the step that was taken back last again, or one command of it."""
-        self._through('redo', 1 if one_command else self._journal.step_ahead())
+    # What each kind does
 
-    def _through(self, word: str, commands: int) -> None:
-        """Undoes or redoes so many commands, the word says which: all of them or none."""
-        self._journal.refuse_in_draft(word)
-        self._journal.refuse_in_group(word)
-        before = self._journal.state
+    def begin(self) -> None:
+        """It opens."""
+        self._kernel.lines.open_draft()
+        self._kernel.notes.open_draft()
+
+    def keep(self) -> None:
+        """Its steps are one command."""
+        kernel = self._kernel
+        if kernel.lines.mark() == 0:
+            kernel.lines.abandon()
+        else:
+            kernel.notes.commit()
+            kernel.lines.commit()
+        kernel.notes.end_draft(True)
+        kernel.settle()
+
+    def take_back(self) -> None:
+        """All is as it was before it. This may come twice, here and below."""
+        if self._kernel.lines.is_drafting:
+            self._kernel.lines.abandon()
+        self._kernel.notes.end_draft(False)
+
+    def leave(self) -> None:
+        """It is over, in one way or the other."""
+
+
+class _PartOfDraft(_Draft):
+    """Steps of a draft that is open, from a mark on."""
+
+    is_draft = False
+
+    def __init__(self, kernel: Kernel) -> None:
+        super().__init__(kernel)
+        self._place, self._mark = kernel.notes.place(), kernel.lines.mark()
+
+    def begin(self) -> None:
+        """It begins where the draft is."""
+
+    def keep(self) -> None:
+        """Its steps are the draft's."""
+
+    def take_back(self) -> None:
+        """The draft goes back to where it was."""
+        self._kernel.lines.back(self._mark)
+        self._kernel.notes.go_back(self._place)
+
+
+class _Group(_Draft):
+    """Commands that are one step to undo, or within a group part of it."""
+
+    is_draft = False
+
+    def __init__(self, kernel: Kernel) -> None:
+        super().__init__(kernel)
+        self._outer, self._before, self._place = kernel.notes.group_from, kernel.lines.depth, kernel.notes.place()
+        self._ahead, self._notes = _ahead(kernel), kernel.notes.ahead()
+
+    def begin(self) -> None:
+        """It begins with the next command."""
+        if self._outer is None:
+            self._kernel.notes.group_from = self._before
+
+    def keep(self) -> None:
+        """Its commands stay as they are."""
+
+    def take_back(self) -> None:
+        """Its commands are undone, and what could be redone before them can be redone."""
+        super().take_back()
+        kernel = self._kernel
+        kernel.go_to(self._before)
+        kernel.notes.go_back(self._place)
+        if kernel.lines.ahead != len(self._ahead) or kernel.notes.ahead() != self._notes:
+            kernel.notes.put_ahead(self._notes[:self._give_ahead()])
+
+    def _give_ahead(self) -> int:
+        """Gives commands anew that could be redone before others were given and undone, and undoes them: how many there was memory for."""
+        lines = self._kernel.lines
         try:
-            for _ in range(commands):
-                self._conversation.step(word)
-        except BaseException:
-            if self._journal.state is not before:
-                self._journal.restore(before)
-                self._kernel.agrees = False
-            raise
-
-    def _commit(self) -> None:
-        """The draft ends: its steps are one command. One without steps leaves everything as it was."""
-        if not self._journal.is_drafting:
-            raise NoDraft(_ENDED_TEXT)
-        if not self._journal.draft:
-            self._abandon()
-            return
-        self._kernel.marks.clear()
-        with self._kernel.disagreeing():
-            self._kernel.lines.commit()
-            self._journal.commit()
-
-    def _abandon(self) -> None:
-        """The draft ends, if it is still open: its steps are taken back."""
-        if not self._journal.is_drafting:
-            return
-        self._kernel.marks.clear()
-        steps, has_gone_back = len(self._journal.draft), self._journal.state.has_gone_back
-        self._kernel.follow(self._journal.end_draft, lambda: self._take_back_draft(steps, has_gone_back))
-
-    def _take_back_draft(self, steps: int, has_gone_back: bool) -> None:
-        """Steps of the draft are taken back, some perhaps were before."""
-        self._kernel.lines.abandon(steps)
-        if (steps or has_gone_back) and not self._kernel.lines.keeps_ahead:
-            self._make_redoable(self._journal.ahead)
-
-    def _undo_to(self, before: State) -> None:
-        """All is as in a state from before: the commands since then are undone, so that what was ahead of it then can be redone."""
-        if self._journal.state is before:
-            return
-        self._abandon()
-        made = self._journal.held[before.at:]
-        self._kernel.follow(lambda: self._journal.restore(before), lambda: self._take_back(made, self._journal.ahead))
-
-    def _take_back(self, made: Sequence[Done], ahead: Sequence[Done]) -> None:
-        self._kernel.unmake(made)
-        if made:
-            self._make_redoable(ahead)
-
-    def _make_redoable(self, ahead: Sequence[Done]) -> None:
-        """Gives commands anew that could be redone before others were given and undone, and undoes them."""
-        given = 0
-        try:
-            for given, done in enumerate(ahead):
-                self._kernel.lines.give(done.calls)
-            given = len(ahead)
+            for text in self._ahead:
+                lines.open_draft()
+                for line in text.splitlines():
+                    lines.asked(line)
+                lines.commit()
         except MemoryRefused:
-            self._journal.drop_ahead(given)
-        self._kernel.unmake(ahead[:given])
+            lines.abandon()
+        given = lines.depth - self._before
+        for _ in range(given):
+            lines.asked('undo')
+        return given
+
+    def leave(self) -> None:
+        """No group is open any more, or the one around it."""
+        self._kernel.notes.group_from = self._outer
+
+
+def _ahead(kernel: Kernel) -> List[str]:
+    """The lines of each command that can be redone."""
+    before, found = kernel.lines.depth, []
+    try:
+        for _ in range(kernel.lines.ahead):
+            kernel.lines.asked('redo')
+            found.append(kernel.lines.script(kernel.lines.depth - 1, 1))
+    finally:
+        kernel.go_to(before)
+    return found
+
+
+class Block:
+    """What a `with` statement holds: a draft or a group, or a part of a draft that is open. It is used once. Where an exception comes before its end
+    has begun, it ends when nothing refers to it any more."""
+
+    def __init__(self, kernel: Kernel, is_group: bool) -> None:
+        self._kernel, self._is_group = kernel, is_group
+        self._work: Optional[_Draft] = None
+
+    def __enter__(self) -> None:
+        kernel = self._kernel
+        with kernel.taken():
+            if self._work:
+                raise RuntimeError('a draft or a group is begun once: draft() or group() is called for each')
+            if not kernel.is_inside:
+                kernel.begin_turn()
+            kernel.lines.require_open()
+            self._work = (_PartOfDraft if kernel.lines.is_drafting else _Group if self._is_group else _Draft)(kernel)
+            try:
+                kernel.blocks.append(self._work)
+                self._work.begin()
+                if not kernel.is_inside:
+                    kernel.hold()
+            except BaseException:
+                self._work.end(False)
+                raise
+
+    def __exit__(self, kind: Optional[Type[BaseException]], *_: object) -> None:
+        with self._kernel.taken(is_holder=True):
+            if self._work and self._work.is_open:
+                self._work.end(kind is None)
+            elif kind is None:
+                raise NoDraft('the draft has ended before its block did')
+
+    def __del__(self) -> None:
+        if self._work and self._work.is_open:
+            with self._kernel.taken(is_holder=True):
+                self._work.end(False)

@@ -1,13 +1,62 @@
-"""Turns: while a call of a workbench is under way, calls of other threads wait."""
+"""Turns: while a call of a workbench is under way, calls of other threads wait; while a draft or group is open, all that isn't part of it waits.
 
+Of a draft is what runs in the context (contextvars) of the task or thread that began it, or in the function whose `with` holds it, wherever that
+goes on."""
+
+import sys
+from contextlib import contextmanager
+from contextvars import ContextVar
 from functools import wraps
 from inspect import isfunction
 from operator import attrgetter
-from threading import RLock
-from typing import Any, Callable, Type, TypeVar, cast
+from threading import Condition, RLock, current_thread
+from types import FrameType
+from typing import Any, Callable, Iterator, Optional, Tuple, Type, TypeVar, cast
+
+from ..errors import OutOfStep
 
 Method = TypeVar('Method', bound=Callable[..., Any])
 Taker = TypeVar('Taker')
+_PATIENCE = 1.0
+_PACKAGE = __name__.rsplit('.', 1)[0]
+
+
+class Holder:
+    """Who has begun a draft or a group: a context, a thread, and a function."""
+
+    _held: 'ContextVar[Tuple[Holder, ...]]' = ContextVar('gwb drafts', default=())
+
+    def __init__(self) -> None:
+        self._thread, self._frame = current_thread(), _caller()
+        self._held.set((*self._held.get(), self))
+
+    def end(self) -> None:
+        """It holds nothing any more."""
+        self._frame = None
+        self._held.set(tuple(holder for holder in self._held.get() if holder is not self))
+
+    @property
+    def is_here(self) -> bool:
+        """Whether what runs now is part of what it holds."""
+        return self in self._held.get() or any(frame is self._frame for frame in _frames(sys._getframe()))
+
+    def require_end(self) -> None:
+        """Raises OutOfStep where waiting for its end is in vain."""
+        if self._thread is current_thread():
+            raise OutOfStep('another task of this thread has a draft or a group open')
+        if not self._thread.is_alive():
+            raise OutOfStep('a draft or a group is open, whose thread has ended')
+
+
+def _frames(frame: Optional[FrameType]) -> Iterator[FrameType]:
+    while frame is not None:
+        yield frame
+        frame = frame.f_back
+
+
+def _caller() -> Optional[FrameType]:
+    """The function that called the package."""
+    return next((frame for frame in _frames(sys._getframe()) if not frame.f_globals.get('__name__', '').startswith(_PACKAGE)), None)
 
 
 class Turns:
@@ -15,18 +64,32 @@ class Turns:
 
     def __init__(self) -> None:
         self.lock = RLock()
+        self._free = Condition(self.lock)
         self.is_inside = False
+        self.holder: Optional[Holder] = None
 
     def begin_turn(self) -> None:
         """Called where a call isn't given within another one."""
 
+    @contextmanager
+    def taken(self, is_holder: bool = False) -> Iterator[None]:
+        """It is the turn of what is given in it; of a holder, wherever that goes on, at once."""
+        with self._free:
+            while self.holder and not (is_holder or self.is_inside or self.holder.is_here):
+                self.holder.require_end()
+                self._free.wait(_PATIENCE)
+            yield
 
-def in_turn(method: Method) -> Method:
-    """The method of what has turns, as a turn."""
-    def itself(turns: Turns) -> Turns:
-        return turns
+    def hold(self) -> None:
+        """All that isn't part of what calls this waits from here on."""
+        self.holder = self.holder or Holder()
 
-    return _taken(method, itself, False)
+    def let_go(self) -> None:
+        """Others need not wait any more."""
+        if self.holder:
+            self.holder.end()
+        self.holder = None
+        self._free.notify_all()
 
 
 def taking_turns(*as_it_is: str) -> Callable[[Type[Taker]], Type[Taker]]:
@@ -48,7 +111,7 @@ def _taken(method: Method, turns_of: Callable[[Any], Turns], as_it_is: bool) -> 
     @wraps(method)
     def taken(self: Any, *values: Any, **named: Any) -> Any:
         turns = turns_of(self)
-        with turns.lock:
+        with turns.taken():
             if turns.is_inside:
                 return method(self, *values, **named)
             turns.is_inside = True
@@ -78,7 +141,11 @@ def _whole(getter: Method) -> Method:
 
     @wraps(getter)
     def taken(self: PartOfTurns) -> Any:
-        with self._kernel.lock:
+        turns: Turns = self._kernel
+        with turns.lock:
+            if turns.is_inside or not turns.holder:
+                return getter(self)
+        with turns.taken():
             return getter(self)
 
     return cast(Method, taken)

@@ -15,7 +15,7 @@ things (solid_methods.py), measures (measuring.py), labels and files (exporting.
 from html import escape
 from pathlib import Path
 from tempfile import NamedTemporaryFile
-from typing import ContextManager, Iterator, NoReturn, Optional, Tuple
+from typing import ContextManager, Iterable, NoReturn, Optional
 from webbrowser import open as open_in_browser
 
 from ..errors import CompanionError, Complaint, InDraft
@@ -35,9 +35,10 @@ from .exporting import Exporting
 from .feature_methods import FeatureMethods
 from .measuring import Measuring
 from .results import Numbers
-from .saved_steps import mark_in, saved_lines
+from .saved_steps import Marked, mark_in, saved_lines
 from .selection import Selecting
 from .solid_methods import SolidMethods
+from .steps import Block
 from .turns import Turns, taking_turns
 
 # The endings and the first words of files that gwb-import reads.
@@ -49,13 +50,12 @@ _FIRST_WORDS = ('v', 'vn', 'vt', 'f', 'o', 'g', 'mtllib', 'OFF', 'ply', 'solid',
 class Workbench(SolidMethods, FeatureMethods, Commands, Selecting, Measuring, Exporting):
     """A running gwb. Each command is a method; one that isn't accepted raises Refused, Faulted or MemoryRefused."""
 
-    def __init__(self, program: Optional[arguments.Path] = None, *, unit: Exact = 1) -> None:
-        """Starts the program at the path, or the one that the environment variable GWB, the repository or the path has. Where that is a shared
-        object, `libgwb.so`, it is loaded in place of it.
+    def __init__(self, library: Optional[arguments.Path] = None, *, unit: Exact = 1) -> None:
+        """Opens a session of the library at the path, or the one that the environment variable GWB, the package or the system has.
 
         `unit` is how many millimetres a coordinate stands for, a whole number or a fraction, as `Fraction(1, 60)`.
         """
-        super().__init__(Bench(program, unit))
+        super().__init__(Bench(library, unit))
         self._turns: Turns = self._bench.kernel
 
     def __reduce__(self) -> NoReturn:
@@ -68,27 +68,28 @@ class Workbench(SolidMethods, FeatureMethods, Commands, Selecting, Measuring, Ex
         self.close()
 
     def close(self) -> int:
-        """Ends the program; its status."""
-        return self._bench.kernel.close()
+        """Ends the session; 0."""
+        self._bench.kernel.close()
+        return 0
 
     def ask(self, line: str) -> Reply:
         """The reply to one line of the script language, whatever it is. What it makes, undoes or redoes is taken account of; of a draft
         all is undone or redone."""
-        return self._bench.conversation.ask(arguments.line('line', line))
+        return self._bench.kernel.ask(arguments.line('line', line))
 
     def draft(self) -> ContextManager[None]:
         """The calls given in it are one command. By an exception it is abandoned: all is as before, what can be redone included. Within another
         draft they are part of that, and an exception takes these alone back.
 
         What is read in it is its model. It takes all but `undo` and `redo`, which raise InDraft. Calls of other threads wait for its end."""
-        return self._bench.steps.draft()
+        return Block(self._bench.kernel, False)
 
     def group(self) -> ContextManager[None]:
         """The calls given in it are one step to undo, in a draft part of it. By an exception all of them are taken back, what could be redone
         before included.
 
         It takes all but `undo` and `redo`, which raise InGroup; groups and drafts may stand in it. Calls of other threads wait for its end."""
-        return self._bench.steps.group()
+        return Block(self._bench.kernel, True)
 
     def listing(self) -> Model:
         """The model held."""
@@ -96,25 +97,27 @@ class Workbench(SolidMethods, FeatureMethods, Commands, Selecting, Measuring, Ex
 
     def half_edges(self, loop: arguments.LoopNumber) -> Numbers:
         """The half-edges of a loop, from the least on: none of a lone loop, or of one that is not there."""
-        found = self._bench.kernel.reader().loop(self._bench.number('loop', loop))
+        number = self._bench.number('loop', loop)
+        found = self._bench.kernel.lines.loop(number)
         return found.halves if found else ()
 
     def __repr__(self) -> str:
-        return f'<Workbench, {self._bench.kernel.journal.at} command{"" if self._bench.kernel.journal.at == 1 else "s"} held>'
+        held = self._bench.kernel.notes.at
+        return f'<Workbench, {held} command{"" if held == 1 else "s"} held>'
 
     def script(self) -> str:
         """The script of what is held: the accepted commands, a line each; undone ones are left out."""
-        return ''.join(f'{line}\n' for line in self._bench.kernel.journal.lines)
+        return self._bench.kernel.script()
 
     def save(self, path: arguments.Path) -> None:
         """Writes the script to a file. Comments in it say which commands are one step, the unit, and the labels, so that `load` knows them
         again."""
         file = Path(arguments.path('path', path))
-        lines = [*saved_lines(self._bench.kernel.journal), *comments(self._bench.labels)]
+        lines = [*saved_lines(self._bench.kernel), *comments(self._bench.labels)]
         file.write_text(''.join(f'{line}\n' for line in lines), encoding='ascii')
 
     @classmethod
-    def load(cls, path: arguments.Path, program: Optional[arguments.Path] = None) -> 'Workbench':
+    def load(cls, path: arguments.Path, library: Optional[arguments.Path] = None) -> 'Workbench':
         """A workbench that holds what the file says: a script, each of whose lines has to be accepted, or a listing. The steps of a script that
         `save` wrote are those that were saved; of another script each command is one.
 
@@ -122,32 +125,27 @@ class Workbench(SolidMethods, FeatureMethods, Commands, Selecting, Measuring, Ex
         file = Path(arguments.path('path', path))
         data = file.read_bytes()
         script = _script_in(file, data)
-        bench = cls(program)
+        bench = cls(library)
         try:
-            bench._take(file, enumerate(script.split(b'\n'), 1))
-            bench._bench.labels.update(appearances_in(data.decode('utf-8', 'replace').splitlines()))
+            bench._take(file, script.split(b'\n'))
+            bench._bench.kernel.notes.begin_with(appearances_in(data.decode('utf-8', 'replace').splitlines()))
         except BaseException:
             bench.close()
             raise
         return bench
 
-    def _take(self, file: Path, lines: Iterator[Tuple[int, bytes]], commands: Optional[int] = None) -> None:
-        """Gives the lines of a script, up to so many commands; a complaint is raised."""
-        taken = 0
-        while taken != commands:
-            number, line = next(lines, (0, b''))
-            if number == 0:
-                return
-            mark, unit = mark_in(line), unit_in(line)
-            if unit is not None:
-                self._bench.kernel.journal.set_unit(unit)
-            elif mark:
-                taken += mark.commands
-                with self.group() if mark.kind == 'step' else self.draft():
-                    self._take(file, lines, mark.commands)
-            elif is_answered(line):
-                taken += 1
-                self._take_line(file, number, line.decode('utf-8', 'surrogateescape'))
+    def _take(self, file: Path, lines: Iterable[bytes]) -> None:
+        """Gives the lines of a script; a complaint is raised."""
+        with Marked(self._bench.kernel) as marked:
+            for number, line in enumerate(lines, 1):
+                mark, unit = mark_in(line), unit_in(line)
+                if unit is not None:
+                    self._bench.kernel.notes.unit = unit
+                elif mark:
+                    marked.begin(mark)
+                elif is_answered(line):
+                    self._take_line(file, number, line.decode('utf-8', 'surrogateescape'))
+                    marked.count()
 
     def _take_line(self, file: Path, number: int, line: str) -> None:
         """Gives a line of a script; a complaint names the file and the line."""

@@ -7,12 +7,13 @@ compared with the prism, and edges of the prism with faces.
 from fractions import Fraction
 from typing import Iterator, List, Sequence, Tuple
 
-from ..geometry.box_index import box_of, boxes_meet
-from ..geometry.outlines import meet
-from ..geometry.plane_figures import Exact, Flat, Place, Segment, locate, segments
-from ..geometry.regions import Region
-from ..geometry.vectors import Vector, add, dot, flat_axes, negative, subtract
-from .surroundings import Surroundings
+from gwb.geometry.box_index import box_of, boxes_meet
+from gwb.geometry.outlines import meet
+from gwb.geometry.plane_figures import Exact, Flat, Place, Segment, locate, segments
+from gwb.geometry.regions import Region
+from gwb.geometry.vectors import Vector, add, dot, flat_axes, negative, subtract
+
+from .held import Held
 
 
 class Prism:
@@ -86,7 +87,7 @@ def _meets(region: Region, start: Vector, end: Vector) -> bool:
     return region.locate(region.flatten(spot)) is not Place.OUTSIDE
 
 
-def has_room(near: Surroundings, solid: int, prism: Prism, but: Sequence[int]) -> bool:
+def has_room(near: Held, solid: int, prism: Prism, but: Sequence[int]) -> bool:
     """Whether nothing of the solid but these faces, in which the prism begins and may end, meets the prism."""
     if any(prism.meets_edge(*ends) for ends in near.edges_near(solid, prism.box)):
         return False

@@ -1,27 +1,20 @@
-"""Features that reach the edges of faces: parts cut out of a solid, or put on it, whose own faces are added to its faces (sheets.py)."""
+"""What features that reach the edges of faces leave: parts are cut out of a solid, or put on it, whose own faces are added to its faces."""
 
 from fractions import Fraction
+from itertools import count
 from typing import List, NamedTuple, Optional, Sequence, Tuple
 
-from ..geometry.measures import area_vector, normal
-from ..geometry.model import Model
-from ..geometry.moved import FARTHEST
-from ..geometry.outlines import Impossible, simple_normal, steps_along
-from ..geometry.sheets import Sheet
-from ..geometry.traced_cycles import Side
-from ..geometry.vectors import Vector, ZERO, add, cross, dot, negative, reduced, subtract
-from ..joining.combining import require_flat
-from .adding import Wanted, add_sheets, addition
-from .bench import Bench
+from gwb.geometry.measures import area_vector, normal
+from gwb.geometry.model import Model
+from gwb.geometry.moved import FARTHEST
+from gwb.geometry.outlines import Impossible, simple_normal, steps_along
+from gwb.geometry.sheets import Sheet
+from gwb.geometry.traced_cycles import Side
+from gwb.geometry.vectors import Vector, ZERO, add, cross, dot, negative, reduced, subtract
+from gwb.joining.assembly import Names
+from gwb.joining.combining import combined, require_flat, require_room, sheets_of
 
 Path = Sequence[Vector]
-
-
-class Notch(NamedTuple):
-    """What a notch, slot, groove or shoulder leaves: its floor, in as many faces as there are, none where it goes through, and its walls."""
-
-    floor: Tuple[int, ...]
-    walls: Tuple[int, ...]
 
 
 class Tool(NamedTuple):
@@ -54,6 +47,40 @@ class Wedge(NamedTuple):
     ends: Sequence[Path]
 
 
+class Shaping:
+    """The model of one solid. Each method is that of a workbench, and gives the model that it leaves; what isn't possible raises Impossible."""
+
+    def __init__(self, model: Model) -> None:
+        self.model = model
+
+    def notch(self, face: int, points: Path, depth: int) -> Model:
+        """A pocket up to the edges of the face."""
+        return left_of(self.model, face, notch_tool(self.model, face, points, depth), True)
+
+    def slot(self, face: int, start: Vector, end: Vector, width: int, depth: int) -> Model:
+        """A channel with a flat floor."""
+        return left_of(self.model, face, slot_tool(self.model, face, (start, end), width, depth), True)
+
+    def groove(self, face: int, start: Vector, end: Vector, width: int, depth: int) -> Model:
+        """A channel like a V."""
+        return left_of(self.model, face, groove_tool(self.model, face, (start, end), width, depth), True)
+
+    def shoulder(self, face: int, edge: int, width: int, depth: int) -> Model:
+        """A step along an edge."""
+        half = next((side for side in self.model.face_halves(face) if abs(side) == edge), None)
+        if half is None:
+            raise Impossible('NotOfFace', edge, f'edge {edge} is none of face {face}')
+        return left_of(self.model, face, shoulder_tool(self.model, half, width, depth), True)
+
+    def chamfer(self, edge: int, width: int, other: Optional[int] = None) -> Model:
+        """A slope in place of an edge."""
+        outwards = bends_outwards(self.model, edge)
+        if outwards is None:
+            raise Impossible('FlatEdge', edge, f'the faces of edge {edge} lie in one plane')
+        tool = chamfer_tool(self.model, edge, width, width if other is None else other)
+        return left_of(self.model, self.model.face_of(edge), tool, outwards)
+
+
 def prism(outline: Path, way: Vector) -> Tool:
     """The prism under an outline, as deep as the vector says."""
     path = list(outline) if dot(area_vector(outline), way) < 0 else list(outline)[::-1]
@@ -62,30 +89,20 @@ def prism(outline: Path, way: Vector) -> Tool:
     return Tool(path, far[::-1], walls)
 
 
-def cut_out(bench: Bench, face: int, tool: Tool) -> Notch:
-    """Cuts a part out of the solid of a face, in which its lid lies, as one command.
-
-    Refused: OutlineOutside: the lid reaches beyond the face; Meets: the part reaches out of the solid, or what is left would touch itself;
-    PointRange, OffLattice, NumbersSpent."""
-    return _changed(bench, face, tool, [[*reversed(path)] for path in tool.paths])
-
-
-def put_on(bench: Bench, face: int, tool: Tool) -> Notch:
-    """Puts a part on the solid of a face, on which its lid lies, as one command. Refused as cut_out is."""
-    return _changed(bench, face, tool, tool.paths)
-
-
-def _changed(bench: Bench, face: int, tool: Tool, paths: Sequence[Path]) -> Notch:
+def left_of(model: Model, face: int, tool: Tool, is_cut: bool) -> Model:
+    """What is left of the model of one solid where a part is cut out of it, or put on it, in which or on which its lid lies in a face. Raises
+    Impossible."""
+    paths = [[*reversed(path)] for path in tool.paths] if is_cut else list(tool.paths)
     for point in (point for path in paths for point in path):
         if max(abs(part) for part in point) > FARTHEST:
-            raise Impossible('PointRange', 0, 'a corner would lie at {} {} {}, past 1,000,000,000'.format(*point))
-    meets = Impossible('Meets', face, f'the part at face {face} would meet the solid elsewhere, or the solid would touch itself')
-    held = addition(bench, Wanted(bench.solid_of(face), [_sheet(path) for path in paths], meets, [face]))
-    if held.made.faces[0]:
-        raise Impossible('OutlineOutside', face, f'the outline reaches beyond face {face}')
-    _, *others = add_sheets(bench, held).faces
-    floor = () if tool.floor is None else others.pop(0)
-    return Notch(floor, tuple(dict.fromkeys(wall for walls in others for wall in walls)))
+            raise Impossible('PointRange', 0, 'a corner would lie past 1,000,000,000')
+    meets = Impossible('Meets', face, 'the part would meet the solid elsewhere, or the solid would touch itself')
+    added, held, free = [_sheet(path) for path in paths], sheets_of(model), count(10 ** 6)
+    made = combined(model.solids[0], Names(model, lambda _: next(free)), held, added, meets)
+    if made.faces[0]:
+        raise Impossible('OutlineOutside', face, 'the outline reaches beyond the face')
+    require_room(held, added, [model], made.model, meets)
+    return made.model
 
 
 def _sheet(path: Path) -> Sheet:

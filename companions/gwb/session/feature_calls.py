@@ -1,0 +1,142 @@
+"""The calls of gwb_features.h. Each is one command of the library, or steps of the draft that is open; a complaint is raised, and nothing has changed."""
+
+import ctypes
+from typing import Any, Callable, Dict, List, NamedTuple, Sequence, Tuple
+
+from ..errors import CompanionError
+from ..geometry.measures import why_unfit
+from ..geometry.outlines import Impossible
+from ..geometry.vectors import Vector
+from ..protocol.complaints import memory_refused, refused
+from .kernel import Kernel
+from .library import ADDRESS, IMPOSSIBLE, MEMORY, OK, REFUSED, SIZE, WORD, Point, Refusal, declare
+from .part_models import model_of_faces
+
+_LENGTH = ctypes.c_int64
+_OUTLINE, _MADE = [WORD, ADDRESS, SIZE], [ADDRESS, ADDRESS]
+_STRIP = [WORD, ADDRESS, ADDRESS, _LENGTH, _LENGTH]
+# What each call takes after the handle, and before the refusal.
+_CALLS: Dict[str, List[Any]] = {
+    'kill_solid': [WORD], 'copy_solid': [WORD, ADDRESS, ADDRESS], 'profile': [*_OUTLINE, ADDRESS, *_MADE], 'ring': [*_OUTLINE, *_MADE, ADDRESS],
+    'pocket': [*_OUTLINE, _LENGTH, *_MADE], 'boss': [*_OUTLINE, _LENGTH, *_MADE], 'hole': [*_OUTLINE, *_MADE], 'notch': [*_OUTLINE, _LENGTH],
+    'slot': _STRIP, 'groove': _STRIP, 'shoulder': [WORD, WORD, _LENGTH, _LENGTH], 'chamfer': [WORD, _LENGTH, _LENGTH, ADDRESS]}
+# The conditions that are of a number that was given, so that no feature is at fault.
+_OF_NUMBERS = ('NoSolid', 'NoFace', 'NoEdge', 'SolidTaken')
+_TEXTS = {
+    'FewPoints': 'there are {} points, and 3 are needed', 'RepeatedPoint': 'point {} is there twice', 'NoArea': 'the outline has no area, or crosses itself',
+    'NotInPlane': 'point {} lies off the plane', 'OutlineCrossed': 'side {} of the outline crosses or touches another one',
+    'AlongPlane': 'the vector lies in the plane of the points', 'OutlineOutside': "the outline doesn't lie inside face {}",
+    'OutlineAroundRing': 'a ring of face {} lies inside the outline', 'OffLattice': 'a point or a vector at {} would not be whole',
+    'Meets': 'what is made at face {} would meet or touch the solid elsewhere, or come through it',
+    'NoOpposite': 'there is no face behind the outline in face {}', 'NotParallel': "face {}, behind the outline, isn't parallel",
+    'NotOfFace': 'edge {} is none of the face', 'FlatEdge': 'the faces of edge {} lie in one plane',
+    'NothingLeft': 'nothing of solid {} would be left', 'PointRange': 'a point would lie past 1,000,000,000',
+    'NumberRange': 'the number {} is outside 1 to 1,000,000', 'NumbersSpent': 'too few numbers above all that are in use are left'}
+FLOOR, WALLS, FACES, LOOPS, EDGES, VERTICES, TURNED = range(7)
+
+
+class Motion(ctypes.Structure):
+    """Where points go: by the axes, signed and counted from 1, and then by a vector."""
+
+    _fields_ = [('axes', ctypes.c_int32 * 3), ('by', Point)]
+
+
+class Pair(ctypes.Structure):
+    """Two numbers of what is made: a face and a loop, or two faces."""
+
+    _fields_ = [('first', WORD), ('second', WORD)]
+
+
+class Outlined(NamedTuple):
+    """What a feature of an outline makes: two numbers, and those that belong to the points."""
+
+    first: int
+    second: int
+    along: Tuple[int, ...]
+    vertices: Tuple[int, ...]
+
+
+class FeatureCalls:
+    """The calls of the features of a kernel's library."""
+
+    def __init__(self, kernel: Kernel) -> None:
+        self._kernel, library, path = kernel, kernel.lines.library, kernel.lines.path
+        for name, taken in _CALLS.items():
+            declare(library, path, name, f'gwb_{name}', WORD, [ADDRESS, *taken, ADDRESS])
+        declare(library, path, 'made', 'gwb_made', SIZE, [ADDRESS, WORD, ADDRESS, SIZE])
+        declare(library, path, 'misfit_name', 'gwb_misfit_name', ctypes.c_char_p, [WORD])
+        self._library, self._handle = library, ctypes.addressof(kernel.lines.handle)
+
+    def give(self, word: str, *values: Any, frees: bool = False) -> None:
+        """Gives a feature; `frees` where numbers may be free after it that were in use."""
+        why = Refusal()
+        call: Callable[..., int] = getattr(self._library, word)
+        said = self._kernel.giving(lambda: call(self._handle, *values, ctypes.addressof(why)), frees)
+        if said != OK:
+            raise self._complaint(word, said, why)
+
+    def outline(self, word: str, number: int, points: Sequence[Vector], *more: Any, of_vertices: bool = False) -> Outlined:
+        """Gives a feature of an outline in a face, or of a solid to be."""
+        count = len(points)
+        rows = (_LENGTH * (3 * count))(*[part for point in points for part in point])
+        made, along, vertices = Pair(), (WORD * (count + 1))(), (WORD * (count + 1))()
+        behind = [ctypes.addressof(vertices)] if of_vertices else []
+        self.give(word, number, ctypes.addressof(rows), count, *more, ctypes.addressof(made), ctypes.addressof(along), *behind)
+        return Outlined(made.first, made.second, tuple(along[:count]), tuple(vertices[:count]))
+
+    def notch(self, face: int, points: Sequence[Vector], depth: int) -> None:
+        """A pocket up to the edges of a face."""
+        rows = (_LENGTH * (3 * len(points)))(*[part for point in points for part in point])
+        self.give('notch', face, ctypes.addressof(rows), len(points), depth, frees=True)
+
+    def strip(self, word: str, face: int, ends: Tuple[Vector, Vector], width: int, depth: int) -> None:
+        """A slot or a groove."""
+        start, end = (Point(*point) for point in ends)
+        self.give(word, face, ctypes.addressof(start), ctypes.addressof(end), width, depth, frees=True)
+
+    def chamfer(self, edge: int, width: int, other: int) -> int:
+        """A chamfer: its face."""
+        made = WORD()
+        self.give('chamfer', edge, width, other, ctypes.addressof(made), frees=True)
+        return made.value
+
+    def copy(self, solid: int, motion: Motion) -> int:
+        """A copy of a solid: its number."""
+        made = WORD()
+        self.give('copy_solid', solid, ctypes.addressof(motion), ctypes.addressof(made))
+        return made.value
+
+    def made(self, which: int) -> Tuple[int, ...]:
+        """A list of what the last feature made."""
+        count = self._library.made(self._handle, which, None, 0)
+        found = (WORD * (count or 1))()
+        self._library.made(self._handle, which, ctypes.addressof(found), count)
+        return tuple(found[:count])
+
+    def pairs(self, which: int) -> Dict[int, int]:
+        """A list of numbers and others in their place."""
+        found = self.made(which)
+        return dict(zip(found[::2], found[1::2]))
+
+    def _complaint(self, word: str, said: int, why: Refusal) -> CompanionError:
+        if said == IMPOSSIBLE:
+            name = self._library.misfit_name(why.number).decode()
+            return Impossible(name, why.value, _TEXTS[name].format(why.value))
+        if said == REFUSED:
+            return self._refused(word, why)
+        if said == MEMORY:
+            return memory_refused(word)
+        self._kernel.lines.require_answer(said)
+        raise AssertionError(f'{word}: an answer of kind {said}')
+
+    def _refused(self, word: str, why: Refusal) -> CompanionError:
+        """The error of a condition. What isn't of a number that was given is a feature that isn't possible."""
+        found = refused(word, why.number, why.value)
+        if found.name == 'NumberRange' and word != 'profile':
+            return Impossible('NumbersSpent', 0, 'too few numbers above all that are in use are left')
+        if found.name in _OF_NUMBERS:
+            return found
+        text = _TEXTS.get(found.name, '{}').format(why.value)
+        if found.name == 'NotFlat':
+            text = why_unfit(model_of_faces(self._kernel.lines, [why.value]), why.value) or f"face {why.value} isn't flat"
+        return Impossible(found.name, why.value, text)
