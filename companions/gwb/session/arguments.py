@@ -5,15 +5,24 @@ from fractions import Fraction
 from math import gcd
 from numbers import Integral, Rational
 from os import PathLike, fspath
-from typing import Iterable, List, Optional, Sequence, Tuple, Union
+from typing import Iterable, List, Optional, Protocol, Sequence, Tuple, Union
 
 from ..geometry.free_numbers import KINDS, LARGEST
 from ..geometry.vectors import Vector
 from .reading import EdgePart, FacePart, LoopPart, Part, SolidPart, VertexPart
-from .results import Block, Lamina, Lone, NewSolid, Plane, Profile
+from .results import Lone, Plane
+
+
+class MadeSolid(Protocol):
+    """What a method returned that made a solid: a block, a copy, the part above of a split, .."""
+
+    @property
+    def solid(self) -> int:
+        """The number of the solid."""
+
 
 # What may be given: numbers or things of the model, points as any three whole numbers in order.
-Solid = Union[int, SolidPart, NewSolid, Lamina, Block, Profile]
+Solid = Union[int, SolidPart, MadeSolid]
 Face = Union[int, FacePart]
 LoopNumber = Union[int, LoopPart]
 Edge = Union[int, EdgePart]
@@ -26,7 +35,6 @@ GREATEST_WORD = 4_294_967_295
 GREATEST_NUMBER = LARGEST
 MOST_LAMINA_POINTS = 64
 _LEAST, _GREATEST = -2 ** 63, 2 ** 63 - 1
-_WITH_A_SOLID = (NewSolid, Lamina, Block, Profile)
 
 
 def whole(name: str, value: object) -> int:
@@ -46,9 +54,8 @@ def number(name: str, value: object, kind: str = '', kernel: object = None) -> i
     wanted = kind or (name if name in KINDS else '')
     if isinstance(value, Part):
         return _part(name, value, wanted, kernel).number
-    if wanted == 'solid' and isinstance(value, _WITH_A_SOLID):
-        return value.solid
-    return _within(name, whole(name, value), 0, GREATEST_WORD)
+    made = getattr(value, 'solid', None) if wanted == 'solid' else None
+    return _within(name, whole(name, value if made is None else made), 0, GREATEST_WORD)
 
 
 def half_edge(name: str, value: object, kernel: object = None) -> int:

@@ -8,6 +8,7 @@ from . import arguments, features
 from .bench import Methods
 from .library import Point
 from .results import Hole, Pocket, Profile, Ring
+from .sketches import Sketch, sketch_on
 
 _MOST_SIDES = 1_000_000
 
@@ -24,6 +25,17 @@ class FeatureMethods(Methods):
         number = self._bench.new('solid', solid)
         made = self._bench.features.outline('profile', number, outline, addressof(way))
         return Profile(number, made.first, made.second, made.along)
+
+    def sketch(self, face: arguments.Face, *, origin: Optional[arguments.Point] = None, right: Optional[arguments.Point] = None) -> Sketch:
+        """Two coordinates in the plane of a flat face, as one looks at it from outside, in which outlines are drawn: from the origin on, in steps of
+        the vector to the right and of one as long upwards. Without them the origin is the least corner of the face, by x, y and z, and `right` the
+        first of the axes x, y, z that lies in its plane: a step is 1 long across an axis, and on a slope as long as its normal, such as 5.
+
+        Refused: NoFace; NotFlat; NotInPlane: the origin or `right` lies off the plane, or no axis lies in it; OffLattice: no whole vector in the
+        plane is as long as `right` and across it."""
+        number = self._bench.number('face', face)
+        start, way = (None if value is None else arguments.point(name, value) for name, value in (('origin', origin), ('right', right)))
+        return sketch_on(self._bench, number, start, way)
 
     def ring(self, face: arguments.Face, points: arguments.Points) -> Ring:
         """A face inside the face, with the outline through the points, and a ring around it.

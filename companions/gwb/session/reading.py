@@ -74,9 +74,13 @@ class Selection(Sequence[Found], Generic[Found]):
 
     def __init__(self, kind: str, wanted: str, parts: Sequence[Found]) -> None:
         self._kind, self._wanted, self._parts = kind, wanted, tuple(parts)
+        self._set = frozenset(self._parts)
 
     def __len__(self) -> int:
         return len(self._parts)
+
+    def __contains__(self, part: object) -> bool:
+        return part in self._set
 
     @overload
     def __getitem__(self, place: int) -> Found: ...
@@ -99,6 +103,33 @@ class Selection(Sequence[Found], Generic[Found]):
     def numbers(self) -> Tuple[int, ...]:
         """Their numbers."""
         return tuple(part.number for part in self._parts)
+
+    def __and__(self, other: 'Selection[Found]') -> 'Selection[Found]':
+        """Those of this selection that are in the other one too."""
+        return self._with(other, 'and', lambda part: part in other)
+
+    def __sub__(self, other: 'Selection[Found]') -> 'Selection[Found]':
+        """Those of this selection that aren't in the other one."""
+        return self._with(other, 'but not', lambda part: part not in other)
+
+    def __or__(self, other: 'Selection[Found]') -> 'Selection[Found]':
+        """Those of either selection, rising by their numbers."""
+        parts = sorted({*self._parts, *self._alike(other)}, key=_number)
+        return Selection(self._kind, f'{self._wanted} or{other._wanted}', parts)
+
+    def where(self, fits: Callable[[Found], object]) -> 'Selection[Found]':
+        """Those for which the function says something true."""
+        return Selection(self._kind, self._wanted, [part for part in self._parts if fits(part)])
+
+    def _with(self, other: 'Selection[Found]', word: str, fits: Callable[[Found], bool]) -> 'Selection[Found]':
+        self._alike(other)
+        return Selection(self._kind, f'{self._wanted} {word}{other._wanted}', [part for part in self._parts if fits(part)])
+
+    def _alike(self, other: 'Selection[Found]') -> Sequence[Found]:
+        """The things of the other selection, which are of the same kind."""
+        if not isinstance(other, Selection) or other._kind != self._kind:
+            raise TypeError(f'a selection of the kind {self._kind} is wanted, not {other!r}')
+        return other._parts
 
     def one(self) -> Found:
         """The only one; NotOne says what was found where there isn't exactly one."""

@@ -1,0 +1,113 @@
+"""Outlines in two coordinates of a face, and selections that are combined."""
+
+import unittest
+from fractions import Fraction
+
+from support import library
+
+from gwb import Refused, Workbench
+from gwb.geometry.measures import area_vector
+from gwb.geometry.vectors import cross, dot, same_direction
+
+
+class Sketched(unittest.TestCase):
+    """A block of 40 by 20 by 10."""
+
+    def setUp(self):
+        self.bench = Workbench(library())
+        self.addCleanup(self.bench.close)
+        self.block = self.bench.block((100, 200, 300), (40, 20, 10))
+
+    def refused(self, name, *words, **named):
+        with self.assertRaises(Refused) as caught:
+            self.bench.sketch(*words, **named)
+        self.assertEqual(caught.exception.name, name)
+
+
+class Sketches(Sketched):
+    """Coordinates on faces."""
+
+    def test_the_top(self):
+        sketch = self.bench.sketch(self.block.top)
+        self.assertEqual(sketch, ((100, 200, 310), (1, 0, 0), (0, 1, 0)))
+        self.assertEqual(sketch.point(3, 4), (103, 204, 310))
+        self.assertEqual(sketch.rectangle((2, 3), (5, 1)), [(102, 203, 310), (107, 203, 310), (107, 204, 310), (102, 204, 310)])
+        self.assertEqual(sketch.polygon((10, 10), 5, 4), [(115, 210, 310), (110, 215, 310), (105, 210, 310), (110, 205, 310)])
+
+    def test_outlines_run_counterclockwise_as_seen_from_outside(self):
+        slanted = self.bench.profile([(0, 0, 0), (30, 0, 0), (30, 40, 0)], along=(0, 0, 9)).solid
+        for face in (*self.bench.faces(solid=self.block), *self.bench.faces(solid=slanted)):
+            with self.subTest(face=face):
+                sketch = self.bench.sketch(face)
+                self.assertEqual((dot(sketch.right, sketch.up), dot(sketch.right, sketch.right)), (0, dot(sketch.up, sketch.up)))
+                self.assertTrue(same_direction(cross(sketch.right, sketch.up), face.normal))
+                self.assertEqual(sketch.origin, min(face.points))
+                self.assertTrue(same_direction(area_vector(sketch.rectangle((1, 1), (2, 3))), face.normal))
+
+    def test_features_take_what_it_gives(self):
+        side = self.bench.faces(plane=(1, 0, 0, -140)).one()
+        sketch = self.bench.sketch(side, origin=(140, 210, 305))
+        self.bench.pocket(side, sketch.rectangle((-2, -2), (4, 4)), 3)
+        self.bench.hole(self.block.top, self.bench.sketch(self.block.top).polygon((20, 10), 4, 8))
+        self.assertEqual(len(self.bench.face(side).rings), 1)
+        self.assertEqual(self.bench.count(self.block).rings, 3)
+
+    def test_a_direction_of_ones_own(self):
+        slope = self.bench.profile([(0, 0, 0), (30, 0, 0), (30, 40, 0)], along=(0, 0, 9))
+        face = self.bench.faces(solid=slope.solid, containing=(15, 20, 4)).one()
+        self.assertEqual(self.bench.sketch(face), ((0, 0, 0), (0, 0, 5), (3, 4, 0)))
+        sketch = self.bench.sketch(face, origin=(3, 4, 2), right=(3, 4, 0))
+        self.assertEqual((sketch.right, sketch.up), ((3, 4, 0), (0, 0, -5)))
+        self.bench.pocket(face, sketch.rectangle((1, -1), (2, 1)), 5)
+        self.assertEqual(self.bench.volume(slope), 5400 - 250)
+
+    def test_what_is_no_sketch(self):
+        self.refused('NoFace', 99)
+        self.refused('NotInPlane', self.block.top, origin=(100, 200, 300))
+        self.refused('NotInPlane', self.block.top, right=(0, 0, 1))
+        self.refused('NotInPlane', self.block.top, right=(0, 0, 0))
+        corner = self.bench.profile([(0, 0, 0), (9, 0, 0), (0, 9, 0)], along=(0, 0, 9)).solid
+        self.bench.split(corner, (1, 1, 1, -9))
+        cap = self.bench.faces(solid=corner, normal=(1, 1, 1)).one()
+        self.refused('NotInPlane', cap)
+        self.refused('OffLattice', cap, right=(1, -1, 0))
+        bent = self.bench.lamina([(0, 0, 50), (4, 0, 50), (4, 4, 51), (0, 4, 50)])
+        self.refused('NotFlat', bent.front)
+        self.assertRaisesRegex(ValueError, '^sides: 2 is outside 3', self.bench.sketch(1).polygon, (0, 0), 5, 2)
+
+
+class Selections(Sketched):
+    """Selections combined, and what was returned in the place of a solid."""
+
+    def test_and_or_and_but_not(self):
+        bench = self.bench
+        up, all_faces = bench.faces(normal=(0, 0, 1)), bench.faces()
+        along, level = bench.edges(along=(1, 0, 0)), bench.edges(length=40)
+        self.assertEqual((all_faces & up).numbers, up.numbers)
+        self.assertEqual((all_faces - up).numbers, tuple(number for number in all_faces.numbers if number != self.block.top))
+        self.assertEqual((up | bench.faces(normal=(0, 0, -1))).numbers, (self.block.top, self.block.bottom))
+        self.assertEqual((along & level).numbers, along.numbers)
+        self.assertEqual(len((all_faces - up) | up), 6)
+        self.assertIn(up.one(), all_faces)
+        self.assertNotIn(up.one(), all_faces - up)
+        self.assertRaises(TypeError, lambda: up & along)
+        self.assertRaises(TypeError, lambda: up | [1])
+
+    def test_where(self):
+        large = self.bench.faces().where(lambda face: self.bench.square_area(face) >= 400 ** 2)
+        self.assertEqual(large.top().one().number, self.block.top)
+        self.assertEqual(len(large), 4)
+
+    def test_what_was_made_stands_for_its_solid(self):
+        bench = self.bench
+        copy = bench.copy(self.block, move=(40, 0, 0))
+        self.assertEqual(bench.union([self.block, copy]), self.block.solid)
+        part = bench.split(self.block, (1, 0, 0, -120))
+        self.assertEqual((bench.volume(part), bench.volume(self.block)), (12000, 4000))
+        self.assertEqual(bench.volume(bench.pattern(part, 2, (0, 0, 50))[0]), Fraction(12000))
+        self.assertEqual(len(bench.faces(solid=bench.copy(part, move=(0, 90, 0)))), 6)
+        self.assertRaisesRegex(TypeError, '^solid: a whole number is wanted', bench.volume, bench.plane(1))
+
+
+if __name__ == '__main__':
+    unittest.main()
