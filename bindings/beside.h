@@ -3,10 +3,12 @@
 #define GWB_BESIDE_H
 #include "gwb.h"
 
+struct pages;
 struct record;
 
 struct beside {
     const gwb_heap *heap;  /* in which the session lies */
+    struct pages *pages;   /* of that, for its small blocks, or NULL (heap.h) */
     uint64_t changes;      /* how often the model may have changed */
     struct record *record; /* of accepted commands, or NULL */
     gwb_stop stop;         /* whether a feature is to end, or NULL */

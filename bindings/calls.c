@@ -5,12 +5,6 @@
 #include "record.h"
 #include <string.h>
 
-/* Whether a call goes on to the kernel as it is: its heap is the one in use already, as mostly, and nothing is recorded. */
-static inline bool is_plain(const gwb *g)
-{
-    return !g->is_open || (beside_of(g)->heap == gwb_used_heap && beside_of(g)->record == NULL);
-}
-
 static inline enum gwb_kind counted(const gwb *g, enum gwb_kind kind)
 {
     if (kind == GWB_OK)
@@ -18,8 +12,13 @@ static inline enum gwb_kind counted(const gwb *g, enum gwb_kind kind)
     return kind;
 }
 
-/* Begins a call in the heap of an open session: the heap until then. */
-static inline const gwb_heap *entered(const gwb *g) { return gwb_use_heap(beside_of(g)->heap); }
+/* Begins a call that changes an open session, in its heap: what was in use until then. */
+static inline struct used entered(const gwb *g)
+{
+    struct used before = gwb_used;
+    gwb_used = (struct used){beside_of(g)->heap, beside_of(g)->pages};
+    return before;
+}
 
 /* The line of a call that was made is kept where it was accepted. */
 static enum gwb_kind kept(const gwb *g, enum gwb_kind kind)
@@ -32,35 +31,38 @@ static enum gwb_kind kept(const gwb *g, enum gwb_kind kind)
     return kind;
 }
 
-/* A call that leaves the model as it is. */
+/* A reader. As many may run at once, it leaves the pages alone; where the heap is the one in use already, it goes on to the kernel as it is. */
 #define CALL(name, result, parameters, arguments)                                                                                          \
     result kernel_gwb_##name parameters;                                                                                                   \
     __attribute__((noinline)) static result in_own_##name parameters                                                                       \
     {                                                                                                                                      \
-        const gwb_heap *before = entered(g);                                                                                               \
+        const gwb_heap *before = gwb_used.heap;                                                                                            \
+        gwb_used.heap = beside_of(g)->heap;                                                                                                \
         result answer = kernel_gwb_##name arguments;                                                                                       \
-        gwb_use_heap(before);                                                                                                              \
+        gwb_used.heap = before;                                                                                                            \
         return answer;                                                                                                                     \
     }                                                                                                                                      \
     result gwb_##name parameters                                                                                                           \
     {                                                                                                                                      \
-        return !g->is_open || beside_of(g)->heap == gwb_used_heap ? kernel_gwb_##name arguments : in_own_##name arguments;                    \
+        return !g->is_open || beside_of(g)->heap == gwb_used.heap ? kernel_gwb_##name arguments : in_own_##name arguments;                    \
     }
 
 /* A command, with `write` for its line. */
 #define COMMAND(name, parameters, arguments, write)                                                                                        \
     enum gwb_kind kernel_gwb_##name parameters;                                                                                            \
-    __attribute__((noinline)) static enum gwb_kind in_own_##name parameters                                                                \
+    __attribute__((noinline)) static enum gwb_kind recorded_##name parameters                                                              \
     {                                                                                                                                      \
-        struct record *r = beside_of(g)->record;                                                                                              \
-        const gwb_heap *before = entered(g);                                                                                               \
-        enum gwb_kind answer = r == NULL || write ? kept(g, kernel_gwb_##name arguments) : GWB_MEMORY;                                     \
-        gwb_use_heap(before);                                                                                                              \
-        return answer;                                                                                                                     \
+        struct record *r = beside_of(g)->record;                                                                                           \
+        return write ? kept(g, kernel_gwb_##name arguments) : GWB_MEMORY;                                                                  \
     }                                                                                                                                      \
     enum gwb_kind gwb_##name parameters                                                                                                    \
     {                                                                                                                                      \
-        return counted(g, is_plain(g) ? kernel_gwb_##name arguments : in_own_##name arguments);                                            \
+        if (!g->is_open)                                                                                                                   \
+            return kernel_gwb_##name arguments;                                                                                            \
+        struct used before = entered(g);                                                                                                   \
+        enum gwb_kind answer = beside_of(g)->record == NULL ? kernel_gwb_##name arguments : recorded_##name arguments;                     \
+        gwb_used = before;                                                                                                                 \
+        return counted(g, answer);                                                                                                         \
     }
 
 /* One whose line is its word and its values, of these forms (record.h). */
@@ -124,12 +126,12 @@ COMMAND(lamina, (gwb *g, uint32_t solid, const gwb_point *points, size_t n), (g,
     enum gwb_kind kernel_gwb_##name parameters;                                                                                            \
     enum gwb_kind gwb_##name parameters                                                                                                    \
     {                                                                                                                                      \
-        const gwb_heap *before = g->is_open ? entered(g) : gwb_used_heap;                                                                  \
+        struct used before = g->is_open ? entered(g) : gwb_used;                                                                           \
         enum gwb_kind answer = kernel_gwb_##name arguments;                                                                                \
         struct record *r = answer == GWB_OK ? beside_of(g)->record : NULL;                                                                    \
         if (r != NULL)                                                                                                                     \
             follow;                                                                                                                        \
-        gwb_use_heap(before);                                                                                                              \
+        gwb_used = before;                                                                                                                 \
         return counted(g, answer);                                                                                                         \
     }
 
@@ -145,11 +147,11 @@ enum gwb_kind gwb_draft(gwb *g)
     if (!g->is_open)
         return GWB_CLOSED;
     struct record *r = beside_of(g)->record;
-    const gwb_heap *before = entered(g);
+    struct used before = entered(g);
     enum gwb_kind answer = r == NULL || record_reserve_draft(r) ? kernel_gwb_draft(g) : GWB_MEMORY;
     if (r != NULL && answer == GWB_OK)
         record_draft(r);
-    gwb_use_heap(before);
+    gwb_used = before;
     return answer;
 }
 
@@ -201,27 +203,41 @@ enum gwb_kind gwb_line(gwb *g, const char *line, size_t n)
     if (!g->is_open)
         return GWB_CLOSED;
     struct record *r = beside_of(g)->record;
-    const gwb_heap *before = entered(g);
+    struct used before = entered(g);
     enum gwb_kind answer = r == NULL ? kernel_gwb_line(g, line, n) : recorded_line(g, r, line, n);
-    gwb_use_heap(before);
+    gwb_used = before;
     return counted(g, answer);
 }
 
 /* ---- sessions */
 
+/* Opens a session whose small blocks lie in these pages. */
 bool kernel_gwb_open(gwb *g);
+static bool open_in(gwb *g, struct pages *pages)
+{
+    struct used before = gwb_used;
+    gwb_used.pages = pages;
+    struct tried block = rattle_alloc(sizeof(struct beside), 16);
+    bool is_open = block.ok && kernel_gwb_open(g);
+    gwb_used = before;
+    if (block.ok && !is_open)
+        rattle_dealloc(block.at);
+    if (!is_open)
+        return false;
+    g->beside = block.at;
+    *beside_of(g) = (struct beside){.heap = gwb_used.heap, .pages = pages};
+    return true;
+}
+
 bool gwb_open(gwb *g)
 {
-    if (g->is_open)
+    struct pages *pages;
+    if (g->is_open || !gwb_open_pages(&pages))
         return false;
-    struct tried block = rattle_alloc(sizeof(struct beside), 16);
-    if (!block.ok)
-        return false;
-    if (!kernel_gwb_open(g))
-        return rattle_dealloc(block.at), false;
-    g->beside = block.at;
-    *beside_of(g) = (struct beside){.heap = gwb_used_heap};
-    return true;
+    bool is_open = open_in(g, pages);
+    if (!is_open)
+        gwb_close_pages(pages);
+    return is_open;
 }
 
 void gwb_forget_features(struct beside *of); /* of the features */
@@ -231,10 +247,12 @@ void gwb_close(gwb *g)
     struct beside *of = g->beside;
     if (!g->is_open)
         return;
+    struct pages *pages = of->pages;
     kernel_gwb_close(g);
     gwb_forget_features(of);
     record_free(of->record);
     rattle_dealloc(of);
+    gwb_close_pages(pages);
     g->beside = NULL;
 }
 
@@ -246,9 +264,9 @@ enum gwb_kind gwb_record(gwb *g)
         return GWB_OK;
     if (beside_of(g)->changes != 0)
         return GWB_NO_CALL;
-    const gwb_heap *before = entered(g);
+    struct used before = entered(g);
     beside_of(g)->record = record_new();
-    gwb_use_heap(before);
+    gwb_used = before;
     return beside_of(g)->record != NULL ? GWB_OK : GWB_MEMORY;
 }
 

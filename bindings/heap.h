@@ -14,14 +14,20 @@ struct tried rattle_alloc(size_t size, size_t align);
 struct tried rattle_realloc(void *at, size_t kept, size_t size, size_t align);
 void rattle_dealloc(void *at);
 
-/* What lies before each block of heap.c: the heap that it came from. The block after it is aligned as this is. */
-union head {
+/* The pages from which a session has its small blocks. */
+struct pages;
+
+/* Where this thread takes blocks: small ones from the pages, where there are any, as in a call that changes a session; others from the heap. */
+struct used {
     const gwb_heap *heap;
-    long double aligned;
-    char room[16];
+    struct pages *pages;
 };
 
-/* The heap that this thread uses. */
-extern _Thread_local const gwb_heap *gwb_used_heap __attribute__((visibility("hidden"), tls_model("initial-exec")));
+extern _Thread_local struct used gwb_used __attribute__((visibility("hidden"), tls_model("initial-exec")));
+
+/* Pages of the heap that this thread uses: none, where each block is to lie alone. False where memory is refused. */
+bool gwb_open_pages(struct pages **pages);
+/* Gives the pages back. No block of theirs is held any more. */
+void gwb_close_pages(struct pages *pages);
 
 #endif

@@ -113,12 +113,24 @@ tried 'the shared object and the examples in C and C++' make_here
 echo "the shared object and two examples took $(($(date +%s) - began)) seconds"
 prints 'the example in C' bindings/examples/block_c.expected "$dir/built/block_c"
 prints 'the example in C++' bindings/examples/block_cpp.expected "$dir/built/block_cpp"
-# built NAME PROGRAM COMPILER..: builds a program of the tests from its source over the library, where every warning is an error
+# The same with each block alone, as valgrind sees no blocks in pages: all but heap.o is the same.
+cp -pr "$dir/built" "$dir/alone"
+rm -f "$dir/alone/heap.o" "$dir/alone/libgwb.a" "$dir/alone/block_c"
+tried 'the library with each block alone' make -C bindings "ARCHIVE=$archive" "OUT=$dir/alone" 'CFLAGS=-O2 -DGWB_BLOCKS_ALONE' "$dir/alone/libgwb.a" \
+    "$dir/alone/block_c"
+# over_both SOURCE COMPILER..: builds a program of the tests over both, where every warning is an error
+over_both() {
+    source=$1
+    shift
+    "$@" -Wall -Wextra -Werror -Ibindings/include -c -o "$dir/${source%.*}.o" "tests/$source" &&
+        "$@" -o "$dir/built/${source%.*}" "$dir/${source%.*}.o" "$dir/built/libgwb.a" &&
+        "$@" -o "$dir/alone/${source%.*}" "$dir/${source%.*}.o" "$dir/alone/libgwb.a"
+}
+# built NAME SOURCE COMPILER..: the same, with a name for where it fails
 built() {
-    name=$1
-    source=$2
-    shift 2
-    tried "$name" "$@" -Wall -Wextra -Werror -Ibindings/include -o "$dir/built/${source%.*}" "tests/$source" "$dir/built/libgwb.a"
+    called=$1
+    shift
+    tried "$called" over_both "$@"
 }
 for standard in c++17 c++20; do
     built "the tests in C++ are built as $standard" library_cpp.cpp "${CXX:-c++}" "-std=$standard" -Wold-style-cast -Wshadow
@@ -143,6 +155,8 @@ built 'threads in C++ are built' library_sharing.cpp "${CXX:-c++}" -std=c++17 -p
 counted 'threads that walk at once' "$dir/built/library_sharing"
 built 'heaps are built' library_heap.c "${CC:-cc}" -std=gnu11 -O2 -pthread
 counted 'heaps of sessions' "$dir/built/library_heap"
+built 'pages are built' library_pages.c "${CC:-cc}" -std=gnu11 -O2 -pthread
+counted 'small blocks from pages' "$dir/built/library_pages"
 built 'loading is built' library_load.c "${CC:-cc}" -std=gnu11 -O2
 counted 'models loaded of their listings' "$dir/built/library_load"
 built 'triangles are built' library_triangles.c "${CC:-cc}" -std=gnu11 -O2
@@ -168,11 +182,11 @@ if has cargo 'cargo check where there is no archive' 'cargo doc where there is n
 fi
 # (each is a program that was built above)
 in_cpp='library_cpp library_results library_history library_features library_machining library_record library_heap library_load library_triangles'
-threads='library_threads library_sharing'
+threads='library_threads library_sharing library_pages'
 if has valgrind 'valgrind over the example in C' $in_cpp $threads; then
-    tried 'valgrind over the example in C' valgrind -q --error-exitcode=9 --leak-check=full --show-leak-kinds=all "$dir/built/block_c"
+    tried 'valgrind over the example in C' valgrind -q --error-exitcode=9 --leak-check=full --show-leak-kinds=all "$dir/alone/block_c"
     for name in $in_cpp; do
-        tried "valgrind over $name" valgrind -q --error-exitcode=9 --leak-check=full --show-leak-kinds=all "$dir/built/$name" 20
+        tried "valgrind over $name" valgrind -q --error-exitcode=9 --leak-check=full --show-leak-kinds=all "$dir/alone/$name" 20
     done
     for name in $threads; do
         tried "helgrind over $name" valgrind -q --tool=helgrind --error-exitcode=9 "$dir/built/$name" 100
@@ -181,7 +195,7 @@ fi
 
 # What is in C and C++ is built once more with sanitizers, over the archive as it is, whose requests for memory they see too. The compiler takes
 # the most of it, so all are built side by side.
-sanitizers='-g1 -O0 -fsanitize=address,undefined -fno-sanitize-recover=all'
+sanitizers='-g1 -O0 -fsanitize=address,undefined -fno-sanitize-recover=all -DGWB_BLOCKS_ALONE'
 # sanitized PROGRAM COMPILER..: builds a program of the tests with them
 sanitized() {
     source=$1
@@ -193,7 +207,7 @@ echo 'int main(void) { return 0; }' > "$dir/empty.c"
 if "${CC:-cc}" $sanitizers -o "$dir/empty" "$dir/empty.c" 2> "$dir/err" && "$dir/empty"; then
     began=$(date +%s)
     tried 'the library is built with sanitizers' make -C bindings "ARCHIVE=$archive" "OUT=$dir/sanitized" "CFLAGS=$sanitizers" "CXXFLAGS=$sanitizers" "$dir/sanitized/libgwb.a"
-    for name in library_features_refused library_record library_heap library_load library_triangles library_threads library_worked; do
+    for name in library_features_refused library_record library_heap library_load library_triangles library_threads library_pages library_worked; do
         sanitized "$name.c" "${CC:-cc}" -std=gnu11
     done
     for name in library_cpp library_history library_features library_machining library_sharing; do
@@ -211,24 +225,23 @@ else
     skipped=$((skipped + 1))
 fi
 
-tried 'worked scripts are built' cc -O2 -std=gnu11 -Wall -Wextra -Werror -Ibindings/include -o "$dir/built/worked" tests/library_worked.c \
-    "$dir/built/libgwb.a"
-counted 'the calls over worked scripts' "$dir/built/worked"
+built 'worked scripts are built' library_worked.c cc -O2 -std=gnu11
+counted 'the calls over worked scripts' "$dir/built/library_worked"
 if has valgrind 'valgrind over worked scripts'; then
-    tried 'valgrind over worked scripts' valgrind -q --error-exitcode=9 --leak-check=full --show-leak-kinds=all "$dir/built/worked"
+    tried 'valgrind over worked scripts' valgrind -q --error-exitcode=9 --leak-check=full --show-leak-kinds=all "$dir/alone/library_worked"
 fi
 
 # typed LINES COMMAND..: gives so many random lines to the program that compares typed calls with lines
 typed() {
     lines=$1
     shift
-    tests/random_lines.py "$lines" 31 | "$@" "$dir/built/typed"
+    tests/random_lines.py "$lines" 31 | "$@"
 }
-tried 'typed calls beside lines are built' cc -O2 -std=gnu11 -Wall -Wextra -Werror -Ibindings/include -o "$dir/built/typed" tests/library_typed.c \
-    "$dir/built/libgwb.a"
-tried 'a million random commands as typed calls' typed 1400000 env
+built 'typed calls beside lines are built' library_typed.c cc -O2 -std=gnu11
+tried 'a million random commands as typed calls' typed 1400000 "$dir/built/library_typed"
 if has valgrind 'valgrind over typed calls'; then
-    tried 'valgrind over typed calls' typed 2000 valgrind -q --error-exitcode=9 --leak-check=full --show-leak-kinds=all
+    tried 'valgrind over typed calls' typed 2000 valgrind -q --error-exitcode=9 --leak-check=full --show-leak-kinds=all \
+        "$dir/alone/library_typed"
 fi
 
 tried 'models by readers' python3 tests/library_readers.py "$dir/built/libgwb.so"
