@@ -33,11 +33,11 @@ class Report(NamedTuple):
 def check(model: Model, between: bool = False, slivers: Optional[int] = None) -> Report:
     """Looks at each face, and at each solid by itself; with `between` for solids that share room too, with `slivers` for faces and solids that
     are more than so many times as long as they are wide or thick."""
-    without_area = [face for face in model.faces if normal(model, face) == ZERO]
+    without_area = {face: None for face in model.faces if normal(model, face) == ZERO}
     findings = [finding for face in model.faces if face not in without_area for finding in face_findings(model, face)]
     findings += [finding for solid in model.solids for finding in SolidCheck(model, solid).findings()]
     if slivers is not None:
         findings += sliver_findings(model, slivers)
     if between:
         findings += overlap_findings(model)
-    return Report(findings, without_area, unfit_solids(model) if between and len(model.solids) > 1 else {})
+    return Report(findings, list(without_area), unfit_solids(model) if between and len(model.solids) > 1 else {})

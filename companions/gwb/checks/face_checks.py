@@ -10,14 +10,20 @@ from ..geometry.vectors import Vector, ZERO, dot, flat_axes
 from .findings import BENT, OUTSIDE, WRONG_WAY, Finding
 
 
-def is_flat(model: Model, face: int) -> bool:
-    """Whether the face has an area, and all its vertices lie on its plane."""
-    across = normal(model, face)
-    return across != ZERO and off_plane(model, face, across) is None
+def is_flat(model: Model, face: int, across: Vector) -> bool:
+    """Whether a face, whose normal is given, has an area, and all its vertices lie on its plane."""
+    return across != ZERO and (_is_triangle(model, face) or off_plane(model, face, across) is None)
+
+
+def _is_triangle(model: Model, face: int) -> bool:
+    row = model.faces[face]
+    return not row.rings and len(model.loops[row.outer].halves) == 3
 
 
 def face_findings(model: Model, face: int) -> Iterator[Finding]:
     """The slips of a face that has an area."""
+    if _is_triangle(model, face):
+        return
     vertex = off_plane(model, face, normal(model, face))
     if vertex is not None:
         yield Finding(BENT, f'vertex {vertex} lies off the plane of face {face}')

@@ -13,12 +13,13 @@ from ..geometry.box_index import Box, BoxIndex, box_of, boxes_meet
 from ..geometry.flat_face import ExactVector, FlatFace
 from ..geometry.measures import normal
 from ..geometry.model import Model
-from ..geometry.plane_figures import Place, turn
+from ..geometry.plane_figures import Place, locate, turn
 from ..geometry.touched_edges import TouchedEdges, touched_edges
 from ..geometry.triangulation import face_triangles
 from ..geometry.vectors import Vector, ZERO, cross, dot, lies_between, reduced, subtract
 from .face_checks import is_flat
 from .findings import CROSSING, MEETING, TOUCHING, Finding
+from .near_pairs import near_pairs
 from .shell_checks import shell_findings
 
 
@@ -30,13 +31,14 @@ class SolidCheck:
         self._solid = solid
         self._normals = {face: normal(self._model, face) for face in self._model.faces}
         self._flat_shells = self._find_flat_shells()
-        self._shapes = {face: FlatFace(self._model, face) for face in self._model.faces if is_flat(self._model, face)}
+        self._shapes = {face: FlatFace(self._model, face, across) for face, across in self._normals.items() if is_flat(self._model, face, across)}
+        self._boxes = {face: box_of(self._model.face_points(face)) for face in self._shapes}
         self._inner: Dict[int, Optional[ExactVector]] = {}
         self._around = self._faces_around_vertices()
         self._near_edges = [edge for edge in self._model.edges if box is None or boxes_meet(box_of(self._ends(edge)), box)]
         self._near_vertices = [vertex for vertex, point in self._model.vertices.items() if box is None or boxes_meet(box_of([point]), box)]
-        self._edges = BoxIndex({edge: box_of(self._ends(edge)) for edge in self._near_edges})
-        self._vertices = BoxIndex({vertex: box_of([self._model.vertices[vertex]]) for vertex in self._near_vertices})
+        self._is_whole = box is None and len(self._shapes) == len(self._model.faces)
+        self._pairs = near_pairs(self._model, self._shapes, self._boxes) if self._is_whole else None
 
     def findings(self) -> Iterator[Finding]:
         """All slips, each with the numbers concerned."""
@@ -52,6 +54,38 @@ class SolidCheck:
             yield from shell_findings(self._model, self._solid)
 
     # What stands ready
+
+    @cached_property
+    def _edges(self) -> BoxIndex[int]:
+        return BoxIndex({edge: box_of(self._ends(edge)) for edge in self._near_edges})
+
+    @cached_property
+    def _vertices(self) -> BoxIndex[int]:
+        return BoxIndex({vertex: box_of([self._model.vertices[vertex]]) for vertex in self._near_vertices})
+
+    def _vertices_near_edge(self, edge: int) -> List[int]:
+        """The vertices that may lie on an edge, rising."""
+        if self._pairs is not None and edge not in self._pairs.open_edges:
+            return sorted(self._pairs.vertices_on_edge.get(edge, ()))
+        return sorted(self._vertices.meeting(box_of(self._ends(edge))))
+
+    def _edges_near_edge(self, edge: int) -> List[int]:
+        """The edges of greater numbers that may cross an edge, rising."""
+        if self._pairs is None or edge in self._pairs.open_edges:
+            return sorted(other for other in self._edges.meeting(box_of(self._ends(edge))) if other > edge)
+        return sorted(self._pairs.edges_across.get(edge, ()))
+
+    def _vertices_near_face(self, face: int) -> List[int]:
+        """The vertices that may lie on a face, rising."""
+        if self._pairs is not None:
+            return sorted(self._pairs.vertices_at_face.get(face, ()))
+        return sorted(self._vertices.meeting(self._boxes[face]))
+
+    def _edges_near_face(self, face: int) -> List[int]:
+        """The edges that may meet a face, rising."""
+        if self._pairs is not None:
+            return sorted(self._pairs.edges_at_face.get(face, ()))
+        return sorted(self._edges.meeting(self._boxes[face]))
 
     @cached_property
     def _touched(self) -> TouchedEdges:
@@ -112,15 +146,15 @@ class SolidCheck:
     def _vertices_on_edges(self) -> Iterator[Finding]:
         for edge in self._near_edges:
             start, end = self._ends(edge)
-            for vertex in sorted(self._vertices.meeting(box_of((start, end)))):
+            for vertex in self._vertices_near_edge(edge):
                 if (lies_between(start, end, self._model.vertices[vertex]) and not self._are_back_to_back(
                         self._around[vertex], self._faces_beside(edge))):
                     yield Finding(TOUCHING, f'vertex {vertex} lies on edge {edge}')
 
     def _crossing_edges(self) -> Iterator[Finding]:
         for edge in self._near_edges:
-            for other in sorted(self._edges.meeting(box_of(self._ends(edge)))):
-                if other > edge and _cross_between(*self._ends(edge), *self._ends(other)):
+            for other in self._edges_near_edge(edge):
+                if _cross_between(*self._ends(edge), *self._ends(other)):
                     yield from self._crossing(edge, other)
 
     def _crossing(self, edge: int, other: int) -> Iterator[Finding]:
@@ -134,7 +168,7 @@ class SolidCheck:
 
     def _vertices_on_face(self, face: int) -> Iterator[Finding]:
         shape = self._shapes[face]
-        for vertex in sorted(self._vertices.meeting(box_of(self._model.face_points(face)))):
+        for vertex in self._vertices_near_face(face):
             point = self._model.vertices[vertex]
             if (face not in self._around[vertex] and shape.height(point) == 0 and shape.locate(point) is Place.INSIDE
                     and not self._are_back_to_back(self._around[vertex], {face})):
@@ -142,13 +176,13 @@ class SolidCheck:
 
     def _edges_at_face(self, face: int) -> Iterator[Finding]:
         shape = self._shapes[face]
-        for edge in sorted(self._edges.meeting(box_of(self._model.face_points(face)))):
+        for edge in self._edges_near_face(face):
             if face in self._faces_beside(edge):
                 continue
             start, end = self._ends(edge)
             before, after = shape.height(start), shape.height(end)
             if before < 0 < after or after < 0 < before:
-                if shape.locate(_on_way(start, end, Fraction(before, before - after))) is Place.INSIDE:
+                if _passes_through(shape, start, end, before, after):
                     yield Finding(MEETING, f'edge {edge} passes through face {face}')
             elif (before == after == 0 and _runs_within(shape, start, end)
                     and not self._are_back_to_back(self._faces_beside(edge), {face})):
@@ -157,12 +191,17 @@ class SolidCheck:
     def _faces_on_faces(self) -> Iterator[Finding]:
         """Faces of one plane where one has a point within the other; edges that cross or run along faces are found by then."""
         for faces in self._faces_by_planes():
-            boxes = {face: box_of(self._model.face_points(face)) for face in faces}
+            boxes = {face: self._boxes[face] for face in faces}
             index = BoxIndex(boxes)
             for face in faces:
                 for other in sorted(index.meeting(boxes[face])):
-                    if other > face and self._overlap(face, other):
+                    if other > face and not self._are_triangles_of_one_edge(face, other) and self._overlap(face, other):
                         yield from self._overlapping(face, other)
+
+    def _are_triangles_of_one_edge(self, face: int, other: int) -> bool:
+        """Whether two faces of one plane are triangles on the two sides of an edge: they look alike, so they lie apart."""
+        halves, beyond = (list(self._model.face_halves(held)) for held in (face, other))
+        return len(halves) == len(beyond) == 3 and self._look_alike(face, other) and any(-half in beyond for half in halves)
 
     def _overlap(self, face: int, other: int) -> bool:
         return any(point is not None and self._shapes[around].locate(point) is Place.INSIDE
@@ -210,9 +249,20 @@ def _cross_between(a: Vector, b: Vector, c: Vector, d: Vector) -> bool:
     return 0 < dot(cross(way, beyond), across) < whole and 0 < dot(cross(way, along), across) < whole
 
 
+def _passes_through(shape: FlatFace, start: Vector, end: Vector, before: int, after: int) -> bool:
+    """Whether a segment, whose ends have these heights of different signs, meets the face's plane within the face. All numbers are whole: the point
+    and the face are multiplied by the difference of the heights."""
+    (ax, ay), (bx, by), most = shape.flatten(start), shape.flatten(end), abs(before - after)
+    low, high = abs(after), abs(before)
+    point = (ax * low + bx * high, ay * low + by * high)
+    return locate((((x * most, y * most), (u * most, v * most)) for (x, y), (u, v) in shape.sides), point) is Place.INSIDE
+
+
 def _runs_within(shape: FlatFace, start: Vector, end: Vector) -> bool:
     """Whether a part of a segment in the face's plane lies within the face."""
     a, b = shape.flatten(start), shape.flatten(end)
+    if len(shape.sides) == 3 and any(turn(c, d, a) <= 0 and turn(c, d, b) <= 0 for c, d in shape.sides):
+        return False
     cuts = {Fraction(0), Fraction(1)}
     for c, d in shape.sides:
         before, after = turn(c, d, a), turn(c, d, b)

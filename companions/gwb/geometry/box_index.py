@@ -27,13 +27,14 @@ def boxes_meet(a: Box, b: Box) -> bool:
 class BoxIndex(Generic[Key]):
     """Boxes by their keys. More may be added; those that lie outside the first ones are found too."""
 
-    def __init__(self, boxes: Mapping[Key, Box]) -> None:
+    def __init__(self, boxes: Mapping[Key, Box], is_fine: bool = False) -> None:
+        """A fine grid is one for boxes that lie on a surface, of which each cell is to have few."""
         self._boxes: Dict[Key, Box] = {}
         self._cells: Dict[Tuple[int, ...], List[Key]] = {}
         self._wide: List[Key] = []
         around = box_of(corner for box in boxes.values() for corner in zip(*box))
-        per_axis = max(1, round(len(boxes) ** (1 / max(1, len(around)))))
-        self._steps = [(high - low) // per_axis + 1 for low, high in around]
+        per_axis = min(_MANY_CELLS, round(len(boxes) ** .5 / 3)) if is_fine else round(len(boxes) ** (1 / max(1, len(around))))
+        self._steps = [(high - low) // max(1, per_axis) + 1 for low, high in around]
         for key, box in boxes.items():
             self.add(key, box)
 
@@ -53,6 +54,14 @@ class BoxIndex(Generic[Key]):
         for key in self._candidates(box):
             if boxes_meet(boxes[key], box):
                 yield key
+
+    def near(self, box: Box) -> Set[Key]:
+        """The keys of all boxes that may meet the box: those in its cells."""
+        ranges = self._ranges(box)
+        if _count(ranges) > len(self._boxes):
+            return set(self._boxes)
+        cells = self._cells
+        return set(self._wide).union(*[cells[cell] for cell in product(*ranges) if cell in cells])
 
     def _candidates(self, box: Box) -> Iterator[Key]:
         """Keys of all boxes that may meet the box, each once."""

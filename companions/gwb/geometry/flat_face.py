@@ -1,10 +1,11 @@
 """A flat face as a region of its plane."""
 
-from typing import Tuple
+from functools import cached_property
+from typing import List, Optional, Tuple
 
 from .measures import anchor, normal
 from .model import Model
-from .plane_figures import Exact, Flat, Place, locate, segments
+from .plane_figures import Exact, Flat, Place, Segment, locate, segments
 from .vectors import Vector, dot, flat_axes, subtract
 
 ExactVector = Tuple[Exact, Exact, Exact]
@@ -13,12 +14,18 @@ ExactVector = Tuple[Exact, Exact, Exact]
 class FlatFace:
     """A face with an area all of whose vertices lie on one plane."""
 
-    def __init__(self, model: Model, face: int) -> None:
-        self.across = normal(model, face)
+    def __init__(self, model: Model, face: int, across: Optional[Vector] = None) -> None:
+        """`across` is its normal, where that is known."""
+        self.across = normal(model, face) if across is None else across
         self.origin = anchor(model, face)
         self._axes = flat_axes(self.across)
-        self.sides = [side for loop in model.faces[face].loops
-                      for side in segments([self.flatten(point) for point in model.loop_points(loop)])]
+        self._model, self._face = model, face
+
+    @cached_property
+    def sides(self) -> List[Segment]:
+        """The sides of all its loops, as seen from its front."""
+        return [side for loop in self._model.faces[self._face].loops
+                for side in segments([self.flatten(point) for point in self._model.loop_points(loop)])]
 
     def flatten(self, point: ExactVector) -> Flat:
         """The point as seen from the face's front."""
