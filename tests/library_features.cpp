@@ -393,6 +393,8 @@ static void try_refused_memory()
         {"chamfer", [&](Workbench &bench) { (void)chamfer(bench, Edge(1), 2); }},
         {"copy", [&](Workbench &bench) { (void)copy_solid(bench, Solid(1), Motion::move({40, 0, 0})); }},
         {"split", [&](Workbench &bench) { (void)split_solid(bench, Solid(1), {0, 0, 1, -4}); }},
+        {"pattern", [&](Workbench &bench) { (void)pattern(bench, Solid(1), 3, {0, 0, 9}); }},
+        {"scale", [&](Workbench &bench) { scale(bench, 3); }},
         {"move", [&](Workbench &bench) { move_solid(bench, Solid(1), Motion::quarter_turns(2)); }},
         {"load", [&](Workbench &bench) { bench.load("solid 9\nface 90 9 90\nloop 90 at 90\nvertex 90 1 1 1\n"); }},
     };
@@ -423,9 +425,40 @@ static void try_names()
     check(bench.start_of(copy.of(side)) == copy.of(start) && bench.end_of(copy.of(side)) == copy.of(bench.end_of(side)), "and half-edge");
 }
 
+// A row of blocks, glued to one, all of it three times as large.
+static void try_rows()
+{
+    Workbench bench;
+    const Block block = bench.block({0, 0, 0}, {4, 4, 4});
+    const std::vector<Solid> row = pattern(bench, block, 3, {4, 0, 0});
+    check(row == std::vector<Solid>{Solid(2), Solid(3)} && bench.depth() == 2, "a row of three");
+    Attempts attempt = bench.attempt();
+    const Solid apart = bench.block({0, 0, 40}, {4, 4, 4});
+    check(glue_all(attempt, {block, row[1]}).error().is(Misfit::no_match), "solids that don't touch");
+    check(glue_all(attempt, {block, row[0], row[1], apart}).error().value == apart.number() && bench.depth() == 3, "one that touches none");
+    check(glue_all(attempt, {block, block}).error().problem == Problem::no_call && !glue_all(attempt, {}), "one given twice, and none");
+    check(glue_all(attempt, {block, Solid(99)}).error().is(GWB_WHY_NO_SOLID), "one that isn't there");
+    glue_all(bench, {block, row[1], row[0]});
+    check(narrow(bench.six_volumes(block)) == 6 * 3 * 64 && bench.count(block).faces == 14, "one solid of three");
+    scale(bench, 3);
+    check(narrow(bench.six_volumes(block)) == 6 * 27 * 3 * 64 && narrow(bench.six_volumes(apart)) == 6 * 27 * 64, "three times as large");
+    check(scale(attempt, 0).error().is(GWB_WHY_SIZE_RANGE) && scale(attempt, 1'000'000'000'000).error().is(GWB_WHY_POINT_RANGE), "too small, too large");
+    check(pattern(attempt, apart, 0, {1, 0, 0}).error().problem == Problem::no_call && pattern(attempt, apart, 1, {1, 0, 0})->empty(), "no row, and one of one");
+    check(pattern(attempt, apart, 3, {INT64_MAX, 0, 0}).error().is(GWB_WHY_POINT_RANGE), "a step too long");
+    check(copy_solid(attempt, apart, Motion::move({INT64_MIN, 0, 0})).error().is(GWB_WHY_POINT_RANGE) && bench.depth() == 6, "a motion too long");
+
+    Workbench ring;
+    const Solid left = ring.block({0, 0, 0}, {2, 6, 2}), right = ring.block({4, 0, 0}, {2, 6, 2});
+    const Solid below = ring.block({2, 0, 0}, {2, 2, 2}), above = ring.block({2, 4, 0}, {2, 2, 2});
+    Attempts rings = ring.attempt();
+    (void)left, (void)right, (void)below, (void)above;
+    check(glue_all(rings, {left, below}).error().is(Misfit::no_match) && ring.depth() == 4, "faces of unlike outlines");
+}
+
 int main()
 {
     try {
+        try_rows();
         try_names();
         try_refused_memory();
         try_solid("a pocket", pocket);

@@ -68,6 +68,13 @@ static enum gwb_kind copy(gwb *g) { return gwb_copy_solid(g, 1, &motion, numbers
 static enum gwb_kind move(gwb *g) { return gwb_move_solid(g, 1, &motion, &why); }
 static enum gwb_kind kill_one(gwb *g) { return gwb_kill_solid(g, 1, &why); }
 static enum gwb_kind make_profile(gwb *g) { return gwb_profile(g, 2, square, 4, &along, &profile, numbers, &why); }
+static enum gwb_kind pattern(gwb *g) { return gwb_pattern(g, 1, 3, &along, numbers, &why); }
+static enum gwb_kind scale(gwb *g) { return gwb_scale(g, 3, &why); }
+static enum gwb_kind cut(gwb *g)
+{
+    static const gwb_cut_plane middle = {0, 0, 1, -4};
+    return gwb_split_solid(g, 1, &middle, 2, &why);
+}
 static enum gwb_kind advice(gwb *g)
 {
     gwb_advice *found = NULL;
@@ -81,7 +88,8 @@ static const struct feature {
     enum gwb_kind (*make)(gwb *g);
 } features[] = {{"pocket", pocket},     {"boss", boss},   {"hole", hole},         {"ring", ring},       {"notch", notch},
                 {"slot", slot},         {"groove", groove}, {"shoulder", shoulder}, {"chamfer", chamfer}, {"copy", copy},
-                {"move", move},         {"kill", kill_one}, {"profile", make_profile}, {"advice", advice}};
+                {"move", move},         {"kill", kill_one}, {"profile", make_profile}, {"pattern", pattern},
+                {"scale", scale},       {"split", cut},   {"advice", advice}};
 
 /* ---- what must be as it was */
 

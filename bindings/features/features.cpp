@@ -2,6 +2,7 @@
 #pragma GCC visibility push(default)
 #include "gwb_features.h"
 #pragma GCC visibility pop
+#include "gluing.hpp"
 #include "off_lattice.hpp"
 #include "shaping.hpp"
 #include "stopping.hpp"
@@ -163,6 +164,14 @@ template <class Kind> void write(const std::vector<Kind> &numbers, std::uint32_t
         *to++ = number.number();
 }
 
+std::vector<Solid> solids_of(const std::uint32_t *numbers, std::size_t n)
+{
+    std::vector<Solid> solids;
+    for (std::size_t at = 0; at < n; at++)
+        solids.emplace_back(numbers[at]);
+    return solids;
+}
+
 Items<Point> items(const gwb_point *points, std::size_t n)
 {
     return Items<Point>(points, n);
@@ -272,6 +281,45 @@ gwb_kind gwb_move_solid(gwb *g, std::uint32_t solid, const gwb_motion *motion, g
         return gwb_is_open(g) ? GWB_NO_CALL : GWB_CLOSED;
     return made(
         g, why, [&](Attempts &bench, Together &, Known &) { return moved(bench, Solid(solid), Motion(*motion)); }, [](Solid) {});
+}
+
+gwb_kind gwb_pattern(gwb *g, std::uint32_t solid, std::uint32_t count, const gwb_point *step, std::uint32_t *solids, gwb_refusal *why)
+{
+    if (count == 0)
+        return gwb_is_open(g) ? GWB_NO_CALL : GWB_CLOSED;
+    return made(
+        g, why, [&](Attempts &bench, Together &commands, Known &) { return patterned(bench, commands, Solid(solid), count, *step); },
+        [&](const std::vector<Solid> &row) { write(row, solids); });
+}
+
+gwb_kind gwb_scale(gwb *g, std::int64_t factor, gwb_refusal *why)
+{
+    return made(
+        g, why,
+        [&](Attempts &bench, Together &, Known &) -> Result<bool> {
+            const Result<void> done = factor < 1 ? Result<void>(machining::refused(GWB_WHY_SIZE_RANGE, 1)) : all_scaled(bench, factor);
+            return done ? Result<bool>(true) : Result<bool>(done.error());
+        },
+        [](bool) {});
+}
+
+gwb_kind gwb_glue_all(gwb *g, const std::uint32_t *solids, std::size_t n, gwb_refusal *why)
+{
+    if (!gwb_is_open(g))
+        return GWB_CLOSED;
+    for (std::size_t at = 0; at < n; at++)
+        if (std::find(solids, solids + at, solids[at]) != solids + at)
+            return GWB_NO_CALL;
+    if (n == 0)
+        return GWB_NO_CALL;
+    return made(
+        g, why,
+        [&](Attempts &bench, Together &, Known &) -> Result<bool> {
+            const std::vector<Solid> all = solids_of(solids, n);
+            const Result<void> done = gluing::glue_all(bench, all);
+            return done ? Result<bool>(true) : Result<bool>(done.error());
+        },
+        [](bool) {});
 }
 
 gwb_kind gwb_split_solid(gwb *g, std::uint32_t solid, const gwb_cut_plane *plane, std::uint32_t above, gwb_refusal *why)

@@ -10,6 +10,7 @@
 /// elsewhere and with other numbers. All take as many operators as the solid has edges, and a few for each ring, handle and part of it.
 #ifndef GWB_FEATURES_SOLIDS_HPP
 #define GWB_FEATURES_SOLIDS_HPP
+#include "exact.hpp"
 #include "gwb.hpp"
 #include "gwb_features.h"
 #include "stopping.hpp"
@@ -17,10 +18,17 @@
 
 namespace gwb_session {
 
-/// Where points go (gwb_motion), with the axes from 0 on.
+/// Where points go (gwb_motion), and how many times as far out they lie first.
 class Motion {
 public:
     explicit Motion(const gwb_motion &motion) : motion_(motion) {}
+    static Motion by(const gwb_point &way) { return Motion({{1, 2, 3}, way}); }
+    static Motion scaled(std::int64_t factor)
+    {
+        Motion motion = by({0, 0, 0});
+        motion.factor_ = factor;
+        return motion;
+    }
 
     /// Whether each coordinate of a point goes to one of its image.
     [[nodiscard]] bool is_one() const
@@ -33,9 +41,12 @@ public:
     }
     [[nodiscard]] Point operator()(Point point) const
     {
-        const std::array<std::int64_t, 3> parts = {point.x, point.y, point.z};
-        const auto part = [&](std::size_t at) { return motion_.axes[at] < 0 ? -parts[from(motion_.axes[at])] : parts[from(motion_.axes[at])]; };
-        return {part(0) + motion_.by.x, part(1) + motion_.by.y, part(2) + motion_.by.z};
+        const std::array<exact::Wide, 3> parts = {point.x, point.y, point.z};
+        const auto part = [&](std::size_t at, std::int64_t by) {
+            const exact::Wide image = parts[from(motion_.axes[at])] * factor_;
+            return in_64_bits((motion_.axes[at] < 0 ? -image : image) + by);
+        };
+        return {part(0, motion_.by.x), part(1, motion_.by.y), part(2, motion_.by.z)};
     }
     /// Whether left becomes right.
     [[nodiscard]] bool is_mirror() const
@@ -46,7 +57,15 @@ public:
 
 private:
     static std::size_t from(std::int32_t axis) { return static_cast<std::size_t>(axis < 0 ? -axis : axis) - 1; }
+    /// A coordinate that is out of range stays so.
+    static std::int64_t in_64_bits(exact::Wide coordinate)
+    {
+        constexpr exact::Wide most = 4 * exact::Wide{exact::farthest};
+        return static_cast<std::int64_t>(std::max(-most, std::min(coordinate, most)));
+    }
+
     gwb_motion motion_;
+    std::int64_t factor_ = 1;
 };
 
 /// Lists of what was made, by enum gwb_list.
@@ -423,6 +442,43 @@ inline Result<Solid> copied(Attempts &bench, Together &commands, Solid solid, co
         return done.error();
     commands.take_back();
     return parts.make(motion, false, &lists);
+}
+
+/// A row of so many solids, of which one is the first, each by a vector from the one before it: those that are new.
+inline Result<std::vector<Solid>> patterned(Attempts &bench, Together &commands, Solid solid, std::uint32_t count, const gwb_point &step)
+{
+    TakenApart parts(bench);
+    const Result<void> done = parts.take(solid);
+    if (!done)
+        return done.error();
+    commands.take_back();
+    std::vector<Solid> row;
+    for (std::uint32_t place = 1; place < count; place++) {
+        const gwb_point way = Motion::scaled(place)(step);
+        const Result<Solid> made = parts.make(Motion::by(way), false);
+        if (!made)
+            return made.error();
+        row.push_back(*made);
+    }
+    return row;
+}
+
+/// All solids so many times as large, with the numbers that they have.
+inline Result<void> all_scaled(Attempts &bench, std::int64_t factor)
+{
+    std::vector<Solid> solids;
+    for (Solid solid : bench.numbers<Solid>())
+        solids.push_back(solid);
+    for (Solid solid : solids) {
+        TakenApart parts(bench);
+        const Result<void> done = parts.take(solid);
+        if (!done)
+            return done;
+        const Result<Solid> made = parts.make(Motion::scaled(factor), true);
+        if (!made)
+            return made.error();
+    }
+    return {};
 }
 
 /// A solid lies elsewhere, with the numbers that it has.

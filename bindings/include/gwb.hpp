@@ -200,6 +200,8 @@ enum class Misfit : std::uint32_t {
     not_of_face,         ///< edge X is none of the face
     flat_edge,           ///< the faces of edge X lie in one plane
     nothing_left,        ///< nothing of solid X would be left
+    no_match,            ///< no face of solid X matches one of those that are joined
+    glued_twice,         ///< face X matches another one besides, which it would touch after the gluing
 };
 
 /// The name of what isn't possible, as Python's session has it.
@@ -219,6 +221,8 @@ enum class Misfit : std::uint32_t {
     case Misfit::not_of_face: return "NotOfFace";
     case Misfit::flat_edge: return "FlatEdge";
     case Misfit::nothing_left: return "NothingLeft";
+    case Misfit::no_match: return "NoMatch";
+    case Misfit::glued_twice: return "GluedTwice";
     }
     return "";
 }

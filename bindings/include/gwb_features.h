@@ -1,5 +1,5 @@
 /** @file gwb_features.h
- * Features of a session of gwb.h: whole solids killed, copied and moved; profiles, rings, pockets, bosses, holes, notches, slots, grooves,
+ * Features of a session of gwb.h: whole solids killed, copied, moved, scaled and glued; profiles, rings, pockets, bosses, holes, notches, slots, grooves,
  * shoulders and chamfers; and what is to be said of a cut whose points aren't whole. Not with libgwb_c.a alone.
  *
  * Each is one command, or steps of the draft that is open. It answers
@@ -31,7 +31,9 @@ enum gwb_misfit {
     GWB_MISFIT_NOT_PARALLEL,        /**< face X, behind the outline, isn't parallel */
     GWB_MISFIT_NOT_OF_FACE,         /**< edge X is none of the face */
     GWB_MISFIT_FLAT_EDGE,           /**< the faces of edge X lie in one plane */
-    GWB_MISFIT_NOTHING_LEFT         /**< nothing of solid X would be left */
+    GWB_MISFIT_NOTHING_LEFT,        /**< nothing of solid X would be left */
+    GWB_MISFIT_NO_MATCH,            /**< no face of solid X matches one of those that are joined */
+    GWB_MISFIT_GLUED_TWICE          /**< face X matches another one besides, which it would touch after the gluing */
 };
 
 /** The name of a misfit, as "OffLattice": "" where there is none. */
@@ -74,6 +76,15 @@ enum gwb_kind gwb_move_solid(gwb *g, uint32_t solid, const gwb_motion *motion, g
 typedef struct gwb_cut_plane {
     int64_t a, b, c, d;
 } gwb_cut_plane;
+
+/** A row of `count` solids, of which this is the first, each by the step from the one before it: `solids` has the count - 1 that are new, whose
+ * numbers are above all in use. Refused: NoSolid; PointRange; NumberRange. GWB_NO_CALL where `count` is 0. */
+enum gwb_kind gwb_pattern(gwb *g, uint32_t solid, uint32_t count, const gwb_point *step, uint32_t *solids, gwb_refusal *why);
+/** All coordinates times the factor; numbers stay, some edges may run the other way. Refused: SizeRange, where the factor is below 1; PointRange. */
+enum gwb_kind gwb_scale(gwb *g, int64_t factor, gwb_refusal *why);
+/** The `n` solids become the first, glued along the faces that match: those without rings that go through the same points in opposite directions.
+ * Refused: NoSolid; what gwb_glue refuses. Not possible: NO_MATCH; GLUED_TWICE. GWB_NO_CALL where a number stands twice, or `n` is 0. */
+enum gwb_kind gwb_glue_all(gwb *g, const uint32_t *solids, size_t n, gwb_refusal *why);
 
 /** What gwb_split does. Lists: the caps. Refused as gwb_split. */
 enum gwb_kind gwb_split_solid(gwb *g, uint32_t solid, const gwb_cut_plane *plane, uint32_t above, gwb_refusal *why);

@@ -226,6 +226,40 @@ template <class Policy> typename Policy::template Returned<void> move_solid(Comm
     return bench.feature("move_solid", [&](gwb *g, gwb_refusal *why) { return gwb_move_solid(g, solid.number(), &motion.row(), why); }, [] {});
 }
 
+/// A row of so many solids, of which this is the first, each by the step from the one before it: those that are new. NoCall where there are none.
+template <class Policy>
+typename Policy::template Returned<std::vector<Solid>> pattern(Commands<Policy> &bench, Solid solid, std::uint32_t count, Point step)
+{
+    std::vector<std::uint32_t> numbers(count);
+    std::vector<Solid> row(count > 0 ? count - 1 : 0);
+    std::uint32_t none = 0;
+    return bench.feature(
+        "pattern",
+        [&](gwb *g, gwb_refusal *why) {
+            return gwb_pattern(g, solid.number(), count, &step, numbers.empty() ? &none : numbers.data(), why);
+        },
+        [&] {
+            std::transform(numbers.begin(), numbers.end() - 1, row.begin(), [](std::uint32_t number) { return Solid(number); });
+            return std::move(row);
+        });
+}
+
+/// All coordinates times the factor; numbers stay.
+template <class Policy> typename Policy::template Returned<void> scale(Commands<Policy> &bench, std::int64_t factor)
+{
+    return bench.feature("scale", [&](gwb *g, gwb_refusal *why) { return gwb_scale(g, factor, why); }, [] {});
+}
+
+/// The solids become the first, glued along the faces that match. NoCall where one stands twice, or there are none.
+template <class Policy> typename Policy::template Returned<void> glue_all(Commands<Policy> &bench, Items<Solid> solids)
+{
+    std::vector<std::uint32_t> numbers;
+    numbers.reserve(solids.size() + 1); // so that it has an address
+    for (Solid solid : solids)
+        numbers.push_back(solid.number());
+    return bench.feature("glue_all", [&](gwb *g, gwb_refusal *why) { return gwb_glue_all(g, numbers.data(), numbers.size(), why); }, [] {});
+}
+
 /// What the command split does, with the faces that close both parts. Refused as split.
 template <class Policy>
 typename Policy::template Returned<Split> split_solid(Commands<Policy> &bench, Solid solid, const gwb_cut_plane &plane, Solid above)

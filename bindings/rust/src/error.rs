@@ -69,6 +69,10 @@ pub enum Misfit {
     FlatEdge,
     /// Nothing of solid X would be left.
     NothingLeft,
+    /// No face of solid X matches one of those that are joined.
+    NoMatch,
+    /// Face X matches another one besides, which it would touch after the gluing.
+    GluedTwice,
 }
 
 impl fmt::Display for Error {

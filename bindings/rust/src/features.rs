@@ -180,9 +180,10 @@ mod list {
     pub const UPPER_CAPS: u32 = 8;
 }
 
-const MISFITS: [Misfit; 13] = [
+const MISFITS: [Misfit; 15] = [
     Misfit::NoArea, Misfit::NotInPlane, Misfit::OutlineCrossed, Misfit::AlongPlane, Misfit::OutlineOutside, Misfit::OutlineAroundRing,
     Misfit::OffLattice, Misfit::Meets, Misfit::NoOpposite, Misfit::NotParallel, Misfit::NotOfFace, Misfit::FlatEdge, Misfit::NothingLeft,
+    Misfit::NoMatch, Misfit::GluedTwice,
 ];
 
 fn rows(points: &[impl Copy + Into<Point>]) -> Vec<gwb_sys::Point> {
@@ -259,6 +260,27 @@ impl Draft<'_> {
             edges: self.made_pairs(list::EDGES).into_iter().map(edge).collect(),
             vertices: self.made_pairs(list::VERTICES),
         })
+    }
+
+    /// A row of so many solids, of which this is the first, each by the step from the one before it: those that are new.
+    #[allow(clippy::missing_errors_doc)]
+    pub fn pattern(&mut self, solid: Solid, count: u32, step: impl Into<Point>) -> Result<Vec<Solid>, Error> {
+        let (step, mut row) = (gwb_sys::Point::from(step.into()), vec![0; count.saturating_sub(1) as usize]);
+        self.feature(|g, why| unsafe { gwb_sys::gwb_pattern(g, solid.0, count, &step, row.as_mut_ptr(), why) })?;
+        Ok(row.into_iter().map(Solid).collect())
+    }
+
+    /// All coordinates times the factor; numbers stay.
+    #[allow(clippy::missing_errors_doc)]
+    pub fn scale(&mut self, factor: i64) -> Result<(), Error> {
+        self.feature(|g, why| unsafe { gwb_sys::gwb_scale(g, factor, why) })
+    }
+
+    /// The solids become the first, glued along the faces that match.
+    #[allow(clippy::missing_errors_doc)]
+    pub fn glue_all(&mut self, solids: &[Solid]) -> Result<(), Error> {
+        // `Solid` is a transparent u32
+        self.feature(|g, why| unsafe { gwb_sys::gwb_glue_all(g, solids.as_ptr().cast(), solids.len(), why) })
     }
 
     /// What [`split`](crate::Operators::split) does, with the faces that close both parts.
@@ -379,6 +401,9 @@ macro_rules! also_alone {
 also_alone! {
     kill_solid(solid: Solid) -> ();
     copy_solid(solid: Solid, motion: Motion) -> Copied;
+    pattern(solid: Solid, count: u32, step: impl Into<Point>) -> Vec<Solid>;
+    scale(factor: i64) -> ();
+    glue_all(solids: &[Solid]) -> ();
     split_solid(solid: Solid, plane: [i64; 4], above: impl Into<Option<Solid>>) -> Split;
     move_solid(solid: Solid, motion: Motion) -> ();
     profile(solid: impl Into<Option<Solid>>, points: &[impl Copy + Into<Point>], along: impl Into<Point>) -> Profile;

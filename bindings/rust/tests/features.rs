@@ -1,5 +1,5 @@
 //! Solids from outside: killed, copied, moved, turned and mirrored.
-use gwb::{lone, minus, plus, Error, Face, Motion, Point, Refusal, Session, Solid};
+use gwb::{lone, minus, plus, Error, Face, Misfit, Motion, Point, Refusal, Session, Solid};
 
 type Corners = Vec<Point>;
 
@@ -193,4 +193,17 @@ fn triangles() {
     assert_eq!(session.triangle_rows(solid), Ok(all.clone()));
     assert_eq!(session.triangle_rows(None), Ok(all));
     assert_eq!(session.triangles(Face(999)), Ok(Vec::new()));
+}
+
+/// A row of blocks, glued to one, all of it three times as large.
+#[test]
+fn a_row_is_glued_and_scaled() {
+    let mut session = Session::new().unwrap();
+    let block = session.block(None, [0, 0, 0], [4, 4, 4]).unwrap();
+    assert_eq!(session.pattern(block, 3, [4, 0, 0]), Ok(vec![Solid(2), Solid(3)]));
+    assert_eq!(session.glue_all(&[block, Solid(3)]), Err(Error::Impossible { misfit: Misfit::NoMatch, value: 3 }));
+    assert_eq!((session.glue_all(&[]), session.pattern(block, 0, [1, 0, 0])), (Err(Error::NoCall), Err(Error::NoCall)));
+    session.glue_all(&[block, Solid(2), Solid(3)]).unwrap();
+    session.scale(3).unwrap();
+    assert_eq!((session.six_volumes(block), session.depth()), (Ok(6 * 27 * 3 * 64), 4));
 }

@@ -352,6 +352,9 @@ extern "C" {
     pub fn gwb_script(g: *const Gwb, first: usize, n: usize, buf: *mut u8, room: usize) -> usize;
     pub fn gwb_stop_by(g: *mut Gwb, stop: Option<Stop>, user: *mut c_void);
 
+    pub fn gwb_pattern(g: *mut Gwb, solid: u32, count: u32, step: *const Point, solids: *mut u32, why: *mut Refusal) -> u32;
+    pub fn gwb_scale(g: *mut Gwb, factor: i64, why: *mut Refusal) -> u32;
+    pub fn gwb_glue_all(g: *mut Gwb, solids: *const u32, n: usize, why: *mut Refusal) -> u32;
     pub fn gwb_split_solid(g: *mut Gwb, solid: u32, plane: *const CutPlane, above: u32, why: *mut Refusal) -> u32;
     pub fn gwb_off_lattice(g: *const Gwb, solid: u32, plane: *const CutPlane, most: usize, advice: *mut *mut Advice, why: *mut Refusal) -> u32;
     pub fn gwb_advice_free(advice: *mut Advice);

@@ -1,0 +1,74 @@
+/// @file gluing.hpp Solids glued along the faces that match.
+#ifndef GWB_FEATURES_GLUING_HPP
+#define GWB_FEATURES_GLUING_HPP
+#include "machining.hpp"
+
+namespace gwb_session::gluing {
+
+using machining::impossible;
+using machining::Path;
+using exact::Vector;
+
+/// A face of a solid.
+struct Side {
+    Solid solid;
+    Face face;
+};
+
+/// Two faces of different solids that go through the same points in opposite directions.
+struct Match {
+    Side one, other;
+};
+
+/// A closed path from its least point on.
+inline Path from_least(Path path)
+{
+    std::rotate(path.begin(), std::min_element(path.begin(), path.end()), path.end());
+    return path;
+}
+
+/// The faces that match, in the order of the solids and their faces. Faces with rings match none.
+inline Result<std::vector<Match>> matches(const Attempts &bench, Items<Solid> solids)
+{
+    std::map<Path, std::vector<Side>> seen;
+    std::vector<Match> found;
+    for (Solid solid : solids) {
+        if (bench.faces(solid).empty())
+            return machining::refused(GWB_WHY_NO_SOLID, solid.number());
+        for (Face face : bench.faces(solid)) {
+            go_on();
+            if (!bench.rings(face).empty())
+                continue;
+            const Path path = from_least(machining::loops_at(bench, face)[0]);
+            for (const Side &side : seen[from_least(Path(path.rbegin(), path.rend()))])
+                if (side.solid != solid)
+                    found.push_back({side, {solid, face}});
+            seen[path].push_back({solid, face});
+        }
+    }
+    return found;
+}
+
+/// Glues solids along the faces that match, so that each is joined once to what hangs on the first: that is all of them then.
+inline Result<void> glue_all(Attempts &bench, Items<Solid> solids)
+{
+    Result<std::vector<Match>> left = matches(bench, solids);
+    if (!left)
+        return left.error();
+    std::set<Solid> joined = {*solids.begin()};
+    const auto has_one = [&](const Match &match) { return joined.count(match.one.solid) != joined.count(match.other.solid); };
+    for (auto next = left->begin(); (next = std::find_if(left->begin(), left->end(), has_one)) != left->end(); left->erase(next)) {
+        const bool is_first = joined.count(next->one.solid) != 0;
+        const Result<void> glued = is_first ? bench.glue(next->one.face, next->other.face) : bench.glue(next->other.face, next->one.face);
+        if (!glued)
+            return glued;
+        joined.insert({next->one.solid, next->other.solid});
+    }
+    for (Solid solid : solids)
+        if (joined.count(solid) == 0)
+            return impossible(Misfit::no_match, solid.number());
+    return left->empty() ? Result<void>() : Result<void>(impossible(Misfit::glued_twice, left->front().one.face.number()));
+}
+
+} // namespace gwb_session::gluing
+#endif
