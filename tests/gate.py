@@ -40,7 +40,8 @@ ALWAYS = ['sh', 'env', 'dirname', 'realpath', 'mktemp', 'rm', 'date']
 
 def run(words: Sequence[str], folder: Path = TOP, **more: str) -> 'subprocess.CompletedProcess[str]':
     """The ended run of a command, with what it wrote to both outputs."""
-    return subprocess.run(words, cwd=folder, env={**os.environ, **more}, stdout=subprocess.PIPE, stderr=subprocess.STDOUT, text=True, timeout=120)
+    environment = {**os.environ, 'MAKEFLAGS': '', **more}
+    return subprocess.run(words, cwd=folder, env=environment, stdout=subprocess.PIPE, stderr=subprocess.STDOUT, text=True, timeout=120)
 
 
 def missing() -> Iterator[str]:
@@ -76,10 +77,11 @@ def without_tools(folder: Path) -> Iterator[str]:
 def helped() -> Iterator[str]:
     """Each script prints what it does where it is asked for help, and refuses what it doesn't take. The gate is tried as a stub below."""
     scripts = [path for folder in ('tests', '.ci') for path in sorted((TOP / folder).iterdir()) if path.is_file() and os.access(path, os.X_OK)]
+    scripts.append(TOP / 'companions' / 'tests' / 'run.py')
     for path in scripts:
         if path != TOP / '.ci' / 'run':
             help_, other = run([str(path), '--help']), run([str(path), '--no-such-word'])
-            is_so = (help_.returncode, other.returncode) == (0, 2) and f'{path.parent.name}/{path.name}' in help_.stdout
+            is_so = (help_.returncode, other.returncode) == (0, 2) and str(path.relative_to(TOP)) in help_.stdout
             yield '' if is_so else f'{path}: status {help_.returncode} for help, {other.returncode} for a word that it does not take'
 
 

@@ -7,6 +7,7 @@ PROGRAM is what GWB names, or crates/gwb/out/gwb, where none is given; LIBRARY i
 session in Python, is named as skipped: tests/library_companions.py tries that.
 """
 
+import argparse
 import os
 import sys
 import unittest
@@ -17,8 +18,9 @@ from support import REPOSITORY, TESTS
 
 def main() -> int:
     """The status: 0 where no test failed."""
-    named = sys.argv[1] if len(sys.argv) > 1 else os.environ.get('GWB') or REPOSITORY / 'crates' / 'gwb' / 'out' / 'gwb'
-    program = os.path.abspath(named)
+    parser = argparse.ArgumentParser('companions/tests/run.py', description=__doc__, formatter_class=argparse.RawDescriptionHelpFormatter)
+    parser.add_argument('program', nargs='?', metavar='PROGRAM', default=os.environ.get('GWB') or REPOSITORY / 'crates' / 'gwb' / 'out' / 'gwb')
+    program = os.path.abspath(parser.parse_args().program)
     if not os.path.isfile(program):
         print(f'there is no program {program}', '0 passed, 1 failed', sep='\n')
         return 1
