@@ -155,6 +155,13 @@ def volumes(n):
             yield 'block %d %d 0 0 4 4 4' % (i // 2 + 1, 5 * i)
 
 
+@family('block', '`block` above all numbers in use; after 80,000 of them all are undone')
+def block_new(n):
+    for k in range(n):
+        i = k % 160000
+        yield 'undo' if i >= 80000 else 'block %d %d 0 0 4 4 4' % (i + 1, 5 * i)
+
+
 @family('block_undone', '`block` and `undo` in turn')
 def block_undone(n):
     return in_turn(['block 1 0 0 0 4 4 4', 'undo'], n)
@@ -181,6 +188,11 @@ def storms(n):
 
 @family('undo_redo', 'one command undone and redone in turn', before=lambda n: ['mvfs 1 1 1 1 0 0 0'])
 def undo_redo(n):
+    return in_turn(['undo', 'redo'], n)
+
+
+@family('split_redone', 'a `split` of a block undone and redone in turn', before=lambda n: [*block_alone(n), 'split 1 1 0 0 -2 2'])
+def split_redone(n):
     return in_turn(['undo', 'redo'], n)
 
 
