@@ -15,6 +15,7 @@ from ..protocol.complaints import complaint
 from ..protocol.language import command_bytes
 from ..protocol.replies import ACCEPTED, Reply, only_reply
 from ..version import VERSION
+from .results import Plane
 
 WORD, SIZE, ADDRESS = ctypes.c_uint32, ctypes.c_size_t, ctypes.c_void_p
 OK, REFUSED, MEMORY, CLOSED, IN_DRAFT, NO_DRAFT, IMPOSSIBLE = 1, 2, 4, 9, 11, 12, 13
@@ -26,6 +27,7 @@ _CLOSED_TEXT = 'the session is closed'
 _NO_ANSWERS: Dict[int, Tuple[Type[CompanionError], str]] = {
     CLOSED: (Ended, _CLOSED_TEXT), IN_DRAFT: (InDraft, 'a draft is open, in which nothing is undone or redone'), NO_DRAFT: (NoDraft, 'there is no draft')}
 _FOUND = 1
+_PLANE = 5
 _MAJOR = int(VERSION.split('.')[0])
 _PACKAGE = Path(__file__).resolve().parents[1]
 
@@ -60,6 +62,18 @@ class Refusal(ctypes.Structure):
     _fields_ = [('number', WORD), ('value', WORD)]
 
 
+class Wide(ctypes.Structure):
+    """A number of 128 bits."""
+
+    _fields_ = [('high', ctypes.c_int64), ('low', ctypes.c_uint64)]
+
+
+class PlaneRow(ctypes.Structure):
+    """What the library says of the plane of a face."""
+
+    _fields_ = [('numbers', Wide * 4), ('flat', WORD)]
+
+
 class Range(ctypes.Structure):
     """The first and the last of the fresh numbers of a kind."""
 
@@ -77,7 +91,7 @@ _READERS: Dict[str, Tuple[Any, List[Any]]] = {
     'number_after': (WORD, [WORD, WORD, _WORDS]), 'face': (WORD, [WORD, ctypes.POINTER(FaceRow)]), 'ring_after': (WORD, [WORD, WORD, _WORDS]),
     'face_after': (WORD, [WORD, WORD, _WORDS]), 'loop': (WORD, [WORD, _WORDS]), 'lone_vertex': (WORD, [WORD, _WORDS]),
     'edge': (WORD, [WORD, ctypes.POINTER(EdgeRow)]), 'vertex': (WORD, [WORD, ctypes.POINTER(Point)]),
-    'half_edge_loop': (WORD, [WORD, _WORDS]), 'fresh': (WORD, [WORD, ctypes.POINTER(Range)])}
+    'plane': (WORD, [WORD, ctypes.POINTER(PlaneRow), ctypes.POINTER(Refusal)]), 'half_edge_loop': (WORD, [WORD, _WORDS]), 'fresh': (WORD, [WORD, ctypes.POINTER(Range)])}
 _CALLS: Dict[str, Tuple[Any, List[Any]]] = {
     'open': (ctypes.c_bool, []), 'close': (None, []), 'line': (WORD, [_TEXT, SIZE]), 'lines': (WORD, [_TEXT, SIZE, ctypes.POINTER(SIZE)]), 'draft': (WORD, []), 'commit': (WORD, []),
     'abandon': (WORD, []), 'back': (WORD, [SIZE]), 'record': (WORD, []), 'recorded': (SIZE, []), 'script': (SIZE, [SIZE, SIZE, _TEXT, SIZE]),
@@ -308,6 +322,15 @@ class Library:
         """The solid of a face; 0 where it is not there."""
         row = FaceRow()
         return int(row.solid) if self._found('face', face, row) else 0
+
+    def plane(self, face: int) -> Optional[Plane]:
+        """The plane of a face; None where it is not there."""
+        row = PlaneRow()
+        self.require_open()
+        if self.library.plane(self.handle, face, row, Refusal()) != _PLANE:
+            return None
+        a, b, c, d = (number.high << 64 | number.low for number in row.numbers)
+        return Plane(a, b, c, d, bool(row.flat))
 
     def loop(self, loop: int) -> Optional[Loop]:
         """A loop; None where it is not there."""

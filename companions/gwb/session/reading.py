@@ -3,9 +3,8 @@
 from typing import Callable, Generic, Iterable, Iterator, Optional, Protocol, Sequence, Tuple, TypeVar, Union, overload
 
 from ..errors import NotOne, Refused
-from ..geometry.measures import area_vector
 from ..geometry.model import Face, Loop
-from ..geometry.vectors import Vector, ZERO, dot, subtract, total
+from ..geometry.vectors import Vector, ZERO, dot, subtract
 from ..protocol.language import refusal
 from .turns import PartOfTurns
 
@@ -21,6 +20,7 @@ class Reader(Protocol):
     def faces_of(self, solid: int) -> Tuple[int, ...]: ...
     def face(self, face: int) -> Optional[Face]: ...
     def solid_of(self, face: int) -> int: ...
+    def plane(self, face: int) -> 'Optional[Tuple[int, int, int, int, bool]]': ...
     def loop(self, loop: int) -> Optional[Loop]: ...
     def face_of_loop(self, loop: int) -> int: ...
     def edge(self, edge: int) -> Optional[Tuple[int, int]]: ...
@@ -303,7 +303,10 @@ class FacePart(Part):
     @property
     def normal(self) -> Vector:
         """Its normal, twice its area long: the first three numbers of its plane."""
-        return total(area_vector(loop.points) for loop in self.loops)
+        found = self._read().plane(self.number)
+        if found is None:
+            raise self._none()
+        return found[:3]
 
     def _row(self) -> Face:
         found = self._read().face(self.number)

@@ -48,12 +48,12 @@ class Selecting(Methods):
             level = arguments.plane('plane', plane)
             if level[:3] == ZERO:
                 raise ValueError('plane: a, b and c are all zero')
-            tests.append(lambda face: all(dot(level[:3], point) + level[3] == 0 for point in face.points))
+            tests.append(lambda face: all(dot(level[:3], vertex.point) + level[3] == 0 for loop in face.loops for vertex in loop.vertices))
         if normal is not None:
             way = arguments.point('normal', normal)
             if way == ZERO:
                 raise ValueError('normal: it is zero')
-            tests.append(lambda face: face.normal != ZERO and same_direction(face.normal, way) and _is_flat(face))
+            tests.append(lambda face: _looks(face.normal, way) and _is_flat(face))
         if containing is not None:
             place = arguments.point('containing', containing)
             tests.append(lambda face: _contains(self._bench, face, place))
@@ -108,6 +108,11 @@ def _faces_in(bench: Bench, solid: Optional[arguments.Solid]) -> Sequence[FacePa
     return SolidPart(bench.kernel, bench.number('solid', solid)).faces
 
 
+def _looks(normal: Vector, way: Vector) -> bool:
+    """Whether a normal is one and points the way."""
+    return normal != ZERO and same_direction(normal, way)
+
+
 def _is_flat(face: FacePart) -> bool:
     origin, across = face.outer.points[0], face.normal
     level = dot(across, origin)
@@ -116,6 +121,9 @@ def _is_flat(face: FacePart) -> bool:
 
 def _contains(bench: Bench, face: FacePart, point: Vector) -> bool:
     """Whether a face is flat and plain, and the point lies inside or on its outline."""
+    level = bench.kernel.lines.plane(face.number)
+    if level is None or not level.flat or dot(level[:3], point) + level.d != 0:
+        return False
     model = bench.model_of([face.number])
     if why_unfit(model, face.number) is not None:
         return False
