@@ -16,12 +16,6 @@ ended o L S G (Refused r) h = inr (inl (r, refl, h.0, h.1))
 ended o L S G Memory h = inr (inr (refl, h.1))
 ended o L S G a h = absurd h
 
-pub not_done : (r : Refusal) → Refused r ≢ Done
-not_done r e = cc
-
-pub memory_not_done : Memory ≢ Done
-memory_not_done e = cc
-
 -- what isn't done stays
 pub stays : (o : Option Refusal) (L S G : Type 0) (a : Told) → a ≢ Done → Settled o L S G a → S
 stays o L S G a other h = elim (ended o L S G a h) [

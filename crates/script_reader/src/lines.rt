@@ -66,7 +66,7 @@ impl<R: Read> Lines<R> {
     ghost use Rattle.script_reader.specs.Next.{Went, Gives};
     ghost use Rattle.script_reader.specs.declared.lines.Ending.TheVariants.{Open, Ended};
     ghost use Rattle.script_reader.specs.Newline.{has_newline};
-    ghost use Rattle.script_reader.specs.State.{has_line, line_of, unread_of, IsStill};
+    ghost use Rattle.script_reader.specs.State.{line_of, unread_of, IsStill};
     ghost use Rattle.script_reader.specs.contracts.lines.Lines.{the_row};
     ghost use Rattle.std.specs.Io.BufRead.{Rests};
     ghost use Rattle.std.specs.Borrow.{sem};
@@ -171,13 +171,6 @@ impl<R: Read> Lines<R> {
         ensures { result ≡ has_newline (unread_of self.now) }
     {
         self.buffer.has_newline()
-    }
-
-    /// Whether the next answer is there without a further read.
-    pub fn has_line(&self) -> bool
-        ensures { result ≡ has_line self.now }
-    {
-        self.ending != Ending::Open || self.buffer.has_newline()
     }
 }
 
