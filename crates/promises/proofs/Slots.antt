@@ -6,9 +6,9 @@ use Rattle.call_lists.specs.Laws.{ListsKeepWhole}
 use Rattle.session_slots.specs.Common.{Slot}
 use Rattle.promises.specs.Slots.{SlotsMake, last_answer, SlotsMakeAll}
 
-made : (old new : Slot) (calls : List Call) (g : Stage) → old.stage ≡ Some g → SlotsMake old calls new
-    → (h : Stage) × (answers : List Told) × (new.stage ≡ Some h) × MakesAll g calls answers h × (new.answer ≡ last_answer old.answer answers)
-made old new [] g at x = (g, [], ap (λ (y : Slot). y.stage) x ∙ at, refl, ap (λ (y : Slot). y.answer) x)
+made : (old new : Slot) (calls : List Call) (g : Stage) → old.console.stage ≡ Some g → SlotsMake old calls new
+    → (h : Stage) × (answers : List Told) × (new.console.stage ≡ Some h) × MakesAll g calls answers h × (new.console.answer ≡ last_answer old.console.answer answers)
+made old new [] g at x = (g, [], ap (λ (y : Slot). y.console.stage) x ∙ at, refl, ap (λ (y : Slot). y.console.answer) x)
 made old new (c ∷ calls) g at x =
     let one = x.1 g at in
     let rest = made x.0 new calls one.0 one.2 x.2 in

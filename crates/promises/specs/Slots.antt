@@ -17,5 +17,5 @@ last_answer b (a ∷ answers) = last_answer (answer_after b a) answers
 
 -- so they are a list of calls of the session or draft in it, which stays whole, and the slot keeps what the last one was told
 abbrev pub SlotsMakeAll : Type 0
-SlotsMakeAll = (old new : Slot) (calls : List Call) (g : Stage) → old.stage ≡ Some g → IsWhole g → SlotsMake old calls new
-    → (h : Stage) × (answers : List Told) × (new.stage ≡ Some h) × MakesAll g calls answers h × IsWhole h × (new.answer ≡ last_answer old.answer answers)
+SlotsMakeAll = (old new : Slot) (calls : List Call) (g : Stage) → old.console.stage ≡ Some g → IsWhole g → SlotsMake old calls new
+    → (h : Stage) × (answers : List Told) × (new.console.stage ≡ Some h) × MakesAll g calls answers h × IsWhole h × (new.console.answer ≡ last_answer old.console.answer answers)
