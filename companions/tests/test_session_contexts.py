@@ -203,6 +203,24 @@ class Labels(unittest.TestCase):
         self.bench.undo()
         self.assertEqual(self.names(), held)
 
+    def test_nor_after_what_changes_nothing(self):
+        for between in (lambda: self.bench.ask('volume 99'), lambda: self.bench.ask('block 1 0 0 0 0 0 0'), lambda: self.bench.ask('no command')):
+            self.bench.delete(self.base)
+            between()
+            self.assertEqual(self.bench.block((20, 0, 0), (1, 1, 1), solid=self.base.solid).top, self.base.top)
+            self.assertEqual(self.names(), {})
+            self.bench.undo()
+            self.bench.undo()
+            self.assertEqual(list(self.names().values()), ['base'])
+
+    def test_nor_after_a_draft_that_is_given_up(self):
+        self.bench.delete(self.base)
+        with self.assertRaises(GivenUp), self.bench.draft():
+            self.bench.block((20, 0, 0), (1, 1, 1))
+            raise GivenUp
+        self.assertEqual(self.bench.block((20, 0, 0), (1, 1, 1), solid=self.base.solid).top, self.base.top)
+        self.assertEqual(self.names(), {})
+
     def test_a_refusal_takes_none(self):
         self.bench.delete(self.base)
         self.assertRaises(Refused, self.bench.block, (0, 0, 0), (0, 0, 0))

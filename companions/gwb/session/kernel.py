@@ -108,12 +108,16 @@ class Kernel(Turns):
             raise OutOfStep('another call is under way')
         if frees:
             self.numbers.note()
-        with self._accounted(is_new):
-            self.has_changed()
-            if is_new:
-                self._forget_gone()
-            self._may_have_gone = self._may_have_gone or frees
-            return give()
+        before, was_told = self.notes.at, self._may_have_gone
+        try:
+            with self._accounted(is_new):
+                self.has_changed()
+                if is_new:
+                    self._forget_gone()
+                return give()
+        finally:
+            is_left = self.notes.at == before and not self.lines.is_drafting
+            self._may_have_gone = self._may_have_gone or frees or (was_told and is_left)
 
     @contextmanager
     def _accounted(self, is_new: bool) -> Iterator[None]:
@@ -127,11 +131,17 @@ class Kernel(Turns):
             self._is_giving = False
             self.settle()
 
+    def expect_loss(self) -> None:
+        """What comes takes something back: numbers may be free after it, and things may have gone that have labels."""
+        self.has_changed()
+        self.numbers.note()
+        self._may_have_gone = True
+
     def _forget_gone(self) -> None:
         """What is gone has no label any more, before a turn makes something that may have its number. Undo gives it back."""
         if not (self._is_first and self._may_have_gone and self.notes.labels):
             return
-        self._is_first = self._may_have_gone = False
+        self._is_first = self._may_have_gone = False    # (it may have gone still where nothing comes of what is given)
         for kind, number in [thing for thing in self.notes.labels if not self.lines.in_use(*thing)]:
             self.notes.drop((kind, number))
 

@@ -42,8 +42,7 @@ class _Draft:
 
     def _unless_kept(self) -> None:
         if not self._is_kept and self._kernel.lines.is_open:
-            self._kernel.has_changed()
-            self._kernel.numbers.note()
+            self._kernel.expect_loss()
             self.take_back()
 
     def _leave(self) -> None:
