@@ -291,6 +291,23 @@ class Scripts(unittest.TestCase):
                     bench.undo()
                 self.assertEqual((again.script(), bench.script()), ('', ''))
 
+    def test_steps_within_steps_of_a_file(self):
+        blocks = [f'block {number} {9 * number} 0 0 1 1 1' for number in range(1, 6)]
+        for lines, commands in (
+                (['# step of 5 commands'] * 3000 + blocks, 5),
+                (['# draft of 5 commands'] * 3000 + blocks, 1),
+                (['# step of 5 commands', '# draft of 3 commands', *blocks[:2], '# step of 9 commands', *blocks[2:]], 3),
+                (['# draft of 3 commands', '# step of 2 commands', *blocks], 3),
+                (['# step of 9 commands', *blocks], 5)):
+            with tempfile.TemporaryDirectory() as folder:
+                path = Path(folder) / 'part.gwb'
+                path.write_text(''.join(f'{line}\n' for line in lines))
+                with Workbench.load(path, library()) as bench:
+                    self.assertEqual(len(bench.solids()), 5)
+                    self.assertEqual(repr(bench), f'<Workbench, {commands} command{"" if commands == 1 else "s"} held>')
+                    bench.undo()
+                    self.assertEqual(len(bench.solids()), 0 if lines[0] != '# draft of 3 commands' else 4)
+
     def test_what_is_wrong_in_a_file_is_named_with_its_line(self):
         with tempfile.TemporaryDirectory() as folder:
             for name, text, words in (

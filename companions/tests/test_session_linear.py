@@ -94,7 +94,7 @@ class OnOneSolid(unittest.TestCase):
         self.assertLess(many, 2 * few)
 
     def test_notches_in_one_face(self):
-        """Within it and at its edge, where its outline changes; as many commands too."""
+        """Within it and at its edge, where its outline changes: what Python does for them. The library takes the whole solid apart."""
         for name, act in (
                 ('within', lambda bench, plate, number: bench.notch(plate.top, square(number % 20, number // 20), 3)),
                 ('at its edge', lambda bench, plate, number: bench.notch(plate.top, [
@@ -103,6 +103,10 @@ class OnOneSolid(unittest.TestCase):
             with self.subTest(name):
                 few, many = (self.calls(others, self.pocket, act) for others in (5, 80))
                 self.assertLess(many, 1.5 * few)
+
+    def test_the_area_of_a_face(self):
+        few, many = (self.calls(others, self.pocket, lambda bench, plate, _: bench.area(plate.bottom)) for others in (5, 80))
+        self.assertEqual(few, many)
 
     @staticmethod
     def notch(bench, plate, number):
