@@ -13,7 +13,7 @@ _MANY_CELLS = 256
 
 def box_of(points: Iterable[Sequence[Exact]]) -> Box:
     """The least box around the points: for each axis the least and the greatest coordinate."""
-    return tuple((min(axis), max(axis)) for axis in zip(*points))
+    return tuple([(min(axis), max(axis)) for axis in zip(*points)])
 
 
 def boxes_meet(a: Box, b: Box) -> bool:

@@ -9,6 +9,8 @@ from .vectors import Vector, ZERO, cross, dot, subtract, total
 
 def area_vector(points: Sequence[Vector]) -> Vector:
     """Twice the area that the closed path through the points goes round, as a vector."""
+    if len(points) == 3:
+        return cross(subtract(points[1], points[0]), subtract(points[2], points[0]))
     return total(cross(points[i - 1], points[i]) for i in range(len(points)))
 
 
@@ -19,7 +21,8 @@ def loop_normal(model: Model, loop: int) -> Vector:
 
 def normal(model: Model, face: int) -> Vector:
     """The face's normal: the sum over its loops."""
-    return total(loop_normal(model, loop) for loop in model.faces[face].loops)
+    row = model.faces[face]
+    return total(loop_normal(model, loop) for loop in row.loops) if row.rings else loop_normal(model, row.outer)
 
 
 def anchor(model: Model, face: int) -> Vector:
