@@ -1,8 +1,9 @@
 -- A call of a session or a draft is one of a history.
 use Rattle.std.proofs.Common.{◌≡◌, inl, inr, Option, List, [], ◌∷◌, refl, sym, ap, subst, ◌∙◌}
-use Rattle.call_lists.specs.Common.{Call, Change, Command, Commit, DraftJournal, DraftState, Drafting, Give, IsCall, IsFurther, IsWhole, Machine, Mark, MayLack, Op, Open, Refusal, Session, Stage, Tells, TellsDraft, Told, accepted, commit, draft_step, held, made, open_draft, plain, refusal_of, tried, unless}
+use Rattle.call_lists.specs.Common.{Call, Change, Command, Commit, DraftJournal, DraftState, Drafting, Give, IsCall, IsWhole, Machine, Mark, MayLack, Op, Open, Refusal, Session, Stage, Tells, TellsDraft, Told, accepted, commit, draft_step, held, made, open_draft, plain, refusal_of, tried, unless}
 use Rattle.euler_laws.specs.Laws.{AreAccepted, effects}
 use Rattle.undo_journal.specs.Histories as histories
+use Rattle.undo_journal.specs.Journal.{IsFurther}
 use Rattle.undo_journal.proofs.Journals.{same_machine}
 use Rattle.undo_journal.proofs.Marks.{further_session}
 use Rattle.commands.specs.Calls.{CommandsAreCalls}

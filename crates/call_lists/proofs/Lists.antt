@@ -1,5 +1,5 @@
 -- Lists of calls, one more at a time, and cut in two.
-use Rattle.std.proofs.Common.{◌≡◌, inl, inr, false, List, [], ◌∷◌, ◌++◌, refl, sym, ap, subst, ◌∙◌, append_assoc, ◌⊎◌}
+use Rattle.std.proofs.Common.{◌≡◌, inl, inr, false, List, [], ◌∷◌, ◌++◌, refl, ap, subst, ◌∙◌, append_assoc, ◌⊎◌}
 use Rattle.call_lists.specs.Common.{Call, Done, Stage, Tells, Told}
 use Rattle.commands.proofs.Kept.{only_done_changes}
 use Rattle.call_lists.specs.Making.{MakesAll, AreTold}

@@ -5,8 +5,8 @@ use Rattle.euler_operators.specs.Common.{Model}
 use Rattle.euler_operators.specs.declared.Op.{Op}
 use Rattle.euler_laws.specs.Laws.{AreAccepted, effects}
 use Rattle.euler_laws.proofs.Common.{AreAccepted-front, effects-append}
-use Rattle.call_lists.specs.Common.{Abandon, Back, Call, Change, Command, Commit, Done, DraftJournal, Drafting, Give, IsFurther, Mark, MayLack, NoDraft, Open, OpenDraft, Session, Stage, Tells, TellsDraft, Told, held, made, refusal_of}
-use Rattle.undo_journal.specs.Journal.{IsMark, back_at, each_inverse, new_draft}
+use Rattle.call_lists.specs.Common.{Back, Call, Change, Command, Done, DraftJournal, Drafting, Give, Mark, MayLack, NoDraft, Open, OpenDraft, Session, Stage, Tells, TellsDraft, Told, held, made, refusal_of}
+use Rattle.undo_journal.specs.Journal.{IsFurther, IsMark, back_at, each_inverse, new_draft}
 use Rattle.undo_journal.proofs.Marks.{each-length, each-take, further_none, further_same, further_on, back_at_mark}
 use Rattle.commands.specs.declared.command.Told.TheVariants as told
 use Rattle.commands.proofs.Settling.{ended}

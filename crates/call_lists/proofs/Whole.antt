@@ -1,13 +1,12 @@
 -- A list of calls is a history, and what it leads to is whole.
-use Rattle.std.proofs.Common.{◌≡◌, ◌∙◌, suc, inl, inr, List, [], ◌∷◌, ◌++◌, refl, sym, ap, subst, arith}
+use Rattle.std.proofs.Common.{◌≡◌, ◌∙◌, suc, inl, inr, List, [], ◌∷◌, refl, sym, ap, subst, arith}
 use Rattle.euler_operators.specs.Common.{Sound}
 use Rattle.euler_laws.proofs.Common.{effects_keep_sound}
 use Rattle.commands.specs.Calls.{CommandsAreCalls}
-use Rattle.undo_journal.specs.Journal.{IsMark, back_at}
+use Rattle.undo_journal.specs.Journal.{IsFurther, IsMark, back_at}
 use Rattle.undo_journal.proofs.Consistent.{consistent_call}
 use Rattle.undo_journal.proofs.Marks.{further_none, further_on, further_session}
-use Rattle.call_lists.specs.Common.{Abandon, Back, Call, Commit, DraftJournal, Drafting, Give, IsCall, IsConsistent, IsFurther, IsWhole, Journal, Machine, Mark, Open, Session, Stage, Tells, Told, after_calls, new_draft}
-use Rattle.call_lists.specs.Making.{MakesAll}
+use Rattle.call_lists.specs.Common.{Abandon, Back, Call, Commit, DraftJournal, Drafting, Give, IsCall, IsConsistent, IsWhole, Journal, Machine, Mark, Open, Session, Stage, Tells, Told, after_calls, new_draft}
 use Rattle.call_lists.specs.Laws.{machine_of, ListsAreHistories, ListsKeepWhole, EachIsWhole}
 use Rattle.call_lists.proofs.Histories.{stage_call}
 use Rattle.call_lists.proofs.Marks.{draft_goes, further_in}
