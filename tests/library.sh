@@ -113,7 +113,7 @@ tried 'the shared object and the examples in C and C++' make_here
 echo "the shared object and two examples took $(($(date +%s) - began)) seconds"
 prints 'the example in C' bindings/examples/block_c.expected "$dir/built/block_c"
 prints 'the example in C++' bindings/examples/block_cpp.expected "$dir/built/block_cpp"
-# The same with each block alone, as valgrind sees no blocks in pages: all but heap.o is the same.
+# The same with each block alone, so that valgrind sees each and each can be refused: all but heap.o is the same.
 cp -pr "$dir/built" "$dir/alone"
 rm -f "$dir/alone/heap.o" "$dir/alone/libgwb.a" "$dir/alone/block_c"
 tried 'the library with each block alone' make -C bindings "ARCHIVE=$archive" "OUT=$dir/alone" 'CFLAGS=-O2 -DGWB_BLOCKS_ALONE' "$dir/alone/libgwb.a" \
@@ -134,7 +134,7 @@ built() {
 }
 for standard in c++17 c++20; do
     built "the tests in C++ are built as $standard" library_cpp.cpp "${CXX:-c++}" "-std=$standard" -Wold-style-cast -Wshadow
-    counted "the tests in C++ as $standard" "$dir/built/library_cpp"
+    counted "the tests in C++ as $standard" "$dir/alone/library_cpp"
 done
 built 'the tests without exceptions are built' library_results.cpp "${CXX:-c++}" -std=c++17 -fno-exceptions -Wold-style-cast -Wshadow
 counted 'the tests without exceptions' "$dir/built/library_results"
@@ -145,7 +145,7 @@ counted 'solids killed, copied and moved' "$dir/built/library_features"
 built 'machining is built' library_machining.cpp "${CXX:-c++}" -std=c++17 -Wold-style-cast -Wshadow
 counted 'features and cuts as in Python, and beside unit cubes' "$dir/built/library_machining"
 built 'refused memory of features is built' library_features_refused.c "${CC:-cc}" -std=gnu11 -O2
-counted 'each allocation of features refused' "$dir/built/library_features_refused" 7
+counted 'each allocation of features refused' "$dir/alone/library_features_refused" 7
 built 'the record is built' library_record.c "${CC:-cc}" -std=gnu11 -O2
 counted 'the record of commands, given again' "$dir/built/library_record"
 counted 'the table of features, by Python' python3 tests/library_features.py "$dir/built/libgwb.so"

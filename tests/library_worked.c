@@ -427,10 +427,10 @@ static void measures(void)
 /* Which kinds are answers that were asked for, and that each has a text. */
 static void kinds_of_answers(void)
 {
-    const bool wanted[] = {true, true, false, false, false, true, true, true, true, false, false, false, false, false};
+    const bool wanted[] = {true, true, false, false, false, true, true, true, true, false, false, false, false, false, false, false};
     for (unsigned kind = 0; kind < COUNT(wanted); kind++) {
         HOLDS(gwb_succeeded((enum gwb_kind)kind) == wanted[kind]);
-        HOLDS((*gwb_kind_text((enum gwb_kind)kind) != '\0') == (kind <= GWB_NO_DRAFT));
+        HOLDS((*gwb_kind_text((enum gwb_kind)kind) != '\0') == (kind <= GWB_STOPPED));
     }
 }
 
