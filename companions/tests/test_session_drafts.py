@@ -482,7 +482,7 @@ class OutOfMemory(Twelve):
         self.caught(None)
         requests = self.requests
         told = sum(self.caught(request) for request in range(requests))
-        self.assertGreater(told, 30)
+        self.assertGreater(told, 5)    # (small blocks lie in pages, so there are few requests)
         for request in range(requests):
             self.not_caught(request)
 
