@@ -90,10 +90,8 @@ def filled_model(options: argparse.Namespace) -> Model:
 def wanted_model(options: argparse.Namespace) -> Model:
     """The model that the words of listing_parser name."""
     listed = read_listed(read_bytes(options.listing))
-    warn_of_later(options.program, listed)
     model = listed.model
-    if options.solid is None:
-        return model
-    if options.solid not in model.solids:
+    if options.solid is not None and options.solid not in model.solids:
         raise CompanionError(f'there is no solid {options.solid} in the listing')
-    return model.only(options.solid)
+    warn_of_later(options.program, listed)
+    return model if options.solid is None else model.only(options.solid)

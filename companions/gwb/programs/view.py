@@ -37,14 +37,12 @@ def is_script(data: bytes) -> bool:
 def _listed(options: argparse.Namespace, data: bytes) -> Listed:
     """The model of the last listing, or the one that a script leaves, or one of its solids."""
     listed = _ended(data) if is_script(data) else read_listed(data)
-    warn_of_later(PROGRAM, listed)
     if not listed.model.solids:
         raise CompanionError('the model is empty')
-    if options.solid is None:
-        return listed
-    if options.solid not in listed.model.solids:
+    if options.solid is not None and options.solid not in listed.model.solids:
         raise CompanionError(f'there is no solid {options.solid} in the listing')
-    return listed._replace(model=listed.model.only(options.solid))
+    warn_of_later(PROGRAM, listed)
+    return listed if options.solid is None else listed._replace(model=listed.model.only(options.solid))
 
 
 def _ended(script: bytes) -> Listed:
