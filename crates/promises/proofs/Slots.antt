@@ -1,9 +1,9 @@
 -- Calls of C are a list of calls.
-use Rattle.std.proofs.Common.{◌≡◌, ◌∙◌, ap, sym, refl, List, [], ◌∷◌, Some}
+use Rattle.std.proofs.Common.{◌≡◌, ◌∙◌, ap, refl, List, [], ◌∷◌, Some}
 use Rattle.call_lists.specs.Common.{Call, IsWhole, Stage, Told}
 use Rattle.call_lists.specs.Making.{MakesAll}
 use Rattle.call_lists.specs.Laws.{ListsKeepWhole}
-use Rattle.session_slots.specs.Common.{Slot}
+use Rattle.session_slots.specs.declared.slot.Slot.{Slot}
 use Rattle.promises.specs.Slots.{SlotsMake, last_answer, SlotsMakeAll}
 
 made : (old new : Slot) (calls : List Call) (g : Stage) → old.console.stage ≡ Some g → SlotsMake old calls new

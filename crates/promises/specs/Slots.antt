@@ -3,7 +3,9 @@ use Rattle.std.specs.Prelude.{◌≡◌, Some, List, [], ◌∷◌}
 use Rattle.call_lists.specs.Common.{Call, IsWhole, Stage, Told}
 use Rattle.call_lists.specs.Making.{MakesAll}
 use Rattle.script_running.specs.declared.script_judging.judging.Answer.{Answer}
-use Rattle.session_slots.specs.Common.{Slot, Slot_makes, answer_after}
+use Rattle.script_running.specs.script_judging.Consoles.{answer_after}
+use Rattle.session_slots.specs.Common.{Slot_makes}
+use Rattle.session_slots.specs.declared.slot.Slot.{Slot}
 
 -- calls one after the other, each on the slot to which those before it lead
 abbrev pub SlotsMake : Slot → List Call → Slot → Type 0
