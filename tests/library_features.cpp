@@ -404,6 +404,52 @@ static void try_refused_memory()
             }
 }
 
+// ---- work that its caller ends
+
+static long until_stopped = -1;
+
+// The feature ended at a question: whether there were so many.
+static bool try_stopped(const Feature &feature, bool is_drafting, long nth, const std::string &name)
+{
+    Workbench bench;
+    (void)bench.block({0, 0, 0}, {8, 8, 8});
+    std::optional<Draft> draft;
+    if (is_drafting)
+        draft.emplace(bench.draft());
+    (void)bench.block(Solid(7), {20, 0, 0}, {1, 1, 1});
+    const Held before = held(bench);
+    until_stopped = nth;
+    bench.stop_by([](void *) noexcept { return until_stopped-- == 0; }, nullptr);
+    bool was_stopped = false;
+    try {
+        feature(bench);
+    } catch (const Stopped &) {
+        was_stopped = true;
+    }
+    check(was_stopped == (until_stopped < 0) && (!was_stopped || is_same(held(bench), before)), name + ", question " + std::to_string(nth));
+    return was_stopped;
+}
+
+static void try_stops()
+{
+    const std::vector<Point> square = {{2, 2, 8}, {4, 2, 8}, {4, 4, 8}, {2, 4, 8}};
+    const std::map<std::string, Feature> features = {
+        {"pocket", [&](Workbench &bench) { (void)pocket(bench, Face(1), square, 3); }},
+        {"notch", [&](Workbench &bench) { (void)notch(bench, Face(1), square, 3); }},
+        {"chamfer", [&](Workbench &bench) { (void)chamfer(bench, Edge(1), 2); }},
+        {"copy", [&](Workbench &bench) { (void)copy_solid(bench, Solid(1), Motion::move({40, 0, 0})); }},
+        {"scale", [&](Workbench &bench) { scale(bench, 3); }},
+        {"advice", [&](Workbench &bench) { (void)off_lattice(bench, Solid(1), {2, 3, 5, -17}); }},
+    };
+    for (const auto &[name, feature] : features)
+        for (bool is_drafting : {false, true}) {
+            long questions = 0;
+            while (try_stopped(feature, is_drafting, questions, name))
+                questions++;
+            check(questions > 0, name + " asks whether to end");
+        }
+}
+
 // ---- what is made, by name
 
 static void try_names()
@@ -459,6 +505,7 @@ int main()
 {
     try {
         try_rows();
+        try_stops();
         try_names();
         try_refused_memory();
         try_solid("a pocket", pocket);
