@@ -53,7 +53,6 @@ def trials(program: str, archive: str) -> Iterator[Trial]:
     yield Trial(('tests/program.sh', program))
     yield Trial(('tests/refused_growths.py', program), ('cc',))
     yield Trial(('tests/documents.py', program))
-    yield Trial(('tests/tutorial.py', program))
     yield Trial(('companions/tests/run.py', program))
     yield Trial(('tests/install.py', program), ('make',))
     yield Trial(('tests/direct_calls.py', str(DIRECT_CALLS), program), ('cc',), (DIRECT_CALLS,))

@@ -1,7 +1,7 @@
 #!/usr/bin/env python3
 """Runs the parts that docs/TUTORIAL.md builds, and compares what stands beside each step.
 
-    tests/tutorial.py [--write] [PROGRAM]        PROGRAM is crates/gwb/out/gwb where none is given
+    tests/tutorial.py [--write] [LIBRARY]        LIBRARY is bindings/out/libgwb.so where none is given
 
 The page's blocks in Python are run in order; one that begins with `from gwb import` begins a new part. What a block prints stands in comments behind
 its `print`. A block marked `text` behind it has the commands that it sent, and an image behind it shows the model that it left. --write writes the
@@ -16,7 +16,7 @@ from contextlib import contextmanager, redirect_stdout
 from pathlib import Path
 from typing import Any, Dict, Iterator, List, NamedTuple, Optional, Tuple
 
-from counts import GWB, TOP, command_line, there, told
+from counts import TOP, command_line, there, told
 
 sys.path.insert(0, str(TOP / 'companions'))
 
@@ -27,6 +27,7 @@ from gwb.protocol.replies import split_replies
 PAGE = TOP / 'docs' / 'TUTORIAL.md'
 PICTURES = TOP / 'docs' / 'tutorial'
 README, EXAMPLE = TOP / 'README.md', TOP / 'examples' / 'bracket.py'
+LIBRARY = TOP / 'bindings' / 'out' / 'libgwb.so'
 STAND = (2, -3, 2)
 _PIECE = re.compile(r'^```(python|text)\n(.*?)^```$|!\[[^]]*\]\(tutorial/([\w.]+)\)', re.MULTILINE | re.DOTALL)
 _PRINTED = re.compile(r'print\(.*\)\s+# (.*)')
@@ -142,8 +143,8 @@ def spare(found: List[Tuple[Piece, str, str]]) -> Iterator[str]:
 
 
 def main() -> int:
-    given = command_line(__doc__, '--write', program=GWB)
-    os.environ['GWB'] = str(there(given.program))
+    given = command_line(__doc__, '--write', library=LIBRARY)
+    os.environ['GWB'] = str(there(given.library, 'library'))
     found = tried()
     if given.write:
         PAGE.write_text(written(PAGE.read_text(), found))

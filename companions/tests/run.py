@@ -20,12 +20,14 @@ def main() -> int:
     """The status: 0 where no test failed."""
     parser = argparse.ArgumentParser('companions/tests/run.py', description=__doc__, formatter_class=argparse.RawDescriptionHelpFormatter)
     parser.add_argument('program', nargs='?', metavar='PROGRAM', default=os.environ.get('GWB') or REPOSITORY / 'crates' / 'gwb' / 'out' / 'gwb')
-    program = os.path.abspath(parser.parse_args().program)
+    parser.add_argument('library', nargs='?', metavar='LIBRARY')
+    given = parser.parse_args()
+    program = os.path.abspath(given.program)
     if not os.path.isfile(program):
         print(f'there is no program {program}', '0 passed, 1 failed', sep='\n')
         return 1
-    library = os.path.abspath(sys.argv[2] if len(sys.argv) > 2 else REPOSITORY / 'bindings' / 'out' / 'libgwb.so')
-    if len(sys.argv) > 2 and not os.path.isfile(library):
+    library = os.path.abspath(given.library or REPOSITORY / 'bindings' / 'out' / 'libgwb.so')
+    if given.library and not os.path.isfile(library):
         print(f'there is no library {library}', '0 passed, 1 failed', sep='\n')
         return 1
     os.environ['GWB'], os.environ['LIBRARY'] = program, library
