@@ -163,12 +163,15 @@ built 'triangles are built' library_triangles.c "${CC:-cc}" -std=gnu11 -O2
 counted 'faces cut into triangles' "$dir/built/library_triangles"
 prints 'the example in Python' bindings/examples/block_python.expected bindings/examples/block.py "$dir/built/libgwb.so"
 if has rustc 'the crate and the example in Rust are built' 'the example in Rust' 'the tests in Rust, session' 'the tests in Rust, features' \
-    'the tests in Rust, machining'; then
+    'the tests in Rust, machining' 'the tests in Rust, session, with each block alone'; then
     tried 'the crate and the example in Rust are built' make_here rust
     prints 'the example in Rust' bindings/examples/block_rust.expected "$dir/built/block_rust"
     for name in session features machining; do
         tried "the tests in Rust, $name" "$dir/built/${name}_rust"
     done
+    tried 'the tests in Rust with each block alone are built' make -C bindings "ARCHIVE=$archive" "OUT=$dir/alone" 'CFLAGS=-O2 -DGWB_BLOCKS_ALONE' \
+        "$dir/alone/session_rust"
+    tried 'the tests in Rust, session, with each block alone' env GWB_BLOCKS_ALONE=1 "$dir/alone/session_rust"
 fi
 counted 'the programs of the page' tests/library_readme.py "$dir/built/libgwb.a"
 without_archive() {
@@ -200,7 +203,7 @@ sanitizers='-g1 -O0 -fsanitize=address,undefined -fno-sanitize-recover=all -DGWB
 sanitized() {
     source=$1
     shift
-    "$@" $sanitizers -Ibindings/include -pthread -o "$dir/sanitized/${source%.*}" "tests/$source" "$dir/sanitized/libgwb.a" \
+    "$@" $sanitizers -Ibindings/include -pthread -o "$dir/sanitized/${source%.*}" "tests/$source" "$dir/sanitized/libgwb.a" -lm \
         > "$dir/sanitized/${source%.*}.log" 2>&1 &
 }
 echo 'int main(void) { return 0; }' > "$dir/empty.c"
