@@ -5,6 +5,7 @@ import os
 import pty
 import signal
 import select
+import shutil
 import subprocess
 import sys
 import tempfile
@@ -14,7 +15,7 @@ from contextlib import redirect_stdout
 from pathlib import Path
 from unittest import mock
 
-from support import COMPANIONS, box, listing, model_in, program, run
+from support import COMPANIONS, REPOSITORY, box, listing, model_in, program, run
 
 from gwb.programs.shell import Shell, choices, program_help
 from gwb.protocol.language import COMMANDS
@@ -189,10 +190,16 @@ class ThroughAPipe(unittest.TestCase):
         self.assertEqual(written.getvalue().splitlines()[1:], ['ok', 'volume 6', '0 redone'])
 
     def test_no_program(self):
-        for gwb in ('/nowhere/gwb', '/etc/passwd', '/nowhere/libgwb.so'):
+        for gwb in ('/nowhere/gwb', '/etc/passwd'):
             done = piped(b'list\n', gwb)
             self.assertEqual((done.stdout, done.stderr.count(b'\n'), done.returncode), (b'', 1, 3))
             self.assertIn(b'gwb-shell: ', done.stderr)
+
+    def test_a_library_is_no_program(self):
+        """Where GWB names a library, which the session in Python takes, the shell takes the program that it finds."""
+        done = piped(b'list\n', '/nowhere/libgwb.so')
+        is_found = (REPOSITORY / 'crates' / 'gwb' / 'out' / 'gwb').is_file() or shutil.which('gwb')
+        self.assertEqual((done.stdout, done.returncode), (b'empty\n', 0) if is_found else (b'', 3))
 
     def test_damaged_input(self):
         kinds = {
