@@ -46,27 +46,35 @@ module _ (arena : ArenaRows) (tied : RowsAreTied arena) where
     abbrev relabelled : Spots
     relabelled = labelled spots n (ring spots d)
 
+    -- the live codes stay
     live_same : (x : ℕ) → live relabelled x ≡ live spots x
     live_same x = live-labelled spots n (ring spots d) x
 
+    -- each code keeps its ring
     ring_same : (x : ℕ) → ring relabelled x ≡ ring spots x
     ring_same x = ring-labelled spots tied.rings d n there x
 
+    -- the items of the ring have the label n
     label_in : (x : ℕ) → IsIn x (ring spots d) → label relabelled x ≡ n
     label_in x i = label-labelled_in spots n (ring spots d) x i ((tied.rings.rings d there).awake x i)
 
+    -- each other code keeps its label
     label_out : (x : ℕ) → count x (ring spots d) ≡ 0 → label relabelled x ≡ label spots x
     label_out x m = label-labelled_out spots n (ring spots d) x m
 
+    -- what has another label than d is no item of its ring
     away : (x : ℕ) → label spots x ≢ label spots d → count x (ring spots d) ≡ 0
     away x other = elim (IsIn_or_not x (ring spots d)) [ inl i ↦ absurd (other ((tied.rings.rings d there).one_label x i)) | inr m ↦ m ]
 
+    -- the rings are rings
     rings_after : AreRings relabelled
     rings_after = AreRings-labelled spots tied.rings d n there
 
+    -- the table of edges stays
     edges_after : tabulate (edge_row relabelled) codes ≡ tabulate (edge_row spots) codes
     edges_after = edges_same spots relabelled (λ q. tails-labelled spots n (ring spots d) q)
 
+    -- a code of another ring leads the loose ring that it led
     alike : (x : ℕ) → count x (ring spots d) ≡ 0 → loose_row relabelled x ≡ loose_row spots x
     alike x m = loose_alike spots relabelled x (live_same x) (label_out x m) (ring_same x)
 
@@ -80,15 +88,18 @@ module _ (arena : ArenaRows) (tied : RowsAreTied arena) where
 
   -- the ring of d goes out of loop l
   module _ (l : ℕ) (rows : List (Option LoopCell)) (w : IsRefilled arena.loops rows l Empty) (d : ℕ) (stored : w.cell.stored ≡ At d) where
+    -- d stands in loop l
     entry : HasEntry spots l (At d)
     entry = subst (HasEntry spots l) stored (tied.loops_tied.entries l w.cell w.found)
 
+    -- l is not 0
     l_some : l ≢ 0
     l_some = refilled_some w tied.loops_fit
 
     abbrev cleared : Spots
     cleared = labelled spots 0 (ring spots d)
 
+    -- nothing has the label l any more
     none_left : (x : ℕ) → live cleared x ≡ true → label cleared x ≡ l → ⊥
     none_left x a e = elim (IsIn_or_not x (ring spots d)) [
       | inl i ↦ l_some (sym e ∙ label_in d 0 entry.0 x i)
@@ -97,12 +108,14 @@ module _ (arena : ArenaRows) (tied : RowsAreTied arena) where
           absurd (omega arith)
     ]
 
+    -- the rows say what the loops hold
     loops_after : AreLoops cleared rows
     loops_after = loops_told spots cleared arena.loops rows tied.loops_tied (refilled_fits w tied.loops_fit).no_zero (λ q some. elim (eqb_tells q l) [
       | inl p ↦ inr (subst (IsTold cleared rows) (sym p.1) (told_at cleared rows l w.cell.face Empty (refilled_here w) tt (λ x a e. absurd (none_left x a e))))
       | inr p ↦ inl (kept d 0 entry.0 rows q (λ z. p.1 (z ∙ entry.1)) some (refilled_elsewhere w q p.1))
     ])
 
+    -- nodes and rows make the loop empty, and its ring loose
     pub clear_as : Makes arena cleared rows (clear store l)
     unfolding clear
     clear_as = tied_as arena tied cleared rows (clear store l) (rings_after d 0 entry.0) (λ t. sym (live_same d 0 entry.0 0) ∙ t) loops_after (refilled_fits w tied.loops_fit)
@@ -113,9 +126,11 @@ module _ (arena : ArenaRows) (tied : RowsAreTied arena) where
 
   -- loop l, which holds no half-edge, gets other content without one
   module _ (l : ℕ) (rows : List (Option LoopCell)) (x : StoredContent) (w : IsRefilled arena.loops rows l x) (bare : items_of (content model l) ≡ []) where
+    -- loop l holds no half-edge
     empty : IsBare spots arena.loops l
     empty = record { cell = w.cell; here = w.found; bare = sym (ap items_of (content_row arena tied l w.cell w.found)) ∙ bare }
 
+    -- nodes and rows give it that content
     pub bare_as : HasEntry spots l x → TiedAs (record arena { loops = rows }) (record store { model = with_loop model l (stored_content spots x) })
     bare_as free = record {
       tied = tied_loops arena tied rows (refilled_fits w tied.loops_fit) (loops_told spots spots arena.loops rows tied.loops_tied (refilled_fits w tied.loops_fit).no_zero (λ q some. elim (eqb_tells q l) [
@@ -141,12 +156,14 @@ module _ (arena : ArenaRows) (tied : RowsAreTied arena) where
 
   -- loop l takes the loose ring of h
   module _ (l : ℕ) (rows : List (Option LoopCell)) (h : ℕ) (w : IsRefilled arena.loops rows l (At h)) (bare : items_of (content model l) ≡ []) (there : live spots h ≡ true) (loose : label spots h ≡ 0) where
+    -- l is not 0
     l_real : l ≢ 0
     l_real = refilled_some w tied.loops_fit
 
     abbrev filled : Spots
     filled = labelled spots l (ring spots h)
 
+    -- what has the label l stands in the ring of h
     all_in : (x : ℕ) → live filled x ≡ true → label filled x ≡ l → IsIn x (ring spots h)
     all_in x a e = elim (IsIn_or_not x (ring spots h)) [
       | inl i ↦ i
@@ -156,6 +173,7 @@ module _ (arena : ArenaRows) (tied : RowsAreTied arena) where
           absurd (none_in_bare spots arena.loops x l (empty l rows (At h) w bare) (subst (StandsAt spots arena.loops x) o s))
     ]
 
+    -- the rows say what the loops hold
     loops_filled : AreLoops filled rows
     loops_filled = loops_told spots filled arena.loops rows tied.loops_tied (refilled_fits w tied.loops_fit).no_zero (λ q some. elim (eqb_tells q l) [
       | inl p ↦ inr (subst (IsTold filled rows) (sym p.1) (told_at filled rows l w.cell.face (At h) (refilled_here w) (live_same h l there h ∙ there, label_in h l there h (tied.rings.rings h there).item)
@@ -163,6 +181,7 @@ module _ (arena : ArenaRows) (tied : RowsAreTied arena) where
       | inr p ↦ inl (kept h l there rows q (λ z. some (z ∙ loose)) p.1 (refilled_elsewhere w q p.1))
     ])
 
+    -- nodes and rows make the loop take the ring
     pub fill_as : Makes arena filled rows (fill store l h)
     unfolding fill
     fill_as = tied_as arena tied filled rows (fill store l h) (rings_after h l there) (λ t. sym (live_same h l there 0) ∙ t) loops_filled (refilled_fits w tied.loops_fit)
@@ -171,10 +190,12 @@ module _ (arena : ArenaRows) (tied : RowsAreTied arena) where
         (loose_removed spots filled tied.rings (rings_after h l there) h there (λ x i. loose_none filled x (λ y. l_real (sym (label_in h l there x i) ∙ y))) (alike h l there)
         ∙ ap (remove store.loose) (sym (loose_key_is arena tied h there loose))))
 
+-- a loop that is cleared is there
 pub has-clear : (s : Store) (l : ℕ) → is_some (get (clear s l).model.loops l) ≡ true
 unfolding clear
 has-clear s l = ap is_some (get-put_here s.model.loops l (record { face = face_of s.model l; content = cycle [] }))
 
+-- and holds no half-edge
 pub content-clear : (s : Store) (l : ℕ) → items_of (content (clear s l).model l) ≡ []
 unfolding clear content
 content-clear s l = ap (λ o. items_of (unwrap_or o no_loop).content) (get-put_here s.model.loops l (record { face = face_of s.model l; content = cycle [] }))

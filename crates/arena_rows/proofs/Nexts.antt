@@ -19,6 +19,7 @@ module _ (arena : ArenaRows) (ss fs : Owners) (whole : IsWhole arena ss fs) wher
   abbrev model : Model
   model = (store_of arena).model
 
+  -- what stands beside the rows tells whether a face is of a solid
   pub face_test : (s k : ℕ) → is_owner s (get ss.owner_of k) ≡ is_face_of model s k
   unfolding solid_of
   face_test s k = ap (λ t. is_owner s (get t k)) whole.indexed.of_solids ∙ ap (is_owner s) (get-table_of (λ (cell : FaceCell). cell.solid) arena.faces k) ∙ owner_is_solid (row_at arena.faces k) ∙ sym (ap (λ o. is_some o && nat_eq (unwrap_or o no_face).solid s) (get-table_of face_row arena.faces k)) where
@@ -26,10 +27,12 @@ module _ (arena : ArenaRows) (ss fs : Owners) (whole : IsWhole arena ss fs) wher
     owner_is_solid None = refl
     owner_is_solid (Some cell) = refl
 
+  -- the next item of a solid is its next face
   pub next_face : (s n : ℕ) (r : Option ℕ) → IsNextItem ss.owner_of s n r → IsNextFace model s n r
   next_face s n None h = λ k l. sym (face_test s k) ∙ h k l
   next_face s n (Some m) h = (h.0, sym (face_test s m) ∙ h.1, λ k l less. sym (face_test s k) ∙ h.2 k l less)
 
+  -- it tells whether a loop is a ring of a face
   pub ring_test : (f k : ℕ) → is_owner f (get fs.owner_of k) && not (nat_eq (outer model f) k) ≡ is_ring_of model f k
   unfolding face_of
   ring_test f k =
@@ -41,9 +44,11 @@ module _ (arena : ArenaRows) (ss fs : Owners) (whole : IsWhole arena ss fs) wher
       owner_is_face None = refl
       owner_is_face (Some cell) = refl
 
+  -- a loop of another face is no ring of the face
   not_ring : (f k : ℕ) → is_owner f (get fs.owner_of k) ≡ false → is_ring_of model f k ≡ false
   not_ring f k h = sym (ring_test f k) ∙ ap (λ b. b && not (nat_eq (outer model f) k)) h
 
+  -- a face's outer loop is no ring of it
   no_outer_ring : (f k : ℕ) → k ≡ outer model f → is_ring_of model f k ≡ false
   no_outer_ring f k e = sym (ring_test f k) ∙ ap (λ b. is_owner f (get fs.owner_of k) && not b) (eq-eqb (outer model f) k (sym e)) ∙ and_false (is_owner f (get fs.owner_of k))
 
@@ -81,12 +86,14 @@ module _ (arena : ArenaRows) (ss fs : Owners) (whole : IsWhole arena ss fs) wher
     same_option None y is = cc
     same_option (Some z) y is = eq-eqb z y (cc)
 
+  -- and where it is, by the loop after it
   pub ring_past_told : (f n out : ℕ) → out ≡ outer model f → (next : Option ℕ) → option_eq nat_eq next (Some out) ≡ true → IsNextItem fs.owner_of f n next → (r : Option ℕ) → IsNextItem fs.owner_of f out r → IsNextRing model f n r
   ring_past_told f n out e next told first r second = ring_past_outer f n r (subst (IsNextItem fs.owner_of f n) (told_option next out told ∙ ap Some e) first) (subst (λ k. IsNextItem fs.owner_of f k r) e second) where
     told_option : (x : Option ℕ) (y : ℕ) → option_eq nat_eq x (Some y) ≡ true → x ≡ Some y
     told_option None y is = absurd (true≢false (sym is))
     told_option (Some z) y is = elim (eqb_tells z y) [ inl p ↦ ap Some p.1 | inr p ↦ absurd (true≢false (sym is ∙ p.0)) ]
 
+  -- the only item of a list of one is the one that stands in it
   nil_or_one : (ns : List ℕ) → length ns ≡ 1 → (m : ℕ) → IsIn m ns → only_item ns ≡ Some m
   nil_or_one [] e m i = absurd (omega (arith, e))
   nil_or_one (n ∷ []) e m i = elim (eqb_tells m n) [ inl p ↦ ap Some (sym p.1) | inr p ↦ absurd (omega (arith, i, tick_other m n p.1)) ]
@@ -100,6 +107,7 @@ module _ (arena : ArenaRows) (ss fs : Owners) (whole : IsWhole arena ss fs) wher
     passing None h = absurd (true≢false (sym h))
     passing (Some row) h = ap {B = ℕ} (λ b. cond b 1 0) h
 
+  -- a solid that has not just one face has no only one
   not_one_face : (s : ℕ) → length (faces_of model s) ≢ 1 → only_item (faces_of model s) ≡ None
   not_one_face s ne = no_only_item (faces_of model s) ne where
     no_only_item : (ns : List ℕ) → length ns ≢ 1 → only_item ns ≡ None
@@ -129,11 +137,13 @@ module _ (arena : ArenaRows) (ss fs : Owners) (whole : IsWhole arena ss fs) wher
   faces_counted : (s : ℕ) → length (owned s ss.owner_of) ≡ length (faces_of model s)
   faces_counted s = ap (λ t. length (owned s t)) whole.indexed.of_solids ∙ face_count_is arena.faces s
 
+  -- a solid of one face: the next face above 0 is the only one
   pub only_told : (s : ℕ) → row_at arena.faces 0 ≡ None → length (owned s ss.owner_of) ≡ 1 → (r : Option ℕ) → IsNextItem ss.owner_of s 0 r → r ≡ only_item (faces_of model s)
   only_told s zero one r next = told_is_only r (next_face s 0 r next) where
     told_is_only : (r : Option ℕ) → IsNextFace model s 0 r → r ≡ only_item (faces_of model s)
     told_is_only None h = absurd (some_face s zero (sym (faces_counted s) ∙ one) h)
     told_is_only (Some m) h = sym (one_face s m (sym (faces_counted s) ∙ one) h.1)
 
+  -- a solid of none or several has no only one
   pub none_told : (s : ℕ) → length (owned s ss.owner_of) ≢ 1 → None ≡ only_item (faces_of model s)
   none_told s ne = sym (not_one_face s (λ e. ne (faces_counted s ∙ e)))

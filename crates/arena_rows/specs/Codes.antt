@@ -1,4 +1,4 @@
--- Models and stores as codes of lists and numbers, by which they can be what contracts see of an arena and of a session.
+-- Models and stores as codes of lists and numbers, through which contracts see an arena and a session.
 use Rattle.std.specs.Prelude.{◌≡◌, ℕ, List, refl, ◌⊎◌}
 use Rattle.std.specs.Coded.{Coded, code_by, coded×, coded⊎, coded_ℕ, coded_list}
 use base.Stored.{coded_unit}

@@ -1,4 +1,4 @@
--- The definitions of this crate that its proofs and other crates cite, passed on from one place. Declares nothing.
+-- The definitions of this crate that its proofs and other crates cite, collected in one place. This file declares nothing.
 pub use Rattle.arena_rows.specs.Codes.{coded_store}
 pub use Rattle.arena_rows.specs.Rows.{map_row, names, table_of}
 pub use Rattle.arena_rows.specs.Store.{HasGrown, IsGreatest, IsLoose, IsNextFace, IsNextNumber, IsNextRing, Store, Tells, cut, empty_store, has_number, has_room, held_row, is_face_of, join, loose_ring, loosened, only_item, put_face, put_solid, put_vertex, set_content, set_face, set_outer, set_solid, take_face, take_loop, take_solid, take_vertex, with_lone, within}

@@ -11,8 +11,8 @@ use Rattle.boundary_model.specs.Table as table
 use Rattle.boundary_model.specs.Table.{Table}
 use Rattle.boundary_model.specs.Model.{Model, LoopContent, lone, cycle, LoopRow, holds, items_of, content, face_of, solid_of, outer, loop_of, cycle_of, empty_model, no_edge, is_ring_of}
 
--- for each kind but edges the greatest number that has room, and each smaller one from 1 on has it too;
--- for edges the numbers that have room
+-- for each kind but edges, the greatest number that has room (each smaller one from 1 on has room too); for edges, the numbers that have
+-- room
 pub record Extents : Type 0 where
   pub solids : ℕ
   pub faces : ℕ
@@ -62,7 +62,7 @@ abbrev pub IsNextRing : Model → ℕ → ℕ → Option ℕ → Type 0
 IsNextRing M f n None = (k : ℕ) → n < k → is_ring_of M f k ≡ false
 IsNextRing M f n (Some m) = (n < m) × (is_ring_of M f m ≡ true) × ((k : ℕ) → n < k → k < m → is_ring_of M f k ≡ false)
 
--- face k is there and is of solid s
+-- face k is there and belongs to solid s
 abbrev pub is_face_of : Model → ℕ → ℕ → Bool
 is_face_of M s k = table.has M.faces k && nat_eq (solid_of M k) s
 
@@ -71,7 +71,7 @@ abbrev pub IsNextFace : Model → ℕ → ℕ → Option ℕ → Type 0
 IsNextFace M s n None = (k : ℕ) → n < k → is_face_of M s k ≡ false
 IsNextFace M s n (Some m) = (n < m) × (is_face_of M s m ≡ true) × ((k : ℕ) → n < k → k < m → is_face_of M s k ≡ false)
 
--- the one number of a list of one
+-- the number in a list of one number
 abbrev pub only_item : List ℕ → Option ℕ
 only_item [] = None
 only_item (n ∷ []) = Some n
@@ -82,7 +82,7 @@ pub record IsGreatest (s : Store) (kind : Kind) (m : ℕ) : Type 0 where
   pub used : m ≢ 0 → has_number s kind m ≡ true
   pub above : (k : ℕ) → m < k → has_number s kind k ≡ false
 
--- nothing has changed but that more numbers may have their room
+-- nothing has changed, except that more numbers may have their room
 pub record HasGrown (old new : Store) : Type 0 where
   pub model : new.model ≡ old.model
   pub loose : new.loose ≡ old.loose
@@ -103,7 +103,7 @@ loosened (h ∷ hs) t = table.put t h (h ∷ hs)
 abbrev pub with_loop : Model → ℕ → LoopContent → Model
 with_loop M l c = record M { loops = table.put M.loops l (record { face = face_of M l; content = c }) }
 
--- a new solid, face or vertex, and one that goes
+-- a new solid, face or vertex; and a solid, face, vertex or loop that goes
 abbrev pub put_solid : Store → ℕ → Store
 put_solid s n = record s { model = record s.model { solids = table.put s.model.solids n tt } }
 
@@ -125,25 +125,25 @@ take_vertex s v = record s { model = record s.model { vertices = table.remove s.
 abbrev pub take_loop : Store → ℕ → Store
 take_loop s l = record s { model = record s.model { loops = table.remove s.model.loops l } }
 
--- face f has another outer loop, or is of another solid
+-- face f gets another outer loop, or another solid
 abbrev pub set_outer : Store → ℕ → ℕ → Store
 set_outer s f l = record s { model = record s.model { faces = table.put s.model.faces f (record { solid = solid_of s.model f; outer = l }) } }
 
 abbrev pub set_solid : Store → ℕ → ℕ → Store
 set_solid s f n = record s { model = record s.model { faces = table.put s.model.faces f (record { solid = n; outer = outer s.model f }) } }
 
--- loop l is of another face
+-- loop l gets another face
 abbrev pub set_face : Store → ℕ → ℕ → Store
 set_face s l f = record s { model = record s.model { loops = table.put s.model.loops l (record { face = f; content = content s.model l }) } }
 
--- an edge from a to b, whose half-edges are loose
+-- a new edge from a to b, whose half-edges are loose
 unfoldable pub put_edge : Store → ℕ → ℕ → ℕ → Store
 put_edge s e a b = record s {
   model = record s.model { edges = table.put s.model.edges e (record { plus_tail = a; minus_tail = b }) };
   loose = table.put (table.put s.loose (plus e) (plus e ∷ [])) (minus e) (minus e ∷ []);
 }
 
--- the edge goes, whose half-edges are loose and each alone
+-- edge e goes; its half-edges are loose, each alone in its ring
 unfoldable pub take_edge : Store → ℕ → Store
 take_edge s e = record s {
   model = record s.model { edges = table.remove s.model.edges e };
@@ -154,7 +154,7 @@ take_edge s e = record s {
 unfoldable pub put_loop : Store → ℕ → ℕ → Store
 put_loop s l f = record s { model = record s.model { loops = table.put s.model.loops l (record { face = f; content = cycle [] }) } }
 
--- half-edge h starts at v
+-- half-edge h gets v as its start
 unfoldable pub set_tail : Store → ℕ → ℕ → Store
 set_tail s h v = let row = unwrap_or (table.get s.model.edges (edge_of h)) no_edge in record s {
   model = record s.model {
@@ -162,7 +162,7 @@ set_tail s h v = let row = unwrap_or (table.get s.model.edges (edge_of h)) no_ed
   };
 }
 
--- what loop l held becomes loose, and l is empty
+-- what loop l held becomes loose, and l is then empty
 unfoldable pub clear : Store → ℕ → Store
 clear s l = record s { model = with_loop s.model l (cycle []); loose = loosened (items_of (content s.model l)) s.loose }
 
@@ -174,14 +174,14 @@ fill s l h = record s { model = with_loop s.model l (cycle (loose_ring s h)); lo
 abbrev pub with_lone : Store → ℕ → ℕ → Store
 with_lone s l v = record s { model = with_loop s.model l (lone v) }
 
--- what loop l held becomes loose, and l is lone at v, or takes the loose ring of h
+-- what loop l held becomes loose; then l is lone at v, or takes the loose ring of h
 abbrev pub set_lone : Store → ℕ → ℕ → Store
 set_lone s l v = with_lone (clear s l) l v
 
 abbrev pub set_ring : Store → ℕ → ℕ → Store
 set_ring s l h = fill (clear s l) l h
 
--- the item that is named stands in a loose ring
+-- if the content names a half-edge, that half-edge is there and stands in a loose ring
 abbrev pub IsLoose : Store → Content → Type 0
 IsLoose s (Content.Lone v) = Unit {0}
 IsLoose s (Content.Ring h) = (table.has s.model.edges (edge_of (code h)) ≡ true) × (loop_of s.model (code h) ≡ 0)
@@ -194,7 +194,7 @@ set_content s l (Content.Ring h) = set_ring s l (code h)
 abbrev pub held_row : Model → ℕ → LoopContent → LoopRow
 held_row M l c = record { face = face_of M l; content = c }
 
--- the loop a X b Y keeps a Y, and b X becomes the empty loop l
+-- the loop a X b Y becomes a Y, and b X becomes the content of the empty loop l
 unfoldable pub cut_to : Store → ℕ → ℕ → ℕ → Store
 cut_to s a b l = let M = s.model in record s {
   model = record M {
@@ -202,7 +202,7 @@ cut_to s a b l = let M = s.model in record s {
   };
 }
 
--- the loop a X b Y keeps a Y, and b X becomes loose
+-- the loop a X b Y becomes a Y, and b X becomes loose
 unfoldable pub cut_loose : Store → ℕ → ℕ → Store
 cut_loose s a b = let M = s.model in
     record s { model = with_loop M (loop_of M a) (cycle (cut_left a b (cycle_of M a))); loose = loosened (cut_right a b (cycle_of M a)) s.loose }

@@ -1,4 +1,4 @@
--- What an arena's rings and rows stand for, and what keeps them tied.
+-- What an arena's rings and rows stand for, and how they fit together.
 use Rattle.arena_rows.specs.ring_spots.SpotTables.{edge_row, loose_row, edge_room}
 use Rattle.std.specs.Prelude.{◌≡◌, ◌≢◌, ℕ, ◌-◌, ◌≤◌, Bool, true, List, [], length, Option, Some, None}
 use Rattle.boundary_model.specs.declared.Point.{Point}
@@ -63,7 +63,7 @@ store_of arena = record {
   };
 }
 
--- a loop with a ring has the label of its item
+-- if loop l holds the ring of a code, that code is live and has the label l
 abbrev pub HasEntry : Spots → ℕ → StoredContent → Type 0
 HasEntry sp l Empty = Unit {0}
 HasEntry sp l (Lone v) = Unit {0}
@@ -74,7 +74,7 @@ pub record Fits {X : Type 0} (rows : List (Option X)) : Type 0 where
   pub no_zero : row_at rows 0 ≡ None
   pub within : length rows ≤ 1000001
 
--- loop l is there and holds a ring from d on, in which h stands
+-- loop l is there and holds a ring, which is read from `entry` on and in which h stands
 pub record StandsAt (sp : Spots) (loops : List (Option LoopCell)) (h l : ℕ) : Type 0 where
   pub face : ℕ
   pub entry : ℕ
@@ -102,7 +102,7 @@ solid_numbers faces = table_of (λ cell. cell.solid) faces
 abbrev pub face_numbers : List (Option LoopCell) → Table ℕ
 face_numbers loops = table_of (λ cell. cell.face) loops
 
--- beside the rows stand the faces of each solid's number and the loops of each face's number, with room for all of them
+-- beside the rows stand the faces of each solid's number and the loops of each face's number; there is room for all numbers
 pub record AreIndexed (solids : List (Option Bool)) (faces : List (Option FaceCell)) (loops : List (Option LoopCell)) (solid_faces face_loops : Owners) : Type 0 where
   pub of_solids : solid_faces.owner_of ≡ solid_numbers faces
   pub of_faces : face_loops.owner_of ≡ face_numbers loops

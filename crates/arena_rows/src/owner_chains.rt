@@ -1,4 +1,4 @@
-//! Items that have owners: each owner's items stand in a list, chained from the least to the greatest.
+//! Items that have owners. Each owner's items stand in a list, chained from the least to the greatest.
 
 mod chains;
 mod places;

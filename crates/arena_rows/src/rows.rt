@@ -14,10 +14,10 @@ pub struct FaceCell {
     pub outer: u32,
 }
 
-/// What a loop holds, by the code of one of its items.
+/// What a loop holds. A ring of half-edges is named by one of its codes.
 #[derive(Clone, Copy)]
 pub enum StoredContent {
-    /// Nothing, as between two writes.
+    /// Nothing. A loop is like that between two writes.
     Empty,
     /// No half-edge: the loop is lone at this vertex.
     Lone(u32),

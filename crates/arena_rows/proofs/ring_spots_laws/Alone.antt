@@ -61,18 +61,23 @@ module _ (sp : Spots) (known : ℕ → Bool) (rows : List (Option Label)) (a b :
     abbrev holder_b : ℕ
     holder_b = holder rows (label sp b)
 
+    -- the label that a and b share is there
     shared_there : has_label rows (label sp b) ≡ true
     shared_there = S.table.labels_there b S.b_there
 
+    -- its holder owns it
     owned : own rows holder_b ≡ label sp b
     owned = S.table.owners.owned (label sp b) shared_there
 
+    -- the rings of b and of the holder share the label
     shared_with_holder : ShareLabel sp known rows b holder_b
     shared_with_holder = shared_at holder_b h_in
 
+    -- the holder has the label that it owns
     label_holder : label sp holder_b ≡ label sp b
     label_holder = shared_with_holder.one
 
+    -- each code owns what it owned, where the label is handed to the code that owns it already
     own_is : (q : ℕ) → own rows q ≡ cond (nat_eq q holder_b) (label sp holder_b) (cond (nat_eq q (holder rows (label sp holder_b))) (own rows holder_b) (own rows q))
     own_is q = elim (eqb_tells q holder_b) [
       | inl p ↦ ap (own rows) p.1 ∙ owned ∙ sym label_holder ∙ sym (ap (λ t. cond t (label sp holder_b) (cond (nat_eq q (holder rows (label sp holder_b))) (own rows holder_b) (own rows q))) p.0)
@@ -80,6 +85,7 @@ module _ (sp : Spots) (known : ℕ → Bool) (rows : List (Option Label)) (a b :
           ∙ ap (λ t. cond t (own rows holder_b) (own rows q)) (ne_eqb q (holder rows (label sp holder_b)) (λ e. p.1 (e ∙ ap (holder rows) label_holder))))
     ]
 
+    -- and each label has the holder that it had
     holder_is : (q : ℕ) → holder rows q ≡ cond (nat_eq q (label sp holder_b)) holder_b (cond (nat_eq q (own rows holder_b)) (holder rows (label sp holder_b)) (holder rows q))
     holder_is q = elim (eqb_tells q (label sp holder_b)) [
       | inl p ↦ ap (holder rows) (p.1 ∙ label_holder) ∙ sym (ap (λ t. cond t holder_b (cond (nat_eq q (own rows holder_b)) (holder rows (label sp holder_b)) (holder rows q))) p.0)
@@ -87,6 +93,7 @@ module _ (sp : Spots) (known : ℕ → Bool) (rows : List (Option Label)) (a b :
           ∙ ap (λ t. cond t (holder rows (label sp holder_b)) (holder rows q)) (ne_eqb q (own rows holder_b) (λ e. p.1 (e ∙ owned ∙ sym label_holder))))
     ]
 
+    -- each ring has a label of its own once the ring of b has the one that b owns
     pub labelled_kept : (l : ℕ) → l ≡ own rows b → (b_known : has_label rows b ≡ true) → AreLabelled (labelled sp l (ring sp b)) known rows
     labelled_kept l e b_known = labelled-apart sp known rows b holder_b shared_with_holder (labelled sp l (ring sp b)) rows (S.table.owners.holder_there (label sp b) shared_there) b_known refl own_is holder_is (ap (λ n. labelled sp n (ring sp b)) e) known refl
 
@@ -133,15 +140,19 @@ labelled_again sp rows rows' f l hs loops = λ i q. last_label_stays (is_in q hs
 
 -- the code that was cut off has a label that stands for loop l
 module _ (cutted : Spots) (known : ℕ → Bool) (rows rows' : List (Option Label)) (b free : ℕ) (R : AreRings cutted) (b_there : live cutted b ≡ true) (whole : AreLabelled (labelled cutted free (ring cutted b)) known rows') where
+  -- b has the free label
   pub label_free : label (labelled cutted free (ring cutted b)) b ≡ free
   label_free = label-labelled_in cutted free (ring cutted b) b (R.rings b b_there).item b_there
 
+  -- b is live
   pub live_free : live (labelled cutted free (ring cutted b)) b ≡ true
   live_free = live-labelled cutted free (ring cutted b) b ∙ b_there
 
+  -- the free label is there
   pub free_there : has_label rows' free ≡ true
   free_there = subst (λ n. has_label rows' n ≡ true) label_free (whole.table.labels_there b live_free)
 
+  -- b is seen in loop l, and the codes of other rings are seen where they were
   pub seen-apart : (l : ℕ) (new : Spots) (rows2 : List (Option Label)) → new ≡ labelled cutted free (ring cutted b) → loop_at rows' ≡ loop_at rows → ((q : ℕ) → loop_at rows2 q ≡ cond (nat_eq q free) l (loop_at rows' q)) →
       in_loops rows2 new ≡ labelled (in_loops rows cutted) l (ring (in_loops rows cutted) b)
   seen-apart l new rows2 is loops stand =
@@ -163,9 +174,11 @@ module _ (sp : Spots) (known : ℕ → Bool) (rows : List (Option Label)) (A : A
   abbrev like_a : Spots
   like_a = labelled sp (label sp a) (ring sp b)
 
+  -- each ring has a label of its own
   pub labelled-join_alone : (known' : ℕ → Bool) → known' ≡ known → AreLabelled new known' rows
   labelled-join_alone known' same = labelled-join_to like_a known rows a b (share-one sp known rows A a b a_there b_there other like_a known (inr refl) refl) new known' is same
 
+  -- b is seen in the loop of the ring of a, spliced into it
   pub seen-join_alone : in_loops rows new ≡ spliced (labelled (in_loops rows sp) (loop_at rows (label sp a)) (ring sp b)) a b
   seen-join_alone = ap (in_loops rows) is ∙ loops-spliced rows like_a a b
       ∙ ap (λ (s : Spots). spliced s a b) (loops-labelled sp like_a rows rows (loop_at rows (label sp a)) (ring sp b) (blank-labelled sp (label sp a) (ring sp b))
@@ -184,6 +197,7 @@ pub record CutOff (sp : Spots) (a b : ℕ) : Type 0 where
   pub live_cut : live (spliced sp a b) b ≡ true
   pub alone : ring (spliced sp a b) b ≡ b ∷ []
 
+-- where b follows a and is another code, all of that is so
 pub cut_off : (sp : Spots) (known : ℕ → Bool) (rows : List (Option Label)) → AreLabelled sp known rows → (a b : ℕ) → live sp a ≡ true → next sp a ≡ b → a ≢ b → CutOff sp a b
 cut_off sp known rows A a b h e ne =
     let together : IsIn b (ring sp a) = subst (λ z. IsIn z (ring sp a)) e (next_in_ring sp A.table.rings a h) in

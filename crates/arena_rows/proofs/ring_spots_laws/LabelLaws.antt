@@ -55,21 +55,27 @@ module _ (sp : Spots) (known : ℕ → Bool) (rows : List (Option Label)) (A : A
     abbrev cutted : Spots
     cutted = spliced sp a b
 
+    -- b is live
     cut_b_there : live sp b ≡ true
     cut_b_there = (A.table.rings.rings a a_there).awake b together
 
+    -- a stands in the left part, b in the right one
     cut_sides : IsIn a (cut_left a b (ring sp a)) × IsIn b (cut_right a b (ring sp a))
     cut_sides = let o = A.table.rings.rings a a_there in IsIn-cut a b (ring sp a) o.apart o.item together ne
 
+    -- once it is cut, the ring of a is the left part
     cut_left_is : ring cutted a ≡ cut_left a b (ring sp a)
     cut_left_is = (ring_left sp A.table.rings a b a_there cut_b_there together ne a cut_sides.0).0
 
+    -- and the ring of b is the right part
     cut_right_is : ring cutted b ≡ cut_right a b (ring sp a)
     cut_right_is = (ring_right sp A.table.rings a b a_there cut_b_there together ne b cut_sides.1).0
 
+    -- the two rings have the items of the one between them
     cut_count : (x : ℕ) → count x (ring cutted a) + count x (ring cutted b) ≡ count x (ring sp a)
     cut_count x = (λ i. count x (cut_left_is i) + count x (cut_right_is i)) ∙ cut_items sp A.table.rings a b a_there cut_b_there together ne x
 
+    -- the two rings share the label that the one had
     pub share-cut : ShareLabel cutted known rows a b
     share-cut = let o = A.table.rings.rings a a_there in record {
       table = table_kept sp cutted known rows A.table (AreRings-cut sp A.table.rings a b a_there cut_b_there together ne) (λ c h. subst (λ n. has_label rows n ≡ true) (sym (label-spliced sp a b c)) (A.table.labels_there c (sym (live-spliced sp a b c) ∙ h)));
@@ -85,11 +91,13 @@ module _ (sp : Spots) (known : ℕ → Bool) (rows : List (Option Label)) (A : A
           subst (λ hs. IsIn (holder rows (label cutted c)) hs) (sym e) (subst (λ w. IsIn (holder rows w) (ring sp c)) (sym (label-spliced sp a b c)) (A.held c k));
     }
 
+    -- the same, where the cut rings are told by an equation
     pub share-cut_to : (new : Spots) (known' : ℕ → Bool) → new ≡ cutted → known' ≡ known → ShareLabel new known' rows a b
     share-cut_to new known' is same = subst (λ k. ShareLabel new k rows a b) (sym same) (subst (λ s. ShareLabel s known rows a b) (sym is) share-cut)
 
   -- the rings of a and b get one label
   module _ (a b : ℕ) (a_there : live sp a ≡ true) (b_there : live sp b ≡ true) (other : label sp b ≢ label sp a) where
+    -- b stands in another ring than a
     b_apart : count b (ring sp a) ≡ 0
     b_apart = elim (IsIn_or_not b (ring sp a)) [ inl i ↦ absurd (other ((A.table.rings.rings a a_there).one_label b i)) | inr n ↦ n ]
 
@@ -99,15 +107,19 @@ module _ (sp : Spots) (known : ℕ → Bool) (rows : List (Option Label)) (A : A
     abbrev like_b : Spots
     like_b = labelled sp label_b (ring sp a)
 
+    -- each code keeps its ring, where the ring of a gets the label of b
     like_b_rings : (q : ℕ) → ring like_b q ≡ ring sp q
     like_b_rings q = ring-labelled sp A.table.rings a label_b a_there q
 
+    -- b keeps its label
     like_b_b : label like_b b ≡ label_b
     like_b_b = label-labelled_out sp label_b (ring sp a) b b_apart
 
+    -- a has the label of b
     like_b_a : label like_b a ≡ label_b
     like_b_a = label-labelled_in sp label_b (ring sp a) a (A.table.rings.rings a a_there).item a_there
 
+    -- the two rings share the label of b
     shared : ShareLabel like_b known rows a b
     shared = record {
       table = table_kept sp like_b known rows A.table (AreRings-labelled sp A.table.rings a label_b a_there) (λ c h. let k = sym (live-labelled sp label_b (ring sp a) c) ∙ h in elim (IsIn_or_not c (ring sp a)) [
@@ -129,6 +141,7 @@ module _ (sp : Spots) (known : ℕ → Bool) (rows : List (Option Label)) (A : A
     share-label : (new : Spots) (known' : ℕ → Bool) → new ≡ labelled sp (label sp b) (ring sp a) → known' ≡ known → ShareLabel new known' rows a b
     share-label new known' is same = subst (λ k. ShareLabel new k rows a b) (sym same) (subst (λ s. ShareLabel s known rows a b) (sym is) shared)
 
+    -- labels of the two rings alone have changed
     relabelled-share : (new : Spots) → new ≡ labelled sp (label sp b) (ring sp a) → IsRelabelled sp new a b
     relabelled-share new is = subst (λ s. IsRelabelled sp s a b) (sym is) (record { same = blank-labelled sp label_b (ring sp a); others = λ q h n m. label-labelled_out sp label_b (ring sp a) q n })
 
@@ -147,14 +160,17 @@ share_turned sp known rows a b S = record {
   others = λ c h n m. S.others c h m n;
 }
 
+-- which of two rings that got labels comes first is the same
 relabelled_turned : (sp new : Spots) (a b : ℕ) → IsRelabelled sp new a b → IsRelabelled sp new b a
 relabelled_turned sp new a b r = record { same = r.same; others = λ q h n m. r.others q h m n }
 
 module _ (sp : Spots) (known : ℕ → Bool) (rows : List (Option Label)) (A : AreLabelled sp known rows) (a b : ℕ) (a_there : live sp a ≡ true) (b_there : live sp b ≡ true) (other : label sp b ≢ label sp a) where
+  -- the two rings share a label, whichever of the two it is
   pub share-one : (new : Spots) (known' : ℕ → Bool) → HaveOneLabel sp new a b → known' ≡ known → ShareLabel new known' rows a b
   share-one new known' (inl is) same = share-label sp known rows A a b a_there b_there other new known' is same
   share-one new known' (inr is) same = share_turned new known' rows b a (share-label sp known rows A b a b_there a_there (λ e. other (sym e)) new known' is same)
 
+  -- labels of the two rings alone have changed
   pub relabelled-one : (new : Spots) → HaveOneLabel sp new a b → IsRelabelled sp new a b
   relabelled-one new (inl is) = relabelled-share sp known rows A a b a_there b_there other new is
   relabelled-one new (inr is) = relabelled_turned sp new b a (relabelled-share sp known rows A b a b_there a_there (λ e. other (sym e)) new is)
@@ -163,6 +179,7 @@ module _ (sp : Spots) (known : ℕ → Bool) (rows : List (Option Label)) (a b :
   abbrev shared_label : ℕ
   shared_label = label sp b
 
+  -- a code whose ring has the shared label's holder stands in one of the two rings
   whose : (c : ℕ) → live sp c ≡ true → IsIn (holder rows shared_label) (ring sp c) → IsIn c (ring sp a) ⊎ IsIn c (ring sp b)
   whose c h i = elim S.held [
     | inl j ↦ inl (shared_item sp S.table.rings a c (holder rows shared_label) S.a_there h (subst (λ n. IsIn (holder rows n) (ring sp a)) (sym S.one) j) i)
@@ -176,6 +193,7 @@ module _ (sp : Spots) (known : ℕ → Bool) (rows : List (Option Label)) (a b :
       own_is a ∙ ap (λ t. cond t shared_label (cond (nat_eq a (holder rows shared_label)) (own rows b) (own rows a))) (ne_eqb a b not_b)
       ∙ ap (λ t. cond t (own rows b) (own rows a)) (ne_eqb a (holder rows shared_label) (λ e. ne (ap (own rows) e ∙ S.table.owners.owned shared_label (S.table.labels_there b S.b_there))))
 
+  -- a label for the ring of a changes labels of the two rings alone
   pub relabelled_part : (new : Spots) (l : ℕ) → new ≡ labelled sp l (ring sp a) → IsRelabelled sp new a b
   relabelled_part new l is = subst (λ s. IsRelabelled sp s a b) (sym is) (record { same = blank-labelled sp l (ring sp a); others = λ q h n m. label-labelled_out sp l (ring sp a) q n })
 
@@ -187,28 +205,35 @@ module _ (sp : Spots) (known : ℕ → Bool) (rows : List (Option Label)) (a b :
     abbrev own_a : ℕ
     own_a = own rows' a
 
+    -- each code owns one label and each label has one holder once b owns the shared one
     owners' : AreOwned (own rows') (holder rows') (has_label rows)
     owners' = handed_over (own rows) (holder rows) (has_label rows) S.table.owners (own rows') (holder rows') b shared_label b_known (S.table.labels_there b S.b_there) own_is holder_is
 
+    -- b is the holder of the shared label
     holder_of_x : holder rows' shared_label ≡ b
     holder_of_x = holder_x (own rows) (holder rows) (has_label rows) S.table.owners (own rows') (holder rows') b shared_label b_known (S.table.labels_there b S.b_there) own_is holder_is
 
     abbrev now : Spots
     now = labelled sp own_a (ring sp a)
 
+    -- each code keeps its ring
     rings_are : (c : ℕ) → ring now c ≡ ring sp c
     rings_are c = ring-labelled sp S.table.rings a own_a S.a_there c
 
+    -- the live codes stay
     live_are : (c : ℕ) → live now c ≡ live sp c
     live_are c = live-labelled sp own_a (ring sp a) c
 
+    -- a label's holder stands in a ring as it is now where it stood in the ring before
     holds : (c n : ℕ) → label now c ≡ n → IsIn (holder rows' n) (ring sp c) → IsIn (holder rows' (label now c)) (ring now c)
     holds c n e i = subst (λ hs. IsIn (holder rows' (label now c)) hs) (sym (rings_are c)) (subst (λ w. IsIn (holder rows' w) (ring sp c)) (sym e) i)
 
+    -- the ring of a has the holder of its new label
     held_in_a : (c : ℕ) → live sp c ≡ true → IsIn c (ring sp a) → IsIn (holder rows' (label now c)) (ring now c)
     held_in_a c h i = holds c own_a (label-labelled_in sp own_a (ring sp a) c i h)
         (subst (λ w. IsIn w (ring sp c)) (sym (owners'.held a a_known)) (subst (IsIn a) (sym (ring_same sp S.table.rings a c S.a_there i)) (S.table.rings.rings a S.a_there).item))
 
+    -- the ring of b has the holder of the shared label
     held_in_b : (c : ℕ) → live sp c ≡ true → count c (ring sp a) ≡ 0 → IsIn c (ring sp b) → IsIn (holder rows' (label now c)) (ring now c)
     held_in_b c h n i = holds c shared_label (label-labelled_out sp own_a (ring sp a) c n ∙ (S.table.rings.rings b S.b_there).one_label c i)
         (subst (λ w. IsIn w (ring sp c)) (sym holder_of_x) (subst (IsIn b) (sym (ring_same sp S.table.rings b c S.b_there i)) (S.table.rings.rings b S.b_there).item))
@@ -225,6 +250,7 @@ module _ (sp : Spots) (known : ℕ → Bool) (rows : List (Option Label)) (a b :
         holds c (label sp c) (label-labelled_out sp own_a (ring sp a) c n)
         (subst (λ w. IsIn w (ring sp c)) (sym (holder_other (own rows) (holder rows) (has_label rows) S.table.owners (own rows') (holder rows') b shared_label b_known (S.table.labels_there b S.b_there) own_is holder_is (label sp c) not_x not_own)) i)
 
+    -- each ring has a label of its own
     now_labelled : AreLabelled now known rows'
     now_labelled = record {
       table = record {
@@ -242,6 +268,7 @@ module _ (sp : Spots) (known : ℕ → Bool) (rows : List (Option Label)) (a b :
       ];
     }
 
+    -- the same, where the labels are told by an equation
     pub labelled-apart : (known' : ℕ → Bool) → known' ≡ known → AreLabelled new known' rows'
     labelled-apart known' same = subst (λ k. AreLabelled new k rows') (sym same) (subst (λ s. AreLabelled s known rows') (sym is) now_labelled)
 
@@ -271,5 +298,6 @@ module _ (sp : Spots) (known : ℕ → Bool) (rows : List (Option Label)) (a b :
     in_joint c h i = subst (λ hs. IsIn (holder rows (label (spliced sp a b) c)) hs) (sym (ring_joint sp S.table.rings a b S.a_there S.b_there S.apart S.one c i).0)
         (subst (λ w. IsIn (holder rows w) (joined a b (ring sp a) (ring sp b))) (sym (one_label c h i)) held_joint)
 
+  -- the same, where the joint ring is told by an equation
   pub labelled-join_to : (new : Spots) (known' : ℕ → Bool) → new ≡ spliced sp a b → known' ≡ known → AreLabelled new known' rows
   labelled-join_to new known' is same = subst (λ k. AreLabelled new k rows) (sym same) (subst (λ s. AreLabelled s known rows) (sym is) labelled-join)

@@ -14,6 +14,7 @@ use Rattle.arena_rows.proofs.ring_spots_laws.SpotLaws.{live-labelled, live-splic
 use Rattle.arena_rows.proofs.ring_spots_laws.RingMaps.{no_codes, spot-empty, known-empty}
 
 module _ (sp new : Spots) (e : ℕ) where
+  -- an edge is in use once its two codes wake
   edge_woken : (a b : ℕ) → e ≤ 1000000 → new ≡ woken (woken sp (plus e) a) (minus e) b → is_edge new e ≡ true
   edge_woken a b limit is =
       let most : nat_le e 1000000 ≡ true = grind (arith, nat_tests) in
@@ -22,21 +23,25 @@ module _ (sp new : Spots) (e : ℕ) where
       ∙ ap (λ t. cond t (Some (ring_of_one (plus e) a)) (sp (plus e))) (eq-eqb (plus e) (plus e) refl) in
       ap (λ (s : Spots). is_edge s e) is ∙ (λ i. most i && is_some (there i))
 
+  -- another edge is in use where it was
   other_woken : (a b : ℕ) → new ≡ woken (woken sp (plus e) a) (minus e) b → (k : ℕ) → k ≢ e → is_edge new k ≡ is_edge sp k
   other_woken a b is k ne = ap (λ (s : Spots). is_edge s k) is ∙ ap (λ o. nat_le k 1000000 && is_some o) (
       ap (λ t. cond t (Some (ring_of_one (minus e) b)) (woken sp (plus e) a (plus k))) (ne_eqb (plus k) (minus e) (λ q. omega arith))
       ∙ ap (λ t. cond t (Some (ring_of_one (plus e) a)) (sp (plus k))) (ne_eqb (plus k) (plus e) (λ q. ne (omega arith))))
 
+  -- an edge is not in use once its two codes sleep
   edge_asleep : new ≡ asleep (asleep sp (plus e)) (minus e) → is_edge new e ≡ false
   edge_asleep is = ap (λ (s : Spots). is_edge s e) is ∙ ap (λ o. nat_le e 1000000 && is_some o) (
       ap (λ t. cond t None (asleep sp (plus e) (plus e))) (ne_eqb (plus e) (minus e) (λ q. omega arith))
       ∙ ap (λ t. cond t None (sp (plus e))) (eq-eqb (plus e) (plus e) refl)) ∙ and_false (nat_le e 1000000)
 
+  -- another edge is in use where it was
   other_asleep : new ≡ asleep (asleep sp (plus e)) (minus e) → (k : ℕ) → k ≢ e → is_edge new k ≡ is_edge sp k
   other_asleep is k ne = ap (λ (s : Spots). is_edge s k) is ∙ ap (λ o. nat_le k 1000000 && is_some o) (
       ap (λ t. cond t None (asleep sp (plus e) (plus k))) (ne_eqb (plus k) (minus e) (λ q. omega arith))
       ∙ ap (λ t. cond t None (sp (plus k))) (ne_eqb (plus k) (plus e) (λ q. ne (omega arith))))
 
+-- where no code is known no edge is in use
 pub no_edges : (m : RingMap) (words : List ℕ) → m ≡ no_codes → words ≡ [] → AreEdges m words
 no_edges m words a b = subst (λ (k : RingMap). AreEdges k words) (sym a) (subst (AreEdges no_codes) (sym b) (record {
   live = λ e. uses_past [] e (omega arith) ∙ sym (ap (λ o. nat_le e 1000000 && is_some o) (spot-empty (plus e)) ∙ and_false (nat_le e 1000000));
@@ -51,15 +56,19 @@ module _ (m : RingMap) (words : List ℕ) (A : AreEdges m words) where
     room = λ e l h. A.room e l (sym (ap (λ (k : ℕ → Bool). k (plus e)) known) ∙ h);
   }
 
+  -- the edges stay in use where a ring gets a label
   pub edges_labelled : (new : RingMap) (l : ℕ) (hs : List ℕ) → spot new ≡ labelled (spot m) l hs → contains_key new ≡ contains_key m → AreEdges new words
   edges_labelled new l hs is = edges_alike new (λ c. ap (λ (s : Spots). live s c) is ∙ live-labelled (spot m) l hs c)
 
+  -- so they do where a ring is cut and a part gets a label
   pub edges_cut : (new : RingMap) (a b l : ℕ) (hs : List ℕ) → spot new ≡ labelled (spliced (spot m) a b) l hs → contains_key new ≡ contains_key m → AreEdges new words
   edges_cut new a b l hs is = edges_alike new (λ c. ap (λ (s : Spots). live s c) is ∙ live-labelled (spliced (spot m) a b) l hs c ∙ live-spliced (spot m) a b c)
 
+  -- so they do where a ring gets a label and is joined to another
   pub edges_joined : (new : RingMap) (a b l : ℕ) (hs : List ℕ) → spot new ≡ spliced (labelled (spot m) l hs) a b → contains_key new ≡ contains_key m → AreEdges new words
   edges_joined new a b l hs is = edges_alike new (λ c. ap (λ (s : Spots). live s c) is ∙ live-spliced (labelled (spot m) l hs) a b c ∙ live-labelled (spot m) l hs c)
 
+  -- so they do where a half-edge starts elsewhere
   pub edges_set_tail : (new : RingMap) (h t : ℕ) → spot new ≡ set_tail (spot m) h t → contains_key new ≡ contains_key m → AreEdges new words
   edges_set_tail new h t is = edges_alike new (λ c. ap (λ (s : Spots). live s c) is ∙ live-set_tail (spot m) h t c)
 
@@ -74,10 +83,12 @@ module _ (m : RingMap) (words : List ℕ) (A : AreEdges m words) where
     room = λ k l h. let below : k / 64 < length words = A.room k l (sym (ap (λ (p : ℕ → Bool). p (plus k)) known) ∙ h) in omega (arith, below, len);
   }
 
+  -- the number of an edge that wakes comes
   pub edges_woken : (new : RingMap) (after : List ℕ) (e a b : ℕ) → e ≤ 1000000 → spot new ≡ woken (woken (spot m) (plus e) a) (minus e) b → contains_key new ≡ contains_key m →
       ((q : ℕ) → uses after q ≡ cond (nat_eq q e) true (uses words q)) → length after ≡ length words → AreEdges new after
   edges_woken new after e a b limit is = edges_turned new after e true (edge_woken (spot m) (spot new) e a b limit is) (other_woken (spot m) (spot new) e a b is)
 
+  -- the number of an edge that goes to sleep goes
   pub edges_asleep : (new : RingMap) (after : List ℕ) (e : ℕ) → spot new ≡ asleep (asleep (spot m) (plus e)) (minus e) → contains_key new ≡ contains_key m →
       ((q : ℕ) → uses after q ≡ cond (nat_eq q e) false (uses words q)) → length after ≡ length words → AreEdges new after
   edges_asleep new after e is = edges_turned new after e false (edge_asleep (spot m) (spot new) e is) (other_asleep (spot m) (spot new) e is)
@@ -90,6 +101,7 @@ module _ (m : RingMap) (words : List ℕ) (A : AreEdges m words) where
       room = λ e l h. let below : e / 64 < length words = A.room e l h in omega (arith, below, more);
     }
 
+    -- the numbers stay where an edge gets its nodes
     pub edges_roomed : (new : RingMap) (n : ℕ) → n / 64 < length after → spot new ≡ spot m → ((q : ℕ) → q ≢ plus n → q ≢ minus n → contains_key new q ≡ contains_key m q) → AreEdges new after
     edges_roomed new n there spots only = record {
       live = λ e. edges_more.live e ∙ sym (ap (λ (s : Spots). is_edge s e) spots);

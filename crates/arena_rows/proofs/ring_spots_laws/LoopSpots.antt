@@ -14,6 +14,7 @@ use Rattle.arena_rows.specs.Common.{Spots, codes, live, next, label, ring, is_in
 use Rattle.arena_rows.specs.ring_spots.Spots.{set_tail}
 use Rattle.arena_rows.proofs.ring_spots_laws.SpotLaws.{either, live-map, ring_kept, ring_next, label-labelled_in, label-labelled_out}
 
+-- what stands at two codes is equal where it is but for labels, and the labels are
 same_spot : (o p : Option Spot) → but_label o ≡ but_label p → (is_some o ≡ true → or_zero (of_spot (λ s. s.label) o) ≡ or_zero (of_spot (λ s. s.label) p)) → o ≡ p
 same_spot None None e l = refl
 same_spot None (Some t) e l = absurd (true≢false (sym (ap is_some e)))
@@ -24,22 +25,27 @@ same_spot (Some s) (Some t) e l =
     let k : s.label ≡ t.label = l refl in
     λ i. Some (record { next = n i; tail = u i; label = k i })
 
+-- so it is of all codes
 pub same_spots : (s t : Spots) → ((q : ℕ) → but_label (s q) ≡ but_label (t q)) → ((q : ℕ) → live s q ≡ true → label s q ≡ label t q) → s ≡ t
 same_spots s t e l = λ i q. same_spot (s q) (t q) (e q) (l q) i
 
+-- whether a code is live is read without its label
 blank-live : (o : Option Spot) → is_some (but_label o) ≡ is_some o
 blank-live o = live-map _ o
 
+-- its successor is read without its label
 blank-next : (o : Option Spot) → or_zero (of_spot (λ s. s.next) (but_label o)) ≡ or_zero (of_spot (λ s. s.next) o)
 blank-next None = refl
 blank-next (Some s) = refl
 
+-- labels that are given change nothing but labels
 pub blank-labelled : (sp : Spots) (l : ℕ) (hs : List ℕ) (q : ℕ) → but_label (labelled sp l hs q) ≡ but_label (sp q)
 blank-labelled sp l hs q = either but_label (is_in q hs) _ _ _ (blank-label (sp q)) refl where
   blank-label : (o : Option Spot) → but_label (map_spot (λ s. record s { label = l }) o) ≡ but_label o
   blank-label None = refl
   blank-label (Some s) = refl
 
+-- loops in the place of labels change nothing but labels
 pub blank-loops : (rows : List (Option Label)) (sp : Spots) (q : ℕ) → but_label (in_loops rows sp q) ≡ but_label (sp q)
 blank-loops rows sp q = blank-with_loop (sp q) where
   blank-with_loop : (o : Option Spot) → but_label (map_spot (with_loop rows) o) ≡ but_label o
@@ -48,12 +54,15 @@ blank-loops rows sp q = blank-with_loop (sp q) where
 
 -- spots that differ in labels alone
 module _ (sp new : Spots) (same : (q : ℕ) → but_label (new q) ≡ but_label (sp q)) where
+  -- they have the same live codes
   pub live-alike : (q : ℕ) → live new q ≡ live sp q
   live-alike q = sym (blank-live (new q)) ∙ ap is_some (same q) ∙ blank-live (sp q)
 
+  -- they have the same successors
   pub next-alike : (q : ℕ) → next new q ≡ next sp q
   next-alike q = sym (blank-next (new q)) ∙ ap (λ o. or_zero (of_spot (λ s. s.next) o)) (same q) ∙ blank-next (sp q)
 
+  -- they have the same rings
   pub ring-alike : (q : ℕ) → ring new q ≡ ring sp q
   ring-alike q = ring_next sp new q next-alike
 
@@ -66,21 +75,26 @@ module _ (sp new : Spots) (same : (q : ℕ) → but_label (new q) ≡ but_label 
   }
 
 module _ (rows : List (Option Label)) (sp : Spots) where
+  -- with loops in the place of labels the live codes are the same
   pub live-loops : (q : ℕ) → live (in_loops rows sp) q ≡ live sp q
   live-loops = live-alike sp (in_loops rows sp) (blank-loops rows sp)
 
+  -- so are the successors
   next-loops : (q : ℕ) → next (in_loops rows sp) q ≡ next sp q
   next-loops = next-alike sp (in_loops rows sp) (blank-loops rows sp)
 
+  -- so are the rings
   pub ring-loops : (q : ℕ) → ring (in_loops rows sp) q ≡ ring sp q
   ring-loops = ring-alike sp (in_loops rows sp) (blank-loops rows sp)
 
+  -- the label of a live code is its loop
   pub label-loops : (q : ℕ) → live sp q ≡ true → label (in_loops rows sp) q ≡ loop_at rows (label sp q)
   label-loops q a = label-with_loop (sp q) a where
     label-with_loop : (o : Option Spot) → is_some o ≡ true → or_zero (of_spot (λ s. s.label) (map_spot (with_loop rows) o)) ≡ loop_at rows (or_zero (of_spot (λ s. s.label) o))
     label-with_loop None e = absurd (true≢false (sym e))
     label-with_loop (Some s) e = refl
 
+  -- a tail is set before or after loops take the place of labels
   pub loops-set_tail : (h v : ℕ) → in_loops rows (set_tail sp h v) ≡ set_tail (in_loops rows sp) h v
   loops-set_tail h v = λ i q. with_loop-tail (nat_eq q h) (sp q) i where
     with_loop-tail : (b : Bool) (o : Option Spot) → map_spot (with_loop rows) (cond b (map_spot (λ s. record s { tail = v }) o) o) ≡ cond b (map_spot (λ s. record s { tail = v }) (map_spot (with_loop rows) o)) (map_spot (with_loop rows) o)
@@ -88,12 +102,14 @@ module _ (rows : List (Option Label)) (sp : Spots) where
     with_loop-tail true (Some s) = refl
     with_loop-tail false o = refl
 
+  -- a code goes to sleep before or after that
   pub loops-asleep : (c : ℕ) → in_loops rows (asleep sp c) ≡ asleep (in_loops rows sp) c
   loops-asleep c = λ i q. with_loop-none (nat_eq q c) (sp q) i where
     with_loop-none : (b : Bool) (o : Option Spot) → map_spot (with_loop rows) (cond b None o) ≡ cond b None (map_spot (with_loop rows) o)
     with_loop-none true o = refl
     with_loop-none false o = refl
 
+  -- links are spliced before or after that
   pub loops-spliced : (a b : ℕ) → in_loops rows (spliced sp a b) ≡ spliced (in_loops rows sp) a b
   loops-spliced a b = (λ i q. with_loop-next (splice (next sp) a b q) (sp q) i) ∙ ap (λ (f : ℕ → ℕ). with_links (in_loops rows sp) (splice f a b)) (λ i q. sym (next-loops q) i) where
     with_loop-next : (n : ℕ) (o : Option Spot) → map_spot (with_loop rows) (map_spot (λ s. record s { next = n }) o) ≡ map_spot (λ s. record s { next = n }) (map_spot (with_loop rows) o)
@@ -122,6 +138,7 @@ loops-same sp new rows rows' same loops = same_spots (in_loops rows' new) (in_lo
 -- ---- the map that a contract sees
 
 module _ (rows : List (Option Label)) (m : RingMap) where
+  -- at each code the map has what it had, with its loop in the place of its label
   pub get-loops : (q : ℕ) → get (map_in_loops rows m) q ≡ option_map (map_spot (with_loop rows)) (get m q)
   unfolding map_in_loops table.get
   get-loops q = get-from_entries nat_cmp_total (map_rows (λ _ o. map_spot (with_loop rows) o) (rows_of m)).rows q ∙ get-map_rows (λ _ o. map_spot (with_loop rows) o) (rows_of m) q ∙ ap (option_map (map_spot (with_loop rows))) (sym (get-entries m q))

@@ -10,6 +10,7 @@ use Rattle.arena_rows.proofs.ring_spots_laws.SpotLaws.{next-labelled, live-label
 use Rattle.arena_rows.proofs.ring_spots_laws.LoopSpots.{same_spots, blank-labelled, blank-loops, live-alike, ring-alike, live-loops, label-loops, loops-spliced}
 use Rattle.arena_rows.proofs.ring_spots_laws.LabelLaws.{share-cut}
 
+-- labels are given before or after a splice
 labelled-spliced : (sp : Spots) (l : ℕ) (hs : List ℕ) (a b : ℕ) → labelled (spliced sp a b) l hs ≡ spliced (labelled sp l hs) a b
 labelled-spliced sp l hs a b = (λ i q. label_beside_next (is_in q hs) (splice (next sp) a b q) (sp q) i) ∙ ap (λ (f : ℕ → ℕ). with_links (labelled sp l hs) (splice f a b)) (λ i q. sym (next-labelled sp l hs q) i) where
   label_beside_next : (t : Bool) (n : ℕ) (o : Option Spot) → cond t (map_spot (λ s. record s { label = l }) (map_spot (λ s. record s { next = n }) o)) (map_spot (λ s. record s { next = n }) o) ≡ map_spot (λ s. record s { next = n }) (cond t (map_spot (λ s. record s { label = l }) o) o)
@@ -18,9 +19,11 @@ labelled-spliced sp l hs a b = (λ i q. label_beside_next (is_in q hs) (splice (
   label_beside_next false n o = refl
 
 module _ (sp now : Spots) (rows rows' : List (Option Label)) (a b kept : ℕ) (r : IsRelabelled sp now a b) (loops : loop_at rows' ≡ loop_at rows) (at_a : (q : ℕ) → live sp q ≡ true → IsIn q (ring sp a) → loop_at rows (label sp q) ≡ kept) where
+  -- each code keeps its ring
   rings_are : (q : ℕ) → ring now q ≡ ring sp q
   rings_are q = ring-alike sp now r.same q
 
+  -- the live codes stay
   live_are : (q : ℕ) → live now q ≡ live sp q
   live_are q = live-alike sp now r.same q
 

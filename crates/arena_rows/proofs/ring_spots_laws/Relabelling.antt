@@ -20,6 +20,7 @@ walk_items sp R from n a e x =
     let w : walk_to (next sp) from from n ≡ rotate_to from (ring sp from) = orbit_from (next sp) from (ring sp from) n o.leads o.apart o.item (omega (arith, length_below codes (ring sp from) o.apart (λ x i. R.bound x (o.awake x i)))) in
     ap (count x) w ∙ count-rotate_to x from (ring sp from)
 
+-- before the walk all items wait for the label
 pub partly_start : (sp : Spots) (R : AreRings sp) (from l n : ℕ) → live sp from ≡ true → n ≡ codes → PartlyLabelled sp sp l (ring sp from) (walk_to (next sp) from from n)
 partly_start sp R from l n a e =
     let o = R.rings from a in
@@ -33,12 +34,15 @@ partly_start sp R from l n a e =
       ];
     }
 
+-- on the way each code keeps its successor
 pub partly_next : (sp now : Spots) (l : ℕ) (hs waiting : List ℕ) → PartlyLabelled sp now l hs waiting → (q : ℕ) → next now q ≡ next sp q
 partly_next sp now l hs waiting d q = ap (λ o. or_zero (of_spot (λ s. s.next) o)) (d.at q) ∙ either (λ o. or_zero (of_spot (λ s. s.next) o)) (is_in q waiting) _ _ _ refl (next-labelled sp l hs q)
 
+-- on the way the live codes stay
 pub partly_live : (sp now : Spots) (l : ℕ) (hs waiting : List ℕ) → PartlyLabelled sp now l hs waiting → (q : ℕ) → live now q ≡ live sp q
 partly_live sp now l hs waiting d q = ap is_some (d.at q) ∙ either is_some (is_in q waiting) _ _ _ refl (live-labelled sp l hs q)
 
+-- the first of those that wait gets the label, and the others wait
 pub partly_step : (sp now new : Spots) (l h : ℕ) (hs rest : List ℕ) → PartlyLabelled sp now l hs (h ∷ rest) → ((q : ℕ) → new q ≡ cond (nat_eq q h) (map_spot (λ s. record s { label = l }) (now q)) (now q)) → PartlyLabelled sp new l hs rest
 partly_step sp now new l h hs rest d is = record {
   apart = λ x. omega (arith, d.apart x);
@@ -59,6 +63,7 @@ partly_step sp now new l h hs rest d is = record {
   ];
 }
 
+-- where none waits all have the label
 pub partly_end : (sp now : Spots) (l : ℕ) (hs : List ℕ) → PartlyLabelled sp now l hs [] → now ≡ labelled sp l hs
 partly_end sp now l hs d = λ i q. (d.at q ∙ ap (λ b. cond b (sp q) (labelled sp l hs q)) (is_in-no q [] refl)) i
 
@@ -71,32 +76,40 @@ pub partly_last : (sp now new : Spots) (l from h x n : ℕ) (hs : List ℕ) → 
 partly_last sp now new l from h x n hs some d is to back =
     partly_end sp new l hs (subst (PartlyLabelled sp new l hs) (ap (λ b. cond b [] (walk_to (next sp) from (next sp h) (n - 1))) (eq-eqb (next sp h) from (to ∙ back))) (partly_step sp now new l h hs _ (partly_walk sp now l from h n (n - 1) hs (omega arith) d) is))
 
+-- one step of the walk that does not end it: the item at which it stands gets the label
 pub partly_more : (sp now new : Spots) (l from h x n k : ℕ) (hs : List ℕ) → n ≡ k + 1 → PartlyLabelled sp now l hs (walk_to (next sp) from h n) → ((q : ℕ) → new q ≡ cond (nat_eq q h) (map_spot (λ s. record s { label = l }) (now q)) (now q)) → next sp h ≡ x → x ≢ from → PartlyLabelled sp new l hs (walk_to (next sp) from x k)
 partly_more sp now new l from h x n k hs e d is to on =
     subst (λ z. PartlyLabelled sp new l hs (walk_to (next sp) from z k)) to
     (subst (PartlyLabelled sp new l hs) (ap (λ b. cond b [] (walk_to (next sp) from (next sp h) k)) (ne_eqb (next sp h) from (λ q. on (sym to ∙ q)))) (partly_step sp now new l h hs _ (partly_walk sp now l from h n k hs e d) is))
 
+-- where the walk has none to go all have the label
 pub partly_over : (sp now : Spots) (l from h n : ℕ) (hs : List ℕ) → n ≡ 0 → PartlyLabelled sp now l hs (walk_to (next sp) from h n) → now ≡ labelled sp l hs
 partly_over sp now l from h n hs e d = partly_end sp now l hs (subst (λ k. PartlyLabelled sp now l hs (walk_to (next sp) from h k)) e d)
 
 -- a code that hasn't been met yet
 module _ (f : ℕ → ℕ) (from h x n s : ℕ) (to : f h ≡ x) (ne : s ≢ h) where
+  -- a code that is met from h on, and is not h, is met after it
   missed_step : (k : ℕ) → n ≡ k + 1 → IsIn s (walk_to f from h n) → IsIn s (cond (eqb (f h) from) [] (walk_to f from (f h) k))
   missed_step k e i = let j : IsIn s (h ∷ cond (eqb (f h) from) [] (walk_to f from (f h) k)) = subst (IsIn s) (walk_to_more f from h n k e) i in omega (arith, j, tick_other s h ne)
 
+  -- so it is met from the next item on, where that does not end the walk
   pub missed_more : (k : ℕ) → n ≡ k + 1 → x ≢ from → IsIn s (walk_to f from h n) → IsIn s (walk_to f from x k)
   missed_more k e on i = subst (λ z. IsIn s (walk_to f from z k)) to (subst (IsIn s) (ap (λ b. cond b [] (walk_to f from (f h) k)) (ne_eqb (f h) from (λ q. on (sym to ∙ q)))) (missed_step k e i))
 
+  -- there is none where the next item ends the walk
   pub missed_last : 0 < n → x ≡ from → IsIn s (walk_to f from h n) → ⊥
   missed_last some back i = let j : IsIn s [] = subst (IsIn s) (ap (λ b. cond b [] (walk_to f from (f h) (n - 1))) (eq-eqb (f h) from (to ∙ back))) (missed_step (n - 1) (omega (arith, some)) i) in absurd (omega (arith, j))
 
+-- none is met where the walk has none to go
 pub missed_over : (f : ℕ → ℕ) (from h n s : ℕ) → n ≡ 0 → IsIn s (walk_to f from h n) → ⊥
 missed_over f from h n s e i = let j : IsIn s [] = subst (λ k. IsIn s (walk_to f from h k)) e i in absurd (omega (arith, j))
 
+-- a code that was not met, nor is met now, is another than the one met now
 pub not_met : (m : Bool) (h s : ℕ) → (m || eqb h s) ≡ false → (m ≡ false) × (s ≢ h)
 not_met true h s e = absurd (true≢false e)
 not_met false h s e = (refl, λ q. true≢false (sym (eq-eqb h s (sym q)) ∙ e))
 
+-- an item's successor stands in the ring
 pub step_in : (sp : Spots) (R : AreRings sp) (from h : ℕ) → live sp from ≡ true → IsIn h (ring sp from) → IsIn (next sp h) (ring sp from)
 step_in sp R from h a i = let b = (R.rings from a).awake h i in subst (IsIn (next sp h)) (ring_same sp R from h a i) (next_in_ring sp R h b)
 
@@ -104,9 +117,11 @@ step_in sp R from h a i = let b = (R.rings from a).awake h i in subst (IsIn (nex
 pub known_step : (m new : RingMap) (h l : ℕ) → new ≡ set_label m h l → (q : ℕ) → spot new q ≡ cond (nat_eq q h) (map_spot (λ s. record s { label = l }) (spot m q)) (spot m q)
 known_step m new h l e q = ap (λ (k : RingMap). spot k q) e ∙ spot-with m h (λ s. record s { label = l }) q
 
+-- no code wakes or goes to sleep by it
 pub label_step : (m new : RingMap) (h l q : ℕ) → new ≡ set_label m h l → live (spot new) q ≡ live (spot m) q
 label_step m new h l q e = ap is_some (known_step m new h l e q) ∙ either is_some (nat_eq q h) _ _ _ (live-map _ (spot m q)) refl
 
+-- the code keeps its successor
 pub next_step : (m new : RingMap) (h l : ℕ) → new ≡ set_label m h l → {n : ℕ} → next (spot m) h ≡ n → (x : ℕ) → next_of new h ≡ Some x → n ≡ x
 next_step m new h l e {n = n} was x is = sym (sym (ap or_zero is) ∙ ap (λ o. or_zero (of_spot (λ s. s.next) o)) (known_step m new h l e h)
     ∙ either (λ o. or_zero (of_spot (λ s. s.next) o)) (nat_eq h h) _ _ _ (part-kept _ _ (λ s. refl) (spot m h)) refl ∙ was)

@@ -9,26 +9,32 @@ use Rattle.raw_ring.proofs.Mapping.{get-put}
 use Rattle.arena_rows.specs.Common.{next, asleep, map_spot, spliced}
 use Rattle.arena_rows.specs.ring_spots.Spots.{set_tail}
 
+-- what stands at a code is read through a test of which code it is
 awake-cond : (b : Bool) (v : Option Spot) (o : Option (Option Spot)) → awake (cond b (Some v) o) ≡ cond b v (awake o)
 awake-cond true v o = refl
 awake-cond false v o = refl
 
+-- whether a code is known is read through such a test
 known-cond : (b : Bool) (v : Option Spot) (o : Option (Option Spot)) → is_some (cond b (Some v) o) ≡ cond b true (is_some o)
 known-cond true v o = refl
 known-cond false v o = refl
 
+-- where one code is written it has what was written, and each other one what it had
 pub spot-insert : (m : RingMap) (c : ℕ) (v : Option Spot) (q : ℕ) → spot (insert m c v) q ≡ cond (nat_eq q c) v (spot m q)
 spot-insert m c v q = ap awake (get-put m c v q) ∙ awake-cond (nat_eq q c) v (get m q)
 
+-- the code that is written is known, and so is each that was
 pub known-insert : (m : RingMap) (c : ℕ) (v : Option Spot) (q : ℕ) → contains_key (insert m c v) q ≡ cond (nat_eq q c) true (contains_key m q)
 known-insert m c v q = ap is_some (get-put m c v q) ∙ known-cond (nat_eq q c) v (get m q)
 
+-- where a known code is written each code is known that was
 pub known_kept : (m : RingMap) (c : ℕ) (v : Option Spot) → contains_key m c ≡ true → (q : ℕ) → contains_key (insert m c v) q ≡ contains_key m q
 known_kept m c v k q = known-insert m c v q ∙ elim (eqb_tells q c) [
   | inl p ↦ ap (λ b. cond b true (contains_key m q)) p.0 ∙ sym k ∙ ap (contains_key m) (sym p.1)
   | inr p ↦ ap (λ b. cond b true (contains_key m q)) p.0
 ]
 
+-- a live code is known
 pub live_known : (m : RingMap) (c : ℕ) → is_some (spot m c) ≡ true → contains_key m c ≡ true
 live_known m c e = awake_known (get m c) e where
   awake_known : (o : Option (Option Spot)) → is_some (awake o) ≡ true → is_some o ≡ true
@@ -49,16 +55,19 @@ module _ (m : RingMap) (c : ℕ) (f : Spot → Spot) where
       | inr p ↦ ap (λ b. cond b (Some (f s)) (spot m q)) p.0 ∙ sym (ap (λ b. cond b (map_spot f (spot m q)) (spot m q)) p.0)
     ]
 
+  -- each code is known that was
   pub known-with : (q : ℕ) → contains_key (with_spot m c f) q ≡ contains_key m q
   known-with q = known-put_spot (spot m c) refl where
     known-put_spot : (o : Option Spot) → spot m c ≡ o → contains_key (put_spot m c f o) q ≡ contains_key m q
     known-put_spot None e = refl
     known-put_spot (Some s) e = known_kept m c (Some (f s)) (live_known m c (ap is_some e)) q
 
+-- a code that is led where it led stays as it is
 same_next : (o : Option Spot) → map_spot (λ s. record s { next = or_zero (of_spot (λ s. s.next) o) }) o ≡ o
 same_next None = refl
 same_next (Some s) = refl
 
+-- of two successors that are written in turn the last one stands
 twice : (n k : ℕ) (o : Option Spot) → map_spot (λ s. record s { next = n }) (map_spot (λ s. record s { next = k }) o) ≡ map_spot (λ s. record s { next = n }) o
 twice n k None = refl
 twice n k (Some s) = refl
@@ -78,27 +87,34 @@ spot-spliced m a b = λ i q. (
     ∙ ap (λ o. cond (nat_eq q b) (map_spot (λ s. record s { next = or_zero (next_of m a) }) o) o) (spot-with m a (λ s. record s { next = or_zero (next_of m b) }) q)
     ∙ both_led (nat_eq q a) (nat_eq q b) (or_zero (next_of m a)) (or_zero (next_of m b)) (spot m q) (λ s t. ap (λ z. or_zero (next_of m z)) (sym (eqb-true q a s) ∙ eqb-true q b t))) i
 
+-- each code is known that was
 pub known-spliced : (m : RingMap) (a b : ℕ) → contains_key (rings.spliced m a b) ≡ contains_key m
 known-spliced m a b = λ i q. (known-with (with_next m a (or_zero (next_of m b))) b (λ s. record s { next = or_zero (next_of m a) }) q ∙ known-with m a (λ s. record s { next = or_zero (next_of m b) }) q) i
 
+-- a tail that is set
 pub spot-tail : (m : RingMap) (c t : ℕ) → spot (rings.set_tail m c t) ≡ set_tail (spot m) c t
 spot-tail m c t = λ i q. spot-with m c (λ s. record s { tail = t }) q i
 
+-- each code is known that was
 pub known-tail : (m : RingMap) (c t : ℕ) → contains_key (rings.set_tail m c t) ≡ contains_key m
 known-tail m c t = λ i q. known-with m c (λ s. record s { tail = t }) q i
 
+-- a code that goes to sleep
 pub spot-asleep : (m : RingMap) (c : ℕ) → spot (insert m c None) ≡ asleep (spot m) c
 spot-asleep m c = λ i q. spot-insert m c None q i
 
+-- where a known code is written the known codes stay
 pub known-same : (m : RingMap) (c : ℕ) (v : Option Spot) → contains_key m c ≡ true → contains_key (insert m c v) ≡ contains_key m
 known-same m c v k = λ i q. known_kept m c v k q i
 
 abbrev pub no_codes : RingMap
 no_codes = map.empty
 
+-- in the empty map nothing stands at a code
 pub spot-empty : (q : ℕ) → spot no_codes q ≡ None
 spot-empty q = ap awake (map.get-empty nat_cmp q)
 
+-- in the empty map no code is known
 pub known-empty : (q : ℕ) → contains_key no_codes q ≡ false
 known-empty q = ap is_some (map.get-empty nat_cmp q)
 

@@ -15,38 +15,48 @@ use Rattle.arena_rows.proofs.ring_spots_laws.LoopSpots.{spot-loops, known-loops,
 pub seen_as : (F : Spots → Spots) (rows rows' : List (Option Label)) (m new : RingMap) → in_loops rows' (spot new) ≡ F (in_loops rows (spot m)) → spot (map_in_loops rows' new) ≡ F (spot (map_in_loops rows m))
 seen_as F rows rows' m new e = spot-loops rows' new ∙ e ∙ ap F (sym (spot-loops rows m))
 
+-- the same codes are seen to be known where the same are
 pub known_as : (rows rows' : List (Option Label)) (m new : RingMap) → contains_key new ≡ contains_key m → contains_key (map_in_loops rows' new) ≡ contains_key (map_in_loops rows m)
 known_as rows rows' m new e = known-loops rows' new ∙ e ∙ sym (known-loops rows m)
 
 module _ (rows : List (Option Label)) (m : RingMap) where
+  -- a code is seen to be live where it is
   pub seen_live : (q : ℕ) → live (spot (map_in_loops rows m)) q ≡ live (spot m) q
   seen_live q = ap (λ (s : Spots). live s q) (spot-loops rows m) ∙ live-loops rows (spot m) q
 
+  -- a code is seen to be known where it is
   pub seen_known : (q : ℕ) → contains_key (map_in_loops rows m) q ≡ contains_key m q
   seen_known q = ap (λ (k : ℕ → Bool). k q) (known-loops rows m)
 
+  -- a code is seen in its ring
   pub seen_ring : (q : ℕ) → ring (spot (map_in_loops rows m)) q ≡ ring (spot m) q
   seen_ring q = ap (λ (s : Spots). ring s q) (spot-loops rows m) ∙ ring-loops rows (spot m) q
 
+  -- the label of a live code is seen as its loop
   pub seen_label : (q : ℕ) → live (spot m) q ≡ true → label (spot (map_in_loops rows m)) q ≡ loop_at rows (label (spot m) q)
   seen_label q a = ap (λ (s : Spots). label s q) (spot-loops rows m) ∙ label-loops rows (spot m) q a
 
+  -- what is no label is seen as it is
   same_part : (g : Spot → ℕ) → ((s : Spot) → g (with_loop rows s) ≡ g s) → (o : Option Spot) → of_spot g (map_spot (with_loop rows) o) ≡ of_spot g o
   same_part g same None = refl
   same_part g same (Some s) = ap Some (same s)
 
+  -- the successor of a code is seen as it is
   pub seen_next : (q : ℕ) → next_of (map_in_loops rows m) q ≡ next_of m q
   seen_next q = ap (λ (s : Spots). of_spot (λ (t : Spot). t.next) (s q)) (spot-loops rows m) ∙ same_part _ (λ s. refl) (spot m q)
 
+  -- the tail of a code is seen as it is
   pub seen_tail : (q : ℕ) → tail_of (map_in_loops rows m) q ≡ tail_of m q
   seen_tail q = ap (λ (s : Spots). of_spot (λ (t : Spot). t.tail) (s q)) (spot-loops rows m) ∙ same_part _ (λ s. refl) (spot m q)
 
+  -- what is read as the label of a live code is its loop
   pub seen_label_of : (q l : ℕ) → live (spot m) q ≡ true → l ≡ loop_at rows (label (spot m) q) → label_of (map_in_loops rows m) q ≡ Some l
   seen_label_of q l a e = ap (λ (s : Spots). of_spot (λ (t : Spot). t.label) (s q)) (spot-loops rows m) ∙ label-with_loop (spot m q) a e where
     label-with_loop : (o : Option Spot) → is_some o ≡ true → l ≡ loop_at rows (or_zero (of_spot (λ s. s.label) o)) → of_spot (λ s. s.label) (map_spot (with_loop rows) o) ≡ Some l
     label-with_loop None h e = absurd (true≢false (sym h))
     label-with_loop (Some s) h e = ap Some (sym e)
 
+  -- the links that are seen are a permutation where the links are
   pub seen_permutation : IsPermutation m → IsPermutation (map_in_loops rows m)
   seen_permutation P = record {
     live = λ c d e. seen_live d ∙ P.live c d (sym (seen_next c) ∙ e);
@@ -54,6 +64,7 @@ module _ (rows : List (Option Label)) (m : RingMap) where
     one = λ c d e p q. P.one c d e (sym (seen_next c) ∙ p) (sym (seen_next d) ∙ q);
   }
 
+  -- two codes are seen to be known where they were made so
   pub seen_ok : {E : Type 0} (e : ℕ) (r : Result (Unit {0}) E) → OnOk r ((contains_key m (plus e) ≡ true) × (contains_key m (minus e) ≡ true)) → OnOk r ((contains_key (map_in_loops rows m) (plus e) ≡ true) × (contains_key (map_in_loops rows m) (minus e) ≡ true))
   seen_ok e (Ok u) h = (seen_known (plus e) ∙ h.0, seen_known (minus e) ∙ h.1)
   seen_ok e (Err x) h = tt
@@ -72,6 +83,7 @@ module _ (rows : List (Option Label)) (m : RingMap) where
 pub seen-empty : (rows : List (Option Label)) (m : RingMap) → m ≡ no_codes → map_in_loops rows m ≡ no_codes
 seen-empty rows m e = ap (map_in_loops rows) e ∙ same_map nat_cmp_total nat_cmp-IsAntisymmetric (map_in_loops rows no_codes) no_codes (λ q. get-loops rows no_codes q ∙ ap (option_map (map_spot (with_loop rows))) (get-empty nat_cmp q) ∙ sym (get-empty nat_cmp q))
 
+-- where no code is known the nodes have their labels, and no edge is in use
 pub no_edge_rings : (m : RingMap) (rows : List (Option Label)) (words : List ℕ) → m ≡ no_codes → rows ≡ [] → words ≡ [] → AreEdgeRings m rows words
 no_edge_rings m rows words a b c = subst (λ (k : RingMap). AreEdgeRings k rows words) (sym a) (subst (λ (r : List (Option Label)). AreEdgeRings no_codes r words) (sym b) (record {
   labelled = record {

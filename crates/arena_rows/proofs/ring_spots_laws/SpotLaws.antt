@@ -15,15 +15,18 @@ use Rattle.boundary_model.specs.HalfEdge.{mate}
 use Rattle.arena_rows.specs.Common.{Spots, codes, live, next, label, ring, is_in, map_spot, spliced, labelled, IsRingOf, AreRings}
 use Rattle.arena_rows.specs.ring_spots.Spots.{set_tail}
 
+-- a list that is turned to its least item stays where it is turned so again
 pub canonical_fixed : (xs : List ℕ) → IsApart (canonical xs) → canonical (canonical xs) ≡ canonical xs
 canonical_fixed xs d = canonical-canonical xs (λ x. omega (arith, count-canonical x xs, d x))
 
 -- ---- the ring of a code
 
+-- a list without repeats round which the links lead is the ring of its items, turned to its least one
 pub ring_is : (sp : Spots) (c : ℕ) (hs : List ℕ) → IsRing (next sp) hs → IsApart hs → IsIn c hs → ((x : ℕ) → IsIn x hs → x < codes) → ring sp c ≡ canonical hs
 unfolding ring
 ring_is sp c hs r d i below = canonical-orbit (next sp) c hs codes r d i (length_below codes hs d below)
 
+-- the rings are the same where the links are
 pub ring_next : (sp new : Spots) (c : ℕ) → ((x : ℕ) → next new x ≡ next sp x) → ring new c ≡ ring sp c
 unfolding ring
 ring_next sp new c e = λ i. canonical (orbit (λ x. e x i) c codes)
@@ -35,9 +38,11 @@ ring_of sp bound c hs o k =
     (e, subst (IsRingOf sp c) (sym e) o)
 
 module _ (sp : Spots) (R : AreRings sp) where
+  -- a ring begins with its least item
   pub canonical_ring : (c : ℕ) → live sp c ≡ true → canonical (ring sp c) ≡ ring sp c
   canonical_ring c a = let o = R.rings c a in sym (ring_is sp c (ring sp c) o.leads o.apart o.item (λ x i. R.bound x (o.awake x i)))
 
+  -- each item of a ring has this ring
   pub ring_same : (c d : ℕ) → live sp c ≡ true → IsIn d (ring sp c) → ring sp d ≡ ring sp c
   ring_same c d a i = let o = R.rings c a in ring_is sp d (ring sp c) o.leads o.apart i (λ x j. R.bound x (o.awake x j)) ∙ canonical_ring c a
 
@@ -45,6 +50,7 @@ module _ (sp : Spots) (R : AreRings sp) where
   pub ring_meet : (c d x : ℕ) → live sp c ≡ true → live sp d ≡ true → IsIn x (ring sp c) → IsIn x (ring sp d) → ring sp c ≡ ring sp d
   ring_meet c d x a b i j = sym (ring_same c x a i) ∙ ring_same d x b j
 
+  -- a code's successor stands in its ring
   pub next_in_ring : (c : ℕ) → live sp c ≡ true → IsIn (next sp c) (ring sp c)
   next_in_ring c a = let o = R.rings c a in subst (λ z. IsIn z (ring sp c)) (sym (next_is_successor (next sp) (ring sp c) c o.leads o.item)) (IsIn_successor c (ring sp c) o.item)
 
@@ -64,14 +70,17 @@ ring_kept sp new R c a lives bound links labels =
 
 -- ---- what an update says of live codes, links and labels
 
+-- a change of what stands at a code wakes none and puts none to sleep
 pub live-map : (f : Spot → Spot) (o : Option Spot) → is_some (map_spot f o) ≡ is_some o
 live-map f None = refl
 live-map f (Some s) = refl
 
+-- a part that the change keeps is read as before
 pub part-kept : (f : Spot → Spot) (g : Spot → ℕ) → ((s : Spot) → g (f s) ≡ g s) → (o : Option Spot) → or_zero (of_spot g (map_spot f o)) ≡ or_zero (of_spot g o)
 part-kept f g same None = refl
 part-kept f g same (Some s) = same s
 
+-- a part that the change sets is read back
 part-new : (f : Spot → Spot) (g : Spot → ℕ) (x : ℕ) → ((s : Spot) → g (f s) ≡ x) → (o : Option Spot) → is_some o ≡ true → or_zero (of_spot g (map_spot f o)) ≡ x
 part-new f g x is None e = absurd (true≢false (sym e))
 part-new f g x is (Some s) e = is s
@@ -81,9 +90,11 @@ pub either : {X Y : Type 0} (f : X → Y) (b : Bool) (x y : X) (z : Y) → f x �
 either f true x y z p q = p
 either f false x y z p q = q
 
+-- the test whether a code stands in a list is true where it does
 pub is_in-yes : (x : ℕ) (xs : List ℕ) → IsIn x xs → is_in x xs ≡ true
 is_in-yes x xs i = grind (arith, nat_tests)
 
+-- and false where it does not
 pub is_in-no : (x : ℕ) (xs : List ℕ) → count x xs ≡ 0 → is_in x xs ≡ false
 is_in-no x xs i = grind (arith, nat_tests)
 
@@ -121,6 +132,7 @@ module _ (sp : Spots) where
 -- ---- the rings stay rings
 
 module _ (sp : Spots) (R : AreRings sp) where
+  -- the rings are rings where a half-edge starts elsewhere
   pub AreRings-set_tail : (c t : ℕ) → AreRings (set_tail sp c t)
   AreRings-set_tail c t = let new = set_tail sp c t in let bound : (x : ℕ) → live new x ≡ true → x < codes = λ x a. R.bound x (sym (live-set_tail sp c t x) ∙ a) in record {
     bound = bound;
@@ -130,6 +142,7 @@ module _ (sp : Spots) (R : AreRings sp) where
     mates = λ d a. live-set_tail sp c t (mate d) ∙ R.mates d (sym (live-set_tail sp c t d) ∙ a);
   }
 
+  -- and each code keeps its ring
   pub ring-set_tail : (c t x : ℕ) → ring (set_tail sp c t) x ≡ ring sp x
   ring-set_tail c t x = ring_next sp (set_tail sp c t) x (next-set_tail sp c t)
 
@@ -138,6 +151,7 @@ module _ (sp : Spots) (R : AreRings sp) where
     abbrev relabelled : Spots
     relabelled = labelled sp l (ring sp b)
 
+    -- the items of a ring have one label
     labels_kept : (d x : ℕ) → live sp d ≡ true → IsIn x (ring sp d) → label relabelled x ≡ label relabelled d
     labels_kept d x a i = elim (IsIn_or_not d (ring sp b)) [
       | inl j ↦
@@ -151,9 +165,11 @@ module _ (sp : Spots) (R : AreRings sp) where
           label-labelled_out sp l (ring sp b) x away ∙ (R.rings d a).one_label x i ∙ sym (label-labelled_out sp l (ring sp b) d n)
     ]
 
+    -- each code keeps its ring
     pub ring-labelled : (x : ℕ) → ring relabelled x ≡ ring sp x
     ring-labelled x = ring_next sp relabelled x (next-labelled sp l (ring sp b))
 
+    -- the rings are rings
     pub AreRings-labelled : AreRings relabelled
     AreRings-labelled = let bound : (x : ℕ) → live relabelled x ≡ true → x < codes = λ x a. R.bound x (sym (live-labelled sp l (ring sp b) x) ∙ a) in record {
       bound = bound;
@@ -166,6 +182,7 @@ module _ (sp : Spots) (R : AreRings sp) where
     abbrev changed : Spots
     changed = spliced sp a b
 
+    -- each live code is below the limit
     changed_bound : (x : ℕ) → live changed x ≡ true → x < codes
     changed_bound x h = R.bound x (sym (live-spliced sp a b x) ∙ h)
 
@@ -177,6 +194,7 @@ module _ (sp : Spots) (R : AreRings sp) where
         (λ e. let z : count x (ring sp c) ≡ 0 = ap (λ w. count w (ring sp c)) e ∙ m in absurd (omega arith)))
         (λ x i. label-spliced sp a b x ∙ (R.rings c h).one_label x i ∙ sym (label-spliced sp a b c))
 
+    -- a list of live codes round which the spliced successors lead is led round by the new links
     leads_in_new : (hs : List ℕ) → ((x : ℕ) → IsIn x hs → live sp x ≡ true) → IsRing (splice (next sp) a b) hs → IsRing (next changed) hs
     leads_in_new hs lives r = IsPath-agree (splice (next sp) a b) (next changed) hs (head_or 0 hs) (λ x i. sym (next-spliced sp a b x (lives x i))) r
 
@@ -191,9 +209,11 @@ module _ (sp : Spots) (R : AreRings sp) where
       abbrev right : List ℕ
       right = cut_right a b whole
 
+      -- the two parts have the items of the ring between them
       pub cut_items : (x : ℕ) → count x left + count x right ≡ count x whole
       cut_items x = count-cut a b whole (R.rings a a_there).apart (R.rings a a_there).item together ne x
 
+      -- a part round which the spliced successors lead is a ring of live codes with one label
       part : (c : ℕ) (hs : List ℕ) → IsIn c hs → ((x : ℕ) → IsIn x hs → IsIn x whole) → IsApart hs → IsRing (splice (next sp) a b) hs → IsRingOf changed c hs
       part c hs i inside d r = let o = R.rings a a_there in record {
         leads = leads_in_new hs (λ x j. o.awake x (inside x j)) r;
@@ -203,14 +223,17 @@ module _ (sp : Spots) (R : AreRings sp) where
         one_label = λ x j. label-spliced sp a b x ∙ o.one_label x (inside x j) ∙ sym (label-spliced sp a b c ∙ o.one_label c (inside c i));
       }
 
+      -- the left part is the ring of its items
       pub ring_left : (c : ℕ) → IsIn c left → (ring changed c ≡ left) × IsRingOf changed c (ring changed c)
       ring_left c i = let o = R.rings a a_there in let ap_ = IsApart-cut a b whole o.apart o.item together ne in
           ring_of changed changed_bound c left (part c left i (λ x j. omega (arith, cut_items x)) ap_.0 (IsRing-cut a b whole o.apart o.item together ne (next sp) o.leads).0) (canonical_fixed (a ∷ beyond a b whole) ap_.0)
 
+      -- the right part is the ring of its items
       pub ring_right : (c : ℕ) → IsIn c right → (ring changed c ≡ right) × IsRingOf changed c (ring changed c)
       ring_right c i = let o = R.rings a a_there in let ap_ = IsApart-cut a b whole o.apart o.item together ne in
           ring_of changed changed_bound c right (part c right i (λ x j. omega (arith, cut_items x)) ap_.1 (IsRing-cut a b whole o.apart o.item together ne (next sp) o.leads).1) (canonical_fixed (b ∷ between a b whole) ap_.1)
 
+      -- a code of another ring keeps its ring
       pub ring_beside : (c : ℕ) → live sp c ≡ true → count c whole ≡ 0 → (ring changed c ≡ ring sp c) × IsRingOf changed c (ring changed c)
       ring_beside c h n =
           let out : (x : ℕ) → IsIn x whole → count x (ring sp c) ≡ 0 = λ x i. elim (IsIn_or_not x (ring sp c)) [
@@ -219,6 +242,7 @@ module _ (sp : Spots) (R : AreRings sp) where
           ] in
           other_ring c h (out a (R.rings a a_there).item) (out b together)
 
+      -- the rings are rings once one is cut
       pub AreRings-cut : AreRings changed
       AreRings-cut = record {
         bound = changed_bound;
@@ -234,9 +258,11 @@ module _ (sp : Spots) (R : AreRings sp) where
 
     -- a and b stand in two rings, with one label
     module _ (apart : count b (ring sp a) ≡ 0) (one : label sp b ≡ label sp a) where
+      -- no code stands in both rings: it would stand there twice
       no_both : (x : ℕ) → IsIn x (ring sp a) → IsIn x (ring sp b) → count x (ring sp a) ≡ 2
       no_both x i j = let e = ring_meet sp R a b x a_there b_there i j in let k : IsIn b (ring sp a) = subst (IsIn b) (sym e) (R.rings b b_there).item in absurd (omega arith)
 
+      -- the two rings have no repeats between them
       both_apart : IsApart (ring sp a ++ ring sp b)
       both_apart x = elim (IsIn_or_not x (ring sp a)) [
         | inl i ↦ elim (IsIn_or_not x (ring sp b)) [
@@ -249,18 +275,22 @@ module _ (sp : Spots) (R : AreRings sp) where
       abbrev joint : List ℕ
       joint = joined a b (ring sp a) (ring sp b)
 
+      -- the joint ring has the items of the two
       pub join_items : (x : ℕ) → count x joint ≡ count x (ring sp a) + count x (ring sp b)
       join_items x = count-joined a b (ring sp a) (ring sp b) both_apart (R.rings a a_there).item (R.rings b b_there).item x
 
+      -- the joint ring has no repeats
       joint_apart : IsApart joint
       joint_apart = IsApart-joined a b (ring sp a) (ring sp b) both_apart (R.rings a a_there).item (R.rings b b_there).item
 
+      -- the items of the joint ring are live, and have the label of a
       joint_item : (x : ℕ) → IsIn x joint → (live sp x ≡ true) × (label sp x ≡ label sp a)
       joint_item x i = elim (IsIn_or_not x (ring sp a)) [
         | inl j ↦ ((R.rings a a_there).awake x j, (R.rings a a_there).one_label x j)
         | inr n ↦ let j : IsIn x (ring sp b) = omega (arith, join_items x) in ((R.rings b b_there).awake x j, (R.rings b b_there).one_label x j ∙ one)
       ]
 
+      -- the joint ring is the ring of its items
       pub ring_joint : (c : ℕ) → IsIn c joint → (ring changed c ≡ joint) × IsRingOf changed c (ring changed c)
       ring_joint c i = ring_of changed changed_bound c joint (record {
         leads = leads_in_new joint (λ x j. (joint_item x j).0) (IsRing-join a b (ring sp a) (ring sp b) both_apart (R.rings a a_there).item (R.rings b b_there).item (next sp) (R.rings a a_there).leads (R.rings b b_there).leads);
@@ -270,6 +300,7 @@ module _ (sp : Spots) (R : AreRings sp) where
         one_label = λ x j. label-spliced sp a b x ∙ (joint_item x j).1 ∙ sym (label-spliced sp a b c ∙ (joint_item c i).1);
       }) (canonical_fixed ((a ∷ rest b (ring sp b)) ++ b ∷ rest a (ring sp a)) joint_apart)
 
+      -- a code of another ring keeps its ring
       pub ring_aside : (c : ℕ) → live sp c ≡ true → count c joint ≡ 0 → (ring changed c ≡ ring sp c) × IsRingOf changed c (ring changed c)
       ring_aside c h n =
           let out : (d : ℕ) → live sp d ≡ true → count c (ring sp d) ≡ 0 → count d (ring sp c) ≡ 0 = λ d k m. elim (IsIn_or_not d (ring sp c)) [
@@ -278,6 +309,7 @@ module _ (sp : Spots) (R : AreRings sp) where
           ] in
           other_ring c h (out a a_there (omega (arith, join_items c))) (out b b_there (omega (arith, join_items c)))
 
+      -- the rings are rings once two are joined
       pub AreRings-join : AreRings changed
       AreRings-join = record {
         bound = changed_bound;

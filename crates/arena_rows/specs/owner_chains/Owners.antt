@@ -4,7 +4,7 @@ use Rattle.std.specs.Coded.{Coded, code_by, coded×, coded_ℕ}
 use Rattle.boundary_model.specs.Table as table
 use Rattle.boundary_model.specs.Table.{Table, all_where}
 
--- the owner of each item, and how far the numbers of owners and of items reach that have their room
+-- the owner of each item, and the ends up to which the numbers of owners and of items have their room
 pub record Owners : Type 0 where
   pub owner_of : Table ℕ
   pub owners_end : ℕ
@@ -14,7 +14,7 @@ pub record Owners : Type 0 where
 abbrev pub no_owners : Owners
 no_owners = record { owner_of = table.empty; owners_end = 0; items_end = 0 }
 
--- item n is of owner o
+-- item n gets owner o
 abbrev pub put : Owners → ℕ → ℕ → Owners
 put os n o = record os { owner_of = table.put os.owner_of n o }
 
@@ -22,12 +22,12 @@ put os n o = record os { owner_of = table.put os.owner_of n o }
 abbrev pub take : Owners → ℕ → Owners
 take os n = record os { owner_of = table.remove os.owner_of n }
 
--- whether it is owner o that is there
+-- whether an owner is there and is o
 abbrev pub is_owner : ℕ → Option ℕ → Bool
 is_owner o None = false
 is_owner o (Some x) = nat_eq x o
 
--- the items of an owner, rising
+-- the items of an owner, in rising order
 abbrev pub owned : ℕ → Table ℕ → List ℕ
 owned o owners = all_where (λ _ x. nat_eq x o) owners
 
@@ -42,7 +42,7 @@ pub record OwnersHaveGrown (old new : Owners) : Type 0 where
   pub owners : old.owners_end ≤ new.owners_end
   pub items : old.items_end ≤ new.items_end
 
--- a code, by which this can be what contracts see
+-- a code, through which contracts see the owners
 abbrev pub coded_owners : Coded Owners
 coded_owners = code_by (Table ℕ × (ℕ × ℕ)) (coded× (table.code coded_ℕ) (coded× coded_ℕ coded_ℕ)) (λ os. (os.owner_of, (os.owners_end, os.items_end)))
     (λ t. record { owner_of = t.0; owners_end = t.1.0; items_end = t.1.1 }) (λ _. refl)

@@ -8,12 +8,12 @@ use Rattle.arena_rows.specs.declared.ring_spots.labels.Label.{Label}
 use Rattle.arena_rows.specs.ring_spots.Last.{is_edge}
 use Rattle.arena_rows.specs.ring_spots.Labels.{map_in_loops, AreLabelled}
 
--- the edges that are live are those in use, and each edge with a node has room for its number
+-- the live edges are those in use, and each edge that has a node has room for its number
 pub record AreEdges (m : RingMap) (words : List ℕ) : Type 0 where
   pub live : (e : ℕ) → uses words e ≡ is_edge (spot m) e
   pub room : (e : ℕ) → e ≤ 1000000 → contains_key m (plus e) ≡ true → e / 64 < length words
 
--- the nodes with their labels, and the numbers of the edges
+-- the nodes have their labels, and the edges their numbers
 pub record AreEdgeRings (m : RingMap) (labels : List (Option Label)) (words : List ℕ) : Type 0 where
   pub labelled : AreLabelled (spot m) (contains_key m) labels
   pub edges : AreEdges (map_in_loops labels m) words

@@ -8,15 +8,15 @@ use Rattle.boundary_model.specs.Table.{Table, map_rows}
 use Rattle.arena_rows.specs.declared.ring_spots.labels.Label.{Label}
 use Rattle.arena_rows.specs.ring_spots.Spots.{Spots, live, label, ring, map_spot, labelled, AreRings}
 
--- row n, where code n owns its own label, which stands for no loop
+-- the first row n: code n owns label n, which stands for no loop
 abbrev pub new_label : ℕ → Label
 new_label n = record { own = n; holder = n; loop_number = 0 }
 
--- row n, which is not written before it says anything else
+-- row n, which is written only when it says something else
 abbrev pub row_of : List (Option Label) → ℕ → Label
 row_of rows n = unwrap_or (row_at rows n) (new_label n)
 
--- whether there is a label n, and room for its row
+-- whether label n is there, with room for its row
 abbrev pub has_label : List (Option Label) → ℕ → Bool
 has_label rows n = nat_lt n (length rows)
 
@@ -51,7 +51,7 @@ pub record AreLabelled (sp : Spots) (known : ℕ → Bool) (rows : List (Option 
   pub table : HaveLabels sp known rows
   pub held : (c : ℕ) → live sp c ≡ true → IsIn (holder rows (label sp c)) (ring sp c)
 
--- the rings of a and b share a label, which one of their codes owns, and each other ring has one of its own
+-- the rings of a and b share a label, which one of their codes owns; each other ring has a label of its own
 pub record ShareLabel (sp : Spots) (known : ℕ → Bool) (rows : List (Option Label)) (a b : ℕ) : Type 0 where
   pub table : HaveLabels sp known rows
   pub a_there : live sp a ≡ true
@@ -61,11 +61,11 @@ pub record ShareLabel (sp : Spots) (known : ℕ → Bool) (rows : List (Option L
   pub held : IsIn (holder rows (label sp a)) (ring sp a) ⊎ IsIn (holder rows (label sp a)) (ring sp b)
   pub others : (c : ℕ) → live sp c ≡ true → count c (ring sp a) ≡ 0 → count c (ring sp b) ≡ 0 → IsIn (holder rows (label sp c)) (ring sp c)
 
--- what stands at a code, but for its label
+-- what stands at a code, without its label
 abbrev pub but_label : Option Spot → Option Spot
 but_label o = map_spot (λ s. record s { label = 0 }) o
 
--- nothing has changed but labels in the rings of a and b
+-- nothing has changed except for labels in the rings of a and b
 pub record IsRelabelled (sp now : Spots) (a b : ℕ) : Type 0 where
   pub same : (q : ℕ) → but_label (now q) ≡ but_label (sp q)
   pub others : (q : ℕ) → live sp q ≡ true → count q (ring sp a) ≡ 0 → count q (ring sp b) ≡ 0 → label now q ≡ label sp q
@@ -87,7 +87,7 @@ rows_of m = record { rows = entries m; rising = entries_sorted m }
 unfoldable pub map_in_loops : List (Option Label) → RingMap → RingMap
 map_in_loops rows m = from_entries (map_rows (λ _ o. map_spot (with_loop rows) o) (rows_of m)).rows
 
--- the rows are as they were, and each new code owns the label of its own number
+-- the old rows are as they were, and each new code owns the label of its own number
 pub record HaveNewLabels (old new : List (Option Label)) : Type 0 where
   pub kept : (n : ℕ) → has_label old n ≡ true → has_label new n ≡ true
   pub same : (n : ℕ) → has_label old n ≡ true → row_of new n ≡ row_of old n

@@ -1,4 +1,4 @@
--- The tables of edges and of loose rings that the nodes make, and the edges that have their room.
+-- The tables of edges and of loose rings that the nodes stand for, and the edges that have their room.
 use Rattle.std.specs.Prelude.{ℕ, Bool, cond, ◌&&◌, nat_eq, nat_lt, List, Option, Some, None}
 use Rattle.raw_ring.specs.Rings.{Spot}
 use Rattle.boundary_model.specs.Items.{head_or}
@@ -15,7 +15,7 @@ both_tails None o = None
 abbrev pub edge_row : Spots → ℕ → Option EdgeRow
 edge_row sp e = both_tails (sp (plus e)) (sp (minus e))
 
--- the ring of a code that is its least item and is in no loop
+-- the ring of a code, if the code is its least item and stands in no loop
 abbrev pub loose_row : Spots → ℕ → Option (List ℕ)
 loose_row sp k = cond (live sp k && (nat_eq (label sp k) 0 && nat_eq (head_or 0 (ring sp k)) k)) (Some (ring sp k)) None
 

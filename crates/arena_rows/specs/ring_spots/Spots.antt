@@ -36,7 +36,7 @@ ring sp c = canonical (orbit (next sp) c codes)
 abbrev pub is_in : ℕ → List ℕ → Bool
 is_in x xs = nat_lt 0 (count x xs)
 
--- what changes
+-- what changes: a code wakes or falls asleep, or its tail, its successor or its label changes
 abbrev pub woken : Spots → ℕ → ℕ → Spots
 woken sp c t q = cond (nat_eq q c) (Some (ring_of_one c t)) (sp q)
 
@@ -75,7 +75,7 @@ pub record AreRings (sp : Spots) : Type 0 where
   pub rings : (c : ℕ) → live sp c ≡ true → IsRingOf sp c (ring sp c)
   pub mates : (c : ℕ) → live sp c ≡ true → live sp (mate c) ≡ true
 
--- the items of hs but those of waiting have the label l now, and nothing else has changed
+-- the items of hs have the label l now, except for those of waiting, and nothing else has changed
 pub record PartlyLabelled (sp now : Spots) (l : ℕ) (hs waiting : List ℕ) : Type 0 where
   pub apart : IsApart waiting
   pub inside : (x : ℕ) → IsIn x waiting → IsIn x hs

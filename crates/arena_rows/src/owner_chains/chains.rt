@@ -12,12 +12,12 @@ use std::marker::Model;
 
 /// Items that have owners, each by its number.
 ///
-/// The items of an owner are chained from the least to the greatest, with their count and a finger on the item that came last,
-/// or a neighbour of the one that went last. Only `reach_owner`, `reach_item` and `copy` take memory.
+/// The items of an owner are chained from the least to the greatest. The owner also has their count, and a finger on the item that came
+/// last or on a neighbour of the one that went last. Only `reach_owner`, `reach_item` and `copy` take memory.
 ///
-/// The place of a number n among them is looked for from three sides at once: in the chain from the finger, and number by number
-/// down and up from n. So it takes about as many steps as there are items between the finger and n, or numbers between n and the
-/// nearest item of the owner, whichever is less.
+/// The place of a number n among them is looked for from three sides at once: in the chain from the finger, and number by number down and
+/// up from n. So it takes about as many steps as there are items between the finger and n, or numbers between n and the nearest item of the
+/// owner, whichever is less.
 #[derive(Drop)]
 pub struct Chains {
     heads: Rows<Head>,
@@ -56,8 +56,8 @@ impl Chains {
         head_of(&self.heads, owner).count
     }
 
-    /// The least item of an owner above the number, or none. Where the number is 0, an item of the owner or past the room, this is one
-    /// step; else its place is looked for.
+    /// The least item of an owner above the number, or none. If the number is 0, an item of the owner or past the room, this is one step;
+    /// otherwise its place is looked for.
     pub fn after(&self, owner: u32, number: u32) -> Option<u32>
         ensures { IsNextItem self.now.owner_of owner number result }
     {
@@ -65,9 +65,9 @@ impl Chains {
         if next == 0 { None } else { Some(next) }
     }
 
-    /// A number becomes an item of an owner; it is free, and both numbers have their room. Its place is looked for, and it is then the
-    /// finger: items that come in order cost one step each, and where none goes the numbers up to N, in whatever order they come, cost
-    /// no more than about N log N in all.
+    /// Makes a number an item of an owner. The number is free, and both numbers have their room. Its place is looked for, and it is then
+    /// the finger: items that come in order cost one step each. If none goes, the numbers up to N cost no more than about N log N in all,
+    /// in whatever order they come.
     pub fn put(&mut self, owner: u32, item: u32)
         requires owner_room { owner < self.old.owners_end }
         requires room { item < self.old.items_end }
@@ -95,7 +95,7 @@ impl Chains {
         }
     }
 
-    /// An item goes, which is there. The finger moves to a neighbour. It walks over nothing.
+    /// Takes an item, which is there. The finger moves to a neighbour. It walks over nothing.
     pub fn take(&mut self, item: u32)
         requires { has self.old.owner_of item ≡ true }
         ensures { self.new ≡ take self.old item }
@@ -105,8 +105,7 @@ impl Chains {
         lose(&mut self.heads, gone);
     }
 
-    /// Makes the rows reach to an owner's number, at most 1,000,000. An `Err` comes only where memory is short, and then all is
-    /// as it was.
+    /// Makes the rows reach to an owner's number, at most 1,000,000. An `Err` comes only if memory is short, and then all is as it was.
     pub fn reach_owner(&mut self, owner: u32) -> Result<(), AllocError>
         requires { owner ≤ 1000000 }
         ensures grown { OwnersHaveGrown self.old self.new }
@@ -116,8 +115,7 @@ impl Chains {
         self.heads.reach(owner)
     }
 
-    /// Makes the rows reach to an item's number, at most 1,000,000. An `Err` comes only where memory is short, and then all is
-    /// as it was.
+    /// Makes the rows reach to an item's number, at most 1,000,000. An `Err` comes only if memory is short, and then all is as it was.
     pub fn reach_item(&mut self, item: u32) -> Result<(), AllocError>
         requires { item ≤ 1000000 }
         ensures grown { OwnersHaveGrown self.old self.new }
@@ -127,7 +125,7 @@ impl Chains {
         self.links.reach(item)
     }
 
-    /// The same items, owners and room, in memory of its own. An `Err` comes only where memory is short.
+    /// The same items, owners and room, in memory of its own. An `Err` comes only if memory is short.
     pub fn copy(&self, alloc: Global) -> Result<Chains, AllocError>
         ensures { IfOk result (λ copy. copy ≡ self.now) }
     {
@@ -138,7 +136,7 @@ impl Chains {
     }
 }
 
-/// Puts a number at a place among an owner's items, where all before it and behind it are known.
+/// Puts a number at the place among an owner's items that its row `new` names.
 #[inline(always)]
 fn chain_in(heads: &mut Rows<Head>, links: &mut Rows<Link>, item: u32, new: Link, head: Head)
     requires chained { AreChained heads.old links.old }
@@ -156,7 +154,7 @@ fn chain_in(heads: &mut Rows<Head>, links: &mut Rows<Link>, item: u32, new: Link
     gain(heads, item, new, head);
 }
 
-/// Puts a number among an owner's items, wherever its place is. That is looked for.
+/// Puts a number among an owner's items, and looks for its place.
 #[inline(never)]
 fn put_within(heads: &mut Rows<Head>, links: &mut Rows<Link>, owner: u32, item: u32, head: Head)
     requires chained { AreChained heads.old links.old }

@@ -24,8 +24,8 @@ fn is_item(links: &Rows<Link>, owner: u32, number: u32) -> bool
     }
 }
 
-/// One step in an owner's chain from `at` towards the place of the number. It stays there where that is the place: the greatest item
-/// below the number, or 0.
+/// Takes one step in an owner's chain from `at` towards the place of the number, which is the greatest item below the number, or 0. If `at`
+/// is this place, it stays there.
 fn toward(heads: &Rows<Head>, links: &Rows<Link>, owner: u32, at: u32, number: u32) -> u32
     requires chained { AreChained heads.now links.now }
     requires item { at ≢ 0 → items links.now owner at ≡ true }
@@ -44,8 +44,8 @@ fn toward(heads: &Rows<Head>, links: &Rows<Link>, owner: u32, at: u32, number: u
     if next == 0 || next > number { at } else { next }
 }
 
-/// The greatest item of an owner below the number, or 0, if one of the two numbers at this distance from it is an item. No number nearer
-/// to it is.
+/// The greatest item of an owner below the number, or 0, if one of the two numbers at this distance from it is an item. No number nearer to
+/// it is an item.
 fn beside(links: &Rows<Link>, owner: u32, number: u32, distance: u32) -> Option<u32>
     requires back { LeadBack links.now }
     requires apart { 0 < distance }
@@ -64,8 +64,8 @@ fn beside(links: &Rows<Link>, owner: u32, number: u32, distance: u32) -> Option<
     }
 }
 
-/// The greatest item of an owner below the number, or 0; the number is none of its items. It goes on from three sides in turn, and ends
-/// where the first one tells: in the chain from the owner's finger, and number by number down and up from this one.
+/// The greatest item of an owner below the number, or 0; the number is none of its items. It searches from three sides in turn, and ends
+/// when the first one answers: in the chain from the owner's finger, and number by number down and up from this number.
 pub(crate) fn below(heads: &Rows<Head>, links: &Rows<Link>, owner: u32, number: u32) -> u32
     requires chained { AreChained heads.now links.now }
     requires some { number ≢ 0 }
@@ -87,7 +87,8 @@ pub(crate) fn below(heads: &Rows<Head>, links: &Rows<Link>, owner: u32, number: 
     0
 }
 
-/// Whether the number comes after the finger, which is the last item of its owner. Where it doesn't say so, nothing is known.
+/// Whether it is known that the number comes after the finger, which is then the last item of its owner. If the answer is no, nothing is
+/// known.
 #[inline(always)]
 pub(crate) fn comes_last(links: &Rows<Link>, finger: u32, number: u32) -> bool
     requires { finger ≢ 0 → IsSome (link_at links.now finger) }
@@ -96,8 +97,8 @@ pub(crate) fn comes_last(links: &Rows<Link>, finger: u32, number: u32) -> bool
     finger != 0 && finger < number && links.known(finger).next == 0
 }
 
-/// The place of the number among an owner's items; it is none of them. One step where it comes right after the finger, else the search
-/// from three sides.
+/// The place of the number among an owner's items; the number is none of them. This is one step if the number comes right after the finger,
+/// otherwise the search from three sides.
 pub(crate) fn place_of(
     heads: &Rows<Head>,
     links: &Rows<Link>,
@@ -143,8 +144,8 @@ fn search(heads: &Rows<Head>, links: &Rows<Link>, owner: u32, number: u32) -> Pl
     }
 }
 
-/// The least item of an owner above the number, or 0. One step where the number is 0, an item of the owner or past the rows, else the
-/// search for its place.
+/// The least item of an owner above the number, or 0. This is one step if the number is 0, an item of the owner or past the rows; otherwise
+/// it is the search for its place.
 pub(crate) fn above(heads: &Rows<Head>, links: &Rows<Link>, owner: u32, number: u32) -> u32
     requires { AreChained heads.now links.now }
     ensures { IsAbove (items links.now owner) number result }

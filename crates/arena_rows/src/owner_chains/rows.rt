@@ -26,7 +26,7 @@ pub struct Link {
     pub next: u32,
 }
 
-/// What an owner has; nothing where it has never had an item.
+/// What an owner has, or nothing if it has never had an item.
 pub(crate) fn head_of(heads: &Rows<Head>, owner: u32) -> Head
     ensures { result ≡ head_at heads.now owner }
 {
@@ -40,7 +40,7 @@ pub(crate) fn head_of(heads: &Rows<Head>, owner: u32) -> Head
     }
 }
 
-/// What an owner has that has an item.
+/// What an owner that has an item has.
 fn known_head(heads: &Rows<Head>, owner: u32) -> Head
     requires { 1 ≤ (head_at heads.now owner).count }
     ensures { result ≡ head_at heads.now owner }
@@ -48,7 +48,7 @@ fn known_head(heads: &Rows<Head>, owner: u32) -> Head
     heads.known(owner)
 }
 
-/// The item that follows this one in an owner's chain, or 0. The first one follows 0.
+/// The item that follows this one in an owner's chain, or 0. The first item follows 0.
 pub(crate) fn follower(heads: &Rows<Head>, links: &Rows<Link>, owner: u32, item: u32) -> u32
     ensures { result ≡ follower heads.now links.now owner item }
 {
@@ -61,7 +61,7 @@ pub(crate) fn follower(heads: &Rows<Head>, links: &Rows<Link>, owner: u32, item:
     }
 }
 
-/// Makes the item lead on to another one. Nothing changes where it is 0.
+/// Makes the item lead on to another one. If the item is 0, nothing changes.
 fn lead_on(links: &mut Rows<Link>, item: u32, to: u32)
     requires zero { link_at links.old 0 ≡ None }
     requires there { item ≢ 0 → IsSome (link_at links.old item) }
@@ -80,7 +80,7 @@ fn lead_on(links: &mut Rows<Link>, item: u32, to: u32)
     links.set(item, row);
 }
 
-/// Makes the item lead back to another one. Nothing changes where it is 0.
+/// Makes the item lead back to another one. If the item is 0, nothing changes.
 fn lead_back(links: &mut Rows<Link>, item: u32, to: u32)
     requires zero { link_at links.old 0 ≡ None }
     requires there { item ≢ 0 → IsSome (link_at links.old item) }
@@ -129,7 +129,7 @@ pub(crate) fn link_out(links: &mut Rows<Link>, item: u32, old: Link)
     links.take(item);
 }
 
-/// Gives an owner a new item, which is in the chain, and says so in what the owner has.
+/// Gives an owner a new item, which is in the chain, and notes it in what the owner has.
 pub(crate) fn gain(heads: &mut Rows<Head>, item: u32, new: Link, old: Head)
     requires old { old ≡ head_at heads.old new.owner }
     requires there { new.owner < length heads.old }

@@ -1,4 +1,4 @@
-//! One code alone, which is put into a ring or taken out of one: one label is written, and nothing is walked over.
+//! One code alone, which is put into a ring or taken out of one. This writes one label and walks over nothing.
 ghost use Rattle.std.specs.Prelude.{◌≡◌, ◌≢◌, true, Some, [], ◌∷◌};
 ghost use Rattle.std.specs.FinMap.{contains_key};
 ghost use Rattle.raw_ring.specs.Rings.{spot, next_of};
@@ -22,7 +22,7 @@ pub(crate) fn join_alone(rings: &mut Rings, a: u32, b: u32)
     links::splice(rings, a, b);
 }
 
-/// Takes b, which follows a, out of their ring. It stands in loop l then, or is loose where l is 0.
+/// Takes b, which follows a, out of their ring. Then b stands in loop l, or is loose if l is 0.
 pub(crate) fn cut_alone(rings: &mut Rings, labels: &mut Rows<Label>, a: u32, b: u32, l: u32)
     requires whole { AreLabelled (spot rings.old) (contains_key rings.old) labels.old }
     requires follows { next_of rings.old a ≡ Some b }
@@ -41,8 +41,8 @@ pub(crate) fn cut_alone(rings: &mut Rings, labels: &mut Rows<Label>, a: u32, b: 
     }
 }
 
-/// Gives b, which is alone and owns the label of the ring that it was in, another one, which stands for loop l. The label stays with the
-/// ring, and a owns it.
+/// Code b is alone and owns the label of the ring in which it was. This gives b another label, which stands for loop l; the old one stays
+/// with the ring, and a owns it.
 #[inline(never)]
 fn give_up_label(rings: &mut Rings, labels: &mut Rows<Label>, a: u32, b: u32, l: u32)
     requires shared { ShareLabel (spot rings.old) (contains_key rings.old) labels.old a b }
@@ -57,7 +57,7 @@ fn give_up_label(rings: &mut Rings, labels: &mut Rows<Label>, a: u32, b: u32, l:
     stand_for(labels, free, l);
 }
 
-/// Gives a code, which is alone in its ring, the label l.
+/// Gives the label l to a code that is alone in its ring.
 fn set_label(rings: &mut Rings, code: u32, l: u32)
     requires there { live (spot rings.old) code ≡ true }
     requires alone { ring (spot rings.old) code ≡ code ∷ [] }

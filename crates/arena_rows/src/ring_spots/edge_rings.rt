@@ -17,8 +17,8 @@ use std::marker::Model;
 
 /// Rings of half-edges, two for each edge, with the numbers of the edges in use.
 ///
-/// Each ring has a label at its nodes, and the label stands for the ring's loop. So a ring comes to another loop by one write, and
-/// where a ring is cut or two are joined, the labels of the shorter part alone are written.
+/// Each ring has a label at its nodes, and the label stands for the ring's loop. So one write moves a ring to another loop, and if a ring
+/// is cut or two are joined, only the labels of the shorter part are written.
 ///
 /// A contract sees what stands at each known half-edge, with the loop's number as its label. Only `room_edge` and `copy` take
 /// memory.
@@ -55,7 +55,7 @@ impl EdgeRings {
         }
     }
 
-    /// Rings that are equal, in memory of their own.
+    /// Equal rings, in memory of their own.
     pub fn copy(&self, alloc: Global) -> Result<EdgeRings, AllocError>
         ensures { IfOk result (λ copy. copy ≡ self.now) }
     {
@@ -73,14 +73,14 @@ impl EdgeRings {
         self.edges.contains(e)
     }
 
-    /// The greatest edge in use, or 0 where none is. It looks for it as `Numbers::last` does.
+    /// The greatest edge in use, or 0 if none is. It is looked for as `Numbers::last` does.
     pub fn last_edge(&self) -> u32
         ensures { IsLast (is_edge (spot self.now)) result }
     {
         self.edges.last()
     }
 
-    /// The least edge in use above e, or none. It looks for it as `Numbers::after` does.
+    /// The least edge in use above e, or none. It is looked for as `Numbers::after` does.
     pub fn edge_after(&self, e: u32) -> Option<u32>
         ensures { IsNext (is_edge (spot self.now)) e result }
     {
@@ -106,7 +106,7 @@ impl EdgeRings {
         self.edges.put(e);
     }
 
-    /// Puts both half-edges of an edge to sleep, each of which is a ring of one.
+    /// Puts both half-edges of an edge to sleep; each is a ring of one.
     pub fn take_edge(&mut self, e: u32)
         requires limit { e ≤ 1000000 }
         requires first { next_of self.old (plus e) ≡ Some (plus e) }
@@ -118,7 +118,7 @@ impl EdgeRings {
         self.edges.take(e);
     }
 
-    /// Puts the ring of a half-edge into loop l, or into none where l is 0. It writes one number, and walks over nothing.
+    /// Puts the ring of a half-edge into loop l, or into none if l is 0. It writes one number, and walks over nothing.
     pub fn put_in_loop(&mut self, from: u32, l: u32)
         requires { live (spot self.old) from ≡ true }
         ensures spots { spot self.new ≡ labelled (spot self.old) l (ring (spot self.old) from) }
@@ -127,10 +127,10 @@ impl EdgeRings {
         parts::put_in_loop(&self.rings, &mut self.labels, from, l);
     }
 
-    /// Cuts the ring of a and b in two, one with a and one with b. That of b stands in loop l then, or in none where l is 0. It is told
-    /// in which loop the ring stands, or 0; a's stays there.
+    /// Cuts the ring of a and b in two, one with a and one with b. The caller names the loop in which the ring stands, or 0: a's ring stays
+    /// there. The ring of b then stands in loop l, or in none if l is 0.
     ///
-    /// It walks round the shorter one.
+    /// It walks round the shorter ring.
     pub fn cut(&mut self, a: u32, b: u32, l: u32, kept: u32)
         requires a { live (spot self.old) a ≡ true }
         requires together { IsIn b (ring (spot self.old) a) }
@@ -142,10 +142,10 @@ impl EdgeRings {
         parts::cut(&mut self.rings, &mut self.labels, a, b, l, kept);
     }
 
-    /// Joins the rings of a and b, which stand in different loops, or one of them in none. It is told a's loop, or 0, in which the joint
-    /// ring stands.
+    /// Joins the rings of a and b, which stand in different loops, or one of which stands in none. The caller names a's loop, or 0, in
+    /// which the joint ring then stands.
     ///
-    /// It walks round the shorter one.
+    /// It walks round the shorter ring.
     pub fn join(&mut self, a: u32, b: u32, kept: u32)
         requires a { live (spot self.old) a ≡ true }
         requires b { live (spot self.old) b ≡ true }
@@ -157,7 +157,7 @@ impl EdgeRings {
         parts::join(&mut self.rings, &mut self.labels, a, b, kept);
     }
 
-    /// Cuts b, which follows a, out of their ring. It stands in loop l then, alone, or in none where l is 0.
+    /// Cuts b, which follows a, out of their ring. Then b stands alone in loop l, or in none if l is 0.
     ///
     /// It does what `cut` does, and walks over nothing.
     pub fn cut_alone(&mut self, a: u32, b: u32, l: u32)
@@ -169,7 +169,7 @@ impl EdgeRings {
         alone::cut_alone(&mut self.rings, &mut self.labels, a, b, l);
     }
 
-    /// Joins b, which is a ring of one, to the ring of a, which stands in a different loop, or one of them in none.
+    /// Joins b, which is a ring of one, to the ring of a. They stand in different loops, or one of them stands in none.
     ///
     /// It does what `join` does, writes one label, and walks over nothing.
     pub fn join_alone(&mut self, a: u32, b: u32)
@@ -191,7 +191,7 @@ impl EdgeRings {
         links::set_tail(&mut self.rings, h, v);
     }
 
-    /// Gives both half-edges of an edge their nodes. Where they have them, no `Err` comes.
+    /// Gives both half-edges of an edge their nodes. If they have them already, no `Err` comes.
     pub fn room_edge(&mut self, e: u32) -> Result<(), AllocError>
         requires { e ≤ 1000000 }
         ensures spots { spot self.new ≡ spot self.old }
@@ -212,7 +212,7 @@ impl EdgeRings {
         self.rings.next(code)
     }
 
-    /// The predecessor of a live half-edge: the one that has it as its successor.
+    /// The predecessor of a live half-edge: the half-edge whose successor it is.
     pub fn prev(&self, code: u32) -> u32
         requires { IsLive self.now code }
         ensures prev { next_of self.now result ≡ Some code }
@@ -221,8 +221,8 @@ impl EdgeRings {
         self.rings.prev(code)
     }
 
-    /// The vertex at which a live half-edge starts, and its predecessor: what `tail` and `prev` tell, with the half-edge looked up
-    /// once.
+    /// The vertex at which a live half-edge starts, and its predecessor. These are the answers of `tail` and `prev`, but the half-edge is
+    /// looked up only once.
     pub fn tail_and_prev(&self, code: u32) -> (u32, u32)
         requires { IsLive self.now code }
         ensures tail { tail_of self.now code ≡ Some result.0 }
@@ -240,7 +240,7 @@ impl EdgeRings {
         self.rings.tail(code)
     }
 
-    /// The loop in which a live half-edge stands, or 0 where it stands in none.
+    /// The loop in which a live half-edge stands, or 0 if it stands in none.
     pub fn label(&self, code: u32) -> u32
         requires { IsLive self.now code }
         ensures { label_of self.now code ≡ Some result }

@@ -7,12 +7,12 @@ use boundary_model::HALF_EDGE_CODES;
 use raw_cells::Rows;
 use std::alloc::AllocError;
 
-/// How many codes get their labels' room at a time, so that it is asked for seldom.
+/// How many codes get room for their labels at a time, so that memory is seldom asked for.
 const STEP: u32 = 64;
 
-/// What stands at number n: of the code n, and of the label n.
+/// What is kept under number n: something of the code n, and something of the label n.
 ///
-/// No row is written before it has something to say: till then code n owns label n, which stands for no loop.
+/// A row is written only when it says something else than this: code n owns label n, which stands for no loop.
 #[derive(Clone, Copy)]
 pub struct Label {
     /// The label that code n owns.
@@ -23,7 +23,7 @@ pub struct Label {
     pub loop_number: u32,
 }
 
-/// What stands at the number, which has its room, whether its row is written or not.
+/// What is kept under a number that has its room, whether its row is written or not.
 pub(crate) fn row_of(labels: &Rows<Label>, number: u32) -> Label
     requires { has_label labels.now number ≡ true }
     ensures { result ≡ row_of labels.now number }
@@ -38,7 +38,7 @@ pub(crate) fn row_of(labels: &Rows<Label>, number: u32) -> Label
     }
 }
 
-/// Writes the row of the number. Where it is there already, that the number is in use needn't be noted.
+/// Writes the row of the number. If the row is there already, the number is known to be in use and isn't noted again.
 #[inline]
 fn write(labels: &mut Rows<Label>, number: u32, row: Label)
     requires { has_label labels.old number ≡ true }
@@ -76,7 +76,7 @@ pub(crate) fn loop_at(labels: &Rows<Label>, label: u32) -> u32
     row_of(labels, label).loop_number
 }
 
-/// Makes a label stand for a loop, or for none where l is 0.
+/// Makes a label stand for a loop, or for none if l is 0.
 pub(crate) fn stand_for(labels: &mut Rows<Label>, label: u32, l: u32)
     requires { has_label labels.old label ≡ true }
     ensures loops { (q : ℕ) → loop_at labels.new q ≡ cond (nat_eq q label) l (loop_at labels.old q) }
@@ -92,8 +92,8 @@ pub(crate) fn stand_for(labels: &mut Rows<Label>, label: u32, l: u32)
     write(labels, label, row);
 }
 
-/// Makes the label that a code owns stand for a loop, or for none where l is 0. It is given the code's row, so that another one is read only
-/// where the code owns the label of another number.
+/// Makes the label that a code owns stand for a loop, or for none if l is 0. It is given the code's row, so that it reads another row only
+/// if the code owns the label of another number.
 pub(crate) fn stand_for_own(labels: &mut Rows<Label>, code: u32, row: Label, l: u32)
     requires row { row ≡ row_of labels.old code }
     requires label { has_label labels.old row.own ≡ true }
@@ -107,7 +107,7 @@ pub(crate) fn stand_for_own(labels: &mut Rows<Label>, code: u32, row: Label, l: 
     }
 }
 
-/// Makes a code the owner of a label. The code that owned it gets the other one's label.
+/// Makes a code the owner of a label. The former owner of this label gets the label that the code owned.
 pub(crate) fn hand_over(labels: &mut Rows<Label>, code: u32, label: u32)
     requires code { has_label labels.old code ≡ true }
     requires label { has_label labels.old label ≡ true }
@@ -163,8 +163,8 @@ fn set_holder(labels: &mut Rows<Label>, label: u32, code: u32)
     write(labels, label, row);
 }
 
-/// Makes the labels reach to a code, and on to the end of its step. A new code owns the label of its own number. Where they reach there,
-/// this is one test, and no `Err` comes.
+/// Makes the labels reach to a code, and on to the end of its step. A new code owns the label of its own number. If the labels reach there
+/// already, this costs one test, and no `Err` comes.
 pub(crate) fn reach(labels: &mut Rows<Label>, code: u32) -> Result<(), AllocError>
     requires { code ≤ 2000001 }
     ensures grown { HaveNewLabels labels.old labels.new }

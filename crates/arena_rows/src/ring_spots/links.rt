@@ -51,7 +51,7 @@ fn wake(rings: &mut Rings, labels: &mut Rows<Label>, code: u32, tail: u32)
     stand_for_own(labels, code, row, 0);
 }
 
-/// Puts both half-edges of an edge to sleep, each of which is a ring of one.
+/// Puts both half-edges of an edge to sleep; each is a ring of one.
 pub(crate) fn take_edge(rings: &mut Rings, e: u32)
     requires limit { e ≤ 1000000 }
     requires first { next_of rings.old (plus e) ≡ Some (plus e) }
@@ -73,7 +73,7 @@ pub(crate) fn set_labels(rings: &mut Rings, from: u32, l: u32)
     set_labels_seeking(rings, from, l, from);
 }
 
-/// Gives each item of a ring the label l, and tells whether a code is one of them.
+/// Gives each item of a ring the label l, and answers whether a code is one of them.
 #[inline(always)]
 pub(crate) fn set_labels_seeking(rings: &mut Rings, from: u32, l: u32, sought: u32) -> bool
     requires rings { AreRings (spot rings.old) }
@@ -114,7 +114,7 @@ pub(crate) fn set_tail(rings: &mut Rings, h: u32, v: u32)
     rings.set_tail(h, v);
 }
 
-/// Gives both half-edges of an edge their nodes, and their labels. Where they have them, no `Err` comes.
+/// Gives both half-edges of an edge their nodes and their labels. If they have them already, no `Err` comes.
 pub(crate) fn room_edge(
     rings: &mut Rings,
     labels: &mut Rows<Label>,
@@ -134,7 +134,7 @@ pub(crate) fn room_edge(
     room_code(rings, labels, 2 * e + 1)
 }
 
-/// Gives a half-edge its node. Its label is there.
+/// Gives a half-edge its node. It has its label already.
 #[inline(always)]
 fn room_code(rings: &mut Rings, labels: &Rows<Label>, code: u32) -> Result<(), AllocError>
     requires whole { AreLabelled (spot rings.old) (contains_key rings.old) labels.now }

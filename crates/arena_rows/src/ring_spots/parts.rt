@@ -1,4 +1,4 @@
-//! Rings that are cut and joined, where the labels of the shorter part alone are written.
+//! Rings that are cut and joined. Only the labels of the shorter part are written.
 ghost use Rattle.std.specs.Prelude.{◌≡◌, ◌≢◌, ◌≤◌, ℕ, true, false, cond, nat_eq, length};
 ghost use Rattle.std.specs.FinMap.{contains_key};
 ghost use Rattle.raw_ring.specs.Rings.{spot};
@@ -12,10 +12,10 @@ use boundary_model::HALF_EDGE_CODES;
 use raw_cells::Rows;
 use raw_ring::Rings;
 
-/// Cuts the ring of a and b in two, of which b's stands in loop l then, or is loose where l is 0. The ring stood in loop `kept`, in which
-/// a's stays.
+/// Cuts the ring of a and b in two. The ring stood in loop `kept`, and a's part stays there; b's part then stands in loop l, or is loose if
+/// l is 0.
 ///
-/// It walks round the shorter one twice.
+/// It walks twice round the shorter part.
 pub(crate) fn cut(rings: &mut Rings, labels: &mut Rows<Label>, a: u32, b: u32, l: u32, kept: u32)
     requires whole { AreLabelled (spot rings.old) (contains_key rings.old) labels.old }
     requires a { live (spot rings.old) a ≡ true }
@@ -31,9 +31,10 @@ pub(crate) fn cut(rings: &mut Rings, labels: &mut Rows<Label>, a: u32, b: u32, l
     put_in_loop(rings, labels, b, l);
 }
 
-/// Joins the rings of a and b, which stand in different loops, or one of them in none. The joint ring stands in a's loop, which is `kept`.
+/// Joins the rings of a and b, which stand in different loops, or one of which stands in none. The joint ring stands in a's loop, which is
+/// `kept`.
 ///
-/// It walks round the shorter one twice.
+/// It walks twice round the shorter ring.
 pub(crate) fn join(rings: &mut Rings, labels: &mut Rows<Label>, a: u32, b: u32, kept: u32)
     requires whole { AreLabelled (spot rings.old) (contains_key rings.old) labels.old }
     requires a { live (spot rings.old) a ≡ true }
@@ -57,7 +58,7 @@ pub(crate) fn loop_of(rings: &Rings, labels: &Rows<Label>, code: u32) -> u32
     loop_at(labels, rings.label(code))
 }
 
-/// Puts the ring of a code into loop l, or into none where l is 0. It writes one number.
+/// Puts the ring of a code into loop l, or into none if l is 0. It writes one number.
 pub(crate) fn put_in_loop(rings: &Rings, labels: &mut Rows<Label>, from: u32, l: u32)
     requires whole { AreLabelled (spot rings.now) (contains_key rings.now) labels.old }
     requires there { live (spot rings.now) from ≡ true }
@@ -67,8 +68,8 @@ pub(crate) fn put_in_loop(rings: &Rings, labels: &mut Rows<Label>, from: u32, l:
     stand_for(labels, rings.label(from), l);
 }
 
-/// Gives the rings of a and b, which share a label, one each: the shorter one gets another. The label stands for loop `kept`, and that of
-/// a's ring does so still.
+/// Gives each of the rings of a and b, which share a label, a label of its own: the shorter ring gets another one. The shared label stands
+/// for loop `kept`; the label of a's ring stands for it after this, too.
 fn set_apart(rings: &mut Rings, labels: &mut Rows<Label>, a: u32, b: u32, kept: u32)
     requires shared { ShareLabel (spot rings.old) (contains_key rings.old) labels.old a b }
     requires kept { kept ≡ loop_at labels.old (label (spot rings.old) a) }
@@ -85,8 +86,8 @@ fn set_apart(rings: &mut Rings, labels: &mut Rows<Label>, a: u32, b: u32, kept: 
     }
 }
 
-/// Gives the ring of `part` the label that this code owns. The one that it shared stays with the ring of `rest`, and is handed over to
-/// `rest` where a code of `part`'s ring owns it.
+/// Gives the ring of `part` the label that code `part` owns. The shared label stays with the ring of `rest`; if a code of `part`'s ring
+/// owns it, it is handed over to `rest`.
 #[inline(always)]
 fn give_label(rings: &mut Rings, labels: &mut Rows<Label>, part: u32, rest: u32)
     requires { ShareLabel (spot rings.old) (contains_key rings.old) labels.old part rest }
@@ -106,7 +107,8 @@ fn give_label(rings: &mut Rings, labels: &mut Rows<Label>, part: u32, rest: u32)
     }
 }
 
-/// Gives the rings of a and b one label: the shorter one gets that of the other. It stands for loop `kept` then, as that of a's ring did.
+/// Gives the rings of a and b one label: the shorter one gets that of the other. The label then stands for loop `kept`, as that of a's ring
+/// did.
 fn share_label(rings: &mut Rings, labels: &mut Rows<Label>, a: u32, b: u32, kept: u32)
     requires whole { AreLabelled (spot rings.old) (contains_key rings.old) labels.old }
     requires a { live (spot rings.old) a ≡ true }
@@ -128,7 +130,7 @@ fn share_label(rings: &mut Rings, labels: &mut Rows<Label>, a: u32, b: u32, kept
     }
 }
 
-/// Whether the ring of a has no more items than that of b. It goes round both in step, and so round the shorter one once.
+/// Whether the ring of a has no more items than that of b. It goes round both in step, so it walks once round the shorter one.
 fn is_shorter(rings: &Rings, a: u32, b: u32) -> bool
     requires rings { AreRings (spot rings.now) }
     requires a { live (spot rings.now) a ≡ true }
