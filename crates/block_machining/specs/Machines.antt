@@ -1,4 +1,5 @@
--- The machines of this program: what the commands of the plain machine make, one after the other; and what is said of the models that they hold.
+-- The machines of this program: what the commands of the plain machine make, one after the other, and what is said of the models that they
+-- hold.
 use Rattle.std.specs.Prelude.{◌≡◌, ℕ, ℤ, pos, neg_ℤ, false, List, [], ◌∷◌}
 use Rattle.euler_operators.specs.Common.{Has, Model, Plane, Point, origin}
 use Rattle.sweeps.specs.Machine.{block}
@@ -8,7 +9,7 @@ use Rattle.plane_split.specs.Faces.{vertices_of}
 use Rattle.plane_split.specs.Machine.{plane_with, split}
 use Rattle.plane_split.specs.Sides.{some_above, some_below}
 
--- a block that stands apart as solid 3, one as solid 1, and one at the end of that as solid 2
+-- a block that stands apart as solid 3, a block as solid 1, and a block at the end of that one as solid 2
 unfoldable pub alone : Machine
 alone = block start 3 (record { x = pos 10; y = pos 0; z = pos 0 }) (pos 2) (pos 2) (pos 2)
 
@@ -22,18 +23,18 @@ three_blocks = block standing 2 (record { x = pos 4; y = pos 0; z = pos 0 }) (po
 unfoldable pub bar : Machine
 bar = glue three_blocks 10 18
 
--- that cut at x = 2, what lies past it being solid 2
+-- the bar cut at x = 2; what lies past it is solid 2
 abbrev pub cut_plane : Plane
 cut_plane = plane_with (pos 1) (pos 0) (pos 0) (neg_ℤ (pos 2))
 
 unfoldable pub parted : Machine
 parted = split bar 1 cut_plane 2
 
--- and the cut taken back
+-- the cut taken back
 unfoldable pub joined_again : Machine
 joined_again = undo parted
 
--- the corners at x = 4 of the one, and of the other, which go round the other way
+-- the corners at x = 4 of the one block, and those of the other, which go round in the opposite direction
 abbrev pub at : ℤ → ℤ → Point
 at y z = record { x = pos 4; y = y; z = z }
 

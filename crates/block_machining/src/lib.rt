@@ -1,25 +1,25 @@
 #![tactic(auto)]
-//! A worked example: a program on top of the workbench that knows what it makes. Three blocks are made, two of them are glued to a bar, the bar
-//! is cut in two, and the cut is taken back. `machined_block` writes what they measure.
+//! A worked example: a program on top of the workbench that knows what it makes. It makes three blocks, glues two of them to a bar, cuts
+//! the bar in two, and takes the cut back. `machined_block` writes what they measure.
 //!
 //! # How it is proved
 //!
-//! Each function makes one call of the kernel, and its contract says what the program wants to know of the session after it. Where the prover
-//! doesn't find by itself why, `proofs/FUNCTION/Answers.antt` says for each clause what it follows from: `proofs/parted` is a short one. There are
-//! two ways to it, and this example shows both.
+//! Each function makes one call of the kernel, and its contract says what the program wants to know of the session after it. If the prover
+//! doesn't find the reason by itself, `proofs/FUNCTION/Answers.antt` says for each clause from what it follows; `proofs/parted` is a short
+//! one. There are two ways to find it, and this example shows both.
 //!
-//! - *By laws.* A law is a function that does nothing: its contract says something of every session before and after a command answered Ok. It is
-//!   called where it is needed, as `blocks_fit` (a block is accepted where its number is new and numbers are left), `glue_measures` (the volumes
-//!   of glued solids add) or `splits_are_held` (the parts share the volume). Laws serve whatever the sizes are.
-//! - *By computing.* The contract of a call says which command of the plain machine it is. Where all numbers are known, the machine of the
-//!   program is known too (`specs/Machines.antt`), and what it holds is computed by the prover: that the cut is accepted, and what each part
-//!   measures, which no law tells.
+//! - *By laws.* A law is a function that does nothing: its contract says something of every session before and after a command answered Ok.
+//!   It is called where it is needed. Examples are `blocks_fit` (a block is accepted if its number is new and numbers are left),
+//!   `glue_measures` (the volumes of glued solids add) and `splits_are_held` (the parts share the volume). Laws hold for all sizes.
+//! - *By computing.* The contract of a call says which command of the plain machine it is. If all numbers are known, the machine of the
+//!   program is known too (`specs/Machines.antt`), and the prover computes what it holds: that the cut is accepted, and what each part
+//!   measures. No law tells the latter.
 //!
 //! # What is proved
 //!
-//! None of these commands is refused: the only error is that memory is. The three blocks have six volumes of 144, 36 and 48; the bar has the 180
-//! of the first two; its parts have 72 and 108, and lie on either side of the plane. The third block keeps its own throughout. Once the cut is
-//! taken back the model is that of the bar again.
+//! None of these commands is refused: the only possible error is refused memory. The three blocks have six volumes of 144, 36 and 48; the
+//! bar has the 180 of the first two; its parts have 72 and 108, and lie on either side of the plane. The third block keeps its own
+//! throughout. After the cut is taken back, the model is that of the bar again.
 ghost use Rattle.std.specs.Prelude.{◌≡◌, ◌≢◌, ◌+ℤ◌, pos, Ok, Err, IfOk, OnOk};
 ghost use Rattle.euler_operators.specs.Common.{Has};
 ghost use Rattle.sweeps.specs.Measure.{six_volume};
@@ -37,7 +37,7 @@ use plane_split::{split, splits_are_held};
 use std::alloc::{AllocError, Global};
 use sweeps::{Failure, Point, Session, block, block_measures};
 
-/// A command that isn't refused: only memory can stop it.
+/// The result of a command that isn't refused: only memory can stop it.
 fn but_for_memory(done: Result<(), Failure>) -> Result<(), AllocError>
     requires { (refusal : Refusal) → done ≢ Err (Failure.Refused refusal) }
     ensures { OnOk result (done ≡ Ok tt) }
@@ -63,8 +63,8 @@ fn alone(alloc: Global) -> Result<Session, AllocError>
     Ok(session)
 }
 
-/// Apart from it one of 4 by 3 by 2 as solid 1. The side at its greatest x is face 10, since a block takes six faces and this is the second
-/// of the four sides, which come behind top and bottom.
+/// A block of 4 by 3 by 2 as solid 1, apart from the first. Its side at the greatest x is face 10: a block takes six faces, and this is the
+/// second of the four sides, which come after top and bottom.
 fn standing(alloc: Global) -> Result<Session, AllocError>
     ensures first { IfOk result (λ session. six_volume (held session.machine) 1 ≡ pos 144) }
     ensures third { IfOk result (λ session. six_volume (held session.machine) 3 ≡ pos 48) }
@@ -83,7 +83,7 @@ fn standing(alloc: Global) -> Result<Session, AllocError>
     Ok(session)
 }
 
-/// And one of 1 by 3 by 2 as solid 2, which meets the first one at x = 4: its face 18 has the corners of face 10, the other way round.
+/// A block of 1 by 3 by 2 as solid 2, which meets solid 1 at x = 4: its face 18 has the corners of face 10 in the opposite direction.
 pub fn three_blocks(alloc: Global) -> Result<Session, AllocError>
     ensures there { IfOk result (λ session. HasSolids (held session.machine) 1 2 3) }
     ensures first { IfOk result (λ session. six_volume (held session.machine) 1 ≡ pos 144) }
@@ -107,7 +107,7 @@ pub fn three_blocks(alloc: Global) -> Result<Session, AllocError>
     Ok(session)
 }
 
-/// The first two glued where they meet, to a bar of 5 by 3 by 2.
+/// Solids 1 and 2 glued where they meet, to a bar of 5 by 3 by 2.
 pub fn bar(alloc: Global) -> Result<Session, AllocError>
     ensures there { IfOk result (λ session. Has (held session.machine).solids 1) }
     ensures whole { IfOk result (λ session. six_volume (held session.machine) 1 ≡ pos 180) }
@@ -122,7 +122,7 @@ pub fn bar(alloc: Global) -> Result<Session, AllocError>
     Ok(session)
 }
 
-/// The bar cut at x = 2: what lies past it is solid 2.
+/// The bar cut at x = 2. What lies past it is solid 2.
 pub fn parted(alloc: Global) -> Result<Session, AllocError>
     ensures there { IfOk result (λ session. HasSolids (held session.machine) 1 2 3) }
     ensures share { IfOk result (λ session. six_volume (held session.machine) 1 +ℤ six_volume (held session.machine) 2 ≡ pos 180) }
@@ -139,7 +139,7 @@ pub fn parted(alloc: Global) -> Result<Session, AllocError>
     Ok(session)
 }
 
-/// The cut taken back: the bar is whole again.
+/// The cut is taken back, and the bar is whole again.
 pub fn joined_again(alloc: Global) -> Result<Session, AllocError>
     ensures there { IfOk result (λ session. Has (held session.machine).solids 1) }
     ensures again { IfOk result (λ session. held session.machine ≡ held bar) }
@@ -151,7 +151,7 @@ pub fn joined_again(alloc: Global) -> Result<Session, AllocError>
     Ok(session)
 }
 
-/// Six times the volume of solid s, which is there: so the measure is answered.
+/// Six times the volume of solid s. The solid is there, so the measure is answered.
 pub fn measured(session: &Session, s: u32) -> i128
     requires { Has (held session.now.machine).solids s }
     ensures { result ≡ six_volume (held session.now.machine) s }

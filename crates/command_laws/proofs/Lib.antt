@@ -18,6 +18,7 @@ pub mod Standing
 pub mod Turned
 mod LyingFlat
 mod BlockFlat
+mod GlueFlat
 pub mod Inner
 mod splits_laws
 mod caps_laws

@@ -1,5 +1,6 @@
 pub mod Levels
 pub mod Blocks
+pub mod Bends
 pub mod Within
 pub mod Apart
 pub mod Seen

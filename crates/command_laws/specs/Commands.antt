@@ -1,5 +1,5 @@
--- What a call that was answered Ok says of the machine before and of the one after: no condition was false, and one accepted command
--- leads from the one to the other.
+-- What a call that was answered Ok says of the machines before and after it: no condition was false, and one accepted command leads from the one to
+-- the other.
 use Rattle.std.specs.Prelude.{◌≡◌, ℕ, ℤ, List, None}
 use Rattle.euler_operators.specs.Common.{Point}
 use Rattle.undo_journal.specs.Machine.{Machine}

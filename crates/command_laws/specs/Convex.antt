@@ -1,6 +1,6 @@
 -- Solids that are convex: no vertex of the solid lies above the plane of one of its faces.
 use Rattle.std.specs.Prelude.{◌≡◌, ◌≢◌, ℕ, ℤ, pos, int_lt, true, false}
-use Rattle.euler_operators.specs.Common.{Plane, Point, IsIn, cross, dot, is_above, is_below, Model, point_of, solid_of, Sound, Has, lists}
+use Rattle.euler_operators.specs.Common.{Plane, Point, IsIn, cross, dot, is_above, is_below, mate, Model, face_at, point_of, solid_of, Sound, Has, HasHalf, lists}
 use Rattle.shapes.specs.Common.{boundary, corners, finish, is_flat, normal, plane_of, start, towards}
 use Rattle.undo_journal.specs.Machine.{Machine, held}
 use Rattle.plane_split.specs.SplitModels.{IsSplit}
@@ -22,11 +22,20 @@ pub record IsConvex (M : Model) (s : ℕ) : Type 0 where
   pub flat : (k : ℕ) → Has M.faces k → solid_of M k ≡ s → is_flat M k ≡ true
   pub below : (k : ℕ) → Has M.faces k → solid_of M k ≡ s → LiesBelow M (plane_of M k) s
 
--- a new block is
+-- a new block is convex
 abbrev pub BlocksAreConvex : Type 0
 BlocksAreConvex = (before after : Machine) (s : ℕ) (p : Point) (dx dy dz : ℤ) → Sound (held before) → IsBlock before after s p dx dy dz → IsConvex (held after) s
 
--- where no vertex of a solid lies above a plane, no vertex of the parts does into which it is split: each half-space that holds the solid holds both
+-- along half-edge h, its face and that of its mate bend away from each other
+abbrev pub BendsAway : Model → ℕ → Type 0
+BendsAway M h = int_lt (pos 0) (dot (towards (start M h) (finish M h)) (cross (normal M (face_at M h)) (normal M (face_at M (mate h))))) ≡ true
+
+-- the faces bend away from each other at each edge of a new block
+abbrev pub BlocksBend : Type 0
+BlocksBend = (before after : Machine) (s : ℕ) (p : Point) (dx dy dz : ℤ) → Sound (held before) → IsBlock before after s p dx dy dz →
+    (h : ℕ) → HasHalf (held after) h → solid_of (held after) (face_at (held after) h) ≡ s → BendsAway (held after) h
+
+-- if no vertex of a solid lies above a plane, no vertex of its parts does after a split: each half-space that holds the solid holds both parts
 abbrev pub SplitsStayBelow : Type 0
 SplitsStayBelow = (before after : Machine) (s : ℕ) (p : Plane) (t : ℕ) (q : Plane) → Sound (held before) → IsSplit before after s p t →
     LiesBelow (held before) q s → LiesBelow (held after) q s × LiesBelow (held after) q t
@@ -43,18 +52,18 @@ SplitPartsLieApart = (before after : Machine) (s : ℕ) (p : Plane) (t : ℕ) �
 abbrev pub swept_from : Model → Point → ℕ → Point
 swept_from M q h = cross (towards q (start M h)) (towards q (finish M h))
 
--- seen from point q the half-edges of face k go round vector n: none goes back, and one goes on
+-- seen from point q, the half-edges of face k go round vector n: none goes backwards, and at least one goes forwards
 pub record GoesRound (M : Model) (k : ℕ) (n q : Point) : Type 0 where
   pub none_back : (h : ℕ) → IsIn h (boundary M k) → int_lt (dot n (swept_from M q h)) (pos 0) ≡ false
   pub half : ℕ
   pub stands : IsIn half (boundary M k)
   pub goes_on : int_lt (pos 0) (dot n (swept_from M q half)) ≡ true
 
--- then the face looks that way, also one that isn't flat
+-- then the face's normal points along n, even if the face isn't flat
 abbrev pub RoundLooksAlong : Type 0
 RoundLooksAlong = (M : Model) (k : ℕ) (n q : Point) → Sound M → GoesRound M k n q → int_lt (pos 0) (dot n (normal M k)) ≡ true
 
--- a block and a split leave every other solid convex
+-- every other solid that was convex before a block or a split is convex after it
 abbrev pub BlockKeepsConvex : Type 0
 BlockKeepsConvex = (before after : Machine) (s : ℕ) (p : Point) (dx dy dz : ℤ) (u : ℕ) → Sound (held before) → IsBlock before after s p dx dy dz → u ≢ s → IsConvex (held before) u → IsConvex (held after) u
 

@@ -1,4 +1,4 @@
--- What a lamina, a block and a sweep leave as it was.
+-- What a lamina, a block and a sweep leave unchanged.
 use Rattle.std.specs.Prelude.{ℕ, ℤ, List}
 use Rattle.euler_operators.specs.Common.{Point, Model, Sound}
 use Rattle.undo_journal.specs.Machine.{Machine, held}
@@ -6,8 +6,8 @@ use Rattle.command_laws.specs.Commands.{IsLamina, IsBlock, IsSweep}
 use Rattle.command_laws.specs.NewFaces.{IsFaceOf}
 use Rattle.command_laws.specs.LeftAlone.{KeepsOwners, KeepsLoops, KeepsEdges, KeepsPoints, StandsAsBefore, KeepsShapes, Each, AllBut}
 
--- a lamina: each face that is there keeps its solid, each loop its content, each edge its ends, and each vertex its point; and so each face
--- its shape
+-- a lamina: each face that is there keeps its solid, each loop its content, each edge its ends, and each vertex its point; so each face keeps its
+-- shape
 abbrev pub LaminaKeepsOwners : Type 0
 LaminaKeepsOwners = (before after : Machine) (s : ℕ) (ps : List Point) → IsLamina before after s ps → KeepsOwners Each (held before) (held after)
 
@@ -23,7 +23,7 @@ LaminaKeepsPoints = (before after : Machine) (s : ℕ) (ps : List Point) → Sou
 abbrev pub LaminaKeepsShapes : Type 0
 LaminaKeepsShapes = (before after : Machine) (s : ℕ) (ps : List Point) → Sound (held before) → IsLamina before after s ps → KeepsShapes Each (held before) (held after)
 
--- a block too
+-- the same for a block
 abbrev pub BlockKeepsOwners : Type 0
 BlockKeepsOwners = (before after : Machine) (s : ℕ) (p : Point) (dx dy dz : ℤ) → IsBlock before after s p dx dy dz → KeepsOwners Each (held before) (held after)
 
@@ -39,7 +39,7 @@ BlockKeepsPoints = (before after : Machine) (s : ℕ) (p : Point) (dx dy dz : �
 abbrev pub BlockKeepsShapes : Type 0
 BlockKeepsShapes = (before after : Machine) (s : ℕ) (p : Point) (dx dy dz : ℤ) → Sound (held before) → IsBlock before after s p dx dy dz → KeepsShapes Each (held before) (held after)
 
--- a sweep, of a face with rings or without: so it does, but for the loops of the face that is swept
+-- the same for a sweep of a face, with or without rings, except for the loops of the face that is swept
 abbrev pub SweepKeepsOwners : Type 0
 SweepKeepsOwners = (before after : Machine) (f : ℕ) (d : Point) → IsSweep before after f d → KeepsOwners Each (held before) (held after)
 
@@ -55,6 +55,6 @@ SweepKeepsPoints = (before after : Machine) (f : ℕ) (d : Point) → Sound (hel
 abbrev pub SweepKeepsShapes : Type 0
 SweepKeepsShapes = (before after : Machine) (f : ℕ) (d : Point) → Sound (held before) → IsSweep before after f d → KeepsShapes (AllBut f) (held before) (held after)
 
--- a face that stands as it did is what it was known to be
+-- what was known of a face that stands as it did still holds of it
 abbrev pub FacesStand : Type 0
 FacesStand = (M N : Model) (k s : ℕ) (ps : List Point) → StandsAsBefore M N k → IsFaceOf M k s ps → IsFaceOf N k s ps

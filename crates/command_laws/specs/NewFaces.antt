@@ -14,17 +14,17 @@ corner_points M f = map (point_of M) (corners M f)
 abbrev pub nth : List Point → ℕ → Point
 nth ps i = get_or ps i no_point
 
--- the sum of the cross products along some points, and from the last of them to q
+-- the sum of the cross products of successive points, and of the last one with q
 abbrev pub area_to : Point → List Point → Point
 area_to q [] = origin
 area_to q (a ∷ []) = moved (cross a q) origin
 area_to q (a ∷ b ∷ ps) = moved (cross a b) (area_to q (b ∷ ps))
 
--- the plane of a ring of points: through the first, across twice the area
+-- the plane of a ring of points: it goes through the first, across twice the area
 abbrev pub plane_round : List Point → Plane
 plane_round ps = plane_through (area_to (nth ps 0) ps) (nth ps 0)
 
--- face f is there, is of solid s, has no ring, its corners are these points, and its plane is that of the points
+-- face f is there, belongs to solid s and has no ring; its corners are these points, and its plane is that of the points
 pub record IsFaceOf (M : Model) (f s : ℕ) (ps : List Point) : Type 0 where
   pub there : Has M.faces f
   pub solid : solid_of M f ≡ s
@@ -43,18 +43,18 @@ all_moved d ps = map (λ p. moved p d) ps
 abbrev pub side_over : Point → Point → Point → List Point
 side_over d a b = a ∷ b ∷ moved b d ∷ moved a d ∷ []
 
--- a face without rings that was swept keeps its number, and its corners have moved: it is the far one
+-- a face without rings that was swept keeps its number, and its corners have moved: it is the far face of the prism
 abbrev pub SweptFaceIsFar : Type 0
 SweptFaceIsFar = (before after : Machine) (f : ℕ) (d : Point) → Sound (held before) → IsSweep before after f d → rings_of (held before) f ≡ [] →
     IsFaceOf (held after) f (solid_of (held before) f) (all_moved d (corner_points (held before) f))
 
--- and over each of its edges, in their order, stands a new side
+-- a new side stands over each of its edges, in their order
 abbrev pub SidesStand : Type 0
 SidesStand = (before after : Machine) (f : ℕ) (d : Point) (i : ℕ) → Sound (held before) → IsSweep before after f d → rings_of (held before) f ≡ [] →
     let ps = corner_points (held before) f in i < length ps →
     IsFaceOf (held after) (last_face before + 1 + i) (solid_of (held before) f) (side_over d (nth ps i) (nth ps (next_place (length ps) i)))
 
--- the second point, the first, and the others backwards
+-- the second point, the first, and then the others in reverse order
 abbrev pub turned_back : List Point → List Point
 turned_back [] = []
 turned_back (a ∷ []) = a ∷ []
@@ -69,7 +69,7 @@ LaminaHasTwoFaces = (before after : Machine) (s : ℕ) (ps : List Point) → Sou
 abbrev pub up_by : ℤ → Point
 up_by dz = vector (pos 0) (pos 0) dz
 
--- a new block has its top and its bottom first, and then a side over each edge of its base
+-- the first two new faces of a block are its top and its bottom; then comes a side over each edge of its base
 abbrev pub BlockHasTopAndBottom : Type 0
 BlockHasTopAndBottom = (before after : Machine) (s : ℕ) (p : Point) (dx dy dz : ℤ) → Sound (held before) → IsBlock before after s p dx dy dz →
     IsFaceOf (held after) (last_face before + 1) s (all_moved (up_by dz) (base_of p dx dy))
@@ -79,7 +79,7 @@ abbrev pub BlockHasFourSides : Type 0
 BlockHasFourSides = (before after : Machine) (s : ℕ) (p : Point) (dx dy dz : ℤ) (i : ℕ) → Sound (held before) → IsBlock before after s p dx dy dz → i < 4 →
     let ps = base_of p dx dy in IsFaceOf (held after) (last_face before + 3 + i) s (side_over (up_by dz) (nth ps i) (nth ps (next_place 4 i)))
 
--- so the greatest number of a face is six more after it, and two more after a lamina
+-- so a block raises the greatest number of a face by six, and a lamina by two
 abbrev pub BlockTakesSixFaces : Type 0
 BlockTakesSixFaces = (before after : Machine) (s : ℕ) (p : Point) (dx dy dz : ℤ) → Sound (held before) → IsBlock before after s p dx dy dz → last_face after ≡ last_face before + 6
 

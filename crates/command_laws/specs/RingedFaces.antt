@@ -1,4 +1,4 @@
--- A face that may have rings, once it was swept.
+-- A face, with or without rings, after it was swept.
 use Rattle.std.specs.Prelude.{◌≡◌, ℕ, List, map}
 use Rattle.euler_operators.specs.Common.{Point, moved, IsIn, Model, content, point_of, solid_of, Sound, Has}
 use Rattle.shapes.specs.Common.{loops_of, vertices_on, normal, anchor, plane_through, plane_of}
@@ -10,8 +10,8 @@ use Rattle.command_laws.specs.NewFaces.{all_moved, corner_points}
 abbrev pub loop_points : Model → ℕ → List Point
 loop_points M l = map (point_of M) (vertices_on M (content M l))
 
--- face f of M has its number in N, its solid and its loops, the outer one and the rings; the corners of each loop, and so all, have
--- moved by d; and its plane leads across the same normal, through the anchor moved
+-- face f of M keeps its number, its solid and its loops in N, the outer loop and the rings; the corners of each loop, and so all corners, have moved
+-- by d; its plane has the same normal, and goes through the anchor that has moved
 pub record IsFarFace (M N : Model) (f : ℕ) (d : Point) : Type 0 where
   pub there : Has N.faces f
   pub solid : solid_of N f ≡ solid_of M f
@@ -20,6 +20,6 @@ pub record IsFarFace (M N : Model) (f : ℕ) (d : Point) : Type 0 where
   pub points : corner_points N f ≡ all_moved d (corner_points M f)
   pub plane : plane_of N f ≡ plane_through (normal M f) (moved (anchor M f) d)
 
--- a face that was swept is the far one
+-- a face that was swept is the far face of the prism
 abbrev pub RingedFaceIsFar : Type 0
 RingedFaceIsFar = (before after : Machine) (f : ℕ) (d : Point) → Sound (held before) → IsSweep before after f d → IsFarFace (held before) (held after) f d

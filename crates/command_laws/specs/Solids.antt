@@ -5,18 +5,18 @@ use Rattle.euler_operators.specs.Table as table
 use Rattle.undo_journal.specs.Machine.{Machine, held}
 use Rattle.command_laws.specs.Commands.{IsLamina, IsBlock, IsSweep, IsGlue}
 
--- a new block and a new lamina
+-- a new block and a new lamina are there
 abbrev pub BlocksAreThere : Type 0
 BlocksAreThere = (before after : Machine) (s : ℕ) (p : Point) (dx dy dz : ℤ) → IsBlock before after s p dx dy dz → Has (held after).solids s
 
 abbrev pub LaminasAreThere : Type 0
 LaminasAreThere = (before after : Machine) (s : ℕ) (ps : List Point) → IsLamina before after s ps → Has (held after).solids s
 
--- the solid of a face that was swept
+-- the solid of a face that was swept is there
 abbrev pub SweptAreThere : Type 0
 SweptAreThere = (before after : Machine) (f : ℕ) (d : Point) → Sound (held before) → IsSweep before after f d → Has (held after).solids (solid_of (held before) f)
 
--- and every solid that was there before a sweep
+-- and so is every solid that was there before the sweep
 abbrev pub SweepsKeepSolids : Type 0
 SweepsKeepSolids = (before after : Machine) (f : ℕ) (d : Point) → IsSweep before after f d → (held after).solids ≡ (held before).solids
 

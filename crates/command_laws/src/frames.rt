@@ -1,8 +1,8 @@
-//! What each command leaves as it was: the solids of faces, loops, the ends of edges and the points of vertices.
+//! What each command leaves unchanged: the solids of faces, loops, the ends of edges and the points of vertices.
 ghost use Rattle.command_laws.specs.Framed.{LaminaKeepsOwners, LaminaKeepsLoops, LaminaKeepsEdges, LaminaKeepsPoints, LaminaKeepsShapes, BlockKeepsOwners, BlockKeepsLoops, BlockKeepsEdges, BlockKeepsPoints, BlockKeepsShapes, SweepKeepsOwners, SweepKeepsLoops, SweepKeepsEdges, SweepKeepsPoints, SweepKeepsShapes, FacesStand};
 
-/// After a lamina each face that was there is of the solid that it was, each loop has its face and its content, each edge its ends, and
-/// each vertex its point; so each face has the outer loop, the rings, the corner points and the plane that it had.
+/// After a lamina each face that was there keeps its solid, each loop its face and its content, each edge its ends, and each vertex its point. So
+/// each face keeps its outer loop, rings, corner points and plane.
 pub fn laminas_leave_alone()
     ensures owners { LaminaKeepsOwners }
     ensures loops { LaminaKeepsLoops }
@@ -11,7 +11,7 @@ pub fn laminas_leave_alone()
     ensures shapes { LaminaKeepsShapes }
 {}
 
-/// After a block so it is too.
+/// The same holds after a block.
 pub fn blocks_leave_alone()
     ensures owners { BlockKeepsOwners }
     ensures loops { BlockKeepsLoops }
@@ -20,7 +20,7 @@ pub fn blocks_leave_alone()
     ensures shapes { BlockKeepsShapes }
 {}
 
-/// After a sweep, of a face with rings or without, so it is but for the face that was swept and its loops.
+/// The same holds after a sweep of a face, with or without rings, except for the face that was swept and its loops.
 pub fn sweeps_leave_alone()
     ensures owners { SweepKeepsOwners }
     ensures loops { SweepKeepsLoops }

@@ -1,17 +1,17 @@
 #![tactic(auto)]
-//! Laws for a program on top of the workbench: what a session holds after a command that was answered Ok, told from what the call says of it
-//! alone. Each function does nothing: its contract is what is proved, over every machine. `block_machining` is a program that uses them.
+//! Laws for a program on top of the workbench: what a session holds after a command that was answered Ok, derived only from what the call says of it.
+//! Each function does nothing: its contract is what is proved, over every machine. `block_machining` is a program that uses them.
 //!
 //! # What is proved
 //!
-//! - *New faces* (here): those of a lamina, of a block, and of a sweep of a face without rings, each with its number, solid, corner points and
-//!   plane.
-//! - *Accepted commands* (here): when a block and a glue are; that the solid of a new block, a lamina, a sweep and a glue is there.
-//! - *What stays* (`frames`): after a lamina, a block and a sweep each loop there before has its face and its content, each edge its ends,
-//!   each vertex its point, and so each face its solid, rings, corner points and plane, but for the face that was swept.
-//! - *Flat faces* (`flat`): those whose corners lie on one plane, the sides of a sweep, a swept face as it was, all of a new block.
-//! - *Splits*: what they leave as it was, and whose the faces of the parts are (`splits`); the caps (`caps`).
-//! - *Convex solids* (`convex`): blocks are, and each half-space that holds a solid holds both parts of a split of it.
+//! - *New faces* (here): those of a lamina, of a block, and of a sweep of a face without rings, each with its number, solid, corner points and plane.
+//! - *Accepted commands* (here): when a block and a glue are accepted; that the solid of a new block, a lamina, a sweep and a glue is there.
+//! - *What stays* (`frames`): after a lamina, a block and a sweep each loop there before keeps its face and its content, each edge its ends, each
+//!   vertex its point, and so each face its solid, rings, corner points and plane, except for the face that was swept.
+//! - *Flat faces* (`flat`): faces whose corners lie on one plane, the sides of a sweep, a swept face that was flat before, all faces of a new block
+//!   and all of a solid to which another one was glued.
+//! - *Splits*: what they leave unchanged, and to which part each face belongs (`splits`); the caps (`caps`).
+//! - *Convex solids* (`convex`): blocks are convex, and each half-space that holds a solid holds both parts of a split of it.
 
 mod caps;
 mod convex;
@@ -26,27 +26,28 @@ ghost use Rattle.command_laws.specs.Solids.{BlocksAreThere, LaminasAreThere, Swe
 
 pub use caps::{caps_close_the_parts, caps_face_apart};
 pub use convex::{
-    blocks_are_convex, others_stay_convex, parts_lie_apart, round_looks_along, splits_stay_below,
+    blocks_are_convex, blocks_bend, others_stay_convex, parts_lie_apart, round_looks_along,
+    splits_stay_below,
 };
 pub use flat::faces_lie_flat;
 pub use frames::{blocks_leave_alone, faces_stand, laminas_leave_alone, sweeps_leave_alone};
 pub use splits::{splits_leave_alone, splits_part_faces, splits_share_faces};
 
-/// After a lamina: the face next to the greatest before goes round its points, and the one after that the other way round.
+/// After a lamina: the face numbered next after the greatest before goes round its points, and the face after that goes round them in reverse.
 pub fn laminas_make_faces()
     ensures faces { LaminaHasTwoFaces }
     ensures taken { LaminaTakesTwoFaces }
 {}
 
-/// After a block, numbered on from the greatest face before: its top, its bottom, and a side over each edge of its base.
+/// After a block its faces are numbered on from the greatest face before: its top, its bottom, and a side over each edge of its base.
 pub fn blocks_make_faces()
     ensures ends { BlockHasTopAndBottom }
     ensures sides { BlockHasFourSides }
     ensures taken { BlockTakesSixFaces }
 {}
 
-/// After a sweep of a face without rings: the face keeps its number and is the far one, with its corners moved; and over each of its
-/// edges, in their order, stands a new side, numbered on from the greatest face before. A face with rings keeps its number, and its loops too.
+/// After a sweep of a face without rings: the face keeps its number and is the far face of the prism, with its corners moved. Over each of its edges,
+/// in their order, stands a new side, numbered on from the greatest face before. A face with rings keeps its number and its loops too.
 pub fn sweeps_make_faces()
     ensures far { SweptFaceIsFar }
     ensures sides { SidesStand }
@@ -66,13 +67,13 @@ pub fn glues_keep_and_join()
     ensures solids { GluesJoinSolids }
 {}
 
-/// A block is accepted where its number is new, its sizes are 1 or more, both corners are in range, and numbers are left.
+/// A block is accepted if its number is new, its sizes are at least 1, both corners are in range, and numbers are left.
 pub fn blocks_fit()
     ensures { BlocksFit }
 {}
 
-/// A glue is accepted where both faces have no ring, all faces of the two solids are flat and none of their loops a lone vertex, the one
-/// has the corners of the other the other way round, no two alike, and an edge is left.
+/// A glue is accepted if both faces have no ring, all faces of the two solids are flat and none of their loops is a lone vertex, one face has the
+/// corners of the other in reverse order, neither has two equal corners, and an edge is left.
 pub fn glues_fit()
     ensures { GluesFit }
 {}

@@ -7,6 +7,6 @@ use Rattle.shapes.specs.Common.{six_volume, glue_refusal, glue_model}
 abbrev pub GlueAdds : Type 0
 GlueAdds = (M : Model) (f g : ℕ) → Sound M → glue_refusal M f g ≡ None → six_volume (glue_model M f g) (solid_of M f) ≡ six_volume M (solid_of M f) +ℤ six_volume M (solid_of M g)
 
--- and every other solid keeps its own
+-- every other solid keeps its own
 abbrev pub OthersStay : Type 0
 OthersStay = (M : Model) (f g u : ℕ) → Sound M → glue_refusal M f g ≡ None → u ≢ solid_of M f → u ≢ solid_of M g → six_volume (glue_model M f g) u ≡ six_volume M u

@@ -1,7 +1,8 @@
 #![tactic(auto)]
-//! What holds of the workbench, in one file. Each function has a promise as its contract. The laws do nothing but call those that they
-//! sum up, which do nothing either: what they say is proved in the crates where they stand, over every machine, every sound model and
-//! every list of calls. The calls do nothing but make the call of that meaning. The first has the headline, the last runs a script.
+//! What holds of the workbench, in one file. The contract of each function is a promise. Some functions are laws: a law only calls the laws that it
+//! sums up, which do nothing themselves. What a law says is proved in the crate of those laws, over every machine, every sound model and every list
+//! of calls. The other functions make one call each, and their contracts say what that call does. The first function has the headline, and
+//! `every_line_is_answered` runs a script.
 //!
 //! What isn't said here:
 //! - `check`, `apply` and `replay` on an arena: `euler_conditions/src/every.rt`, `low_euler/src/applying.rt`;
@@ -9,16 +10,18 @@
 //! - nodes linked by `next` and `prev`, a splice of them, and what a drop frees: `raw_ring/src/rings.rt`, `raw_ring/src/nodes.rt`;
 //! - normals, planes, flat faces and counts: `solid_measure/src/measures.rt`, `solid_measure/src/solid_counts/solids.rt`;
 //! - points, sides of a plane and cut points: `lattice/src`;
-//! - the faces of new solids, what larger commands leave as it was, and which solids are convex: `command_laws/src`;
-//! - the grammar, the command line and the exit status: `script_reader/src/line.rt`, `command_line/src`.
+//! - the faces of new solids, what larger commands leave unchanged, and which solids are convex: `command_laws/src`;
+//! - what the volumes are after a sweep and after a glue, in terms of bytes: `script_laws/src`;
+//! - the grammar, the command line and the exit status: `script_reader/src/line.rt`, `command_line/src`;
+//! - what each call of the library for C does, and what its readers answer: `session_slots/src`, `gwb_c/src`.
 //!
 //! # What is proved
 //!
-//! Nothing of its own: each function calls the laws of the crates below, or makes a call, and has what they say as its contract. They stand
-//! in this order: lists of calls, marks and handles of C, one call of each kind, records and volumes (`every_list_of_calls_is_answered` and those
-//! after it); conditions, operators and their inverses (from `refusals_name_the_first_false`); splices of rings (from `splices_cut_and_join`); the plain
-//! machine and its histories (from `sessions_are_copies_and_a_place`); what larger commands make and measure, and what a session holds after
-//! them (from `laminas_are_made`); listings, lines and scripts (from `listings_tell_models`); and scripts in words of bytes alone (from
+//! Nothing of its own: each function calls the laws of the crates below, or makes a call, and has what they say as its contract. They stand in this
+//! order: lists of calls, marks and handles of C, one call of each kind, records and volumes (`every_list_of_calls_is_answered` and those after it);
+//! conditions, operators and their inverses (from `refusals_name_the_first_false`); splices of rings (from `splices_cut_and_join`); the plain machine
+//! and its histories (from `sessions_are_copies_and_a_place`); what larger commands make and measure, and what a session holds after them (from
+//! `laminas_are_made`); listings, lines and scripts (from `listings_tell_models`); and scripts, where only bytes are spoken of (from
 //! `every_script_is_answered`).
 
 ghost use Rattle.std.specs.Prelude.{◌≡◌, ◌↔◌, ◌+◌, ◌<◌, OnOk, OnErr, IfOk, IfErr, None, Some, Err, slice_index_or};
@@ -58,8 +61,8 @@ use std::io::Read;
 /// model of a plain machine that keeps a whole copy of every model. Undoing gives the model before and redoing the model after. A refused
 /// command names its first false condition, or refused memory, and changes nothing. Every model held on the way is sound.
 ///
-/// The list begins with a session, or with a draft of its next command, and ends with either. `told` gets one answer a call, and room for
-/// all is made first: on `AllocError` no call was made.
+/// The list begins with a session, or with a draft of its next command, and ends with either. `told` gets one answer for each call. Memory for all
+/// answers is asked for first: on `AllocError` no call was made.
 pub fn every_list_of_calls_is_answered(
     alloc: Global,
     stage: Stage,
@@ -73,11 +76,11 @@ pub fn every_list_of_calls_is_answered(
     make_all(alloc, stage, calls, told)
 }
 
-/// After any such list as many commands can be undone as were done and not taken back, and as many redone as were taken back since the
-/// last one: both are counted from the calls and their answers alone. So many undos give the empty model, and so many redos the last one.
-/// Where a list without undo and redo did n commands, n undos are all done, and lead to the model before it, with the models behind that and
-/// the records of earlier commands as they were; and then n redos are all done, and lead to the session after the list, its records too.
-/// The list is a history of as many calls, and every model that was held on the way is sound, also one that a later command dropped.
+/// The calls of such a list and their answers alone tell how many commands can be undone afterwards, and how many redone. As many can be undone as
+/// were done and not taken back, and as many redone as were taken back since the last one was done. That many undos give the empty model, and that
+/// many redos the last one. If a list without undo and redo did n commands, then n undos are all done. They lead to the model before the list, and
+/// the models before that one and the records of earlier commands are unchanged. Then n redos are all done, and lead to the session after the list,
+/// with its records. The list is a history of as many calls. Every model that was held on the way is sound, also one that a later command dropped.
 pub fn lists_of_calls_are_taken_back()
     ensures counted { PlacesAreCounted }
     ensures undos { UndosLeadToTheFirst }
@@ -92,8 +95,8 @@ pub fn lists_of_calls_are_taken_back()
     lists_are_histories();
 }
 
-/// A call that isn't told `Done` changes nothing, records and steps too, nor does a list of such calls; and calls that are told `Memory` can
-/// be left out of a list. Where no answer is `Memory`, a list without marks has one list of answers, and leads to one machine and one model.
+/// A call that isn't told `Done` changes nothing: no model, record or step. A list of such calls changes nothing either. Calls that are told `Memory`
+/// can be left out of a list. If no answer is `Memory`, a list without marks has one list of answers, and leads to one machine and one model.
 pub fn lists_of_calls_have_one_answer()
     ensures one { ListsHaveOneAnswer }
     ensures kept { OnlyDoneChanges }
@@ -103,8 +106,8 @@ pub fn lists_of_calls_have_one_answer()
     lists_have_one_answer();
 }
 
-/// How many steps a draft has is a mark of it. Behind a mark, and calls that neither end the draft nor go back before it, going back to the mark
-/// is done, and the draft is what it was: its model, its steps and the session in which it was opened.
+/// The number of steps in a draft is a mark of it. After calls that neither end the draft nor go back before the mark, going back to the mark is
+/// done. The draft then is what it was at the mark: its model, its steps and the session in which it was opened.
 pub fn marks_lead_back_to_the_draft()
     ensures steps { StepsAreMarks }
     ensures back { MarksLeadBack }
@@ -112,9 +115,9 @@ pub fn marks_lead_back_to_the_draft()
     marks_lead_back();
 }
 
-/// What a handle of C holds: a new session is whole, and calls on the slot behind a handle are such a list of calls, so what it holds after them
-/// is whole, and all that is said of lists here holds of it. The slot keeps what the last call was told, but for one that concerns a mark or
-/// that the session or draft hasn't.
+/// What a handle of C holds. A new session is whole. Calls on the slot behind a handle are a list of calls as above. So what the handle holds after
+/// them is whole, and all that is said of lists here holds of it. The slot keeps the answer to the last call; a call that concerns a mark, or that
+/// the session or draft doesn't have, leaves the answer before it.
 pub fn handles_hold_lists_of_calls()
     ensures begun { IsWhole (Stage.Session new_journal) }
     ensures made { SlotsMakeAll }
@@ -123,10 +126,10 @@ pub fn handles_hold_lists_of_calls()
     lists_are_histories();
 }
 
-/// So it is of one call: a change, as an operator, a lamina, a block, a sweep, a glue or a split, in a session one command and in a draft
-/// steps; a question; undo or redo; a draft opened, marked, taken back to a mark, committed or abandoned. It is refused by its first
-/// condition that is false alone; a glue and a split may be told `Memory` in place of that refusal where it is none of the conditions that
-/// are tested before memory is asked for (`early_refusal`).
+/// What one call does, of any kind: a change (an operator, a lamina, a block, a sweep, a glue or a split), which is one command in a session and
+/// steps in a draft; a question; undo or redo; or opening, marking, taking back to a mark, committing or abandoning a draft. A call is refused only
+/// by its first false condition. If that condition of a glue or a split is tested after memory is asked for, so that `early_refusal` doesn't give it,
+/// the answer may be `Memory` instead.
 pub fn every_call_is_answered(alloc: Global, stage: Stage, call: Call<'_>) -> (Stage, Told)
     ensures told { Tells stage call.entry result.1 result.0 }
     ensures whole { IsWhole result.0 }
@@ -141,16 +144,16 @@ pub fn sessions_begin_empty(alloc: Global) -> Result<Session, AllocError>
     Session::new(alloc)
 }
 
-/// Whoever gave a session: its first model is the empty one, each is sound, and each next one is made by operators that are accepted in
-/// turn.
+/// Every session, whatever made it: its first model is the empty one, each model is sound, and each next model is made from the one before it by
+/// operators that are accepted one after another.
 pub fn every_session_is_consistent(session: &Session)
     ensures { IsConsistent session.now.machine }
 {
     session.stays_consistent();
 }
 
-/// An operator is accepted, and leaves a record of itself and its inverse, or it is refused: then exactly with the first condition that is
-/// false. What isn't accepted changes nothing.
+/// An operator is accepted and leaves a record of itself and its inverse, or it is refused with the first condition that is false. An operator that
+/// isn't accepted changes nothing.
 pub fn every_operator_is_answered(session: &mut Session, op: Op) -> Result<(), Failure>
     ensures ok { OnOk result ((act_refusal session.old.machine op ≡ None) × (session.new ≡ after_act session.old op)) }
     ensures refused { (refusal : Refusal) → ((result ≡ Err (Failure.Refused refusal)) ↔ (act_refusal session.old.machine op ≡ Some refusal)) }
@@ -177,7 +180,7 @@ pub fn every_redo_is_answered(session: &mut Session) -> Result<(), Refusal>
     session.redo()
 }
 
-/// A draft holds the session's model, and has no step. Where memory is refused the session comes back as it was.
+/// A draft holds the session's model, and has no step. If memory is refused, the session comes back as it was.
 pub fn every_draft_is_opened(session: Session) -> Result<Draft, (Session, AllocError)>
     ensures ok { IfOk result (λ draft. draft ≡ new_draft session) }
     ensures err { IfErr result (λ e. e.0 ≡ session) }
@@ -185,8 +188,8 @@ pub fn every_draft_is_opened(session: Session) -> Result<Draft, (Session, AllocE
     Draft::open(session)
 }
 
-/// A step of a draft is accepted, or it is refused: then exactly with the first condition that is false in the draft's model. What isn't
-/// accepted changes nothing, and the draft goes on.
+/// A step of a draft is accepted, or it is refused with the first condition that is false in the draft's model. A step that isn't accepted changes
+/// nothing, and the draft goes on.
 pub fn every_step_is_answered(draft: &mut Draft, op: Op) -> Result<(), Failure>
     ensures ok { OnOk result ((first_false draft.old.model op ≡ None) × (draft.new ≡ after_step draft.old op)) }
     ensures refused { (refusal : Refusal) → ((result ≡ Err (Failure.Refused refusal)) ↔ (first_false draft.old.model op ≡ Some refusal)) }
@@ -195,22 +198,22 @@ pub fn every_step_is_answered(draft: &mut Draft, op: Op) -> Result<(), Failure>
     draft.step(op)
 }
 
-/// The steps of a draft become one command, whose record has them and their inverses, the last one's first. It can't fail.
+/// The steps of a draft become one command. Its record has the steps, and their inverses in reverse order. Committing can't fail.
 pub fn drafts_become_one_command(draft: Draft) -> Session
     ensures { result ≡ after_commit draft }
 {
     draft.commit()
 }
 
-/// A draft that is abandoned leaves the session as it was, the models ahead and all records included. It can't fail.
+/// A draft that is abandoned leaves the session as it was, with the models ahead and all records. Abandoning can't fail.
 pub fn drafts_leave_no_trace(draft: Draft) -> Session
     ensures { result ≡ draft.session }
 {
     draft.abandon()
 }
 
-/// The record of each command has operators that are accepted in turn and lead from the model before it to the one after, and such that
-/// lead back.
+/// The record of each command has two lists of operators. Those of the first are accepted one after another and lead from the model before the
+/// command to the model after it; those of the second are accepted too, and lead back.
 pub fn records_lead_forth_and_back(session: &Session, index: usize) -> &Record
     requires { index < depth session.now.machine + ahead session.now.machine }
     ensures exact { result.now ≡ slice_index_or session.now.records index result.now }
@@ -222,7 +225,7 @@ pub fn records_lead_forth_and_back(session: &Session, index: usize) -> &Record
     session.record(index)
 }
 
-/// Six times the volume of a solid of the model held is answered exactly, and refused where the number is out of range or there is no such
+/// Six times the volume of a solid in the model held is answered exactly. The question is refused if the number is out of range or there is no such
 /// solid.
 pub fn volumes_are_answered(session: &Session, solid: u32) -> Result<i128, Refusal>
     ensures { result ≡ answer (solid_refusal (held session.now.machine) solid) (six_volume (held session.now.machine) solid) }
@@ -230,8 +233,8 @@ pub fn volumes_are_answered(session: &Session, solid: u32) -> Result<i128, Refus
     six_volume(session.arena(), solid)
 }
 
-/// Of the conditions of an operator or of a larger command, in their order, nothing is refused exactly where each of them holds; what is
-/// refused else is the first that doesn't.
+/// The conditions of an operator or of a larger command are tested in their order. If each of them holds, nothing is refused. Otherwise the first one
+/// that doesn't hold is refused.
 pub fn refusals_name_the_first_false()
     ensures nothing { NothingIsRefusedWhereAllHold }
     ensures first { RefusalsNameTheFirstFalse }
@@ -258,8 +261,8 @@ pub fn inverses_take_operators_back()
     laws_below::inverses_undo();
 }
 
-/// So it is with a list of operators, each accepted in its turn: the model after is sound, and the inverses, the last operator's
-/// first, are accepted in turn and give the model before.
+/// The same holds for a list of operators, each accepted in its turn: the model after them is sound, and their inverses in reverse order are accepted
+/// in turn and give the model before.
 pub fn inverses_take_runs_back()
     ensures sound { RunsAreSound }
     ensures accepted { InversesOfRunsAreAccepted }
@@ -268,15 +271,15 @@ pub fn inverses_take_runs_back()
     laws_below::runs_are_undone();
 }
 
-/// To exchange what follows two items of rings cuts the one ring in which both stand, or joins the two in which one of them stands
-/// each; all other rings stay.
+/// Exchanging what follows two items of rings cuts a ring in two if both items stand in it, and joins two rings if each has one of the items. All
+/// other rings stay.
 pub fn splices_cut_and_join()
     ensures cut { SplicesCut }
     ensures join { SplicesJoin }
     ensures others { SplicesKeepOthers }
 {}
 
-/// Each code of a pool of nodes stands in one ring, so two share a ring or have two.
+/// Each code of a pool of nodes stands in one ring, so two codes stand in one ring together or in two different rings.
 pub fn codes_of_pools_have_one_ring()
     ensures there { EachCodeHasItsRing }
     ensures one { RingsAreRotations }
@@ -285,8 +288,8 @@ pub fn codes_of_pools_have_one_ring()
     codes_have_one_ring();
 }
 
-/// So it is with the rings of a pool of nodes after a splice; where the two codes are one, nothing changes. One code alone leads to
-/// another, so `prev` is the inverse of `next`.
+/// The same holds for the rings of a pool of nodes after a splice; if the two codes are the same, nothing changes. Only one code leads to any given
+/// code, so `prev` is the inverse of `next`.
 pub fn spliced_pools_are_cut_and_joined()
     ensures cut { SplicedPoolsCut }
     ensures joined { SplicedPoolsJoin }
@@ -297,8 +300,8 @@ pub fn spliced_pools_are_cut_and_joined()
     splices_of_pools();
 }
 
-/// The plain machine keeps a copy of every model, and a place: an accepted command drops the copies after the place and appends one,
-/// undo and redo move the place.
+/// The plain machine keeps a copy of every model, and a place among them. An accepted command drops the copies after the place and appends one. Undo
+/// and redo move the place.
 pub fn sessions_are_copies_and_a_place()
     ensures held { HeldIsAtThePlace }
     ensures appended { AcceptedIsAppended }
@@ -315,16 +318,16 @@ pub fn undo_goes_back_and_redo_forth()
     laws_below::undo_gives_the_model_before();
 }
 
-/// Whatever calls are made, each accepted, refused or stopped: the first model is the empty one, each is sound, each next one is made
-/// by operators that are accepted in turn, as many undos as can be made hold the empty model, and as many redos the last one.
+/// Whatever calls are made, each accepted, refused or stopped: the first model is the empty one, each model is sound, and each next one is made by
+/// operators that are accepted in turn. As many undos as can be made lead to the empty model, and as many redos as can be made to the last one.
 pub fn every_history_is_consistent()
     ensures { HistoriesAreConsistent }
 {
     laws_below::histories_are_consistent();
 }
 
-/// A larger command whose model accepted operators make is a call of a history, and so is a lamina, a block, a sweep, a glue or a split
-/// that isn't refused.
+/// A larger command is a call of a history if accepted operators make its model. So a lamina, a block, a sweep, a glue or a split that isn't refused
+/// is one.
 pub fn larger_commands_are_one_call()
     ensures any { LargerCommandsAreCalls }
     ensures lamina { LaminasAreCalls }
@@ -339,7 +342,7 @@ pub fn larger_commands_are_one_call()
     laws_below::splits_are_calls();
 }
 
-/// A lamina that isn't refused: none of its operators is, they make its model, and that is sound.
+/// If a lamina isn't refused, none of its operators is refused, they make its model, and this model is sound.
 pub fn laminas_are_made()
     ensures accepted { OperatorsAreAccepted }
     ensures made { OperatorsMakeLamina }
@@ -348,7 +351,7 @@ pub fn laminas_are_made()
     laws_below::operators_make_lamina();
 }
 
-/// A block that isn't refused: none of its operators is, they make its model, and that is sound.
+/// If a block isn't refused, none of its operators is refused, they make its model, and this model is sound.
 pub fn blocks_are_made()
     ensures accepted { BlocksAreAccepted }
     ensures made { OperatorsMakeBlocks }
@@ -357,7 +360,7 @@ pub fn blocks_are_made()
     laws_below::operators_make_blocks();
 }
 
-/// A sweep that isn't refused: none of its operators is, they make its model, and that is sound.
+/// If a sweep isn't refused, none of its operators is refused, they make its model, and this model is sound.
 pub fn sweeps_are_made()
     ensures accepted { SweepsAreAccepted }
     ensures made { SweepsMakePrisms }
@@ -366,8 +369,8 @@ pub fn sweeps_are_made()
     laws_below::sweeps_make_prisms();
 }
 
-/// A new block has six times the product of its sizes as its six volumes; a new lamina what its first point tells more than its second
-/// along the normal of its first face, which is nothing where that face is flat. Every other solid keeps its own.
+/// Six times the volume of a new block is six times the product of its sizes. For a new lamina it is the product of its first face's normal with the
+/// vector from its second point to its first, which is zero if that face is flat. Every other solid keeps its volume.
 pub fn new_solids_measure()
     ensures block { NewBlock }
     ensures others_than_block { OthersThanBlock }
@@ -379,8 +382,8 @@ pub fn new_solids_measure()
     laws_below::lamina_measures();
 }
 
-/// A sweep adds to the six volumes of its solid three times the normal of the face before, along the vector: six times the volume of
-/// the prism. Every other solid keeps its own.
+/// A sweep adds to six times the volume of its solid three times the product of the vector with the normal that the face had before. This is six
+/// times the volume of the prism. Every other solid keeps its volume.
 pub fn sweeps_add_their_prism()
     ensures solid { SweptSolid }
     ensures others { OthersThanSwept }
@@ -388,7 +391,7 @@ pub fn sweeps_add_their_prism()
     laws_below::sweep_measures();
 }
 
-/// A glue that isn't refused: none of its operators is, they make its model, and that is sound.
+/// If a glue isn't refused, none of its operators is refused, they make its model, and this model is sound.
 pub fn glues_are_made()
     ensures accepted { GluesAreAccepted }
     ensures made { GluesMakeGlued }
@@ -397,7 +400,7 @@ pub fn glues_are_made()
     laws_below::glues_make_glued();
 }
 
-/// The solid of the first face has the six volumes then that the two solids had together. Every solid that wasn't glued keeps its own.
+/// After a glue the first face's solid has the volumes of the two solids together. Every solid that wasn't glued keeps its volume.
 pub fn glued_solids_add_their_volumes()
     ensures two { GlueAdds }
     ensures others { OthersStay }
@@ -405,8 +408,8 @@ pub fn glued_solids_add_their_volumes()
     laws_below::glues_add();
 }
 
-/// So it is of what a session holds: after a glue that isn't refused the solid of the first face has the six volumes that the two solids
-/// had together before, and every solid that wasn't glued keeps its own.
+/// The same holds in a session: after a glue that isn't refused, the first face's solid has the volumes that the two solids had together before, and
+/// every solid that wasn't glued keeps its volume.
 pub fn glued_solids_are_held()
     ensures solid { GluedSolid }
     ensures others { OthersThanGlued }
@@ -414,7 +417,7 @@ pub fn glued_solids_are_held()
     laws_below::glue_measures();
 }
 
-/// A split that isn't refused: none of its operators is, they make its model, and that is sound.
+/// If a split isn't refused, none of its operators is refused, they make its model, and this model is sound.
 pub fn splits_are_made()
     ensures accepted { SplitsAreAccepted }
     ensures made { SplitsMakeSplit }
@@ -423,7 +426,7 @@ pub fn splits_are_made()
     laws_below::splits_make_split();
 }
 
-/// Both parts of a split are solids, whose six volumes sum to those that the solid had. Every other solid keeps its own.
+/// Both parts of a split are solids, and the sum of their volumes is that of the solid before. Every other solid keeps its volume.
 pub fn parts_share_the_volume()
     ensures solids { PartsAreSolids }
     ensures two { SplitsShareVolumes }
@@ -432,16 +435,16 @@ pub fn parts_share_the_volume()
     laws_below::parts_share_volumes();
 }
 
-/// No vertex of the part that keeps the solid's number lies above the plane, none of the new one below it.
+/// No vertex of the part that keeps the solid's number lies above the plane, and no vertex of the new part lies below it.
 pub fn parts_lie_on_their_sides()
     ensures { VerticesLieOnEitherSide }
 {
     laws_below::parts_lie_on_either_side();
 }
 
-/// So it is of what a session holds: after a split that isn't refused it holds the split's model, which is sound. In it both parts are
-/// solids, whose six volumes sum to those that the solid had before; every other solid keeps its own; and no vertex of the part that keeps
-/// the solid's number lies above the plane, none of the new one below it.
+/// The same holds in a session: after a split that isn't refused it holds the split's model, which is sound. In it both parts are solids, and the sum
+/// of their volumes is that of the solid before; every other solid keeps its volume. No vertex of the part that keeps the solid's number lies above
+/// the plane, and no vertex of the new part lies below it.
 pub fn split_solids_are_held()
     ensures made { SplitsAreHeld }
     ensures sound { HeldAreSound }
@@ -453,14 +456,14 @@ pub fn split_solids_are_held()
     laws_below::splits_are_held();
 }
 
-/// A listing tells all of a sound model: two of them have equal listings exactly where they are equal.
+/// A listing tells all of a sound model: two sound models have equal listings exactly if they are equal.
 pub fn listings_tell_models()
     ensures { ListingTells }
 {
     laws_below::listing_tells();
 }
 
-/// Where no reply is `memory`, the lines of a script have one output and one summary, and these have no `memory`.
+/// If no reply is `memory`, the lines of a script have one output and one summary, and neither has a `memory`.
 pub fn scripts_have_one_output()
     ensures one { OneOutput }
     ensures quiet { HasNoMemory }
@@ -468,8 +471,8 @@ pub fn scripts_have_one_output()
     one_output();
 }
 
-/// A line that is judged on a sound model is one call of a history, whatever its command is and whatever it is answered. So where a list of
-/// calls led to the machine before it, one leads to the machine after it, and both are consistent.
+/// A line that is judged on a sound model is one call of a history, whatever its command and its answer are. So if a list of calls led to the machine
+/// before the line, then a list of calls leads to the machine after it, and both machines are consistent.
 pub fn every_line_is_a_call()
     ensures calls { LinesAreCalls }
     ensures lead { LinesLeadOn }
@@ -478,28 +481,28 @@ pub fn every_line_is_a_call()
     lines_are_calls();
 }
 
-/// A line that spells a command is answered what the call to give that command to the session is told, and leads on to the same session. So
-/// scripts and lists of calls speak of one thing.
+/// A line that spells a command has the same answer as the call that gives this command to the session, and leads to the same session. So what is
+/// said of lists of calls holds of scripts too.
 pub fn every_line_is_told_as_its_call()
     ensures { LinesAreTold }
 {
     lines_are_told();
 }
 
-/// So it is of a whole script, from what `run` says of it, whatever it returns: the lines take their turns from the empty model on, each one
-/// call from a consistent machine to a consistent one, and what is written is the texts of their answers, where a write failed a prefix of
-/// them. Each listing is that of a sound model. Where the run ended well, each line that it counts takes its turn.
+/// The same holds for a whole script, by what `run` says of it, whatever it returns. The lines take their turns from the empty model on, and each is
+/// one call from a consistent machine to a consistent one. What is written is the texts of their answers, or a prefix of these after a failed write.
+/// Each listing is that of a sound model. If the run ended well, each line that it counts takes its turn.
 pub fn every_run_tells_a_history()
     ensures { RunsTellHistories }
 {
     runs_tell_histories();
 }
 
-/// What `gwb` does with a script: each line of what the reader gives is answered, in order, and the answers are written. After Ok these
-/// are the answers to all lines, up to the one that stopped the run where `stop` is set; where no reply was `memory` they are the script's
-/// one output. After `Read` or `TooLong` they are those to the lines that came with their newline, after `Write` a prefix of the answers to
-/// the lines that were read, and after `Memory` nothing was read or written. But where a write failed, all that was written has been handed on
-/// by the writer; and so it had been when the read began that ended the run.
+/// What `gwb` does with a script: it answers each line that the reader gives, in order, and writes the answers. After Ok the answers are those to all
+/// lines, or, if `stop` is set, to those up to the line that stopped the run. If no reply was `memory`, they are the script's one output. After
+/// `Read` or `TooLong` they are the answers to the lines that came with their newlines. After `Write` a prefix of the answers to the lines that were
+/// read is written. After `Memory` nothing was read or written. Unless a write failed, the writer has handed on all that was written when the run
+/// ends.
 pub fn every_line_is_answered<R: Read + Drop, W: Outlet>(
     alloc: Global,
     reader: R,
@@ -512,9 +515,9 @@ pub fn every_line_is_answered<R: Read + Drop, W: Outlet>(
     run(alloc, reader, writer, stop)
 }
 
-/// A script that is run to its end, told of its bytes alone. What is written has an answer to each line in turn; a line that is answered
-/// `memory` counts for those behind it as if it hadn't been there. Where there is none, all that is written is a function of the bytes
-/// that were read, `answers`.
+/// A script that is run to its end, where only its bytes are spoken of. What is written has an answer to each line in turn. A line that is answered
+/// `memory` counts for those after it as if it hadn't been there. If no line is answered so, all that is written is a function of the bytes that were
+/// read, `answers`.
 pub fn every_script_is_answered<R: Read + Drop, W: Outlet>(
     alloc: Global,
     reader: R,
@@ -525,8 +528,8 @@ pub fn every_script_is_answered<R: Read + Drop, W: Outlet>(
     answer_script(alloc, reader, writer)
 }
 
-/// So it is of the lines that came with their newlines where a read failed or the script was too long, and of the front of the answers where
-/// a write failed.
+/// If a read failed or the script was too long, the same holds for the lines that came with their newlines. If a write failed, a prefix of the
+/// answers is written.
 pub fn broken_scripts_are_answered()
     ensures ended { RunsTell }
     ensures broken { BrokenRunsTell }
@@ -535,10 +538,10 @@ pub fn broken_scripts_are_answered()
     runs_tell();
 }
 
-/// Of these answers, and no model stands in it. What was answered stays, whatever comes. A line that isn't answered `ok` can be left out, and
-/// so can `undo` with `redo` behind it, and a line with `undo` behind it where no `redo` comes: the other answers are the same. As many
-/// undos as commands were answered `ok` lead back to the start, where `list` is answered `empty`. Behind two scripts that come to equal
-/// listings all but undo and redo is answered alike. One script stands there with its answers.
+/// Laws of these answers in which no model stands. What was answered stays, whatever comes after it. A line that isn't answered `ok` can be left out:
+/// the other answers are the same. So can `undo` followed by `redo`, and, where no `redo` comes, a line followed by `undo`. As many undos as commands
+/// were answered `ok` lead back to the start, where `list` is answered `empty`. If two scripts come to equal listings, all lines after them but undo
+/// and redo are answered alike. One script stands there with its answers.
 pub fn answers_are_told_of_bytes()
     ensures stay { AnswersStay }
     ensures others { OthersCanBeLeftOut }
@@ -558,8 +561,8 @@ pub fn answers_are_told_of_bytes()
     equal_listings_go_on_alike();
 }
 
-/// Nor in this. Behind a block that was answered `ok`, `volume` is answered six times the product of its sizes; behind a split the volumes of
-/// both parts are answered, and sum to what was answered of the solid before.
+/// More laws in which no model stands. After a block that was answered `ok`, `volume` is answered six times the product of its sizes. After a split
+/// the volumes of both parts are answered, and their sum is what was answered for the solid before.
 pub fn volumes_are_told_of_bytes()
     ensures block { BlocksMeasure }
     ensures split { PartsShareVolumes }
@@ -568,7 +571,7 @@ pub fn volumes_are_told_of_bytes()
     parts_share_volumes();
 }
 
-/// A text begins with one reply at most, whose numbers tell why a command was refused, or what is wrong with a line.
+/// A text begins with at most one reply. The numbers of this reply tell why a command was refused, or what is wrong with a line.
 pub fn replies_are_told_apart()
     ensures replies { RepliesTell }
     ensures refusals { RefusalsTell }

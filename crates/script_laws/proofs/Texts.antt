@@ -77,10 +77,6 @@ are_words : {X : Type 0} (f : X → List ℕ) → ((x : X) → Lacks (f x)) → 
 are_words f h [] = tt
 are_words f h (x ∷ xs) = (h x, are_words f h xs)
 
-words_append : (vs ws : List (List ℕ)) → AreWords vs → AreWords ws → AreWords (vs ++ ws)
-words_append [] ws h k = k
-words_append (v ∷ vs) ws h k = (h.0, words_append vs ws h.1 k)
-
 lacks_spaced : (ws : List (List ℕ)) → AreWords ws → Lacks (spaced ws)
 lacks_spaced [] h = tt
 lacks_spaced (w ∷ ws) h = (λ e. omega (arith, e), Lacks-append w (spaced ws) h.0 (lacks_spaced ws h.1))

@@ -1,4 +1,4 @@
--- What scripts are answered, told of their bytes alone.
+-- What scripts are answered, where only their bytes are spoken of.
 use Rattle.std.specs.Prelude.{◌≡◌, ◌≢◌, ◌<◌, ◌^◌, ℕ, Bool, false, List, [], ◌∷◌, ◌++◌, codes, map, Option, ℤ, pos, ◌+ℤ◌, ◌*ℤ◌, decimal}
 use Rattle.std.specs.Fmt.{signed_decimal}
 use Rattle.std.specs.Int.Signed.{mag}
@@ -28,19 +28,19 @@ use Rattle.script_laws.specs.Scripts.{answers, EndsLine, ended, HasNo, oks, Adds
 abbrev pub Anything : List ℕ → Type 0
 Anything more = Unit {0}
 
--- where no reply is `memory`, a run that isn't to stop writes the answers to the bytes that it was given
+-- if no reply is `memory`, a run without `stop` writes the answers to the bytes that it was given
 abbrev pub RunsAnswer : Type 0
 RunsAnswer = (reader old new : Option (List ℕ)) (summary : Summary) (run : Served reader old new false summary) → summary.memory ≡ 0 → run.moves.out ≡ answers run.moves.given
 
--- whatever memory is refused, a run that isn't to stop writes the answers to its lines, of which those that are answered `memory` change nothing
+-- whatever memory is refused, a run without `stop` writes the answers to its lines; a line that is answered `memory` changes nothing
 abbrev pub RunsTell : Type 0
 RunsTell = (reader old new : Option (List ℕ)) (summary : Summary) (run : Served reader old new false summary) → Tells [] (lines_of run.moves.given) run.moves.out
 
--- after a failed read, or where the script is too long, the answers to the lines that came with their newlines
+-- after a failed read, or if the script is too long, the answers to the lines that came with their newlines are written
 abbrev pub BrokenRunsTell : Type 0
 BrokenRunsTell = (reader old new : Option (List ℕ)) (run : BreaksOff reader old new false) → Tells [] run.judged run.moves.out
 
--- after a failed write the front of the answers
+-- after a failed write a prefix of the answers is written
 abbrev pub FailedRunsTell : Type 0
 FailedRunsTell = (reader old new : Option (List ℕ)) (run : WriteFails reader old new false) → (rest : List ℕ) × Tells [] (lines_of (within_limit 0 run.moves.given)) (run.moves.out ++ rest)
 
@@ -48,7 +48,7 @@ FailedRunsTell = (reader old new : Option (List ℕ)) (run : WriteFails reader o
 abbrev pub AnsweredSo : Type 0
 AnsweredSo = answers (codes "mvfs 1 1 1 1 0 0 0\nmev @1 @1 1 2 5 0 0\nkvfs 1\nlist\nundo\nlist\nundo\nlist\n") ≡ codes "ok\nok\nrefused 12 1\nsolid 1\nface 1 1 1\nloop 1 +1 -1\nedge 1 1 2\nvertex 1 0 0 0\nvertex 2 5 0 0\nok\nsolid 1\nface 1 1 1\nloop 1 at 1\nvertex 1 0 0 0\nok\nempty\n"
 
--- what was answered stays, whatever comes behind
+-- what was answered stays, whatever comes after it
 abbrev pub AnswersStay : Type 0
 AnswersStay = (script more : List ℕ) → EndsLine script → (reply : List ℕ) × Adds script more reply
 
@@ -57,32 +57,32 @@ abbrev pub OthersCanBeLeftOut : Type 0
 OthersCanBeLeftOut = (script line reply : List ℕ) → EndsLine script → newline.Lacks line → Adds script (ended line) reply → reply ≢ codes "ok\n"
     → SameBehind Anything (script ++ ended line) script
 
--- undone and done again: as if nothing had been said
+-- if `undo` is answered `ok`, so is `redo` after it, and both can be left out
 abbrev pub UndoAndRedoCanBeLeftOut : Type 0
 UndoAndRedoCanBeLeftOut = (script : List ℕ) → EndsLine script → Adds script (codes "undo\n") (codes "ok\n")
     → Adds script (codes "undo\nredo\n") (codes "ok\nok\n") × SameBehind Anything (script ++ codes "undo\nredo\n") script
 
--- a line that was answered `ok` and isn't `undo` itself, with `undo` behind it, can be left out where no `redo` comes
+-- if a line other than `undo` is answered `ok`, so is `undo` after it, and both can be left out where no `redo` comes
 abbrev pub UndoneLinesCanBeLeftOut : Type 0
 UndoneLinesCanBeLeftOut = (script line : List ℕ) → EndsLine script → newline.Lacks line → words line ≢ codes "undo" ∷ [] → Adds script (ended line) (codes "ok\n")
     → Adds script (ended line ++ codes "undo\n") (codes "ok\nok\n") × SameBehind (HasNo (codes "redo")) (script ++ (ended line ++ codes "undo\n")) script
 
--- as many undos as there are replies `ok`, where none of them is an undo's or a redo's, lead back to the start
+-- if a script has no undo and no redo, as many undos as it has replies `ok` lead back to the start
 abbrev pub UndosLeadBack : Type 0
 UndosLeadBack = (script : List ℕ) → EndsLine script → HasNo (codes "undo") script → HasNo (codes "redo") script → IsTakenBack script (oks (answers script))
 
--- and whatever the script was, some number of undos does
+-- whatever a script is, some number of undos leads back to the start
 abbrev pub SomeUndosLeadBack : Type 0
 SomeUndosLeadBack = (script : List ℕ) → EndsLine script → (n : ℕ) × IsTakenBack script n
 
--- where two scripts come to equal listings, whatever comes is answered alike, but for undo and redo
+-- if two scripts come to equal listings, whatever comes after them, except undo and redo, is answered alike
 abbrev pub EqualListingsGoOnAlike : Type 0
 EqualListingsGoOnAlike = (one other text : List ℕ) → EndsLine one → EndsLine other → Adds one (codes "list\n") text → Adds other (codes "list\n") text
     → SameBehind (λ more. HasNo (codes "undo") more × HasNo (codes "redo") more) one other
 
 -- ---- geometry
 
--- the line spells this command, with whatever blanks, signs and zeros in front
+-- the line spells this command, with any blanks, and any signs and zeros in front of numbers
 abbrev pub Spells : List ℕ → Command → Type 0
 Spells line c = newline.Lacks line × AsksFor line c
 
@@ -102,23 +102,23 @@ SplitLinesSpell = (n m : ℕ) (a b c d : ℤ) → n < 2 ^ 32 → m < 2 ^ 32 → 
 abbrev pub VolumeLinesSpell : Type 0
 VolumeLinesSpell = (n : ℕ) → n < 2 ^ 32 → Spells (codes "volume" ++ spaced (decimal n ∷ [])) (Ask (question.Volume n))
 
--- what a question for a volume is answered
+-- the answer to a question for a volume
 abbrev pub volume_answer : ℤ → List ℕ
 volume_answer z = ended (codes "volume" ++ spaced (signed_decimal z ∷ []))
 
--- behind a block that was answered `ok`, its volume is answered: six times the product of its sizes
+-- after a block that was answered `ok`, its volume is answered: six times the product of its sizes
 abbrev pub BlocksMeasure : Type 0
 BlocksMeasure = (script line ask : List ℕ) (n : ℕ) (p : Point) (dx dy dz : ℤ) → EndsLine script → Spells line (Change (change.Block n p dx dy dz)) → Spells ask (Ask (question.Volume n))
     → Adds script (ended line) (codes "ok\n") → Adds (script ++ ended line) (ended ask) (volume_answer (pos 6 *ℤ dx *ℤ dy *ℤ dz))
 
--- behind a split that was answered `ok` the volumes of both parts sum to what was answered of the solid before
+-- after a split that was answered `ok`, the sum of both parts' volumes is what was answered for the solid before
 abbrev pub PartsShareVolumes : Type 0
 PartsShareVolumes = (script line one other : List ℕ) (n m : ℕ) (a b c d z : ℤ) → EndsLine script → Spells line (Change (change.Split n a b c d m)) → Spells one (Ask (question.Volume n)) → Spells other (Ask (question.Volume m))
     → Adds script (ended one) (volume_answer z) → Adds script (ended line) (codes "ok\n")
     → (u : ℤ) × (v : ℤ) × Adds script (ended one) (volume_answer (u +ℤ v)) × Adds (script ++ ended line) (ended one) (volume_answer u) × Adds (script ++ ended line) (ended other) (volume_answer v)
 
--- what becomes of volumes behind a sweep of face f by d: that of one solid grows by three times what the numbers that the plane of f was answered
--- make of d, and every other one is answered as before
+-- the volumes after a sweep of face f by d: that of one solid grows by three times the product of d with the first three numbers that the plane of f
+-- was answered; every other one is answered as before
 pub record VolumesGrow (script line : List ℕ) (f : ℕ) (d : Point) : Type 0 where
   pub solid : ℕ
   pub plane : Plane
@@ -131,7 +131,7 @@ pub record VolumesGrow (script line : List ℕ) (f : ℕ) (d : Point) : Type 0 w
 abbrev pub SweepsMeasure : Type 0
 SweepsMeasure = (script line : List ℕ) (f : ℕ) (d : Point) → EndsLine script → Spells line (Change (change.Sweep f d)) → Adds script (ended line) (codes "ok\n") → VolumesGrow script line f d
 
--- what becomes of volumes behind a glue: one solid has that of two, and the other is gone
+-- the volumes after a glue: the volume of one solid is the sum of the two before, and the other solid is gone
 pub record VolumesJoin (script line : List ℕ) : Type 0 where
   pub first : ℕ
   pub second : ℕ
@@ -144,7 +144,7 @@ GluesMeasure = (script line : List ℕ) (f g : ℕ) → EndsLine script → Spel
 
 -- ---- replies
 
--- the numbers of a reply are those of their types
+-- the numbers of a reply are in the ranges of their types
 abbrev pub Fits : Reply → Type 0
 Fits reply.Done = Unit {0}
 Fits (reply.Refused n x) = (n < 2 ^ 32) × (x < 2 ^ 32)
@@ -154,11 +154,11 @@ Fits (reply.Plane p flat) = (mag p.a < 2 ^ 127) × (mag p.b < 2 ^ 127) × (mag p
 Fits (reply.Volume n) = mag n < 2 ^ 127
 Fits (reply.Count ns) = AllByRecursion (λ n. mag n < 2 ^ 63) ns
 
--- a text begins with one reply at most
+-- a text begins with at most one reply
 abbrev pub RepliesTell : Type 0
 RepliesTell = (r q : Reply) (x y : List ℕ) → Fits r → Fits q → reply_text r ++ x ≡ reply_text q ++ y → (r ≡ q) × (x ≡ y)
 
--- and its number tells why a command was refused, and what is wrong with a line
+-- the number of a refusal tells why a command was refused, and that of a fault what is wrong with a line
 abbrev pub RefusalsTell : Type 0
 RefusalsTell = (a b : Why) → why.code_of a ≡ why.code_of b → a ≡ b
 

@@ -1,4 +1,4 @@
--- Scripts and what they are answered, as texts.
+-- Scripts and the answers to them, as texts.
 use Rattle.std.specs.Prelude.{◌≡◌, ◌≢◌, ◌⊎◌, ◌↔◌, ℕ, zero, suc, ◌+◌, cond, false, List, [], ◌∷◌, ◌++◌, codes, Option, bytes_eq}
 use Rattle.std.specs.Io.KnownBytes.{Consumes, Appends, IsAtEnd}
 use Rattle.std.specs.List.{AllByRecursion}
@@ -10,7 +10,7 @@ use Rattle.script_running.specs.Laws.{AsksFor}
 use Rattle.script_running.specs.Output.{output_of}
 use Rattle.script_running.specs.declared.script_judging.judging.Summary.{Summary}
 
--- what a script is answered where no memory is refused
+-- the answers to a script if no memory is refused
 unfoldable pub answers : List ℕ → List ℕ
 answers script = output_of false (lines_of script)
 
@@ -22,12 +22,12 @@ EndsLine text = (text ≡ []) ⊎ ((front : List ℕ) × (text ≡ front ++ code
 abbrev pub ended : List ℕ → List ℕ
 ended line = line ++ codes "\n"
 
--- a text so many times
+-- a text n times
 abbrev pub times : ℕ → List ℕ → List ℕ
 times zero text = []
 times (suc n) text = text ++ times n text
 
--- no line of the script has this word alone
+-- no line of the script is this word alone
 abbrev pub HasNo : List ℕ → List ℕ → Type 0
 HasNo word script = AllByRecursion (λ line. words line ≢ word ∷ []) (lines_of script)
 
@@ -40,7 +40,7 @@ count_lines line (l ∷ ls) = cond (bytes_eq l line) 1 0 + count_lines line ls
 abbrev pub oks : List ℕ → ℕ
 oks text = count_lines (codes "ok") (lines_of text)
 
--- what comes behind a script is answered so, behind the answers to that script
+-- what comes after a script has this reply, which stands after the answers to that script
 abbrev pub Adds : List ℕ → List ℕ → List ℕ → Type 0
 Adds script more reply = answers (script ++ more) ≡ answers script ++ reply
 
@@ -48,24 +48,24 @@ Adds script more reply = answers (script ++ more) ≡ answers script ++ reply
 abbrev pub AsksForChange : List ℕ → Type 0
 AsksForChange line = (c : Change) × AsksFor line (command.Change c)
 
--- The text has an answer to each line in turn, behind the script: that which the script and the lines before it are given; but a line that asks for
--- a change may be answered `memory`, and then counts as if it hadn't been there.
+-- The text has an answer to each line in turn, after the script: the answer that follows the script and the lines before this one. But a line that
+-- asks for a change may be answered `memory`, and then counts as if it hadn't been there.
 abbrev pub Tells : List ℕ → List (List ℕ) → List ℕ → Type 0
 Tells script [] text = text ≡ []
 Tells script (line ∷ lines) text = (AsksForChange line × ((rest : List ℕ) × (text ≡ codes "memory\n" ++ rest) × Tells script lines rest))
     ⊎ ((reply : List ℕ) × (rest : List ℕ) × Adds script (ended line) reply × (text ≡ reply ++ rest) × Tells (script ++ ended line) lines rest)
 
--- what comes behind one script is answered as it is behind the other, where it is of this kind
+-- what comes after the one script, if it is of this kind, has the same answers as after the other
 abbrev pub SameBehind : (List ℕ → Type 0) → List ℕ → List ℕ → Type 0
 SameBehind Kind one other = (more reply : List ℕ) → Kind more → Adds one more reply ↔ Adds other more reply
 
--- so many undos are answered `ok`, and lead to the empty model; and whatever comes then is answered as if it were the whole script, but for redo
+-- n undos are answered `ok`, and lead to the empty model; whatever comes then, except redo, is answered as if it were the whole script
 pub record IsTakenBack (script : List ℕ) (n : ℕ) : Type 0 where
   pub accepted : Adds script (times n (codes "undo\n")) (times n (codes "ok\n"))
   pub empty : Adds script (times n (codes "undo\n") ++ codes "list\n") (times n (codes "ok\n") ++ codes "empty\n")
   pub anew : SameBehind (HasNo (codes "redo")) (script ++ times n (codes "undo\n")) []
 
--- the reader gave all that it had, and what was written are the answers to it: all of them, where no reply is `memory`
+-- the reader gave all that it had, and what was written tells the answers to it; if no reply is `memory`, it is exactly `answers`
 pub record Answered (reader old new : Option (List ℕ)) (summary : Summary) : Type 0 where
   pub given : List ℕ
   pub left : Option (List ℕ)

@@ -6,3 +6,4 @@ pub mod half_sides
 pub mod face_sides
 pub mod cut_volumes
 pub mod drawn_volumes
+pub mod tables

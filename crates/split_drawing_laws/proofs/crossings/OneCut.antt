@@ -72,7 +72,7 @@ put_between m y xs apart there free =
 -- ---- the rows, where the halves of the edge stand in different loops
 
 -- two rewritings after one another are a third, where they agree row by row
-maps_agree : {X : Type 0} (f g h : ℕ → X → X) (t : Table X) → ((q : ℕ) (x : X) → table.get t q ≡ Some x → g q (f q x) ≡ h q x) → table.map_rows g (table.map_rows f t) ≡ table.map_rows h t
+pub maps_agree : {X : Type 0} (f g h : ℕ → X → X) (t : Table X) → ((q : ℕ) (x : X) → table.get t q ≡ Some x → g q (f q x) ≡ h q x) → table.map_rows g (table.map_rows f t) ≡ table.map_rows h t
 maps_agree f g h t agree = map_twice g f t ∙ map_alike (λ q x. g q (f q x)) h t agree
 
 some_rows : {X : Type 0} (e : ℕ) (es : List (ℕ × X)) → is_some (find nat_cmp e es) ≡ true → (n : ℕ) × (2 * length es ≡ suc (suc n))

@@ -55,7 +55,7 @@ module _ (M N : Model) (p : Plane) (ds : List ℕ) (sound : Sound M) (a : AreCut
   pub same_finish : finish N (plus e) ≡ finish M (plus e)
   same_finish = ap (start N) (mate_plus e) ∙ kept_start M N sound a.kept (minus e) (minus_there M e c.there) (a.minus_tails e c.there) ∙ sym (ap (start M) (mate_plus e))
 
-  same_cut : cut_at N p e ≡ cut_at M p e
+  pub same_cut : cut_at N p e ≡ cut_at M p e
   same_cut = λ i. cut_between p (same_start i) (same_finish i)
 
 -- one edge more

@@ -53,7 +53,7 @@ module _ (M N : Model) (f c d e : ℕ) (can : CanJoin N c d e) (at : face_at N c
 abbrev pub given : List ℕ → ℕ → ℕ → LoopRow → LoopRow
 given ls k q row = cond (lists ls q) (record row { face = k }) row
 
-rows_given : (t : Table LoopRow) (ls : List ℕ) (k q : ℕ) → table.get (fold (λ t l. table.map_rows (loop_to_face l k) t) t ls) q ≡ option_map (given ls k q) (table.get t q)
+pub rows_given : (t : Table LoopRow) (ls : List ℕ) (k q : ℕ) → table.get (fold (λ t l. table.map_rows (loop_to_face l k) t) t ls) q ≡ option_map (given ls k q) (table.get t q)
 rows_given t [] k q = grind arith
 rows_given t (l ∷ ls) k q = rows_given (table.map_rows (loop_to_face l k) t) ls k q ∙ ap (option_map (given ls k q)) (get-map_rows (loop_to_face l k) t q) ∙ row_given (table.get t q) where
   row_given : (o : Option LoopRow) → option_map (given ls k q) (option_map (loop_to_face l k q) o) ≡ option_map (given (l ∷ ls) k q) o

@@ -1,4 +1,4 @@
--- A cut place once the edges are cut.
+-- A cut place after the edges are cut.
 use Rattle.std.specs.Prelude.{◌≡◌, ℕ}
 use Rattle.euler_operators.specs.Common.{Plane, Model, loop_of, HasHalf}
 use Rattle.shapes.specs.Common.{start, place_point, from_place}

@@ -3,7 +3,7 @@ use Rattle.std.specs.Prelude.{◌≡◌, ℕ}
 use Rattle.euler_operators.specs.Table as table
 use Rattle.euler_operators.specs.Common.{Model, loop_of, face_of, Has, HasHalf}
 
--- solids and faces stay, each loop keeps its face, each half-edge its loop, and each vertex its point
+-- solids and faces stay; each loop keeps its face, each half-edge its loop, and each vertex its point
 pub record Kept (M N : Model) : Type 0 where
   pub solids : N.solids ≡ M.solids
   pub faces : N.faces ≡ M.faces

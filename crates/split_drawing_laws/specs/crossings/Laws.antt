@@ -26,7 +26,7 @@ CrossingsAreSound = (M : Model) (s : ℕ) (p : Plane) (t : ℕ) → Sound M → 
 abbrev pub CrossingsAreCounted : Type 0
 CrossingsAreCounted = (M : Model) (s : ℕ) (p : Plane) (t : ℕ) → Sound M → CanBegin M s p t → (with_crossings M s p).taken ≡ taken_in (with_crossings M s p).model
 
--- solids, faces and rings stay, each old half-edge its loop, and each old vertex its point
+-- solids, faces and rings stay; each old half-edge keeps its loop, and each old vertex its point
 abbrev pub CrossingsKeep : Type 0
 CrossingsKeep = (M : Model) (s : ℕ) (p : Plane) (t : ℕ) → Sound M → CanBegin M s p t → Kept M (with_crossings M s p).model
 
@@ -34,11 +34,11 @@ CrossingsKeep = (M : Model) (s : ℕ) (p : Plane) (t : ℕ) → Sound M → CanB
 abbrev pub NoneCrosses : Type 0
 NoneCrosses = (M : Model) (s : ℕ) (p : Plane) (t : ℕ) → Sound M → CanBegin M s p t → crossing_edges (with_crossings M s p).model p s ≡ []
 
--- each cut place of a face that straddles is where edges are drawn from then: a half-edge starts at its point, in its loop
+-- at each cut place of a face that straddles, a half-edge starts at its point and in its loop; edges are drawn from there
 abbrev pub PlacesStart : Type 0
 PlacesStart = (M : Model) (s : ℕ) (p : Plane) (t : ℕ) → Sound M → CanBegin M s p t → (f h : ℕ) → lists (straddling_faces M p s) f ≡ true → lists (places M p f) h ≡ true → AtPlace M (with_crossings M s p).model p h
 
--- each old half-edge starts where it did, but for the plus halves of the edges that were cut
+-- each old half-edge starts where it did, except for the plus halves of the edges that were cut
 abbrev pub TailsStay : Type 0
 TailsStay = (M : Model) (s : ℕ) (p : Plane) (t : ℕ) → Sound M → CanBegin M s p t → (e : ℕ) → Has M.edges e →
     (tail (with_crossings M s p).model (minus e) ≡ tail M (minus e)) × (lists (crossing_edges M p s) e ≡ false → tail (with_crossings M s p).model (plus e) ≡ tail M (plus e))

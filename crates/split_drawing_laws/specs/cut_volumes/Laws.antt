@@ -8,7 +8,7 @@ use Rattle.split_drawing_laws.specs.crossings.Laws.{CanBegin}
 abbrev pub CrossingsKeepNormals : Type 0
 CrossingsKeepNormals = (M : Model) (s : ℕ) (p : Plane) (t : ℕ) → Sound M → CanBegin M s p t → (f : ℕ) → normal (with_crossings M s p).model f ≡ normal M f
 
--- where all corners of a face lie on a plane, so do the corners that it has then
+-- if all corners of a face lie on a plane, so do the corners that it has after the cuts
 abbrev pub CrossingsKeepPlanes : Type 0
 CrossingsKeepPlanes = (M : Model) (s : ℕ) (p : Plane) (t : ℕ) → Sound M → CanBegin M s p t → (f : ℕ) (r : Plane) →
     is_plane_of M r (corners M f) ≡ true → is_plane_of (with_crossings M s p).model r (corners (with_crossings M s p).model f) ≡ true

@@ -11,19 +11,20 @@ pub record Stays (M N : Model) : Type 0 where
   pub vertices : N.vertices ≡ M.vertices
   pub faces : (g : ℕ) → Has M.faces g → Has N.faces g
 
--- N is M with edges drawn in face f: half-edges of other faces keep loop and face, and those of f are now of f or of a new face
+-- N is M with edges drawn in face f: half-edges of other faces keep their loop and face; those of f now belong to f or to a new face
 pub record DrawnIn (M N : Model) (f : ℕ) : Type 0 where
   pub sound : Sound N
   pub stays : Stays M N
   pub beside : (h : ℕ) → HasHalf M h → face_at M h ≢ f → (loop_of N h ≡ loop_of M h) × (face_at N h ≡ face_at M h)
   pub within : (h : ℕ) → HasHalf M h → face_at M h ≡ f → (face_at N h ≡ f) ⊎ (table.get M.faces (face_at N h) ≡ None)
 
--- N is M with loops of face f joined: such a model, in which each half-edge keeps its face
+-- N is M with loops of face f joined: edges are drawn in f, and each half-edge keeps its face
 pub record JoinedIn (M N : Model) (f : ℕ) : Type 0 where
   pub drawn : DrawnIn M N f
   pub faces : (h : ℕ) → HasHalf M h → face_at N h ≡ face_at M h
 
--- all numbers above those taken are free. A drawing makes no vertices and asks nothing of them: above the greatest in use all are free
+-- all numbers above those taken are free. A drawing makes no vertices, so nothing is asked of their numbers: those above the greatest in
+-- use are free
 abbrev pub AreFreeForPairs : Model → Taken → Type 0
 AreFreeForPairs M c = AreFree M (record c { vertex = table.greatest M.vertices })
 

@@ -7,7 +7,7 @@ use Rattle.split_drawing_laws.specs.drawings.DrawingOps.{drawing_ops}
 use Rattle.split_drawing_laws.specs.drawings.DrawnIn.{Stays, AreFreeForPairs, AreLeftForPairs}
 use Rattle.split_drawing_laws.specs.drawings.Pairs.{FacesFit, pairs_in}
 
--- in the model with its edges cut, that of g, the faces fs can be drawn between their pairs
+-- in g's model, which has its edges cut, the faces fs can be drawn between their pairs
 pub record CanBeDrawn (g : Growing) (fs : List FacePairs) : Type 0 where
   pub sound : Sound g.model
   pub fresh : AreFreeForPairs g.model g.taken

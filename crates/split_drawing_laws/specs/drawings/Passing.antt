@@ -1,4 +1,4 @@
--- What holds while the pairs of a face are passed over, and then one face after the other.
+-- What holds while the pairs of a face are passed over, and after that while one face after the other is.
 use Rattle.std.specs.Prelude.{ℕ, ◌+◌, List, map, length}
 use Rattle.euler_operators.specs.Common.{Plane, IsApart, Model, Sound}
 use Rattle.shapes.specs.Common.{Drawing, FacePairs}

@@ -1,4 +1,4 @@
--- Solids none of whose loops is lone.
+-- Solids without lone loops.
 use Rattle.std.specs.Prelude.{◌≢◌, ℕ}
 use Rattle.euler_operators.specs.Common.{Model, face_of, solid_of, IsLoneAt}
 

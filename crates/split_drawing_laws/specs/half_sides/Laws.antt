@@ -6,6 +6,6 @@ use Rattle.split_drawing_laws.specs.crossings.Laws.{CanBegin}
 use Rattle.split_drawing_laws.specs.loop_sides.Laws.{TakeSides}
 use Rattle.split_drawing_laws.specs.half_sides.HalfSides.{side_of, is_own}
 
--- once the edges that cross the plane are cut, each half-edge has a side, which changes at cut places alone
+-- after the edges that cross the plane are cut, each half-edge has a side, which changes only at cut places
 abbrev pub HalfEdgesTakeSides : Type 0
 HalfEdgesTakeSides = (M : Model) (s : ℕ) (p : Plane) (t : ℕ) → Sound M → CanBegin M s p t → TakeSides p (with_crossings M s p) (straddling_pairs M s p) (side_of M s p) (is_own M s p)

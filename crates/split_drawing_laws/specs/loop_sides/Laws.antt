@@ -1,12 +1,12 @@
--- The law of the sides on which loops lie once edges are drawn.
+-- The law of the sides on which loops lie after edges are drawn.
 use Rattle.std.specs.Prelude.{◌≡◌, ◌≢◌, ℕ, Bool, true, List, map}
 use Rattle.euler_operators.specs.Common.{Plane, IsIn, loop_of, after, HasHalf}
 use Rattle.shapes.specs.Common.{start, Growing, FacePairs, faces_drawn, undrawn}
 use Rattle.split_drawing_laws.specs.drawings.Laws.{CanBeDrawn}
 use Rattle.split_drawing_laws.specs.loop_sides.Parted.{Sided, LiesOn, Open, FacesCross, all_ends}
 
--- each half-edge of the model with its edges cut has a side: those that `mine` picks start on theirs, and going round a loop the
--- side changes at the half-edges of the pairs alone, which start on the plane, two of a pair on different sides
+-- each half-edge of the model with its edges cut has a side. The half-edges that `mine` picks start on their sides. Going round a loop, the
+-- side changes only at the half-edges of the pairs; these start on the plane, and the two of a pair have different sides
 pub record TakeSides (p : Plane) (g : Growing) (fs : List FacePairs) (first mine : ℕ → Bool) : Type 0 where
   pub some : (f : ℕ) → IsIn f (map (λ f. f.face) fs) → f ≢ 0
   pub cross : FacesCross g.model p first fs

@@ -5,18 +5,18 @@ use Rattle.shapes.specs.Common.{start, FacePairs}
 use Rattle.split_drawing_laws.specs.drawings.DrawnIn.{Stays}
 use Rattle.split_drawing_laws.specs.drawings.Pairs.{AllOf}
 
--- going on from x the side stays, but where one comes to an open place it changes
+-- from x to the next half-edge the side stays, unless the next one is an open place: there it changes
 pub record Sided (Old : ℕ → Type 0) (next : ℕ → ℕ) (side : ℕ → Bool) (places : List ℕ) : Type 0 where
   pub along : (x : ℕ) → Old x → count (next x) places ≡ 0 → side (next x) ≡ side x
   pub across : (x : ℕ) → Old x → IsIn (next x) places → side (next x) ≡ not (side x)
 
--- a point on the closed side above, or on that below
+-- a point lies on the closed side above, or on the closed side below
 abbrev pub LiesOn : Plane → Bool → Point → Type 0
 LiesOn p true q = is_below p q ≡ false
 LiesOn p false q = is_above p q ≡ false
 
--- in N, which is B with edges drawn, each half-edge has a side: one of B keeps that of `first`; going round a loop the side
--- changes at the places alone that are still open; and the half-edges of a solid start on theirs
+-- in N, which is B with edges drawn, each half-edge has a side: one of B keeps its side in `first`; going round a loop, the side changes
+-- only at the places that are still open; and the half-edges of a solid start on their sides
 pub record Parted (B N : Model) (p : Plane) (first : ℕ → Bool) (OfSolid : ℕ → Type 0) (places : List ℕ) : Type 0 where
   pub stays : Stays B N
   pub side : ℕ → Bool
@@ -41,12 +41,12 @@ pub record Crosses (B : Model) (p : Plane) (first : ℕ → Bool) (q : ℕ × �
 abbrev pub AllCross : Model → Plane → (ℕ → Bool) → List (ℕ × ℕ) → Type 0
 AllCross B p first = AllOf (Crosses B p first)
 
--- the open places are half-edges, each once
+-- the open places are half-edges, and none stands twice
 pub record Open (B : Model) (places : List ℕ) : Type 0 where
   pub there : (x : ℕ) → IsIn x places → HasHalf B x
   pub apart : IsApart places
 
--- so it is with the pairs of each of some faces, and the half-edges of all their pairs
+-- the same for the pairs of each of some faces; and the half-edges of all their pairs
 abbrev pub FacesCross : Model → Plane → (ℕ → Bool) → List FacePairs → Type 0
 FacesCross B p first = AllOf (λ f. AllCross B p first f.pairs)
 

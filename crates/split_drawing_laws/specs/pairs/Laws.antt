@@ -9,16 +9,16 @@ use Rattle.split_drawing_laws.specs.crossings.Laws.{CanBegin}
 use Rattle.split_drawing_laws.specs.drawings.DrawingOps.{drawing_ops}
 use Rattle.split_drawing_laws.specs.drawings.Laws.{CanBeDrawn}
 
--- once the edges that cross the plane are cut, the faces that straddle can be drawn between their pairs of cut places
+-- after the edges that cross the plane are cut, the faces that straddle can be drawn between their pairs of cut places
 abbrev pub CutPlacesCanBeDrawn : Type 0
 CutPlacesCanBeDrawn = (M : Model) (s : ℕ) (p : Plane) (t : ℕ) → Sound M → CanBegin M s p t → CanBeDrawn (with_crossings M s p) (straddling_pairs M s p)
 
--- and none of a face's cut places is left out of its pairs: it has twice as many of the one as of the other
+-- no cut place of such a face is left out of its pairs: it has twice as many cut places as pairs
 abbrev pub CutPlacesPairUp : Type 0
 CutPlacesPairUp = (M : Model) (s : ℕ) (p : Plane) (t : ℕ) → Sound M → CanBegin M s p t → (f : ℕ) → lists (straddling_faces M p s) f ≡ true →
     length (places M p f) ≡ 2 * length (place_pairs M p f)
 
--- the operators of both rewritings: the edges that cross the plane cut, and then the faces that straddle drawn
+-- the operators of both rewritings: they cut the edges that cross the plane, and then draw the faces that straddle
 abbrev pub rewriting_ops : Model → ℕ → Plane → List Op
 rewriting_ops M s p = crossing_ops M s p ++ drawing_ops p (with_crossings M s p) (straddling_pairs M s p)
 

@@ -1,0 +1,137 @@
+-- The faces that a glue leaves keep their corners, and so they are as flat as they were.
+use Rattle.std.proofs.Common.{◌≡◌, ◌≢◌, ℕ, true, false, cond, nat_eq, ◌||◌, ◌&&◌, List, ◌∷◌, None, unwrap_or, is_some, option_map, refl, sym, ap, subst, ◌∙◌, arith, true≢false, ◌⊎◌, inl, inr, map, eqb-true, eq-eqb}
+use Rattle.std.proofs.lemmas.Bool.Decides.{nat_tests, eqb_tells}
+use Rattle.euler_operators.specs.Common.{Model, LoopContent, lone, cycle, FaceRow, no_face, content, face_of, outer, solid_of, point_of, IsIn, Sound, Has, is_lone, lists, tables}
+use Rattle.euler_operators.proofs.Common.{first_fails, zero_first_where, loop_number, or_true}
+use Rattle.euler_operators.specs.Table as table
+use Rattle.euler_laws.proofs.Common.{face_there, listed_as, listed-from_in, loop_row, mapped_some, solid_either}
+use Rattle.shapes.specs.Common.{loops_of, faces_of_both, vertices_on, rewritten, is_flat, glue_refusal, glue_model}
+use Rattle.shapes.proofs.Common.{face_of_loop}
+use Rattle.shapes.proofs.glue.Facts as facts
+use Rattle.gluing_laws.proofs.Seams as seams
+use Rattle.gluing_laws.proofs.Seams.{Seamed, Glued}
+use Rattle.gluing_laws.proofs.Measures as measures
+use Rattle.gluing_laws.proofs.FromConditions.{seamed, glued}
+use Rattle.gluing_laws.proofs.glue.Glued.{glued_sound}
+use Rattle.undo_journal.specs.Machine.{held}
+use Rattle.command_laws.specs.RingedFaces.{loop_points}
+use Rattle.command_laws.specs.TakenOver.{AreTurned}
+use Rattle.command_laws.specs.Flat.{IsClosedFlat, GluesLieFlat, GlueKeepsFlat}
+use Rattle.command_laws.proofs.OnFaces.{loop_in_face}
+use Rattle.command_laws.proofs.Turned.{IsTurned, rewritten_turned, turned_over}
+
+-- a loop whose half-edges are replaced is lone where it was
+lone_still : (f : List ℕ → List ℕ) (c : LoopContent) → is_lone (rewritten f c) ≡ is_lone c
+lone_still f (lone v) = refl
+lone_still f (cycle hs) = refl
+
+-- a face that is of s afterwards was of s or of t, and one of another solid was of that
+was_either : (a s t : ℕ) → cond (nat_eq a t) s a ≡ s → (a ≡ s) ⊎ (a ≡ t)
+was_either a s t e = grind (arith, eqb_tells, eqb-true)
+
+was_other : (a s t u : ℕ) → u ≢ s → cond (nat_eq a t) s a ≡ u → a ≡ u
+was_other a s t u ne e = grind (arith, eqb_tells, eqb-true)
+
+module _ {M N : Model} {f g : ℕ} {partner_of : ℕ → ℕ} {hs gs : List ℕ} (w : Seamed M f g partner_of hs gs) (n : Glued M N f g partner_of hs) (sound : Sound N) where
+  -- the solid of a face of this solid of M
+  abbrev now_of : ℕ → ℕ
+  now_of a = cond (nat_eq a (solid_of M g)) (solid_of M f) a
+
+  -- face k of N was there, and is neither of the two
+  module _ (k : ℕ) (has : Has N.faces k) where
+    left : table.get (measures.faces_left w n) k ≢ None
+    left e = true≢false (sym has ∙ ap is_some (measures.face_at_row w n k ∙ ap (option_map (measures.to_s w n k)) e))
+
+    not_f : k ≢ f
+    not_f e = left (grind (arith, nat_tests, tables))
+
+    not_g : k ≢ g
+    not_g e = left (grind (arith, nat_tests, tables))
+
+    was : Has M.faces k
+    was = sym (mapped_some (measures.to_s w n k) (table.get M.faces k)) ∙ ap is_some (sym (measures.other_face w n k not_f not_g)) ∙ has
+
+    solid_now : solid_of N k ≡ now_of (solid_of M k)
+    unfolding solid_of
+    solid_now =
+        let row : FaceRow = record { solid = solid_of M k; outer = outer M k } in
+        ap (λ o. (unwrap_or o no_face).solid) (measures.other_face w n k not_f not_g ∙ ap (option_map (measures.to_s w n k)) (face_there M k was))
+        ∙ solid_either (nat_eq (solid_of M k) (solid_of M g)) row (solid_of M f)
+
+    loops_are : loops_of N k ≡ loops_of M k
+    unfolding loops_of
+    loops_are = λ i. measures.outer_is w n k was not_f not_g i ∷ measures.rings_are w n k was not_f not_g i
+
+    -- a loop of it
+    module _ (l : ℕ) (inside : IsIn l (loops_of M k)) where
+      own : Has M.loops l × (face_of M l ≡ k)
+      own = face_of_loop M w.sound k l was (listed-from_in l (loops_of M k) inside)
+
+      content_now : content N l ≡ rewritten (map (seams.swap w n)) (content M l)
+      content_now = let e = measures.loop_else w n k was not_f not_g l own.1 in measures.content_is w n l e.0 e.1
+
+      points_turned : AreTurned (loop_points M l) (loop_points N l)
+      points_turned =
+          let e = measures.loop_else w n k was not_f not_g l own.1 in
+          subst (λ c. AreTurned (loop_points M l) (map (point_of N) (vertices_on N c))) (sym content_now)
+          (rewritten_turned M N (seams.swap w n) (content M l) (λ y i. (measures.each_swapped w n l e.1 y i).0)
+          (λ v is. seams.point_kept w n v (λ h i q. w.sound.lone_is_no_tail l (partner_of h) (seams.half_g w (partner_of h) (seams.partner_in w h i)) (is ∙ ap lone (sym q)))))
+
+    turned : IsTurned M N k
+    turned = record { there = has; loops = loops_are; points = points_turned; normal = measures.normal_is w n k was not_f not_g }
+
+  -- so the faces of a solid of N are flat and none has a lone loop, where those that come to it are so
+  closed_still : (u : ℕ) → ((k : ℕ) → Has M.faces k → now_of (solid_of M k) ≡ u → is_flat M k ≡ true) →
+      ((l : ℕ) → Has M.loops l → now_of (solid_of M (face_of M l)) ≡ u → is_lone (content M l) ≡ false) → IsClosedFlat N u
+  closed_still u flat closed = record {
+    flat = λ k has of. (turned_over M N k u sound (flat k (was k has) (sym (solid_now k has) ∙ of)) of (turned k has)).flat;
+    closed = λ l has of.
+        let k = face_of N l in
+        let there = sound.loops_of_faces l has in
+        let inside : IsIn l (loops_of M k) = subst (λ ls. IsIn l ls) (loops_are k there) (loop_in_face N sound l has) in
+        let old = own k there l inside in
+        ap is_lone (content_now k there l inside) ∙ lone_still (map (seams.swap w n)) (content M l)
+        ∙ closed l old.0 (ap (λ q. now_of (solid_of M q)) old.1 ∙ sym (solid_now k there) ∙ of);
+  }
+
+module _ (M : Model) (f g : ℕ) (sound : Sound M) (accepted : glue_refusal M f g ≡ None) where
+  abbrev s : ℕ
+  s = solid_of M f
+
+  abbrev t : ℕ
+  t = solid_of M g
+
+  still : (u : ℕ) → ((k : ℕ) → Has M.faces k → cond (nat_eq (solid_of M k) t) s (solid_of M k) ≡ u → is_flat M k ≡ true) →
+      ((l : ℕ) → Has M.loops l → cond (nat_eq (solid_of M (face_of M l)) t) s (solid_of M (face_of M l)) ≡ u → is_lone (content M l) ≡ false) → IsClosedFlat (glue_model M f g) u
+  still = closed_still (seamed M f g sound accepted) (glued M f g) (glued_sound M f g sound accepted)
+
+  -- no loop of the two solids is lone
+  abbrev fs : List ℕ
+  fs = faces_of_both M s t
+
+  listed : (k : ℕ) → Has M.faces k → (solid_of M k ≡ s) ⊎ (solid_of M k ≡ t) → lists fs k ≡ true
+  listed k there of = listed_as (λ _ row. nat_eq row.solid s || nat_eq row.solid t) M.faces k _ (face_there M k there) ∙ either (solid_of M k) of where
+    either : (a : ℕ) → (a ≡ s) ⊎ (a ≡ t) → (nat_eq a s || nat_eq a t) ≡ true
+    either a (inl e) = ap (λ b. b || nat_eq a t) (eq-eqb a s e)
+    either a (inr e) = ap (λ b. nat_eq a s || b) (eq-eqb a t e) ∙ or_true (nat_eq a s)
+
+  held_loop : (l : ℕ) → Has M.loops l → (solid_of M (face_of M l) ≡ s) ⊎ (solid_of M (face_of M l) ≡ t) → is_lone (content M l) ≡ false
+  held_loop l has of = first_fails (is_lone (content M l)) (lists fs (face_of M l))
+      (zero_first_where (λ _ row. is_lone row.content && lists fs row.face) M.loops (loop_number M sound) (facts.glue_goes M f g accepted).none_lone l _ (loop_row M l has))
+      (listed (face_of M l) (sound.loops_of_faces l has) of)
+
+  glued_flat : IsClosedFlat (glue_model M f g) s
+  glued_flat = still s
+      (λ k there of. facts.flat M f g sound accepted k there (was_either (solid_of M k) s t of))
+      (λ l has of. held_loop l has (was_either (solid_of M (face_of M l)) s t of))
+
+  other_flat : (u : ℕ) → u ≢ s → IsClosedFlat M u → IsClosedFlat (glue_model M f g) u
+  other_flat u ne before = still u
+      (λ k there of. before.flat k there (was_other (solid_of M k) s t u ne of))
+      (λ l has of. before.closed l has (was_other (solid_of M (face_of M l)) s t u ne of))
+
+pub glues_lie_flat : GluesLieFlat
+glues_lie_flat before after f g sound made = subst (λ m. IsClosedFlat (held m) (solid_of (held before) f)) (sym made.1) (glued_flat (held before) f g sound made.0)
+
+pub glue_keeps_flat : GlueKeepsFlat
+glue_keeps_flat before after f g u sound made ne was = subst (λ m. IsClosedFlat (held m) u) (sym made.1) (other_flat (held before) f g sound made.0 u ne was)

@@ -1,0 +1,3 @@
+pub mod Doubled
+pub mod Chords
+pub mod Laws
