@@ -1,4 +1,4 @@
--- Half-edges, and the code of each: its place in the order of listings, by edge number, plus before minus.
+-- Half-edges, and the code of each: its place in the order of listings, which is by edge number, and plus before minus.
 -- Lists of half-edges are lists of codes.
 use Rattle.std.specs.Prelude.{ℕ, ◌/◌, ◌%◌, cond, nat_eq}
 use Rattle.boundary_model.specs.declared.HalfEdge.{HalfEdge}

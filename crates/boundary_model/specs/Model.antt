@@ -8,17 +8,17 @@ use Rattle.boundary_model.specs.HalfEdge.{mate, edge_of, is_first}
 use Rattle.boundary_model.specs.Table as table
 use Rattle.boundary_model.specs.Table.{Table}
 
--- what a loop holds: one vertex and no edge, or a cycle of half-edges, written from its least on
+-- what a loop holds: one vertex and no edge, or a cycle of half-edges, written from the least one on
 pub data LoopContent : Type 0 where
   lone : ℕ → LoopContent
   cycle : List ℕ → LoopContent
 
--- a face is of a solid and has an outer loop. Its rings are the other loops that name it
+-- a face belongs to a solid and has an outer loop. Its rings are the other loops that name this face
 pub record FaceRow : Type 0 where
   pub solid : ℕ
   pub outer : ℕ
 
--- a loop is of a face
+-- a loop belongs to a face
 pub record LoopRow : Type 0 where
   pub face : ℕ
   pub content : LoopContent
@@ -36,11 +36,11 @@ pub record Model : Type 0 where
   pub edges : Table EdgeRow
   pub vertices : Table Point
 
--- the model that has nothing
+-- the empty model
 unfoldable pub empty_model : Model
 empty_model = record { solids = table.empty; faces = table.empty; loops = table.empty; edges = table.empty; vertices = table.empty }
 
--- the half-edges of a loop; none where the loop is lone
+-- the half-edges of a loop; none if the loop is lone
 abbrev pub items_of : LoopContent → List ℕ
 items_of (lone v) = []
 items_of (cycle hs) = hs
@@ -76,7 +76,7 @@ has_half M h = table.has M.edges (edge_of h)
 unfoldable pub loop_of : Model → ℕ → ℕ
 loop_of M h = table.first_where (λ _ row. holds h row.content) M.loops
 
--- what a loop holds; the empty list where it isn't there
+-- what a loop holds; the empty list if the loop isn't there
 unfoldable pub content : Model → ℕ → LoopContent
 content M l = (unwrap_or (table.get M.loops l) no_loop).content
 
@@ -123,7 +123,7 @@ before M h = predecessor (cycle_of M h) h
 abbrev pub round : Model → ℕ → ℕ
 round M h = after M (mate h)
 
--- g, round(g), .. up to but without h. It has at most as many items as there are half-edges
+-- g, round(g) and so on, up to but without h: at most as many items as there are half-edges
 unfoldable pub arc : Model → ℕ → ℕ → List ℕ
 arc M g h = rings.arc (round M) g h (2 * length M.edges.rows)
 

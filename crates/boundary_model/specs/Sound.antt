@@ -21,12 +21,12 @@ Has t n = table.has t n ≡ true
 abbrev pub HasHalf : Model → ℕ → Type 0
 HasHalf M h = has_half M h ≡ true
 
--- going round a vertex from g, one comes to h
+-- a walk round a vertex from g comes to h
 pub data Reaches (next : ℕ → ℕ) (g : ℕ) : ℕ → Type 0 where
   here : Reaches next g g
   further : {h : ℕ} → Reaches next g h → Reaches next g (next h)
 
--- some item, none twice, and the least one first
+-- there is an item, none stands twice, and the least one stands first
 pub record IsCycle (hs : List ℕ) : Type 0 where
   pub some_item : hs ≢ []
   pub apart : IsApart hs
@@ -47,29 +47,30 @@ abbrev pub NumbersFit : {X : Type 0} → Table X → Type 0
 NumbersFit t = (n : ℕ) → Has t n → is_number n ≡ true
 
 pub record Sound (M : Model) : Type 0 where
-  -- the half-edges of each edge, and no others, stand in loops, each once, and in one loop only
+  -- the half-edges of each edge, and no others, stand in loops: each stands once, and in one loop only
   pub stands : (h : ℕ) → HasHalf M h → StandsIn M h (loop_of M h)
   pub only_edges : (h l : ℕ) → StandsIn M h l → HasHalf M h
   pub one_loop : (h l : ℕ) → StandsIn M h l → loop_of M h ≡ l
   pub cycles : (l : ℕ) (hs : List ℕ) → Has M.loops l → content M l ≡ cycle hs → IsCycle hs
-  -- each item ends where the next starts, and what an item starts at is a vertex
+  -- each item ends where the next one starts, and each item starts at a vertex
   pub ends_meet : (h : ℕ) → HasHalf M h → tail M (after M h) ≡ tail M (mate h)
   pub tails_there : (h : ℕ) → HasHalf M h → Has M.vertices (tail M h)
   -- the two ends of an edge differ
   pub ends_differ : (h : ℕ) → HasHalf M h → tail M h ≢ tail M (mate h)
-  -- a vertex stands in one lone loop and nothing starts there, or it stands in none, and what starts there forms one cycle round it
+  -- either a vertex stands in one lone loop and no half-edge starts there, or it stands in none, and the half-edges that start there form one cycle
+  -- round it
   pub lone_or_tail : (v : ℕ) → Has M.vertices v → ((l : ℕ) × IsLoneAt M l v) ⊎ IsTail M v
   pub lone_is_no_tail : (l h : ℕ) → HasHalf M h → content M l ≢ lone (tail M h)
   pub one_lone : (l k v : ℕ) → IsLoneAt M l v → IsLoneAt M k v → l ≡ k
   pub one_fan : (g h : ℕ) → HasHalf M g → HasHalf M h → tail M g ≡ tail M h → Reaches (round M) g h
-  -- each loop is of a face, and the outer loop of a face is of that face; a lone loop stands at a vertex
+  -- each loop belongs to a face, and the outer loop of a face belongs to that face; a lone loop stands at a vertex
   pub loops_of_faces : (l : ℕ) → Has M.loops l → Has M.faces (face_of M l)
   pub outers_there : (f : ℕ) → Has M.faces f → Has M.loops (outer M f) × (face_of M (outer M f) ≡ f)
   pub lone_at_vertex : (l v : ℕ) → IsLoneAt M l v → Has M.vertices v
-  -- each face is of a solid, and each solid has a face
+  -- each face belongs to a solid, and each solid has a face
   pub faces_of_solids : (f : ℕ) → Has M.faces f → Has M.solids (solid_of M f)
   pub solid_has_face : (s : ℕ) → Has M.solids s → (f : ℕ) × Has M.faces f × (solid_of M f ≡ s)
-  -- the two faces of an edge are of one solid
+  -- the two faces of an edge belong to one solid
   pub one_solid : (h : ℕ) → HasHalf M h → solid_of M (face_of M (loop_of M h)) ≡ solid_of M (face_of M (loop_of M (mate h)))
   -- numbers and points are in range
   pub solids_fit : NumbersFit M.solids

@@ -127,7 +127,7 @@ module _ {X Y : Type 0} (f : ℕ → X → Y) where
   get-map_rows t q = find-map q t.rows
 
 module _ {X : Type 0} where
-  -- the table with a row at n, where there is one
+  -- the table with the row at n, if there is a row
   abbrev pub put_option : Table X → ℕ → Option X → Table X
   put_option t n None = t
   put_option t n (Some x) = put t n x

@@ -4,8 +4,8 @@
 //!
 //! # What is proved
 //!
-//! The definitions of model and soundness; `mate`, `code`, `of_code` of half-edges; `plus`, `minus`: the two half-edges of an
-//! edge.
+//! Of half-edges: `mate`, `code` and `of_code`, and `plus` and `minus`, which are the two half-edges of an edge. The model and its soundness are
+//! definitions.
 
 ghost use Rattle.std.specs.Prelude.{◌≡◌, ◌≤◌};
 ghost use Rattle.boundary_model.specs.HalfEdge as half_edge;
@@ -62,7 +62,7 @@ impl HalfEdge {
         }
     }
 
-    /// The half-edge's place in the order of listings: by edge number, plus before minus.
+    /// The half-edge's place in the order of listings, which is by edge number, and plus before minus.
     #[tactic(auto, unfolding(crate::specs::HalfEdge::code))]
     pub fn code(self) -> u32
         requires { self.edge ≤ 1000000 }

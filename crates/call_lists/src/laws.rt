@@ -3,8 +3,8 @@ ghost use Rattle.call_lists.specs.Laws.{ListsAreHistories, ListsKeepWhole, EachI
 
 use commands::commands_are_calls;
 
-/// What `make_all` says of a list is a history: a list of as many calls of the plain machine leads to the machine after it. Every model on
-/// the way is sound, also one that a later command dropped.
+/// What `make_all` says of a list is a history: a list of as many calls of the plain machine leads to the machine after it. Every model on the way is
+/// sound, also one that a later command dropped.
 pub fn lists_are_histories()
     ensures histories { ListsAreHistories }
     ensures whole { ListsKeepWhole }
@@ -13,8 +13,8 @@ pub fn lists_are_histories()
     commands_are_calls();
 }
 
-/// After a list of calls as many commands can be undone as were done and not taken back, and as many redone as were taken back since
-/// the last one. So many undos give the first model, the empty one, and so many redos the last.
+/// After a list of calls as many commands can be undone as were done and not taken back, and as many redone as were taken back since the last one was
+/// done. That many undos give the first model, which is the empty one, and that many redos give the last one.
 pub fn undos_and_redos_lead_to_the_ends()
     ensures counted { PlacesAreCounted }
     ensures undos { UndosLeadToTheFirst }
@@ -23,14 +23,14 @@ pub fn undos_and_redos_lead_to_the_ends()
     commands_are_calls();
 }
 
-/// Where a list without undo and redo did n commands, n undos are all done, and lead to the model before it, with the models behind that and
-/// the records of earlier commands as they were; then n redos are all done, and lead to the session after the list, its records too.
+/// If a list without undo and redo did n commands, then n undos are all done. They lead to the model before the list, and the models before that one
+/// and the records of earlier commands are unchanged. Then n redos are all done, and lead to the session after the list, with its records.
 pub fn commands_are_taken_back()
     ensures { CommandsAreTakenBack }
 {}
 
-/// A call that isn't told `Done` changes nothing, nor does a list of such calls; a call that is told `Memory` can be left out. Where no
-/// answer is `Memory`, a list of calls without marks has one list of answers, and leads to one machine and one model.
+/// A call that isn't told `Done` changes nothing, and a list of such calls changes nothing either. A call that is told `Memory` can be left out. If
+/// no answer is `Memory`, a list of calls without marks has one list of answers, and leads to one machine and one model.
 pub fn lists_have_one_answer()
     ensures one { ListsHaveOneAnswer }
     ensures kept { OnlyDoneChanges }
@@ -38,7 +38,7 @@ pub fn lists_have_one_answer()
     ensures memory { MemoryCanBeLeftOut }
 {}
 
-/// How many steps a draft has is a mark of it. Going back to a mark, behind calls that neither end the draft nor go back before it, is done,
+/// The number of steps in a draft is a mark of it. After calls that neither end the draft nor go back before a mark, going back to the mark is done,
 /// and gives the draft as it was there.
 pub fn marks_lead_back()
     ensures steps { StepsAreMarks }

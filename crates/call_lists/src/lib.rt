@@ -1,18 +1,18 @@
 #![tactic(auto)]
-//! Lists of calls: a session taken through any list of commands, drafts with marks, undos and redos, with one answer a call.
+//! Lists of calls: a session is taken through any list of commands, drafts with marks, undos and redos, and each call has one answer.
 //!
 //! `making` makes a whole list of the calls that `commands` makes. The laws do nothing: their contracts are what is proved of such lists.
 //! Sessions, drafts, calls, operators and the measure of a solid are passed on to `promises`.
 //!
 //! # What is proved
 //!
-//! `make_all`: what each call of a list is told in its turn, and the session or draft after them, are what `commands` says of one call; the room
-//! for the answers is made first. `lists_are_histories`: such a list is a history of as many calls of the plain machine, and each model
-//! on the way is sound. `undos_and_redos_lead_to_the_ends`: how many commands can be undone and redone is counted from the calls and
-//! answers, and so many undos and redos lead to the empty model and to the last one. `commands_are_taken_back`: n commands are taken back by n
-//! undos, and made again by n redos. `lists_have_one_answer`: a call that isn't told `Done` changes nothing, one told `Memory` can be left out,
-//! and where no answer is `Memory` a list without marks has one list of answers, and leads to one machine and model. `marks_lead_back`: going
-//! back to a mark gives the draft as it was there.
+//! `make_all`: what each call of a list is told in its turn, and the session or draft after the list, are what `commands` says of one call; the room
+//! for the answers is made first. `lists_are_histories`: such a list is a history of as many calls of the plain machine, and each model on the way is
+//! sound. `undos_and_redos_lead_to_the_ends`: the calls and answers alone tell how many commands can be undone and redone, and that many undos lead
+//! to the empty model, that many redos to the last one. `commands_are_taken_back`: n undos take n commands back, and n redos make them again.
+//! `lists_have_one_answer`: a call that isn't told `Done` changes nothing, a call that is told `Memory` can be left out, and if no answer is `Memory`
+//! a list without marks has one list of answers, and leads to one machine and model. `marks_lead_back`: going back to a mark gives the draft as it
+//! was there.
 
 mod laws;
 mod making;

@@ -6,9 +6,9 @@ ghost use Rattle.call_lists.specs.Making.{AreTold};
 use commands::{Call, Stage, Told, make};
 use std::alloc::{AllocError, Global};
 
-/// Makes the calls one after the other, and appends what each is told. The answers and the session or draft after them are what the plain
-/// machine, which keeps a whole copy of every model, may give for these calls in order; and each model of it is sound. The room for the
-/// answers is made first: on `AllocError` no call was made, and nothing has changed.
+/// Makes the calls one after the other, and appends the answer to each. The answers and the session or draft after them are what the plain machine,
+/// which keeps a whole copy of every model, may give for these calls in order; and each of its models is sound. The room for the answers is made
+/// first: on `AllocError` no call was made, and nothing has changed.
 pub fn make_all(
     alloc: Global,
     stage: Stage,

@@ -16,24 +16,24 @@ use Rattle.command_line.specs.declared.ending.Trouble.{Trouble}
 use Rattle.command_line.specs.declared.ending.Ended.{Ended}
 use Rattle.command_line.specs.declared.ending.Trouble.TheVariants as trouble
 
--- clap was asked for a text, or refused the words
+-- 0 if clap was asked for a text, 2 if it refused the words
 abbrev pub line_status : ErrorKind → ℕ
 line_status kind.DisplayHelp = 0
 line_status kind.DisplayVersion = 0
 line_status _ = 2
 
--- a clean run, a run with complaints
+-- 0 for a clean run, 1 for a run with complaints
 abbrev pub run_status : Summary → ℕ
 run_status s = if is_clean s then 0 else 1
 
--- the status of a whole run, of refused words, of a run that could not be made or broke off
+-- the status after a whole run, after refused words, and after a run that couldn't begin or broke off
 abbrev pub status : Result Summary Trouble → ℕ
 status (Ok s) = run_status s
 status (Err (trouble.Words e)) = line_status (kind_of e)
 status (Err trouble.Open) = 3
 status (Err (trouble.Run f)) = 3
 
--- words that gave no choice: refused memory is no mistake in them
+-- why words gave no choice: if memory was refused, the words aren't to blame
 abbrev pub line_trouble : Error → ErrorKind → Trouble
 line_trouble e kind.OutOfMemory = trouble.Run fault.Memory
 line_trouble e _ = trouble.Words e
@@ -42,7 +42,7 @@ abbrev pub trouble_of : WordsFault → Trouble
 trouble_of (words.Line e) = line_trouble e (kind_of e)
 trouble_of (words.Memory _) = trouble.Run fault.Memory
 
--- a text that was asked for and can't be written is a write fault
+-- if a text was asked for and can't be written, this is a write fault
 abbrev pub text_trouble : Error → ErrorKind → Trouble
 text_trouble e kind.DisplayHelp = trouble.Run fault.Write
 text_trouble e kind.DisplayVersion = trouble.Run fault.Write
@@ -52,7 +52,7 @@ abbrev pub trouble_told : Error → Bool → Trouble
 trouble_told e true = trouble.Words e
 trouble_told e false = text_trouble e (kind_of e)
 
--- the line on standard error; clap's text says by itself why the program ends
+-- the line on standard error; there is none if clap's text already says why the program ends
 abbrev pub complaint : Result Summary Trouble → Option (List ℕ)
 complaint (Ok s) = None
 complaint (Err (trouble.Words e)) = None
@@ -62,14 +62,14 @@ complaint (Err (trouble.Run fault.Write)) = Some (codes "gwb: write fault")
 complaint (Err (trouble.Run fault.TooLong)) = Some (codes "gwb: script too long")
 complaint (Err (trouble.Run fault.Memory)) = Some (codes "gwb: out of memory")
 
--- clap's text is printed where there is one, and else what prints is handed back; prints e b: printing e may answer that all of it was written (b)
+-- if there is a text of clap's, it is printed; else `print` is handed back. prints e b: printing e may answer b, whether all of it was written
 abbrev pub Printed : {P : Type 0} → P → (Error → Bool → Type 0) → Result Summary Trouble → Result Summary Trouble → Option P → Type 0
 Printed {P} print prints (Ok s) told unused = (told ≡ Ok s) × (unused ≡ Some print)
 Printed {P} print prints (Err (trouble.Words e)) told unused = (b : Bool) × prints e b × (told ≡ Err (trouble_told e b))
 Printed {P} print prints (Err trouble.Open) told unused = (told ≡ Err trouble.Open) × (unused ≡ Some print)
 Printed {P} print prints (Err (trouble.Run f)) told unused = (told ≡ Err (trouble.Run f)) × (unused ≡ Some print)
 
--- the line was told where there is one, and else what tells is handed back
+-- if there is a line, it is told; else `tell` is handed back
 abbrev pub IsTold : {T : Type 0} → T → (List ℕ → Type 0) → Option (List ℕ) → Option T → Type 0
 IsTold {T} tell tells None unused = unused ≡ Some tell
 IsTold {T} tell tells (Some line) unused = tells line

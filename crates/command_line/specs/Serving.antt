@@ -11,17 +11,17 @@ use Rattle.command_line.specs.declared.words.WordsFault.{WordsFault}
 use Rattle.command_line.specs.declared.ending.Trouble.{Trouble}
 use Rattle.command_line.specs.declared.ending.Trouble.TheVariants as trouble
 
--- what was opened is run, or nothing could be, and nothing is written
+-- what was opened is run; if nothing could be opened, nothing is written
 abbrev pub RunsOpened : {F : Type 0} → (F → Option (List ℕ)) → Option (List ℕ) → Option (List ℕ) → Bool → Result Summary Trouble → Option F → Type 0
 RunsOpened {F} remaining old new stop ended None = (ended ≡ Err trouble.Open) × (new ≡ old)
 RunsOpened {F} remaining old new stop ended (Some script) = Answered (remaining script) old new stop ended
 
--- how the run ended, and what opens files, where it was not called
+-- how the run ended; and `opening`, if it was not called
 abbrev pub Outcome : Type 0 → Type 0
 Outcome O = Result Summary Trouble × Option O
 
--- Standard input is run and no file is opened where none is named, and else what opening the file by its name gave is run. opens name r: opening
--- name may give r; remaining: what a file that was opened has left to read; input: what standard input has.
+-- If no file is named, standard input is run and no file is opened; else the file that opening this name gave is run. opens name r: opening name may
+-- give r; remaining: what is left to read of a file that was opened; input: what standard input has.
 abbrev pub RunsFile : {O F : Type 0} → O → (Text → Option F → Type 0) → (F → Option (List ℕ)) → (input old new : Option (List ℕ)) → Bool → Outcome O → Option Text → Type 0
 RunsFile {O} {F} opening opens remaining input old new stop r None = Answered input old new stop r.0 × (r.1 ≡ Some opening)
 RunsFile {O} {F} opening opens remaining input old new stop r (Some name) = (opened : Option F) × opens name opened × RunsOpened remaining old new stop r.0 opened

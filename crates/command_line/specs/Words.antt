@@ -25,16 +25,16 @@ program = on_top (λ s. record s { has_version = true }) (new_app (codes "gwb"))
 unfoldable pub command_line : App
 command_line = with_rule (with_rule program stop_flag) file_value
 
--- the choice is the flag --stop and the value FILE of the matches
+-- the choice is the flag --stop and the value FILE, as clap's matches have them
 abbrev pub Chosen : List Row → Choice → Type 0
 Chosen rows c = ((c.stop ≡ true) ↔ (first_of (codes "stop") rows ≡ Some (codes "true")))
     × (option_map string_bytes c.file ≡ first_of (codes "FILE") rows)
 
--- clap refuses the words for one of these causes, or lacked memory; or it has none, and the memory for a copy of FILE was refused
+-- clap has a cause to refuse the words, or lacked memory; or it has no cause, and the memory for a copy of FILE was refused
 abbrev pub IsCaused : App → List Text → WordsFault → Type 0
 IsCaused app words (Line e) = HasKind (fault_of app words) e
 IsCaused app words (Memory e) = (fault_of app words ≡ []) × (first_of (codes "FILE") (matches_of app words) ≢ None)
 
--- the words are read only where clap has no cause to refuse them
+-- the words are read only if clap has no cause to refuse them
 abbrev pub Fails : App → List Text → Result Choice WordsFault → Type 0
 Fails app words r = MatchResult r (λ c. fault_of app words ≡ []) (IsCaused app words)

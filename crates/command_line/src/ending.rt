@@ -22,7 +22,7 @@ pub enum Trouble {
     Run(RunFault),
 }
 
-/// Refused memory is no mistake in the words.
+/// Why the program ends when the words gave no choice. If memory was refused, the words aren't to blame.
 impl From<WordsFault> for Trouble {
     ghost from_gives = { λ fault trouble. trouble ≡ trouble_of fault };
 
@@ -38,7 +38,7 @@ impl From<WordsFault> for Trouble {
 }
 
 impl Trouble {
-    /// The trouble of clap's text, once it was printed or could not be: help that can't be written is a write fault.
+    /// Why the program ends after clap's text: if help or the version can't be written, this is a write fault.
     pub fn told(error: clap::Error, is_printed: bool) -> Trouble
         ensures { result ≡ trouble_told error is_printed }
     {
@@ -51,7 +51,7 @@ impl Trouble {
     }
 }
 
-/// The line on standard error that says why the program ends before its script is answered; clap's text says it by itself.
+/// The line on standard error that says why the program ends before its script is answered. There is none if clap's text says it already.
 pub fn complaint(ended: &Result<Summary, Trouble>) -> Option<&'static str>
     ensures { option_map (λ line. line.now) result ≡ complaint ended.now }
 {
@@ -65,8 +65,8 @@ pub fn complaint(ended: &Result<Summary, Trouble>) -> Option<&'static str>
     }
 }
 
-/// The exit status: 0 and 1 after a whole run, without and with a reply that begins with `refused`, `fault` or `memory`;
-/// 0 where help or the version was asked for, 2 where the words were refused, and else 3.
+/// The exit status: after a whole run 0, or 1 if a reply begins with `refused`, `fault` or `memory`; 0 if help or the version was asked for, 2 if the
+/// words were refused, and else 3.
 pub fn status_of(ended: &Result<Summary, Trouble>) -> u8
     ensures { result ≡ status ended.now }
 {
@@ -79,7 +79,7 @@ pub fn status_of(ended: &Result<Summary, Trouble>) -> u8
     }
 }
 
-/// Prints clap's text where there is one, and gives the ending that follows; `print` is handed back where there is none.
+/// Prints clap's text if there is one, and gives the ending that follows. If there is none, `print` is handed back.
 fn printed<P: FnOnce(&clap::Error) -> bool + Drop>(
     ended: Result<Summary, Trouble>,
     print: P,
@@ -96,7 +96,7 @@ fn printed<P: FnOnce(&clap::Error) -> bool + Drop>(
     }
 }
 
-/// Tells the complaint where there is one; `tell` is handed back where there is none.
+/// Tells the complaint if there is one. If there is none, `tell` is handed back.
 fn complain<T: FnOnce(&str) + Drop>(ended: &Result<Summary, Trouble>, tell: T) -> Option<T>
     requires { T.IsAlwaysCallable tell }
     ensures { IsTold tell (λ line. FnOnceReturnsAt T.FnOnce tell line tt) (complaint ended.now) result }
@@ -110,14 +110,14 @@ fn complain<T: FnOnce(&str) + Drop>(ended: &Result<Summary, Trouble>, tell: T) -
     }
 }
 
-/// How the program ended. What was given to print and to tell with can be called once, and is handed back where it was not called.
+/// How the program ended. `print` and `tell` can be called once each, and are handed back if they were not called.
 #[derive(Drop)]
 pub struct Ended<P, T> {
     /// The exit code.
     pub code: ExitCode,
-    /// What prints clap's text, where nothing was printed.
+    /// What prints clap's text, if nothing was printed.
     pub print: Option<P>,
-    /// What tells standard error, where nothing was told.
+    /// What tells standard error, if nothing was told.
     pub tell: Option<T>,
 }
 

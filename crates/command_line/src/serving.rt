@@ -44,7 +44,7 @@ fn run_opened<F: Read + Drop, W: Outlet>(
     }
 }
 
-/// Runs the script that was chosen; `opening` is handed back where no file is named.
+/// Runs the script that was chosen. If no file is named, `opening` is handed back.
 fn follow<R: Read + Drop, F: Read + Drop, O: FnOnce(&str) -> Option<F> + Drop, W: Outlet>(
     alloc: Global,
     choice: &Choice,
@@ -71,13 +71,14 @@ fn follow<R: Read + Drop, F: Read + Drop, O: FnOnce(&str) -> Option<F> + Drop, W
     }
 }
 
-/// Runs the script that the words of a command line choose, the program's name first: FILE's where they name one, opened by
-/// `opening`, and else that of `input`. With `--stop` the run ends after the first reply that begins with `refused`, `fault` or
-/// `memory`. `opening` can be called once, and is handed back where it was not called: where the words name no FILE, and where
-/// they give no choice. The script is answered in the console given, whose new session is then the caller's to keep or to let go.
+/// Runs the script that the words of a command line choose; the first word is the program's name. If the words name FILE, the script is that file,
+/// opened by `opening`; else it is `input`. With `--stop` the run ends after the first reply that begins with `refused`, `fault` or `memory`.
+/// `opening` can be called once. It is handed back if it was not called: if the words name no FILE, and if they give no choice. The script is
+/// answered in the console given, whose new session is then the caller's to keep or to free.
 ///
-/// `Trouble::Words` comes where the words are refused or ask for help or the version, `Trouble::Open` where `opening` gives nothing;
-/// then nothing is read or written. What is written has been handed on when it ends, but where a write failed. `Trouble::Run` is the run's, or says that memory was refused while the words were read.
+/// `Trouble::Words` comes if the words are refused or ask for help or the version, `Trouble::Open` if `opening` gives nothing; then nothing is read
+/// or written. `Trouble::Run` is the run's, or says that memory was refused while the words were read. Unless a write failed, all that was written
+/// has been handed on at the end.
 pub fn serve<R: Read + Drop, F: Read + Drop, O: FnOnce(&str) -> Option<F> + Drop, W: Outlet>(
     alloc: Global,
     words: &[String],

@@ -16,7 +16,7 @@ use thiserror::Error;
 pub struct Choice {
     /// Whether the run ends after the first reply that begins with `refused`, `fault` or `memory`.
     pub stop: bool,
-    /// The script's file; standard input where there is none.
+    /// The script's file; `None` stands for standard input.
     pub file: Option<String>,
 }
 
@@ -177,11 +177,11 @@ fn named_file(alloc: Global, matches: &ArgMatches<'_>) -> Result<Option<String>,
     }
 }
 
-/// Reads the words of a command line, the program's name first: `gwb [--stop] [FILE]`.
+/// Reads the words of a command line, the first of which is the program's name: `gwb [--stop] [FILE]`.
 ///
-/// `WordsFault::Line` holds clap's text: of a mistake in the words, or what `--help` or `--version` ask for. Where memory was
-/// refused it is `Line` with clap's kind `OutOfMemory`, or `Memory` where clap had no cause to refuse the words and FILE, which they
-/// name, could not be copied.
+/// `WordsFault::Line` holds clap's text: that of a mistake in the words, or what `--help` or `--version` ask for. If memory was refused, the fault is
+/// `Line` with clap's kind `OutOfMemory`; or it is `Memory` if clap had no cause to refuse the words, and the FILE that they name could not be
+/// copied.
 pub fn read_words(alloc: Global, words: &[String]) -> Result<Choice, WordsFault>
     ensures choice { IfOk result (Chosen (matches_of command_line (map string_bytes words.now))) }
     ensures fault { Fails command_line (map string_bytes words.now) result }

@@ -9,6 +9,6 @@ pub record IsCall (s t : Machine) : Type 0 where
   pub call : Call
   pub leads : after_call s call ≡ t
 
--- a command to a session on a sound model is one, whatever it is told
+-- a command to a session on a sound model is one call, whatever the answer is
 abbrev pub CommandsAreCalls : Type 0
 CommandsAreCalls = (s t : Journal) (c : Command) (a : Told) → Sound (held s.machine) → TellsSession s c a t → IsCall s.machine t.machine

@@ -26,12 +26,13 @@ made M (change.Sweep f d) = prism_model M f d
 made M (change.Glue f g) = glue_model M f g
 made M (change.Split n x y z w m) = split_model M n (plane_with x y z w) m
 
--- the first that is false of those that are tested before memory is asked for: of a glue and a split those up to NotFlat, else all
+-- the first false condition among those that are tested before memory is asked for: for a glue and a split those up to NotFlat, for others
+-- all
 abbrev pub early_refusal_of : Model → Change → Option Refusal
 early_refusal_of M (change.Glue f g) = gluing.early_refusal M f g
 early_refusal_of M (change.Split n x y z w m) = splitting.early_refusal M n (plane_with x y z w) m
 early_refusal_of M c = refusal_of M c
 
--- memory may be refused to it only where none of them is
+-- memory may be refused to the change only if none of these conditions is false
 abbrev pub MayLack : Model → Change → Type 0
 MayLack M c = early_refusal_of M c ≡ None

@@ -1,4 +1,4 @@
--- The types of this crate and the words of the journal that its files cite, passed on from one place. Declares nothing.
+-- The types of this crate and the words of the journal that its files cite, collected in one place. This file declares nothing.
 pub use Rattle.euler_operators.specs.Common.{Model, Sound}
 pub use Rattle.euler_operators.specs.declared.Refusal.{Refusal}
 pub use Rattle.undo_journal.specs.Histories.{IsConsistent}

@@ -7,7 +7,7 @@ use crate::command::{Question, Told};
 use euler_conditions::Arena;
 use solid_measure::{counts, is_flat, plane, six_volume};
 
-// Each measure is matched where it is told, and not handed on by `?`, so that it is moved once.
+// Each measure is matched where it is answered, instead of passed on by `?`, so that it is moved only once.
 
 /// The plane of a face, and whether the face is flat.
 fn plane_told(arena: &Arena, face: u32) -> Told

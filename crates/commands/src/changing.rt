@@ -9,7 +9,7 @@ use std::alloc::Global;
 use sweeps::{block, lamina, sweep};
 use undo_journal::{Failure, Session};
 
-/// Gives a session an operator, where it lies. It does what `change` does.
+/// Gives a session an operator without moving it. It does what `change` does.
 #[inline(always)]
 pub fn act_on_session(session: &mut Session, op: Op) -> Result<(), Failure>
     ensures { TellsSession session.old (Command.Change (Change.Act op)) (told_of result) session.new }
@@ -56,8 +56,8 @@ fn make_split(
     split(alloc, session, solid, a, b, c, d, above)
 }
 
-/// Makes a change one command of the session. Refused is what the command is refused for of whose name it is. On any failure the session
-/// is as it was, its records too. An accepted change leaves one record.
+/// Makes a change one command of the session. A refusal is that of the command that the change names. On any failure the session is as it
+/// was, with its records. An accepted change leaves one record.
 pub fn change(alloc: Global, session: Session, change: Change<'_>) -> (Session, Result<(), Failure>)
     ensures { TellsSession session (Command.Change change.entry) (told_of result.1) result.0 }
 {

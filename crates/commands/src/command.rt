@@ -1,4 +1,4 @@
-//! What a command is, and what it is told.
+//! What a command is, and how it is answered.
 ghost use Rattle.std.specs.Prelude.{◌≡◌};
 ghost use Rattle.commands.specs.Telling.{told_of};
 
@@ -7,7 +7,8 @@ use euler_operators::{Op, Plane, Point, Refusal};
 use solid_measure::Tally;
 use undo_journal::Failure;
 
-/// A change of the model: an operator, or a larger command of several. Numbers may be outside their ranges; who makes the change tests them.
+/// A change of the model: an operator, or a larger command of several operators. Numbers may be outside their ranges: the function that
+/// makes the change tests them.
 #[derive(Drop)]
 pub enum Change<'a> {
     /// An operator.
@@ -49,13 +50,13 @@ pub enum Command<'a> {
 /// A call of a session, or of a draft of its next command.
 #[derive(Drop)]
 pub enum Call<'a> {
-    /// A command; in a draft a change is made as steps, and there is no undo and no redo.
+    /// A command. In a draft a change is made as steps, and undo and redo are not available.
     Give(Command<'a>),
     /// Opens a draft.
     Open,
     /// How many steps the draft has, for `Back`.
     Mark,
-    /// Takes the draft's steps since a mark back.
+    /// Takes back the draft's steps since a mark.
     Back(usize),
     /// Makes the draft's steps one command.
     Commit,
@@ -63,16 +64,16 @@ pub enum Call<'a> {
     Abandon,
 }
 
-/// What a call is told.
+/// The answer to a call.
 #[derive(Clone, Copy, Debug, PartialEq, Eq)]
 pub enum Told {
     /// It was done.
     Done,
-    /// It did nothing, since a condition is false: the first such, with its value.
+    /// It did nothing because a condition is false: the first such condition, with its value.
     Refused(Refusal),
-    /// It did nothing, since memory was refused.
+    /// It did nothing because memory was refused.
     Memory,
-    /// It did nothing: there is a draft, which has no such call.
+    /// It did nothing: there is a draft, and a draft doesn't take this call.
     InDraft,
     /// It did nothing: there is no draft.
     NoDraft,
@@ -86,7 +87,7 @@ pub enum Told {
     Steps(usize),
 }
 
-/// What a change is told that ended so.
+/// The answer to a change that ended with this result.
 pub fn outcome(ended: Result<(), Failure>) -> Told
     ensures { result ≡ told_of ended }
 {

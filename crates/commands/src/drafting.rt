@@ -9,7 +9,7 @@ use std::alloc::Global;
 use sweeps::{block_in, lamina_in, sweep_in};
 use undo_journal::{Draft, Failure};
 
-/// Gives a draft an operator, where it lies.
+/// Gives a draft an operator without moving it.
 pub(crate) fn act_on_draft(draft: &mut Draft, op: Op) -> Result<(), Failure>
     ensures { TellsDraft draft.old (Command.Change (Change.Act op)) (told_of result) draft.new }
 {
@@ -46,8 +46,8 @@ fn make_split(
     split_in(alloc, draft, solid, a, b, c, d, above)
 }
 
-/// Makes a change as steps of a draft: an operator as one, a larger command as all of its operators. Refused is what the command is refused
-/// for of whose name it is, of the draft's model. On any failure the draft is as it was, and goes on.
+/// Makes a change as steps of a draft: an operator is one step, a larger command takes all of its operators. A refusal is that of the
+/// command that the change names, in the draft's model. On any failure the draft is as it was, and goes on.
 pub fn change_in(alloc: Global, draft: &mut Draft, change: Change<'_>) -> Result<(), Failure>
     ensures { TellsDraft draft.old (Command.Change change.entry) (told_of result) draft.new }
 {

@@ -5,7 +5,7 @@ use gluing::glues_are_calls;
 use plane_split::splits_are_calls;
 use sweeps::larger_commands_are_calls;
 
-/// A command to a session on a sound model is one call of a history, whatever it is told.
+/// A command to a session on a sound model is one call of a history, whatever the answer is.
 pub fn commands_are_calls()
     ensures { CommandsAreCalls }
 {

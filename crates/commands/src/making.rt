@@ -11,7 +11,7 @@ use euler_operators::{Op, Refusal};
 use std::alloc::Global;
 use undo_journal::{Draft, Failure, Session};
 
-/// What undo or redo is told that ended so.
+/// The answer to an undo or redo that ended with this result.
 pub fn moved(ended: Result<(), Refusal>) -> Told
     ensures { result ≡ told_of_move ended }
 {
@@ -37,7 +37,7 @@ fn redo(session: Session) -> (Session, Told)
     (session, moved(ended))
 }
 
-/// Gives a session a command. What isn't done leaves the session as it was, its records too.
+/// Gives a session a command. A command that isn't done leaves the session as it was, with its records.
 pub fn give(alloc: Global, session: Session, command: Command<'_>) -> (Session, Told)
     ensures { TellsSession session command.entry result.1 result.0 }
 {
@@ -55,7 +55,7 @@ pub fn give(alloc: Global, session: Session, command: Command<'_>) -> (Session, 
     }
 }
 
-/// Gives a draft a command: a change as steps, or a question. What isn't done leaves the draft as it was, and it goes on.
+/// Gives a draft a command: a change as steps, or a question. A command that isn't done leaves the draft as it was, and it goes on.
 pub fn give_in(alloc: Global, draft: &mut Draft, command: Command<'_>) -> Told
     ensures { TellsDraft draft.old command.entry result draft.new }
 {
@@ -67,7 +67,7 @@ pub fn give_in(alloc: Global, draft: &mut Draft, command: Command<'_>) -> Told
     }
 }
 
-/// Gives a session or a draft an operator, where it lies: in a session it is a command, in a draft a step. It does what `make` does.
+/// Gives a session or a draft an operator without moving it: in a session it is a command, in a draft a step. It does what `make` does.
 #[inline(always)]
 pub fn act(stage: &mut Stage, op: Op) -> Result<(), Failure>
     ensures { Tells stage.old (Call.Give (Command.Change (Change.Act op))) (told_of result) stage.new }
@@ -148,8 +148,9 @@ fn make_one(alloc: Global, stage: Stage, wanted: Call<'_>) -> (Stage, Told)
     }
 }
 
-/// Makes a call of a session, or of a draft of its next command. What it is told and the session or draft after it are what `Tells` says of
-/// them: a call that isn't told `Done` leaves both as they were, records and steps too. Each session and draft on the way is whole.
+/// Makes a call of a session, or of a draft of its next command. `Tells` relates the answer and the session or draft after the call to
+/// those before. A call that isn't answered with `Done` leaves both as they were, with their records and steps. Each session and draft on
+/// the way is whole.
 pub fn make(alloc: Global, stage: Stage, call: Call<'_>) -> (Stage, Told)
     ensures told { Tells stage call.entry result.1 result.0 }
     ensures whole { IsWhole result.0 }

@@ -1,4 +1,4 @@
-//! The points of a lamina's polygon, where a command holds them.
+//! The points of a lamina's polygon, as a command holds them.
 ghost use Rattle.std.specs.Prelude.{◌≡◌};
 
 use arrayvec::ArrayVec;

@@ -7,7 +7,7 @@ ghost use Rattle.commands.specs.Telling.{shown, undos, redos, steps_in, IsWhole}
 use euler_conditions::Arena;
 use undo_journal::{Draft, Session};
 
-/// A draft, which is abandoned where it is let go.
+/// A draft, which is abandoned when it is dropped.
 pub struct OpenDraft {
     pub draft: Draft,
 }
@@ -45,7 +45,7 @@ pub enum Stage {
 }
 
 impl Stage {
-    /// The arena of the model shown: the session's, or the draft's.
+    /// The arena of the model shown, which is the session's or the draft's.
     pub fn arena(&self) -> &Arena
         ensures model { result.now.model ≡ shown self.now }
         ensures ready { IsReady result.now }
@@ -56,7 +56,7 @@ impl Stage {
         }
     }
 
-    /// How many commands can be undone: in a draft none.
+    /// How many commands can be undone. In a draft there are none.
     pub fn depth(&self) -> usize
         ensures { result ≡ undos self.now }
     {
@@ -66,7 +66,7 @@ impl Stage {
         }
     }
 
-    /// How many commands can be redone: in a draft none.
+    /// How many commands can be redone. In a draft there are none.
     pub fn ahead(&self) -> usize
         ensures { result ≡ redos self.now }
     {
@@ -76,7 +76,7 @@ impl Stage {
         }
     }
 
-    /// How many steps the draft has: without one none.
+    /// How many steps the draft has. Without a draft there are none.
     pub fn steps(&self) -> usize
         ensures { result ≡ steps_in self.now }
     {
@@ -86,7 +86,8 @@ impl Stage {
         }
     }
 
-    /// Every model of the session is sound, and the draft's is, and its steps lead to it. It does nothing: its contract is what is proved.
+    /// Every model of the session is sound. The draft's model is sound too, and its steps lead to it. This function does nothing: its
+    /// contract is what is proved.
     pub fn stays_whole(&self)
         ensures { IsWhole self.now }
     {

@@ -1,4 +1,4 @@
-//! An arena copied.
+//! A copy of an arena.
 use euler_operators::{Corner, HalfEdge, Op, Point};
 use solid_listing::write_listing;
 use std::alloc::Global;
@@ -31,7 +31,7 @@ fn list_copy(rt: &HostRuntime, session: &Session) {
     }
 }
 
-/// The copy of a wire listed.
+/// Prints the listing of a copy of a wire.
 pub(crate) fn tell(rt: &HostRuntime) {
     match wire(rt.alloc()) {
         Ok(session) => list_copy(rt, &session),

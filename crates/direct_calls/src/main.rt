@@ -1,9 +1,10 @@
 #![tactic(auto)]
-//! Calls of the kernel that no script reaches, made once each, with what they answer.
+//! Calls of the kernel that no script reaches. Each is made once, and its answer is printed.
 //!
-//! `rings` links codes by the raw rings, `arenas` copies an arena, `sessions` goes on after a large lamina, `steps` glues by the steps of a draft.
-//! With one word, `lamina`, `act`, `draft` or `copy`, the program makes a lamina of 64 points and then does only what the word says, so that whoever
-//! counts allocations or refuses one sees what that call asks for; with `committed` or `abandoned` it takes the steps of a glue.
+//! `rings` links codes by the raw rings, `arenas` copies an arena, `sessions` goes on after a large lamina, `steps` glues by the steps of a
+//! draft. With one word, `lamina`, `act`, `draft` or `copy`, the program makes a lamina of 64 points and then does only what the word says,
+//! so that a caller who counts allocations or refuses one sees what that call asks for. With `committed` or `abandoned` it takes the steps
+//! of a glue.
 
 mod arenas;
 mod rings;
@@ -14,10 +15,10 @@ use std::alloc::Global;
 use std::env;
 use std::process::ExitCode;
 
-/// What a call answered where its memory was refused.
+/// The answer of a call whose memory was refused.
 const MEMORY: &str = "memory";
 
-/// The one word of the command line, if it is one and could be read.
+/// The one word of the command line, if there is exactly one and it could be read.
 fn word(rt: &HostRuntime) -> Option<String> {
     let words: Vec<String> = env::args(rt).ok()?.collect(rt.alloc()).ok()?;
     match words.as_slice() {
@@ -33,7 +34,7 @@ fn tell_all(rt: &HostRuntime) {
     sessions::tell(rt);
 }
 
-/// What the calls that a word names answer.
+/// What the calls answer that a word names.
 fn tell(rt: &HostRuntime, word: &str) {
     match word {
         "committed" => steps::tell_glue(rt, true),

@@ -4,7 +4,7 @@ ghost use Rattle.std.specs.Prelude.{◌≤◌};
 use raw_ring::Rings;
 use std::alloc::{AllocError, Global};
 
-/// Makes room for a code, and wakes it as a ring of its own where it is asleep.
+/// Makes room for a code. If the code is asleep, it wakes it as a ring of its own.
 fn woken(rings: &mut Rings, code: u32) -> Result<(), AllocError>
     requires { code ≤ 2000001 }
 {
@@ -24,14 +24,14 @@ fn three(alloc: Global) -> Result<Rings, AllocError> {
     Ok(rings)
 }
 
-/// Exchanges the successors of two codes that are live.
+/// Exchanges the successors of two live codes.
 fn spliced(rings: &mut Rings, a: u32, b: u32) {
     if rings.is_live(a) && rings.is_live(b) {
         rings.splice(a, b);
     }
 }
 
-/// The code after another, 0 where it isn't live.
+/// The code after another, or 0 if the other isn't live.
 fn next(rings: &Rings, code: u32) -> u32 {
     if rings.is_live(code) {
         rings.next(code)
@@ -40,7 +40,7 @@ fn next(rings: &Rings, code: u32) -> u32 {
     }
 }
 
-/// The code before another, 0 where it isn't live.
+/// The code before another, or 0 if the other isn't live.
 fn prev(rings: &Rings, code: u32) -> u32 {
     if rings.is_live(code) {
         rings.prev(code)
@@ -49,7 +49,7 @@ fn prev(rings: &Rings, code: u32) -> u32 {
     }
 }
 
-/// Prints what comes after the three codes and before them.
+/// Prints the codes after the three codes and those before them.
 fn tell_links(rt: &HostRuntime, rings: &Rings, what: &str) {
     let after = [next(rings, 1), next(rings, 2), next(rings, 3)];
     let before = [prev(rings, 1), prev(rings, 2), prev(rings, 3)];
@@ -66,7 +66,7 @@ fn slept(rings: &mut Rings) {
     }
 }
 
-/// The three codes in one ring, in two, and the first asleep.
+/// Prints the three codes in one ring, in two rings, and with the first asleep.
 pub(crate) fn tell(rt: &HostRuntime) {
     let Ok(mut rings) = three(rt.alloc()) else {
         let _ = println!(rt; "{}", crate::MEMORY);

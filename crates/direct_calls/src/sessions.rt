@@ -5,7 +5,7 @@ use std::alloc::Global;
 use sweeps::lamina;
 use undo_journal::{Draft, Session};
 
-/// What is answered where a call did what it was asked for.
+/// The answer of a call that did what it was asked for.
 const OK: &str = "ok";
 
 /// 64 points round a strip of 31 by 1.
@@ -26,7 +26,7 @@ fn rim() -> ArrayVec<Point, 64> {
     points
 }
 
-/// A session that holds their lamina, where memory suffices.
+/// A session that holds the lamina of these points, if memory suffices.
 fn large(alloc: Global) -> Option<Session> {
     let session = Session::new(alloc).ok()?;
     let (session, made) = lamina(alloc, session, 1, &rim());

@@ -1,4 +1,4 @@
-//! The operators of a glue as the steps of a draft, of which each may be refused its memory.
+//! The operators of a glue as the steps of a draft. Memory may be refused for each of them.
 use euler_operators::{Op, Point};
 use gluing::glue;
 use solid_listing::write_listing;
@@ -6,7 +6,7 @@ use std::alloc::{AllocError, Global};
 use sweeps::block;
 use undo_journal::{Draft, Failure, Session};
 
-/// A session that holds two blocks, of which face 1 of the one and face 8 of the other match.
+/// A session that holds two blocks; face 1 of the one matches face 8 of the other.
 fn blocks(alloc: Global) -> Result<Session, Failure> {
     let session = Session::new(alloc).map_err(Failure::Memory)?;
     let (session, made) = block(alloc, session, 1, Point { x: 0, y: 0, z: 0 }, 4, 4, 4);
@@ -16,7 +16,7 @@ fn blocks(alloc: Global) -> Result<Session, Failure> {
     Ok(session)
 }
 
-/// The same operator, if a glue has ones of its kind.
+/// The same operator, if it is of a kind that a glue has.
 fn same(op: &Op) -> Option<Op> {
     match op {
         Op::Merge(s, t) => Some(Op::Merge(*s, *t)),
@@ -29,7 +29,7 @@ fn same(op: &Op) -> Option<Op> {
     }
 }
 
-/// The operators of the last command, as far as a glue has ones of their kinds.
+/// The operators of the last command that are of a kind that a glue has.
 fn last_operators(alloc: Global, session: &Session) -> Result<Vec<Op>, AllocError> {
     let mut ops = Vec::new(alloc);
     if session.depth() > 0 {
@@ -43,7 +43,7 @@ fn last_operators(alloc: Global, session: &Session) -> Result<Vec<Op>, AllocErro
     Ok(ops)
 }
 
-/// The operators of a session's glue, and another session with the two blocks, which has no room for them yet.
+/// The operators of a session's glue, and another session with the two blocks, which has no room for their numbers yet.
 fn prepared(alloc: Global) -> Result<(Session, Vec<Op>), Failure> {
     let (session, glued) = glue(alloc, blocks(alloc)?, 1, 8);
     glued?;
@@ -51,7 +51,7 @@ fn prepared(alloc: Global) -> Result<(Session, Vec<Op>), Failure> {
     Ok((blocks(alloc)?, ops))
 }
 
-/// Takes a step, a second time where memory was refused for it. Says whether it was.
+/// Takes a step, and again if memory was refused for it. It answers whether it was.
 fn step_twice(draft: &mut Draft, op: Op) -> bool {
     let again = same(&op);
     if draft.step(op).is_ok() {
@@ -63,7 +63,7 @@ fn step_twice(draft: &mut Draft, op: Op) -> bool {
     true
 }
 
-/// Takes all steps, each a second time where memory was refused for it. Says whether it was for one.
+/// Takes all steps, each again if memory was refused for it. It answers whether it was for one.
 fn take_all(draft: &mut Draft, ops: Vec<Op>) -> bool {
     let mut was_refused = false;
     for op in ops {
@@ -74,7 +74,7 @@ fn take_all(draft: &mut Draft, ops: Vec<Op>) -> bool {
     was_refused
 }
 
-/// Takes the steps before the first for which memory is refused. Says whether there is one.
+/// Takes the steps before the first for which memory is refused. It answers whether there is one.
 fn take_some(draft: &mut Draft, ops: Vec<Op>) -> bool {
     for op in ops {
         if draft.step(op).is_err() {
@@ -93,8 +93,8 @@ fn list(rt: &HostRuntime, session: &Session, was_refused: bool) {
     let _ = write_listing(session.arena(), &mut rt.stdout());
 }
 
-/// The glue of two blocks as the steps of a draft. Where they are `kept`, one for which memory is refused is given again, and they are
-/// committed; else they go as far as memory does, and are abandoned.
+/// The glue of two blocks as the steps of a draft. If they are `kept`, a step for which memory is refused is given again, and the steps are
+/// committed; otherwise they go on until memory is refused, and are abandoned.
 pub(crate) fn tell_glue(rt: &HostRuntime, kept: bool) {
     let Ok((session, ops)) = prepared(rt.alloc()) else {
         let _ = println!(rt; "no blocks");

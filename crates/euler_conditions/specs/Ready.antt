@@ -42,7 +42,7 @@ AllRoom s (k ∷ ks) = (has_room s k.0 k.1 ≡ true) × AllRoom s ks
 abbrev pub HasRoomFor : Store → Op → Type 0
 HasRoomFor s o = AllRoom s (made o)
 
--- the operator may be applied: its conditions hold and its room is there
+-- the operator may be applied: its conditions hold, and the numbers that it makes have their room
 pub record Accepts (s : Store) (o : Op) : Type 0 where
   pub ready : IsReady s
   pub holds : first_false s.model o ≡ None

@@ -1,4 +1,4 @@
-//! Half-edges by their codes, for walks that look at many: a code is one number to carry and to compare.
+//! Half-edges by their codes, for walks that look at many of them: a code is one number to carry and to compare.
 ghost use Rattle.std.specs.Prelude.{◌≡◌, true};
 ghost use Rattle.euler_operators.specs.Common.{mate, after, has_half, round, tail, Sound};
 
@@ -23,7 +23,7 @@ pub fn next_code(arena: &Arena, code: u32) -> u32
     arena.next(HalfEdge::of_code(code)).code()
 }
 
-/// The code of the same edge in the opposite direction: the two differ in the lowest bit.
+/// The code of the same edge in the opposite direction. The two codes differ in the lowest bit.
 pub fn mate_code(code: u32) -> u32
     ensures { result ≡ mate code }
 {

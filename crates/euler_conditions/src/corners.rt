@@ -19,7 +19,7 @@ pub(crate) fn number(corner: Corner) -> u32
     }
 }
 
-/// The edge or the loop of a corner is there.
+/// Tests that the edge or the loop of a corner is there.
 #[inline(always)]
 pub(crate) fn known(arena: &Arena, corner: Corner) -> Result<(), Refusal>
     ensures { result ≡ verdict (first_refusal (corner_known arena.now.model corner ∷ [])) }
@@ -54,7 +54,7 @@ pub fn is_lone(arena: &Arena, l: u32) -> bool
     }
 }
 
-/// The vertex of a corner, whose loop has to be lone where it has no half-edge.
+/// The vertex of a corner. If the corner has no half-edge, its loop has to be lone.
 #[inline(always)]
 fn vertex(arena: &Arena, corner: Corner) -> Result<u32, Refusal>
     requires ready { IsReady arena.now }
@@ -73,7 +73,7 @@ fn vertex(arena: &Arena, corner: Corner) -> Result<u32, Refusal>
     }
 }
 
-/// Whether two corners are one.
+/// Whether two corners are the same.
 fn are_one(from: Corner, to: Corner) -> bool
     ensures { result ≡ true → from ≡ to }
 {
@@ -89,7 +89,7 @@ fn are_one(from: Corner, to: Corner) -> bool
     }
 }
 
-/// The vertex of a corner that is given twice, as `vertex` answers it.
+/// The vertex of a corner that is given twice. The answer is that of `vertex` for each.
 #[inline(always)]
 fn twice(arena: &Arena, corner: Corner) -> Result<(u32, u32), Refusal>
     requires ready { IsReady arena.now }
@@ -100,8 +100,8 @@ fn twice(arena: &Arena, corner: Corner) -> Result<(u32, u32), Refusal>
     Ok((both, both))
 }
 
-/// The vertices of two corners that are there: their edges or loops are, and the loops of those without a half-edge are lone.
-/// A corner that is given twice is looked at once.
+/// The vertices of two corners, if both are there: their edges or loops are there, and the loop of a corner without a half-edge is lone. A
+/// corner that is given twice is looked at only once.
 #[inline(always)]
 pub(crate) fn vertices(arena: &Arena, from: Corner, to: Corner) -> Result<(u32, u32), Refusal>
     requires { IsReady arena.now }

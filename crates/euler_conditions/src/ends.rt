@@ -10,7 +10,7 @@ use crate::halves;
 use euler_operators::{HALF_EDGE_CODES, HalfEdge, Kind};
 use halfedge_arena::Arena;
 
-/// Whether only this edge leaves the kept vertex, while others leave the killed one.
+/// Whether this edge alone leaves the kept vertex, while others leave the killed one.
 pub(crate) fn kept_end_bare(arena: &Arena, h: HalfEdge) -> bool
     requires ready { IsReady arena.now }
     requires there { has_number arena.now Kind.Edge h.edge ≡ true }
@@ -20,15 +20,15 @@ pub(crate) fn kept_end_bare(arena: &Arena, h: HalfEdge) -> bool
     halves::same(halves::next(arena, mate), h) && !halves::same(halves::next(arena, h), mate)
 }
 
-/// The lesser of two edges, where 0 is none.
+/// The lesser of two edges; 0 means that there is none.
 fn lesser(least: u32, edge: u32) -> u32
     ensures { result ≡ lesser least edge }
 {
     if least == 0 { edge } else { least.min(edge) }
 }
 
-/// The lesser of `least` and the edge of the half-edge of `other`, or `least` where that is the edge of `code`. Few half-edges lead to the
-/// vertex that is looked for, so it is asked for apart from the walk.
+/// The lesser of `least` and the edge of half-edge `other`, or `least` if that edge is the edge of `code`. Few half-edges lead to the
+/// vertex that is looked for, so this is a function of its own beside the walk.
 #[inline(never)]
 fn met(code: u32, least: u32, other: u32) -> u32
     ensures { result ≡ cond (nat_eq (other / 2) (code / 2)) least (lesser least (other / 2)) }
@@ -40,7 +40,8 @@ fn met(code: u32, least: u32, other: u32) -> u32
     }
 }
 
-/// The lesser of `least` and the edge of the half-edge of `other`, where that leads to `far` by another edge than `code`, and else `least`.
+/// The lesser of `least` and the edge of half-edge `other`, if `other` leads to `far` by another edge than that of `code`; otherwise
+/// `least`.
 fn seen(arena: &Arena, code: u32, far: u32, least: u32, other: u32) -> u32
     requires { has_half arena.now.model other ≡ true }
     ensures { result ≡ cond (leads_to arena.now.model code far other) (lesser least (edge_of other)) least }
@@ -52,8 +53,8 @@ fn seen(arena: &Arena, code: u32, far: u32, least: u32, other: u32) -> u32
     }
 }
 
-/// The least other edge with the same two ends, or 0. It leaves both of them, so one walk round either is enough: both are
-/// walked round in step, and the shorter walk ends it.
+/// The least other edge with the same two ends, or 0. Such an edge leaves both ends, so a walk round either is enough: the two walks go in
+/// step, and the shorter one ends the search.
 pub(crate) fn parallel(arena: &Arena, h: HalfEdge) -> u32
     requires ready { IsReady arena.now }
     requires there { has_number arena.now Kind.Edge h.edge ≡ true }

@@ -10,10 +10,10 @@ use crate::parts::check_part;
 use euler_operators::{Op, Refusal};
 use halfedge_arena::Arena;
 
-/// Whether an operator can be done: `Ok` exactly where all of its conditions hold, else the first false one with its value.
+/// Whether an operator can be done: `Ok` exactly if all of its conditions hold, otherwise the first false one with its value.
 ///
-/// It takes no memory. kev walks once round the kept vertex, part over the half-edges of the listed faces; the others look at
-/// a few rows.
+/// It takes no memory. For kev it walks once round the kept vertex, for part over the half-edges of the listed faces; for the others it
+/// looks at a few rows.
 #[inline(always)]
 pub fn check(arena: &Arena, op: &Op) -> Result<(), Refusal>
     requires { IsReady arena.now }

@@ -10,7 +10,7 @@ use crate::{corners, ends, faces, halves};
 use euler_operators::{HalfEdge, Kind, Op, Refusal, Why, refused};
 use halfedge_arena::Arena;
 
-/// Whether the solid has one face, that face no ring, and its outer loop no edge.
+/// Whether the solid has one face, which has no ring and whose outer loop has no edge.
 #[tactic(auto, unfolding(euler_operators::specs::Conditions::has_rings))]
 fn is_bare(arena: &Arena, solid: u32) -> bool
     requires ready { IsReady arena.now }
@@ -23,7 +23,7 @@ fn is_bare(arena: &Arena, solid: u32) -> bool
     }
 }
 
-/// Whether kvfs can be done: a solid of one vertex goes.
+/// Whether kvfs can be done: it kills a solid of one vertex.
 ///
 /// Refused, in this order: NumberRange; NoSolid; NotBare, where the solid has more than one face, a ring or an edge. It walks
 /// over nothing.
@@ -42,7 +42,7 @@ pub(crate) fn check_kvfs(arena: &Arena, solid: u32) -> Result<(), Refusal>
     Ok(())
 }
 
-/// Whether kev can be done: an edge goes with the vertex at its far end.
+/// Whether kev can be done: it kills an edge with the vertex at its far end.
 ///
 /// Refused, in this order: NumberRange; NoEdge; ParallelEdge with the least other edge of the same two ends; KeptEndBare with
 /// the kept vertex, where only this edge leaves it and others leave the killed one. It walks once round the kept vertex.
@@ -65,7 +65,7 @@ pub(crate) fn check_kev(arena: &Arena, gone: HalfEdge) -> Result<(), Refusal>
     Ok(())
 }
 
-/// Whether kef can be done: an edge goes with the face on the other side.
+/// Whether kef can be done: it kills an edge with the face on the other side.
 ///
 /// Refused, in this order: NumberRange; NoEdge; SameFace; HasRings with the face that would go. It walks over nothing.
 #[inline(always)]
@@ -88,7 +88,7 @@ pub(crate) fn check_kef(arena: &Arena, gone: HalfEdge) -> Result<(), Refusal>
     Ok(())
 }
 
-/// Whether kemr can be done: an edge goes, and its loop falls into a loop and a new ring.
+/// Whether kemr can be done: it kills an edge, whose loop falls into a loop and a new ring.
 ///
 /// Refused, in this order: NumberRange; NoEdge; LoopTaken; DifferentLoops with the loop of the other half. It walks over
 /// nothing.
@@ -111,7 +111,7 @@ pub(crate) fn check_kemr(arena: &Arena, gone: HalfEdge, ring: u32) -> Result<(),
     Ok(())
 }
 
-/// Whether kfmrh can be done: a face goes, and its outer loop becomes a ring of another face of the solid.
+/// Whether kfmrh can be done: it kills a face, whose outer loop becomes a ring of another face of the solid.
 ///
 /// Refused, in this order: NumberRange; NoFace of the kept face, then of the killed one; SameFace; DifferentSolids with the
 /// killed face's solid; HasRings with the killed face. It walks over nothing.

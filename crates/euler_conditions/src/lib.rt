@@ -3,7 +3,7 @@
 //!
 //! # What is proved
 //!
-//! `check` is Ok exactly where all conditions hold, else it names the first false one, with its value, for every operator.
+//! For every operator, `check` is Ok exactly if all conditions hold; otherwise it names the first false one, with its value.
 
 mod codes;
 mod corners;

@@ -9,7 +9,7 @@ use crate::{corners, faces, halves};
 use euler_operators::{Corner, HalfEdge, Kind, Op, Point, Refusal, Why, refused};
 use halfedge_arena::Arena;
 
-/// Whether mvfs can be done: new solid, face, outer loop and vertex, at a point.
+/// Whether mvfs can be done: it makes a solid, its face, the outer loop and a vertex, at a point.
 ///
 /// Refused, in this order: NumberRange; SolidTaken, FaceTaken, LoopTaken, VertexTaken with the number in use; PointRange with
 /// the vertex.
@@ -44,7 +44,7 @@ pub(crate) fn check_mvfs(
     Ok(())
 }
 
-/// Whether mev can be done: from two corners of one vertex a new edge to a new vertex at a point.
+/// Whether mev can be done: from two corners of one vertex it makes an edge to a new vertex at a point.
 ///
 /// Refused, in this order: NumberRange; NoEdge or NoLoop of each corner; NotLone of each corner; EdgeTaken; VertexTaken;
 /// PointRange with the vertex; DifferentTails with the second corner's vertex. It walks over nothing.
@@ -82,7 +82,7 @@ pub(crate) fn check_mev(
     Ok(())
 }
 
-/// Whether mef can be done: a new edge between two corners of one loop, with a new face and its loop.
+/// Whether mef can be done: it makes an edge between two corners of one loop, with a new face and its loop.
 ///
 /// Refused, in this order: NumberRange; NoEdge of each corner; EdgeTaken; FaceTaken; LoopTaken; DifferentLoops with the second
 /// corner's loop; SameTail with the vertex. It walks over nothing.
@@ -125,7 +125,7 @@ pub(crate) fn check_mef(
     Ok(())
 }
 
-/// Whether mekr can be done: a new edge from one loop of a face to a ring of that face.
+/// Whether mekr can be done: it makes an edge from one loop of a face to a ring of that face.
 ///
 /// Refused, in this order: NumberRange; NoEdge or NoLoop of each corner; NotLone of each corner; EdgeTaken; SameLoop;
 /// DifferentFaces with the second corner's face; NotRing with its loop; SameTail with the vertex. It walks over nothing.
@@ -162,7 +162,7 @@ pub(crate) fn check_mekr(
     Ok(())
 }
 
-/// Whether mfkrh can be done: a ring becomes the outer loop of a new face.
+/// Whether mfkrh can be done: it makes a ring the outer loop of a new face.
 ///
 /// Refused, in this order: NumberRange; NoLoop; FaceTaken; NotRing. It walks over nothing.
 #[inline(always)]

@@ -9,7 +9,7 @@ use crate::single::in_range;
 use euler_operators::{Kind, Op, Refusal, Why, refused};
 use halfedge_arena::Arena;
 
-/// What is asked of a ring and a face of its solid.
+/// What is asked of a ring, and of a face of the ring's solid.
 fn ring_and_face(arena: &Arena, ring: u32, face: u32) -> Result<(), Refusal>
     requires { IsReady arena.now }
     ensures { result ≡ verdict (first_refusal (ring_and_face arena.now.model ring face)) }

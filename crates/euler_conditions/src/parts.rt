@@ -10,7 +10,7 @@ use crate::torn;
 use euler_operators::{FaceList, Kind, Op, Refusal, Why, is_number, refused};
 use halfedge_arena::Arena;
 
-/// Each number of the list lies from 1 to the limit.
+/// Tests that each number of the list lies from 1 to the limit.
 fn list_in_range(faces: &FaceList) -> Result<(), Refusal>
     ensures { result ≡ verdict (first_refusal (numbers_in_range faces.now)) }
 {
@@ -23,7 +23,7 @@ fn list_in_range(faces: &FaceList) -> Result<(), Refusal>
     Ok(())
 }
 
-/// Each listed face is there.
+/// Tests that each listed face is there.
 fn faces_known(arena: &Arena, faces: &FaceList) -> Result<(), Refusal>
     ensures { result ≡ verdict (first_refusal (faces_known arena.now.model faces.now)) }
 {
@@ -36,7 +36,7 @@ fn faces_known(arena: &Arena, faces: &FaceList) -> Result<(), Refusal>
     Ok(())
 }
 
-/// Each listed face is of the solid.
+/// Tests that each listed face belongs to the solid.
 fn faces_in(arena: &Arena, solid: u32, faces: &FaceList) -> Result<(), Refusal>
     requires { (f : ℕ) → lists faces.now f ≡ true → has_number arena.now Kind.Face f ≡ true }
     ensures { result ≡ verdict (first_refusal (faces_in arena.now.model solid faces.now)) }
@@ -62,8 +62,8 @@ fn rises(faces: &FaceList) -> bool
     true
 }
 
-/// Whether the listed faces can't be parted from the solid: there is none, they don't rise, they are all of its faces, or an
-/// edge lies between one of them and another face.
+/// Whether the listed faces can't be parted from the solid. This is so if there is none, if they don't rise, if they are all of its faces,
+/// or if an edge lies between one of them and another face.
 fn is_bad_part(arena: &Arena, solid: u32, faces: &FaceList) -> bool
     requires ready { IsReady arena.now }
     requires faces { AreFacesOf arena.now.model solid faces.now }
@@ -92,12 +92,11 @@ fn parts_known(arena: &Arena, solid: u32, made: u32, faces: &FaceList) -> Result
     faces_in(arena, solid, faces)
 }
 
-/// Whether listed faces of one solid can go to a new one.
+/// Whether the listed faces of one solid can go to a new solid.
 ///
-/// Refused, in this order: NumberRange of the solids, then of the list; NoSolid; SolidTaken; NoFace with the first listed face
-/// that isn't there; DifferentSolids with the first listed face of another solid; BadPart with the solid, where the list is
-/// empty, doesn't rise or has all faces of the solid, or an edge lies between a listed face and another. It walks once round
-/// each loop of the listed faces.
+/// Refused, in this order: NumberRange of the solids, then of the list; NoSolid; SolidTaken; NoFace with the first listed face that isn't
+/// there; DifferentSolids with the first listed face of another solid; BadPart with the solid, where the list is empty, doesn't rise or has
+/// all faces of the solid, or where an edge lies between a listed face and another. It walks once round each loop of the listed faces.
 #[tactic(auto, unfolding(euler_operators::specs::Conditions::conditions, euler_operators::specs::Conditions::first_false))]
 pub(crate) fn check_part(
     arena: &Arena,

@@ -4,7 +4,7 @@ ghost use Rattle.euler_operators.specs.Common.{is_in_range, need, numbers_in_ran
 
 use euler_operators::{Point, Refusal, Why, is_number, point_in_range, refused};
 
-/// Each number lies from 1 to the limit.
+/// Tests that each number lies from 1 to the limit.
 pub(crate) fn in_range(numbers: &[u32]) -> Result<(), Refusal>
     ensures { result ≡ verdict (first_refusal (numbers_in_range numbers.now)) }
 {
@@ -18,7 +18,7 @@ pub(crate) fn in_range(numbers: &[u32]) -> Result<(), Refusal>
     Ok(())
 }
 
-/// The point's coordinates are within the limit.
+/// Tests that the point's coordinates are within the limit.
 pub(crate) fn fits(point: Point) -> bool
     ensures { result ≡ is_in_range point }
 {

@@ -6,7 +6,7 @@ use Rattle.euler_operators.specs.declared.Op.{Op}
 use Rattle.euler_operators.specs.declared.Op.TheVariants.{Mvfs, Kvfs, Mev, Kev, Mef, Kef, Kemr, Mekr, Kfmrh, Mfkrh, RingIn, RingOut, Outer, Merge, Part}
 use Rattle.euler_operators.specs.declared.Refusal.{Refusal}
 
--- nothing is refused exactly where each condition holds
+-- nothing is refused exactly if each condition holds
 abbrev pub NothingIsRefusedWhereAllHold : Type 0
 NothingIsRefusedWhereAllHold = (cs : List Condition) → (first_refusal cs ≡ None) ↔ AllHold cs
 
@@ -30,7 +30,7 @@ IsAccepted M op = first_false M op ≡ None
 abbrev pub EmptyIsSound : Type 0
 EmptyIsSound = Sound empty_model
 
--- the model after is sound
+-- the model after the operator is sound
 abbrev pub EffectsAreSound : Type 0
 EffectsAreSound = (M : Model) (op : Op) → Sound M → IsAccepted M op → Sound (effect M op)
 
@@ -42,7 +42,7 @@ InversesAreAccepted = (M : Model) (op : Op) → Sound M → IsAccepted M op → 
 abbrev pub InversesUndo : Type 0
 InversesUndo = (M : Model) (op : Op) → Sound M → IsAccepted M op → effect (effect M op) (inverse M op) ≡ M
 
--- the model after a list of operators, the first of which is taken first
+-- the model after a list of operators, applied from the first on
 abbrev pub effects : Model → List Op → Model
 effects M [] = M
 effects M (op ∷ ops) = effects (effect M op) ops
@@ -52,7 +52,7 @@ abbrev pub AreAccepted : Model → List Op → Type 0
 AreAccepted M [] = Unit {0}
 AreAccepted M (op ∷ ops) = IsAccepted M op × AreAccepted (effect M op) ops
 
--- the inverses, the last operator's first
+-- the inverses of the operators, the last operator's first
 abbrev pub inverses : Model → List Op → List Op
 inverses M [] = []
 inverses M (op ∷ ops) = inverses (effect M op) ops ++ inverse M op ∷ []
@@ -82,7 +82,7 @@ LoopsAreOuterOrRings = (M : Model) → Sound M → size M.loops ≡ size M.faces
 abbrev pub euler_number : Model → ℤ
 euler_number M = pos (size M.vertices) -ℤ pos (size M.edges) +ℤ pos (size M.faces) -ℤ pos (length (all_rings M))
 
--- what an operator adds to it
+-- what an operator adds to the Euler number
 abbrev pub growth : Op → ℤ
 growth (Mvfs s f l v p) = pos 2
 growth (Kvfs s) = neg_ℤ (pos 2)

@@ -1,32 +1,31 @@
 #![tactic(auto)]
-//! The laws of the Euler operators: an accepted operator keeps a sound model sound (`effects_are_sound`), its inverse takes it back
-//! (`inverses_undo`), so for lists of operators (`runs_are_undone`), and how the Euler number grows (`euler_number_grows`). Each
+//! The laws of the Euler operators. An accepted operator keeps a sound model sound (`effects_are_sound`), and its inverse takes it back
+//! (`inverses_undo`); the same holds of lists of operators (`runs_are_undone`). `euler_number_grows` says how the Euler number grows. Each
 //! function does nothing: its contract is what is proved, over every sound model and every operator whose conditions hold in it.
-//! `refusals_name_the_first_false` is of conditions alone.
+//! `refusals_name_the_first_false` is about conditions alone.
 //!
-//! The lemmas stand in folders: `mev`, `kev`, `mef` (with kef), `kemr`, `mekr`, `faces` (the operators that change only which face a loop
-//! is of, and mvfs and kvfs), `merge` (Merge and Part), and `shared` (half-edges round a vertex, loops and their walks, models that
-//! answer alike, what conditions say). `kev` and `mef` have both directions of undoing; `kemr` has how mekr takes it back, `mekr` how
-//! kemr does. That a model stays sound is shown in four parts (`shared/Parts`: walks, vertices, faces, ranges), from what is said once
+//! The lemmas stand in folders: `mev`, `kev`, `mef` (with kef), `kemr`, `mekr`, `faces` (mvfs, kvfs and the operators that change only the
+//! face to which a loop belongs), `merge` (Merge and Part), and `shared` (half-edges round a vertex, loops and their walks, models that
+//! answer alike, what conditions say). `kev` and `mef` have both directions of undoing; `kemr` shows how mekr takes it back, `mekr` how
+//! kemr does. A model is shown to stay sound in four parts (`shared/Parts`: walks, vertices, faces, ranges). They rest on what is said once
 //! of an edge that comes (`shared/EdgeMore`) or goes (`shared/EdgeLess`) and of two loops whose rows change (`shared/TwoRows`).
 //!
 //! # What is proved
 //!
-//! `effects_are_sound`: an accepted operator keeps a sound model sound, for every operator. `inverses_undo`: its inverse is
-//! accepted after it and gives the model before; `runs_are_undone`: so for lists of operators. `euler_number_grows`: v - e + f -
-//! r grows by 2 at mvfs and mfkrh, falls by 2 at kvfs and kfmrh, and stays at every other operator.
-//! `refusals_name_the_first_false`: of any conditions in their order nothing is refused exactly where each holds, else the first
-//! that doesn't.
+//! `effects_are_sound`: every accepted operator keeps a sound model sound. `inverses_undo`: its inverse is accepted after it and gives the
+//! model before; `runs_are_undone`: the same for lists of operators. `euler_number_grows`: v - e + f - r grows by 2 at mvfs and mfkrh,
+//! falls by 2 at kvfs and kfmrh, and stays at every other operator. `refusals_name_the_first_false`: some conditions in their order refuse
+//! nothing exactly if each of them holds; otherwise the refusal is that of the first that doesn't hold.
 
 ghost use Rattle.euler_laws.specs.Laws.{NothingIsRefusedWhereAllHold, RefusalsNameTheFirstFalse, EmptyIsSound, EffectsAreSound, InversesAreAccepted, InversesUndo, RunsAreSound, InversesOfRunsAreAccepted, InversesOfRunsUndo, LoopsAreOuterOrRings, EulerNumberGrows};
 
-/// Of conditions in their order nothing is refused exactly where each of them holds; what is refused else is the first that doesn't.
+/// Conditions in their order refuse nothing exactly if each of them holds; otherwise the refusal is that of the first that doesn't hold.
 pub fn refusals_name_the_first_false()
     ensures nothing { NothingIsRefusedWhereAllHold }
     ensures first { RefusalsNameTheFirstFalse }
 {}
 
-/// The model that has nothing is sound, and an accepted operator takes a sound model to a sound one.
+/// The model that has nothing is sound, and an accepted operator makes a sound model from a sound one.
 pub fn effects_are_sound()
     ensures empty { EmptyIsSound }
     ensures sound { EffectsAreSound }
@@ -38,7 +37,7 @@ pub fn inverses_undo()
     ensures undone { InversesUndo }
 {}
 
-/// The same for a list of operators, each accepted in its turn: its inverses, the last operator's first, take it back.
+/// The same for a list of operators, each accepted in its turn: the inverses, the last operator's first, take the list back.
 pub fn runs_are_undone()
     ensures sound { RunsAreSound }
     ensures accepted { InversesOfRunsAreAccepted }

@@ -1,5 +1,5 @@
 -- The conditions of each operator, in the order in which they are tested.
--- A condition is a test on a model, with the refusal that a false one gives.
+-- A condition is a test on a model, with the refusal that is given if it is false.
 use Rattle.std.specs.Prelude.{◌≡◌, ℕ, Bool, true, false, cond, not, ◌&&◌, ◌||◌, nat_eq, nat_lt, List, [], ◌∷◌, ◌++◌, length, Option, Some, None, is_some, Result, Ok, Err}
 use Rattle.boundary_model.specs.declared.Point.{Point}
 use Rattle.boundary_model.specs.Points.{is_in_range}
@@ -16,12 +16,12 @@ use Rattle.euler_operators.specs.declared.Why.{Why}
 use Rattle.euler_operators.specs.declared.Why.TheVariants.{NumberRange, NoSolid, NoFace, NoLoop, NoEdge, SolidTaken, FaceTaken, LoopTaken, EdgeTaken, VertexTaken, PointRange, NotBare, NotLone, DifferentTails, ParallelEdge, KeptEndBare, DifferentLoops, SameTail, SameFace, HasRings, SameLoop, DifferentFaces, NotRing, DifferentSolids, SameSolid, BadPart}
 use Rattle.euler_operators.specs.declared.Refusal.{Refusal}
 
--- a condition: whether it holds, and the refusal where it doesn't
+-- a condition: whether it holds, and the refusal if it doesn't
 pub record Condition : Type 0 where
   pub holds : Bool
   pub refusal : Refusal
 
--- a test that has to hold, and one that must not
+-- a test that has to be true, and one that has to be false
 abbrev pub need : Bool → Why → ℕ → Condition
 need b why n = record { holds = b; refusal = record { why = why; number = n } }
 
@@ -66,12 +66,12 @@ abbrev pub corner_loop : Model → Corner → ℕ
 corner_loop M (At h) = loop_of M (code h)
 corner_loop M (Lone l) = l
 
--- the corner's loop from that corner on; nothing where it is lone
+-- the corner's loop from that corner on; nothing if the loop is lone
 abbrev pub corner_list : Model → Corner → List ℕ
 corner_list M (At h) = rotate_to (code h) (cycle_of M (code h))
 corner_list M (Lone l) = []
 
--- the edge or the loop of a corner is there
+-- the edge or the loop that a corner names is there
 abbrev pub corner_known : Model → Corner → Condition
 corner_known M (At h) = need (table.has M.edges h.edge) NoEdge h.edge
 corner_known M (Lone l) = need (table.has M.loops l) NoLoop l
@@ -157,7 +157,7 @@ ring_and_face M l f =
     ∷ need (nat_eq (solid_of M (face_of M l)) (solid_of M f)) DifferentSolids (solid_of M f)
     ∷ need (is_ring_of M (face_of M l) l) NotRing l ∷ []
 
--- the conditions of an operator, each as the refusal that it gives where it is false
+-- the conditions of an operator, in order, each with the refusal that is given if it is false
 unfoldable pub conditions : Model → Op → List Condition
 conditions M (Mvfs s f l v p) =
     numbers_in_range (s ∷ f ∷ l ∷ v ∷ []) ++
@@ -245,7 +245,7 @@ conditions M (Part s t fs) =
 unfoldable pub first_false : Model → Op → Option Refusal
 first_false M op = first_refusal (conditions M op)
 
--- what a check answers
+-- the answer to a check
 abbrev pub verdict : Option Refusal → Result (Unit {0}) Refusal
 verdict None = Ok tt
 verdict (Some r) = Err r

@@ -1,4 +1,4 @@
--- What each operator makes of a model, and the operator that takes it back.
+-- What model each operator makes, and which operator takes it back.
 use Rattle.std.specs.Prelude.{◌≡◌, ℕ, Bool, true, false, cond, not, ◌&&◌, ◌||◌, nat_eq, nat_lt, List, [], ◌∷◌, ◌++◌}
 use Rattle.boundary_model.specs.declared.Point.{Point}
 use Rattle.boundary_model.specs.declared.Corner.{Corner}
@@ -18,12 +18,12 @@ use Rattle.euler_operators.specs.declared.Op.TheVariants.{Mvfs, Kvfs, Mev, Kev, 
 abbrev pub edge_row : ℕ → ℕ → ℕ → EdgeRow
 edge_row h from to = cond (is_first h) (record { plus_tail = from; minus_tail = to }) (record { plus_tail = to; minus_tail = from })
 
--- a cycle, or the lone vertex v where there is no item
+-- a cycle, or, if there is no item, the lone vertex v
 abbrev pub cycle_or_lone : List ℕ → ℕ → LoopContent
 cycle_or_lone [] v = lone v
 cycle_or_lone (h ∷ hs) v = cycle (canonical (h ∷ hs))
 
--- in the loop that holds g, the new content
+-- the loop that holds g gets the new content
 abbrev pub where_held : ℕ → (List ℕ → LoopContent) → ℕ → LoopRow → LoopRow
 where_held g new l row = cond (holds g row.content) (record row { content = new (items_of row.content) }) row
 
@@ -31,7 +31,7 @@ where_held g new l row = cond (holds g row.content) (record row { content = new 
 abbrev pub with_before : ℕ → ℕ → ℕ → LoopRow → LoopRow
 with_before g h = where_held g (λ hs. cycle (canonical (insert_before g h hs)))
 
--- h and its mate taken out of their loops; of a loop of these two the vertex v is left
+-- h and its mate are taken out of their loops; if a loop has only these two, the vertex v is left
 abbrev pub without_edge : ℕ → ℕ → ℕ → LoopRow → LoopRow
 without_edge h v l row = cond (holds h row.content || holds (mate h) row.content) (record row { content = cycle_or_lone (without (mate h) (without h (items_of row.content))) v }) row
 
@@ -42,7 +42,7 @@ with_tails hs v e row = record {
   minus_tail = cond (nat_lt 0 (count (minus e) hs)) v row.minus_tail;
 }
 
--- what started at v starts at w
+-- what started at v now starts at w
 abbrev pub moved_tail : ℕ → ℕ → ℕ → EdgeRow → EdgeRow
 moved_tail v w e row = record { plus_tail = cond (nat_eq row.plus_tail v) w row.plus_tail; minus_tail = cond (nat_eq row.minus_tail v) w row.minus_tail }
 
@@ -53,7 +53,7 @@ loop_to_face l f k row = cond (nat_eq k l) (record row { face = f }) row
 abbrev pub face_to_outer : ℕ → ℕ → ℕ → FaceRow → FaceRow
 face_to_outer f l k row = cond (nat_eq k f) (record row { outer = l }) row
 
--- the faces that a test picks go to solid s
+-- the faces that pass a test go to solid s
 abbrev pub faces_to_solid : (ℕ → FaceRow → Bool) → ℕ → ℕ → FaceRow → FaceRow
 faces_to_solid p s k row = cond (p k row) (record row { solid = s }) row
 
@@ -104,7 +104,7 @@ kev M h = record M {
   vertices = table.remove M.vertices (tail M (mate h));
 }
 
--- of the loop A B, with A from g up to before k, h B stays, and A and h's mate become the loop l of the new face f
+-- of the loop A B, where A goes from g up to before k, h B stays; A and h's mate become the loop l of the new face f
 unfoldable pub mef : Model → ℕ → ℕ → ℕ → ℕ → ℕ → Model
 mef M g k h f l = record M {
   faces = table.put M.faces f (record { solid = solid_of M (face_at M g); outer = l });
@@ -129,7 +129,7 @@ kemr M h l = let m = mate h in let all = cycle_of M h in record M {
   edges = table.remove M.edges (edge_of h);
 }
 
--- Y from one corner on and X from the other on become the loop h X m Y
+-- Y, from one corner on, and X, from the other on, become the loop h X m Y
 unfoldable pub mekr : Model → Corner → Corner → ℕ → Model
 mekr M c d h = record M {
   loops = table.remove (table.put M.loops (corner_loop M c) (record {
@@ -208,7 +208,7 @@ effect M (Outer l f) = take_outer M l f
 effect M (Merge s t) = merge M s t
 effect M (Part s t fs) = part M s t fs
 
--- the corner before the first item of a list, or that of the lone loop l where there is none
+-- the corner before the first item of a list, or, if the list is empty, that of the lone loop l
 abbrev pub corner_of : List ℕ → ℕ → Corner
 corner_of [] l = Lone l
 corner_of (h ∷ hs) l = At (half h)
@@ -222,7 +222,7 @@ kev_corner M h = cond (nat_eq (after M h) (mate h))
 abbrev pub kev_corner_mate : Model → ℕ → Corner
 kev_corner_mate M h = cond (nat_eq (after M h) (mate h) && nat_eq (after M (mate h)) h) (Lone (loop_of M h)) (At (half (after M (mate h))))
 
--- the operator that takes the effect of another back
+-- the operator that takes back the effect of another
 unfoldable pub inverse : Model → Op → Op
 inverse M (Mvfs s f l v p) = Kvfs s
 inverse M (Kvfs s) = let f = head_or_zero (faces_of M s) in let v = lone_vertex (content M (outer M f)) in Mvfs s f (outer M f) v (point_of M v)

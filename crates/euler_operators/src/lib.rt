@@ -3,8 +3,8 @@
 //!
 //! # What is proved
 //!
-//! `FaceList` is a list; `Why::code` is the printed number. What conditions, effects and inverses are is defined, and tried by scripts
-//! with their replies.
+//! `FaceList` is a list; `Why::code` is the printed number. Conditions, effects and inverses are definitions, and are tested by scripts with their
+//! replies.
 
 ghost use Rattle.std.specs.Prelude.{◌≡◌, ℕ, List, [], ◌++◌, ◌∷◌, length, OnOk, OnErr, Err, slice_index, ◌<◌};
 ghost use Rattle.euler_operators.specs.Refusal.{code_of};

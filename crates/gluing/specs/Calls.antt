@@ -6,6 +6,6 @@ use Rattle.undo_journal.specs.Machine.{Machine, held}
 use Rattle.undo_journal.specs.Histories.{made, after_call}
 use Rattle.gluing.specs.Machine.{glue, glue_refusal}
 
--- where it isn't refused, it is the larger command of its operators
+-- a glue that isn't refused is the larger command of its operators
 abbrev pub GluesAreCalls : Type 0
 GluesAreCalls = (m : Machine) (f g : ℕ) → Sound (held m) → glue_refusal m f g ≡ None → after_call m (made (glue_ops (held m) f g)) ≡ glue m f g

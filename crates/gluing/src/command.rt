@@ -17,7 +17,7 @@ use euler_conditions::Arena;
 use std::alloc::Global;
 use undo_journal::{Draft, Failure, Session};
 
-/// Whether the other face can be glued to face f, and if it can't why.
+/// Whether the other face can be glued to face f, and if not, why.
 fn admit(alloc: Global, arena: &Arena, f: u32, other: u32) -> Result<(), Failure>
     requires { IsReady arena.now }
     ensures ok { OnOk result (spec.glue_refusal arena.now.model f other ≡ None) }
@@ -31,7 +31,7 @@ fn admit(alloc: Global, arena: &Arena, f: u32, other: u32) -> Result<(), Failure
     }
 }
 
-/// A glue as steps of a draft: as `glue`, of the draft's model. On any failure the draft is as it was, and goes on.
+/// A glue as steps of a draft, as `glue` makes it, in the draft's model. On any failure the draft is as it was, and goes on.
 #[tactic(auto, using(undo_journal::proofs::Marks::further_none, undo_journal::proofs::Marks::further_back))]
 pub fn glue_in(alloc: Global, draft: &mut Draft, f: u32, other: u32) -> Result<(), Failure>
     ensures ok { OnOk result ((spec.glue_refusal draft.old.model f other ≡ None) × (draft.new.model ≡ glue_model draft.old.model f other)) }
@@ -50,19 +50,20 @@ pub fn glue_in(alloc: Global, draft: &mut Draft, f: u32, other: u32) -> Result<(
 }
 
 /// A glue as one command: the solid of the other face becomes part of the solid of face f. Both faces go, with the edges and vertices of
-/// the other one: the faces around it then have the edges of f, and what started at a vertex of it starts at the vertex of f with the
-/// same point.
+/// the other face. The faces around it then have the edges of f, and what started at a vertex of it starts at the vertex of f with the same
+/// point.
 ///
-/// Refused, in this order: NumberRange; NoFace with f, then the other; SameSolid with the solid; HasRings with f, then the other;
-/// LoneLoop with the least lone loop of the two solids; NotFlat with their least face that isn't flat; RepeatedPoint with the face, f
-/// before the other, of which two corners have equal points; NoMatch with the other where its points, read backwards, are no rotation of
-/// those of f; NumbersSpent with 4 where no number is left for an edge. The tests from RepeatedPoint on take memory, and so do the steps:
-/// where it is refused `Memory` is answered, also in place of a refusal from RepeatedPoint on. On any failure the session is as it was. An
-/// accepted glue leaves one record. The models held before and after are sound.
+/// Refused, in this order: NumberRange; NoFace with f, then the other; SameSolid with the solid; HasRings with f, then the other; LoneLoop
+/// with the least lone loop of the two solids; NotFlat with their least face that isn't flat; RepeatedPoint with the face, f before the
+/// other, that has two corners with equal points; NoMatch with the other, where its points, read backwards, are no rotation of those of f;
+/// NumbersSpent with 4, where no number is left for an edge. The tests from RepeatedPoint on take memory, and so do the steps. If memory is
+/// refused, the answer is `Memory`, even in place of a refusal from RepeatedPoint on. On any failure the session is as it was. An accepted
+/// glue leaves one record. The models held before and after are sound.
 ///
-/// The operators are those of M. Mäntylä, *An Introduction to Solid Modeling* (1988): the solids are merged, the outer loop of the other
-/// becomes a ring of f and one loop with that of f, and then each item of f is closed with the item of the other that goes back along
-/// it. For n items they are 3 n + 2. Cost: the tests', those of the merge, and for each item the cost of its three operators.
+/// The operators are those of M. Mäntylä, *An Introduction to Solid Modeling* (1988). The solids are merged. The outer loop of the other
+/// face becomes a ring of f, and then one loop with that of f. Then each item of f is closed with the item of the other face that goes back
+/// along it. For n items there are 3 n + 2 operators. The cost is that of the tests and of the merge, and for each item that of its three
+/// operators.
 pub fn glue(alloc: Global, session: Session, f: u32, other: u32) -> (Session, Result<(), Failure>)
     ensures sound { Sound (held session.machine) }
     ensures stays_sound { Sound (held result.0.machine) }

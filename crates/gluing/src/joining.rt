@@ -1,4 +1,4 @@
-//! Two faces glued operator by operator in a draft.
+//! The glue of two faces, operator by operator in a draft.
 ghost use Rattle.std.specs.Prelude.{◌≡◌, ◌≤◌, true, None, OnOk, OnErr};
 ghost use Rattle.euler_operators.specs.Common.{code, after, before, has_half, outer, Has};
 ghost use Rattle.euler_conditions.specs.Ready.{IsReady};
@@ -13,7 +13,7 @@ use euler_operators::{Corner, HalfEdge, Kind, Op};
 use std::alloc::AllocError;
 use undo_journal::Draft;
 
-/// The edge, the face and the loop that each closing makes, and kills again.
+/// The edge, the face and the loop that each closing makes and kills again.
 #[derive(Clone, Copy)]
 struct Spare {
     edge: u32,
@@ -21,7 +21,7 @@ struct Spare {
     ring: u32,
 }
 
-/// The first edge number after those in use.
+/// The first edge number above those in use.
 fn fresh_edge(arena: &Arena) -> u32
     requires { fresh_edge arena.now.model ≤ 1000000 }
     ensures { result ≡ fresh_edge arena.now.model }
@@ -29,7 +29,7 @@ fn fresh_edge(arena: &Arena) -> u32
     arena.greatest(Kind::Edge) + 1
 }
 
-/// The spare numbers of a glue of face f to another: the one fresh edge, and those of f and its outer loop, which go first.
+/// The spare numbers of a glue of face f to another: one fresh edge, and face f and its outer loop, which go first.
 fn spare_of(arena: &Arena, f: u32) -> Spare
     requires there { has_number arena.now Kind.Face f ≡ true }
     requires left { fresh_edge arena.now.model ≤ 1000000 }
@@ -54,8 +54,8 @@ fn neighbours(arena: &Arena, item: HalfEdge) -> (HalfEdge, HalfEdge)
     (arena.prev(item), arena.next(item))
 }
 
-/// Makes the two solids one, and the outer loops of the two faces one loop: `partner`, of the other face, comes before `first`, of face
-/// f.
+/// Makes the two solids one, and the outer loops of the two faces one loop, in which `partner` of the other face comes before `first` of
+/// face f.
 #[tactic(auto, using(undo_journal::proofs::Marks::further_on))]
 fn open_seam(
     draft: &mut Draft,
@@ -79,7 +79,7 @@ fn open_seam(
     draft.step_accepted(Op::Kev(HalfEdge::plus(edge)))
 }
 
-/// Glues the item between its partner and the next item: both get a loop of their own, then their ends become one, and then the
+/// Glues the item between its partner and the next item: both get a loop of their own, then their ends become one vertex, and then the
 /// partner's edge goes.
 fn close_item(
     draft: &mut Draft,
@@ -102,10 +102,10 @@ fn close_item(
     draft.step_accepted(Op::Kef(partner.mate()))
 }
 
-/// Takes the steps of a glue that isn't refused. On `AllocError` some may be taken.
+/// Takes the steps of a glue that isn't refused. On `AllocError` the draft may have taken some steps.
 ///
-/// Once the seam is open it holds the items that aren't glued yet and, back along them, their partners: the partner of the first
-/// one comes before it.
+/// After the seam is opened, it holds the items that aren't glued yet and, back along them, their partners. The partner of the first item
+/// comes before that item.
 #[tactic(auto, using(undo_journal::proofs::Marks::further_on))]
 fn take_steps(draft: &mut Draft, f: u32, other: u32) -> Result<(), AllocError>
     requires { glue_refusal draft.old.model f other ≡ None }
@@ -132,18 +132,8 @@ fn take_steps(draft: &mut Draft, f: u32, other: u32) -> Result<(), AllocError>
 /// How many steps a glue of two faces with four corners takes.
 const USUAL_STEPS: usize = 14;
 
-/// Takes the steps of a glue that isn't refused, with the memory to list as many as most glues take at once. On `AllocError` some may be
-/// taken.
-fn join(draft: &mut Draft, f: u32, other: u32) -> Result<(), AllocError>
-    requires { glue_refusal draft.old.model f other ≡ None }
-    ensures model { OnOk result (draft.new.model ≡ glue_model draft.old.model f other) }
-    ensures further { IsFurther draft.old draft.new }
-{
-    draft.reserve(USUAL_STEPS)?;
-    take_steps(draft, f, other)
-}
-
-/// Glues the other face of the draft's model to face f, where that isn't refused. On `AllocError` the draft is as it was.
+/// Glues the other face of the draft's model to face f, if that isn't refused. First it asks for memory to list as many steps as most glues
+/// take. On `AllocError` the draft is as it was.
 #[tactic(auto, using(undo_journal::proofs::Marks::further_none, undo_journal::proofs::Marks::further_back, undo_journal::proofs::Marks::back_at_mark))]
 pub(crate) fn try_join(draft: &mut Draft, f: u32, other: u32) -> Result<(), AllocError>
     requires { glue_refusal draft.old.model f other ≡ None }
@@ -151,8 +141,9 @@ pub(crate) fn try_join(draft: &mut Draft, f: u32, other: u32) -> Result<(), Allo
     ensures further { IsFurther draft.old draft.new }
     ensures err { OnErr result (draft.new ≡ draft.old) }
 {
+    draft.reserve(USUAL_STEPS)?;
     let mark = draft.mark();
-    match join(draft, f, other) {
+    match take_steps(draft, f, other) {
         Ok(()) => Ok(()),
         Err(error) => {
             draft.back_to(mark);

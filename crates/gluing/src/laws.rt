@@ -3,8 +3,8 @@
 ghost use Rattle.gluing.specs.Calls.{GluesAreCalls};
 ghost use Rattle.gluing.specs.Measures.{GluedSolid, OthersThanGlued};
 
-/// After a glue that isn't refused the solid of the first face has the six volumes that the two solids had together. Every solid that
-/// wasn't glued has those that it had.
+/// After a glue that isn't refused, the solid of the first face has the six volumes that the two solids had together. Every solid that
+/// wasn't glued keeps its own.
 pub fn glue_measures()
     ensures solid { GluedSolid }
     ensures others { OthersThanGlued }

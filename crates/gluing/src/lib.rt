@@ -1,17 +1,17 @@
 #![tactic(auto)]
-//! Gluing: two solids become one along a face of each, as one command.
+//! Gluing: two solids become one along one face of each, as one command.
 //!
 //! `glue_checks` tests the conditions on an arena, in their order; `joining` glues the two faces operator by operator in a draft.
-//! What a glue makes of volumes is said by `glue_measures`.
+//! `glue_measures` says what a glue makes of volumes.
 //!
 //! # What is proved
 //!
-//! `check_glue`: the first false condition of a glue, with its value, or none, or `AllocError`. `glue`: Ok only where all
-//! conditions hold, and then one command of the machine with exactly the written model, and one record; refused only with the
-//! first false condition and its value; else `Memory`, which may come in place of a refusal, but of none that is tested before
-//! memory is asked for (`early_refusal`); on any failure the session is as it was, the models ahead included. The models held
-//! before and after are sound. No operator inside is ever refused. `glue_measures`: what the six volumes of each solid of the
-//! session are after it.
+//! `check_glue`: the first false condition of a glue, with its value, or none, or `AllocError`. `glue` is Ok only if all conditions hold;
+//! then it is one command of the machine with exactly the written model, and leaves one record. It is refused only with the first false
+//! condition and its value. Otherwise the answer is `Memory`. It may come in place of a refusal, but only of one by a condition that is
+//! tested after memory is asked for (`early_refusal`). On any failure the session is as it was, and the models ahead are kept. The models
+//! held before and after are sound. No operator inside is ever refused. `glue_measures`: the six volumes of each solid of the session after
+//! a glue.
 
 mod command;
 mod glue_checks;

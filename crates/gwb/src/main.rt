@@ -1,15 +1,13 @@
 #![tactic(auto)]
 //! The Geometric WorkBench: reads a script from a file or from standard input and answers each command on standard output.
 //!
-//! Statuses: 0 where each command was answered and none refused, 1 where some reply begins with `refused`, `fault` or
-//! `memory`, 2 where the command line was refused, 3 where the script could not be opened, read or answered to its end;
-//! then standard error has one line.
+//! Statuses: 0 if each command was answered and none refused; 1 if some reply begins with `refused`, `fault` or `memory`; 2 if the command line was
+//! refused; 3 if the script could not be opened, read or answered to its end, and then standard error has one line.
 //!
 //! # What is proved
 //!
-//! `main` has no contract, and is short to be read: the words of the process, its standard input, its files and its standard
-//! output go to `serve`, and what `serve` returns, clap's way to print and standard error go to `end`. What these two do with them
-//! is `command_line`'s, and proved there.
+//! `main` has no contract, and is short, so that it can be read. The words of the process, its standard input, its files and its standard output go
+//! to `serve`. What `serve` returns, clap's way to print and standard error go to `end`. What these two do with them is proved in `command_line`.
 
 pub use command_line::{Trouble, WordsFault, end, not_text, serve};
 pub use script_running::{Console, RunFault, Summary};
@@ -32,7 +30,7 @@ fn given(rt: &HostRuntime) -> Result<Vec<String>, WordsFault> {
     }
 }
 
-/// Runs the script that the command line chooses. Its session isn't freed node by node: it goes with the process, which ends next.
+/// Runs the script that the command line chooses. Its session isn't freed node by node, since the process ends next and frees all.
 fn begin(rt: &HostRuntime) -> Result<Summary, Trouble> {
     let words = given(rt)?;
     let Ok(mut writer) = BufWriter::new(rt.alloc(), rt.stdout()) else {

@@ -4,7 +4,7 @@ use Rattle.session_slots.specs.Common.{Op, Change, Question, Command, Call, Answ
 use Rattle.session_slots.specs.declared.slot.Slot.{Slot}
 use Rattle.gwb_c.specs.Handle.{Calls, none, Recalls}
 
--- a call, but where the session or the draft hasn't it
+-- the call is made, if the session or the draft has it
 abbrev pub Does : Option Slot → Call → Option Slot → ℕ → Type 0
 Does old c new kind = Calls (lacks c) (λ x y. Slot_does x c y) old new kind
 
@@ -12,7 +12,7 @@ Does old c new kind = Calls (lacks c) (λ x y. Slot_does x c y) old new kind
 abbrev pub Changes : Option Slot → Change → Option Slot → ℕ → Type 0
 Changes old c new kind = Does old (Call.Give (Command.Change c)) new kind
 
--- an operator is one
+-- an operator is such a change
 abbrev pub Acts : Option Slot → Op → Option Slot → ℕ → Type 0
 Acts old op new kind = Changes old (Change.Act op) new kind
 
@@ -20,11 +20,11 @@ Acts old op new kind = Changes old (Change.Act op) new kind
 abbrev pub Asks : Option Slot → Question → Option Slot → ℕ → Type 0
 Asks old q new kind = Calls none (λ x y. Slot_asks x q y) old new kind
 
--- a call that makes faces of a solid one of their own
+-- a call that makes a new solid of some faces of a solid
 abbrev pub Parts : Option Slot → List ℕ → ℕ → Option Slot → ℕ → Type 0
 Parts old fs t new kind = Calls none (λ x y. Slot_makes_part x fs t y) old new kind
 
--- C is told a kind alone, and nothing has changed; a closed handle tells that it is closed
+-- C is told only a kind, and nothing has changed; of a closed handle it is told that it is closed
 abbrev pub Leaves : Option Slot → ℕ → Option Slot → ℕ → Type 0
 Leaves None k new kind = (new ≡ None) × (kind ≡ 9)
 Leaves (Some x) k new kind = (new ≡ Some x) × (kind ≡ k)

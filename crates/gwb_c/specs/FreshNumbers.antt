@@ -7,7 +7,7 @@ use Rattle.gwb_c.specs.declared.fresh.Range.{Range}
 abbrev pub above : ℕ → ℕ → Option Range
 above before now = cond (nat_lt before now) (Some (record { first = before + 1; last = now })) None
 
--- the same for each kind but solids, whose numbers a line names
+-- the same for each kind except solids, whose numbers a line names
 abbrev pub fresh_in : Taken → Taken → ℕ → Option Range
 fresh_in before now k =
     cond (nat_eq k 1) (above before.face now.face)

@@ -5,25 +5,25 @@ use Rattle.session_slots.specs.declared.{answers.Refused.Refused, answers.Counts
 use Rattle.gwb_c.specs.FreshNumbers.{fresh_in}
 use Rattle.gwb_c.specs.declared.fresh.Range.{Range}
 
--- C is told a number alone, and nothing has changed; or R leads to a slot, and C is told the kind of its answer
+-- C is told only a number, and nothing has changed; or R leads to a slot, and C is told the kind of its answer
 abbrev pub Unless : Bool → ℕ → (Slot → Slot → Type 0) → Slot → Option Slot → ℕ → Type 0
 Unless true n R x new kind = (new ≡ Some x) × (kind ≡ n)
 Unless false n R x new kind = (y : Slot) × (new ≡ Some y) × (kind ≡ status_of y.console.answer) × R x y
 
--- what C is told of a call that a session or a draft hasn't
+-- what C is told of a call that the session or draft doesn't have
 abbrev pub lacking : Option Stage → ℕ
 lacking o = cond (is_draft o) 11 12
 
--- a call, but where the session or the draft hasn't it; a closed handle stays as it is
+-- the call is made, if the session or the draft has it; a closed handle stays as it is
 abbrev pub Calls : (Option Stage → Bool) → (Slot → Slot → Type 0) → Option Slot → Option Slot → ℕ → Type 0
 Calls without R None new kind = (new ≡ None) × (kind ≡ 9)
 Calls without R (Some x) new kind = Unless (without x.console.stage) (lacking x.console.stage) R x new kind
 
--- each session and each draft has it
+-- each session and each draft has the call
 abbrev pub none : Option Stage → Bool
 none o = false
 
--- the line is answered, but undo and redo in a draft
+-- the line is answered, unless it spells undo or redo in a draft
 abbrev pub Hears : Option Slot → List ℕ → Option Slot → ℕ → Type 0
 Hears old line new kind = Calls (lacks_said (spoken line)) (λ x y. Slot_notes x line y) old new kind
 
@@ -41,19 +41,19 @@ abbrev pub Says : (Slot → Answer) → Option Slot → List ℕ → List ℕ �
 Says f None old new n = (n ≡ 2 ^ 64 - 1) × (new ≡ old)
 Says f (Some x) old new n = (g : Stage) → x.console.stage ≡ Some g → Writes (text_in (shown g) (f x)) old new n
 
--- that of the last answer, and the listing of the model shown
+-- the text of the last answer, and the listing of the model shown
 abbrev pub Replies : Option Slot → List ℕ → List ℕ → ℕ → Type 0
 Replies o old new n = Says (λ x. x.console.answer) o old new n
 
 abbrev pub Lists_model : Option Slot → List ℕ → List ℕ → ℕ → Type 0
 Lists_model o old new n = Says (λ x. Answer.Listing) o old new n
 
--- a value that is there is written; else nothing is
+-- a value is written if it is there; else nothing is written
 abbrev pub Gives : {X : Type 0} → Option X → X → X → ℕ → Type 0
 Gives None old new told = (told ≡ 0) × (new ≡ old)
 Gives (Some x) old new told = (told ≡ 1) × (new ≡ x)
 
--- the same where it is written in another form
+-- the same for a value that is written in another form
 abbrev pub GivesBy : {X Y : Type 0} → (Y → X) → Option X → Y → Y → ℕ → Type 0
 GivesBy f None old new told = (told ≡ 0) × (new ≡ old)
 GivesBy f (Some x) old new told = (told ≡ 1) × (f new ≡ x)
@@ -96,11 +96,11 @@ abbrev pub Lists : {X : Type 0} → (Model → List X → Type 0) → Option Slo
 Lists R None old new n = (n ≡ 2 ^ 64 - 1) × (new ≡ old)
 Lists R (Some y) old new n = (g : Stage) → y.console.stage ≡ Some g → WritesOne (R (shown g)) old new n
 
--- an answer in numbers: its kind, what it gives, and what it refuses; what it hasn't is not written
+-- an answer in numbers: its kind, what it gives, and what it refuses; of these only what the answer has is written
 abbrev pub Reports : {X : Type 0} → (Answer → X → X → ℕ → Type 0) → Answer → X → X → Refused → Refused → ℕ → Type 0
 Reports G a old new was is kind = (kind ≡ status_of a) × (told : ℕ) × G a old new told × (refused : ℕ) × gives_refusal a was is refused
 
--- what a question is answered of the model shown; a closed handle has no answer
+-- the answer to a question about the model shown; a closed handle has none
 abbrev pub Measures : {X : Type 0} → (Answer → X → X → ℕ → Type 0) → Question → Option Slot → X → X → Refused → Refused → ℕ → Type 0
 Measures G q None old new was is kind = (kind ≡ 9) × (new ≡ old) × (is ≡ was)
 Measures G q (Some x) old new was is kind = (g : Stage) → x.console.stage ≡ Some g → Reports G (answer_after Answer.Silent (asked (shown g) q)) old new was is kind

@@ -6,7 +6,7 @@ use crate::told::{CLOSED, NO_CALL, lacking};
 use session_slots::{Call, Gwb, lacks, make, put, status, take};
 use std::alloc::Global;
 
-/// Makes a call, where the session or draft has it.
+/// Makes a call, if the session or draft has it.
 #[inline(always)]
 pub(crate) fn call(alloc: Global, gwb: &mut Gwb, wanted: Call<'_>) -> u32
     ensures { Does gwb.old.kept.value wanted.entry gwb.new.kept.value result }
@@ -26,7 +26,7 @@ pub(crate) fn call(alloc: Global, gwb: &mut Gwb, wanted: Call<'_>) -> u32
     kind
 }
 
-/// Makes no call: the arguments spell none.
+/// Makes no call, since the arguments spell none.
 pub(crate) fn no_call(alloc: Global, gwb: &mut Gwb) -> u32
     ensures { Leaves gwb.old.kept.value 10 gwb.new.kept.value result }
 {

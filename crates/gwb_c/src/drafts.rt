@@ -1,4 +1,4 @@
-//! Calls of C: drafts. What is done in one becomes one command, or is taken back, to its beginning or to a mark.
+//! Calls of C: drafts. What is done in a draft becomes one command, or is taken back: all of it, or as far as a mark.
 ghost use Rattle.std.specs.Prelude.{◌≡◌};
 ghost use Rattle.session_slots.specs.Common.{steps_in, slot_in};
 ghost use Rattle.gwb_c.specs.Calls.{Does};
@@ -17,7 +17,7 @@ pub extern "C" fn gwb_draft(alloc: Global, gwb: &mut Gwb) -> u32
     call(alloc, gwb, Call::Open)
 }
 
-/// Makes the steps of the draft one command, also where there was none. It takes no memory.
+/// Makes the steps of the draft one command, even if there is no step. It takes no memory.
 #[unsafe(no_mangle)]
 pub extern "C" fn gwb_commit(alloc: Global, gwb: &mut Gwb) -> u32
     ensures { Does gwb.old.kept.value Call.Commit gwb.new.kept.value result }
@@ -33,7 +33,7 @@ pub extern "C" fn gwb_abandon(alloc: Global, gwb: &mut Gwb) -> u32
     call(alloc, gwb, Call::Abandon)
 }
 
-/// Takes the steps of the draft since a mark back; where there are no more than that, nothing changes. It takes no memory.
+/// Takes back the steps of the draft since a mark. If there are no steps after it, nothing changes. It takes no memory.
 #[unsafe(no_mangle)]
 pub extern "C" fn gwb_back(alloc: Global, gwb: &mut Gwb, mark: usize) -> u32
     ensures { Does gwb.old.kept.value (Call.Back mark) gwb.new.kept.value result }
@@ -41,7 +41,7 @@ pub extern "C" fn gwb_back(alloc: Global, gwb: &mut Gwb, mark: usize) -> u32
     call(alloc, gwb, Call::Back(mark))
 }
 
-/// How many steps the draft has, as a mark for `gwb_back`: 0 where there is no draft, `SIZE_MAX` where there is no session.
+/// How many steps the draft has, as a mark for `gwb_back`: 0 if there is no draft, `SIZE_MAX` if there is no session.
 #[unsafe(no_mangle)]
 pub extern "C" fn gwb_lent_mark(gwb: &mut GwbLent) -> usize
     ensures state { gwb.new.lent.loan ≡ gwb.old.lent.loan }

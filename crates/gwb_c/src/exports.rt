@@ -8,7 +8,7 @@ use script_running::Answer;
 use session_slots::{Gwb, GwbLent, Slot, begin, copy_front, hear, put, staged, take, text_of};
 use std::alloc::Global;
 
-/// Opens a session that holds the empty model. False where memory is refused, or there is a session; then nothing has changed.
+/// Opens a session that holds the empty model. False if memory is refused, or if there is a session; then nothing has changed.
 #[unsafe(no_mangle)]
 pub extern "C" fn gwb_open(alloc: Global, gwb: &mut Gwb) -> bool
     ensures { Opened gwb.old.kept.value gwb.new.kept.value result }
@@ -26,8 +26,8 @@ pub extern "C" fn gwb_close(alloc: Global, gwb: &mut Gwb)
     }
 }
 
-/// Answers a line, without its newline, and keeps the answer. Says what kind of answer it is: 0 silent, 1 `ok`, 2 `refused`,
-/// 3 `fault`, 4 `memory`, 5 `plane`, 6 `volume`, 7 `count`, 8 a listing; 9 where there is no session, 11 of undo and redo in a draft.
+/// Answers a line, without its newline, and keeps the answer. Says what kind of answer it is: 0 silent, 1 `ok`, 2 `refused`, 3 `fault`, 4 `memory`, 5
+/// `plane`, 6 `volume`, 7 `count`, 8 a listing; 9 if there is no session, 11 for undo and redo in a draft.
 #[unsafe(no_mangle)]
 pub extern "C" fn gwb_line(alloc: Global, gwb: &mut Gwb, line: &[u8]) -> u32
     ensures { Hears gwb.old.kept.value line.now gwb.new.kept.value result }
@@ -52,8 +52,8 @@ fn write_text(alloc: Global, slot: &Slot, answer: &Answer, buf: &mut [u8]) -> us
     }
 }
 
-/// Writes the text of the last answer, as far as there is room, and says how long it is: `SIZE_MAX` where memory is refused, or
-/// there is no session. It can be asked again with more room.
+/// Writes the text of the last answer, as far as there is room, and says how long it is: `SIZE_MAX` if memory is refused, or if there is no session.
+/// It can be asked again with more room.
 #[unsafe(no_mangle)]
 pub extern "C" fn gwb_lent_reply(alloc: Global, gwb: &mut GwbLent, buf: &mut [u8]) -> usize
     ensures state { gwb.new.lent.loan ≡ gwb.old.lent.loan }
@@ -62,8 +62,8 @@ pub extern "C" fn gwb_lent_reply(alloc: Global, gwb: &mut GwbLent, buf: &mut [u8
     told_of!(gwb, usize::MAX, slot => write_text(alloc, slot, &slot.console.answer, buf))
 }
 
-/// Writes the listing of the model shown, as far as there is room, and says how long it is: `SIZE_MAX` where memory is refused, or there is
-/// no session.
+/// Writes the listing of the model shown, as far as there is room, and says how long it is: `SIZE_MAX` if memory is refused, or if there is no
+/// session.
 #[unsafe(no_mangle)]
 pub extern "C" fn gwb_lent_listing(alloc: Global, gwb: &mut GwbLent, buf: &mut [u8]) -> usize
     ensures state { gwb.new.lent.loan ≡ gwb.old.lent.loan }
@@ -72,7 +72,7 @@ pub extern "C" fn gwb_lent_listing(alloc: Global, gwb: &mut GwbLent, buf: &mut [
     told_of!(gwb, usize::MAX, slot => write_text(alloc, slot, &Answer::Listing, buf))
 }
 
-/// How many commands can be undone, in a draft none: `SIZE_MAX` where there is no session.
+/// How many commands can be undone; 0 in a draft, `SIZE_MAX` if there is no session.
 #[unsafe(no_mangle)]
 pub extern "C" fn gwb_lent_depth(gwb: &mut GwbLent) -> usize
     ensures state { gwb.new.lent.loan ≡ gwb.old.lent.loan }
@@ -81,7 +81,7 @@ pub extern "C" fn gwb_lent_depth(gwb: &mut GwbLent) -> usize
     told_of!(gwb, usize::MAX, slot => staged(slot).depth())
 }
 
-/// How many commands can be redone, in a draft none: `SIZE_MAX` where there is no session.
+/// How many commands can be redone; 0 in a draft, `SIZE_MAX` if there is no session.
 #[unsafe(no_mangle)]
 pub extern "C" fn gwb_lent_ahead(gwb: &mut GwbLent) -> usize
     ensures state { gwb.new.lent.loan ≡ gwb.old.lent.loan }

@@ -7,10 +7,10 @@ use crate::calling::{call, no_call};
 use session_slots::{Call, Change, Command, Gwb, Place, Points, polygon};
 use std::alloc::Global;
 
-/// A polygon has no more points.
+/// A polygon has at most so many points.
 const MOST_POINTS: usize = 64;
 
-/// A lamina of so many points.
+/// A lamina with so many points.
 fn lamina(alloc: Global, gwb: &mut Gwb, solid: u32, places: &[Place]) -> u32
     requires { length places.now ≤ 64 }
     ensures { Changes gwb.old.kept.value (Change.Lamina solid (polygon_of places.now)) gwb.new.kept.value result }
@@ -20,7 +20,7 @@ fn lamina(alloc: Global, gwb: &mut Gwb, solid: u32, places: &[Place]) -> u32
     call(alloc, gwb, Call::Give(Command::Change(wanted)))
 }
 
-/// Makes a lamina: a solid of two faces, whose corners are the points in order. More than 64 points make no call.
+/// Makes a lamina: a solid of two faces, whose corners are the points in order. If there are more than 64 points, no call is made.
 #[unsafe(no_mangle)]
 pub extern "C" fn gwb_lamina(alloc: Global, gwb: &mut Gwb, solid: u32, points: &[Place]) -> u32
     ensures made { length points.now ≤ 64 → Changes gwb.old.kept.value (Change.Lamina solid (polygon_of points.now)) gwb.new.kept.value result }

@@ -1,4 +1,4 @@
-//! Calls of C: commands of several operators, each a command of its own or steps of a draft, and undo and redo, which a draft hasn't.
+//! Calls of C: commands of several operators, each a command of its own or steps of a draft; and undo and redo, which a draft doesn't have.
 ghost use Rattle.std.specs.Prelude.{◌≡◌};
 ghost use Rattle.gwb_c.specs.Calls.{Changes, Does};
 
@@ -7,7 +7,7 @@ use euler_operators::Point;
 use session_slots::{Call, Change, Command, Gwb};
 use std::alloc::Global;
 
-/// Makes a block from a corner, of the sizes along x, y and z.
+/// Makes a block with this corner and these sizes along x, y and z.
 #[unsafe(no_mangle)]
 pub extern "C" fn gwb_block(
     alloc: Global,
@@ -75,7 +75,7 @@ pub extern "C" fn gwb_split(
     call(alloc, gwb, Call::Give(Command::Change(wanted)))
 }
 
-/// Takes the last command back. A draft hasn't this call.
+/// Takes the last command back. A draft doesn't have this call.
 #[unsafe(no_mangle)]
 pub extern "C" fn gwb_undo(alloc: Global, gwb: &mut Gwb) -> u32
     ensures { Does gwb.old.kept.value (Call.Give Command.Undo) gwb.new.kept.value result }
@@ -83,7 +83,7 @@ pub extern "C" fn gwb_undo(alloc: Global, gwb: &mut Gwb) -> u32
     call(alloc, gwb, Call::Give(Command::Undo))
 }
 
-/// Does the next command again. A draft hasn't this call.
+/// Does the next command again. A draft doesn't have this call.
 #[unsafe(no_mangle)]
 pub extern "C" fn gwb_redo(alloc: Global, gwb: &mut Gwb) -> u32
     ensures { Does gwb.old.kept.value (Call.Give Command.Redo) gwb.new.kept.value result }

@@ -1,5 +1,5 @@
-//! Calls of C: measures of the model shown. Each says what kind of answer the query has, and writes its value or what it refuses, where there is
-//! one; 9 where there is no session: then nothing is written. No answer is kept.
+//! Calls of C: measures of the model shown. Each says what kind of answer the query has, and writes the value of this answer, or what it refuses, if
+//! it has one. If there is no session, each says 9 and writes nothing. No answer is kept.
 ghost use Rattle.std.specs.Prelude.{◌≡◌};
 ghost use Rattle.session_slots.specs.Common.{slot_in};
 ghost use Rattle.gwb_c.specs.Handle.{Measures, gives_counts, gives_volume, gives_plane};

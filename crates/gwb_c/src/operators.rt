@@ -10,8 +10,8 @@ use euler_operators::{HalfEdge, Op, Point};
 use session_slots::{Gwb, corner, kev, plus, put, ringmv, status, take};
 use std::alloc::Global;
 
-/// One operator, in a session a command, in a draft a step. It is inlined with all that it calls here, so that the operator is built where
-/// the session takes it, and not handed on from call to call.
+/// One operator: in a session it is a command, in a draft a step. It is inlined with all that it calls here, so that the operator is built in place,
+/// where the session takes it, and isn't handed on from call to call.
 #[inline(always)]
 fn act(alloc: Global, gwb: &mut Gwb, op: Op) -> u32
     ensures { Acts gwb.old.kept.value op gwb.new.kept.value result }
@@ -56,7 +56,7 @@ pub extern "C" fn gwb_kvfs(alloc: Global, gwb: &mut Gwb, solid: u32) -> u32
     act(alloc, gwb, Op::Kvfs(solid))
 }
 
-/// Makes an edge and a vertex at two corners, which part the vertex's half-edges.
+/// Makes an edge and a vertex at two corners, which divide the vertex's half-edges between the two vertices.
 #[unsafe(no_mangle)]
 pub extern "C" fn gwb_mev(
     alloc: Global,
@@ -118,7 +118,7 @@ pub extern "C" fn gwb_mef(
     )
 }
 
-/// Kills an edge between two faces, and one of these.
+/// Kills an edge between two faces, and one of these faces.
 #[unsafe(no_mangle)]
 pub extern "C" fn gwb_kef(alloc: Global, gwb: &mut Gwb, half_edge: u32) -> u32
     ensures { Acts gwb.old.kept.value (Op.Kef (half half_edge)) gwb.new.kept.value result }
@@ -142,7 +142,7 @@ pub extern "C" fn gwb_mekr(alloc: Global, gwb: &mut Gwb, from: u32, to: u32, edg
     act(alloc, gwb, Op::Mekr(corner(from), corner(to), plus(edge)))
 }
 
-/// Kills a face, whose outer loop becomes a ring of another.
+/// Kills a face, and makes its outer loop a ring of another face.
 #[unsafe(no_mangle)]
 pub extern "C" fn gwb_kfmrh(alloc: Global, gwb: &mut Gwb, face: u32, other: u32) -> u32
     ensures { Acts gwb.old.kept.value (Op.Kfmrh face other) gwb.new.kept.value result }
@@ -158,7 +158,7 @@ pub extern "C" fn gwb_mfkrh(alloc: Global, gwb: &mut Gwb, ring: u32, face: u32) 
     act(alloc, gwb, Op::Mfkrh(ring, face))
 }
 
-/// Moves a ring to a face: as a ring of it where `out` is 0, else as its outer loop.
+/// Moves a ring to a face: as a ring of it if `out` is 0, else as its outer loop.
 #[unsafe(no_mangle)]
 pub extern "C" fn gwb_ringmv(alloc: Global, gwb: &mut Gwb, ring: u32, face: u32, out: u32) -> u32
     ensures { Acts gwb.old.kept.value (cond (nat_eq out 0) (Op.RingIn ring face) (Op.RingOut ring face)) gwb.new.kept.value result }
@@ -166,7 +166,7 @@ pub extern "C" fn gwb_ringmv(alloc: Global, gwb: &mut Gwb, ring: u32, face: u32,
     act(alloc, gwb, ringmv(ring, face, out))
 }
 
-/// Makes a ring the outer loop of its face, whose outer loop until then becomes a ring of the face given.
+/// Makes a ring the outer loop of its face, and the old outer loop a ring of the face given.
 #[unsafe(no_mangle)]
 pub extern "C" fn gwb_outer(alloc: Global, gwb: &mut Gwb, ring: u32, face: u32) -> u32
     ensures { Acts gwb.old.kept.value (Op.Outer ring face) gwb.new.kept.value result }

@@ -7,7 +7,7 @@ use crate::told::CLOSED;
 use session_slots::{Gwb, put, status, take};
 use std::alloc::Global;
 
-/// Makes a new solid of some faces of one, of which there is one.
+/// Makes a new solid of some faces of a solid, at least one.
 fn part(alloc: Global, gwb: &mut Gwb, faces: &[u32], solid: u32) -> u32
     requires { 0 < length faces.now }
     ensures { Parts gwb.old.kept.value faces.now solid gwb.new.kept.value result }
@@ -22,7 +22,7 @@ fn part(alloc: Global, gwb: &mut Gwb, faces: &[u32], solid: u32) -> u32
     kind
 }
 
-/// Makes a new solid of some faces of one. No faces make no call.
+/// Makes a new solid of some faces of a solid. If no face is given, no call is made.
 #[unsafe(no_mangle)]
 pub extern "C" fn gwb_part(alloc: Global, gwb: &mut Gwb, faces: &[u32], solid: u32) -> u32
     ensures made { 0 < length faces.now → Parts gwb.old.kept.value faces.now solid gwb.new.kept.value result }

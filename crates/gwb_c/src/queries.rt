@@ -1,4 +1,4 @@
-//! Calls of C: queries. Each answers as the line does that spells the same query, and writes the value where the answer tells it.
+//! Calls of C: queries. Each has the same answer as the line that spells this query, and writes the value if the answer tells one.
 ghost use Rattle.std.specs.Prelude.{◌≡◌};
 ghost use Rattle.gwb_c.specs.Handle.{gives_counts, gives_volume, gives_plane};
 ghost use Rattle.gwb_c.specs.Calls.{Asks, Tells};

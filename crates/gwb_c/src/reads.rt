@@ -1,5 +1,5 @@
-//! Calls of C: the model held, read without text. Each says 1 where the value is there, and writes it; 0 where it is not there, and 9
-//! where there is no session: then nothing is written.
+//! Calls of C: the model held, read without text. Each says 1 if the value is there, and writes it; 0 if it is not there, and 9 if there is no
+//! session. In both cases nothing is written.
 ghost use Rattle.std.specs.Prelude.{◌≡◌};
 ghost use Rattle.session_slots.specs.Common.{face_in, face_of_loop_in, edge_in, point_in, lone_in, after_in, before_in, loop_in, IsRingAfter, IsFaceAfter, AreHalfEdges, AreRows, IsFirst, IsStart, kind_of, IsNumberAfter, slot_in};
 ghost use Rattle.gwb_c.specs.Handle.{Reads, Finds, Lists, GivesFresh};
@@ -94,7 +94,7 @@ pub extern "C" fn gwb_lent_first_half_edge(gwb: &mut GwbLent, l: u32, item: &mut
     told_of!(gwb, CLOSED, slot => give(session_slots::first_half_edge(staged(slot).arena(), l), item))
 }
 
-/// A half-edge that starts at a vertex. It looks first where one is likely, and at all edges where there is none.
+/// A half-edge that starts at a vertex. It looks first where one is likely, and, if there is none, at all edges.
 #[unsafe(no_mangle)]
 pub extern "C" fn gwb_lent_vertex_half_edge(gwb: &mut GwbLent, vertex: u32, item: &mut u32) -> u32
     ensures state { gwb.new.lent.loan ≡ gwb.old.lent.loan }
@@ -103,8 +103,8 @@ pub extern "C" fn gwb_lent_vertex_half_edge(gwb: &mut GwbLent, vertex: u32, item
     told_of!(gwb, CLOSED, slot => give(session_slots::vertex_half_edge(staged(slot).arena(), vertex), item))
 }
 
-/// Writes the half-edges of a loop in their order round it, from any of them on, as far as there is room, and says how many there are:
-/// none of a loop with a vertex and no edge, or that is not there; `SIZE_MAX` where there is no session. It walks round the loop once.
+/// Writes the half-edges of a loop in their order round it, from any of them on, as far as there is room, and says how many there are: 0 if the loop
+/// is lone or not there, `SIZE_MAX` if there is no session. It walks round the loop once.
 #[unsafe(no_mangle)]
 pub extern "C" fn gwb_lent_half_edges(gwb: &mut GwbLent, l: u32, buf: &mut [u32]) -> usize
     ensures state { gwb.new.lent.loan ≡ gwb.old.lent.loan }
@@ -113,8 +113,8 @@ pub extern "C" fn gwb_lent_half_edges(gwb: &mut GwbLent, l: u32, buf: &mut [u32]
     told_of!(gwb, usize::MAX, slot => session_slots::half_edges(staged(slot).arena(), l, buf))
 }
 
-/// Writes a row of each half-edge of a face, as far as there is room, and says how many there are: those of its outer loop, then those of
-/// its rings, rising, in their order round each; none where the face is not there, `SIZE_MAX` where there is no session.
+/// Writes a row for each half-edge of a face, as far as there is room, and says how many there are. The rows are those of its outer loop, then those
+/// of its rings by rising number, each loop in its order. 0 if the face is not there, `SIZE_MAX` if there is no session.
 #[unsafe(no_mangle)]
 pub extern "C" fn gwb_lent_half_edge_rows(
     gwb: &mut GwbLent,

@@ -1,5 +1,5 @@
-//! Calls of C: the last answer, as values. Each says 1 where the value is there, and writes it; 0 where the last answer is of another
-//! kind, and 9 where there is no session: then nothing is written.
+//! Calls of C: the last answer, as values. Each says 1 if the value is there, and writes it; 0 if the last answer is of another kind, and 9 if there
+//! is no session. In both cases nothing is written.
 ghost use Rattle.std.specs.Prelude.{◌≡◌};
 ghost use Rattle.session_slots.specs.Common.{fault_in, slot_in};
 ghost use Rattle.gwb_c.specs.Handle.{Recalls, Gives, gives_refusal, gives_counts, gives_volume, gives_plane};

@@ -1,11 +1,11 @@
-//! What C is told: why there was no call, and of a value whether it is there.
+//! What C is told: why no call was made, and whether a value is there.
 ghost use Rattle.std.specs.Prelude.{◌≡◌, cond};
 ghost use Rattle.session_slots.specs.Common.{status_of};
 ghost use Rattle.gwb_c.specs.Handle.{lacking, Gives};
 
 use session_slots::{Slot, is_drafting, status};
 
-/// What a call says of a closed handle, of arguments that make no command, of a call that no draft has, and of one that only a draft has.
+/// What a call says when the handle is closed, when its arguments make no command, when no draft has it, and when only a draft has it.
 pub(crate) const CLOSED: u32 = 9;
 
 pub(crate) const NO_CALL: u32 = 10;
@@ -14,7 +14,7 @@ const IN_DRAFT: u32 = 11;
 
 const NO_DRAFT: u32 = 12;
 
-/// What a call says that the session or draft hasn't.
+/// What a call says that the session or draft doesn't have.
 pub(crate) fn lacking(slot: &Slot) -> u32
     ensures { result ≡ lacking slot.now.console.stage }
 {
@@ -25,7 +25,7 @@ pub(crate) fn lacking(slot: &Slot) -> u32
     }
 }
 
-/// What a call says of a line: the kind of its answer, or, where it wasn't heard, that the draft hasn't it.
+/// What a call says of a line: the kind of its answer, or, if it wasn't heard, that the draft doesn't have it.
 pub(crate) fn told_of_line(slot: &Slot, heard: bool) -> u32
     ensures { result ≡ cond heard (status_of slot.now.console.answer) (lacking slot.now.console.stage) }
 {
@@ -54,7 +54,7 @@ pub(crate) fn give<T: Copy>(value: Option<T>, out: &mut T) -> u32
     }
 }
 
-/// What is told of the slot that is lent, or of none where the handle is closed.
+/// What is told of the slot that is lent, or, if the handle is closed, of none.
 macro_rules! told_of {
     ($gwb:ident, $closed:expr, $slot:ident => $told:expr) => {{
         let Some(shown) = session_slots::show($gwb) else {

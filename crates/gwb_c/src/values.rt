@@ -1,4 +1,4 @@
-//! What an answer gives, as C has it.
+//! What an answer gives, in the form in which C takes it.
 ghost use Rattle.std.specs.Prelude.{ℕ};
 ghost use Rattle.session_slots.specs.Common.{Answer};
 ghost use Rattle.gwb_c.specs.Handle.{gives_refusal, gives_counts, gives_volume, gives_plane};
@@ -9,11 +9,11 @@ use session_slots::{
     Counts, PlaneRow, Refused, Wide, counts_of, halves, plane_of, plane_row, refusal_of, volume_of,
 };
 
-/// What an answer may give.
+/// A value that an answer may give.
 pub(crate) trait Value: Copy {
     ghost gives: { Answer → Self → Self → ℕ → Type 0 };
 
-    /// Writes it, if the answer gives it, and says whether it does.
+    /// Writes the value, if the answer gives it, and says whether it does.
     fn give(answer: &Answer, out: &mut Self) -> u32
         ensures { gives answer.now out.old out.new result };
 }
@@ -34,7 +34,7 @@ impl Value for Counts {
     }
 }
 
-/// In two halves.
+/// A number in two halves.
 impl Value for Wide {
     ghost gives = { gives_volume };
 
@@ -49,7 +49,7 @@ impl Value for Wide {
     }
 }
 
-/// Its coefficients in two halves each.
+/// A plane whose coefficients are in two halves each.
 impl Value for PlaneRow {
     ghost gives = { gives_plane };
 

@@ -9,9 +9,9 @@ use arena_rows::{LoopCell, StoredContent};
 use boundary_model::{Content, HalfEdge, Kind};
 
 impl Arena {
-    /// Empties loop l, which is there: what it held is a loose ring then.
+    /// Empties loop l, which is there. What it held becomes a loose ring.
     ///
-    /// It walks over nothing: the ring's label comes to stand for no loop.
+    /// It walks over nothing: the ring's label no longer stands for a loop.
     pub fn clear(&mut self, l: u32)
         requires { has_number self.old Kind.Loop l ≡ true }
         ensures { self.new ≡ clear self.old l }
@@ -29,7 +29,7 @@ impl Arena {
         self.loops.set(l, cell);
     }
 
-    /// Makes loop l lone at vertex v. It is there and holds no half-edge.
+    /// Makes loop l lone at vertex v. The loop is there and holds no half-edge.
     pub fn set_lone(&mut self, l: u32, v: u32)
         requires there { has_number self.old Kind.Loop l ≡ true }
         requires bare { items_of (content self.old.model l) ≡ [] }
@@ -45,7 +45,7 @@ impl Arena {
 
     /// Puts the loose ring of h into loop l, which is there and holds no half-edge.
     ///
-    /// It walks over nothing: the ring's label comes to stand for l.
+    /// It walks over nothing: the ring's label now stands for l.
     pub fn fill(&mut self, l: u32, h: HalfEdge)
         requires there { has_number self.old Kind.Loop l ≡ true }
         requires bare { items_of (content self.old.model l) ≡ [] }
@@ -64,8 +64,8 @@ impl Arena {
         self.loops.set(l, cell);
     }
 
-    /// Gives loop l, which is there, other content: what it held is a loose ring then, and l is lone at a vertex, or takes the
-    /// loose ring in which a half-edge stands.
+    /// Gives loop l, which is there, other content. What it held becomes a loose ring; then l is lone at a vertex, or takes the loose ring
+    /// in which a half-edge stands.
     ///
     /// It walks over nothing.
     pub fn set_content(&mut self, l: u32, content: Content)

@@ -1,4 +1,4 @@
-//! Solids, faces, vertices, edges and loops that come, go or change their row.
+//! Writers that put, take or change the rows of solids, faces, vertices, edges and loops.
 ghost use Rattle.std.specs.Prelude.{◌≡◌, true, false, [], ◌∷◌, Some};
 ghost use Rattle.boundary_model.specs.Points.{IsInRange};
 ghost use Rattle.boundary_model.specs.HalfEdge.{code, plus, minus};
@@ -11,7 +11,7 @@ use arena_rows::{FaceCell, LoopCell, StoredContent};
 use boundary_model::{HalfEdge, Kind, PackedPoint, Point};
 
 impl Arena {
-    /// A new solid s, which has its room.
+    /// Puts a new solid s, which has its room.
     pub fn put_solid(&mut self, s: u32)
         requires { has_room self.old Kind.Solid s ≡ true }
         ensures { self.new ≡ put_solid self.old s }
@@ -19,7 +19,7 @@ impl Arena {
         self.solids.put(s, true);
     }
 
-    /// Solid s goes, which is there.
+    /// Takes solid s, which is there.
     pub fn take_solid(&mut self, s: u32)
         requires { has_number self.old Kind.Solid s ≡ true }
         ensures { self.new ≡ take_solid self.old s }
@@ -27,11 +27,11 @@ impl Arena {
         self.solids.take(s);
     }
 
-    /// A new face f of solid s with outer loop l. Number f is free and has its room, and so has the solid's number its room.
+    /// Puts a new face f of solid s with outer loop l. Number f is free and has its room, and the solid's number has its room too.
     ///
-    /// Its place among the solid's faces is one step where faces come in order. Else it takes as many steps as there are faces
-    /// between it and the one that came last, or numbers between it and the nearest face of the solid, whichever is less.
-    /// Where none goes, faces up to number N cost no more than about N log N in all, in whatever order they come.
+    /// If faces come in order, the place among the solid's faces is found in one step. Otherwise it takes as many steps as there are faces
+    /// between it and the face that came last, or numbers between it and the nearest face of the solid, whichever is less. If no face goes,
+    /// faces up to number N cost no more than about N log N in all, in whatever order they come.
     pub fn put_face(&mut self, f: u32, s: u32, l: u32)
         requires room { has_room self.old Kind.Face f ≡ true }
         requires free { has_number self.old Kind.Face f ≡ false }
@@ -43,7 +43,7 @@ impl Arena {
         self.solid_faces.put(s, f);
     }
 
-    /// Face f goes, which is there.
+    /// Takes face f, which is there.
     pub fn take_face(&mut self, f: u32)
         requires { has_number self.old Kind.Face f ≡ true }
         ensures { self.new ≡ take_face self.old f }
@@ -52,7 +52,7 @@ impl Arena {
         self.solid_faces.take(f);
     }
 
-    /// Face f, which is there, gets another outer loop.
+    /// Gives face f, which is there, another outer loop.
     pub fn set_outer(&mut self, f: u32, l: u32)
         requires { has_number self.old Kind.Face f ≡ true }
         ensures { self.new ≡ set_outer self.old f l }
@@ -62,7 +62,7 @@ impl Arena {
         self.faces.set(f, cell);
     }
 
-    /// Face f, which is there, is of solid s then, whose number has its room. Its place there is looked for as `put_face` does.
+    /// Moves face f, which is there, to solid s, whose number has its room. The face's place there is looked for as `put_face` does.
     pub fn set_solid(&mut self, f: u32, s: u32)
         requires there { has_number self.old Kind.Face f ≡ true }
         requires solid_room { has_room self.old Kind.Solid s ≡ true }
@@ -78,7 +78,7 @@ impl Arena {
         self.solid_faces.put(s, f);
     }
 
-    /// A new vertex v at a point in range; v has its room.
+    /// Puts a new vertex v at a point in range; v has its room.
     pub fn put_vertex(&mut self, v: u32, p: Point)
         requires room { has_room self.old Kind.Vertex v ≡ true }
         requires range { IsInRange p }
@@ -87,7 +87,7 @@ impl Arena {
         self.vertices.put(v, PackedPoint::new(p));
     }
 
-    /// Vertex v goes, which is there.
+    /// Takes vertex v, which is there.
     pub fn take_vertex(&mut self, v: u32)
         requires { has_number self.old Kind.Vertex v ≡ true }
         ensures { self.new ≡ take_vertex self.old v }
@@ -95,10 +95,9 @@ impl Arena {
         self.vertices.take(v);
     }
 
-    /// A new loop l of face f, which is empty. Number l is free and has its room, and so has the face's number its room.
+    /// Puts a new, empty loop l of face f. Number l is free and has its room, and the face's number has its room too.
     ///
-    /// Its place among the face's loops is looked for as `put_face` does among the faces of a solid: one step where loops come in
-    /// order.
+    /// Its place among the face's loops is looked for as `put_face` does among the faces of a solid: in one step if loops come in order.
     pub fn put_loop(&mut self, l: u32, f: u32)
         requires room { has_room self.old Kind.Loop l ≡ true }
         requires free { has_number self.old Kind.Loop l ≡ false }
@@ -113,7 +112,7 @@ impl Arena {
         self.face_loops.put(f, l);
     }
 
-    /// Loop l goes, which is there and is empty or lone.
+    /// Takes loop l, which is there and is empty or lone.
     pub fn take_loop(&mut self, l: u32)
         requires there { has_number self.old Kind.Loop l ≡ true }
         requires bare { items_of (content self.old.model l) ≡ [] }
@@ -123,7 +122,7 @@ impl Arena {
         self.face_loops.take(l);
     }
 
-    /// Loop l, which is there, is of another face, whose number has its room. Its place there is looked for as `put_loop` does.
+    /// Moves loop l, which is there, to another face, whose number has its room. The loop's place there is looked for as `put_loop` does.
     pub fn set_face(&mut self, l: u32, f: u32)
         requires there { has_number self.old Kind.Loop l ≡ true }
         requires face_room { has_room self.old Kind.Face f ≡ true }
@@ -139,8 +138,8 @@ impl Arena {
         self.face_loops.put(f, l);
     }
 
-    /// A new edge e from the vertex `start` to the vertex `end`. Its half-edges are loose, each a ring of its own. Number e is free and
-    /// has its room.
+    /// Puts a new edge e from the vertex `start` to the vertex `end`. Its half-edges are loose, each a ring of its own. Number e is free
+    /// and has its room.
     pub fn put_edge(&mut self, e: u32, start: u32, end: u32)
         requires room { has_room self.old Kind.Edge e ≡ true }
         requires free { has_number self.old Kind.Edge e ≡ false }
@@ -149,7 +148,7 @@ impl Arena {
         self.rings.put_edge(e, start, end);
     }
 
-    /// Edge e goes, whose half-edges are loose, each a ring of its own.
+    /// Takes edge e, whose half-edges are loose, each a ring of its own.
     pub fn take_edge(&mut self, e: u32)
         requires first { get self.old.loose (plus e) ≡ Some (plus e ∷ []) }
         requires second { get self.old.loose (minus e) ≡ Some (minus e ∷ []) }
@@ -158,7 +157,7 @@ impl Arena {
         self.rings.take_edge(e);
     }
 
-    /// A half-edge, whose edge is there, starts at vertex v.
+    /// Makes vertex v the start of a half-edge, whose edge is there.
     pub fn set_tail(&mut self, h: HalfEdge, v: u32)
         requires { has_half self.old.model (code h) ≡ true }
         ensures { self.new ≡ set_tail self.old (code h) v }

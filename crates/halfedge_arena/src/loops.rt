@@ -9,10 +9,10 @@ use arena_rows::{LoopCell, StoredContent};
 use boundary_model::{HalfEdge, Kind};
 
 impl Arena {
-    /// Cuts a loop: `a X b Y` keeps `a Y`, and `b X` becomes loop l, or a loose ring where l is 0. a and b are two half-edges of
-    /// one loop; loop l, where it isn't 0, is there and holds no half-edge.
+    /// Cuts a loop: `a X b Y` becomes `a Y`, and `b X` becomes loop l, or a loose ring if l is 0. Here a and b are two half-edges of one
+    /// loop. If l isn't 0, loop l is there and holds no half-edge.
     ///
-    /// It walks round the shorter of the two parts, and writes labels there alone.
+    /// It walks round the shorter of the two parts, and writes labels only there.
     pub fn cut(&mut self, a: HalfEdge, b: HalfEdge, l: u32)
         requires a_there { has_half self.old.model (code a) ≡ true }
         requires b_there { has_half self.old.model (code b) ≡ true }
@@ -44,10 +44,10 @@ impl Arena {
         self.loops.set(l, cell);
     }
 
-    /// Joins to a's loop another one, or a loose ring: `a Y` and `b X` become `a X b Y` under the number of a's loop. b's loop,
-    /// if it stood in one, is empty then.
+    /// Joins another loop, or a loose ring, to a's loop: `a Y` and `b X` become `a X b Y` under the number of a's loop. If b stood in a
+    /// loop, that loop is then empty.
     ///
-    /// It walks round the shorter of the two rings, and writes labels there alone.
+    /// It walks round the shorter of the two rings, and writes labels only there.
     pub fn join(&mut self, a: HalfEdge, b: HalfEdge)
         requires a_there { has_half self.old.model (code a) ≡ true }
         requires b_there { has_half self.old.model (code b) ≡ true }
@@ -79,7 +79,8 @@ impl Arena {
         self.loops.set(kept, cell);
     }
 
-    /// Cuts b out of its loop, where a stands before it: `cut` with 0 and a part of one. b is loose then, alone in its ring.
+    /// Cuts b out of its loop, in which a stands before b. This is `cut` with 0 and a part of one half-edge. Then b is loose, alone in its
+    /// ring.
     ///
     /// It walks over nothing.
     #[inline(always)]
@@ -105,7 +106,8 @@ impl Arena {
         self.rings.cut_alone(stays, goes, 0);
     }
 
-    /// Joins to a's loop a half-edge that is loose, alone in its ring: `join` with a ring of one. It stands after a then.
+    /// Joins a half-edge that is loose, alone in its ring, to a's loop. This is `join` with a ring of one. The half-edge then stands after
+    /// a.
     ///
     /// It walks over nothing, and the loop's row stays as it was.
     pub fn join_alone(&mut self, a: HalfEdge, b: HalfEdge)

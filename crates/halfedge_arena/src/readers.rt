@@ -1,4 +1,4 @@
-//! What stands under a number.
+//! Readers of what stands under a number.
 ghost use Rattle.std.specs.Prelude.{◌≡◌, ◌≢◌, true, length, []};
 ghost use Rattle.boundary_model.specs.Points.{IsInRange};
 ghost use Rattle.boundary_model.specs.Rings.{successor, predecessor};
@@ -54,8 +54,8 @@ impl Arena {
         self.faces.known(f).outer
     }
 
-    /// How many rings face f has, which is there: loops that name it, but its outer loop. The number is kept, so this walks
-    /// over nothing.
+    /// How many rings face f, which is there, has: the loops that name it, without its outer loop. The count is kept, so this walks over
+    /// nothing.
     pub fn ring_count(&self, f: u32) -> u32
         requires { has_number self.now Kind.Face f ≡ true }
         ensures { result ≡ length (rings_of self.now.model f) }
@@ -77,14 +77,14 @@ impl Arena {
         self.has(Kind::Loop, l) && self.face_of(l) == f && self.outer(f) != l
     }
 
-    /// How many faces name solid s. The number is kept, so this walks over nothing.
+    /// How many faces name solid s. The count is kept, so this walks over nothing.
     pub fn face_count(&self, s: u32) -> u32
         ensures { result ≡ length (faces_of self.now.model s) }
     {
         self.solid_faces.count(s)
     }
 
-    /// The face that names solid s, where there is one and no other. It walks over nothing.
+    /// The face that names solid s, if there is exactly one. It walks over nothing.
     pub fn only_face(&self, s: u32) -> Option<u32>
         ensures { result ≡ only_item (faces_of self.now.model s) }
     {
@@ -103,7 +103,7 @@ impl Arena {
         self.loops.known(l).face
     }
 
-    /// What loop l holds, which is there and isn't empty: the vertex of a lone loop, or some half-edge that stands in it.
+    /// What loop l, which is there and isn't empty, holds: the vertex of a lone loop, or some half-edge that stands in it.
     pub fn content(&self, l: u32) -> Content
         requires there { has_number self.now Kind.Loop l ≡ true }
         requires filled { content self.now.model l ≢ cycle [] }
@@ -116,7 +116,7 @@ impl Arena {
         }
     }
 
-    /// The loop in which a half-edge stands, whose edge is there, or 0 where it stands in none.
+    /// The loop in which a half-edge, whose edge is there, stands, or 0 if it stands in none.
     pub fn loop_of(&self, h: HalfEdge) -> u32
         requires { has_half self.now.model (code h) ≡ true }
         ensures { result ≡ loop_of self.now.model (code h) }
@@ -150,8 +150,8 @@ impl Arena {
         self.rings.tail(h.code())
     }
 
-    /// The vertex at which a half-edge starts, whose edge is there, and the item before it: what `tail` and `prev` tell, with the
-    /// half-edge looked up once.
+    /// The vertex at which a half-edge, whose edge is there, starts, and the item before it. These are the answers of `tail` and `prev`,
+    /// but the half-edge is looked up only once.
     pub fn tail_and_prev(&self, h: HalfEdge) -> (u32, HalfEdge)
         requires { has_half self.now.model (code h) ≡ true }
         ensures tail { result.0 ≡ tail self.now.model (code h) }

@@ -1,4 +1,4 @@
-//! Room for numbers: rows, chains and nodes.
+//! Room for numbers: their rows, chains and nodes.
 ghost use Rattle.std.specs.Prelude.{◌≡◌, ◌≤◌, true, OnOk, IsOk};
 ghost use Rattle.arena_rows.specs.Common.{has_room, HasGrown};
 
@@ -6,13 +6,13 @@ use crate::arena::Arena;
 use boundary_model::{Kind, NUMBER_LIMIT};
 use std::alloc::AllocError;
 
-/// How many numbers get their room at a time, so that it is asked for seldom.
+/// How many numbers get their room at a time, so that memory is seldom asked for.
 const STEP: u32 = 64;
 
 impl Arena {
-    /// Gives a number of a kind its room, from 1 to 1,000,000. The model stays, and each number that had its room keeps it.
+    /// Gives a number of a kind, from 1 to 1,000,000, its room. The model stays, and each number that had its room keeps it.
     ///
-    /// An `Err` comes only where memory is short and the number had no room. The model stays then too, and so does each room.
+    /// An `Err` comes only if memory is short and the number had no room. The model stays then too, and so does all room.
     pub fn room_for(&mut self, kind: Kind, number: u32) -> Result<(), AllocError>
         requires least { 1 ≤ number }
         requires most { number ≤ 1000000 }
@@ -26,9 +26,9 @@ impl Arena {
         self.make_room(kind, number)
     }
 
-    /// Gives a number of a kind its room, as `room_for` does, where it is known that it has none. So it doesn't ask first.
+    /// Gives a number of a kind its room, as `room_for` does, if it is known that it has none: this doesn't ask first.
     ///
-    /// Where it has its room, it keeps it, and an `Err` may come all the same.
+    /// If the number has its room, it keeps it, but an `Err` may come all the same.
     #[inline(always)]
     pub fn make_room(&mut self, kind: Kind, number: u32) -> Result<(), AllocError>
         requires least { 1 ≤ number }

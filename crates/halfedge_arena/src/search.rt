@@ -6,8 +6,8 @@ use crate::arena::Arena;
 use boundary_model::Kind;
 
 impl Arena {
-    /// The least number of a kind in use above this one, or none. It looks at a few hundred numbers and counts at most, and at one where
-    /// the next number is in use.
+    /// The least number of a kind in use above this one, or none. It looks at a few hundred numbers and counts at most, and at one if the
+    /// next number is in use.
     pub fn after_number(&self, kind: Kind, number: u32) -> Option<u32>
         ensures { IsNextNumber self.now kind number result }
     {
@@ -20,7 +20,7 @@ impl Arena {
         }
     }
 
-    /// The greatest number of a kind in use, or 0 where none is. It looks at the summaries of numbers from the last one down, as
+    /// The greatest number of a kind in use, or 0 if none is. It looks at the summaries of numbers from the last one down, as
     /// `Numbers::last` does.
     pub fn greatest(&self, kind: Kind) -> u32
         ensures { IsGreatest self.now kind result }
@@ -34,7 +34,7 @@ impl Arena {
         }
     }
 
-    /// The least face of solid s above the number, or none. Where the number is 0 or a face of the solid, this is one step; else its
+    /// The least face of solid s above the number, or none. If the number is 0 or a face of the solid, this is one step; otherwise its
     /// place is looked for as `put_face` does.
     pub fn face_after(&self, s: u32, number: u32) -> Option<u32>
         ensures { IsNextFace self.now.model s number result }
@@ -42,9 +42,8 @@ impl Arena {
         self.solid_faces.after(s, number)
     }
 
-    /// The least ring of face f above the number, or none; face f is there. Where the face has no ring, or the number is 0 or a loop of
-    /// the face, this is one step or two; else its place is looked for as `put_loop` does. `ring_count` tells how many there are to ask
-    /// for.
+    /// The least ring of face f above the number, or none; face f is there. If the face has no ring, or the number is 0 or a loop of the
+    /// face, this is one step or two; otherwise its place is looked for as `put_loop` does. `ring_count` tells how many rings there are.
     #[inline(always)]
     pub fn ring_after(&self, f: u32, number: u32) -> Option<u32>
         requires { has_number self.now Kind.Face f ≡ true }
@@ -56,7 +55,8 @@ impl Arena {
         self.next_ring(f, number)
     }
 
-    /// The least ring of face f above the number, or none. It stands apart, so that the test of a face with no ring is made in place.
+    /// The least ring of face f above the number, or none. It is a function of its own so that the test for a face without rings is
+    /// compiled into the caller.
     #[inline(never)]
     fn next_ring(&self, f: u32, number: u32) -> Option<u32>
         requires { has_number self.now Kind.Face f ≡ true }

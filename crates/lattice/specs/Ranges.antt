@@ -8,18 +8,18 @@ use Rattle.lattice.specs.Vectors.{direction}
 abbrev pub IsWithin : ℕ → ℤ → Type 0
 IsWithin m n = unsigned_abs n ≤ m
 
--- so is each number of a vector
+-- each number of a vector is at most m in magnitude
 abbrev pub IsVectorWithin : ℕ → Point → Type 0
 IsVectorWithin m v = IsWithin m v.x × IsWithin m v.y × IsWithin m v.z
 
--- the greatest number of a normal, 10^25, and of a plane across one, 10^35
+-- no number of a normal is above 10^25 in magnitude, and none of a plane across one above 10^35
 abbrev pub normal_limit : ℕ
 normal_limit = 10000000000000000000000000
 
 abbrev pub offset_limit : ℕ
 offset_limit = 100000000000000000000000000000000000
 
--- a plane whose sides are told
+-- a plane for which `side` may be called
 abbrev pub IsPlane : Plane → Type 0
 IsPlane s = IsVectorWithin normal_limit (direction s) × IsWithin offset_limit s.d
 

@@ -5,7 +5,7 @@ ghost use Rattle.lattice.specs.Point.{IsInRange};
 use crate::Point;
 use std::marker::Model;
 
-/// A point within `COORDINATE_LIMIT`, in twelve bytes: what a table of many points keeps. Contracts see the point.
+/// A point within `COORDINATE_LIMIT`, in twelve bytes, for tables of many points. Contracts see the point.
 #[derive(Clone, Copy)]
 pub struct PackedPoint {
     x: i32,
@@ -39,7 +39,7 @@ impl PackedPoint {
         }
     }
 
-    /// The point again.
+    /// The point that was packed.
     pub fn point(self) -> Point
         ensures { result ≡ self }
     {

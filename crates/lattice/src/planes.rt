@@ -43,7 +43,7 @@ fn cut_height(plane: Plane, p: Point) -> i128
     height(plane, p)
 }
 
-/// The number divided by the divisor, where that is a whole coordinate.
+/// The number divided by the divisor, if the quotient is a whole coordinate.
 fn whole_quotient(number: i128, divisor: i128) -> Option<i64>
     requires divisor { divisor ≢ pos 0 }
     requires number { IsWithin 20000000000000000000000000000 number }
@@ -72,8 +72,8 @@ fn cut_multiple(from: i64, to: i64, start: i128, end: i128) -> i128
     i128::from(to) * start - i128::from(from) * end
 }
 
-/// A coordinate of the point where a segment meets a plane, if it is whole. The segment's ends have the coordinates `from` and
-/// `to`, and stand at opposite heights. Where these are one, nothing is divided.
+/// A coordinate of the point where a segment meets a plane, if it is whole. The segment's ends have the coordinates `from` and `to`, and stand at
+/// opposite heights. If `from` and `to` are equal, nothing is divided.
 fn cut_coordinate(from: i64, to: i64, start: i128, end: i128) -> Option<i64>
     requires from { is_coordinate from ≡ true }
     requires to { is_coordinate to ≡ true }
@@ -89,7 +89,7 @@ fn cut_coordinate(from: i64, to: i64, start: i128, end: i128) -> Option<i64>
     whole_quotient(cut_multiple(from, to, start, end), start - end)
 }
 
-/// The point at which the segment from p to q meets the plane, or none where it is off the lattice.
+/// The point at which the segment from p to q meets the plane, or none if a coordinate of it isn't whole.
 ///
 /// The points are in range and lie strictly on opposite sides; a, b and c are at most 10^9 in magnitude and d at most
 /// 3 * 10^18.

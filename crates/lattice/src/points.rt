@@ -25,7 +25,7 @@ pub fn sum_in_range(p: Point, shift: Point) -> bool
     adds_up(p.x, shift.x) && (adds_up(p.y, shift.y) && adds_up(p.z, shift.z))
 }
 
-/// The point p moved by the shift. `sum_in_range` tells whether it may be asked for.
+/// The point p moved by the shift. It may be called only if `sum_in_range` is true.
 pub fn sum(p: Point, shift: Point) -> Point
     requires { IsInRange (moved p shift) }
     ensures { result ≡ moved p shift }
@@ -50,7 +50,7 @@ fn minor(a: i64, b: i64, c: i64, d: i64) -> i128
     i128::from(number)
 }
 
-/// A vector, of numbers at most 10^25 in magnitude, plus the cross product of two points in range.
+/// A vector with numbers of at most 10^25 in magnitude, plus the cross product of two points in range.
 pub fn cross_add(vector: [i128; 3], p: Point, q: Point) -> [i128; 3]
     requires vector { IsVectorWithin normal_limit (vector_of vector) }
     requires p { IsInRange p }

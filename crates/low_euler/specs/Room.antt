@@ -11,16 +11,16 @@ abbrev pub AllFit : List (Kind × ℕ) → Type 0
 AllFit [] = Unit {0}
 AllFit (k ∷ ks) = (is_number k.1 ≡ true) × AllFit ks
 
--- the faces that an operator moves from one solid to another, where its inverse has to list them
+-- the faces that an operator moves from one solid to another, if its inverse has to list them
 abbrev pub faces_for : Model → Op → List ℕ
 faces_for M (op.Merge s t) = faces_of M t
 faces_for M o = []
 
--- each number that had its room has it still
+-- each number that had its room still has it
 abbrev pub KeepsRoom : Store → Store → Type 0
 KeepsRoom old new = (kind : Kind) (n : ℕ) → has_room old kind n ≡ true → has_room new kind n ≡ true
 
--- the arena after an operator whose room was made: what the operator and its inverse make has room
+-- the arena after an operator whose room was made: each number that the operator or its inverse makes has its room
 pub record IsStepped (old : Store) (o : Op) (new : Store) : Type 0 where
   pub model : new.model ≡ effect old.model o
   pub ready : IsReady new

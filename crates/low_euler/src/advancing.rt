@@ -1,5 +1,5 @@
-//! An operator with all that it takes: its room, the change, and the operator that takes it back, which is written where the caller
-//! keeps it.
+//! An operator with all that it needs: its room, the change, and the operator that takes it back, which is written where the caller keeps
+//! it.
 ghost use Rattle.std.specs.Prelude.{◌≡◌, OnOk, OnErr, IfOk, None};
 ghost use Rattle.euler_conditions.specs.Store.{HasGrown};
 ghost use Rattle.euler_operators.specs.Common.{first_false, inverse};
@@ -114,7 +114,7 @@ fn kef(arena: &mut Arena, half: HalfEdge, back: &mut Op)
     *back = inverse;
 }
 
-/// An operator by `room_op` and then `apply`, with its inverse in `back`.
+/// Does an operator by `room_op` and then `apply`, and writes its inverse to `back`.
 #[inline(never)]
 fn step_by_step(alloc: Global, arena: &mut Arena, op: &Op, back: &mut Op) -> Result<(), AllocError>
     requires ready { IsReady arena.old }
@@ -128,9 +128,9 @@ fn step_by_step(alloc: Global, arena: &mut Arena, op: &Op, back: &mut Op) -> Res
     Ok(())
 }
 
-/// Makes the room of an operator that is accepted, applies it, and puts the operator that takes it back in the place of `back`: what
-/// `room_op` and then `apply` do, with the operator looked at once and its inverse written once. What the operator and its inverse
-/// make has its room then, and no room is lost.
+/// Makes the room of an operator that is accepted, applies it, and replaces `back` by the operator that takes it back. It does what
+/// `room_op` and then `apply` do, but looks at the operator once and writes its inverse once. After that each number that the operator or
+/// its inverse makes has its room, and no room is lost.
 ///
 /// All memory is taken before the change: on `AllocError` the model is as it was.
 pub fn advance(alloc: Global, arena: &mut Arena, op: &Op, back: &mut Op) -> Result<(), AllocError>

@@ -1,4 +1,4 @@
-//! The operators applied, each with its inverse where that is asked for.
+//! Applies operators, and answers the inverse of each if it is asked for.
 ghost use Rattle.std.specs.Prelude.{◌≡◌};
 ghost use Rattle.euler_operators.specs.Common.{inverse};
 ghost use Rattle.euler_conditions.specs.Ready.{IsReady, Accepts, after};
@@ -36,9 +36,9 @@ fn change(arena: &mut Arena, op: &Op)
     }
 }
 
-/// Applies an operator that is accepted and whose numbers have their room. The model becomes that after the operator, and
-/// is sound; no room is made, and none is lost. It takes no memory and always succeeds. Its cost is that of the change; a
-/// merge looks at the faces that it moves, and at those of the other solid between them.
+/// Applies an operator that is accepted and whose numbers have their room. The model becomes the one after the operator, and is sound; no
+/// room is made, and none is lost. It takes no memory and always succeeds. Its cost is that of the change; a merge looks at the faces that
+/// it moves, and at the faces of the other solid whose numbers lie between theirs.
 pub fn replay(arena: &mut Arena, op: &Op)
     requires { Accepts arena.old op.now }
     ensures effect { arena.new ≡ after arena.old op.now }
@@ -48,8 +48,8 @@ pub fn replay(arena: &mut Arena, op: &Op)
     change(arena, op);
 }
 
-/// Applies an operator as `replay` does, and answers the operator that takes it back. That is accepted in the model after,
-/// its numbers have their room, and its effect is the model before. `room` is what `room_op` gave for `op` in this model.
+/// Applies an operator as `replay` does, and answers the operator that takes it back. In the model after, that inverse is accepted, its
+/// numbers have their room, and its effect is the model before. `room` is what `room_op` gave for `op` in this model.
 ///
 /// It takes no memory and always succeeds. Its cost is that of the change.
 pub fn apply(arena: &mut Arena, op: &Op, room: MovedFaces) -> Op

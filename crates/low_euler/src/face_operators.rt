@@ -1,6 +1,6 @@
-//! The Euler operators that move rings and faces, done in place.
+//! The Euler operators that move rings and faces, in place.
 //!
-//! Each takes an arena that accepts it and leaves the model after the operator; rooms stay. None takes memory or fails.
+//! Each takes an arena that accepts it and leaves the model after the operator. Rooms stay as they are. None takes memory or fails.
 
 mod moving;
 mod rings;

@@ -1,4 +1,4 @@
-//! The operator that takes another back, read from the arena before it is applied.
+//! The operator that takes another one back. It is read from the arena before the other one is applied.
 ghost use Rattle.std.specs.Prelude.{◌≡◌, None};
 ghost use Rattle.euler_operators.specs.Common.{code, first_false, inverse, kev_corner, kev_corner_mate};
 ghost use Rattle.euler_conditions.specs.Ready.{IsReady, HasRoomFor};
@@ -28,8 +28,8 @@ pub(crate) fn kvfs(arena: &Arena, solid: u32) -> Op
     Op::Mvfs(solid, face, outer, vertex, point)
 }
 
-/// The corners by which mev makes the edge again: at the items after h and after its mate, or twice the only one of these
-/// that is of another edge. Where there is none, twice that of the loop, which is lone then.
+/// The corners at which mev makes the edge again: those of the items after h and after its mate. If only one of these items belongs to
+/// another edge, both corners are that item's. If neither does, both are the corner of the loop, which is lone then.
 fn kev_corners(arena: &Arena, h: HalfEdge) -> (Corner, Corner)
     requires ready { IsReady arena.now }
     requires accepted { first_false arena.now.model (Op.Kev h) ≡ None }
@@ -166,7 +166,7 @@ fn merge(arena: &Arena, kept: u32, gone: u32, room: MovedFaces) -> Op
     Op::Part(kept, gone, room.faces)
 }
 
-/// The operator that takes `op` back, where `op` is accepted. Every number that it makes has its room. It walks over nothing.
+/// The operator that takes `op` back; `op` is accepted. Every number that it makes has its room. It walks over nothing.
 #[tactic(auto, unfolding(euler_operators::specs::Effect::inverse))]
 pub(crate) fn inverse_of(arena: &Arena, op: &Op, room: MovedFaces) -> Op
     requires ready { IsReady arena.now }

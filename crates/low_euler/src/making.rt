@@ -1,4 +1,4 @@
-//! What an operator takes with it: room for what it makes, and the faces that a merge moves.
+//! What an operator needs to be applied: room for what it makes, and the faces that a merge moves.
 ghost use Rattle.std.specs.Prelude.{◌≡◌, [], ◌∷◌, OnOk, IfOk, IsOk, None};
 ghost use Rattle.euler_conditions.specs.Store.{HasGrown};
 ghost use Rattle.euler_operators.specs.Common.{first_false};
@@ -10,14 +10,14 @@ use euler_conditions::Arena;
 use euler_operators::{FaceList, Kind, Op};
 use std::alloc::{AllocError, Global};
 
-/// What an operator takes with it where it is applied: for a merge the faces that it moves, rising, else nothing.
+/// What an operator is given when it is applied: for a merge the faces that it moves, in rising order, otherwise nothing.
 #[derive(Drop)]
 pub struct MovedFaces {
     pub faces: FaceList,
 }
 
-/// Makes the room of one number that has none. On `AllocError` the model is as it was, and no room is lost. It stands apart, so that the
-/// test whether the room is there is made in place.
+/// Makes the room of one number that has none. On `AllocError` the model is as it was, and no room is lost. It is a function of its own so
+/// that the test for room is compiled into the caller.
 #[inline(never)]
 fn grow(arena: &mut Arena, number: (Kind, u32)) -> Result<(), AllocError>
     requires { AllFit (number ∷ []) }
@@ -27,7 +27,7 @@ fn grow(arena: &mut Arena, number: (Kind, u32)) -> Result<(), AllocError>
     arena.make_room(number.0, number.1)
 }
 
-/// Makes the room of one number where it isn't there, as `grow` does. Where it is, no `Err` comes.
+/// Makes the room of one number that may have none, as `grow` does. If the number has its room, no `Err` comes.
 #[inline(always)]
 fn room_for_one(arena: &mut Arena, number: (Kind, u32)) -> Result<(), AllocError>
     requires { AllFit (number ∷ []) }
@@ -74,7 +74,7 @@ pub(crate) fn room_for_three(
     room_for_two(arena, second, third)
 }
 
-/// Makes the room of a solid's number and of those of its face, its loop and its vertex, as `room_for_one` does.
+/// Makes the room of the number of a solid and of the numbers of its face, its loop and its vertex, as `room_for_one` does.
 #[inline(always)]
 pub(crate) fn room_for_solid(
     arena: &mut Arena,
@@ -129,7 +129,7 @@ fn room_for_op(arena: &mut Arena, op: &Op) -> Result<(), AllocError>
     }
 }
 
-/// The faces that an operator moves from one solid to another, where its inverse lists them.
+/// The faces that an operator moves from one solid to another, if its inverse lists them.
 fn faces_for(alloc: Global, arena: &Arena, op: &Op) -> Result<FaceList, AllocError>
     requires { IsReady arena.now }
     ensures listed { IfOk result (λ faces. faces ≡ faces_for arena.now.model op.now) }
@@ -144,8 +144,8 @@ fn faces_for(alloc: Global, arena: &Arena, op: &Op) -> Result<FaceList, AllocErr
 /// Makes all that `apply` needs for an operator that is accepted: the room of every number that it makes, and the list of
 /// the faces that a merge moves. After that neither `apply` nor `replay` takes memory.
 ///
-/// On `AllocError` the model is as it was, and no room is lost. It comes only where some number had no room, or where faces
-/// are listed.
+/// On `AllocError` the model is as it was, and no room is lost. An `AllocError` comes only if some number had no room, or if faces are
+/// listed.
 pub fn room_op(alloc: Global, arena: &mut Arena, op: &Op) -> Result<MovedFaces, AllocError>
     requires ready { IsReady arena.old }
     requires accepted { first_false arena.old.model op.now ≡ None }

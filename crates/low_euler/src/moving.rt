@@ -1,4 +1,4 @@
-//! The faces of a solid, met in the order of their numbers.
+//! The faces of a solid, in the order of their numbers.
 ghost use Rattle.std.specs.Prelude.{◌≡◌, [], IfOk, IsOk};
 ghost use Rattle.euler_operators.specs.Common.{faces_of};
 ghost use Rattle.euler_conditions.specs.Ready.{IsReady};
@@ -7,7 +7,7 @@ use euler_conditions::Arena;
 use euler_operators::FaceList;
 use std::alloc::{AllocError, Global};
 
-/// The faces of a solid, rising. It looks at these alone.
+/// The faces of a solid, in rising order. It looks at no other faces.
 pub(crate) fn faces_of(alloc: Global, arena: &Arena, solid: u32) -> Result<FaceList, AllocError>
     requires { IsReady arena.now }
     ensures listed { IfOk result (λ faces. faces ≡ faces_of arena.now.model solid) }

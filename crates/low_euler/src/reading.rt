@@ -1,4 +1,4 @@
-//! The corner after a half-edge, the vertex of a lone loop, and that a number in use has its room.
+//! The corner after a half-edge, the vertex of a lone loop, and the law that a number in use has its room.
 ghost use Rattle.std.specs.Prelude.{◌≡◌, true, nat_eq, cond};
 ghost use Rattle.euler_operators.specs.Common.{code, half, after, content, is_lone, lone_vertex};
 ghost use Rattle.euler_conditions.specs.Store.{has_number, has_room};
@@ -7,7 +7,7 @@ ghost use Rattle.euler_conditions.specs.Ready.{IsReady};
 use euler_conditions::{Arena, next, same};
 use euler_operators::{Content, Corner, HalfEdge, Kind};
 
-/// The corner at the item after a half-edge; that of the lone loop l where `end` comes next.
+/// The corner at the item after a half-edge. If that item is `end`, it is the corner of the lone loop l.
 pub(crate) fn corner_after(arena: &Arena, h: HalfEdge, end: HalfEdge, l: u32) -> Corner
     requires ready { IsReady arena.now }
     requires there { has_number arena.now Kind.Edge h.edge ≡ true }
@@ -33,7 +33,7 @@ pub(crate) fn lone_vertex(arena: &Arena, l: u32) -> u32
     }
 }
 
-/// A number in use has its room. It does nothing: its contract is what is proved.
+/// A number in use has its room. This function does nothing: its contract is what is proved.
 pub(crate) fn in_use(arena: &Arena, kind: Kind, number: u32)
     requires { has_number arena.now kind number ≡ true }
     ensures { has_room arena.now kind number ≡ true }

@@ -1,8 +1,7 @@
-//! The steps of which the operators are made: an edge that is made between two corners or killed, a half-edge that goes into a
-//! loop or leaves one, and tails that move round a vertex. None takes memory or fails, and each but the last costs the same in
-//! every model.
+//! The steps from which the operators are made: an edge is made between two corners, or killed; a half-edge goes into a loop, or leaves
+//! one; tails move round a vertex. None takes memory or fails, and each but the last costs the same in every model.
 //!
-//! A store between two steps isn't sound, so each step asks only for what it stands on.
+//! Between two steps a store isn't sound, so each step asks only for what it needs.
 
 mod corners;
 mod edges;

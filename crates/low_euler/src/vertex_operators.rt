@@ -1,6 +1,6 @@
-//! The Euler operators that make and kill vertices, in place on an arena: mvfs and kvfs, of a solid with its first
-//! vertex, and mev and kev, of an edge with the vertex at its far end. Each may be called where its conditions hold in a
-//! sound model and the numbers that it makes have their room.
+//! The Euler operators that make and kill vertices, in place on an arena: mvfs and kvfs for a solid with its first vertex, mev and kev for
+//! an edge with the vertex at its far end. Each may be called if its conditions hold in a sound model and the numbers that it makes have
+//! their room.
 
 mod edges;
 mod solids;

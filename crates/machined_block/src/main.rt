@@ -1,6 +1,6 @@
 #![tactic(auto)]
-//! Says what the blocks of `block_machining` measure. Each number is proved before it is written: a `prove!` that didn't hold would not compile. No
-//! command in it is refused: the only error is that memory is.
+//! Says what the blocks of `block_machining` measure. Each number is proved before it is written: if a `prove!` didn't hold, the program
+//! would not compile. No command in it is refused: the only possible error is refused memory.
 
 use block_machining::{bar, joined_again, measured, parted, three_blocks};
 use std::alloc::AllocError;
@@ -17,7 +17,7 @@ fn tell_blocks(rt: &HostRuntime) -> Result<(), AllocError> {
     Ok(())
 }
 
-/// Says how large the bar is, to which the first two are glued.
+/// Says how large the bar of the first two blocks is.
 fn tell_bar(rt: &HostRuntime) -> Result<(), AllocError> {
     let session = bar(rt.alloc())?;
     let volume = measured(&session, 1) / 6;
@@ -26,7 +26,7 @@ fn tell_bar(rt: &HostRuntime) -> Result<(), AllocError> {
     Ok(())
 }
 
-/// Says how large its parts are once it is cut, and that the third block is as large as it was.
+/// Says how large the parts of the bar are after it is cut, and that the third block is as large as it was.
 fn tell_parts(rt: &HostRuntime) -> Result<(), AllocError> {
     let session = parted(rt.alloc())?;
     let (near, far) = (measured(&session, 1) / 6, measured(&session, 2) / 6);
@@ -39,7 +39,7 @@ fn tell_parts(rt: &HostRuntime) -> Result<(), AllocError> {
     Ok(())
 }
 
-/// Says how large the bar is once the cut is taken back.
+/// Says how large the bar is after the cut is taken back.
 fn tell_undone(rt: &HostRuntime) -> Result<(), AllocError> {
     let session = joined_again(rt.alloc())?;
     let volume = measured(&session, 1) / 6;

@@ -6,6 +6,6 @@ use Rattle.undo_journal.specs.Machine.{Machine, held}
 use Rattle.undo_journal.specs.Histories.{made, after_call}
 use Rattle.plane_split.specs.Machine.{split, split_refusal}
 
--- where it isn't refused, it is the larger command of its operators
+-- a split that isn't refused is the larger command of its operators
 abbrev pub SplitsAreCalls : Type 0
 SplitsAreCalls = (m : Machine) (s : ℕ) (p : Plane) (t : ℕ) → Sound (held m) → split_refusal m s p t ≡ None → after_call m (made (split_ops (held m) s p t)) ≡ split m s p t

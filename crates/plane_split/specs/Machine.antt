@@ -10,7 +10,7 @@ use Rattle.undo_journal.specs.Machine.{Machine, held, accepted}
 abbrev pub plane_with : ℤ → ℤ → ℤ → ℤ → Plane
 plane_with a b c d = record { a = a; b = b; c = c; d = d }
 
--- solid s split by the plane p, its upper part the new solid t
+-- solid s split by the plane p; its upper part becomes the new solid t
 abbrev pub split_refusal : Machine → ℕ → Plane → ℕ → Option Refusal
 split_refusal m s p t = shapes.split_refusal (held m) s p t
 

@@ -21,7 +21,7 @@ use split_drawing::{Cuts, Sides, check_begin, none_noted};
 use std::alloc::Global;
 use undo_journal::{Draft, Failure, Session};
 
-/// The plane with these numbers.
+/// The plane with these coefficients.
 fn plane_of(a: i64, b: i64, c: i64, d: i64) -> Plane
     ensures { result ≡ plane_with a b c d }
 {
@@ -33,7 +33,7 @@ fn plane_of(a: i64, b: i64, c: i64, d: i64) -> Plane
     }
 }
 
-/// What the plane cuts of solid s, where it can begin to split s, whose upper part is to be solid `upper`; and if it can't why.
+/// What the plane cuts of solid s, if the split of s can begin, with `upper` as the number of its upper part; otherwise the refusal.
 fn admit(
     alloc: Global,
     arena: &Arena,
@@ -57,7 +57,7 @@ fn admit(
     }
 }
 
-/// A split as steps of a draft: as `split`, of the draft's model. On any failure the draft is as it was, and goes on.
+/// A split as steps of a draft, as `split` makes it, in the draft's model. On any failure the draft is as it was, and goes on.
 #[tactic(auto, using(undo_journal::proofs::Marks::further_none, undo_journal::proofs::Marks::further_back))]
 pub fn split_in(
     alloc: Global,
@@ -84,29 +84,31 @@ pub fn split_in(
     try_split(alloc, draft, s, &plane, upper, &cuts, &mut sides)
 }
 
-/// A split as one command: solid s keeps what is below the plane `a x + b y + c z + d = 0`, and what is above it, where that sum is
-/// positive, becomes solid `upper`. A face that lies wholly on the plane stays in s where its normal points along (a, b, c), else it
-/// goes to `upper`. Along the cycles of edges between the two, the edges of the section, both are closed by new faces: s keeps these
-/// edges and their vertices, and `upper` gets copies.
+/// A split as one command. Solid s keeps what is below the plane `a x + b y + c z + d = 0`. What is above it, where that sum is positive,
+/// becomes solid `upper`. A face that lies wholly on the plane stays in s if its normal points along (a, b, c); otherwise it goes to
+/// `upper`. The edges between the two parts, the edges of the section, form cycles. Along these cycles both parts are closed by new faces:
+/// s keeps these edges and their vertices, and `upper` gets copies.
 ///
-/// Refused, in this order: NumberRange with s, then `upper`; NoSolid with s; SolidTaken with `upper`; PlaneRange with 1 to 4 for the
-/// first of a, b, c and d that is out of range (1,000,000,000 either way, for d 3,000,000,000,000,000,000), or with 0 where a, b and c
-/// are zero; LoneLoop with the least lone loop of s; NotFlat with its least face that isn't flat; PlaneMisses with s where it has no
-/// vertex above the plane, or none below; NotLattice with the least edge that crosses the plane off the lattice; TouchedFace with the
-/// least face that straddles the plane and touches it at a corner that is no cut place; CutOften with the least of them whose outer loop
-/// has no cut place, or of which a ring has none while the face hasn't exactly two; CutCrossed with the least of them that has two cut
-/// places at one point, or, with the places in the order of their points, a pair that isn't one up and one down; NumbersSpent with 2, 3,
-/// 4 or 5 where no numbers are left for the faces, loops, edges or vertices that cutting the edges and the faces takes. And once that is
-/// done: CutCrossed with the first face between whose cut places edges can't be drawn; BranchedVertex with the least vertex at which
-/// more than two edges of the section meet; SectionHoles with s where one of its cycles is a hole and not exactly one is outer;
-/// NumbersSpent with 2, 3, 4 or 5 where no numbers are left for closing the two. The tests from PlaneMisses on take memory, and so do the
-/// steps: where it is refused `Memory` is answered, also in place of a refusal from PlaneMisses on. On any failure the session is as it
-/// was. An accepted split leaves one record. What holds after Ok of volumes and sides is said by `splits_are_held`.
+/// Refused, in this order: NumberRange with s, then `upper`; NoSolid with s; SolidTaken with `upper`; PlaneRange with 1 to 4 for the first
+/// of a, b, c and d that is out of range (1,000,000,000 either way, for d 3,000,000,000,000,000,000), or with 0 where a, b and c are zero;
+/// LoneLoop with the least lone loop of s; NotFlat with its least face that isn't flat; PlaneMisses with s, where s has no vertex above the
+/// plane, or none below it; NotLattice with the least edge that crosses the plane off the lattice; TouchedFace with the least face that
+/// straddles the plane and touches it at a corner that is no cut place; CutOften with the least straddling face whose outer loop has no cut
+/// place, or that has a ring without one and not exactly two cut places; CutCrossed with the least straddling face that has two cut places
+/// at one point, or in which, with the places in the order of their points, some pair isn't one up and one down; NumbersSpent with 2, 3, 4
+/// or 5, where no numbers are left for the faces, loops, edges or vertices that it takes to cut the edges and the faces. Once these are
+/// cut, it may still be refused, in this order: CutCrossed with the first face between whose cut places edges can't be drawn;
+/// BranchedVertex with the least vertex at which more than two edges of the section meet; SectionHoles with s, where one of its cycles is a
+/// hole and not exactly one is outer; NumbersSpent with 2, 3, 4 or 5, where no numbers are left for closing the two parts. The tests from
+/// PlaneMisses on take memory, and so do the steps. If memory is refused, the answer is `Memory`, even in place of a refusal from
+/// PlaneMisses on. On any failure the session is as it was. An accepted split leaves one record. `splits_are_held` says what holds after Ok
+/// of volumes and sides.
 ///
-/// The operators are those of M. Mäntylä, *An Introduction to Solid Modeling* (1988): one for each edge that crosses the plane, one for
-/// each pair of cut places of a face and one for each ring that goes with a new face; 3 n + 1 for each cycle of n edges, which cut
-/// strips off the faces above, raise copies of the vertices and make the strips two caps; two for each hole, whose caps become rings;
-/// and last the solid is parted. Cost: the tests', that of sorting the edges and the cut places, and that of each operator.
+/// The operators are those of M. Mäntylä, *An Introduction to Solid Modeling* (1988). There is one for each edge that crosses the plane,
+/// one for each pair of cut places of a face, and one for each ring that goes with a new face. For each cycle of n edges there are 3 n + 1,
+/// which cut strips off the faces above, raise copies of the vertices and make two caps of the strips. There are two for each hole, whose
+/// caps become rings. The last one parts the solid. The cost is that of the tests, of sorting the edges and the cut places, and of each
+/// operator.
 pub fn split(
     alloc: Global,
     session: Session,

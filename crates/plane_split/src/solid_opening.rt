@@ -1,4 +1,4 @@
-//! A solid opened along the cycles of its section and parted, operator by operator in a draft: the third rewriting of a split.
+//! The third rewriting of a split, operator by operator in a draft: a solid is opened along the cycles of its section, and parted.
 
 mod caps;
 mod copies;

@@ -19,8 +19,8 @@ use split_sections::{Section, check_later};
 use std::alloc::{AllocError, Global};
 use undo_journal::{Draft, Failure};
 
-/// Opens solid s along its section once its faces are drawn, and parts what is above the plane as solid `upper`. On `AllocError` some
-/// steps may be taken.
+/// Opens solid s along its section after its faces are drawn, and parts what is above the plane as solid `upper`. On `AllocError` the draft
+/// may have taken some steps.
 #[tactic(auto, using(undo_journal::proofs::Marks::further_on))]
 fn part_drawn(
     alloc: Global,
@@ -41,9 +41,9 @@ fn part_drawn(
     part_upper(alloc, draft, s, upper, above, caps.as_slice())
 }
 
-/// Splits solid s of the draft's model by the plane, where that can begin and these are its cuts: the edges that cross it are cut, the
-/// faces that straddle it are drawn, and then, where the solid can be opened along its section, what is above is parted as solid
-/// `upper`. It tells the refusal where it can't. On a refusal or `AllocError` some steps may be taken.
+/// Splits solid s of the draft's model by the plane, if that can begin and these are its cuts. It cuts the edges that cross the plane, and
+/// draws the faces that straddle it. Then, if the solid can be opened along its section, it parts what is above as solid `upper`; otherwise
+/// it answers the refusal. On a refusal or `AllocError` the draft may have taken some steps.
 #[tactic(auto, using(undo_journal::proofs::Marks::further_on))]
 fn take_steps(
     alloc: Global,
@@ -71,39 +71,16 @@ fn take_steps(
     Ok(Ok(()))
 }
 
-/// How many steps a split takes that makes these cuts, where each face has one pair of cut places, and the edges between these are all
-/// of its section and one cycle.
+/// How many steps a split with these cuts takes, if each face has one pair of cut places, and the edges between these are all edges of its
+/// section and form one cycle.
 fn usual_steps(cuts: &Cuts) -> usize {
     let edges = cuts.edges.len().min(NUMBER_LIMIT as usize);
     let faces = cuts.faces.len().min(NUMBER_LIMIT as usize);
     edges + 4 * faces + 2
 }
 
-/// Takes the steps of a split, with the memory to list as many as most splits take at once. On a refusal or `AllocError` some may be
-/// taken.
-fn carry_out(
-    alloc: Global,
-    draft: &mut Draft,
-    s: u32,
-    plane: &Plane,
-    upper: u32,
-    cuts: &Cuts,
-    sides: &mut Sides,
-) -> Result<Result<(), Refusal>, AllocError>
-    requires sound { Sound draft.old.model }
-    requires begins { CanBegin draft.old.model s plane.now upper }
-    requires cuts { AreCuts draft.old.model plane.now s cuts.now }
-    requires sides { AreSides draft.old.model plane.now sides.old }
-    ensures carried { IfOk result (λ carried. carried ≡ verdict (split_refusal draft.old.model s plane.now upper)) }
-    ensures model { (result ≡ Ok (Ok tt)) → (draft.new.model ≡ split_model draft.old.model s plane.now upper) }
-    ensures further { IsFurther draft.old draft.new }
-{
-    draft.reserve(usual_steps(cuts))?;
-    take_steps(alloc, draft, s, plane, upper, cuts, sides)
-}
-
-/// Splits solid s of the draft's model by the plane, where that can begin and these are its cuts. On a refusal or `Memory` the draft is as
-/// it was.
+/// Splits solid s of the draft's model by the plane, if that can begin and these are its cuts. First it asks for memory to list as many
+/// steps as most splits take. On a refusal or `Memory` the draft is as it was.
 #[tactic(auto, using(undo_journal::proofs::Marks::further_none, undo_journal::proofs::Marks::further_back, undo_journal::proofs::Marks::back_at_mark))]
 pub(crate) fn try_split(
     alloc: Global,
@@ -123,8 +100,11 @@ pub(crate) fn try_split(
     ensures further { IsFurther draft.old draft.new }
     ensures err { OnErr result (draft.new ≡ draft.old) }
 {
+    if let Err(error) = draft.reserve(usual_steps(cuts)) {
+        return Err(Failure::Memory(error));
+    }
     let mark = draft.mark();
-    match carry_out(alloc, draft, s, plane, upper, cuts, sides) {
+    match take_steps(alloc, draft, s, plane, upper, cuts, sides) {
         Ok(Ok(())) => Ok(()),
         Ok(Err(refusal)) => {
             draft.back_to(mark);

@@ -9,32 +9,32 @@ use Rattle.pool_rings.specs.Pools.{IsRingOf, StandsIn, ShareRing, HaveTwoRings}
 abbrev pub EachCodeHasItsRing : Type 0
 EachCodeHasItsRing = (m : RingMap) (c : ℕ) → IsPermutation m → IsLive m c → (xs : List ℕ) × StandsIn m c xs
 
--- and in one alone: two rings that share a code are one ring, read from two codes on
+-- it stands in only one: two rings that share a code are one ring, read from two codes on
 abbrev pub RingsAreRotations : Type 0
 RingsAreRotations = (m : RingMap) (c : ℕ) (xs ys : List ℕ) → StandsIn m c xs → StandsIn m c ys → IsRotation xs ys
 
--- so two live codes share a ring, which a splice cuts, or have two, which it joins
+-- so two live codes either share a ring, which a splice cuts, or have two rings, which it joins
 abbrev pub CodesShareOrHaveTwo : Type 0
 CodesShareOrHaveTwo = (m : RingMap) (a b : ℕ) → IsPermutation m → IsLive m a → IsLive m b → ShareRing m a b ⊎ HaveTwoRings m a b
 
--- one ring with both codes in it becomes two
+-- a ring that has both codes becomes two rings
 abbrev pub SplicedPoolsCut : Type 0
 SplicedPoolsCut = (m n : RingMap) (a b : ℕ) (xs : List ℕ) → Exchanged m n a b → IsApart xs → IsRingOf m xs → IsIn a xs → IsIn b xs → a ≢ b
     → IsRingOf n (cut_left a b xs) × IsRingOf n (cut_right a b xs)
 
--- two rings with a code in each become one
+-- two rings that have one of the codes each become one ring
 abbrev pub SplicedPoolsJoin : Type 0
 SplicedPoolsJoin = (m n : RingMap) (a b : ℕ) (xs ys : List ℕ) → Exchanged m n a b → IsApart (xs ++ ys) → IsRingOf m xs → IsRingOf m ys → IsIn a xs → IsIn b ys
     → IsRingOf n (joined a b xs ys)
 
--- a ring in which neither stands stays
+-- a ring in which neither code stands stays
 abbrev pub SplicedPoolsKeepOthers : Type 0
 SplicedPoolsKeepOthers = (m n : RingMap) (a b : ℕ) (xs : List ℕ) → Exchanged m n a b → count a xs ≡ 0 → count b xs ≡ 0 → IsRingOf m xs → IsRingOf n xs
 
--- where the two are one code, each code leads where it led
+-- if the two are one code, each code leads where it led before
 abbrev pub SplicedPoolsStay : Type 0
 SplicedPoolsStay = (m n : RingMap) (a : ℕ) → Exchanged m n a a → (c : ℕ) → next_of n c ≡ next_of m c
 
--- one code alone leads to another
+-- only one code leads to another
 abbrev pub PoolsLeadBack : Type 0
 PoolsLeadBack = (m : RingMap) (p q c : ℕ) → IsPermutation m → next_of m p ≡ Some c → next_of m q ≡ Some c → p ≡ q

@@ -4,7 +4,7 @@ use Rattle.raw_ring.specs.Rings.{RingMap, next_of, or_zero, IsLive}
 use Rattle.cyclic_list.specs.Items.{IsIn, IsApart}
 use Rattle.cyclic_list.specs.Rings.{IsRing}
 
--- the successor of a code; 0 where it isn't live
+-- the successor of a code, or 0 if the code isn't live
 abbrev pub leads : RingMap → ℕ → ℕ
 leads m c = or_zero (next_of m c)
 

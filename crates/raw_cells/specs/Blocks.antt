@@ -6,7 +6,7 @@ use Rattle.raw_cells.specs.declared.block.Base.{Base}
 use Rattle.raw_cells.specs.declared.block.Places.{Places}
 use Rattle.raw_cells.specs.declared.block.Deed.{Deed}
 
--- where there are places there is the right to free their block, and else there is none
+-- if there are places, there is the right to free their block; else there is no such right
 abbrev pub HasDeed : {X : Type 0} → Global → Ptr → List (Option X) → Option (Deed X Global) → Type 0
 HasDeed alloc at slots None = slots ≡ []
 HasDeed alloc at slots (Some deed) = (0 < length slots) × (deed.at ≡ at) × (deed.len ≡ length slots) × (deed.alloc ≡ alloc)

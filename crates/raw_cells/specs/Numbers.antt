@@ -17,7 +17,7 @@ abbrev pub IsNext : (ℕ → Bool) → ℕ → Option ℕ → Type 0
 IsNext used n None = (k : ℕ) → n < k → used k ≡ false
 IsNext used n (Some m) = (n < m) × (used m ≡ true) × ((k : ℕ) → n < k → k < m → used k ≡ false)
 
--- m is the greatest number in use, or 0 where no other is
+-- m is the greatest number in use, or 0 if no other number is in use
 pub record IsLast (used : ℕ → Bool) (m : ℕ) : Type 0 where
   pub here : m ≢ 0 → used m ≡ true
   pub above : (k : ℕ) → m < k → used k ≡ false
@@ -26,7 +26,7 @@ pub record IsLast (used : ℕ → Bool) (m : ℕ) : Type 0 where
 abbrev pub is_set : ℕ → ℕ → Bool
 is_set word k = nat_eq (bit_at word k) 1
 
--- word i, which is 0 past the last
+-- word i; it is 0 past the last word
 abbrev pub word_at : List ℕ → ℕ → ℕ
 word_at words i = slice_index_or words i 0
 
@@ -38,7 +38,7 @@ uses words n = is_set (word_at words (n / 64)) (n % 64)
 abbrev pub has_bits : List ℕ → ℕ → Bool
 has_bits words i = nat_lt 0 (word_at words i)
 
--- a summary's bits say which of 64 words have bits, and words come 32 at a time for the numbers up to 2,000,001
+-- the bits of a summary say which of 64 words have bits; words are added 32 at a time, for numbers up to 2,000,001
 pub record AreSummed (words summaries : List ℕ) : Type 0 where
   pub right : (i : ℕ) → uses summaries i ≡ has_bits words i
   pub room : length words ≤ length summaries * 64

@@ -1,4 +1,4 @@
--- What the parts of a block own and lend, at values of the row R.
+-- What the parts of a block own and lend, for values of the row R.
 use Rattle.std.specs.Prelude.{ℕ, List, [], ◌∷◌, Option}
 use base.Fml.{Lft, Fml, ftrue, ffalse}
 use mir.Syntax.{Ty}
@@ -8,7 +8,7 @@ use denote.RawPtr.{Ptr, block_ptr, null_ptr}
 use Rattle.circular_buffer.specs.Ownership as ring
 
 module _ (R : RattleType) where
-  -- each place that is filled owns its value, and each other one its room; nowhere there is no place
+  -- each place that is filled owns its value, and each empty one owns its memory; a pointer to nowhere has no place
   abbrev pub places_own : Ptr → List (Option R.Denot) → Fml
   places_own (block_ptr b o) cs = ring.cells_own R (block_ptr b o) cs
   places_own null_ptr [] = ftrue

@@ -2,7 +2,7 @@
 use Rattle.std.specs.Prelude.{◌≡◌, ℕ, suc, ◌*◌, ◌≤◌, Bool, true, false, cond, List, [], ◌∷◌, length, Option, None, is_some, slice_index_or}
 use Rattle.raw_cells.specs.Numbers.{uses}
 
--- row n, where there is one
+-- row n, if there is one
 abbrev pub row_at : {X : Type 0} → List (Option X) → ℕ → Option X
 row_at rows n = slice_index_or rows n None
 
@@ -15,7 +15,7 @@ abbrev pub rows_of : {X : Type 0} → (ℕ → Bool) → List (Option X) → Lis
 rows_of used [] = []
 rows_of used (x ∷ cells) = cond (used 0) x None ∷ rows_of (λ k. used (suc k)) cells
 
--- cells of which the first ones have their room, with the numbers in use among these, whose cells are written
+-- cells, the first of which are the room, and the numbers in use within the room, whose cells are written
 pub record AreCells {X : Type 0} (cells : List (Option X)) (words : List ℕ) (room : ℕ) : Type 0 where
   pub limit : room ≤ 2000002
   pub fits : room ≤ length cells

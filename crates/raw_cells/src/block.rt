@@ -29,7 +29,7 @@ impl<T> Clone for Base<T> {
 impl<T> Copy for Base<T> {}
 
 impl<T> Base<T> {
-    /// Nowhere.
+    /// A pointer to nowhere.
     pub(crate) fn null() -> Base<T>
         ensures { result.ptr ≡ null_ptr }
     {
@@ -89,7 +89,7 @@ pub(crate) fn allocate<T, A: Allocator>(
     }
 }
 
-/// Frees a block. What its places hold is forgotten, and so it has to be of a type whose values need no drop.
+/// Frees a block. What its places hold is forgotten, so it has to be of a type whose values need no drop.
 pub(crate) fn deallocate<T, A: Allocator>(
     alloc: &A,
     base: Base<T>,
@@ -121,7 +121,7 @@ impl<T> Places<T> {
         let Places { mark: _ } = self;
     }
 
-    /// Fills a place. What it held is forgotten, and so it has to be of a type whose values need no drop.
+    /// Fills a place. What it held is forgotten, so it has to be of a type whose values need no drop.
     pub(crate) fn write(&mut self, base: Base<T>, index: usize, item: T)
         requires { (base.ptr ≡ self.old.at) × (index < length self.old.slots) }
         ensures { (self.new.at ≡ self.old.at) × (self.new.slots ≡ slice_set self.old.slots index (Some item)) }

@@ -6,9 +6,9 @@ use std::alloc::{AllocError, Global};
 use std::marker::Model;
 use std_alloc::room::may_hold;
 
-/// A number of cells, from 0 on. A contract sees what each holds, which is `None` where it hasn't been written.
+/// A number of cells, counted from 0. A contract sees what each cell holds, which is `None` if it hasn't been written.
 ///
-/// A new cell is room alone: no memory is touched for it before it is written. Only `with_count` takes memory.
+/// A new cell is only reserved: its memory isn't touched before it is written. Only `with_count` takes memory.
 pub struct Cells<T: Copy> {
     alloc: Global,
     base: Base<T>,
@@ -43,7 +43,7 @@ impl<T: Copy> Cells<T> {
         }
     }
 
-    /// That many cells, one or more, which hold nothing. Its cost doesn't grow with their number.
+    /// That many cells, at least one, which hold nothing. The cost doesn't grow with their number.
     pub fn with_count(alloc: Global, count: usize) -> Result<Self, AllocError>
         requires { 0 < count }
         ensures { IfOk result (λ cells. cells ≡ replicate count None) }
@@ -61,7 +61,7 @@ impl<T: Copy> Cells<T> {
         })
     }
 
-    /// Where the cells have their memory from.
+    /// The allocator of the cells' memory.
     pub fn alloc(&self) -> Global {
         self.alloc
     }
@@ -73,7 +73,7 @@ impl<T: Copy> Cells<T> {
         self.count
     }
 
-    /// What the cell of this number holds, which has been written.
+    /// What the cell of this number holds. The cell has been written.
     pub fn get(&self, number: u32) -> T
         requires { IsSome (slice_index_or self.now number None) }
         ensures { slice_index_or self.now number None ≡ Some result }

@@ -1,7 +1,7 @@
 //! Numbers in use, as two levels of bits.
 //!
-//! A word has a bit for each of 64 numbers, and a summary a bit for each of 64 words, which says whether the word has one set. So
-//! a summary stands for 4,096 numbers. A search looks at a word, and walks over summaries alone, of which there are 489 at most.
+//! A word has a bit for each of 64 numbers. A summary has a bit for each of 64 words, which says whether the word has a bit set. So a summary stands
+//! for 4,096 numbers. A search looks at a word, and walks only over summaries, of which there are at most 489.
 ghost use Rattle.std.specs.Prelude.{◌≡◌, ℕ, ◌+◌, ◌*◌, ◌/◌, ◌<◌, ◌≤◌, ◌≢◌, true, false, cond, nat_eq, [], length, Some, OnOk, IfOk, IsOk};
 ghost use Rattle.raw_cells.specs.Numbers.{IsFirstIn, IsLastIn, IsLast, IsNext, AreSummed, is_set, word_at, uses, has_bits};
 
@@ -11,10 +11,10 @@ use std::marker::Model;
 /// How many bits a word has.
 const WORD: u32 = 64;
 
-/// How many words come at a time where there is to be more room, so that they are asked for seldom.
+/// How many words are added at a time, so that memory is seldom asked for.
 const STEP: u32 = 32;
 
-/// Numbers in use, up to 2,000,001. Each has its room before it comes into use.
+/// Numbers in use, up to 2,000,001. A number has room before it comes into use.
 ///
 /// A contract sees the words: bit k of word i says whether number 64 i + k is in use. Only `reach` and `copy` take memory.
 #[derive(Drop)]
@@ -63,7 +63,7 @@ impl Numbers {
         contains(&self.words, number)
     }
 
-    /// Whether the number is in use, which has its room. It doesn't ask how far the room reaches.
+    /// Whether the number is in use. There is room for it, and this isn't tested.
     #[inline(always)]
     pub fn contains_within(&self, number: u32) -> bool
         requires { number / 64 < length self.now }
@@ -72,7 +72,7 @@ impl Numbers {
         contains_within(&self.words, number)
     }
 
-    /// The number comes into use, which has its room. It writes one word, and a summary where the word was 0.
+    /// The number, for which there is room, comes into use. It writes one word, and also a summary if the word was 0.
     pub fn put(&mut self, number: u32)
         requires { number / 64 < length self.old }
         ensures uses { (q : ℕ) → uses self.new q ≡ cond (nat_eq q number) true (uses self.old q) }
@@ -81,7 +81,7 @@ impl Numbers {
         put(&mut self.words, &mut self.summaries, number);
     }
 
-    /// The number goes out of use, which has its room. It writes one word, and a summary where the word is 0 then.
+    /// The number, for which there is room, goes out of use. It writes one word, and also a summary if the word is 0 then.
     pub fn take(&mut self, number: u32)
         requires { number / 64 < length self.old }
         ensures uses { (q : ℕ) → uses self.new q ≡ cond (nat_eq q number) false (uses self.old q) }
@@ -90,21 +90,21 @@ impl Numbers {
         take(&mut self.words, &mut self.summaries, number);
     }
 
-    /// The least number in use above this one, or none. It looks at two words, and at the summaries from that of the number on.
+    /// The least number in use above this one, or none. It looks at two words, and at the summaries from that of this number on.
     pub fn after(&self, number: u32) -> Option<u32>
         ensures { IsNext (uses self.now) number result }
     {
         next(&self.words, &self.summaries, number)
     }
 
-    /// The greatest number in use, or 0 where none is. It looks at one word, and at the summaries from the last one down.
+    /// The greatest number in use, or 0 if there is none. It looks at one word, and at the summaries from the last one down.
     pub fn last(&self) -> u32
         ensures { IsLast (uses self.now) result }
     {
         last(&self.words, &self.summaries)
     }
 
-    /// Makes the room reach to the number. Where it does, this is one test, and no `Err` comes.
+    /// Makes the room reach to the number. If it does already, this is one test, and no `Err` comes.
     #[inline(always)]
     pub fn reach(&mut self, number: u32) -> Result<(), AllocError>
         requires { number ≤ 2000001 }
@@ -171,7 +171,7 @@ fn contains(words: &[u64], number: u32) -> bool
     }
 }
 
-/// Whether the number is in use, which has its word.
+/// Whether the number, which has its word, is in use.
 #[inline(always)]
 fn contains_within(words: &[u64], number: u32) -> bool
     requires { number / 64 < length words.now }
@@ -202,7 +202,7 @@ fn clear(words: &mut Vec<u64>, number: u32)
     words[i] &= !(1u64 << (number % WORD));
 }
 
-/// Sets the bit of the number, and that of its word where the word was 0.
+/// Sets the bit of the number, and that of its word if the word was 0.
 fn put(words: &mut Vec<u64>, summaries: &mut Vec<u64>, number: u32)
     requires room { number / 64 < length words.old.items }
     requires summed { AreSummed words.old.items summaries.old.items }
@@ -218,7 +218,7 @@ fn put(words: &mut Vec<u64>, summaries: &mut Vec<u64>, number: u32)
     }
 }
 
-/// Clears the bit of the number, and that of its word where the word is 0 then.
+/// Clears the bit of the number, and that of its word if the word is 0 then.
 fn take(words: &mut Vec<u64>, summaries: &mut Vec<u64>, number: u32)
     requires room { number / 64 < length words.old.items }
     requires summed { AreSummed words.old.items summaries.old.items }
@@ -261,7 +261,7 @@ fn last_in(words: &[u64]) -> Option<u32>
     None
 }
 
-/// The least number in use of the word of this index, which has bits.
+/// The least number in use in the word of this index, which has bits.
 fn first_of(words: &[u64], index: u32) -> u32
     requires there { has_bits words.now index ≡ true }
     requires limit { length words.now ≤ 31264 }
@@ -270,7 +270,7 @@ fn first_of(words: &[u64], index: u32) -> u32
     index * WORD + lowest(words[index as usize])
 }
 
-/// The greatest number in use of the word of this index, which has bits.
+/// The greatest number in use in the word of this index, which has bits.
 fn last_of(words: &[u64], index: u32) -> u32
     requires there { has_bits words.now index ≡ true }
     requires limit { length words.now ≤ 31264 }
@@ -279,7 +279,7 @@ fn last_of(words: &[u64], index: u32) -> u32
     index * WORD + highest(words[index as usize])
 }
 
-/// The least number in use above this one, of those of its word.
+/// The least number in use above this one in the same word.
 fn next_of(words: &[u64], number: u32) -> Option<u32>
     requires there { number / 64 < length words.now }
     requires limit { length words.now ≤ 31264 }
@@ -292,7 +292,7 @@ fn next_of(words: &[u64], number: u32) -> Option<u32>
     Some(number + 1 + lowest(above))
 }
 
-/// The index of the least word above this one that has bits. It looks at its summary and at those above it.
+/// The index of the least word above this one that has bits. It looks at this word's summary and at those above it.
 fn next_word(summaries: &[u64], index: u32) -> Option<u32>
     requires there { index / 64 < length summaries.now }
     requires limit { length summaries.now ≤ 489 }
@@ -305,8 +305,8 @@ fn next_word(summaries: &[u64], index: u32) -> Option<u32>
     Some(first_of(summaries, above))
 }
 
-/// The least number in use above this one. It looks at the word of the number, at its summary and those above it, and at the word that
-/// has it.
+/// The least number in use above this one. It looks at the word of this number, at its summary and those above it, and at the word that has the least
+/// number.
 fn next(words: &[u64], summaries: &[u64], number: u32) -> Option<u32>
     requires { AreSummed words.now summaries.now }
     ensures { IsNext (uses words.now) number result }
@@ -322,7 +322,7 @@ fn next(words: &[u64], summaries: &[u64], number: u32) -> Option<u32>
     Some(first_of(words, above))
 }
 
-/// The greatest number in use, or 0. It looks at the summaries from the last one down, and at the word that has it.
+/// The greatest number in use, or 0. It looks at the summaries from the last one down, and at the word that has that number.
 fn last(words: &[u64], summaries: &[u64]) -> u32
     requires { AreSummed words.now summaries.now }
     ensures { IsLast (uses words.now) result }
@@ -333,7 +333,7 @@ fn last(words: &[u64], summaries: &[u64]) -> u32
     }
 }
 
-/// Makes the words `count` at least.
+/// Makes the words at least `count`.
 fn reach(words: &mut Vec<u64>, count: u32) -> Result<(), AllocError>
     ensures same { (k : ℕ) → word_at words.new.items k ≡ word_at words.old.items k }
     ensures grows { length words.old.items ≤ length words.new.items }

@@ -8,10 +8,10 @@ use crate::numbers::Numbers;
 use std::alloc::{AllocError, Global};
 use std::marker::Model;
 
-/// Rows by number: the numbers in use, whose cells are rows, and how many numbers have their room.
+/// Rows by number: the numbers in use, whose cells are rows, and for how many numbers there is room.
 ///
-/// A contract sees the list of the rows that are there, one place for each number from 0 on. Only `reach` and `copy` take memory, and a
-/// cell isn't written before its number comes into use: so the first row of a great number costs no more than that of a small one.
+/// A contract sees the list of the rows that are there, one place for each number from 0 on. Only `reach` and `copy` take memory. A cell isn't
+/// written before its number comes into use, so the first row of a great number costs no more than that of a small one.
 #[derive(Drop)]
 pub struct Rows<T: Copy> {
     cells: Cells<T>,
@@ -44,7 +44,7 @@ impl<T: Copy> Rows<T> {
         }
     }
 
-    /// Rows that are equal, in memory of their own. Its cost is linear in the numbers that have their room.
+    /// Rows that are equal, in memory of their own. The cost is linear in the numbers for which there is room.
     pub fn copy(&self, alloc: Global) -> Result<Rows<T>, AllocError>
         ensures { IfOk result (λ copy. copy ≡ self.now) }
     {
@@ -74,7 +74,7 @@ impl<T: Copy> Rows<T> {
         }
     }
 
-    /// The row of this number, which has its room, if it is there. It doesn't ask how far the room reaches.
+    /// The row of this number, if it is there. There is room for the number, and this isn't tested.
     #[inline(always)]
     pub fn find_within(&self, number: u32) -> Option<T>
         requires { number < length self.now }
@@ -87,7 +87,7 @@ impl<T: Copy> Rows<T> {
         }
     }
 
-    /// Whether the row of this number, which has its room, is there. It doesn't ask how far the room reaches.
+    /// Whether the row of this number is there. There is room for the number, and this isn't tested.
     #[inline(always)]
     pub fn has_within(&self, number: u32) -> bool
         requires { number < length self.now }
@@ -103,21 +103,21 @@ impl<T: Copy> Rows<T> {
         self.used.contains(number)
     }
 
-    /// The greatest number that has a row, or 0 where none has. It looks for it as `Numbers::last` does.
+    /// The greatest number that has a row, or 0 if there is none. It is found as `Numbers::last` finds it.
     pub fn last(&self) -> u32
         ensures { IsLast (has_row self.now) result }
     {
         self.used.last()
     }
 
-    /// The least number above this one that has a row, or none. It looks for it as `Numbers::after` does.
+    /// The least number above this one that has a row, or none. It is found as `Numbers::after` finds it.
     pub fn after(&self, number: u32) -> Option<u32>
         ensures { IsNext (has_row self.now) number result }
     {
         self.used.after(number)
     }
 
-    /// The row of this number comes, or another one in its place. This is one step, and it walks over nothing.
+    /// Puts the row of this number, or replaces it. This is one step, and it walks over nothing.
     pub fn put(&mut self, number: u32, row: T)
         requires { number < length self.old }
         ensures rows { (q : ℕ) → row_at self.new q ≡ cond (nat_eq q number) (Some row) (row_at self.old q) }
@@ -127,7 +127,7 @@ impl<T: Copy> Rows<T> {
         self.used.put(number);
     }
 
-    /// The row of this number goes, if it is there. This is one step, and it walks over nothing.
+    /// Takes away the row of this number, if it is there. This is one step, and it walks over nothing.
     pub fn take(&mut self, number: u32)
         requires { number < length self.old }
         ensures rows { (q : ℕ) → row_at self.new q ≡ cond (nat_eq q number) None (row_at self.old q) }
@@ -136,7 +136,7 @@ impl<T: Copy> Rows<T> {
         self.used.take(number);
     }
 
-    /// Another row for this number, which has one. It writes the row alone, where `put` also notes that the number is in use.
+    /// Replaces the row of this number, which has one. It writes only the row; `put` also notes that the number is in use.
     pub fn set(&mut self, number: u32, row: T)
         requires { IsSome (row_at self.old number) }
         ensures rows { (q : ℕ) → row_at self.new q ≡ cond (nat_eq q number) (Some row) (row_at self.old q) }
@@ -145,21 +145,21 @@ impl<T: Copy> Rows<T> {
         self.cells.put(number, row);
     }
 
-    /// How many numbers have their room, from 0 on.
+    /// For how many numbers, from 0 on, there is room.
     pub fn len(&self) -> u32
         ensures { result ≡ length self.now }
     {
         self.room
     }
 
-    /// Whether the number, from 1 on, has its room.
+    /// Whether there is room for the number, which is at least 1.
     pub fn reaches(&self, number: u32) -> bool
         ensures { result ≡ nat_le 1 number && nat_le number (length self.now - 1) }
     {
         number != 0 && number < self.room
     }
 
-    /// Makes cells that stand beside the rows reach to the number. Each is written where there is a row, and stays as it is.
+    /// Makes cells that stand beside the rows reach to the number. The cell of each row is written, and stays as it is.
     pub fn reach_beside<U: Copy>(&self, cells: &mut Cells<U>, number: u32) -> Result<(), AllocError>
         requires limit { number ≤ 2000001 }
         requires fits { length self.now ≤ length cells.old }
@@ -172,7 +172,7 @@ impl<T: Copy> Rows<T> {
         widen(cells, &self.used, self.room, number)
     }
 
-    /// Makes the rows reach to the number. Where they do, this is one test, and no `Err` comes.
+    /// Makes the rows reach to the number. If they do already, this is one test, and no `Err` comes.
     #[inline(always)]
     pub fn reach(&mut self, number: u32) -> Result<(), AllocError>
         requires { number ≤ 2000001 }
@@ -236,7 +236,7 @@ fn move_on<T: Copy>(
     Ok(())
 }
 
-/// Cells of their own for the numbers that have their room, with what those of the numbers in use hold.
+/// New cells for the numbers for which there is room, with what the cells of the numbers in use hold.
 fn moved<T: Copy>(
     alloc: Global,
     cells: &Cells<T>,
@@ -256,7 +256,7 @@ fn moved<T: Copy>(
     Ok(copy)
 }
 
-/// Writes the cells of the numbers in use into others.
+/// Copies the cells of the numbers in use to others.
 fn copy_rows<T: Copy>(cells: &Cells<T>, used: &Numbers, room: u32, copy: &mut Cells<T>)
     requires fits { room ≤ length copy.old }
     requires written { (k : ℕ) → uses used.now k ≡ true → is_some (row_at cells.now k) ≡ true }
@@ -268,7 +268,7 @@ fn copy_rows<T: Copy>(cells: &Cells<T>, used: &Numbers, room: u32, copy: &mut Ce
     }
 }
 
-/// Writes the cell of the number into another one, where the number is in use.
+/// Copies the cell of the number to another one, if the number is in use.
 fn copy_row<T: Copy>(cells: &Cells<T>, used: &Numbers, number: u32, copy: &mut Cells<T>)
     requires room { number < length copy.old }
     requires written { uses used.now number ≡ true → is_some (row_at cells.now number) ≡ true }
@@ -281,8 +281,8 @@ fn copy_row<T: Copy>(cells: &Cells<T>, used: &Numbers, number: u32, copy: &mut C
     }
 }
 
-/// How many cells there are where this number has one. They are seldom more than needed by much, and where they are many they are all:
-/// cells that aren't written cost no memory, and those that are need not move again.
+/// How many cells there are once this number has one. They are seldom many more than needed. If many are needed, there are cells for all numbers:
+/// cells that aren't written cost no memory, and those that are written need not move again.
 fn count_for(number: u32) -> usize
     requires { number ≤ 2000001 }
     ensures { number < result }

@@ -1,4 +1,4 @@
--- The rows of codes, by three columns: where their nodes lie, their labels, and which of them are live.
+-- The rows of codes, in three columns: where their nodes lie, their labels, and which of them are live.
 use Rattle.std.specs.Prelude.{◌≡◌, ℕ, suc, ◌≤◌, Bool, true, false, List, [], ◌∷◌, length, Option, Some, None}
 use Rattle.raw_cells.specs.Rows.{row_at, has_row}
 use Rattle.raw_ring.specs.declared.node.NodePtr.{NodePtr}
@@ -22,7 +22,7 @@ abbrev pub joined : List (Option NodePtr) → (ℕ → ℕ × Bool) → List (Op
 joined [] m = []
 joined (place ∷ places) m = with_marks place (m 0) ∷ joined places (λ k. m (suc k))
 
--- each place has its label, and is noted to be live or not
+-- each place has its label, and a note whether it is live
 pub record AreJoined (places : List (Option NodePtr)) (labels : List (Option ℕ)) (lives : List (Option Bool)) : Type 0 where
   pub reach_labels : length places ≤ length labels
   pub reach_lives : length places ≤ length lives

@@ -1,9 +1,9 @@
--- What the calls of the table of codes say of a row.
+-- What the calls of the table of codes say about a row.
 use Rattle.std.specs.Prelude.{◌≡◌, ℕ, Bool, true, false, Option, Some, None}
 use Rattle.raw_ring.specs.declared.node.NodePtr.{NodePtr}
 use Rattle.raw_ring.specs.declared.row.Row.{Row}
 
--- there is a row, and its node lies there
+-- there is a row, and the node of its code lies there
 abbrev pub LiesAt : Option Row → NodePtr → Type 0
 LiesAt o at = (label : ℕ) × (live : Bool) × (o ≡ Some (record { at = at; label = label; live = live }))
 
@@ -11,7 +11,7 @@ LiesAt o at = (label : ℕ) × (live : Bool) × (o ≡ Some (record { at = at; l
 abbrev pub HasLabel : Option Row → ℕ → Type 0
 HasLabel o label = (at : NodePtr) × (live : Bool) × (o ≡ Some (record { at = at; label = label; live = live }))
 
--- the row with its code live and a label, asleep, and with another label
+-- the row with its code live and with a label, with its code asleep, and with another label
 abbrev pub woken : ℕ → Option Row → Option Row
 woken l None = None
 woken l (Some r) = Some (record { at = r.at; label = l; live = true })

@@ -1,4 +1,4 @@
--- What a contract sees of a walk round a ring: the pool, and the live code at which the walk is.
+-- What a contract sees of a walk round a ring: the pool, and the live code that the walk has reached.
 use Rattle.std.specs.Prelude.{◌≡◌, ℕ, true, List, Some, refl}
 use Rattle.std.specs.Coded.{Coded, code_by, coded×, coded_ℕ}
 use denote.RawPtr.{Ptr}

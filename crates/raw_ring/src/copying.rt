@@ -1,4 +1,4 @@
-//! A pool's copy, made by the pool's own calls: first each code in a ring of one, and then the rings.
+//! A pool's copy, made by the pool's own calls: first each code is in a ring of one, and then the rings are made.
 ghost use Rattle.std.specs.Prelude.{◌≡◌, ◌≤◌, None, true, IfOk, OnOk};
 ghost use Rattle.std.specs.FinMap as map;
 ghost use Rattle.raw_ring.specs.Rings.{IsLive};
@@ -10,7 +10,7 @@ use std::alloc::{AllocError, Global};
 impl Rings {
     /// A pool that has the same codes, rings, tails and labels, in nodes of its own. Its cost is linear in `code_bound`.
     ///
-    /// An `Err` comes only where memory is short. What was made of the copy is then freed.
+    /// An `Err` comes only if memory is refused. What was made of the copy is then freed.
     pub fn copy(&self, alloc: Global) -> Result<Rings, AllocError>
         ensures { IfOk result (λ copy. copy ≡ self.now) }
     {
@@ -32,7 +32,7 @@ impl Rings {
         Ok(copy)
     }
 
-    /// Makes a code known as it is in the other pool, a live one in a ring of one.
+    /// Makes a code known as it is in the other pool; if it is live, it is in a ring of one.
     fn copy_code(&mut self, from: &Rings, code: u32) -> Result<(), AllocError>
         requires small { code ≤ 2000001 }
         requires known { map.contains_key from.now code ≡ true }

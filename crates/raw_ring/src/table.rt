@@ -13,13 +13,14 @@ use std::marker::Model;
 /// The greatest code that may be known.
 const LAST_CODE: u32 = 2_000_001;
 
-/// How many codes get their room at a time, so that it is asked for seldom.
+/// How many codes get room at a time, so that memory is seldom asked for.
 const STEP: u32 = 64;
 
 /// The rows of the known codes.
 ///
-/// Where nodes lie, labels and what is live stand apart: so a row takes 13 bytes, and nothing is lost between its parts. All three of
-/// a code are written where it becomes known, which the places note alone, and a change is one write then. Only `reach` takes memory.
+/// The places of nodes, the labels, and which codes are live are kept apart: so a row takes 13 bytes, and nothing is lost between its parts. All
+/// three are written for a code when it becomes known, and only the places note that it is known, so that a change is one write. Only `reach` takes
+/// memory.
 #[derive(Drop)]
 pub(crate) struct Table {
     places: Rows<NodePtr>,
@@ -59,7 +60,7 @@ impl Table {
         self.places.has(code)
     }
 
-    /// How many codes have their room, from 0 on.
+    /// For how many codes, from 0 on, there is room.
     pub(crate) fn len(&self) -> u32
         ensures { result ≡ length self.now }
     {
@@ -87,7 +88,7 @@ impl Table {
         }
     }
 
-    /// Where the node of a code lies, which has a row.
+    /// Where the node of a code that has a row lies.
     pub(crate) fn place(&self, code: u32) -> NodePtr
         requires { IsSome (row_at self.now code) }
         ensures { LiesAt (row_at self.now code) result }
@@ -95,7 +96,7 @@ impl Table {
         self.places.known(code)
     }
 
-    /// The label of a code, which has a row.
+    /// The label of a code that has a row.
     pub(crate) fn label(&self, code: u32) -> u32
         requires { IsSome (row_at self.now code) }
         ensures { HasLabel (row_at self.now code) result }
@@ -103,7 +104,7 @@ impl Table {
         self.labels.get(code)
     }
 
-    /// A new code gets a row, in which it is asleep.
+    /// Gives a new code a row, in which it is asleep.
     pub(crate) fn add(&mut self, new_code: u32, at: NodePtr)
         requires room { new_code < length self.old }
         requires new { row_at self.old new_code ≡ None }
@@ -114,7 +115,7 @@ impl Table {
         self.places.put(new_code, at);
     }
 
-    /// A code that has a row is live then, with that label.
+    /// Makes a code that has a row live, with that label.
     pub(crate) fn wake(&mut self, code: u32, label: u32)
         requires { IsSome (row_at self.old code) }
         ensures { self.new ≡ set self.old code (woken label (row_at self.old code)) }
@@ -123,7 +124,7 @@ impl Table {
         self.lives.put(code, true);
     }
 
-    /// A code that has a row is asleep then.
+    /// Puts a code that has a row to sleep.
     pub(crate) fn sleep(&mut self, code: u32)
         requires { IsSome (row_at self.old code) }
         ensures { self.new ≡ set self.old code (asleep (row_at self.old code)) }
@@ -131,7 +132,7 @@ impl Table {
         self.lives.put(code, false);
     }
 
-    /// A code that has a row gets a label.
+    /// Gives a code that has a row a label.
     pub(crate) fn set_label(&mut self, code: u32, label: u32)
         requires { IsSome (row_at self.old code) }
         ensures { self.new ≡ set self.old code (set_label label (row_at self.old code)) }
@@ -139,7 +140,7 @@ impl Table {
         self.labels.put(code, label);
     }
 
-    /// Makes the rows reach to a code. Where they do, this is one test, and no `Err` comes.
+    /// Makes the rows reach to a code. If they do already, this is one test, and no `Err` comes.
     pub(crate) fn reach(&mut self, code: u32) -> Result<(), AllocError>
         requires { code ≤ 2000001 }
         ensures same { (q : ℕ) → row_at self.new q ≡ row_at self.old q }

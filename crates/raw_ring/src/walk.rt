@@ -7,7 +7,7 @@ use crate::nodes::Nodes;
 use crate::table::Table;
 use std::marker::Model;
 
-/// A place in a ring of a pool, from which it is walked round. It looks no code up.
+/// A place in a ring of a pool, from which a walk goes round it. It looks no code up.
 #[derive(Drop)]
 pub struct Walk<'a> {
     pub(crate) slots: &'a Table,
@@ -30,7 +30,7 @@ impl<'a> Model for Walk<'a> {
 }
 
 impl<'a> Walk<'a> {
-    /// Goes on to the successor of the code at this place, and tells it.
+    /// Goes on to the successor of the code at this place, and returns it.
     pub fn step(&mut self) -> u32
         ensures code { result ≡ self.new.code }
         ensures next { next_of self.old.rings self.old.code ≡ Some self.new.code }

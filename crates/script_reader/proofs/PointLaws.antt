@@ -1,8 +1,7 @@
 -- Points that are read one after the other.
-use Rattle.std.proofs.Common.{◌≡◌, ◌≢◌, ℕ, zero, suc, ◌-◌, ◌<◌, List, [], ◌∷◌, ◌++◌, length, Result, Ok, Err, refl, sym, ap, ◌∙◌, append_assoc, arith, append-nil, length-append}
+use Rattle.std.proofs.Common.{◌≡◌, ◌≢◌, ℕ, zero, suc, ◌-◌, ◌<◌, List, [], ◌∷◌, ◌++◌, length, Result, Ok, Err, refl, sym, ap, ◌∙◌, append_assoc, arith, length-append}
 use Rattle.euler_operators.specs.Common.{Point}
 use Rattle.script_reader.specs.declared.command.Fault.{Fault}
-use Rattle.script_reader.specs.declared.command.Fault.TheVariants.{ExtraWord}
 use Rattle.script_reader.specs.Places.{Word, ◌>>=◌, point_of, points_of}
 
 -- what was read before, and what is still read
@@ -29,23 +28,9 @@ ends front (w ∷ ws) f total lt some h so_far =
     let one : with_front front (points_of (64 - length front) (w ∷ ws)) ≡ Err f = rw (k, h) refl in
     sym so_far ∙ one
 
-pub is_full : (front : List Point) (ws : List Word) (total : Result (List Point × List Word) Fault) → length front ≡ 64 → ws ≢ []
-    → with_front front (points_of (64 - length front) ws) ≡ total → total ≡ Err ExtraWord
-is_full front [] total full some so_far = absurd (some refl)
-is_full front (w ∷ ws) total full some so_far =
-    let one : with_front front (points_of (64 - length front) (w ∷ ws)) ≡ Err ExtraWord = rw full refl in
-    sym so_far ∙ one
-
 pub no_words : (room : ℕ) → points_of room [] ≡ Ok ([], [])
 no_words zero = refl
 no_words (suc room) = refl
-
-with_none : (room : ℕ) (front : List Point) → with_front front (points_of room []) ≡ Ok (front, [])
-with_none room front = ap (with_front front) (no_words room) ∙ ap (λ (ps : List Point). Ok (ps, [])) (append-nil front)
-
-pub is_done : (front : List Point) (ws : List Word) (total : Result (List Point × List Word) Fault) → ws ≡ [] → with_front front (points_of (64 - length front) ws) ≡ total → total ≡ Ok (front, [])
-is_done front [] total none so_far = sym so_far ∙ with_none (64 - length front) front
-is_done front (w ∷ ws) total none so_far = absurd cc
 
 pub begins : (found : Result (List Point × List Word) Fault) → with_front [] found ≡ found
 begins (Ok x) = refl

@@ -8,7 +8,7 @@ pub record Holding : Type 0 where
   pub unread : List ℕ
   pub line : List ℕ
 
--- the first line was taken, or there is no whole line and nothing changed
+-- the first line was taken; or there is no whole line, and nothing changed
 abbrev pub TakesLine : Holding → Holding → Bool → Type 0
 TakesLine old new true = (old.unread ≡ new.line ++ 10 ∷ new.unread) × Lacks new.line
 TakesLine old new false = (new.unread ≡ old.unread) × Lacks old.unread

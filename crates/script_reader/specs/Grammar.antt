@@ -48,7 +48,7 @@ word_of name.Undo = codes "undo"
 word_of name.Redo = codes "redo"
 word_of name.List = codes "list"
 
--- what stands at the places after each command word
+-- the kinds of what follows each command word
 abbrev pub kinds_of : Name → List Kind
 kinds_of name.Mvfs = Number ∷ Number ∷ Number ∷ Number ∷ Place ∷ []
 kinds_of name.Kvfs = Number ∷ []
@@ -73,7 +73,7 @@ kinds_of name.Undo = []
 kinds_of name.Redo = []
 kinds_of name.List = []
 
--- what makes a request of the values at these places
+-- what makes a request from the values of these kinds
 abbrev pub Builder : List Kind → Type 0
 Builder [] = Request
 Builder (k ∷ ks) = Meaning k → Builder ks
@@ -91,7 +91,7 @@ ring_move way.Out l f = op.RingOut l f
 abbrev pub operator : Op → Request
 operator o = request.Give (command.Change (change.Act o))
 
--- what operators' words say, as what their line asks for
+-- what the words of an operator say, as a line asks for it
 abbrev pub asks : Result Op Fault → Result Request Fault
 asks (Ok o) = Ok (operator o)
 asks (Err f) = Err f
@@ -143,7 +143,7 @@ read_all [] c [] = Ok c
 read_all [] c (w ∷ ws) = Err ExtraWord
 read_all (k ∷ ks) make ws = read k ws >>= λ x. read_all ks (make x.0) x.1
 
--- no word is left; or one is, and whatever the line asks for, that is its fault
+-- no word is left; or a word is left, and then this is the fault of the line, whatever it asks for
 abbrev pub Ends : List Word → Result (Unit {0}) Fault → Type 0
 Ends ws (Ok x) = ws ≡ []
 Ends ws (Err e) = (c : Request) → read_all [] c ws ≡ Err e
@@ -159,7 +159,7 @@ abbrev pub is_comment : Word → Bool
 is_comment [] = false
 is_comment (c ∷ cs) = c == 35
 
--- what a line begins with: nothing that asks for something, a word that is no command's, or a command's name before these words
+-- how a line begins: with nothing to ask for, with a word that names no command, or with the name of a command, followed by these words
 abbrev pub named : Option Name → List Word → Opening
 named None ws = opening.BadWord
 named (Some n) ws = opening.Command n ws
@@ -168,7 +168,7 @@ abbrev pub opening_of : List Word → Opening
 opening_of [] = opening.Nothing
 opening_of (word ∷ ws) = if is_comment word then opening.Nothing else named (name_of word) ws
 
--- what a line asks for that begins so
+-- what a line with this beginning asks for
 abbrev pub opened : Opening → Result Request Fault
 opened opening.Nothing = Ok request.Nothing
 opened opening.BadWord = Err BadWord
@@ -181,6 +181,6 @@ abbrev pub is_ascii : List ℕ → Bool
 is_ascii [] = true
 is_ascii (b ∷ line) = nat_lt b 128 && is_ascii line
 
--- what a line asks for, which is given without its newline, or its first fault
+-- what a line, given without its newline, asks for, or its first fault
 abbrev pub request_of : List ℕ → Result Request Fault
 request_of line = if nat_lt 65536 (length line) then Err LongLine else (if is_ascii line then request_of_words (words line) else Err NotAscii)

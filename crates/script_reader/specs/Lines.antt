@@ -1,4 +1,4 @@
--- What the lines of a script are, and what was read for them.
+-- The lines of a script, and what was read for them.
 use Rattle.std.specs.Prelude.{◌≡◌, ◌⊎◌, ℕ, Bool, ◌+◌, ◌-◌, ◌<◌, ◌≤◌, List, [], ◌∷◌, ◌++◌, length, take, Option, true, false, if◌then◌else◌, ◌==◌}
 use Rattle.std.specs.List.{onto_first}
 use Rattle.std.specs.Io.KnownBytes.{Consumes}
@@ -19,22 +19,22 @@ abbrev pub with_newlines : List (List ℕ) → List ℕ
 with_newlines [] = []
 with_newlines (line ∷ lines) = line ++ 10 ∷ with_newlines lines
 
--- the bytes that a script of the limit has room for, where so many were read before
+-- those of the given bytes that are within the limit of a script, when so many were read before them
 unfoldable pub within_limit : ℕ → List ℕ → List ℕ
 within_limit taken given = take (67108864 - taken) given
 
--- the reader gave bytes, which are counted, and those within the limit stand after the unread ones
+-- the reader gave bytes, which are counted; those within the limit are appended to the unread ones
 pub record Reads (before after : Option (List ℕ)) (taken count : ℕ) (old new : List ℕ) : Type 0 where
   pub given : List ℕ
   pub consumed : Consumes before after given
   pub counted : count ≡ taken + length given
   pub text : new ≡ old ++ within_limit taken given
 
--- the first line of a text, and what follows its newline; or the last line, which has none, where no more comes
+-- the first line of a text, and what follows its newline; or, if no more comes, the last line, which has no newline
 abbrev pub FirstLine : Ending → List ℕ → List ℕ → List ℕ → Type 0
 FirstLine ending text line rest = Lacks line × ((text ≡ line ++ 10 ∷ rest) ⊎ ((text ≡ line) × (rest ≡ []) × (0 < length line) × (ending ≡ Ended)))
 
--- what is found in a text, of which rest is left, with the line where one was found
+-- what is found in a text, the line if one was found, and the rest of the text
 abbrev pub Answers : Found → Ending → List ℕ → List ℕ → List ℕ → Type 0
 Answers found.Line ending text line rest = FirstLine ending text line rest × (length line ≤ 65536)
 Answers found.Long ending text line rest = (long : List ℕ) × FirstLine ending text long rest × (65536 < length long)
@@ -42,14 +42,14 @@ Answers found.End ending text line rest = (text ≡ []) × (rest ≡ []) × (end
 Answers found.Read ending text line rest = Lacks text × Lacks rest × (ending ≡ Failed)
 Answers found.TooLong ending text line rest = Lacks text × Lacks rest × (ending ≡ Over)
 
--- the reader gave bytes, and the answer is right for them and the bytes unread before
+-- the reader gave bytes; the answer is right for the unread bytes from before and these bytes after them
 pub record Advances (before after : Option (List ℕ)) (taken count : ℕ) (unread : List ℕ) (line rest : List ℕ) (ending : Ending) (answer : Found) : Type 0 where
   pub given : List ℕ
   pub consumed : Consumes before after given
   pub counted : count ≡ taken + length given
   pub answered : Answers answer ending (unread ++ within_limit taken given) line rest
 
--- after the last newline
+-- the answer for what stands after the last newline
 abbrev pub LastAnswer : Holding → Holding → Ending → Bool → Found → Type 0
 LastAnswer old new Open is_long answer = ⊥
 LastAnswer old new Failed is_long answer = (answer ≡ found.Read) × (new.unread ≡ old.unread)

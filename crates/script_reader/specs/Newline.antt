@@ -10,7 +10,7 @@ abbrev pub has_newline : List ℕ → Bool
 has_newline [] = false
 has_newline (b ∷ bs) = b == 10 || has_newline bs
 
--- the index is that of the first newline from start on, or the end where none comes before it
+-- the index is that of the first newline from `start` on, or `end` if none comes before it
 pub record FirstNewline (bytes : List ℕ) (start end at : ℕ) : Type 0 where
   pub low : start ≤ at
   pub high : at ≤ end

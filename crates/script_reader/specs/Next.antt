@@ -25,7 +25,7 @@ Shows next.End line = ⊤
 Shows next.Read line = ⊤
 Shows next.TooLong line = ⊤
 
--- How far a call went. The end is the reader's, and where the answer was there nothing is read.
+-- How far a call went. If it finds the end, the reader gave its end; if the answer was there before the call, nothing is read.
 pub record Went {R : Type 0} (remaining : R → Option (List ℕ)) (old new : Lines R) (answer : Found) : Type 0 where
   pub advances : Advances (remaining (reader_of old)) (remaining (reader_of new)) (taken_of old) (taken_of new) (unread_of old) (line_of new) (unread_of new) (ending_of new) answer
   pub end : ending_of old ≡ Open → ending_of new ≡ Ended → IsAtEnd (remaining (reader_of new))

@@ -12,11 +12,11 @@ abbrev pub all_digits : List ℕ → Bool
 all_digits [] = true
 all_digits (c ∷ cs) = is_ascii_digit c && all_digits cs
 
--- digits alone, of a value below the limit
+-- all are digits, and their value is below the limit
 abbrev pub small_value : ℕ → List ℕ → Option ℕ
 small_value limit cs = if all_digits cs && nat_lt (value_after 0 cs) limit then Some (value_after 0 cs) else None
 
--- one digit or more, of a value below the limit
+-- there is at least one digit, all are digits, and their value is below the limit
 abbrev pub below : ℕ → List ℕ → Option ℕ
 below limit [] = None
 below limit (c ∷ cs) = small_value limit (c ∷ cs)
@@ -38,7 +38,7 @@ abbrev pub integer_of : List ℕ → Option ℤ
 integer_of [] = None
 integer_of (c ∷ cs) = if c == 45 then option_and_then negative (magnitude cs) else option_and_then not_negative (magnitude (c ∷ cs))
 
--- the value of the digits up to the next separator, after those of n, where it stays below the limit, and what follows them
+-- the value of the digits up to the next separator, continuing from n, if it stays below the limit, and what follows these digits
 abbrev pub digits_after : ℕ → ℕ → List ℕ → Option (ℕ × List ℕ)
 digits_after limit n [] = Some (n, [])
 digits_after limit n (c ∷ cs) = if is_space c then Some (n, c ∷ cs) else (if is_ascii_digit c && nat_lt (n * 10 + (c - 48)) limit then digits_after limit (n * 10 + (c - 48)) cs else None)

@@ -55,7 +55,7 @@ abbrev pub ◌>>=◌ : {A B : Type 0} → Result A Fault → (A → Result B Fau
 (Ok x) >>= f = f x
 (Err e) >>= f = Err e
 
--- what a word says and the words after it, or this fault where it can't be read
+-- what a word says and the words after it, or this fault if the word can't be read
 abbrev pub said : {A : Type 0} → Fault → Option A → List Word → Result (A × List Word) Fault
 said fault (Some x) rest = Ok (x, rest)
 said fault None rest = Err fault
@@ -72,7 +72,7 @@ point_of ws = do
   z ← next_of BadNumber integer_of y.1
   Ok (record { x = x.0; y = y.0; z = z.0 }, z.1)
 
--- as many points as there are words for, and no more than room
+-- as many points as there are words for, but no more than `room`
 abbrev pub points_of : ℕ → List Word → Result (List Point × List Word) Fault
 points_of room [] = Ok ([], [])
 points_of zero (w ∷ ws) = Err ExtraWord
@@ -90,7 +90,7 @@ read Place ws = point_of ws
 read Places ws = points_of 64 ws
 read InOrOut ws = next_of BadWord way_of ws
 
--- what a function returned, seen by view, is what reading gives
+-- what a function returned is, under `view`, what reading gives
 abbrev pub Agrees : {X Y : Type 0} → (X → Y) → Result X Fault → Result Y Fault → Type 0
 Agrees view (Ok x) found = found ≡ Ok (view x)
 Agrees view (Err e) found = found ≡ Err e

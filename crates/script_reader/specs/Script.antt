@@ -1,4 +1,4 @@
--- The lines of a script, in order, whatever the pieces in which its reader gives the bytes.
+-- The lines of a script, in order. They don't depend on the pieces in which the reader gives the bytes.
 use Rattle.std.specs.Prelude.{◌≡◌, ◌≤◌, ◌+◌, ◌-◌, ℕ, List, [], ◌++◌, length, Option}
 use Rattle.std.specs.Io.KnownBytes.{Consumes, IsAtEnd}
 use Rattle.script_reader.specs.Newline.{Lacks}
@@ -10,7 +10,7 @@ use Rattle.script_reader.specs.declared.lines.Found.{Found}
 use Rattle.script_reader.specs.declared.lines.Found.TheVariants as found
 use Rattle.script_reader.specs.declared.lines.Lines.{Lines}
 
--- The reader gave bytes. Whatever still comes, their lines are those that were heard, and those of the bytes that are in no line yet.
+-- The reader gave bytes. Whatever still comes, the lines of all bytes are those that were heard, and then those of the bytes that are in no line yet.
 pub record Reading (first now : Option (List ℕ)) (taken : ℕ) (unread : List ℕ) (ending : Ending) (heard : List (List ℕ)) : Type 0 where
   pub given : List ℕ
   pub consumed : Consumes first now given
@@ -30,7 +30,7 @@ pub record IsReadOut (first last : Option (List ℕ)) (heard : List (List ℕ)) 
   pub within : length given ≤ 67108864
   pub end : IsAtEnd last
 
--- the reading ended after a newline or within a line, which wasn't heard; those that were heard have their newlines
+-- the reading ended after a newline or within a line, which wasn't heard; each line that was heard has its newline
 pub record BreaksOff (first last : Option (List ℕ)) (heard : List (List ℕ)) (answer : Found) : Type 0 where
   pub given : List ℕ
   pub consumed : Consumes first last given
@@ -40,6 +40,6 @@ pub record BreaksOff (first last : Option (List ℕ)) (heard : List (List ℕ)) 
   pub lines : lines_of (within_limit 0 given) ≡ heard ++ lines_of rest
   pub too_long : answer ≡ found.TooLong → length given ≡ 67108865
 
--- how many bytes may still come to a line
+-- how many bytes may still become part of a line
 abbrev pub to_come : ℕ → List ℕ → ℕ
 to_come taken unread = 67108865 - taken + length unread

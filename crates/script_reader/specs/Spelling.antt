@@ -1,4 +1,4 @@
--- Which words spell a command, and which fault a line has, apart from how a line is read.
+-- Which words spell a command, and which fault a line has. How a line is read is no part of this.
 use Rattle.std.specs.Prelude.{◌≡◌, ◌≢◌, ◌⊎◌, ◌<◌, ◌≤◌, ◌^◌, ℕ, zero, suc, Bool, true, false, List, [], ◌∷◌, ◌++◌, codes, length, ℤ, pos, neg_ℤ}
 use Rattle.std.specs.Str.Parse.{IsNumeral, digits_value}
 use Rattle.euler_operators.specs.Common.{Point, HalfEdge, Corner, At, Lone}
@@ -32,7 +32,7 @@ abbrev pub IsAtGap : List ℕ → Type 0
 IsAtGap [] = Unit {0}
 IsAtGap (b ∷ bs) = IsSeparator b
 
--- these words, with separators before, between and after them
+-- the line is these words, with separators between them, and maybe before and after them
 abbrev pub IsParted : List Word → List ℕ → Type 0
 IsParted [] line = IsGap line
 IsParted (w ∷ ws) line = (gap : List ℕ) × (rest : List ℕ) × (line ≡ gap ++ (w ++ rest)) × IsGap gap × (0 < length w) × HasNoGap w × IsAtGap rest × IsParted ws rest
@@ -67,7 +67,7 @@ SaysWay w Out = w ≡ codes "out"
 
 -- ---- one place
 
--- the words begin with a word that says this, and go on with the rest
+-- the words begin with one that says this, and the rest follows it
 abbrev pub Begins : {A : Type 0} → (Word → A → Type 0) → List Word → A → List Word → Type 0
 Begins says [] x rest = ⊥
 Begins says (w ∷ ws) x rest = says w x × (rest ≡ ws)
@@ -80,7 +80,7 @@ abbrev pub ArePoints : List Point → List Word → Type 0
 ArePoints [] ws = ws ≡ []
 ArePoints (p ∷ ps) ws = (us : List Word) × BeginsPlace ws p us × ArePoints ps us
 
--- the words begin with words that mean this at a place of this kind, and go on with the rest
+-- the words begin with those that mean this at a place of this kind, and the rest follows them
 abbrev pub Means : (k : Kind) → List Word → Meaning k → List Word → Type 0
 Means Number ws n rest = Begins SaysNumber ws n rest
 Means Integer ws z rest = Begins SaysInteger ws z rest
@@ -103,7 +103,7 @@ FailsPlace ws fault = FailsWord BadNumber SaysInteger ws fault
     ⊎ ((x : ℤ) × (us : List Word) × Begins SaysInteger ws x us × (FailsWord BadNumber SaysInteger us fault
     ⊎ ((y : ℤ) × (vs : List Word) × Begins SaysInteger us y vs × FailsWord BadNumber SaysInteger vs fault)))
 
--- a word is there where there is room for no further point, or a point isn't whole
+-- a word comes after the last point for which there is room, or a point isn't complete
 abbrev pub FailsPoints : ℕ → List Word → Fault → Type 0
 FailsPoints room [] fault = ⊥
 FailsPoints zero (w ∷ ws) fault = fault ≡ ExtraWord

@@ -25,7 +25,7 @@ line_of lines = lines.buffer.line
 abbrev pub ending_of : {R : Type 0} → Lines R → Ending
 ending_of lines = lines.ending
 
--- no read is needed where the ending is known or a newline is there
+-- no read is needed: the ending is known, or a newline is there
 abbrev pub is_ready : Ending → List ℕ → Bool
 is_ready Open unread = has_newline unread
 is_ready Ended unread = true

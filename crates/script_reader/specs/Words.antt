@@ -6,12 +6,12 @@ use Rattle.std.specs.List.{position_or_len, onto_first}
 abbrev pub is_space : ℕ → Bool
 is_space b = b == 32 || b == 9 || b == 13
 
--- a byte of a word belongs to the first word after it where no separator comes between, and else is a word of its own
+-- a byte of a word belongs to the first word after it if no separator comes between; else it is a word of its own
 abbrev pub joined : ℕ → List ℕ → List (List ℕ) → List (List ℕ)
 joined b [] others = (b ∷ []) ∷ others
 joined b (c ∷ line) others = if is_space c then (b ∷ []) ∷ others else onto_first b others
 
--- the runs of bytes that are no separator, as long as can be
+-- the longest runs of bytes without a separator
 abbrev pub words : List ℕ → List (List ℕ)
 words [] = []
 words (b ∷ line) = if is_space b then words line else joined b line (words line)
@@ -21,7 +21,7 @@ abbrev pub IsAtWord : List ℕ → Type 0
 IsAtWord [] = ⊤
 IsAtWord (b ∷ line) = is_space b ≡ false
 
--- how many bytes that are none stand at the front
+-- how many bytes stand before the first separator
 abbrev pub word_len : List ℕ → ℕ
 word_len line = position_or_len is_space line
 

@@ -153,7 +153,7 @@ impl Buffer {
     }
 }
 
-/// Moves a range to the front, so that each byte is moved once however small the reads are.
+/// Moves a range to the front, so that each byte is moved once, even if reads are small.
 fn shift(bytes: &mut [u8], start: usize, end: usize)
     requires low { start ≤ end }
     requires high { end ≤ length bytes.old }
@@ -207,7 +207,7 @@ fn newline_in(bytes: &[u8], start: usize, end: usize) -> usize
     }
 }
 
-/// The same as a call.
+/// The same search, as a call.
 #[inline(never)]
 fn far_newline(bytes: &[u8], start: usize, end: usize) -> usize
     requires low { start ≤ end }
@@ -217,7 +217,7 @@ fn far_newline(bytes: &[u8], start: usize, end: usize) -> usize
     newline_in(bytes, start, end)
 }
 
-/// The same, where the newline is likely to be near: a search of so few bytes is a few instructions, and no call.
+/// The same search for a newline that is likely to be near: so few bytes are searched by a few instructions, without a call.
 #[inline(always)]
 fn first_newline(bytes: &[u8], start: usize, end: usize) -> usize
     requires low { start ≤ end }

@@ -5,14 +5,14 @@ ghost use Rattle.script_reader.specs.Fault.{code_of};
 use super::polygon::{Outline, Polygon};
 use commands::Command;
 
-/// What a line of a script asks for. Numbers may be outside their ranges; who carries the command out tests them.
+/// What a line of a script asks for. Numbers may be outside their ranges; they are tested when the command is carried out.
 #[derive(Drop)]
 pub enum Request<'a> {
     /// A blank line or a comment asks for nothing.
     Nothing,
     /// The listing of the model held.
     List,
-    /// A change over points, which stay words of the line till it is made.
+    /// A change over points. The points stay words of the line until the change is made.
     Over(Outline, Polygon<'a>),
     /// Any other command.
     Give(Command<'a>),
@@ -21,7 +21,7 @@ pub enum Request<'a> {
 /// Why a line is no command.
 #[derive(Clone, Copy, Debug, PartialEq, Eq)]
 pub enum Fault {
-    /// The command word, or the last word of `ringmv`, is none that the script knows.
+    /// The script has no such command word, or the last word of `ringmv` is neither `in` nor `out`.
     BadWord,
     /// A word can't be read as what stands at its place: a number, a half-edge, a corner.
     BadNumber,

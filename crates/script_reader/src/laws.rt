@@ -24,7 +24,7 @@ pub fn lines_and_words_are_parts()
     ensures words { (line : List ℕ) (ws : List (List ℕ)) → (words line ≡ ws) ↔ IsParted ws line }
 {}
 
-/// Each answer is the next line of the bytes, whatever the pieces in which the reader gives them.
+/// Each answer is the next line of the bytes, in whatever pieces the reader gives them.
 pub fn lines_come_in_order<R: Read>()
     ensures begun { (reader : R) (lines : Lines R) → IsFresh reader lines → HasRead R.remaining (R.remaining reader) lines [] }
     ensures line { (first : Option (List ℕ)) (old new : Lines R) (heard : List (List ℕ))
@@ -49,14 +49,14 @@ pub fn lines_come_in_order<R: Read>()
         → BreaksOff first (R.remaining (reader_of new)) heard found.TooLong }
 {}
 
-/// After the end, a failed read or a script that is too long the answer stays, and nothing is read.
+/// After the end, a failed read or a script that is too long, the answer stays the same, and nothing is read.
 pub fn the_end_stays<R: Read>()
     ensures { (old mid new : Lines R) (answer again : Found)
         → Went R.remaining old mid answer → IsLast answer → Went R.remaining mid new again
         → (again ≡ answer) × IsStill mid new }
 {}
 
-/// What is read is spelled so, and what is spelled so is read. A fault has its cause, the first from the left.
+/// If a line is read as a command, it spells this command, and the reverse. A fault has its cause, the first from the left.
 pub fn reading_is_spelling()
     ensures command { (line : List ℕ) (c : Request) → (request_of line ≡ Ok c) ↔ LineSpells line c }
     ensures fault { (line : List ℕ) (f : Fault) → (request_of line ≡ Err f) ↔ LineMisspells line f }

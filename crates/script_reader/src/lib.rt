@@ -1,13 +1,13 @@
 #![tactic(auto)]
-//! Reads a script: its bytes as lines, and a line as what it asks for, mostly a command, or as a fault.
+//! Reads a script: its bytes as lines, and each line as what it asks for, which is mostly a command, or as a fault.
 //!
 //! Each function of `laws` does nothing: its contract is a law of the lines or of the grammar.
 //!
 //! # What is proved
 //!
-//! `read_line` is the grammar of the script, for every command word; what is read is spelled so and the other way, and each fault
-//! has its cause, the first from the left. `Lines` gives the lines of the bytes read, for every way in which a reader cuts them.
-//! A read that a signal interrupts is tried again, at most 1,000,000 times in a row.
+//! `read_line` is the grammar of the script, for every command word: a line is read as a command exactly if it spells that command, and each fault
+//! has its cause, the first from the left. `Lines` gives the lines of the bytes read, in whatever pieces the reader gives them. A read that a signal
+//! interrupts is tried again, at most 1,000,000 times in a row.
 
 mod buffer;
 mod command;

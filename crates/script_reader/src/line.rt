@@ -17,18 +17,18 @@ fn is_comment(word: &[u8]) -> bool
     matches!(word, [b'#', ..])
 }
 
-/// What the words of a line begin with.
+/// How the words of a line begin.
 #[derive(Drop)]
 pub enum Opening<'a> {
     /// No word, or a comment: the line asks for nothing.
     Nothing,
-    /// A word that is no command's.
+    /// A word that names no command.
     BadWord,
     /// A command's name, and the words that follow it.
     Command(Name, Words<'a>),
 }
 
-/// The name of an operator that is given often, where a line begins with it and a space, and what follows them. They are known by their letters.
+/// If a line begins with the name of an operator that is given often, and a space: the name, known by its letters, and what follows it.
 fn quick_name(line: &[u8]) -> Option<(Name, &[u8])>
     ensures { MatchOption result ⊤ (λ r. opening_of (words line.now) ≡ opening.Command r.0 (words r.1.now)) }
 {
@@ -41,7 +41,7 @@ fn quick_name(line: &[u8]) -> Option<(Name, &[u8])>
     }
 }
 
-/// What the words of a line begin with, whatever its length and its other bytes.
+/// How the words of a line begin, whatever the line's length and its other bytes.
 #[inline(always)]
 pub fn opening_of(line: &[u8]) -> Opening<'_>
     ensures { result ≡ opening_of (words line.now) }
@@ -61,8 +61,8 @@ pub fn opening_of(line: &[u8]) -> Opening<'_>
     }
 }
 
-/// What the words of a line say, whatever its length and its other bytes. A request for something is what `read_line` says of a line within
-/// the limit, since each of its bytes belongs to a word that was read, or separates two.
+/// What the words of a line say, whatever the line's length and its other bytes. If they ask for something and the line is within the limit,
+/// `read_line` says the same, since each byte of the line belongs to a word that was read, or separates two words.
 pub fn read_words(line: &[u8]) -> Result<Request<'_>, Fault>
     ensures { result ≡ request_of_words (words line.now) }
 {
@@ -89,7 +89,7 @@ pub fn is_ascii(line: &[u8]) -> bool
     line.is_ascii()
 }
 
-/// What a line asks for, which is given without its newline, or the line's first fault. It takes no memory.
+/// What a line, given without its newline, asks for, or the line's first fault. It takes no memory.
 pub fn read_line(line: &[u8]) -> Result<Request<'_>, Fault>
     ensures { result ≡ request_of line.now }
 {

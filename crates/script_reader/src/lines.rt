@@ -71,7 +71,7 @@ impl<R: Read> Lines<R> {
     ghost use Rattle.std.specs.Io.BufRead.{Rests};
     ghost use Rattle.std.specs.Borrow.{sem};
 
-    /// Reads some bytes. Its rooms are its own, so that no line that is there pays for them.
+    /// Reads some bytes. It has a stack frame of its own, so that a line that is there already doesn't pay for it.
     #[inline(never)]
     #[tactic(auto, unfolding(crate::specs::Lines::within_limit))]
     fn fill(&mut self)
@@ -96,7 +96,7 @@ impl<R: Read> Lines<R> {
         }
     }
 
-    /// What stands after the last newline, where nothing more can be read.
+    /// The answer for what stands after the last newline, when nothing more can be read.
     fn last(&mut self, is_long: bool) -> Found
         requires { self.old.ending ≢ Open }
         ensures answer { LastAnswer self.old.buffer self.new.buffer self.old.ending is_long result }
@@ -166,7 +166,7 @@ impl<R: Read> Lines<R> {
         self.buffer.line()
     }
 
-    /// Whether the next line is there to its newline.
+    /// Whether the next line, with its newline, is in the buffer.
     pub fn has_whole_line(&self) -> bool
         ensures { result ≡ has_newline (unread_of self.now) }
     {
@@ -178,7 +178,7 @@ impl<R: Read + Drop> Lines<R> {
     ghost use Rattle.std.specs.Prelude.{IfOk};
     ghost use Rattle.script_reader.specs.State.{IsFresh};
 
-    /// The lines of what the reader gives. It makes the whole buffer, and nothing else takes memory.
+    /// The lines of what the reader gives. It takes memory for the whole buffer, and nothing else takes memory later.
     pub fn new(alloc: Global, reader: R) -> Result<Lines<R>, AllocError>
         ensures { IfOk result (IsFresh reader) }
     {

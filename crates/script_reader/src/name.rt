@@ -41,7 +41,7 @@ pub fn is_operator(name: Name) -> bool
     }
 }
 
-/// The name that is written so. It is told by its letters, which costs less than to compare words.
+/// The name with this spelling. It is recognised by its letters, which costs less than comparing words.
 #[inline(always)]
 pub fn name_of(word: &[u8]) -> Option<Name>
     ensures { result ≡ name_of word.now }

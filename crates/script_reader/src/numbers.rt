@@ -5,10 +5,10 @@ ghost use Rattle.script_reader.specs.Words.{first_by};
 
 use super::words::is_space;
 
-/// Ten times a value below this, and a digit, are below 2^64; so is ten times this and a digit of at most 5.
+/// Ten times a value below this one, plus a digit, is below 2^64; so is ten times this value plus a digit of at most 5.
 const TENTH: u64 = 1_844_674_407_370_955_161;
 
-/// The value of the digits up to a separator or the end, after those of a value, below 2^64, and what follows them.
+/// The value of the digits up to a separator or the end, continuing from a given value, if it is below 2^64; and what follows these digits.
 #[tactic(auto, using(crate::proofs::NumberLaws::no_space, crate::proofs::NumberLaws::next_digit, crate::proofs::NumberLaws::too_large))]
 fn digits(before: u64, line: &[u8]) -> Option<(u64, &[u8])>
     ensures { MatchOption result (digits_after (2 ^ 64) before line.now ≡ None) (λ r. digits_after (2 ^ 64) before line.now ≡ Some (r.0, r.1.now)) }

@@ -1,4 +1,5 @@
-//! Reads the words after the command word of each Euler operator. Each reader stands alone, so that its rooms are not cleared for the others.
+//! Reads the words after the command word of each Euler operator. Each reader is a function of its own, so that no stack space is cleared for the
+//! others.
 ghost use Rattle.std.specs.Prelude.{◌≡◌, true};
 ghost use Rattle.script_reader.specs.Grammar.{plus, asks, is_operator, arguments};
 ghost use Rattle.script_reader.specs.declared.name.Name.TheVariants as name;
@@ -8,7 +9,7 @@ use super::name::Name;
 use super::places::{Way, Words};
 use euler_operators::{HalfEdge, Op};
 
-/// The half-edge with `+` of an edge, which is how a script gives a new edge.
+/// The half-edge with `+` of an edge: a script gives a new edge in this way.
 fn plus(edge: u32) -> HalfEdge
     ensures { result ≡ plus edge }
 {
@@ -148,7 +149,7 @@ fn ringmv(words: &mut Words<'_>) -> Result<Op, Fault>
     Ok(op)
 }
 
-/// The operator of this name, with the words after it.
+/// The operator with this name, and with the words after it.
 #[inline(always)]
 pub fn operator(name: Name, words: &mut Words<'_>) -> Result<Op, Fault>
     requires { is_operator name ≡ true }

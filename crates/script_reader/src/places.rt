@@ -68,7 +68,7 @@ fn way_of(word: &[u8]) -> Option<Way>
     }
 }
 
-/// The words of a line that are yet to be read. Each call reads what stands at one place, and hands no part of the line back.
+/// The words of a line that are yet to be read. Each call reads what stands at one place, and doesn't return the rest of the line.
 #[derive(Drop)]
 pub struct Words<'a> {
     rest: &'a [u8],
@@ -204,7 +204,7 @@ impl<'a> Words<'a> {
     }
 }
 
-/// As many points as there are words for, and no more than 64.
+/// As many points as there are words for, but no more than 64.
 pub fn points(line: &[u8]) -> Result<Corners, Fault>
     ensures { Agrees (λ x. (x, [])) result (points_of 64 (words line.now)) }
 {

@@ -42,7 +42,7 @@ impl Corners {
         &self.points
     }
 
-    /// Whether there is room for no further point.
+    /// Whether there is no room for a further point.
     pub(crate) fn is_full(&self) -> bool
         ensures { IsTrue result ↔ (length self.now ≡ 64) }
     {
@@ -58,7 +58,7 @@ impl Corners {
     }
 }
 
-/// The points of a polygon as the words at the end of their line: at most 64. A request holds these, and not the room for the points.
+/// The points of a polygon, as the words at the end of their line: at most 64. A request holds these words, and no memory for the points.
 #[derive(Drop)]
 pub struct Polygon<'a> {
     line: &'a [u8],
@@ -83,7 +83,7 @@ impl<'a> Polygon<'a> {
     ghost use Rattle.script_reader.specs.Words.{words};
     ghost use Rattle.script_reader.specs.Places.{Agrees, points_of};
 
-    /// As many points as there are words for, and no more than 64.
+    /// As many points as there are words for, but no more than 64.
     pub(crate) fn read(line: &'a [u8]) -> Result<Polygon<'a>, Fault>
         ensures { Agrees (λ x. (x, [])) result (points_of 64 (words line.now)) }
     {
@@ -91,7 +91,7 @@ impl<'a> Polygon<'a> {
         Ok(Polygon { line })
     }
 
-    /// The points, with their room.
+    /// The points, in memory of their own.
     pub fn corners(&self) -> Corners
         ensures { result ≡ self.now }
     {
@@ -99,7 +99,7 @@ impl<'a> Polygon<'a> {
     }
 }
 
-/// What a change over points is but for these.
+/// A change over points, without the points.
 #[derive(Clone, Copy, Debug, PartialEq, Eq)]
 pub enum Outline {
     /// The new solid of a lamina.

@@ -127,7 +127,7 @@ fn operated<'a>(name: Name, words: &mut Words<'a>) -> Result<Request<'a>, Fault>
     Ok(Request::Give(Command::Change(Change::Act(op))))
 }
 
-/// What a line asks for that begins with this name, before these words.
+/// What a line that is this name followed by these words asks for.
 pub fn arguments<'a>(name: Name, words: &mut Words<'a>) -> Result<Request<'a>, Fault>
     ensures { result ≡ arguments name words.old }
 {

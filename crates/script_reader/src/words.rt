@@ -24,7 +24,7 @@ fn skip_gap(line: &[u8]) -> &[u8]
     rest
 }
 
-/// How many bytes of a word come first.
+/// How many bytes of a word the line begins with.
 fn word_len(line: &[u8]) -> usize
     ensures value { result ≡ word_len line.now }
     ensures bound { result ≤ length line.now }
@@ -47,7 +47,7 @@ fn split_word(line: &[u8]) -> (&[u8], &[u8])
     line.split_at(word_len(line))
 }
 
-/// The line from its first word on, where it has a word.
+/// The line from its first word on, if it has a word.
 pub fn at_word(line: &[u8]) -> Option<&[u8]>
     ensures { MatchOption result (words line.now ≡ []) (λ r. (words line.now ≡ words r.now) × (0 < length r.now) × IsAtWord r.now) }
 {
@@ -58,7 +58,7 @@ pub fn at_word(line: &[u8]) -> Option<&[u8]>
     Some(line)
 }
 
-/// The first word and what follows it, or nothing where the line has no word.
+/// The first word and what follows it, or nothing if the line has no word.
 pub fn next_word(line: &[u8]) -> Option<(&[u8], &[u8])>
     ensures { MatchOption result (words line.now ≡ []) (λ r. words line.now ≡ r.0.now ∷ words r.1.now) }
 {

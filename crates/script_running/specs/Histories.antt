@@ -1,16 +1,16 @@
--- The history that a run tells: each line is one call of it.
+-- The history of a run: each line is one call of it.
 use Rattle.std.specs.Prelude.{◌≡◌, ◌≢◌, ℕ, Bool, List, [], ◌∷◌, ◌++◌, length, Option, Result, Ok, Err, IfOk}
 use Rattle.script_running.specs.Common.{Answer, Call, IsCall, IsConsistent, Journal, Listing, Machine, Model, RunFault, Sound, Summary, after_call, held, lines_of, listing, new_journal, reached, within_limit}
 use Rattle.script_running.specs.script_judging.Judging.{Judges, answer_text}
 use Rattle.script_running.specs.Runs.{Moves, Runs}
 use Rattle.script_running.specs.declared.running.RunFault.TheVariants as fault
 
--- a list of calls leads to s from the empty model
+-- some list of calls leads from the empty model to s
 pub record HasHistory (s : Machine) : Type 0 where
   pub calls : List Call
   pub lead : reached calls ≡ s
 
--- whatever a line is answered, it is a call, where the model held is sound
+-- if the model held is sound, a line is a call, whatever it is answered
 abbrev pub LinesAreCalls : Type 0
 LinesAreCalls = (s t : Journal) (line : List ℕ) (a : Answer) → Sound (held s.machine) → Judges s line a t → IsCall s.machine t.machine
 
@@ -18,11 +18,11 @@ LinesAreCalls = (s t : Journal) (line : List ℕ) (a : Answer) → Sound (held s
 abbrev pub LinesLeadOn : Type 0
 LinesLeadOn = (s t : Journal) (line : List ℕ) (a : Answer) → HasHistory s.machine → Judges s line a t → HasHistory t.machine
 
--- and such a machine is consistent
+-- and a machine that has a history is consistent
 abbrev pub HistoriesMakeConsistent : Type 0
 HistoriesMakeConsistent = (s : Machine) → HasHistory s → IsConsistent s
 
--- what a line comes to: a call, what it is answered, and the session after it
+-- what a line comes to: a call, its answer, and the session after it
 pub record Turn : Type 0 where
   pub call : Call
   pub answer : Answer
@@ -32,7 +32,7 @@ pub record Turn : Type 0 where
 abbrev pub ListsSound : List ℕ → Type 0
 ListsSound text = (M : Model) × Sound M × (text ≡ listing M)
 
--- a line is judged in one session and leads to another, both consistent; what it lists is a sound model
+-- a line is judged in one session and leads to another, and both are consistent; if the answer is a listing, it lists a sound model
 pub record IsTurn (s : Journal) (line : List ℕ) (turn : Turn) : Type 0 where
   pub judged : Judges s line turn.answer turn.next
   pub called : after_call s.machine turn.call ≡ turn.next.machine
@@ -59,8 +59,8 @@ moves_of reader old new stop (Err fault.TooLong) run = run.0.moves
 moves_of reader old new stop (Err fault.Write) run = run.moves
 moves_of reader old new stop (Err fault.Memory) run = run.0
 
--- The text written is the answers to the first lines read, each in its turn from the empty model on, or a prefix of them where a write failed.
--- Where the run ended well, each line that it counts took its turn.
+-- The text written is the answers to the first lines read, each in its turn from the empty model on, or, if a write failed, a prefix of them. If the
+-- run ended well, each line that it counts took its turn.
 pub record TellsHistory (reader old new : Option (List ℕ)) (moved : Moves reader new old) (result : Result Summary RunFault) : Type 0 where
   pub turns : List Turn
   pub taken : TakeTurns new_journal (lines_of (within_limit 0 moved.given)) turns
@@ -69,7 +69,7 @@ pub record TellsHistory (reader old new : Option (List ℕ)) (moved : Moves read
   pub whole : result ≢ Err fault.Write → unwritten ≡ []
   pub each : IfOk result (λ summary. length turns ≡ summary.lines)
 
--- whatever it returns, a run tells a history
+-- whatever a run returns, it has a history
 abbrev pub RunsTellHistories : Type 0
 RunsTellHistories = (reader old new : Option (List ℕ)) (stop : Bool) (result : Result Summary RunFault) (run : Runs reader old new stop result)
     → TellsHistory reader old new (moves_of reader old new stop result run) result

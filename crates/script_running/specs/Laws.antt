@@ -1,4 +1,4 @@
--- What lines are answered: as the calls that they are, and by one text where no memory is refused.
+-- How lines are answered: as the calls that they spell, and, if no memory is refused, by one text.
 use Rattle.std.specs.Prelude.{◌≡◌, ◌↔◌, ℕ, Bool, List, Option, Some, None, Ok}
 use Rattle.script_running.specs.Common.{Answer, Change, Command, Give, Journal, Machine, Request, Session, Summary, Told, over, request_of}
 use Rattle.commands.specs.Telling.{Tells}
@@ -17,12 +17,13 @@ asked_for (request.Give c) = Some c
 abbrev pub AsksFor : List ℕ → Command → Type 0
 AsksFor line c = (r : Request) × (request_of line ≡ Ok r) × (asked_for r ≡ Some c)
 
--- a line that spells a command is answered so exactly where the call to give it is told what is answered so, and leads on alike
+-- a line that spells a command has this answer, and leads to t, exactly if the call that gives the command is told what has this answer, and leads to
+-- t
 abbrev pub LinesAreTold : Type 0
 LinesAreTold = (s t : Journal) (line : List ℕ) (c : Command) (a : Answer) → AsksFor line c
     → (Judges s line a t ↔ ((b : Told) × (a ≡ answer_when b) × Tells (Session s) (Give c) b (Session t)))
 
--- where no memory is refused, there is one text with which they may be answered, and one summary: their output
+-- if no memory is refused, only one text and one summary are possible for the lines: their output
 abbrev pub OneOutput : Type 0
 OneOutput = (stop : Bool) (s : Journal) (lines : List (List ℕ)) (out : List ℕ) (n : Summary) → n.memory ≡ 0
     → (Outs stop s lines out n ↔ ((out ≡ output_from stop s.machine lines) × (n ≡ summary_from stop s.machine lines)))

@@ -1,4 +1,4 @@
--- The output of a script, as a function of its lines: what they are answered where no memory is refused.
+-- The output of a script, as a function of its lines: the answers to them if no memory is refused.
 use Rattle.std.specs.Prelude.{ℕ, Bool, List, [], ◌∷◌, ◌++◌, Option, Some, None, Result, Ok, Err, if◌then◌else◌}
 use Rattle.script_running.specs.Common.{Answer, Ask, Change, Command, Fault, Listing, Machine, Redo, Refusal, Request, Silent, Summary, Undo, accepted, asked, held, made, over, redo, redo_refusal, refusal_of, request_of, start, undo, undo_refusal}
 use Rattle.script_reader.specs.declared.command.Request.TheVariants as request
@@ -17,14 +17,14 @@ given s (Ask q) = (answer_when (asked (held s) q), s)
 given s Undo = moved (undo_refusal s) s (undo s)
 given s Redo = moved (redo_refusal s) s (redo s)
 
--- and what a line asks for
+-- the same for what a line asks for
 abbrev pub obeyed : Machine → Request → Answer × Machine
 obeyed s request.Nothing = (Silent, s)
 obeyed s request.List = (Listing, s)
 obeyed s (request.Over o ps) = given s (Change (over o ps))
 obeyed s (request.Give c) = given s c
 
--- what a line asks for is obeyed, and a line with a fault is told it
+-- what a line asks for is obeyed; a line with a fault is answered with this fault
 abbrev pub answered : Machine → Result Request Fault → Answer × Machine
 answered s (Ok r) = obeyed s r
 answered s (Err f) = (faulty f, s)

@@ -7,11 +7,11 @@ use Rattle.script_running.specs.script_judging.Judging.{Judges, answer_text, no_
 abbrev pub is_clean : Summary → Bool
 is_clean n = n.refused == 0 && n.faults == 0 && n.memory == 0
 
--- the reply begins with one of these
+-- the reply begins with `refused`, `fault` or `memory`
 abbrev pub complains : Answer → Bool
 complains a = not (is_clean (one_line a))
 
--- the answer ends a run that is to stop
+-- the answer ends a run for which `stop` is set
 abbrev pub stops : Bool → Answer → Bool
 stops stop a = stop && complains a
 
@@ -19,7 +19,7 @@ stops stop a = stop && complains a
 abbrev pub was_stopped : Bool → Summary → Bool
 was_stopped stop n = stop && not (is_clean n)
 
--- From s the lines may be answered by this text, with these counts: all of them, or those up to the answer that stops the run.
+-- This text, with these counts, may answer the lines from s on: all of them, or those up to the answer that stops the run.
 abbrev pub Outs : Bool → Journal → List (List ℕ) → List ℕ → Summary → Type 0
 Outs stop s [] out n = (out ≡ []) × (n ≡ no_lines)
 Outs stop s (line ∷ lines) out n = (a : Answer) × (t : Journal) × Judges s line a t

@@ -14,15 +14,15 @@ pub record Moves (reader writer old : Option (List ℕ)) : Type 0 where
   pub consumed : Consumes reader left given
   pub appended : Appends old writer out
 
--- All lines of the bytes are answered, or those up to the answer that stopped the run, and whatever comes after these bytes changes nothing.
--- Where no answer stopped the run, the reader gave its end. Where none was `memory`, the answers are the output of the lines.
+-- All lines of the bytes are answered, or those up to the answer that stopped the run, and whatever comes after these bytes changes nothing. If no
+-- answer stopped the run, the reader gave its end. If no answer was `memory`, the answers are the output of the lines.
 pub record Served (reader old new : Option (List ℕ)) (stop : Bool) (summary : Summary) : Type 0 where
   pub moves : Moves reader new old
   pub outs : (more : List ℕ) → (IsAtEnd moves.left → more ≡ []) → Outs stop new_journal (lines_of (within_limit 0 moves.given ++ more)) moves.out summary
   pub finished : was_stopped stop summary ≡ false → IsAtEnd moves.left × (length moves.given ≤ 67108864)
   pub output : summary.memory ≡ 0 → (moves.out ≡ output_of stop (lines_of (within_limit 0 moves.given))) × (summary ≡ summary_of stop (lines_of (within_limit 0 moves.given)))
 
--- no more can be read: each line that came with its newline is answered, none stopped the run, and nothing else is written
+-- no more can be read: each line that came with its newline is answered, no answer stopped the run, and nothing else is written
 pub record BreaksOff (reader old new : Option (List ℕ)) (stop : Bool) : Type 0 where
   pub moves : Moves reader new old
   pub judged : List (List ℕ)
@@ -34,7 +34,7 @@ pub record BreaksOff (reader old new : Option (List ℕ)) (stop : Bool) : Type 0
   pub outs : Outs stop new_journal judged moves.out counts
   pub unstopped : was_stopped stop counts ≡ false
 
--- a write failed: a prefix of the answers to the lines went out, whatever comes after the bytes that were read
+-- a write failed: a prefix of the answers to the lines was written, whatever comes after the bytes that were read
 pub record WriteFails (reader old new : Option (List ℕ)) (stop : Bool) : Type 0 where
   pub moves : Moves reader new old
   pub begun : (more : List ℕ) → (IsAtEnd moves.left → more ≡ [])

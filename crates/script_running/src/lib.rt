@@ -1,26 +1,23 @@
 #![tactic(auto)]
 //! Running: a whole script answered, from the bytes of a reader to those of a writer.
 //!
-//! `script_judging` has a console, which hears a line or takes a call, and what it answers; `running` the lines one after the other; `outlet` the
-//! writer of a run, which knows what it has handed on.
-//! `one_output` does nothing: its contract is the law that a script has one output where no reply is `memory`. `laws_below` passes on the
-//! laws of the crates below.
+//! `script_judging` has a console, which hears a line or takes a call, and its answers; `running` answers the lines one after the other; `outlet` is
+//! the writer of a run, which knows what it has handed on. `one_output` does nothing: its contract is the law that a script has one output if no
+//! reply is `memory`. `laws_below` passes on the laws of the crates below.
 //!
 //! # What is proved
 //!
-//! A call is made on a console's session or draft, and answered, as `commands` says that it may be told (`Makes`). `hear` makes the call that a
-//! line spells, or answers the line by itself (`Hears`), but leaves all as it is where a draft hasn't the call; so a session answers it as it
-//! may be told what the line asks for (`Judges`; `lines_are_judged`), and a command what the call to give it is told (`answer_when`;
-//! `lines_are_told`). Where the answer is something other than `ok`, the session is as it was, its records too. `complains`
-//! is true exactly of the answers that begin with `refused`, `fault` or `memory`; `Summary` counts lines and answers (`count`),
-//! and is clean (`is_clean`) exactly where it has none of these. `run` writes replies that the plain machine may give to the
-//! lines of the bytes read, in order, and its `Summary` counts them, whatever comes after these bytes: all lines, or those up to
-//! the reply that stops it. Where no reply stopped it, the reader gave its end; where none is `memory`, what was written is
-//! `output_of` the lines, a function of the text of the script. After a read fault, or where the script is too long, exactly the
-//! lines that came with their newlines are answered; after a write fault a prefix of the replies is out; and where the first
-//! memory was refused nothing was read or written. But where a write failed, all that was written has been handed on when the run ends, and so
-//! it was when the read began that ended it (`HandsOn`). It returns for every reader. `one_output`: where no reply is `memory`, the
-//! lines of a script have one output, and one summary.
+//! A call is made on a console's session or draft, and answered, as `commands` says that it may be told (`Makes`). `hear` makes the call that a line
+//! spells, or answers the line by itself (`Hears`); if a draft doesn't have the call, it leaves all unchanged. So a session answers a line as it may
+//! be told what the line asks for (`Judges`; `lines_are_judged`), and a command with the answer to the call that gives it (`answer_when`;
+//! `lines_are_told`). If the answer is something other than `ok`, the session is as it was, with its records. `complains` is true exactly of the
+//! answers that begin with `refused`, `fault` or `memory`. `Summary` counts lines and answers (`count`), and is clean (`is_clean`) exactly if it has
+//! none of these. `run` writes replies that the plain machine may give to the lines of the bytes read, in order, and its `Summary` counts them,
+//! whatever comes after these bytes: all lines, or those up to the reply that stops it. If no reply stopped it, the reader gave its end. If no reply
+//! is `memory`, what was written is `output_of` the lines, a function of the text of the script. After a read fault, or if the script is too long,
+//! exactly the lines that came with their newlines are answered. After a write fault a prefix of the replies is out. If the first memory was refused,
+//! nothing was read or written. Unless a write failed, all that was written has been handed on when the run ends (`HandsOn`). It returns for every
+//! reader. `one_output`: if no reply is `memory`, the lines of a script have one output, and one summary.
 
 mod laws;
 pub mod laws_below;

@@ -6,9 +6,9 @@ ghost use Rattle.script_running.specs.Reaching.{Reaches};
 
 use std::io::{self, BufWriter, Write};
 
-/// A writer that knows what it has handed on of the bytes that it holds: what is written may wait in it until then.
+/// A writer that may hold bytes back before it hands them on, and knows which it has handed on.
 pub trait Outlet: Write {
-    // The bytes that were handed on, where they are known.
+    // The bytes that were handed on, if they are known.
     ghost reached: { Self → Option (List ℕ) } = { λ _. None };
 
     /// Hands on all that was written.
@@ -17,7 +17,7 @@ pub trait Outlet: Write {
         ensures reached { OnOk result (Reaches (Self.reached self.new) (Self.contents self.new)) };
 }
 
-/// What a vector takes is there at once.
+/// A vector hands on at once what it takes.
 impl Outlet for Vec<u8> {
     ghost reached = { λ v. Some v.items };
 
@@ -26,7 +26,7 @@ impl Outlet for Vec<u8> {
     }
 }
 
-/// What a buffered writer hands on goes to the writer below it.
+/// A buffered writer hands on to the writer below it.
 impl<W: Write + Drop> Outlet for BufWriter<W> {
     ghost reached = { λ w. W.contents (writer_inner w) };
 

@@ -35,7 +35,7 @@ pub enum RunFault {
     Memory,
 }
 
-/// Puts the console's answer behind the text.
+/// Appends the console's answer to the text.
 fn say<W: Outlet>(text: &mut Text, writer: &mut W, console: &Console) -> Result<(), RunFault>
     ensures tells { (s : Journal) → console.now.stage ≡ Some (stage.Session s) → Tells (outgoing (W.contents writer.old) text.old) (outgoing (W.contents writer.new) text.new) (answer_text s.machine console.now.answer) result }
     ensures fault { IfErr result (λ e. e ≡ RunFault.Write) }
@@ -56,7 +56,7 @@ fn stops(stop: bool, answer: &Answer) -> bool
     stop && complains(answer)
 }
 
-/// Brings the answers out, and has them handed on.
+/// Writes the answers out, and has the writer hand them on.
 fn bring_out<W: Outlet>(text: &mut Text, writer: &mut W) -> Result<(), RunFault>
     ensures tells { Tells (outgoing (W.contents writer.old) text.old) (outgoing (W.contents writer.new) text.new) [] result }
     ensures none { text.new ≡ [] }
@@ -72,7 +72,7 @@ fn bring_out<W: Outlet>(text: &mut Text, writer: &mut W) -> Result<(), RunFault>
     }
 }
 
-/// Brings the answers out, and has them handed on, where no whole line is left: before each read, which may wait.
+/// If no whole line is left, writes the answers out and has the writer hand them on: this comes before each read, which may wait.
 fn flush<R: Read, W: Outlet>(
     lines: &Lines<R>,
     text: &mut Text,
@@ -89,7 +89,7 @@ fn flush<R: Read, W: Outlet>(
     bring_out(text, writer)
 }
 
-/// Brings the answers out where the run stops.
+/// Writes the answers out when the run stops.
 fn leave<W: Outlet>(text: &mut Text, writer: &mut W, summary: Summary) -> Result<Summary, RunFault>
     ensures puts { Puts (W.contents writer.old) (W.contents writer.new) text.old result }
     ensures ok { IfOk result (λ s. s ≡ summary) }
@@ -101,7 +101,7 @@ fn leave<W: Outlet>(text: &mut Text, writer: &mut W, summary: Summary) -> Result
     }
 }
 
-/// Has the last answers handed on.
+/// Has the writer hand on the last answers.
 fn finish<W: Outlet>(writer: &mut W, summary: Summary) -> Result<Summary, RunFault>
     ensures kept { Keeps (W.contents writer.old) (W.contents writer.new) }
     ensures ok { IfOk result (λ s. s ≡ summary) }
@@ -152,14 +152,13 @@ fn run_lines<R: Read, W: Outlet>(
     }
 }
 
-/// Runs a script in a console that has a new session: hears each line of what the reader gives, in order, and writes its answer. Answers are
-/// handed on before each read, which may wait, and at the end: whatever the read gives that ends a run, all answers had been handed on when it
-/// began. Where `stop` is set, the run ends after the first reply that begins with `refused`,
-/// `fault` or `memory`; bytes after that line may have been read. The session that the script leaves is still there, for who lent the console.
+/// Runs a script in a console that has a new session: hears each line that the reader gives, in order, and writes its answer. Answers are handed on
+/// before each read, which may wait, and at the end. The contract says so of the end, also if a read failed. If `stop` is set, the run ends after the
+/// first reply that begins with `refused`, `fault` or `memory`; bytes after that line may have been read. The session that the script leaves stays in
+/// the console, for the caller.
 ///
-/// `RunFault::Memory` comes only where the first memory was refused, and then nothing is read or written. After `Read` or
-/// `TooLong` the replies to the lines that were read to their newline are written, and nothing else; after `Write` a prefix
-/// of the replies to the lines read so far.
+/// `RunFault::Memory` comes only if the first memory was refused, and then nothing is read or written. After `Read` or `TooLong` the replies to the
+/// lines that were read to their newline are written, and nothing else. After `Write` a prefix of the replies to the lines read so far is written.
 ///
 /// A read that a signal interrupts is tried again, at most 1,000,000 times in a row.
 pub fn run_in<R: Read + Drop, W: Outlet>(
@@ -180,8 +179,8 @@ pub fn run_in<R: Read + Drop, W: Outlet>(
     finish(writer, summary)
 }
 
-/// Runs a script: hears each line of what the reader gives, in order, and writes its answer. It is `run_in` in a session of its own, which is
-/// freed at the end.
+/// Runs a script: hears each line that the reader gives, in order, and writes its answer. It is `run_in` in a session of its own, which is freed at
+/// the end.
 pub fn run<R: Read + Drop, W: Outlet>(
     alloc: Global,
     reader: R,

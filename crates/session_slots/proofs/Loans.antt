@@ -1,9 +1,7 @@
 -- A `&` to what is lent is made of its share of the token, and what a handle owns can be lent. Assumes `Logic`.
-use Rattle.std.proofs.Common.{Some, ℕ, [], ◌∷◌}
+use Rattle.std.proofs.Common.{ℕ, [], ◌∷◌}
 use Rattle.session_slots.proofs.Walking.{Logic, sem, lfts, ‵, raw, ◌⊛◌, some, later, ◌$◌, ◌∵◌, !, qed, move, keep, use1, use2, split, fsplit, fsplit3, fjoin, pick, assume, suffices, await, updating, now, done, bor_open, obor_alter, bor_fracture, one_token}
-use Rattle.session_slots.proofs.Pointers.{Ura, ent, sep, upd_i, id⊢, apply∗, wand, Lft, Share, Fml, ftrue, fsep, fseps, fwand, fupd, fdead, fbor, flft, meet_⊑_left, ⊑_static, span, thinned, ShrLaws, contraction, moves_from, nothing, Lends, lent_at, Lends-lies, Lends-first, lone, Ptr, lies_at, Shares-less, bare, full_share, R}
-use Rattle.session_slots.specs.Common.{Slot, token, kept_owns}
-use Rattle.session_slots.proofs.slot.Slot.TheLaws.{the_row_laws as L}
+use Rattle.session_slots.proofs.Pointers.{Ura, ent, sep, upd_i, id⊢, apply∗, wand, Lft, Share, Fml, ftrue, fsep, fseps, fwand, fupd, fdead, fbor, flft, meet_⊑_left, span, thinned, ShrLaws, contraction, moves_from, nothing, Lends}
 
 -- a share of a lifetime's token, with what is shared for that lifetime, is shared for as long as the share is borrowed
 module _ {M : Type 1} {𝓤 : Ura M} (𝓛 : Logic 𝓤) (t : Lft → Fml) (L : ShrLaws t) (a : ℕ) (e : Share) where
@@ -35,9 +33,3 @@ module _ {M : Type 1} {𝓤 : Ura M} (𝓛 : Logic 𝓤) (t : Lft → Fml) (L : 
       use2 𝓛 (later (‵ (t κ) ⊛ ‵ (flft κ (thinned κ q)))) (by_token κ (thinned κ q)) $ await ! tt $ split ! $ move ! (1 ∷ 2 ∷ []) $
       use2 𝓛 (‵ (flft (span ts) q)) (apply∗ 𝓤 (A.lft κ (thinned κ q)) (A.lft (span ts) q)) $ move ! (0 ∷ 2 ∷ []) $ use2 𝓛 (raw (lfts 𝓛 ts)) (apply∗ 𝓤 (A.lft (span ts) q) (lfts 𝓛 ts)) $
       now ! $ move ! (1 ∷ 0 ∷ []) $ done !)
-
--- what an open handle owns, borrowed, becomes what is lent
-pub Lends-kept : {M : Type 1} {𝓤 : Ura M} (𝓛 : Logic 𝓤) (l : Lft) (p : Ptr) (x : Slot) → Lends 𝓛 (kept_owns p (Some x)) (lent_at R p x) l
-Lends-kept 𝓛 l p x =
-    Lends-first 𝓛 (lies_at R full_share p x) (token (bare (lone R.mir)) p) (lent_at R p x) l
-    (Lends-lies 𝓛 R l p x (Shares-less 𝓛 R R.lives l (⊑_static l) (L.shares 𝓛) x))

@@ -35,12 +35,12 @@ abbrev pub volume_in : Answer → Option ℤ
 volume_in (Answer.Reply (Reply.Volume n)) = Some n
 volume_in _ = None
 
--- a plane, and 1 where its face is flat, else 0
+-- a plane, and 1 if its face is flat, else 0
 abbrev pub plane_in : Answer → Option (Plane × ℕ)
 plane_in (Answer.Reply (Reply.Plane p flat)) = Some (p, cond flat 1 0)
 plane_in _ = None
 
--- the number of two halves, whose upper one has the sign
+-- the number with these two halves; the upper one has the sign
 abbrev pub joined : Wide → ℤ
 joined w = w.high *ℤ pos 18446744073709551616 +ℤ pos w.low
 

@@ -9,6 +9,6 @@ point_of p = record { x = p.x; y = p.y; z = p.z }
 abbrev pub polygon_of : List Place → List Point
 polygon_of ps = map point_of ps
 
--- the corner that C means: below 2^31 the one at the tail of a half-edge, from there on that of a lone loop
+-- the corner that C means: a number below 2^31 is the corner at the tail of a half-edge, a greater one that of a lone loop
 abbrev pub corner_of : ℕ → Corner
 corner_of n = cond (nat_lt n 2147483648) (Corner.At (half n)) (Corner.Lone (n - 2147483648))

@@ -7,7 +7,7 @@ use Rattle.session_slots.specs.Slots.{Counts_in}
 abbrev pub part_of : Model → List ℕ → ℕ → Op
 part_of M fs t = Op.Part (solid_of M (get_or fs 0 0)) t fs
 
--- refused where the first one is no face; else the operator is carried out, but that memory may be refused before its conditions are tested
+-- refused if the first one is no face; else the operator is carried out, or memory is refused before its conditions are tested
 abbrev pub Moves_faces : Option Refusal → Stage → Op → Told → Stage → Type 0
 Moves_faces (Some r) g op a h = (a ≡ Told.Refused r) × (h ≡ g)
 Moves_faces None g op a h = Tells g (act_of op) a h ⊎ ((a ≡ Told.Memory) × (h ≡ g))

@@ -25,18 +25,18 @@ lone_of (cycle hs) = None
 abbrev pub lone_in : ℕ → Model → Option ℕ
 lone_in l M = cond (has M.loops l) (lone_of (content M l)) None
 
--- a half-edge of the loop; none where the loop is lone
+-- a half-edge of the loop; none if the loop is lone
 abbrev pub IsItemOf : LoopContent → Option ℕ → Type 0
 IsItemOf (lone v) None = Unit {0}
 IsItemOf (lone v) (Some h) = ⊥
 IsItemOf (cycle hs) None = ⊥
 IsItemOf (cycle hs) (Some h) = IsIn h hs
 
--- a half-edge of loop l; none where l is not there
+-- a half-edge of loop l; none if l is lone or not there
 abbrev pub IsFirst : ℕ → Model → Option ℕ → Type 0
 IsFirst l M o = (has M.loops l ≡ true → IsItemOf (content M l) o) × (has M.loops l ≡ false → o ≡ None)
 
--- the half-edges of loop l in their order round it, from any of them on; none where the loop is lone or not there
+-- the half-edges of loop l in their order round it, from any of them on; none if the loop is lone or not there
 abbrev pub AreHalfEdges : ℕ → Model → List ℕ → Type 0
 AreHalfEdges l M hs = IsRotation (items_of (content M l)) hs
 
@@ -45,15 +45,15 @@ abbrev pub AreRound : Model → List ℕ → List ℕ → Type 0
 AreRound M [] hs = hs ≡ []
 AreRound M (l ∷ ls) hs = (here rest : List ℕ) × AreHalfEdges l M here × AreRound M ls rest × (hs ≡ here ++ rest)
 
--- what f tells of each half-edge of loop l
+-- what f gives for each half-edge of loop l
 abbrev pub AreTold : {X : Type 0} → (Model → ℕ → X) → ℕ → Model → List X → Type 0
 AreTold f l M xs = (hs : List ℕ) × AreHalfEdges l M hs × (xs ≡ map (f M) hs)
 
--- half-edge h, the vertex at which it starts, the one after it, and the loop and the face in which it stands
+-- half-edge h, the vertex at which it starts, the half-edge after it, and the loop and the face in which it stands
 abbrev pub row_of : Model → ℕ → HalfEdgeRow
 row_of M h = record { half_edge = h; start = tail M h; next = after M h; of_loop = loop_of M h; face = face_of M (loop_of M h) }
 
--- the rows of the half-edges of face f: those of its outer loop, then those of its rings, rising; none where f is not there
+-- the rows of the half-edges of face f: those of its outer loop, then those of its rings, rising; none if f is not there
 abbrev pub AreRows : ℕ → Model → List HalfEdgeRow → Type 0
 AreRows f M rows = (hs : List ℕ) × AreRound M (cond (has M.faces f) (loops_of M f) []) hs × (rows ≡ map (row_of M) hs)
 
@@ -69,7 +69,7 @@ before_in h M = cond (has M.edges (edge_of h)) (Some (before M h)) None
 abbrev pub loop_in : ℕ → Model → Option ℕ
 loop_in h M = cond (has M.edges (edge_of h)) (Some (loop_of M h)) None
 
--- the least ring of face f above n; none where f is not there
+-- the least ring of face f above n; none if f is not there
 abbrev pub IsRingAfter : ℕ → ℕ → Model → Option ℕ → Type 0
 IsRingAfter f n M o = (has M.faces f ≡ true → IsNextRing M f n o) × (has M.faces f ≡ false → o ≡ None)
 
@@ -81,11 +81,11 @@ IsFaceAfter n m M o = IsNextFace M n m o
 abbrev pub kind_of : ℕ → Option Kind
 kind_of n = cond (nat_eq n 0) (Some Kind.Solid) (cond (nat_eq n 1) (Some Kind.Face) (cond (nat_eq n 2) (Some Kind.Loop) (cond (nat_eq n 3) (Some Kind.Edge) (cond (nat_eq n 4) (Some Kind.Vertex) None))))
 
--- an arena that holds the model alone
+-- an arena that holds this model and nothing else
 abbrev pub store_of : Model → Store
 store_of M = record empty_store { model = M }
 
--- the least number of a kind in use above n; none where there is no such kind
+-- the least number of a kind in use above n; none if there is no such kind
 abbrev pub IsNumberAfter : Option Kind → ℕ → Model → Option ℕ → Type 0
 IsNumberAfter None n M o = o ≡ None
 IsNumberAfter (Some k) n M o = IsNextNumber (store_of M) k n o

@@ -14,11 +14,11 @@ Slot_makes old c new = Makes old.console c new.console
 abbrev pub Slot_does : Slot → Call → Slot → Type 0
 Slot_does old c new = Slot_makes old c new × Counts_in old new.before
 
--- a question is no command: it leaves the numbers before the last one
+-- a question is no command: the numbers from before the last command stay
 abbrev pub Slot_asks : Slot → Question → Slot → Type 0
 Slot_asks old q new = Slot_makes old (Call.Give (Command.Ask q)) new × (new.before ≡ old.before)
 
--- a question is answered of the model shown, and nothing is kept
+-- a question is answered for the model shown, and nothing is kept
 abbrev pub Slot_measures : Slot → Question → Answer → Type 0
 Slot_measures x q a = Measures x.console q a
 

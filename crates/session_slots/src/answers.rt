@@ -33,7 +33,7 @@ pub struct Wide {
     pub low: u64,
 }
 
-/// The plane of a face: the points at which `a x + b y + c z + d` is zero; and whether the face is flat, 1, or bent, 0.
+/// The plane of a face: the points at which `a x + b y + c z + d` is zero; and 1 if the face is flat, 0 if it is bent.
 #[repr(C)]
 #[derive(Clone, Copy)]
 pub struct PlaneRow {

@@ -15,7 +15,7 @@ pub fn plus(edge: u32) -> HalfEdge
     HalfEdge { edge, first: true }
 }
 
-/// The corner that C means: below 2^31 the one at the tail of a half-edge, from there on that of a lone loop.
+/// The corner that C means: a number below 2^31 is the corner at the tail of a half-edge, a greater one that of a lone loop.
 #[inline(always)]
 pub fn corner(code: u32) -> Corner
     ensures { result ≡ corner_of code }
@@ -27,7 +27,7 @@ pub fn corner(code: u32) -> Corner
     }
 }
 
-/// What kills the edge of a half-edge, and the vertex at its end.
+/// The operator that kills the edge of a half-edge, and the vertex at its end.
 #[inline(always)]
 pub fn kev(half_edge: u32) -> Op
     ensures { result ≡ Op.Kev (half half_edge) }
@@ -35,7 +35,7 @@ pub fn kev(half_edge: u32) -> Op
     Op::Kev(HalfEdge::of_code(half_edge))
 }
 
-/// What moves a ring to a face: as a ring of it where `out` is 0, else as its outer loop.
+/// The operator that moves a ring to a face: as a ring of it if `out` is 0, else as its outer loop.
 #[inline(always)]
 pub fn ringmv(ring: u32, face: u32, out: u32) -> Op
     ensures { result ≡ cond (nat_eq out 0) (Op.RingIn ring face) (Op.RingOut ring face) }

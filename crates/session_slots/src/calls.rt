@@ -25,7 +25,7 @@ pub fn act(slot: &mut Slot, op: Op)
     script_running::act(&mut slot.console, op);
 }
 
-/// Answers a question about the model shown, and keeps the answer. It is no command: the numbers before the last one are kept.
+/// Answers a question about the model shown, and keeps the answer. A question is no command: the numbers from before the last command stay.
 #[inline(always)]
 pub fn ask(slot: &mut Slot, question: Question)
     ensures { Slot_asks slot.old question slot.new }
@@ -41,8 +41,8 @@ pub fn measure(slot: &Slot, question: Question) -> Answer
     script_running::measure(&slot.console, question)
 }
 
-/// Answers a line, and keeps the answer and the greatest numbers in use before it. False where a draft hasn't the call that the line spells,
-/// undo or redo; then nothing has changed.
+/// Answers a line, and keeps the answer and the greatest numbers in use before it. False if the line spells undo or redo in a draft, which doesn't
+/// have these calls; then nothing has changed.
 pub fn hear(alloc: Global, slot: &mut Slot, line: &[u8]) -> bool
     ensures { UnlessLacking (lacks_said (spoken line.now) slot.old.console.stage) (λ x y. Slot_notes x line.now y) slot.old slot.new result }
 {

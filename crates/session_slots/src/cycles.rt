@@ -1,4 +1,4 @@
-//! Half-edges written into a buffer of the caller's: those of a loop by their codes, or those of a face, a row of each.
+//! Half-edges written into the caller's buffer: those of a loop by their codes, or a row for each of those of a face.
 ghost use Rattle.std.specs.Prelude.{◌≡◌, ℕ, ◌+◌, ◌≤◌, true, length, map, slice_set};
 ghost use Rattle.euler_operators.specs.Common.{rotate_to, Model, Sound, has_half, cycle_of, loop_of, face_of, rings_of, after};
 ghost use Rattle.euler_conditions.specs.Store.{has_number};
@@ -10,7 +10,7 @@ use euler_conditions::Arena;
 use euler_operators::{Content, HalfEdge, Kind};
 use solid_walks::{loops_of, next_code};
 
-/// A half-edge, the vertex at which it starts, the one after it in its loop, and the loop and the face in which it stands.
+/// A half-edge, the vertex at which it starts, the half-edge after it in its loop, and the loop and the face in which it stands.
 #[repr(C)]
 #[derive(Clone, Copy)]
 pub struct HalfEdgeRow {
@@ -25,7 +25,7 @@ pub struct HalfEdgeRow {
 trait Written: Copy {
     ghost told: { Model → ℕ → Self };
 
-    /// What is written of a half-edge, of which the next one, the loop and the face are known.
+    /// What is written of a half-edge whose next one, loop and face are known.
     fn of(arena: &Arena, half_edge: u32, next: u32, of_loop: u32, face: u32) -> Self
         requires there { has_half arena.now.model half_edge ≡ true }
         requires next { next ≡ after arena.now.model half_edge }
@@ -58,7 +58,7 @@ impl Written for HalfEdgeRow {
     }
 }
 
-/// Writes an item at its place, where there is room for it.
+/// Writes an item at its place, if there is room for it.
 fn put_at<T: Copy>(buf: &mut [T], at: usize, item: T)
     ensures { buf.new ≡ slice_set buf.old at item }
 {
@@ -67,8 +67,8 @@ fn put_at<T: Copy>(buf: &mut [T], at: usize, item: T)
     }
 }
 
-/// Writes what there is of the half-edges of a loop from the given one on, from a place on and as far as there is room, and says at
-/// which place they end. It walks round the loop once.
+/// Writes the half-edges of a loop from the given one on, beginning at a place of the buffer and as far as there is room. It says at which place they
+/// end. It walks round the loop once.
 fn write_from<T: Written>(
     arena: &Arena,
     first: u32,
@@ -98,7 +98,7 @@ fn write_from<T: Written>(
     }
 }
 
-/// The same for a loop that is there, from any half-edge on; one with a vertex alone has none.
+/// The same for a loop that is there, from any half-edge on. A lone loop has no half-edges.
 fn write_loop<T: Written>(arena: &Arena, l: u32, place: usize, buf: &mut [T]) -> usize
     requires sound { Sound arena.now.model }
     requires there { has_number arena.now Kind.Loop l ≡ true }
@@ -145,8 +145,8 @@ fn write_outer(arena: &Arena, f: u32, rows: &mut [HalfEdgeRow]) -> usize
     write_loop(arena, arena.outer(f), 0, rows)
 }
 
-/// Writes the rows of the half-edges of a face, as far as there is room, and says how many there are: those of its outer loop, then those
-/// of its rings, rising, those of each in their order round it.
+/// Writes the rows of the half-edges of a face, as far as there is room, and says how many there are: those of its outer loop, then those of its
+/// rings by rising number, each loop in its order.
 pub fn half_edge_rows(arena: &Arena, f: u32, rows: &mut [HalfEdgeRow]) -> usize
     requires { IsReady arena.now }
     ensures { WritesOne (AreRows f arena.now.model) rows.old rows.new result }

@@ -1,4 +1,4 @@
-//! The handle: a slot that lies with C, or none.
+//! The handle: a pointer that C keeps, to a slot or to none.
 ghost use Rattle.std.specs.Prelude.{◌≡◌, ◌↔◌, true, IsTrue, IsSome, IfSome, Some, None, MatchOption};
 ghost use Rattle.session_slots.specs.Opening.{Opened, is_staged, is_whole};
 
@@ -8,7 +8,7 @@ use crate::slot::made;
 use std::alloc::Global;
 use std::mem;
 
-/// A session, or none before `gwb_open` and after `gwb_close`.
+/// A session; or none, before `gwb_open` and after `gwb_close`.
 #[repr(C)]
 pub struct Gwb {
     is_open: bool,
@@ -35,7 +35,7 @@ fn end(gwb: Gwb)
     kept.close();
 }
 
-/// Hands a session over to C, in a closed handle.
+/// Hands a session over to C, by a handle that was closed.
 pub fn put(gwb: &mut Gwb, slot: Held)
     requires closed { gwb.old.kept.value ≡ None }
     requires staged { is_staged slot.console.stage ≡ true }
@@ -48,7 +48,7 @@ pub fn put(gwb: &mut Gwb, slot: Held)
     end(mem::replace(gwb, open));
 }
 
-/// The session, if there is one: until it is handed over again the handle is closed.
+/// The session, if there is one. The handle is closed until the session is handed over again.
 pub fn take(alloc: Global, gwb: &mut Gwb) -> Option<Held>
     ensures left { gwb.new.kept.value ≡ None }
     ensures staged { IfSome result (λ h. is_staged h.console.stage ≡ true) }
@@ -63,7 +63,7 @@ pub fn take(alloc: Global, gwb: &mut Gwb) -> Option<Held>
     }
 }
 
-/// Begins a session that holds the empty model. False where memory is refused, or there is a session; then nothing has changed.
+/// Begins a session that holds the empty model. False if memory is refused, or if there is a session; then nothing has changed.
 pub fn begin(alloc: Global, gwb: &mut Gwb) -> bool
     ensures { Opened gwb.old.kept.value gwb.new.kept.value result }
 {

@@ -8,7 +8,7 @@ use crate::slot::Slot;
 use std::alloc::Global;
 use std::marker::Model;
 
-/// A slot that was taken out of its handle. It is put back or freed, and never let go.
+/// A slot that was taken out of its handle. It must be put back or freed.
 pub struct Held {
     slot: Box<Slot, Global>,
 }

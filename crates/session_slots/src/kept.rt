@@ -8,7 +8,7 @@ use std::alloc::Global;
 use std::marker::Model;
 use std::ptr;
 
-/// A box whose pointer lies with C, or none. It isn't let go but by `into_box` and, where it is none, `close`.
+/// A box whose pointer C keeps, or none. It must be ended: by `into_box`, or by `close` if there is no box.
 #[repr(C)]
 pub struct Kept {
     at: *mut u8,
@@ -30,7 +30,7 @@ impl Kept {
         Kept { at }
     }
 
-    /// Ends what has no box.
+    /// Ends a `Kept` that has no box.
     pub(crate) fn close(self)
         requires { self.value ≡ None }
     {

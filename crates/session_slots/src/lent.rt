@@ -1,4 +1,4 @@
-//! A handle's copy, as a reader of C takes it: what it leads to is lent, and nothing but readers is called meanwhile.
+//! The copy of a handle that a reader of C takes. What it leads to is lent: only readers are called meanwhile.
 ghost use Rattle.std.specs.Prelude.{◌≡◌, ◌↔◌, ℕ, true, IsTrue, IsSome, IfSome, Option, None, Some, MatchOption};
 ghost use base.Fml.{Share};
 ghost use Rattle.std.specs.Coded.{coded_option};
@@ -8,7 +8,7 @@ use crate::slot::Slot;
 use std::marker::Model;
 use std::{mem, ptr};
 
-/// A pointer to what is lent, with a share of the lifetime for which it is, or to nothing.
+/// A pointer to a slot that is lent, with a share of the lifetime for which it is lent; or a pointer to nothing.
 #[repr(C)]
 pub struct Lent {
     at: *const u8,
@@ -21,7 +21,7 @@ impl Model for Lent {
     ghost also_owns = { λ h. lent_owns h.at h.loan };
 }
 
-/// The same, of something, where it can be looked at.
+/// A pointer to a slot that is lent, through which the slot can be looked at.
 pub struct Shown {
     at: *const u8,
     pub ghost loan: { Slot × (ℕ × Share) } by { loan_coded },
@@ -52,7 +52,7 @@ impl Lent {
         Shown { at }
     }
 
-    /// Ends what leads to nothing.
+    /// Ends a pointer to nothing.
     fn close(self)
         requires { self.loan ≡ None }
     {
@@ -76,7 +76,7 @@ impl Shown {
     }
 }
 
-/// A copy of a handle. It lies as `Gwb` does.
+/// A copy of a handle. It has the layout of `Gwb`.
 #[repr(C)]
 pub struct GwbLent {
     is_open: bool,
@@ -95,7 +95,7 @@ fn closed() -> GwbLent
     }
 }
 
-/// What is lent, if the handle is open: until it is given back, the copy is one of a closed handle.
+/// What is lent, if the handle is open. The copy is one of a closed handle until what is lent is given back.
 pub fn show(gwb: &mut GwbLent) -> Option<Shown>
     ensures left { gwb.new.lent.loan ≡ None }
     ensures staged { IfSome result (λ s. is_staged s.loan.0.console.stage ≡ true) }

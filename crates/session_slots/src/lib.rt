@@ -2,19 +2,18 @@
 //! Sessions and drafts in slots: a session or a draft of its next command, beside the answer to the last command and the greatest numbers
 //! in use before it.
 //!
-//! `slot` has a console, as a script's run has one, with these numbers; `calls` what a call that is given as a value does to it, and what a line
-//! does; `parts` makes some faces a solid of their own. `answers` gives the last answer as values, `readers`, `cycles`
-//! and `spokes` read the model shown. `handle` has a slot that lies with C, by a pointer (`kept`, `loose`), and is taken out of it for a call
-//! (`held`); `lent` has a copy of a handle whose slot is lent to readers, of which any number may run at once. `arguments` has what C gives
-//! to a call, as the kernel takes it.
+//! `slot` has a console, as a script's run has one, with these numbers. `calls` has what a call that is given as a value does to it, and what a line
+//! does; `parts` makes some faces a solid of their own. `answers` gives the last answer as values, `readers`, `cycles` and `spokes` read the model
+//! shown. `handle` has a slot that C keeps by a pointer (`kept`, `loose`), and that is taken out of its handle for a call (`held`). `lent` has a copy
+//! of a handle whose slot is lent to readers, any number of which may run at once. `arguments` has what C gives to a call, as the kernel takes it.
 //!
 //! # What is proved
 //!
-//! `make` makes a call of any kind on a session or a draft, and `act` an operator, as `commands` says that they may be told (`Slot_does`).
-//! `hear` makes the call that a line spells, or answers the line by itself (`Slot_notes`), but leaves all as it is where a draft hasn't the
-//! call; so a session answers it as the plain machine may in a script (`script_running::lines_are_judged`). `ask` tells what the model shown gives, and
-//! changes no more (`Slot_asks`), and `measure` not even the last answer; `part` does what the operator does (`Slot_makes_part`). The greatest
-//! numbers in use are those of the model shown, whatever was done. What the last answer told, and what a reader tells, are equations, but for
+//! `make` makes a call of any kind on a session or a draft, and `act` an operator, as `commands` says that they may be told (`Slot_does`). `hear`
+//! makes the call that a line spells, or answers the line by itself (`Slot_notes`); if a draft doesn't have the call, it leaves all unchanged. So a
+//! session answers a line as the plain machine may in a script (`script_running::lines_are_judged`). `ask` tells what the model shown gives, and
+//! changes only the last answer (`Slot_asks`); `measure` changes nothing. `part` does what the operator does (`Slot_makes_part`). The greatest
+//! numbers in use are those of the model shown, whatever was done. What the last answer told, and what a reader tells, are equations, except for
 //! where a loop's list of half-edges begins.
 
 mod answers;

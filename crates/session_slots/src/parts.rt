@@ -23,7 +23,7 @@ fn listed(alloc: Global, faces: &[u32]) -> Result<FaceList, AllocError>
     Ok(list)
 }
 
-/// The solid of a face. Refused where there is no such face.
+/// The solid of a face. Refused if there is no such face.
 fn solid_of(arena: &Arena, face: u32) -> Result<u32, Refusal>
     ensures { result ≡ answer (face_refusal arena.now.model face) (solid_of arena.now.model face) }
 {
@@ -42,7 +42,7 @@ fn solid_of(arena: &Arena, face: u32) -> Result<u32, Refusal>
     Ok(arena.solid_of(face))
 }
 
-/// Parts some faces, of which there is one, from the solid of the first. Their list is made before the operator's conditions are tested.
+/// Makes a new solid of some faces, at least one, of the first one's solid. Their list is made before the operator's conditions are tested.
 fn part_on(alloc: Global, stage: &mut Stage, faces: &[u32], made: u32) -> Result<(), Failure>
     requires { 0 < length faces.now }
     ensures { Moves_faces (face_refusal (shown stage.old) (get_or faces.now 0 0)) stage.old (part_of (shown stage.old) faces.now made) (told_of result) stage.new }
@@ -67,7 +67,7 @@ fn part_in(alloc: Global, slot: &mut Slot, faces: &[u32], made: u32)
     }
 }
 
-/// Makes a new solid of some faces of one, of which there is one.
+/// Makes a new solid of some faces of a solid, at least one.
 pub fn part(alloc: Global, slot: &mut Slot, faces: &[u32], made: u32)
     requires { 0 < length faces.now }
     ensures { Slot_makes_part slot.old faces.now made slot.new }

@@ -82,7 +82,7 @@ pub fn edge(arena: &Arena, edge: u32) -> Option<EdgeRow>
     Some(ends(arena, edge))
 }
 
-/// The vertex of a loop that is there, where it is lone.
+/// The vertex of a loop that is there, if the loop is lone.
 fn lone_at(arena: &Arena, l: u32) -> Option<u32>
     requires ready { IsReady arena.now }
     requires there { has_number arena.now Kind.Loop l ≡ true }
@@ -105,7 +105,7 @@ pub fn lone_vertex(arena: &Arena, l: u32) -> Option<u32>
     lone_at(arena, l)
 }
 
-/// A half-edge of a loop that is there, where it has any.
+/// A half-edge of a loop that is there, if it has any.
 fn item_at(arena: &Arena, l: u32) -> Option<u32>
     requires ready { IsReady arena.now }
     requires there { has_number arena.now Kind.Loop l ≡ true }

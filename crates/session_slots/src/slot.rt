@@ -70,7 +70,7 @@ pub fn is_drafting(slot: &Slot) -> bool
     script_running::is_drafting(&slot.console)
 }
 
-/// Whether the session or draft hasn't the call.
+/// Whether the session or draft doesn't have the call.
 #[inline(always)]
 pub fn lacks(slot: &Slot, wanted: &Call<'_>) -> bool
     ensures { result ≡ lacks wanted.now slot.now.console.stage }
@@ -84,7 +84,7 @@ pub fn lacks(slot: &Slot, wanted: &Call<'_>) -> bool
     }
 }
 
-/// The text of an answer, where a listing is that of the arena's model. None where memory is refused.
+/// The text of an answer; a listing is that of the arena's model. None if memory is refused.
 pub fn text_of(alloc: Global, arena: &Arena, answer: &Answer) -> Option<Vec<u8>>
     requires { IsReady arena.now }
     ensures { IfSome result (λ v. v.items ≡ text_in arena.now.model answer.now) }

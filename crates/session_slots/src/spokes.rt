@@ -9,10 +9,10 @@ use euler_conditions::Arena;
 use euler_operators::Kind;
 use solid_walks::{Counters, counters_of};
 
-/// So many numbers on each side of the likely one are looked at first.
+/// First so many numbers on each side of the likely one are looked at.
 const NEAR: u32 = 3;
 
-/// No more than so many numbers aren't halved any more.
+/// A range of at most so many numbers isn't halved any more.
 const FEW: u32 = 4;
 
 /// The half-edge of an edge that starts at the vertex, if one does.
@@ -31,7 +31,7 @@ fn start_of(arena: &Arena, e: u32, v: u32) -> Option<u32>
     None
 }
 
-/// A half-edge that starts at a vertex, of the edges above one number and up to another. It looks at them one after another.
+/// A half-edge that starts at a vertex, of an edge above one number and up to another. It looks at these edges one after another.
 #[inline(always)]
 fn start_within(arena: &Arena, v: u32, above: u32, last: u32) -> Option<u32>
     requires { IsReady arena.now }
@@ -52,7 +52,7 @@ fn start_within(arena: &Arena, v: u32, above: u32, last: u32) -> Option<u32>
     }
 }
 
-/// Where the edges of a vertex lie if as many edges come with each vertex.
+/// The likely place of a vertex's edges, if as many edges were made with each vertex.
 fn even_place(greatest: Counters, v: u32) -> u32
     ensures { result ≤ greatest.edges }
 {
@@ -68,7 +68,7 @@ fn is_below(arena: &Arena, e: u32, v: u32) -> bool
     row.from < v && row.to < v
 }
 
-/// Somewhat below the edge that came with a vertex, where edges and vertices came in the order of their numbers.
+/// A number somewhat below the edge that was made with a vertex, if edges and vertices were made in the order of their numbers.
 fn rising_place(arena: &Arena, v: u32, greatest: u32) -> u32
     ensures { result ≤ greatest }
 {
@@ -84,8 +84,8 @@ fn rising_place(arena: &Arena, v: u32, greatest: u32) -> u32
     low
 }
 
-/// A half-edge that starts at a vertex, looked for by halving, and among all edges where that finds none. It stands apart, since it is
-/// seldom called.
+/// A half-edge that starts at a vertex. It is looked for by halving, and, if that finds none, among all edges. This is a function of its own, since
+/// it is seldom called.
 #[inline(never)]
 fn far_half_edge(arena: &Arena, greatest: u32, v: u32) -> Option<u32>
     requires { IsReady arena.now }
@@ -100,8 +100,8 @@ fn far_half_edge(arena: &Arena, greatest: u32, v: u32) -> Option<u32>
 
 /// A half-edge that starts at a vertex.
 ///
-/// Any is right, so it looks first where one is likely: about where an edge of the vertex lies if edges and vertices rise evenly, then
-/// by halving for the edge that came with the vertex, and at each edge from there on. Where neither finds one, it looks at all others.
+/// Any such half-edge is right, so it looks first where one is likely: near the place of the vertex's edges if edges and vertices rise evenly. Then
+/// it looks by halving for the edge that was made with the vertex, and at each edge from there on. If neither finds one, it looks at all others.
 pub fn vertex_half_edge(arena: &Arena, v: u32) -> Option<u32>
     requires { IsReady arena.now }
     ensures { IsStart v arena.now.model result }

@@ -29,6 +29,6 @@ block_conditions M s p dx dy dz =
 abbrev pub block_refusal : Model → ℕ → Point → ℤ → ℤ → ℤ → Option Refusal
 block_refusal M s p dx dy dz = first_refusal (block_conditions M s p dx dy dz)
 
--- the lamina of the base, its first face swept up
+-- the lamina of the base, with its first face swept up
 unfoldable pub block_model : Model → ℕ → Point → ℤ → ℤ → ℤ → Model
 block_model M s p dx dy dz = prism_model (lamina_model M s (base_of p dx dy)) (lamina_face M) (vector (pos 0) (pos 0) dz)

@@ -7,12 +7,12 @@ use Rattle.shapes.specs.Fresh.{Taken, taken_in, numbers_left, numbers_after, no_
 use Rattle.euler_operators.specs.declared.Refusal.{Refusal}
 use Rattle.euler_operators.specs.declared.Why.TheVariants.{SolidTaken, FewPoints, PointRange, RepeatedPoint}
 
--- the place, from 1, of the first point out of range, if there is one; i points come before
+-- the place, counted from 1, of the first point out of range, if there is one; i points come before these
 abbrev pub first_far : ℕ → List Point → Option ℕ
 first_far i [] = None
 first_far i (p ∷ ps) = cond (is_in_range p) (first_far (i + 1) ps) (Some (i + 1))
 
--- the place, from 1, of the first point equal to an earlier one, if there is one
+-- the place, counted from 1, of the first point equal to an earlier one, if there is one
 abbrev pub first_repeated : List Point → ℕ → List Point → Option ℕ
 first_repeated seen i [] = None
 first_repeated seen i (p ∷ ps) = cond (list_any (same_point p) seen) (Some (i + 1)) (first_repeated (seen ++ p ∷ []) (i + 1) ps)

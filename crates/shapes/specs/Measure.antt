@@ -13,7 +13,7 @@ abbrev pub area : Model → List ℕ → Point
 area M [] = origin
 area M (h ∷ hs) = moved (cross (start M h) (finish M h)) (area M hs)
 
--- no number of such a sum over different half-edges is greater, either way
+-- no number of such a sum over different half-edges is greater than this in magnitude
 abbrev pub area_limit : ℕ
 area_limit = 4000004000000000000000000
 
@@ -56,6 +56,6 @@ volume_in M (f ∷ fs) = dot (anchor M f) (normal M f) +ℤ volume_in M fs
 unfoldable pub six_volume : Model → ℕ → ℤ
 six_volume M s = volume_in M (faces_of M s)
 
--- where a query about a face is refused
+-- when a query about a face is refused
 abbrev pub face_refusal : Model → ℕ → Option Refusal
 face_refusal M f = first_refusal (numbers_in_range (f ∷ []) ++ need (table.has M.faces f) NoFace f ∷ [])

@@ -19,7 +19,7 @@ prism_conditions M f d = let n = length (corners M f) in
 abbrev pub prism_refusal : Model → ℕ → Point → Option Refusal
 prism_refusal M f d = first_refusal (prism_conditions M f d)
 
--- of a loop of n items the edge that rises at item i, and the edge over item i; e is the greatest edge before
+-- of a loop of n items: the edge that rises at item i, and the edge over item i; e is the greatest edge before the sweep
 abbrev pub riser : ℕ → ℕ → ℕ
 riser e i = cond (nat_eq i 0) (e + 1) (e + 2 * i)
 
@@ -30,7 +30,7 @@ top_edge e n i = cond (nat_eq (i + 1) n) (e + 2 * n) (e + 2 * i + 3)
 abbrev pub next_place : ℕ → ℕ → ℕ
 next_place n i = cond (nat_eq (i + 1) n) 0 (i + 1)
 
--- the side over item i: the item, up the next riser, back along the top edge, and down its own riser
+-- the side over item i: it goes along the item, up the next riser, back along the top edge, and down the item's own riser
 unfoldable pub with_side : Taken → ℕ → Point → List ℕ → ℕ → Model → Model
 with_side c s d hs i M = let n = length hs in let h = get_or hs i 0 in let j = next_place n i in record M {
   faces = table.put M.faces (c.face + 1 + i) (record { solid = s; outer = c.loop + 1 + i });
@@ -57,7 +57,7 @@ top_items e n (suc i) = top_items e n i ++ plus (top_edge e n i) ∷ []
 abbrev pub lifted : Model → ℕ → ℕ → List ℕ → Model
 lifted M f l hs = record M { loops = table.put M.loops l (record { face = f; content = cycle hs }) }
 
--- a whole loop swept: a side over each item, and the loop lifted
+-- a whole loop is swept: a side stands over each item, and the loop is lifted
 abbrev pub raised_over : ℕ → Point → Growing → ℕ → List ℕ → Growing
 raised_over f d g l hs = let c = g.taken in let n = length hs in record {
   model = lifted (with_sides c (solid_of g.model f) d hs n g.model) f l (top_items c.edge n n);
@@ -67,7 +67,7 @@ raised_over f d g l hs = let c = g.taken in let n = length hs in record {
 unfoldable pub raised : ℕ → Point → Growing → ℕ → Growing
 raised f d g l = raised_over f d g l (items_of (content g.model l))
 
--- the loops of the face swept one after the other: the outer one, then the rings, rising
+-- the loops of the face are swept one after the other: the outer one, then the rings, rising
 abbrev pub prism_from : ℕ → Point → Growing → List ℕ → Growing
 prism_from f d g ls = fold (raised f d) g ls
 

@@ -1,4 +1,4 @@
--- Vectors turned, multiplied, and from one point to another.
+-- Vectors: opposite ones, their products, and the vector from one point to another.
 use Rattle.std.specs.Prelude.{ℤ, ◌-ℤ◌, ◌*ℤ◌, neg_ℤ}
 use Rattle.euler_operators.specs.Common.{Point}
 

@@ -13,6 +13,6 @@ loops_in M (f ∷ fs) = loops_of M f ++ loops_in M fs
 unfoldable pub first_edge : Model → ℕ → ℕ
 first_edge M v = table.first_where (λ _ row. nat_eq row.plus_tail v || nat_eq row.minus_tail v) M.edges
 
--- whether h is of the least edge at its vertex. Of the half-edges at a vertex just one is
+-- whether h is of the least edge at its vertex: just one of the half-edges at a vertex is
 unfoldable pub leads : Model → ℕ → Bool
 leads M h = nat_eq (edge_of h) (first_edge M (tail M h))

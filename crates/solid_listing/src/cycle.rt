@@ -21,7 +21,7 @@ fn put_half<W: Write>(text: &mut Text, writer: &mut W, h: HalfEdge) -> Result<()
     put_number(text, writer, h.edge)
 }
 
-/// Writes the half-edges of a loop, each after a space, from its least one on, which is given.
+/// Writes the half-edges of a loop, each after a space, beginning at the least one, which is given.
 fn write_from<W: Write>(
     arena: &Arena,
     first: HalfEdge,

@@ -2,8 +2,8 @@
 
 ghost use Rattle.solid_listing.specs.Telling.{ListingTells};
 
-/// Two sound models have equal listings exactly where they are equal. Models hold each loop from its least half-edge on,
-/// so equal models are those with equal numbers, points and cyclic loops.
+/// Two sound models have equal listings exactly if they are equal. Models write each loop from its least half-edge on, so equal models are those with
+/// equal numbers, points and cyclic loops.
 pub fn listing_tells()
     ensures { ListingTells }
 {}

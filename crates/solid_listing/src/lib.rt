@@ -5,9 +5,8 @@
 //!
 //! # What is proved
 //!
-//! `write_reply` and `write_listing` write exactly their text, or on a fault a prefix of it. `tell_reply` and `tell_listing` put it behind
-//! a `Text` that is pending, of which a front may go out; `release` writes all of that. Two sound models have equal listings exactly
-//! where they are equal.
+//! `write_reply` and `write_listing` write exactly their text, or, on a fault, a prefix of it. `tell_reply` and `tell_listing` append it to a pending
+//! `Text`, a prefix of which may be written; `release` writes all of that. Two sound models have equal listings exactly if they are equal.
 
 mod cycle;
 mod entry;

@@ -46,10 +46,10 @@ fn write_lines<W: Write>(arena: &Arena, text: &mut Text, writer: &mut W) -> Resu
     Ok(())
 }
 
-/// Puts the listing of a model behind a text, which goes out where there is no room: a line for each solid, face, loop, edge
+/// Appends the listing of a model to a pending text, which is written when there is no room. The listing has a line for each solid, face, loop, edge
 /// and vertex, each kind by rising number, or the line `empty`. It takes no memory.
 ///
-/// A fault comes where a write fails or takes no byte; what went out is then a prefix of the text and the listing.
+/// A fault comes if a write fails or takes no byte; what was written then is a prefix of the text and the listing.
 #[inline(never)]
 pub fn tell_listing<W: Write>(
     arena: &Arena,
@@ -65,9 +65,9 @@ pub fn tell_listing<W: Write>(
     write_lines(arena, text, writer)
 }
 
-/// Writes the listing of a model, as `tell_listing` tells it. It takes no memory.
+/// Writes the listing of a model, which is that of `tell_listing`. It takes no memory.
 ///
-/// A fault comes where a write fails or takes no byte; what went out is then a prefix of the listing.
+/// A fault comes if a write fails or takes no byte; what was written then is a prefix of the listing.
 pub fn write_listing<W: Write>(arena: &Arena, writer: &mut W) -> Result<(), WriteFault>
     requires sound { Sound arena.now.model }
     ensures { Puts (W.contents writer.old) (W.contents writer.new) (listing arena.now.model) result }

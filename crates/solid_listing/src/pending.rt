@@ -1,4 +1,4 @@
-//! A text that is put together before it goes out.
+//! A text that is put together before it is written.
 ghost use Rattle.std.specs.Prelude.{◌≡◌, []};
 ghost use Rattle.solid_listing.specs.Writing.{Puts, Tells, outgoing};
 
@@ -7,7 +7,7 @@ use arrayvec::ArrayVec;
 use std::io::Write;
 use std::marker::Model;
 
-/// The text that is yet to go out: a write costs more than the few bytes of a word.
+/// The text that is still to be written. It is collected, because a write costs more than the few bytes of a word.
 #[derive(Drop)]
 pub struct Text {
     bytes: ArrayVec<u8, 1024>,
@@ -66,7 +66,7 @@ pub fn release<W: Write>(text: &mut Text, writer: &mut W) -> Result<(), WriteFau
     released
 }
 
-/// Puts a piece for which there is no room: the text goes out, and the piece after it.
+/// Puts a piece for which there is no room: the text is written, and then the piece.
 #[cold]
 #[inline(never)]
 fn put_past<W: Write>(text: &mut Text, writer: &mut W, piece: &[u8]) -> Result<(), WriteFault>
@@ -76,7 +76,7 @@ fn put_past<W: Write>(text: &mut Text, writer: &mut W, piece: &[u8]) -> Result<(
     write_whole(writer, piece)
 }
 
-/// Puts a piece behind the text. Where there is no room, the text goes out first.
+/// Appends a piece to the text. If there is no room, the text is written first.
 pub(crate) fn put<W: Write>(text: &mut Text, writer: &mut W, piece: &[u8]) -> Result<(), WriteFault>
     ensures { Tells (outgoing (W.contents writer.old) text.old) (outgoing (W.contents writer.new) text.new) piece.now result }
 {

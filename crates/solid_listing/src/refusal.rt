@@ -9,7 +9,7 @@ use crate::text::{put_line, put_number};
 use crate::writing::WriteFault;
 use std::io::Write;
 
-/// How the line of a refusal begins, up to its value: one piece, since each piece costs more than its bytes.
+/// How the line of a refusal begins, up to its value. It is one piece, since each piece costs more than its bytes.
 #[tactic(auto, unfolding(crate::proofs::Digits::computed))]
 fn refused_head(why: u32) -> Option<&'static [u8]>
     ensures { IfSome result (λ head. head.now ≡ refused_head why) }
@@ -63,7 +63,7 @@ fn refused_head(why: u32) -> Option<&'static [u8]>
     }
 }
 
-/// Writes a number and the end of its line, in one piece where the number has one digit.
+/// Writes a number and the end of its line, in one piece if the number has one digit.
 #[tactic(auto, using(std::proofs::lemmas::Fmt::decimal_digit))]
 fn put_last<W: Write>(text: &mut Text, writer: &mut W, number: u32) -> Result<(), WriteFault>
     ensures { Tells (outgoing (W.contents writer.old) text.old) (outgoing (W.contents writer.new) text.new) (decimal number ++ 10 ∷ []) result }
@@ -75,7 +75,7 @@ fn put_last<W: Write>(text: &mut Text, writer: &mut W, number: u32) -> Result<()
     put(text, writer, b"\n")
 }
 
-/// Writes how a line begins, its last word, which is a number, and its end.
+/// Writes the beginning of a line, then its last word, which is a number, and its end.
 fn put_value<W: Write>(
     text: &mut Text,
     writer: &mut W,

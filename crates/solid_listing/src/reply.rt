@@ -11,7 +11,7 @@ use crate::writing::WriteFault;
 use euler_operators::Plane;
 use std::io::Write;
 
-/// The answer to a command, or to a line that is none.
+/// The answer to a command, or to a line that is no command.
 #[derive(Clone, Copy, Debug, PartialEq, Eq)]
 pub enum Reply {
     /// `ok`: the command was accepted.
@@ -20,7 +20,7 @@ pub enum Reply {
     Refused(u32, u32),
     /// `fault N`: what is wrong with the line.
     Fault(u32),
-    /// `memory`: a growth was refused, and nothing has changed.
+    /// `memory`: memory was refused, and nothing has changed.
     Memory,
     /// `plane a b c d flat`, or `bent` in place of `flat`: a face's plane, and whether the face is flat.
     Plane(Plane, bool),
@@ -30,7 +30,7 @@ pub enum Reply {
     Count([i64; 5]),
 }
 
-/// Writes the line of a plane, but for its last word.
+/// Writes the line of a plane, without its last word.
 fn write_coefficients<W: Write>(
     plane: &Plane,
     text: &mut Text,
@@ -60,9 +60,9 @@ fn write_plane<W: Write>(
     put(text, writer, if flat { b" flat\n" } else { b" bent\n" })
 }
 
-/// Puts the line of a reply behind a text, which goes out first where there is no room. It takes no memory.
+/// Appends the line of a reply to a pending text, which is written first if there is no room. It takes no memory.
 ///
-/// A fault comes where a write fails or takes no byte; what went out is then a prefix of the text and the line.
+/// A fault comes if a write fails or takes no byte; what was written then is a prefix of the text and the line.
 #[tactic(auto, unfolding(crate::specs::Replies::reply_text))]
 pub fn tell_reply<W: Write>(
     reply: &Reply,
@@ -84,7 +84,7 @@ pub fn tell_reply<W: Write>(
 
 /// Writes the line of a reply. It takes no memory.
 ///
-/// A fault comes where a write fails or takes no byte; what went out is then a prefix of the line.
+/// A fault comes if a write fails or takes no byte; what was written then is a prefix of the line.
 pub fn write_reply<W: Write>(reply: &Reply, writer: &mut W) -> Result<(), WriteFault>
     ensures { Puts (W.contents writer.old) (W.contents writer.new) (reply_text reply.now) result }
 {

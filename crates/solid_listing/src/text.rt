@@ -48,7 +48,7 @@ pub fn put_words<W: Write, I: Integer>(
     Ok(())
 }
 
-/// Writes the line of a word and numbers. Its numbers' room is its own, so that no shorter line pays for it.
+/// Writes the line of a word and numbers. It has a stack frame of its own for the numbers, so that no shorter line pays for it.
 #[inline(never)]
 pub fn put_line<W: Write, I: Integer>(
     text: &mut Text,

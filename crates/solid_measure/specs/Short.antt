@@ -13,7 +13,7 @@ all_of s = moved (read s.whole) s.last
 abbrev pub IsOfItems : ℕ → Point → Type 0
 IsOfItems n p = IsVectorWithin (2000000000000000000 * n) p
 
--- the same plane, whose numbers may be greater
+-- the same plane, with numbers that may be greater
 abbrev pub long : ShortPlane → Plane
 long n = record { a = n.a; b = n.b; c = n.c; d = n.d }
 

@@ -22,8 +22,8 @@ pub(crate) struct Frame {
     pub(crate) anchor: Point,
 }
 
-/// The cross products over the half-edges of the face's outer loop, and the point of its first corner: where the first item of that
-/// loop starts, or where it is lone. Of a loop that has more than `most` items, or is lone where `most` isn't all, nothing is told.
+/// The cross products over the half-edges of the face's outer loop, and the point of its first corner: where the first item of that loop starts, or
+/// the vertex of a lone loop. `None` if the loop has more than `most` items, or if it is lone and `most` doesn't stand for all.
 #[inline(always)]
 fn outer_frame(arena: &Arena, f: u32, most: u32) -> Option<Frame>
     requires ready { IsReady arena.now }
@@ -73,8 +73,8 @@ fn rings_added(arena: &Arena, vector: Vector, f: u32) -> Vector
     sum
 }
 
-/// The face's normal, the sum of the cross products over the half-edges of its loops, and the point of its first corner: where the
-/// first item of its outer loop starts, or where that loop is lone.
+/// The face's normal, the sum of the cross products over the half-edges of its loops, and the point of its first corner: where the first item of its
+/// outer loop starts, or the vertex of that loop if it is lone.
 #[inline(always)]
 pub(crate) fn frame_of(arena: &Arena, f: u32) -> Frame
     requires ready { IsReady arena.now }
@@ -90,10 +90,10 @@ pub(crate) fn frame_of(arena: &Arena, f: u32) -> Frame
     }
 }
 
-/// How many items an outer loop has at most whose sum stays in 64 bits all the way.
+/// An outer loop with at most so many items has a sum that stays in 64 bits all the way.
 const FEW: u32 = 4;
 
-/// The normal and the anchor of a face that has no ring and few corners, summed in 64 bits. Of another face nothing is told.
+/// The normal and the anchor of a face that has no ring and few corners, summed in 64 bits. `None` for any other face.
 #[inline(always)]
 fn short_frame(arena: &Arena, f: u32) -> Option<Frame>
     requires ready { IsReady arena.now }
@@ -124,7 +124,7 @@ fn frame_plane(frame: Frame) -> Plane
     }
 }
 
-/// The plane of a face with any number of rings and corners. It stands apart, so that a short face is looked at in place.
+/// The plane of a face with any number of rings and corners. It is a function of its own, so that the code for a short face stays in place.
 #[inline(never)]
 fn long_plane_of(arena: &Arena, f: u32) -> Plane
     requires ready { IsReady arena.now }
@@ -149,7 +149,7 @@ pub(crate) fn plane_of(arena: &Arena, f: u32) -> Plane
     }
 }
 
-/// Whether each vertex on the loops of the face lies on the plane. `short` is the same plane in 64 bits, where that serves.
+/// Whether each vertex on the loops of the face lies on the plane. `short` is the same plane in 64 bits, if it fits.
 #[inline(never)]
 fn loops_lie_on(arena: &Arena, plane: Plane, short: Option<ShortPlane>, f: u32) -> bool
     requires ready { IsReady arena.now }
@@ -161,7 +161,7 @@ fn loops_lie_on(arena: &Arena, plane: Plane, short: Option<ShortPlane>, f: u32) 
     loops_of(arena, f).all(|l| loop_lies_on(arena, plane, short, l))
 }
 
-/// Whether each vertex on the rings of the face lies on the plane, which `short` is in 64 bits.
+/// Whether each vertex on the rings of the face lies on the plane; `short` is this plane in 64 bits.
 #[inline(never)]
 fn rings_lie_on(arena: &Arena, plane: Plane, short: ShortPlane, f: u32) -> bool
     requires ready { IsReady arena.now }
@@ -173,7 +173,7 @@ fn rings_lie_on(arena: &Arena, plane: Plane, short: ShortPlane, f: u32) -> bool
     rings_of(arena, f).all(|l| loop_lies_on(arena, plane, Some(short), l))
 }
 
-/// Whether each vertex on the loops of the face lies on the plane, which `short` is in 64 bits. A face with no ring is one walk.
+/// Whether each vertex on the loops of the face lies on the plane; `short` is this plane in 64 bits. A face with no ring takes one walk.
 fn short_face_lies_on(arena: &Arena, plane: Plane, short: ShortPlane, f: u32) -> bool
     requires ready { IsReady arena.now }
     requires there { has_number arena.now Kind.Face f ≡ true }
@@ -232,7 +232,7 @@ fn frame_volume(frame: Frame) -> i128
     dot([n.x, n.y, n.z], anchor)
 }
 
-/// `volume_over` of a face with any number of rings and corners. It stands apart, so that a short face is looked at in place.
+/// `volume_over` of a face with any number of rings and corners. It is a function of its own, so that the code for a short face stays in place.
 #[inline(never)]
 fn long_volume_over(arena: &Arena, f: u32) -> i128
     requires ready { IsReady arena.now }

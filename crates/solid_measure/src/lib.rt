@@ -1,16 +1,14 @@
 #![tactic(auto)]
 //! Measures of a boundary model: normals, planes, volumes and counts. Nothing here takes memory, and every number is exact.
 //!
-//! `solid_counts` counts what a solid has; `solid_checks` says what the larger commands ask of whole solids: that no loop is lone, and
-//! that each face is flat.
+//! `solid_counts` counts what a solid has; `solid_checks` tests what the larger commands ask of whole solids: that no loop is lone, and that each
+//! face is flat.
 //!
 //! # What is proved
 //!
-//! `counts`: the numbers of vertices, edges, faces and rings of a solid and `v - e + f - r`, refused exactly where NumberRange,
-//! or after it NoSolid, is false.
-//! `normal`, `plane`, `is_flat`, `six_volume` are the sums over the model, refused exactly where NumberRange, or after it NoFace
-//! or NoSolid, is false. All partial sums fit 128 bits. The least lone loop, and the least face that isn't flat, of one solid or
-//! of two.
+//! `counts`: the numbers of vertices, edges, faces and rings of a solid and `v - e + f - r`, refused exactly if NumberRange, or after it NoSolid, is
+//! false. `normal`, `plane`, `is_flat`, `six_volume` are the sums over the model, refused exactly if NumberRange, or after it NoFace or NoSolid, is
+//! false. All partial sums fit 128 bits. Also the least lone loop, and the least face that isn't flat, of one solid or of two.
 
 mod faces;
 mod loops;

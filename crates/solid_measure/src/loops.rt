@@ -46,8 +46,8 @@ pub(crate) struct Round {
     pub(crate) least: u32,
 }
 
-/// Walks once round loop l, in which `first` stands, unless it has more than `most` items: the vector plus the cross products over its
-/// half-edges, and its first item. Each point is looked up once, since a half-edge ends where the next one starts.
+/// Walks once round loop l, in which `first` stands, if it has at most `most` items: the vector plus the cross products over its half-edges, and its
+/// first item. Each point is looked up once, since a half-edge ends where the next one starts.
 #[inline(always)]
 pub(crate) fn walk_within(
     arena: &Arena,
@@ -122,7 +122,7 @@ fn is_on(plane: Plane, p: Point) -> bool
     }
 }
 
-/// Whether the point lies on the plane. `short` is the same plane in 64 bits, where that serves.
+/// Whether the point lies on the plane. `short` is the same plane in 64 bits, if it fits.
 #[inline(always)]
 fn lies_on(plane: Plane, short: Option<ShortPlane>, p: Point) -> bool
     requires plane { IsPlane plane }
@@ -161,7 +161,7 @@ pub(crate) fn loop_lies_on(arena: &Arena, plane: Plane, short: Option<ShortPlane
     }
 }
 
-/// Whether each half-edge of the loop in which `first` stands starts on the plane, which `short` is in 64 bits.
+/// Whether each half-edge of the loop in which `first` stands starts on the plane; `short` is this plane in 64 bits.
 #[inline(always)]
 fn short_ring_lies_on(arena: &Arena, plane: Plane, short: ShortPlane, first: HalfEdge) -> bool
     requires ready { IsReady arena.now }
@@ -173,7 +173,7 @@ fn short_ring_lies_on(arena: &Arena, plane: Plane, short: ShortPlane, first: Hal
     items_round(arena, first).all(|h| lies_on(plane, Some(short), start(arena, h)))
 }
 
-/// Whether each vertex on the loop lies on the plane, which `short` is in 64 bits.
+/// Whether each vertex on the loop lies on the plane; `short` is this plane in 64 bits.
 #[inline(always)]
 pub(crate) fn short_loop_lies_on(arena: &Arena, plane: Plane, short: ShortPlane, l: u32) -> bool
     requires ready { IsReady arena.now }

@@ -44,9 +44,9 @@ pub fn normal(arena: &Arena, f: u32) -> Result<[i128; 3], Refusal>
     Ok([n.x, n.y, n.z])
 }
 
-/// The plane of face f: across its normal, through its anchor.
+/// The plane of face f: it goes through the face's anchor, across its normal.
 ///
-/// Refused as `normal`, and as dear.
+/// Refused as `normal` is, and as fast.
 pub fn plane(arena: &Arena, f: u32) -> Result<Plane, Refusal>
     requires { IsReady arena.now }
     ensures { result ≡ answer (face_refusal arena.now.model f) (plane_of arena.now.model f) }
@@ -59,7 +59,7 @@ pub fn plane(arena: &Arena, f: u32) -> Result<Plane, Refusal>
 
 /// Whether face f is flat: its normal isn't zero, and its plane goes through each vertex on its loops.
 ///
-/// Refused as `normal`, and as dear.
+/// Refused as `normal` is, and as fast.
 pub fn is_flat(arena: &Arena, f: u32) -> Result<bool, Refusal>
     requires { IsReady arena.now }
     ensures { result ≡ answer (face_refusal arena.now.model f) (is_flat arena.now.model f) }

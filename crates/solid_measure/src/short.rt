@@ -7,17 +7,17 @@ ghost use Rattle.solid_measure.specs.Short.{IsOfItems, IsShort, IsShortOf, all_o
 use crate::Vector;
 use euler_operators::{Plane, Point};
 
-/// A sum over some items in two parts: what the last of them swept, in 64 bits, and what those before did.
+/// A sum over some items in two parts: the sum over the last few items, in 64 bits, and the sum over those before them.
 #[derive(Clone, Copy)]
 pub(crate) struct Swept {
     pub(crate) whole: Vector,
     pub(crate) last: Point,
 }
 
-/// Nothing swept.
+/// The sum over no items.
 pub(crate) const NOTHING: Point = Point { x: 0, y: 0, z: 0 };
 
-/// A number at most 6 * 10^18 in magnitude plus one of a cross product.
+/// A number of at most 6 * 10^18 in magnitude, plus one number of a cross product.
 fn minor_added(number: i64, a: i64, b: i64, c: i64, d: i64) -> i64
     requires number { IsWithin 6000000000000000000 number }
     requires a { is_coordinate a ≡ true }
@@ -29,7 +29,7 @@ fn minor_added(number: i64, a: i64, b: i64, c: i64, d: i64) -> i64
     number + (a * d - b * c)
 }
 
-/// What at most three items swept, plus the cross product of two points.
+/// The sum over at most three items, plus the cross product of two points.
 pub(crate) fn short_crossed(last: Point, p: Point, q: Point) -> Point
     requires last { IsOfItems 3 last }
     requires p { IsInRange p }
@@ -56,8 +56,8 @@ pub(crate) fn widened(swept: Swept) -> Vector
     }
 }
 
-/// The sum, whose last part is that of an item more than `count` over the last multiple of four: where that makes four, they go to the
-/// whole, so that the next one fits.
+/// The same sum with at most three items in its last part, so that one more fits. There are `count + 1` items; when the last part has four of them,
+/// it is added to the whole.
 pub(crate) fn carried(swept: Swept, count: u32) -> Swept
     requires whole { IsVectorWithin normal_limit (read swept.whole) }
     requires all { IsVectorWithin normal_limit (all_of swept) }
@@ -90,7 +90,7 @@ pub(crate) struct ShortPlane {
     d: i64,
 }
 
-/// The number in 64 bits, where it is at most the limit in magnitude.
+/// The number in 64 bits, if it is at most the limit in magnitude.
 fn short(number: i128, limit: u64) -> Option<i64>
     requires { limit ≤ 9000000000000000000 }
     ensures { IfSome result (λ n. (n ≡ number) × IsWithin limit number) }
@@ -102,7 +102,7 @@ fn short(number: i128, limit: u64) -> Option<i64>
     }
 }
 
-/// The plane in 64 bits, where a, b, c are at most 2 * 10^9 in magnitude, and d at most 2 * 10^18.
+/// The plane in 64 bits, if a, b, c are at most 2 * 10^9 in magnitude, and d at most 2 * 10^18.
 pub(crate) fn short_plane(plane: Plane) -> Option<ShortPlane>
     ensures { IsShortOf plane result }
 {

@@ -1,19 +1,19 @@
--- What normals and volumes obey.
+-- The laws of normals and volumes.
 use Rattle.std.specs.Prelude.{◌≡◌, ℕ, ◌+◌, ◌<◌, pos, ◌+ℤ◌, neg_ℤ, unsigned_abs, true, List, map, reverse, Some}
 use Rattle.std.specs.List.{list_all}
 use Rattle.euler_operators.specs.Common.{Point, Plane, origin, moved, dot, cross, height, is_on, are_opposite, cuts_lattice, cut_between, cut_point, SameItems, mate, Model, point_of, faces_of, Sound, Has, lists}
 use Rattle.shapes.specs.Common.{boundary, corners, area, normal, anchor, is_plane_of, is_flat, six_volume, negated, scaled, towards}
 use Rattle.solid_measure_laws.specs.Models.{turned, shifted, normals_in}
 
--- any two points of a plane on which all corners of a face lie have the same product along the face's normal
+-- if all corners of a face lie on a plane, any two points of that plane have the same product along the face's normal
 abbrev pub FlatFaces : Type 0
 FlatFaces = (M : Model) (f : ℕ) (s : Plane) (r q : Point) → Sound M → is_plane_of M s (corners M f) ≡ true → is_on s r ≡ true → is_on s q ≡ true → dot r (normal M f) ≡ dot q (normal M f)
 
--- so what the face adds to the six volumes may be told from any of them
+-- so what the face adds to the six volumes may be computed from any of these points
 abbrev pub ToldAnywhere : Type 0
 ToldAnywhere = (M : Model) (f : ℕ) (s : Plane) (r : Point) → Sound M → Has M.faces f → is_plane_of M s (corners M f) ≡ true → is_on s r ≡ true → dot r (normal M f) ≡ dot (anchor M f) (normal M f)
 
--- and of a flat face from any of its corners
+-- what a flat face adds may be computed from any of its corners
 abbrev pub ToldFromCorners : Type 0
 ToldFromCorners = (M : Model) (f v : ℕ) → is_flat M f ≡ true → lists (corners M f) v ≡ true → dot (point_of M v) (normal M f) ≡ dot (anchor M f) (normal M f)
 
@@ -25,19 +25,19 @@ TurnedPaths = (M : Model) (hs : List ℕ) → area M (reverse (map mate hs)) ≡
 abbrev pub OpposedFaces : Type 0
 OpposedFaces = (M : Model) (f g : ℕ) → SameItems (boundary M g) (map mate (boundary M f)) → normal M g ≡ negated (normal M f)
 
--- so has each face where all loops are run the other way
+-- if all loops are run the other way, each face has the opposite normal
 abbrev pub TurnedFaces : Type 0
 TurnedFaces = (M : Model) (f : ℕ) → normal (turned M) f ≡ negated (normal M f)
 
--- and a solid with flat faces is turned inside out, with the opposite six volumes
+-- a solid with flat faces is then turned inside out, and has the opposite six volumes
 abbrev pub InvertedSolids : Type 0
 InvertedSolids = (M : Model) (s : ℕ) → Sound M → list_all (is_flat M) (faces_of M s) ≡ true → six_volume (turned M) s ≡ neg_ℤ (six_volume M s)
 
--- a face keeps its normal where the model is moved
+-- a face keeps its normal when the model is moved
 abbrev pub ShiftedFaces : Type 0
 ShiftedFaces = (M : Model) (d : Point) (f : ℕ) → Sound M → normal (shifted M d) f ≡ normal M f
 
--- and a solid's six volumes grow by the sum of its faces' normals along the way
+-- the six volumes of a solid grow by the sum of its faces' normals along the way
 abbrev pub ShiftedSolids : Type 0
 ShiftedSolids = (M : Model) (d : Point) (s : ℕ) → Sound M → six_volume (shifted M d) s ≡ six_volume M s +ℤ dot d (normals_in M (faces_of M s))
 
@@ -49,15 +49,15 @@ ClosedSolids = (M : Model) (s : ℕ) → Sound M → normals_in M (faces_of M s)
 abbrev pub MovedSolids : Type 0
 MovedSolids = (M : Model) (d : Point) (s : ℕ) → Sound M → six_volume (shifted M d) s ≡ six_volume M s
 
--- c lies inside the segment from p to q, and divides it as m to n
+-- c lies inside the segment from p to q, and divides it in the ratio of m to n
 abbrev pub Divides : ℕ → ℕ → Point → Point → Point → Type 0
 Divides m n p q c = (0 < m) × (0 < n) × (scaled (pos (m + n)) (towards p c) ≡ scaled (pos m) (towards p q))
 
--- where the ends of a segment lie strictly on opposite sides of a plane, and the cut point is on the lattice, it lies on the plane
+-- if the ends of a segment lie strictly on opposite sides of a plane, and the cut point is on the lattice, the cut point lies on the plane
 abbrev pub CutsOnPlane : Type 0
 CutsOnPlane = (s : Plane) (p q : Point) → are_opposite s p q ≡ true → cuts_lattice s p q ≡ true → is_on s (cut_between s p q) ≡ true
 
--- and inside the segment, which it divides as the heights of the ends
+-- it lies inside the segment, and divides it in the ratio of the heights of the ends
 abbrev pub CutsInside : Type 0
 CutsInside = (s : Plane) (p q : Point) → are_opposite s p q ≡ true → cuts_lattice s p q ≡ true → Divides (unsigned_abs (height s p)) (unsigned_abs (height s q)) p q (cut_between s p q)
 

@@ -1,4 +1,4 @@
--- A model with its loops run the other way, a model moved, and the sum of normals.
+-- A model whose loops run the other way, a model that is moved, and the sum of normals.
 use Rattle.std.specs.Prelude.{ℕ, List, [], ◌∷◌, map, reverse}
 use Rattle.euler_operators.specs.Common.{Point, origin, moved, canonical, mate, map_rows, Model, LoopContent, LoopRow, lone, cycle}
 use Rattle.shapes.specs.Common.{normal}
@@ -11,7 +11,7 @@ run_back (cycle hs) = cycle (canonical (reverse (map mate hs)))
 abbrev pub row_back : LoopRow → LoopRow
 row_back row = record { face = row.face; content = run_back row.content }
 
--- the model with each loop run the other way: its solids turned inside out
+-- the model with each loop run the other way, so that its solids are turned inside out
 unfoldable pub turned : Model → Model
 turned M = record M { loops = map_rows (λ _ row. row_back row) M.loops }
 

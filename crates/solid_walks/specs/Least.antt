@@ -1,11 +1,11 @@
--- The least of some numbers, where there is one.
+-- The least of some numbers, if there is one.
 use Rattle.std.specs.Prelude.{ℕ, Bool, cond, nat_le, List, [], ◌∷◌, Option, Some, None}
 
 -- the number alone, if it is wanted
 abbrev pub only : Bool → ℕ → Option ℕ
 only b n = cond b (Some n) None
 
--- the lesser of two; of one alone, that one
+-- the lesser of two numbers; if there is only one, this one
 abbrev pub lesser : Option ℕ → Option ℕ → Option ℕ
 lesser None n = n
 lesser (Some m) None = Some m

@@ -8,12 +8,11 @@ use crate::codes::back;
 use euler_conditions::{Arena, mate_code, round_code};
 use euler_operators::HALF_EDGE_CODES;
 
-/// Whether the half-edge of a code is of the least edge at its vertex; `previous` is the code of the item before it in its loop, whose
-/// edge ends at that vertex.
+/// Whether the half-edge of a code is of the least edge at its vertex. `previous` is the code of the item before it in its loop, whose edge ends at
+/// that vertex.
 ///
-/// It goes round the vertex both ways, a step back and a step ahead in turn, to the first lesser edge or until all were seen; the
-/// first step back is that to the edge of `previous`. So to ask this of all d half-edges at a vertex takes about d log d steps, in
-/// whatever order their numbers stand.
+/// It goes round the vertex both ways, a step back and a step ahead in turn, until it meets a lesser edge or has seen all. The first step back is the
+/// step to the edge of `previous`. So asking this of all d half-edges at a vertex takes about d log d steps, in whatever order their numbers stand.
 pub fn leads(arena: &Arena, previous: u32, code: u32) -> bool
     requires ready { IsReady arena.now }
     requires there { has_half arena.now.model code ≡ true }

@@ -1,4 +1,4 @@
-//! Half-edges by their codes, for walks that look at many: a code is one number to carry and to compare.
+//! Half-edges by their codes, for walks that look at many half-edges: a code is one number to carry and to compare.
 ghost use Rattle.std.specs.Prelude.{◌≡◌, true};
 ghost use Rattle.euler_operators.specs.Common.{IsInRange, mate, before, has_half};
 ghost use Rattle.euler_conditions.specs.Ready.{IsReady};
@@ -28,7 +28,7 @@ pub fn start_of_code(arena: &Arena, code: u32) -> Point
     start(arena, HalfEdge::of_code(code))
 }
 
-/// The code of the half-edge that leaves the same vertex, and that this one is the next of.
+/// The code of the half-edge that leaves the same vertex and comes before this one round that vertex.
 pub(crate) fn back(arena: &Arena, code: u32) -> u32
     requires ready { IsReady arena.now }
     requires there { has_half arena.now.model code ≡ true }

@@ -1,5 +1,5 @@
-//! Walks over the faces of a solid, the loops of a face and the half-edges of a loop, in the order of listings. Each is an iterator
-//! that contracts see as the list of what is still to come.
+//! Walks over the faces of a solid, the loops of a face and the half-edges of a loop, in the order of listings. Each is an iterator, which contracts
+//! see as the list of what is still to come.
 
 mod faces;
 mod items;

@@ -1,11 +1,11 @@
 #![tactic(auto)]
-//! Walks over a solid: from face to face and from loop to loop, round a loop, and round a vertex. Beside them, the lone loops of a face,
-//! and the numbers that are left for what a larger command makes.
+//! Walks over a solid: from face to face and from loop to loop, round a loop, and round a vertex. It also has the lone loops of a face, and the
+//! numbers that are left for what a larger command makes.
 //!
-//! `face_walks` has three iterators in the order of listings: `Faces` over the faces of a solid (`faces_of`), `Loops` over the loops of a
-//! face (`loops_of`, `rings_of`), `Items` once round a loop (`items_round` from a half-edge on, `items_of` from the least). A contract sees
-//! each as the list of what is still to come, so that what `all`, `find`, `fold`, `map` and `collect` answer is said of that list. `codes` has
-//! the steps of a walk over half-edges by their codes, `around` the walk round a vertex, both ways, `numbers` the greatest numbers in use.
+//! `face_walks` has three iterators in the order of listings: `Faces` over the faces of a solid (`faces_of`), `Loops` over the loops of a face
+//! (`loops_of`, `rings_of`), `Items` once round a loop (`items_round` from a half-edge on, `items_of` from the least). A contract sees each as the
+//! list of what is still to come, so what `all`, `find`, `fold`, `map` and `collect` answer is said of that list. `codes` has the steps of a walk
+//! over half-edges by their codes, `around` the walk round a vertex, both ways, `numbers` the greatest numbers in use.
 //!
 //! # What is proved
 //!

@@ -11,7 +11,7 @@ use crate::least::lesser;
 use euler_conditions::{Arena, is_lone};
 use euler_operators::Kind;
 
-/// Loop l, where it is lone.
+/// The number l, if loop l is lone.
 fn lone_loop(arena: &Arena, l: u32) -> Option<u32>
     requires ready { IsReady arena.now }
     requires there { has_number arena.now Kind.Loop l ≡ true }
@@ -20,8 +20,8 @@ fn lone_loop(arena: &Arena, l: u32) -> Option<u32>
     if is_lone(arena, l) { Some(l) } else { None }
 }
 
-/// The least lone loop of face f, which is there, if there is one. It looks at each of its loops once, and at no other. It stands
-/// apart, so that a face with no ring is looked at in place.
+/// The least lone loop of face f, which is there, if there is one. It looks at each of the face's loops once, and at no other. It is a function of
+/// its own, so that the code for a face with no ring stays in place.
 #[inline(never)]
 fn least_lone_of_loops(arena: &Arena, f: u32) -> Option<u32>
     requires ready { IsReady arena.now }
@@ -31,7 +31,7 @@ fn least_lone_of_loops(arena: &Arena, f: u32) -> Option<u32>
     loops_of(arena, f).fold(None, |least, l| lesser(least, lone_loop(arena, l)))
 }
 
-/// The least lone loop of face f, which is there, if there is one. It looks at each of its loops once, and at no other.
+/// The least lone loop of face f, which is there, if there is one. It looks at each of the face's loops once, and at no other.
 #[inline(always)]
 pub fn least_lone_of_face(arena: &Arena, f: u32) -> Option<u32>
     requires ready { IsReady arena.now }

@@ -1,4 +1,4 @@
-//! Fresh numbers: those after the greatest in use as a command begins.
+//! Fresh numbers: those above the greatest numbers in use when a command begins.
 ghost use Rattle.std.specs.Prelude.{◌≡◌, ◌+◌, nat_le};
 ghost use Rattle.euler_operators.specs.Common.{first_refusal, verdict};
 ghost use Rattle.euler_conditions.specs.Ready.{IsReady};
@@ -8,7 +8,7 @@ ghost use Rattle.solid_walks.specs.Counters.{AreWithin, taken_of};
 use euler_conditions::Arena;
 use euler_operators::{Kind, NUMBER_LIMIT, Refusal, Why, refused};
 
-/// The greatest number of each kind but solids.
+/// The greatest number of each kind except solids.
 #[derive(Clone, Copy)]
 pub struct Counters {
     pub faces: u32,
@@ -38,8 +38,8 @@ fn has_left(taken: u32, more: usize) -> bool
     more <= NUMBER_LIMIT as usize && taken <= NUMBER_LIMIT - more as u32
 }
 
-/// Whether so many more faces, loops, edges and vertices stay within the limit of numbers. Else NumbersSpent, with 2 for faces,
-/// 3 for loops, 4 for edges and 5 for vertices: the first kind that lacks numbers.
+/// Whether so many more faces, loops, edges and vertices stay within the limit of numbers. If not, the refusal is NumbersSpent with the first kind
+/// that lacks numbers: 2 for faces, 3 for loops, 4 for edges, 5 for vertices.
 pub fn check_left(
     taken: Counters,
     faces: usize,

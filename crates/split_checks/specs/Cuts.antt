@@ -1,4 +1,4 @@
--- What a plane cuts of a solid, as the code has it.
+-- What a plane cuts of a solid, in the types of the code.
 use Rattle.std.specs.Prelude.{◌≡◌, ℕ, ◌+◌, List, [], ◌∷◌, ◌++◌, map, length, take, drop}
 use Rattle.euler_operators.specs.Common.{Plane, code, plus, cut_between, Model}
 use Rattle.shapes.specs.Common.{start, finish, place_pairs, crossing_edges, straddling_faces, FacePairs}
@@ -28,12 +28,12 @@ abbrev pub how_many_pairs : List PairedFace → ℕ
 how_many_pairs [] = 0
 how_many_pairs (f ∷ fs) = f.pairs + how_many_pairs fs
 
--- some faces with their pairs: the first takes as many as it has, and the others go on with the rest
+-- some faces with their pairs: the first face takes as many pairs as it has, and the others share the rest
 abbrev pub paired : List PairedFace → List (ℕ × ℕ) → List FacePairs
 paired [] qs = []
 paired (f ∷ fs) qs = record { face = f.face; pairs = take f.pairs qs } ∷ paired fs (drop f.pairs qs)
 
--- the cuts are what the plane cuts of solid s
+-- the cuts are exactly what the plane cuts of solid s
 pub record AreCuts (M : Model) (p : Plane) (s : ℕ) (cuts : Cuts) : Type 0 where
   pub edges : cuts.edges.items ≡ map (cut_at M p) (crossing_edges M p s)
   pub faces : cuts.faces.items ≡ map (paired_face M p) (straddling_faces M p s)

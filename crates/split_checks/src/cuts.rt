@@ -1,21 +1,21 @@
 //! What a plane cuts of a solid.
 use euler_operators::{HalfEdge, Point};
 
-/// An edge that crosses the plane, and the point at which it meets it.
+/// An edge that crosses the plane, and the point at which it meets the plane.
 #[derive(Clone, Copy)]
 pub struct CutEdge {
     pub edge: u32,
     pub point: Point,
 }
 
-/// The edges that cross a plane, rising, and each of them with the point at which it meets the plane, in the same order.
+/// The edges that cross a plane, rising, and in the same order each of them with the point at which it meets the plane.
 #[derive(Clone, Copy)]
 pub(crate) struct Crossings<'a> {
     pub edges: &'a [u32],
     pub cut: &'a [CutEdge],
 }
 
-/// Two half-edges of a face that tell, or start at, the cut places of a pair, the one that is up and the one that is down.
+/// A pair of cut places: the half-edges that name them or start at them, that of the up place and that of the down place.
 #[derive(Clone, Copy)]
 pub struct Pair {
     pub up: HalfEdge,
@@ -29,9 +29,9 @@ pub struct PairedFace {
     pub pairs: usize,
 }
 
-/// What a plane cuts of a solid: the edges that cross it, rising, each with the point at which it meets it; the faces that straddle it,
-/// rising; and the pairs of their cut places, one face after the other, each pair with its up place first, those of a face in the order
-/// of their points.
+/// What a plane cuts of a solid: the edges that cross it, rising, each with the point at which it meets the plane; the faces that straddle it,
+/// rising; and the pairs of their cut places, one face after the other. Each pair has its up place first, and the pairs of a face are in the order of
+/// their points.
 #[derive(Drop)]
 pub struct Cuts {
     pub edges: Vec<CutEdge>,

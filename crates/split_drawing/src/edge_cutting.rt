@@ -1,4 +1,4 @@
-//! The edges that cross a plane cut there, operator by operator in a draft: the first rewriting of a split.
+//! The first rewriting of a split, operator by operator in a draft: the edges that cross the plane are cut there.
 
 mod cutting;
 

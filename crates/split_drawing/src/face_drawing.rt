@@ -1,4 +1,4 @@
-//! Edges drawn between the cut places of a face, operator by operator in a draft: the parts of the second rewriting of a split.
+//! Parts of the second rewriting of a split, operator by operator in a draft: edges are drawn between the cut places of a face.
 
 mod drawing;
 mod joining;

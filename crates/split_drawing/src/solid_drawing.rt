@@ -1,4 +1,4 @@
-//! A solid with its crossing edges cut and its straddling faces drawn, in a draft: the first two rewritings of a split.
+//! The first two rewritings of a split, in a draft: a solid's crossing edges are cut, and edges are drawn in its straddling faces.
 
 mod face;
 mod places;

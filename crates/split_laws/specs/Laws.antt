@@ -10,7 +10,7 @@ use Rattle.split_laws.specs.SplitOps.{openings_ops, split_ops}
 abbrev pub OpeningsAreAccepted : Type 0
 OpeningsAreAccepted = (above : List ℕ) (s : ℕ) (p : Plane) (o : Opening) (cs : List (List ℕ)) → CanBeOpenedInTurn above s o cs → AreAccepted o.model (openings_ops above s p o cs)
 
--- and together they open it along all
+-- and together they open it along all these cycles
 abbrev pub OpeningsAreMade : Type 0
 OpeningsAreMade = (above : List ℕ) (s : ℕ) (p : Plane) (o : Opening) (cs : List (List ℕ)) → CanBeOpenedInTurn above s o cs →
     effects o.model (openings_ops above s p o cs) ≡ (all_opened p above s o cs).model

@@ -19,23 +19,23 @@ closing_ops o ks = flat_map (λ k. Kfmrh o.lower k.lower ∷ Kfmrh o.upper k.upp
 abbrev pub hole_ops : List Caps → List Op
 hole_ops ks = closing_ops (outer_caps ks) (filter (λ k. k.hole) ks)
 
--- the holes closed, and then the upper faces that are left parted from solid s as solid t
+-- the operators that close the holes, and then the one that parts the upper faces that are left from solid s as solid t
 abbrev pub upper_ops : Opening → List ℕ → ℕ → ℕ → List Op
 upper_ops o above s t = hole_ops o.caps ++ Part s t (upper_left above o.caps) ∷ []
 
--- from the drawing on: the openings, then the upper faces parted
+-- the operators that follow the drawing: the openings, then the parting of the upper faces
 abbrev pub later_ops : Drawing → List ℕ → ℕ → Plane → ℕ → List Op
 later_ops d above s p t =
     openings_ops above s p (record { model = d.model; taken = d.taken; caps = [] }) (section_cycles d.model (below_halves d.model above s))
     ++ upper_ops (opened_at d above s p) above s t
 
--- along the section between the faces above and the others: what is made of a drawing, and the operators that make it
+-- what is made of a drawing along the section between the faces above and the others, and the operators that make it
 abbrev pub split_above : Drawing → ℕ → Plane → ℕ → Model
 split_above d s p t = split_drawn d (faces_above d.model p s) s p t
 
 abbrev pub ops_above : Drawing → ℕ → Plane → ℕ → List Op
 ops_above d s p t = later_ops d (faces_above d.model p s) s p t
 
--- all operators of a split: edges cut, faces drawn, the solid opened along its section, and what is above parted
+-- all operators of a split: they cut edges, draw faces, open the solid along its section, and part what is above
 unfoldable pub split_ops : Model → ℕ → Plane → ℕ → List Op
 split_ops M s p t = rewriting_ops M s p ++ ops_above (with_drawings M s p) s p t

@@ -2,6 +2,6 @@
 use Rattle.std.specs.Prelude.{ℕ, ◌+◌, ◌*◌}
 use Rattle.shapes.specs.Common.{Needed}
 
--- for cycles of n halves in all: a face and a loop for each half and each cycle, two edges and a vertex for each half
+-- for cycles with n halves in all: a face and a loop for each half and for each cycle, and two edges and a vertex for each half
 abbrev pub needed_for_openings : (n cycles : ℕ) → Needed
 needed_for_openings n cycles = record { faces = n + cycles; loops = n + cycles; edges = 2 * n; vertices = n }

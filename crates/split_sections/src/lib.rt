@@ -1,18 +1,19 @@
 #![tactic(auto)]
-//! The section of a solid by a plane once its faces are drawn: its edges, its cycles, and what is tested then.
+//! The section of a solid by a plane after its faces are drawn: its edges, its cycles, and the conditions that are tested then.
 //!
-//! `section_edges` has the faces above the plane and the halves below of the section's edges; `section_cycles` the cycles that these
-//! form, the vertices at which too many meet, and which cycles are holes; `section_checks` tests the conditions that come then.
+//! `section_edges` has the faces above the plane and the below halves of the section's edges. `section_cycles` has the cycles that these
+//! halves form, the vertices at which too many of them meet, and which cycles are holes. `section_checks` tests the conditions.
 //!
 //! # What is proved
 //!
-//! From a ready arena: `faces_above`, the faces of a solid above a plane in range, rising, where a face wholly on the plane is
-//! above unless its normal points along the plane's direction; `below_halves`, the halves of the section edges in the faces that
-//! aren't above, by rising edge; or `AllocError`. `starts_of`: the below half that starts at each vertex, and, where as many start at
-//! each vertex as end there, the least vertex at which more than two section edges meet, or none; `cycles`: the cycles of the below
-//! halves, each from its least on, by these, with word on which are holes, where the normal of a cycle's cap below points against
-//! the plane; or `AllocError`. `check_later`: of the conditions of a split that are tested once the faces are drawn the first false
-//! one, with its value, or the faces above and the cycles of the section with word on which are holes, or `AllocError`.
+//! From a ready arena: `faces_above` answers the faces of a solid above a plane in range, in rising order; a face that lies wholly on the
+//! plane counts as above unless its normal points along the plane's direction. `below_halves` answers the halves of the section edges that
+//! lie in faces that aren't above, by rising edge. Both may answer `AllocError`. `starts_of` answers the below half that starts at each
+//! vertex. If as many below halves start at each vertex as end there, it also answers the least vertex at which more than two section edges
+//! meet, or none. From these starts `cycles` answers the cycles of the below halves, each from its least half on, and which of them are
+//! holes: those whose cap below has a normal that points against the plane; or `AllocError`. `check_later` tests the conditions of a split
+//! that come after the faces are drawn. It answers the first false one with its value; or the faces above, the cycles of the section and
+//! which of them are holes; or `AllocError`.
 
 mod section_checks;
 mod section_cycles;

@@ -1,4 +1,4 @@
-//! The section of a solid by a plane once its faces are drawn, and the conditions that are tested then.
+//! The section of a solid by a plane after its faces are drawn, and the conditions that are tested then.
 
 mod checks;
 mod holes;

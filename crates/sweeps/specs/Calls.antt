@@ -8,7 +8,7 @@ use Rattle.undo_journal.specs.Machine.{Machine, held}
 use Rattle.undo_journal.specs.Histories.{made, after_call}
 use Rattle.sweeps.specs.Machine.{lamina, lamina_refusal, block, block_refusal, sweep, sweep_refusal}
 
--- where it isn't refused, each is the larger command of its operators
+-- each of these that isn't refused is the larger command of its operators
 abbrev pub LaminasAreCalls : Type 0
 LaminasAreCalls = (m : Machine) (s : ℕ) (ps : List Point) → Sound (held m) → lamina_refusal m s ps ≡ None → after_call m (made (lamina_operators (held m) s ps)) ≡ lamina m s ps
 

@@ -1,4 +1,4 @@
-//! The block: a lamina swept up, as one command.
+//! The block: a lamina that is swept up, as one command.
 ghost use Rattle.std.specs.Prelude.{◌≡◌, ◌≤◌, ◌↔◌, ◌+◌, pos, map, None, Some, Err, OnOk, OnErr};
 ghost use Rattle.euler_operators.specs.Common.{IsInRange, is_in_range, moved, code, plus, verdict, Sound};
 ghost use Rattle.euler_operators.specs.declared.Refusal.{Refusal};
@@ -101,7 +101,7 @@ fn base_items(taken: &Counters) -> [HalfEdge; 4]
     [first, second, third, fourth]
 }
 
-/// The counters once a lamina with four corners is drawn.
+/// The counters after a lamina with four corners is drawn.
 fn counted_with_base(taken: &Counters) -> Counters
     requires faces { taken.now.faces + 2 ≤ 1000000 }
     requires loops { taken.now.loops + 2 ≤ 1000000 }
@@ -117,8 +117,8 @@ fn counted_with_base(taken: &Counters) -> Counters
     }
 }
 
-/// Draws a block whose conditions hold: the lamina of its base, and then the sweep of the lamina's first face, of which all half-edges are
-/// known. Where memory is refused the draft holds what was drawn so far.
+/// Draws a block whose conditions hold: the lamina of its base, and then the sweep of the lamina's first face, whose half-edges are all
+/// known. If memory is refused, the draft holds what was drawn so far.
 #[tactic(auto, using(undo_journal::proofs::Marks::further_on))]
 fn draw_base_and_walls(
     draft: &mut Draft,
@@ -143,8 +143,7 @@ fn draw_base_and_walls(
     raise_items(draft, &counted_with_base(taken), items.as_slice(), up)
 }
 
-/// Draws a block whose conditions hold, with the memory for its thirteen steps taken at once. Where memory is refused the draft is as it
-/// was.
+/// Draws a block whose conditions hold. First it asks for memory for its thirteen steps. If memory is refused, the draft is as it was.
 #[tactic(auto, using(undo_journal::proofs::Marks::further_none, undo_journal::proofs::Marks::further_back))]
 fn try_block(
     draft: &mut Draft,
@@ -171,7 +170,7 @@ fn try_block(
     }
 }
 
-/// A block as steps of a draft, by its sizes in one vector.
+/// A block as steps of a draft, with its sizes in one vector.
 #[tactic(auto, using(undo_journal::proofs::Marks::further_none, undo_journal::proofs::Marks::further_back))]
 fn block_of_in(draft: &mut Draft, solid: u32, corner: Point, size: Point) -> Result<(), Failure>
     ensures ok { OnOk result ((spec.block_refusal draft.old.model solid corner size.x size.y size.z ≡ None) × (draft.new.model ≡ block_model draft.old.model solid corner size.x size.y size.z)) }
@@ -190,7 +189,7 @@ fn block_of_in(draft: &mut Draft, solid: u32, corner: Point, size: Point) -> Res
     }
 }
 
-/// A block as steps of a draft: as `block`, of the draft's model. On any failure the draft is as it was, and goes on.
+/// A block as steps of a draft, as `block` makes it, in the draft's model. On any failure the draft is as it was, and goes on.
 pub fn block_in(
     draft: &mut Draft,
     solid: u32,
@@ -212,7 +211,7 @@ pub fn block_in(
     block_of_in(draft, solid, corner, size)
 }
 
-/// A block as one command, by its sizes in one vector.
+/// A block as one command, with its sizes in one vector.
 fn block_of(
     session: Session,
     solid: u32,
@@ -241,13 +240,12 @@ fn block_of(
     }
 }
 
-/// A block as one command: the new solid with its edges along the axes, from a corner and by sizes along x, y and z. It is the
-/// lamina of its base, swept up.
+/// A block as one command: the new solid from a corner, with sizes along x, y and z and edges parallel to the axes. It is the lamina of its
+/// base, swept up.
 ///
-/// Refused, in this order: NumberRange; SolidTaken; SizeRange with 1, 2 or 3 for the first size below 1; PointRange with 1 for
-/// the corner, 2 for the opposite one; NumbersSpent with 2 for faces, 3 for loops, 4 for edges, 5 for vertices. Where memory is
-/// refused `Memory` is answered. On any failure the session is as it was. An accepted block leaves one record. The models held before
-/// and after are sound.
+/// Refused, in this order: NumberRange; SolidTaken; SizeRange with 1, 2 or 3 for the first size below 1; PointRange with 1 for the corner,
+/// 2 for the opposite one; NumbersSpent with 2 for faces, 3 for loops, 4 for edges, 5 for vertices. If memory is refused, the answer is
+/// `Memory`. On any failure the session is as it was. An accepted block leaves one record. The models held before and after are sound.
 pub fn block(
     alloc: Global,
     session: Session,

@@ -1,4 +1,4 @@
-//! The corners of a face that is to be swept: how many there are, and which of them goes out of range.
+//! The corners of a face that is to be swept: how many there are, and which is the first that goes out of range.
 ghost use Rattle.std.specs.Prelude.{◌≡◌, true, map, [], ◌∷◌};
 ghost use Rattle.euler_operators.specs.Common.{code, has_half, content, cycle_of, tail};
 ghost use Rattle.euler_conditions.specs.Store.{has_number};
@@ -10,8 +10,8 @@ use euler_conditions::Arena;
 use euler_operators::{Content, HalfEdge, Kind, Point, sum_in_range};
 use solid_walks::{items_of, loops_of};
 
-/// What some corners are that a vector moves: how many, or 1,000,001 where they are more, and the vertex of the first whose moved
-/// point is out of range, if there is one.
+/// What is known of some corners that a vector moves: how many there are, or 1,000,001 if there are more; and the vertex of the first
+/// corner whose moved point is out of range, if there is one.
 #[derive(Clone, Copy)]
 pub(crate) struct Tally {
     pub count: u32,
@@ -48,7 +48,7 @@ fn item_tally(arena: &Arena, shift: Point, item: HalfEdge) -> Tally
     corner_tally(arena, shift, arena.tail(item))
 }
 
-/// The tally of some corners and then others.
+/// The tally of some corners and then some others.
 #[tactic(auto, unfolding(crate::specs::Corners::joined))]
 fn joined(a: Tally, b: Tally) -> Tally
     ensures { result ≡ joined a b }
@@ -83,7 +83,7 @@ fn loop_tally(arena: &Arena, shift: Point, l: u32) -> Tally
     }
 }
 
-/// The tally of the corners of face f: those of its outer loop, and then those of its rings, rising.
+/// The tally of the corners of face f: those of its outer loop, and then those of its rings in rising order.
 pub(crate) fn face_tally(arena: &Arena, shift: Point, f: u32) -> Tally
     requires ready { IsReady arena.now }
     requires there { has_number arena.now Kind.Face f ≡ true }

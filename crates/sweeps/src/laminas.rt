@@ -108,8 +108,7 @@ fn point_at(points: &[Point], index: usize) -> Point
     points[index]
 }
 
-/// Draws a lamina whose conditions hold: its operators, one after the other. Where memory is refused the draft holds what was
-/// drawn so far.
+/// Draws a lamina whose conditions hold: its operators, one after the other. If memory is refused, the draft holds what was drawn so far.
 #[tactic(auto, using(undo_journal::proofs::Marks::further_on))]
 pub(crate) fn draw_lamina(
     draft: &mut Draft,
@@ -153,7 +152,7 @@ pub(crate) fn draw_lamina(
     ))
 }
 
-/// Draws a lamina whose conditions hold. Where memory is refused the draft is as it was.
+/// Draws a lamina whose conditions hold. If memory is refused, the draft is as it was.
 #[tactic(auto, using(undo_journal::proofs::Marks::further_none, undo_journal::proofs::Marks::further_back, undo_journal::proofs::Marks::back_at_mark))]
 fn try_lamina(
     draft: &mut Draft,
@@ -179,7 +178,7 @@ fn try_lamina(
     }
 }
 
-/// A lamina as steps of a draft: as `lamina`, of the draft's model. On any failure the draft is as it was, and goes on.
+/// A lamina as steps of a draft, as `lamina` makes it, in the draft's model. On any failure the draft is as it was, and goes on.
 #[tactic(auto, using(undo_journal::proofs::Marks::further_none, undo_journal::proofs::Marks::further_back))]
 pub fn lamina_in(draft: &mut Draft, solid: u32, points: &ArrayVec<Point, 64>) -> Result<(), Failure>
     ensures ok { OnOk result ((spec.lamina_refusal draft.old.model solid points.now.items ≡ None) × (draft.new.model ≡ lamina_model draft.old.model solid points.now.items)) }
@@ -198,13 +197,12 @@ pub fn lamina_in(draft: &mut Draft, solid: u32, points: &ArrayVec<Point, 64>) ->
     }
 }
 
-/// A lamina as one command: the new solid with a ring of new edges through the points, at least 3 and all different, and a face
-/// on either side. Face f, the first fresh number, has the ring from the first point on; face f + 1 has it the other way round.
+/// A lamina as one command: the new solid with a ring of new edges through the points, which are at least 3 and all different, and a face
+/// on either side. Face f, the first fresh number, has the ring from the first point on; face f + 1 has it in the opposite direction.
 ///
-/// Refused, in this order: NumberRange; SolidTaken; FewPoints with how many there are; PointRange and RepeatedPoint with the
-/// place, from 1, of the first such point; NumbersSpent with 2 for faces, 3 for loops, 4 for edges, 5 for vertices. Where memory
-/// is refused `Memory` is answered. On any failure the session is as it was. An accepted lamina leaves one record. The models held
-/// before and after are sound.
+/// Refused, in this order: NumberRange; SolidTaken; FewPoints with how many there are; PointRange and RepeatedPoint with the place, from 1,
+/// of the first such point; NumbersSpent with 2 for faces, 3 for loops, 4 for edges, 5 for vertices. If memory is refused, the answer is
+/// `Memory`. On any failure the session is as it was. An accepted lamina leaves one record. The models held before and after are sound.
 pub fn lamina(
     alloc: Global,
     session: Session,

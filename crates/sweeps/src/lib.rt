@@ -1,14 +1,14 @@
 #![tactic(auto)]
-//! Commands that make shapes: a lamina, a block, a sweep of a face. Each is one command of the journal. What they make of volumes
-//! is said by `lamina_measures`, `block_measures` and `sweep_measures`.
+//! Commands that make shapes: a lamina, a block, a sweep of a face. Each is one command of the journal. `lamina_measures`, `block_measures`
+//! and `sweep_measures` say what they make of volumes.
 //!
 //! # What is proved
 //!
-//! `lamina`, `block` and `sweep`: Ok only where all conditions hold, and then one command of the machine with exactly the written
-//! model, and one record; refused exactly where a condition is false, with the first such and its value; on any failure the
-//! session is as it was, the models ahead included. The models held before and after are sound. No operator inside is ever
-//! refused. `sweep_measures`, `block_measures`, `lamina_measures`: what the six volumes of each solid of the session are after a
-//! command, from what they were before.
+//! `lamina`, `block` and `sweep` are Ok only if all conditions hold; then they are one command of the machine with exactly the written
+//! model, and leave one record. They are refused exactly if a condition is false, with the first such condition and its value. On any
+//! failure the session is as it was, and the models ahead are kept. The models held before and after are sound. No operator inside is ever
+//! refused. `sweep_measures`, `block_measures`, `lamina_measures`: the six volumes of each solid of the session after a command, from those
+//! before.
 
 mod blocks;
 mod corners;

@@ -1,4 +1,4 @@
-//! A face swept operator by operator in a draft.
+//! The sweep of a face, operator by operator in a draft.
 ghost use Rattle.std.specs.Prelude.{◌≡◌, ◌≤◌, ◌<◌, ◌+◌, ◌-◌, ◌*◌, true, false, None, OnOk, OnErr, IfOk, get_or, length, map};
 ghost use Rattle.euler_operators.specs.Common.{IsInRange, moved, code, has_half, items_of, content, face_of, first_false, is_lone};
 ghost use Rattle.euler_conditions.specs.Ready.{IsReady};
@@ -18,7 +18,7 @@ use solid_walks::{Counters, items_from, rings_of, some_item};
 use std::alloc::{AllocError, Global};
 use undo_journal::Draft;
 
-/// The edge that rises at the item at this place of a loop.
+/// The edge that rises at the start of the item with this place in its loop.
 fn riser(taken: &Counters, at: u32) -> u32
     requires { taken.now.edges + 2 * at + 1 ≤ 1000000 }
     ensures { result ≡ prism.riser taken.now.edges at }
@@ -30,7 +30,7 @@ fn riser(taken: &Counters, at: u32) -> u32
     }
 }
 
-/// The edge over the item at this place of a loop of so many items.
+/// The edge over the item with this place in a loop of so many items.
 fn top_edge(taken: &Counters, count: u32, at: u32) -> u32
     requires inside { at < count }
     requires left { taken.now.edges + 2 * count ≤ 1000000 }
@@ -53,7 +53,7 @@ fn loop_items(alloc: Global, arena: &Arena, l: u32) -> Result<Vec<HalfEdge>, All
     items_from(alloc, arena, some_item(arena, l))
 }
 
-/// Raises an item, the one at this place of its loop: a new edge rises from its start to the moved point.
+/// Raises the item with this place in its loop: a new edge rises from its start to the moved point.
 #[inline(always)]
 fn raise_item(
     draft: &mut Draft,
@@ -78,7 +78,7 @@ fn raise_item(
     draft.step_accepted(Op::Mev(Corner::At(item), Corner::At(item), edge, vertex, top))
 }
 
-/// Closes the side over the item at this place of a loop, between the edges that rise at it and at the next.
+/// Closes the side over the item with this place in its loop, between the edges that rise at its start and at that of the next item.
 fn close_side(draft: &mut Draft, taken: &Counters, count: u32, at: u32) -> Result<(), AllocError>
     requires inside { at + 1 < count }
     requires faces_left { taken.now.faces + count ≤ 1000000 }
@@ -119,7 +119,7 @@ fn close_last(draft: &mut Draft, taken: &Counters, count: u32) -> Result<(), All
     ))
 }
 
-/// The counters once a loop of so many items is swept.
+/// The counters after a loop of so many items is swept.
 fn counted_on(taken: &Counters, count: u32) -> Counters
     requires faces_left { taken.now.faces + count ≤ 1000000 }
     requires loops_left { taken.now.loops + count ≤ 1000000 }
@@ -135,7 +135,7 @@ fn counted_on(taken: &Counters, count: u32) -> Counters
     }
 }
 
-/// The half-edge of this index, of some.
+/// The half-edge with this index among some.
 fn item_at(items: &[HalfEdge], index: usize) -> HalfEdge
     requires { index < length items.now }
     ensures { result ≡ get_or items.now index result }
@@ -143,7 +143,7 @@ fn item_at(items: &[HalfEdge], index: usize) -> HalfEdge
     items[index]
 }
 
-/// Sweeps the loop that holds these half-edges, in the order of listings. On `AllocError` the draft may have taken some steps.
+/// Sweeps the loop that holds these half-edges, which stand in the order of listings. On `AllocError` the draft may have taken some steps.
 #[tactic(auto, using(undo_journal::proofs::Marks::further_on))]
 pub(crate) fn raise_items(
     draft: &mut Draft,
@@ -190,7 +190,7 @@ fn raise_loop(
     Ok(counted_on(taken, items.len() as u32))
 }
 
-/// Sweeps face f of the draft's model by the shift, where that isn't refused. On `AllocError` the draft may have taken some steps.
+/// Sweeps face f of the draft's model by the shift, if that isn't refused. On `AllocError` the draft may have taken some steps.
 #[tactic(auto, using(undo_journal::proofs::Marks::further_on))]
 pub(crate) fn raise(
     alloc: Global,

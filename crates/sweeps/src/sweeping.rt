@@ -55,7 +55,7 @@ fn check_sweep(arena: &Arena, taken: Counters, f: u32, shift: Point) -> Result<(
     check_left(taken, count, count, 2 * count, count)
 }
 
-/// Raises a face whose conditions hold. Where memory is refused the draft is as it was.
+/// Raises a face whose conditions hold. If memory is refused, the draft is as it was.
 #[tactic(auto, using(undo_journal::proofs::Marks::further_none, undo_journal::proofs::Marks::further_back))]
 fn try_raise(
     alloc: Global,
@@ -80,7 +80,7 @@ fn try_raise(
     }
 }
 
-/// A sweep as steps of a draft: as `sweep`, of the draft's model. On any failure the draft is as it was, and goes on.
+/// A sweep as steps of a draft, as `sweep` makes it, in the draft's model. On any failure the draft is as it was, and goes on.
 #[tactic(auto, using(undo_journal::proofs::Marks::further_none, undo_journal::proofs::Marks::further_back))]
 pub fn sweep_in(alloc: Global, draft: &mut Draft, f: u32, shift: Point) -> Result<(), Failure>
     ensures ok { OnOk result ((prism_refusal draft.old.model f shift ≡ None) × (draft.new.model ≡ prism_model draft.old.model f shift)) }
@@ -102,10 +102,10 @@ pub fn sweep_in(alloc: Global, draft: &mut Draft, f: u32, shift: Point) -> Resul
 /// A sweep as one command: face f moves by the shift. At each corner of its loops a new edge rises to a new vertex, and each edge of its
 /// loops gets a side face. Face f keeps its number and is the far face, with the new edges between the new vertices.
 ///
-/// Refused, in this order: NumberRange; NoFace; ZeroSweep with the face; LoneLoop with the least lone loop of the face; PointRange
-/// with the vertex of the first corner whose moved point is out of range, in the order of the outer loop and then the rings,
-/// rising; NumbersSpent with 2 for faces, 3 for loops, 4 for edges, 5 for vertices. Where memory is refused `Memory` is answered.
-/// On any failure the session is as it was. An accepted sweep leaves one record. The models held before and after are sound.
+/// Refused, in this order: NumberRange; NoFace; ZeroSweep with the face; LoneLoop with the least lone loop of the face; PointRange with the
+/// vertex of the first corner whose moved point is out of range, where the outer loop comes first and then the rings in rising order;
+/// NumbersSpent with 2 for faces, 3 for loops, 4 for edges, 5 for vertices. If memory is refused, the answer is `Memory`. On any failure
+/// the session is as it was. An accepted sweep leaves one record. The models held before and after are sound.
 pub fn sweep(
     alloc: Global,
     session: Session,

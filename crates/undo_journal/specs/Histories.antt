@@ -13,7 +13,7 @@ pub data Call : Type 0 where
   acted : Op → Call
   -- a larger command: the operators that make its model, each accepted in its turn
   made : List Op → Call
-  -- a draft, of which some operators were tried as steps, each accepted or refused: committed, or abandoned
+  -- a draft in which some operators were tried as steps, each accepted or refused; the draft was committed, or abandoned
   committed : List Op → Call
   abandoned : List Op → Call
   -- undo and redo, accepted or refused
@@ -22,7 +22,7 @@ pub data Call : Type 0 where
   -- a larger command that was refused, or a call for which memory was refused
   stopped : Call
 
--- what is new where nothing refuses it, else what was
+-- the new value if there is no refusal, otherwise the old one
 abbrev pub unless : {X : Type 0} → Option Refusal → X → X → X
 unless None new old = new
 unless (Some r) new old = old
@@ -69,14 +69,14 @@ abbrev pub redos : ℕ → Machine → Machine
 redos zero s = s
 redos (suc n) s = redos n (redo s)
 
--- operators, each accepted in its turn, make N of M
+-- some operators, each accepted in its turn, make N from M
 pub record Follows (M N : Model) : Type 0 where
   pub operators : List Op
   pub are_accepted : AreAccepted M operators
   pub make : effects M operators ≡ N
 
--- the first model is the empty one, each model is sound, and each next one is made by accepted operators; as many undos as can be
--- made hold the first model, and as many redos the last one
+-- the first model is the empty one, each model is sound, and accepted operators make each next one; as many undos as can be made lead to
+-- the first model, and as many redos to the last one
 pub record IsConsistent (s : Machine) : Type 0 where
   pub first : model_at s 0 ≡ empty_model
   pub sound : (i : ℕ) → i ≤ depth s + ahead s → Sound (model_at s i)

@@ -7,7 +7,7 @@ use Rattle.undo_journal.specs.Machine.{Machine, held, depth, ahead, accepted, un
 use Rattle.undo_journal.specs.Recorded.{models, model_at}
 use Rattle.undo_journal.specs.Histories.{Call, made, after_call, reached, IsConsistent}
 
--- it is a list of copies and a place: the model held is the one there
+-- the machine is a list of copies and a place in it: the model held is the one at the place
 abbrev pub HeldIsAtThePlace : Type 0
 HeldIsAtThePlace = (s : Machine) → (model_at s (depth s) ≡ held s) × (length (models s) ≡ depth s + 1 + ahead s)
 
@@ -22,11 +22,11 @@ UndoMovesThePlace = (s : Machine) → (models (undo s) ≡ models s) × (depth (
 abbrev pub RedoMovesThePlace : Type 0
 RedoMovesThePlace = (s : Machine) → (models (redo s) ≡ models s) × (0 < ahead s → depth (redo s) ≡ depth s + 1)
 
--- after an accepted command undo isn't refused and gives the machine's model before, and then redo the machine after
+-- after an accepted command undo isn't refused and gives the machine's model before, and a redo after that gives the machine after
 abbrev pub UndoGivesTheModelBefore : Type 0
 UndoGivesTheModelBefore = (s : Machine) (N : Model) → (undo_refusal (accepted s N) ≡ None) × (held (undo (accepted s N)) ≡ held s) × (redo_refusal (undo (accepted s N)) ≡ None) × (redo (undo (accepted s N)) ≡ accepted s N)
 
--- a larger command whose model accepted operators make is a call of a history
+-- if accepted operators make the model of a larger command, it is a call of a history
 abbrev pub LargerCommandsAreCalls : Type 0
 LargerCommandsAreCalls = (s : Machine) (ops : List Op) → AreAccepted (held s) ops → after_call s (made ops) ≡ accepted s (effects (held s) ops)
 

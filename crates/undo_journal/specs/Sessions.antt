@@ -1,4 +1,4 @@
--- What a session and a draft hold: one arena, the records of the commands, and a place among them.
+-- What a session and a draft hold: one arena, the records of the commands, and a place in their list.
 use Rattle.std.specs.Prelude.{◌≡◌, ℕ, ◌≤◌, List, [], ◌∷◌, length, take, drop, reverse}
 use Rattle.euler_operators.specs.Common.{Model, empty_model}
 use Rattle.low_euler.specs.Store.{Store}
@@ -9,7 +9,7 @@ use Rattle.undo_journal.specs.declared.record.Record.{Record}
 use Rattle.undo_journal.specs.Machine.{Machine}
 use Rattle.undo_journal.specs.Journal.{Journal, DraftJournal, each_inverse}
 
--- the models behind M, the nearest first: records that lead to it are taken back, the last one first
+-- the models behind M, the nearest first: the records that lead to M are taken back, the last one first
 abbrev pub models_back : Model → List Record → List Model
 models_back M [] = []
 models_back M (r ∷ rs) = effects M r.back ∷ models_back (effects M r.back) rs
@@ -19,28 +19,28 @@ abbrev pub models_ahead : Model → List Record → List Model
 models_ahead M [] = []
 models_ahead M (r ∷ rs) = effects M r.forward ∷ models_ahead (effects M r.forward) rs
 
--- the models to which the records before the place lead back from M, and those after it lead on
+-- the models behind M, to which the records before the place lead back, and those ahead of it, to which the others lead
 unfoldable pub past_of : Model → List Record → ℕ → List Model
 past_of M records place = models_back M (reverse (take place records))
 
 unfoldable pub future_of : Model → List Record → ℕ → List Model
 future_of M records place = models_ahead M (drop place records)
 
--- the machine that the model held, the records and the place among them stand for
+-- the machine for which the model held, the records and the place stand
 abbrev pub machine_of : Model → List Record → ℕ → Machine
 machine_of M records place = record { past = past_of M records place; present = M; future = future_of M records place }
 
 abbrev pub journal_of : Model → List Record → ℕ → Journal
 journal_of M records place = record { machine = machine_of M records place; records = records }
 
--- the record takes one model to another, and back, each operator accepted in its turn
+-- the record takes M to N, and back; each operator is accepted in its turn
 pub record LeadsBothWays (M : Model) (r : Record) (N : Model) : Type 0 where
   pub forward_goes : AreAccepted M r.forward
   pub forward : effects M r.forward ≡ N
   pub back_goes : AreAccepted N r.back
   pub back : effects N r.back ≡ M
 
--- each record leads from the model before it to the one after it, A before the first
+-- each record leads from the model before it to the model after it; the model before the first record is A
 abbrev pub AllLead : Model → List Record → Type 0
 AllLead A [] = Unit {0}
 AllLead A (r ∷ rs) = LeadsBothWays A r (effects A r.forward) × AllLead (effects A r.forward) rs
@@ -50,18 +50,18 @@ abbrev pub gone_forth : Model → List Record → Model
 gone_forth A [] = A
 gone_forth A (r ∷ rs) = gone_forth (effects A r.forward) rs
 
--- the records lead on from the empty model, and those before the place to M
+-- the records lead on from the empty model; those before the place lead to M
 pub record IsJournal (M : Model) (records : List Record) (place : ℕ) : Type 0 where
   pub placed : place ≤ length records
   pub lead : AllLead empty_model records
   pub held : M ≡ gone_forth empty_model (take place records)
 
--- every number that one of some operators makes has its room
+-- each number that one of the operators makes has its room
 abbrev pub AllHaveRoom : Store → List Op → Type 0
 AllHaveRoom s [] = Unit {0}
 AllHaveRoom s (o ∷ os) = HasRoomFor s o × AllHaveRoom s os
 
--- and every number that an operator of a record makes
+-- each number that an operator of a record makes has its room
 abbrev pub RecordsHaveRoom : Store → List Record → Type 0
 RecordsHaveRoom s [] = Unit {0}
 RecordsHaveRoom s (r ∷ rs) = AllHaveRoom s r.forward × AllHaveRoom s r.back × RecordsHaveRoom s rs
@@ -72,7 +72,7 @@ pub record IsKept (s : Store) (records : List Record) (place : ℕ) : Type 0 whe
   pub journal : IsJournal s.model records place
   pub room : RecordsHaveRoom s records
 
--- the model from which a draft started, where `back` holds the inverses of its steps in their order
+-- the model with which a draft started; `back` holds the inverses of its steps in their order
 abbrev pub opened : Model → List Op → Model
 opened M back = effects M (reverse back)
 

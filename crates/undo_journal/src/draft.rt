@@ -18,7 +18,7 @@ use std::mem::replace;
 
 /// A session whose arena is being changed step by step. It has to be spent, by `commit` or by `abandon`.
 ///
-/// `forward` holds the steps, and `back` the inverse of each. There is a place for one more record.
+/// `forward` holds the steps, and `back` the inverse of each. `records` has a place for one more record.
 pub struct Draft {
     alloc: Global,
     arena: Box<Arena, Global>,
@@ -46,8 +46,7 @@ impl Model for Draft {
 }
 
 impl Draft {
-    /// Opens a draft of a command, in which the session's model is changed. Where memory is refused the session comes back as
-    /// it was.
+    /// Opens a draft of a command, in which the session's model is changed. If memory is refused, the session comes back as it was.
     #[inline(always)]
     pub fn open(session: Session) -> Result<Draft, (Session, AllocError)>
         ensures ok { IfOk result (λ draft. draft ≡ new_draft session) }
@@ -81,7 +80,7 @@ impl Draft {
         })
     }
 
-    /// The arena of the draft's model. Each number that a record, a step or an inverse of one names has its room there.
+    /// The arena of the draft's model. It has room for each number that a record, a step or the inverse of a step names.
     pub fn arena(&self) -> &Arena
         ensures model { result.now.model ≡ self.now.model }
         ensures ready { IsReady result.now }
@@ -92,8 +91,8 @@ impl Draft {
         &*self.arena
     }
 
-    /// The session of a draft is as `Session::stays_consistent` says, and the draft is what its steps make of a new one, each accepted in
-    /// its turn. It does nothing: its contract is what is proved.
+    /// What `Session::stays_consistent` says holds of a draft's session, and the steps of the draft, each accepted in its turn, make the
+    /// draft from a new one. This function does nothing: its contract is what is proved.
     pub fn stays_consistent(&self)
         ensures session { IsConsistent self.now.session.machine }
         ensures model { Sound self.now.model }
@@ -102,7 +101,7 @@ impl Draft {
         let _ = &*self.arena;
     }
 
-    /// Takes the memory for so many more steps to be listed, all at once. Nothing else changes, also on `AllocError`.
+    /// Takes memory for so many more steps, all at once. Nothing else changes, even on `AllocError`.
     pub fn reserve(&mut self, steps: usize) -> Result<(), AllocError>
         ensures { self.new ≡ self.old }
     {
@@ -110,8 +109,8 @@ impl Draft {
         self.back.reserve(steps)
     }
 
-    /// One operator that is accepted, as a step: its conditions aren't tested. All memory for it and for its inverse is taken before
-    /// the change. Where memory is refused nothing has changed, and the draft goes on.
+    /// Takes as a step an operator that is accepted: its conditions aren't tested. All memory for it and for its inverse is taken before
+    /// the change. If memory is refused, nothing has changed, and the draft goes on.
     #[inline(always)]
     pub fn step_accepted(&mut self, op: Op) -> Result<(), AllocError>
         requires { first_false self.old.model op ≡ None }
@@ -128,8 +127,8 @@ impl Draft {
         )
     }
 
-    /// One operator as a step. Where one of its conditions is false the first such is named, with its value; where memory is
-    /// refused `Memory` is answered. Then nothing has changed, and the draft goes on.
+    /// Takes an operator as a step. If one of its conditions is false, the first such condition is named with its value; if memory is
+    /// refused, the answer is `Memory`. In both cases nothing has changed, and the draft goes on.
     #[tactic(auto, using(crate::proofs::Marks::further_none))]
     pub fn step(&mut self, op: Op) -> Result<(), Failure>
         ensures ok { OnOk result ((first_false self.old.model op ≡ None) × (self.new ≡ after_step self.old op)) }
@@ -146,14 +145,15 @@ impl Draft {
         }
     }
 
-    /// How many steps there are: a mark, for `back_to`.
+    /// How many steps there are. This number is a mark for `back_to`.
     pub fn mark(&self) -> usize
         ensures { IsMark self.now result }
     {
         self.forward.len()
     }
 
-    /// Takes the steps since a mark back, the last first. Where there are no more steps than that, nothing changes. It takes no memory.
+    /// Takes back the steps since a mark, the last first. If there are no more steps than the mark says, nothing changes. It takes no
+    /// memory.
     pub fn back_to(&mut self, mark: usize)
         ensures { self.new ≡ back_at self.old mark }
     {
@@ -161,7 +161,7 @@ impl Draft {
         self.forward.truncate(mark);
     }
 
-    /// Makes the steps one command, also where there was none. It drops the models ahead. It takes no memory.
+    /// Makes the steps one command, even if there are none. It drops the models ahead. It takes no memory.
     #[inline(always)]
     pub fn commit(self) -> Session
         ensures { result ≡ after_commit self }
@@ -190,7 +190,7 @@ impl Draft {
         }
     }
 
-    /// Takes the steps back, the last first. The models ahead stand. It takes no memory.
+    /// Takes the steps back, the last first. The models ahead are kept. It takes no memory.
     pub fn abandon(self) -> Session
         ensures { result ≡ self.session }
     {

@@ -10,8 +10,8 @@ use low_euler::{Arena, replay};
 use std::alloc::Global;
 use std::marker::Model;
 
-/// How many records get their places at a time. A list of more than a few hundred is a block of its own to the system, which makes it
-/// longer without a copy and gives its pages as they are touched.
+/// For how many records memory is taken at a time. The system gives a list of more than a few hundred records a block of its own, which it
+/// makes longer without a copy and whose pages it gives as they are touched.
 pub(crate) const PLACES: usize = 1024;
 
 /// Operators in the order in which they are applied. A list of one operator takes no memory of its own.
@@ -23,7 +23,7 @@ pub struct OpList {
 #[derive(Drop)]
 enum Ops {
     One(Op),
-    /// Several; turned where the first of them stands last.
+    /// Several operators. If `turned` is true, the first of them stands last.
     Many { ops: Vec<Op>, turned: bool },
 }
 
@@ -54,7 +54,7 @@ impl OpList {
         }
     }
 
-    /// The list of some operators from the last to the first. None is moved.
+    /// The list of some operators, from the last to the first. None of them is moved.
     pub(crate) fn turned(ops: Vec<Op>) -> Self
         ensures { result ≡ reverse ops.items }
     {
@@ -63,7 +63,7 @@ impl OpList {
         }
     }
 
-    /// Applies the operators in turn, each of which is accepted then and has its room. It takes no memory.
+    /// Applies the operators in turn. Each is accepted at its turn and has its room. It takes no memory.
     pub(crate) fn replay(&self, arena: &mut Arena)
         requires ready { IsReady arena.old }
         requires accepted { AreAccepted arena.old.model self.now }
@@ -101,17 +101,17 @@ impl OpList {
     }
 }
 
-/// What a command did: `forward` takes the model before it to the model after, and `back` takes that one back.
+/// What a command did: `forward` takes the model before it to the model after it, and `back` leads the other way.
 #[derive(Drop)]
 pub struct Record {
     pub forward: OpList,
     pub back: OpList,
 }
 
-/// How many places each of two spare lists has at most: longer ones are given back.
+/// How many places each of two spare lists has at most. Longer lists are freed.
 const SPARE_PLACES: usize = 32;
 
-/// Two empty lists for the steps of the next draft, so that it takes no memory for as many as were listed there before.
+/// Two empty lists for the steps of the next draft. It needs no memory for as many steps as they have places.
 #[derive(Drop)]
 pub(crate) struct Spare {
     pub(crate) forward: Vec<Op>,
@@ -134,7 +134,7 @@ fn vector_of(list: OpList) -> Option<Vec<Op>> {
     }
 }
 
-/// A vector emptied, where it has few places; else an empty one with none.
+/// The vector emptied, if it has few places; otherwise an empty vector without places.
 fn emptied(alloc: Global, mut ops: Vec<Op>) -> Vec<Op> {
     if ops.capacity() > SPARE_PLACES {
         return Vec::new(alloc);
@@ -143,7 +143,7 @@ fn emptied(alloc: Global, mut ops: Vec<Op>) -> Vec<Op> {
     ops
 }
 
-/// The lists of a record that is dropped, where it has two of several operators.
+/// The two lists of a record that is dropped, if each has several operators.
 pub(crate) fn spare_of(alloc: Global, record: Record) -> Spare {
     let Record { forward, back } = record;
     match (vector_of(forward), vector_of(back)) {

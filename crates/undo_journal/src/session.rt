@@ -1,4 +1,4 @@
-//! A session: one arena, the records of the commands, and the place among them.
+//! A session: one arena, the records of the commands, and a place in their list.
 ghost use Rattle.std.specs.Prelude.{◌≡◌, ◌↔◌, ◌+◌, ◌<◌, ◌≤◌, take, vec_len, OnOk, OnErr, IfOk, None, Some, Err, slice_index_or, vec_capacity};
 ghost use Rattle.low_euler.specs.Ready.{IsReady};
 ghost use Rattle.undo_journal.specs.Machine.{held, depth, ahead, act_refusal, undo_refusal, redo_refusal};
@@ -17,7 +17,7 @@ use low_euler::{Arena, advance, check};
 use std::alloc::{AllocError, Global};
 use std::marker::Model;
 
-/// Drops the records from a place on. Where there is none, this is one test.
+/// Drops the records from a place on. If there are none, this costs one test.
 fn drop_ahead(records: &mut Vec<Record>, place: usize)
     ensures items { records.new.items ≡ take place records.old.items }
     ensures capacity { vec_capacity records.new ≡ vec_capacity records.old }
@@ -51,7 +51,7 @@ pub enum Failure {
     Memory(AllocError),
 }
 
-/// The model held, and those behind and ahead of it, to which the records of the commands lead.
+/// The model held, and the models behind and ahead of it, to which the records of the commands lead.
 #[derive(Drop)]
 pub struct Session {
     pub(crate) alloc: Global,
@@ -77,7 +77,7 @@ impl Model for Session {
 }
 
 impl Session {
-    /// A session that holds the empty model. `AllocError` where memory is refused.
+    /// A session that holds the empty model. If memory is refused, the answer is `AllocError`.
     pub fn new(alloc: Global) -> Result<Session, AllocError>
         ensures { IfOk result (λ session. session ≡ new_journal) }
     {
@@ -90,7 +90,7 @@ impl Session {
         })
     }
 
-    /// The arena of the model held. Each number that a record names has its room there.
+    /// The arena of the model held. It has room for each number that a record names.
     pub fn arena(&self) -> &Arena
         ensures model { result.now.model ≡ held self.now.machine }
         ensures ready { IsReady result.now }
@@ -99,7 +99,7 @@ impl Session {
         &*self.arena
     }
 
-    /// A session's models are sound, and each next one is made by accepted operators, whoever gave the session. It does nothing: its
+    /// A session's models are sound, and accepted operators make each next one, whoever gave the session. This function does nothing: its
     /// contract is what is proved.
     pub fn stays_consistent(&self)
         ensures { IsConsistent self.now.machine }
@@ -121,7 +121,7 @@ impl Session {
         self.records.len() - self.place
     }
 
-    /// The record of the command of this index, counted from 0. Each of its operators is accepted in its turn.
+    /// The record of the command with this index, counted from 0. Each of its operators is accepted in its turn.
     pub fn record(&self, index: usize) -> &Record
         requires { index < depth self.now.machine + ahead self.now.machine }
         ensures exact { result.now ≡ slice_index_or self.now.records index result.now }
@@ -133,7 +133,7 @@ impl Session {
         &self.records[index]
     }
 
-    /// Applies an operator and records it in the place of those ahead. On `AllocError` nothing has changed.
+    /// Applies an operator, and puts its record in the place of the records ahead. On `AllocError` nothing has changed.
     #[inline(always)]
     fn accept(&mut self, op: Op) -> Result<(), AllocError>
         requires { act_refusal self.old.machine op ≡ None }
@@ -141,7 +141,7 @@ impl Session {
         ensures err { OnErr result (self.new ≡ self.old) }
     {
         place_for_one(&mut self.records, PLACES)?;
-        // `advance` writes another one in its place
+        // `advance` replaces this operator
         let mut inverse = Op::Kvfs(0);
         advance(self.alloc, &mut *self.arena, &op, &mut inverse)?;
         drop_ahead(&mut self.records, self.place);
@@ -154,9 +154,9 @@ impl Session {
         Ok(())
     }
 
-    /// One operator as a command. Where one of its conditions is false the first such is named, with its value; where
-    /// memory is refused `Memory` is answered. Then nothing has changed. An accepted command drops the models ahead with their
-    /// records, and leaves a record of its own.
+    /// Gives an operator as a command. If one of its conditions is false, the first such condition is named with its value; if memory is
+    /// refused, the answer is `Memory`. In both cases nothing has changed. An accepted command drops the models ahead with their records,
+    /// and leaves a record of its own.
     #[inline(always)]
     pub fn act(&mut self, op: Op) -> Result<(), Failure>
         ensures ok { OnOk result ((act_refusal self.old.machine op ≡ None) × (self.new ≡ after_act self.old op)) }
@@ -172,7 +172,7 @@ impl Session {
         }
     }
 
-    /// Takes the last command back. Refused with `NothingToUndo` where there is none. It takes no memory.
+    /// Takes the last command back. If there is none, it is refused with `NothingToUndo`. It takes no memory.
     pub fn undo(&mut self) -> Result<(), Refusal>
         ensures ok { OnOk result (self.new ≡ after_undo self.old) }
         ensures refused { result ≡ verdict (undo_refusal self.old.machine) }
@@ -190,7 +190,7 @@ impl Session {
         Ok(())
     }
 
-    /// Does the next command again. Refused with `NothingToRedo` where there is none. It takes no memory.
+    /// Does the next command again. If there is none, it is refused with `NothingToRedo`. It takes no memory.
     pub fn redo(&mut self) -> Result<(), Refusal>
         ensures ok { OnOk result (self.new ≡ after_redo self.old) }
         ensures refused { result ≡ verdict (redo_refusal self.old.machine) }

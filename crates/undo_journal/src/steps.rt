@@ -11,7 +11,7 @@ use euler_operators::Op;
 use low_euler::{Arena, advance, replay};
 use std::alloc::{AllocError, Global};
 
-/// Applies operators in turn, each of which is accepted then and has its room. It takes no memory.
+/// Applies operators in turn. Each is accepted at its turn and has its room. It takes no memory.
 pub(crate) fn replay_all(arena: &mut Arena, ops: &[Op])
     requires ready { IsReady arena.old }
     requires accepted { AreAccepted arena.old.model ops.now }
@@ -24,7 +24,7 @@ pub(crate) fn replay_all(arena: &mut Arena, ops: &[Op])
     }
 }
 
-/// Applies operators in turn from the last to the first, each of which is accepted then and has its room. It takes no memory.
+/// Applies operators from the last to the first. Each is accepted at its turn and has its room. It takes no memory.
 pub(crate) fn replay_back(arena: &mut Arena, ops: &[Op])
     requires ready { IsReady arena.old }
     requires accepted { AreAccepted arena.old.model (reverse ops.now) }
@@ -39,7 +39,7 @@ pub(crate) fn replay_back(arena: &mut Arena, ops: &[Op])
     }
 }
 
-/// Takes the operators of a list from a place on, the last first: it applies them, and drops them. It takes no memory.
+/// Applies the operators of a list from a place on, the last first, and drops them from the list. It takes no memory.
 pub(crate) fn take_back(arena: &mut Arena, back: &mut Vec<Op>, place: usize)
     requires ready { IsReady arena.old }
     requires accepted { AreAccepted arena.old.model (reverse (drop place back.old.items)) }
@@ -55,7 +55,7 @@ pub(crate) fn take_back(arena: &mut Arena, back: &mut Vec<Op>, place: usize)
     back.truncate(place);
 }
 
-/// Makes places for so many more in a list. It stands apart, so that the test whether there is one is made in place.
+/// Makes places for so many more in a list. It is a function of its own so that the test for a free place is compiled into the caller.
 #[inline(never)]
 fn more_places<T>(list: &mut Vec<T>, more: usize) -> Result<(), AllocError>
     requires more { 0 < more }
@@ -65,7 +65,7 @@ fn more_places<T>(list: &mut Vec<T>, more: usize) -> Result<(), AllocError>
     list.reserve(more)
 }
 
-/// Makes a place for one more in a list: where there is none, places for so many more. Where there is one, this is one test.
+/// Makes a place for one more in a list. If there is none, it makes places for so many more. If there is one, this costs one test.
 #[inline(always)]
 pub(crate) fn place_for_one<T>(list: &mut Vec<T>, more: usize) -> Result<(), AllocError>
     requires more { 0 < more }
@@ -78,8 +78,8 @@ pub(crate) fn place_for_one<T>(list: &mut Vec<T>, more: usize) -> Result<(), All
     more_places(list, more)
 }
 
-/// Applies an operator that is accepted, and appends it and its inverse to two lists. All memory is taken before the change:
-/// on `AllocError` the model and the lists are as they were.
+/// Applies an operator that is accepted, and appends it and its inverse to two lists. All memory is taken before the change: on
+/// `AllocError` the model and the lists are as they were.
 #[inline(always)]
 pub(crate) fn step(
     alloc: Global,
@@ -102,7 +102,7 @@ pub(crate) fn step(
     let applied = forward.len();
     let inverse = back.len();
     forward.push_reserved(op);
-    // `advance` writes another one in its place
+    // `advance` replaces this operator
     back.push_reserved(Op::Kvfs(0));
     if let Err(error) = advance(alloc, arena, &forward[applied], &mut back[inverse]) {
         forward.truncate(applied);

@@ -1,11 +1,10 @@
 -- RingIn, which takes a ring to another face of its solid: it keeps a sound model sound, and RingIn to the old face takes it back.
-use Rattle.std.proofs.Common.{◌≡◌, ◌≢◌, ℕ, nat_eq, None, refl, inr, List, [], ◌∷◌, arith, ne_eqb, eqb-true}
+use Rattle.std.proofs.Common.{◌≡◌, ◌≢◌, ℕ, None, refl, inr, arith, ne_eqb, eqb-true}
 use Rattle.std.proofs.lemmas.Bool.{not-true, eqb-false}
 use Rattle.euler_operators.specs.Table as table
-use Rattle.euler_operators.specs.Common.{Model, face_of, solid_of, outer, Sound, Has, Condition, never, AllHold, ring_and_face, first_false, conditions, effect, inverse, ring_in}
+use Rattle.euler_operators.specs.Common.{Model, face_of, solid_of, outer, Sound, Has, AllHold, ring_and_face, first_false, conditions, effect, inverse, ring_in}
 use Rattle.euler_operators.specs.declared.Op.TheVariants.{RingIn}
 use Rattle.euler_operators.proofs.Common.{same_outer, same_solid, nat_eq_itself}
-use Rattle.euler_operators.specs.declared.Why.TheVariants.{SameFace}
 use Rattle.euler_laws.proofs.shared.Goes.{all_hold, all_hold-append, all_hold-front, all_hold-back, none_refuses, not_false}
 use Rattle.euler_laws.proofs.shared.Faces.{SameWalks, LoopMoves, faces_after, face_moved, face_kept, walks_same, old_outer, sound-moves, loop_home}
 use Rattle.euler_laws.proofs.shared.Rows.{never_outer, is_ring}
@@ -68,10 +67,6 @@ ring_goes M l f (_, (_, (l_known, (f_known, (one_solid, (l_ring, _)))))) = grind
 pub ring_holds : (N : Model) (l f : ℕ) → Sound N → RingGoes N l f → AllHold (ring_and_face N l f)
 ring_holds N l f sound goes =
     grind (arith, sound.loops_fit, goes.l_there, sound.faces_fit, goes.f_there, goes.one_solid, table.has, nat_eq_itself, ne_eqb, goes.is_ring)
-
--- the ring isn't of that face already
-abbrev of_another : Model → ℕ → ℕ → List Condition
-of_another M l f = never (nat_eq (face_of M l) f) SameFace f ∷ []
 
 pub ring_in_goes : (M : Model) (l f : ℕ) → first_false M (RingIn l f) ≡ None → RingGoes M l f × (face_of M l ≢ f)
 unfolding first_false conditions

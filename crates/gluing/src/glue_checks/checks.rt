@@ -23,7 +23,7 @@ fn has_rings(arena: &Arena, f: u32) -> bool
     arena.ring_count(f) > 0
 }
 
-/// Whether the two faces are there, of different solids, and without rings.
+/// Whether the two faces are there, belong to different solids, and have no rings.
 fn check_faces(arena: &Arena, f: u32, other: u32) -> Result<(), Refusal>
     requires { IsReady arena.now }
     ensures { result ≡ verdict (first_refusal (face_conditions arena.now.model f other)) }
@@ -53,7 +53,7 @@ fn check_faces(arena: &Arena, f: u32, other: u32) -> Result<(), Refusal>
     Ok(())
 }
 
-/// Whether the two solids have no lone loop, and flat faces only.
+/// Whether the two solids have no lone loop, and only flat faces.
 fn check_solids(arena: &Arena, s: u32, other: u32) -> Result<(), Refusal>
     requires { IsReady arena.now }
     ensures { result ≡ verdict (first_refusal (faces_are_flat arena.now.model (faces_of_both arena.now.model s other))) }
@@ -67,7 +67,7 @@ fn check_solids(arena: &Arena, s: u32, other: u32) -> Result<(), Refusal>
     Ok(())
 }
 
-/// Whether the outlines of the two faces have no point twice, and lie on one another.
+/// Whether no point stands twice in the outlines of the two faces, and the outlines lie on one another.
 fn check_outlines(
     alloc: Global,
     arena: &Arena,
@@ -97,13 +97,13 @@ fn check_outlines(
 
 /// Whether the other face can be glued to face f.
 ///
-/// Refused, in this order: NumberRange; NoFace; SameSolid with the solid; HasRings with the face; LoneLoop with the least lone loop of
-/// the two solids; NotFlat with their least face that isn't flat; RepeatedPoint with the face, f before the other, of which two corners
-/// have equal points; NoMatch with the other where its points, read backwards, are no rotation of those of f; NumbersSpent with 4 where
-/// no number is left for an edge.
+/// Refused, in this order: NumberRange; NoFace; SameSolid with the solid; HasRings with the face; LoneLoop with the least lone loop of the
+/// two solids; NotFlat with their least face that isn't flat; RepeatedPoint with the face, f before the other, that has two corners with
+/// equal points; NoMatch with the other, where its points, read backwards, are no rotation of those of f; NumbersSpent with 4, where no
+/// number is left for an edge.
 ///
-/// It looks once at each face of the two solids, and takes n log n steps for n corners of the two faces. `AllocError` where memory is
-/// refused: none is asked for before the conditions up to NotFlat hold.
+/// It looks once at each face of the two solids, and takes n log n steps for n corners of the two faces. If memory is refused, the answer
+/// is `AllocError`; none is asked for before the conditions up to NotFlat hold.
 pub(crate) fn check_glue(
     alloc: Global,
     arena: &Arena,

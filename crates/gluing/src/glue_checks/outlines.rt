@@ -1,4 +1,4 @@
-//! Lists of points compared: repeated points, and lists that are turns of one another.
+//! Comparing lists of points: whether points are repeated, and whether a list is a rotation of another.
 ghost use Rattle.std.specs.Prelude.{◌≡◌, ◌≤◌, ◌++◌, false, IfOk, drop, length, reverse, take};
 ghost use Rattle.std.specs.List.{list_any};
 ghost use Rattle.euler_operators.specs.Common.{same_point};
@@ -16,7 +16,7 @@ fn key_of(point: Point) -> (i64, i64, i64)
     (point.x, point.y, point.z)
 }
 
-/// Whether two of the points are equal. Up to eight are compared each with each; more take n log n steps for n points, and memory.
+/// Whether two of the points are equal. Up to eight points are compared each with each; more take n log n steps for n points, and memory.
 pub(crate) fn has_repeats(alloc: Global, points: &[Point]) -> Result<bool, AllocError>
     ensures { IfOk result (λ found. found ≡ has_repeats points.now) }
 {
@@ -91,7 +91,7 @@ fn same_points(points: &[Point], others: &[Point]) -> bool
     right.is_empty()
 }
 
-/// The place of the first of the points that equals this one, if there is one.
+/// The place of the first of the points that is equal to this one, if there is one.
 fn place_of(point: Point, points: &[Point]) -> Option<usize>
     ensures { result ≡ place_from 0 point points.now }
 {
@@ -107,7 +107,7 @@ fn place_of(point: Point, points: &[Point]) -> Option<usize>
     None
 }
 
-/// Whether the points are the others from this place on, and then those before it.
+/// Whether the points are the others from this place to the end, and then those before it.
 fn is_turn(points: &[Point], others: &[Point], place: usize) -> bool
     requires same_length { length points.now ≡ length others.now }
     requires inside { place ≤ length others.now }

@@ -1,18 +1,17 @@
--- Steps of which operators on an arena are made: an edge that is made or killed, a half-edge that goes into a loop or leaves one,
--- and tails that move.
+-- Steps from which operators on an arena are made: an edge is made or killed, a half-edge goes into a loop or leaves one, and tails move.
 use Rattle.std.specs.Prelude.{◌≡◌, ◌≢◌, ℕ, true, List, [], ◌∷◌, None}
 use Rattle.euler_operators.specs.Common.{count, IsApart, rest, put_ring, Corner, At, Lone, code, mate, edge_of, Model, cycle, items_of, content, has_half, loop_of, cycle_of, before, tail, StandsIn, edge_row, cycle_or_lone, with_tails, is_lone}
 use Rattle.euler_operators.specs.Table as table
 use Rattle.euler_conditions.specs.Store.{Store, with_loop, loose_key, loose_ring, fill, take_edge}
 
--- loops hold half-edges of edges that are there, each once and in one loop only, and 0 is no loop
+-- each half-edge that stands in a loop belongs to an edge that is there, and stands once and in one loop only; 0 is no loop
 pub record LoopsStandApart (M : Model) : Type 0 where
   pub only : (h l : ℕ) → StandsIn M h l → has_half M h ≡ true
   pub apart : (l : ℕ) → IsApart (items_of (content M l))
   pub one_loop : (h l : ℕ) → StandsIn M h l → loop_of M h ≡ l
   pub no_zero : table.get M.loops 0 ≡ None
 
--- half-edge h stands in a loop, as the half-edge before it does
+-- half-edge h stands in a loop, and so does the half-edge before it
 pub record IsStanding (M : Model) (h : ℕ) : Type 0 where
   pub there : has_half M h ≡ true
   pub stands : StandsIn M h (loop_of M h)
@@ -57,7 +56,7 @@ put_before s g h = let M = s.model in record s {
   loose = table.remove s.loose (loose_key s h);
 }
 
--- half-edge h is taken out of its loop and is loose. A loop of it alone becomes lone at the vertex where it starts
+-- half-edge h is taken out of its loop and is then loose; a loop that held h alone becomes lone at the vertex where h starts
 unfoldable pub take_out : Store → ℕ → Store
 take_out s h = let M = s.model in record s {
   model = with_loop M (loop_of M h) (cycle_or_lone (rest h (cycle_of M h)) (tail M h));
@@ -73,7 +72,7 @@ put_at s (Lone l) h = fill s l h
 abbrev pub make_edge : Store → Corner → Corner → ℕ → ℕ → ℕ → Store
 make_edge s c d h from to = put_at (put_at (with_edge s h from to) c h) d (mate h)
 
--- the edge of h goes: h's mate is taken out of its loop, and then h
+-- the edge of h goes: h's mate is taken out of its loop first, and then h
 abbrev pub kill_edge : Store → ℕ → Store
 kill_edge s h = take_edge (take_out (take_out s (mate h)) h) (edge_of h)
 

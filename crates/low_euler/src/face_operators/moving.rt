@@ -19,8 +19,8 @@ fn give_faces(arena: &mut Arena, faces: &FaceList, s: u32)
     }
 }
 
-/// All faces of solid `gone` go to solid `kept`, the least first, and `gone` goes. It looks at these faces and at those of `kept`
-/// between them.
+/// Moves all faces of solid `gone` to solid `kept`, the least first; then `gone` goes. It looks at these faces, and at the faces of `kept`
+/// whose numbers lie between theirs.
 pub(crate) fn merge(arena: &mut Arena, kept: u32, gone: u32)
     requires { Accepts arena.old (Op.Merge kept gone) }
     ensures { arena.new ≡ after arena.old (Op.Merge kept gone) }
@@ -33,7 +33,7 @@ pub(crate) fn merge(arena: &mut Arena, kept: u32, gone: u32)
     arena.take_solid(gone);
 }
 
-/// The listed faces of solid `kept` go to the new solid `made`.
+/// Moves the listed faces of solid `kept` to the new solid `made`.
 pub(crate) fn part(arena: &mut Arena, kept: u32, made: u32, faces: &FaceList)
     requires { Accepts arena.old (Op.Part kept made faces.now) }
     ensures { arena.new ≡ after arena.old (Op.Part kept made faces.now) }

@@ -6,7 +6,7 @@ ghost use Rattle.euler_conditions.specs.Ready.{Accepts, after};
 use euler_conditions::Arena;
 use euler_operators::{Kind, Op};
 
-/// Gives loop l to face f, both of which are there.
+/// Gives loop l to face f; both are there.
 fn give_loop(arena: &mut Arena, l: u32, f: u32)
     requires there { has_number arena.old Kind.Loop l ≡ true }
     requires face { has_number arena.old Kind.Face f ≡ true }

@@ -1,4 +1,4 @@
-//! Edges across a face: an edge that parts a face in two, and one that is killed with the face on its other side.
+//! Edges across a face: an edge is made that parts a face in two, or is killed with the face on its other side.
 ghost use Rattle.std.specs.Prelude.{◌≡◌};
 ghost use Rattle.euler_conditions.specs.Ready.{Accepts, after};
 
@@ -6,10 +6,9 @@ use crate::steps::{kill_edge, make_edge_after};
 use euler_conditions::Arena;
 use euler_operators::{HalfEdge, Kind, Op};
 
-/// Makes an edge between two corners of one loop, which parts the loop's face. `half` starts at the first corner.
-/// What follows the first corner up to before the second, and then the mate of `half`, becomes the outer loop of the
-/// new face; the rest keeps its loop and its face. The cost is that of the shorter of the two loops, and of the places of
-/// the new loop and face among those of their owners.
+/// Makes an edge between two corners of one loop, which parts the loop's face. `half` starts at the first corner. The new face's outer loop
+/// consists of what stands from the first corner up to before the second, and then the mate of `half`; the rest keeps its loop and its
+/// face. The cost is that of the shorter of the two loops, and of finding the places of the new loop and face among those of their owners.
 #[inline(always)]
 pub(crate) fn mef(
     arena: &mut Arena,

@@ -1,4 +1,4 @@
-//! An edge that is made between two corners, and one that is killed.
+//! An edge that is made between two corners, or killed.
 ghost use Rattle.std.specs.Prelude.{◌≡◌, true, false};
 ghost use Rattle.euler_operators.specs.Common.{code, mate, before};
 ghost use Rattle.euler_conditions.specs.Store.{has_room, has_number};
@@ -46,8 +46,8 @@ pub(crate) fn make_edge(
     put_at(arena, second, half.mate());
 }
 
-/// Makes an edge between two half-edges, as `make_edge` does at their corners. `last` stands before the first of them. Where the two
-/// are the same, the mate is put there first and `half` goes between `last` and it, so that `half`'s row is read in one splice only.
+/// Makes an edge between two half-edges, as `make_edge` does at their corners. `last` stands before the first of them. If the two are the
+/// same, the mate is put there first and `half` goes between `last` and the mate, so that `half`'s row is read in only one splice.
 #[inline(always)]
 pub(crate) fn make_edge_after(
     arena: &mut Arena,

@@ -1,4 +1,4 @@
-//! Half-edges of one vertex that start at another then.
+//! Half-edges that start at one vertex and are moved to another.
 ghost use Rattle.std.specs.Prelude.{◌≡◌};
 ghost use Rattle.euler_operators.specs.Common.{code, arc, tail, Sound, HasHalf};
 ghost use Rattle.low_euler.specs.steps.Steps.{with_tails_at};
@@ -6,8 +6,8 @@ ghost use Rattle.low_euler.specs.steps.Steps.{with_tails_at};
 use euler_conditions::Arena;
 use euler_operators::HalfEdge;
 
-/// Goes round a vertex from one half-edge up to before another, and lets each that it meets start at `vertex`.
-/// It costs as many steps as there are half-edges on the way. It carries their codes, each one number, from step to step.
+/// Goes round a vertex from one half-edge up to before another, and makes each that it meets start at `vertex`. It costs as many steps as
+/// there are half-edges on the way. From step to step it carries their codes, each of which is one number.
 pub(crate) fn move_tails(arena: &mut Arena, from: HalfEdge, to: HalfEdge, vertex: u32)
     requires sound { Sound arena.old.model }
     requires from { HasHalf arena.old.model (code from) }

@@ -7,10 +7,10 @@ use crate::steps::{kill_edge, make_edge, make_edge_after, move_tails};
 use euler_conditions::Arena;
 use euler_operators::{Corner, HalfEdge, Op, Point};
 
-/// Makes an edge from the vertex of two corners to a new vertex, in one of two ways. At half-edges `half` is put before
-/// the first and its mate before the second; where the two are the same, `half` and then its mate are put before it.
-/// What is met round the old vertex from the first up to before the second then starts at the new vertex, as the mate
-/// does. At a lone loop, given twice, the loop becomes `half` and its mate.
+/// Makes an edge from the vertex of two corners to a new vertex, in one of two ways. At half-edges, `half` is put before the first and its
+/// mate before the second; if the two are the same, `half` and then its mate are put before it. The half-edges round the old vertex, from
+/// the first up to before the second, then start at the new vertex, as the mate does. At a lone loop, given twice, the loop becomes `half`
+/// and its mate.
 ///
 /// The edge's and the vertex's numbers are free and have their room, and the point is in range. It costs as many steps
 /// as half-edges move to the new vertex, takes no memory and never fails.
@@ -65,9 +65,9 @@ fn mev_at(
     make_edge_after(arena, last, from, to, half, old, vertex);
 }
 
-/// Kills an edge, whose ends no other edge has, and the vertex at which the mate starts. What else started there starts
-/// at the kept vertex, where `half` starts. A loop of the two alone becomes lone at the kept vertex; else the kept vertex
-/// has another half-edge than `half`.
+/// Kills an edge, whose two ends no other edge joins, and the vertex at which the mate starts. What else started there then starts at the
+/// kept vertex, where `half` starts. A loop of the two half-edges alone becomes lone at the kept vertex; otherwise the kept vertex has
+/// another half-edge than `half`.
 ///
 /// It costs as many steps as half-edges start at the killed vertex, takes no memory and never fails.
 #[inline(always)]

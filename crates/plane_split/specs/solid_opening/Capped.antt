@@ -14,7 +14,7 @@ caps_of k = record { lower = k.lower; upper = k.upper; hole = k.hole }
 abbrev pub all_caps : List declared.Caps → List Caps
 all_caps ks = map caps_of ks
 
--- so far a model is opened, and these are the caps
+-- the opening so far: the model, the numbers taken and the caps
 abbrev pub opening_of : Model → Counters → List declared.Caps → Opening
 opening_of M c ks = record { model = M; taken = taken_of c; caps = all_caps ks }
 
@@ -22,6 +22,6 @@ opening_of M c ks = record { model = M; taken = taken_of c; caps = all_caps ks }
 abbrev pub unopened : Model → Counters → Opening
 unopened M c = record { model = M; taken = taken_of c; caps = [] }
 
--- solid s opened along the cycles of a section
+-- solid s after it is opened along the cycles of a section
 abbrev pub opened_section : Model → Counters → ℕ → Plane → Section → Opening
 opened_section M c s p q = all_opened p q.above.items s (unopened M c) (cycles_of q)

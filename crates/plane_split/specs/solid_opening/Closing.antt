@@ -1,4 +1,4 @@
--- The caps of holes closed, and the upper faces that are left then, of caps as the code has them.
+-- The operators that close holes, and the upper faces that are then left, for caps as the code has them.
 use Rattle.std.specs.Prelude.{ℕ, not, List, map, filter}
 use Rattle.euler_operators.specs.declared.Op.{Op}
 use Rattle.shapes.specs.Common.{Caps}
@@ -10,6 +10,6 @@ use Rattle.plane_split.specs.declared.solid_opening.caps.Caps as declared
 abbrev pub holes_ops : Caps → List declared.Caps → List Op
 holes_ops o ks = closing_ops o (filter (λ k. k.hole) (all_caps ks))
 
--- the caps above of the outer cycles among some
+-- among some caps, the caps above of the outer cycles
 abbrev pub outer_uppers : List declared.Caps → List ℕ
 outer_uppers ks = map (λ k. k.upper) (filter (λ k. not k.hole) (all_caps ks))

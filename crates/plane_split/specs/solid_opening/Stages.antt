@@ -1,4 +1,4 @@
--- When a solid can be opened along a cycle, as the code asks it, and the model once the strips of the cycle are cut off.
+-- When a solid can be opened along a cycle, in the form that the code asks for, and the model after the strips of the cycle are cut off.
 use Rattle.std.specs.Prelude.{◌≡◌, ℕ, List, length}
 use Rattle.euler_operators.specs.Common.{Model}
 use Rattle.shapes.specs.Common.{Taken}
@@ -9,7 +9,7 @@ use Rattle.split_opening_laws.specs.strips.Opened.{CanBeOpened}
 abbrev pub CanOpen : Model → ℕ → Taken → List ℕ → Type 0
 CanOpen M s c bs = (above : List ℕ) × CanBeOpened M above s c bs
 
--- N is such a model with all strips of the cycle cut off
+-- N is a model in which solid s could be opened along bs, with all strips of the cycle cut off
 pub record AreStripped (N : Model) (s : ℕ) (c : Taken) (bs : List ℕ) : Type 0 where
   pub before : Model
   pub above : List ℕ

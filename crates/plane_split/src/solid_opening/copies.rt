@@ -1,4 +1,4 @@
-//! Copies of the vertices of a cycle, raised once its strips are cut off.
+//! Copies of the vertices of a cycle, which are raised after its strips are cut off.
 ghost use Rattle.std.specs.Prelude.{◌≡◌, ◌≤◌, ◌<◌, ◌+◌, ◌*◌, true, None, OnOk, OnErr, length, map, get_or};
 ghost use Rattle.euler_operators.specs.Common.{code, has_half, first_false};
 ghost use Rattle.euler_laws.specs.Laws.{effects};
@@ -13,7 +13,7 @@ use split_sections::start;
 use std::alloc::AllocError;
 use undo_journal::Draft;
 
-/// The place before this one, round a cycle of so many.
+/// The place before this one, round a cycle with so many places.
 fn place_before(count: u32, at: u32) -> u32
     requires { at < count }
     ensures { result ≡ ops.place_before count at }

@@ -1,4 +1,4 @@
-//! A solid opened along one cycle, and the numbers that this takes.
+//! A solid that is opened along one cycle, and the numbers that this takes.
 ghost use Rattle.std.specs.Prelude.{◌≡◌, ◌≤◌, ◌+◌, ◌*◌, OnOk, map};
 ghost use Rattle.euler_operators.specs.Common.{code};
 ghost use Rattle.euler_laws.specs.Laws.{effects};
@@ -16,8 +16,8 @@ use split_drawing::Counters;
 use std::alloc::AllocError;
 use undo_journal::Draft;
 
-/// Opens solid s along a cycle along which it can be opened, with the numbers after those taken. On `AllocError` some steps may be
-/// taken.
+/// Opens solid s along a cycle along which it can be opened, with the numbers after those taken. On `AllocError` the draft may have taken
+/// some steps.
 #[tactic(auto, using(undo_journal::proofs::Marks::further_on))]
 pub(crate) fn open_cycle(
     draft: &mut Draft,
@@ -46,7 +46,7 @@ pub(crate) fn caps_after(from: &Counters, count: u32, hole: bool) -> Caps
     }
 }
 
-/// The greatest numbers taken once a solid is opened along a cycle of so many edges.
+/// The greatest numbers taken after a solid is opened along a cycle of so many edges.
 pub(crate) fn counted_on(from: &Counters, count: u32) -> Counters
     requires faces_left { from.now.faces + count + 1 ≤ 1000000 }
     requires loops_left { from.now.loops + count + 1 ≤ 1000000 }

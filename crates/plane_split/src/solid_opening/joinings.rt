@@ -1,4 +1,4 @@
-//! Strips joined into one, and that one parted into the two caps.
+//! Strips that are joined into one, which is then parted into the two caps.
 ghost use Rattle.std.specs.Prelude.{◌≡◌, ◌≤◌, ◌+◌, ◌-◌, ◌*◌, OnOk};
 ghost use Rattle.euler_laws.specs.Laws.{AreAccepted, effects};
 ghost use Rattle.split_drawing.specs.Counters.{taken_of};
@@ -10,8 +10,8 @@ use split_drawing::Counters;
 use std::alloc::AllocError;
 use undo_journal::Draft;
 
-/// The first of so many strips takes in the next ones, where each of these operators is accepted in its turn. On `AllocError` it
-/// may have taken in some.
+/// The first of so many strips takes in the next ones, if each of these operators is accepted in its turn. On `AllocError` it may have
+/// taken in some.
 fn join_strips(draft: &mut Draft, from: &Counters, count: u32) -> Result<(), AllocError>
     requires some { 1 ≤ count }
     requires edges_left { from.now.edges + 2 * count ≤ 1000000 }
@@ -28,7 +28,8 @@ fn join_strips(draft: &mut Draft, from: &Counters, count: u32) -> Result<(), All
     Ok(())
 }
 
-/// Makes two caps of so many strips, where each of these operators is accepted in its turn. On `AllocError` some may be taken.
+/// Makes two caps of so many strips, if each of these operators is accepted in its turn. On `AllocError` the draft may have taken some
+/// steps.
 #[tactic(auto, using(undo_journal::proofs::Marks::further_on))]
 pub(crate) fn make_caps(draft: &mut Draft, from: &Counters, count: u32) -> Result<(), AllocError>
     requires some { 1 ≤ count }

@@ -14,9 +14,10 @@ use split_sections::Section;
 use std::alloc::{AllocError, Global};
 use undo_journal::Draft;
 
-/// Opens solid s along each cycle of its section in turn, and closes it there by two caps: the caps of each cycle, in their order.
+/// Opens solid s along each cycle of its section in turn, and closes it there by two caps. It answers the caps of each cycle, in the order
+/// of the cycles.
 ///
-/// On `AllocError` some steps may be taken; the session that the draft came from stands, and `abandon` gives it back.
+/// On `AllocError` the draft may have taken some steps. The session from which the draft came is kept, and `abandon` gives it back.
 #[tactic(auto, using(undo_journal::proofs::Marks::further_none, undo_journal::proofs::Marks::further_on))]
 pub(crate) fn open_section(
     alloc: Global,

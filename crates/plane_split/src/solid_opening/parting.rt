@@ -1,4 +1,4 @@
-//! The holes of a section closed, and what is above the plane parted.
+//! The holes of a section are closed, and what is above the plane is parted.
 ghost use Rattle.std.specs.Prelude.{◌≡◌, ◌∷◌, ◌++◌, [], OnOk, IfOk};
 ghost use Rattle.euler_laws.specs.Laws.{AreAccepted, effects};
 ghost use Rattle.euler_operators.specs.declared.Op.TheVariants.{Kfmrh, Part};
@@ -13,7 +13,7 @@ use euler_operators::{FaceList, Op};
 use std::alloc::{AllocError, Global};
 use undo_journal::Draft;
 
-/// The caps of the first outer cycle. Where there is none, no face.
+/// The caps of the first outer cycle. If there is none, the caps are no faces.
 fn outer_caps(caps: &[Caps]) -> Caps
     ensures { caps_of result ≡ outer_caps (all_caps caps.now) }
 {
@@ -31,7 +31,7 @@ fn outer_caps(caps: &[Caps]) -> Caps
     }
 }
 
-/// Makes the caps of a hole rings of the outer caps, where both operators are accepted in turn.
+/// Makes the caps of a hole rings of the outer caps, if both operators are accepted in turn.
 #[tactic(auto, using(undo_journal::proofs::Marks::further_on))]
 fn close_hole(draft: &mut Draft, outer: Caps, hole: Caps) -> Result<(), AllocError>
     requires { AreAccepted draft.old.model (Kfmrh outer.lower hole.lower ∷ Kfmrh outer.upper hole.upper ∷ []) }
@@ -42,8 +42,8 @@ fn close_hole(draft: &mut Draft, outer: Caps, hole: Caps) -> Result<(), AllocErr
     draft.step_accepted(Op::Kfmrh(outer.upper, hole.upper))
 }
 
-/// Makes the caps of each hole rings of the outer caps, where each of these operators is accepted in its turn. On `AllocError` some
-/// may be taken.
+/// Makes the caps of each hole rings of the outer caps, if each of these operators is accepted in its turn. On `AllocError` the draft may
+/// have taken some steps.
 #[tactic(auto, using(undo_journal::proofs::Marks::further_none, undo_journal::proofs::Marks::further_on))]
 fn close_holes(draft: &mut Draft, outer: Caps, caps: &[Caps]) -> Result<(), AllocError>
     requires { AreAccepted draft.old.model (holes_ops (caps_of outer) caps.now) }
@@ -73,7 +73,7 @@ fn listed(alloc: Global, faces: &[u32]) -> Result<FaceList, AllocError>
     Ok(list)
 }
 
-/// Appends the caps above of the outer cycles to a list.
+/// Appends to a list the caps above of the outer cycles.
 fn push_outer(list: &mut FaceList, caps: &[Caps]) -> Result<(), AllocError>
     ensures { OnOk result (list.new ≡ list.old ++ outer_uppers caps.now) }
 {
@@ -87,8 +87,9 @@ fn push_outer(list: &mut FaceList, caps: &[Caps]) -> Result<(), AllocError>
     Ok(())
 }
 
-/// Makes the caps of the holes rings of the caps of the first outer cycle, and then parts the faces above and the caps above that are
-/// left from solid s as solid `upper`, where each of these operators is accepted in its turn. On `AllocError` some may be taken.
+/// Makes the caps of the holes rings of the caps of the first outer cycle, and then parts from solid s, as solid `upper`, the faces above
+/// and the caps above that are left. Each of these operators has to be accepted in its turn. On `AllocError` the draft may have taken some
+/// steps.
 #[tactic(auto, using(undo_journal::proofs::Marks::further_on))]
 pub(crate) fn part_upper(
     alloc: Global,

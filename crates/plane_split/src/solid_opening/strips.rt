@@ -1,4 +1,4 @@
-//! Strips, faces of two edges, cut off above the edges of a cycle.
+//! Strips, which are faces of two edges, cut off above the edges of a cycle.
 ghost use Rattle.std.specs.Prelude.{◌≡◌, ◌≤◌, ◌<◌, ◌+◌, true, None, OnOk, OnErr, length, map, get_or};
 ghost use Rattle.euler_operators.specs.Common.{code, mate, has_half, first_false};
 ghost use Rattle.euler_laws.specs.Laws.{effects};
@@ -13,7 +13,7 @@ use split_drawing::Counters;
 use std::alloc::AllocError;
 use undo_journal::Draft;
 
-/// Cuts the strip at this place off: from the half's mate up to what follows it in its loop.
+/// Cuts off the strip at this place: from the half's mate up to what follows it in its loop.
 fn cut_strip(
     draft: &mut Draft,
     from: &Counters,
@@ -36,8 +36,8 @@ fn cut_strip(
     draft.step_accepted(Op::Mef(mate, next, edge, from.faces + at + 1, from.loops + at + 1))
 }
 
-/// Cuts a strip off above each edge of a cycle along which solid s can be opened, with the numbers after those taken. On
-/// `AllocError` some may be cut off.
+/// Cuts off a strip above each edge of a cycle along which solid s can be opened, with the numbers after those taken. On `AllocError` some
+/// may be cut off.
 #[tactic(auto, using(undo_journal::proofs::Marks::further_none))]
 pub(crate) fn cut_strips(
     draft: &mut Draft,

@@ -23,7 +23,7 @@ is_draft None = false
 is_draft (Some (Stage.Session s)) = false
 is_draft (Some (Stage.Drafting d)) = true
 
--- whether a session or a draft hasn't the call
+-- whether the session or draft doesn't have the call
 abbrev pub lacks : Call → Option Stage → Bool
 lacks (Call.Give Command.Undo) o = is_draft o
 lacks (Call.Give Command.Redo) o = is_draft o
@@ -31,7 +31,8 @@ lacks (Call.Give c) o = false
 lacks Call.Open o = is_draft o
 lacks c o = not (is_draft o)
 
--- the last answer after a call that was told so; a call that the session or draft hasn't, and one that concerns a mark, leave it
+-- the last answer after a call with this answer; a call that the session or draft doesn't have, or one that concerns a mark, leaves the answer before
+-- it
 abbrev pub answer_after : Answer → Told → Answer
 answer_after b Told.InDraft = b
 answer_after b Told.NoDraft = b
@@ -42,11 +43,11 @@ answer_after b a = answer_when a
 abbrev pub Makes : Console → Call → Console → Type 0
 Makes old c new = (g : Stage) → old.stage ≡ Some g → (h : Stage) × (a : Told) × (new.stage ≡ Some h) × Tells g c a h × (new.answer ≡ answer_after old.answer a)
 
--- a question is answered of the model shown, and nothing is kept
+-- a question is answered for the model shown, and nothing is kept
 abbrev pub Measures : Console → Question → Answer → Type 0
 Measures c q a = (g : Stage) → c.stage ≡ Some g → a ≡ answer_after Answer.Silent (asked (shown g) q)
 
--- what is lacking isn't done, and nothing has changed; else R leads on
+-- a call that is lacking isn't made, and nothing changes; else R leads from the old value to the new one
 abbrev pub UnlessLacking : {X : Type 0} → Bool → (X → X → Type 0) → X → X → Bool → Type 0
 UnlessLacking true R old new done = (done ≡ false) × (new ≡ old)
 UnlessLacking false R old new done = (done ≡ true) × R old new

@@ -1,4 +1,4 @@
--- What a line does to a console: it is a call, or is answered by itself.
+-- What a line does to a console: it is a call, or it has an answer of its own.
 use Rattle.std.specs.Prelude.{◌≡◌, ℕ, Bool, false, cond, List, Option, Some, Result, Ok, Err}
 use Rattle.commands.specs.declared.command.{Call.Call, Change.Change, Command.Command}
 use Rattle.commands.specs.declared.stage.Stage.{Stage}
@@ -26,16 +26,16 @@ said Request.List = tells Answer.Listing
 said (Request.Over o ps) = changes (over o ps)
 said (Request.Give c) = gives c
 
--- a line with a fault is told it
+-- a line with a fault is answered with this fault
 abbrev pub read : Result Request Fault → Spoken
 read (Ok r) = said r
 read (Err f) = tells (faulty f)
 
--- what a line within the limit is answered of which this is known, unless it isn't ASCII
+-- a line within the limit has this answer if it is ASCII, and else the fault that says so
 abbrev pub unless_not_ascii : List ℕ → Answer → Answer
 unless_not_ascii line a = cond (is_ascii line) a (faulty Fault.NotAscii)
 
--- the same of the words of a line within the limit: where they ask for nothing, or are wrong, it may not be ASCII
+-- what a line within the limit comes to, given what its words ask for: only if they ask for nothing, or are wrong, can the line be other than ASCII
 abbrev pub said_of : List ℕ → Result Request Fault → Spoken
 said_of line (Ok Request.Nothing) = tells (unless_not_ascii line Answer.Silent)
 said_of line (Ok r) = said r
@@ -44,21 +44,21 @@ said_of line (Err f) = tells (unless_not_ascii line (faulty f))
 abbrev pub spoken : List ℕ → Spoken
 spoken line = read (request_of line)
 
--- whether a session or a draft hasn't the call
+-- whether the session or draft doesn't have the call
 abbrev pub lacks_said : Spoken → Option Stage → Bool
 lacks_said (gives c) o = lacks (Call.Give c) o
 lacks_said (tells a) o = false
 
--- the call is made, or the answer is kept, and the session or draft stays
+-- the call is made; or the answer is kept, and the session or draft stays
 unfoldable pub Says : Console → Spoken → Console → Type 0
 Says old (gives c) new = Makes old (Call.Give c) new
 Says old (tells a) new = (new.stage ≡ old.stage) × (new.answer ≡ a)
 
--- the line is heard so
+-- the line is heard
 abbrev pub Hears : Console → List ℕ → Console → Type 0
 Hears old line new = Says old (spoken line) new
 
--- a session that hears a line goes on, and is answered, as the plain machine may that is given the line in a script
+-- a session that hears a line goes on, and is answered, as the plain machine may when it is given the line in a script
 abbrev pub LinesAreJudged : Type 0
 LinesAreJudged = (old new : Console) (line : List ℕ) (s : Journal) → old.stage ≡ Some (Stage.Session s) → Hears old line new
     → (t : Journal) × (new.stage ≡ Some (Stage.Session t)) × Judges s line new.answer t

@@ -21,7 +21,7 @@ faulty f = Says (reply.Fault (fault.code_of f))
 abbrev pub tally_words : Tally → List ℤ
 tally_words n = pos n.v ∷ pos n.e ∷ pos n.f ∷ pos n.r ∷ n.sum ∷ []
 
--- the answer to a command that is told so; what only a draft is told has none
+-- the answer to a command that is told this; what only a draft can be told has no answer
 abbrev pub answer_when : Told → Answer
 answer_when told.Done = done
 answer_when (told.Refused r) = refused r
@@ -31,27 +31,27 @@ answer_when (told.Volume n) = Says (reply.Volume n)
 answer_when (told.Counts n) = Says (reply.Count (tally_words n))
 answer_when b = Silent
 
--- from s a session may answer a command so, and go on to t
+-- from s a session may give a command this answer, and go on to t
 abbrev pub Gives : Journal → Command → Answer → Journal → Type 0
 Gives s c a t = (b : Told) × (a ≡ answer_when b) × TellsSession s c b t
 
--- and so what a line asks for
+-- the same for what a line asks for
 abbrev pub Obeys : Journal → Request → Answer → Journal → Type 0
 Obeys s request.Nothing a t = (a ≡ Silent) × (t ≡ s)
 Obeys s request.List a t = (a ≡ Listing) × (t ≡ s)
 Obeys s (request.Over o ps) a t = Gives s (Change (over o ps)) a t
 Obeys s (request.Give c) a t = Gives s c a t
 
--- what a line asks for is obeyed, and a line with a fault is told it
+-- what a line asks for is obeyed; a line with a fault is answered with this fault
 abbrev pub Answers : Journal → Result Request Fault → Answer → Journal → Type 0
 Answers s (Ok r) a t = Obeys s r a t
 Answers s (Err f) a t = (a ≡ faulty f) × (t ≡ s)
 
--- from s a session may answer a line so, and go on to t
+-- from s a session may give a line this answer, and go on to t
 abbrev pub Judges : Journal → List ℕ → Answer → Journal → Type 0
 Judges s line a t = Answers s (request_of line) a t
 
--- the text of an answer, where the listing is that of the model held
+-- the text of an answer; a listing is that of the model held
 abbrev pub answer_text : Machine → Answer → List ℕ
 answer_text s Silent = []
 answer_text s (Says r) = reply_text r

@@ -14,7 +14,7 @@ use undo_journal::{Failure, Session};
 /// A session or a draft of its next command, and the answer to the last command.
 #[derive(Drop)]
 pub struct Console {
-    /// The session or the draft: it is none only while it is moved for a call.
+    /// The session or the draft. It is `None` only while the session or draft is moved for a call.
     pub stage: Option<Stage>,
     pub answer: Answer,
 }
@@ -58,7 +58,7 @@ fn counted(tally: &Tally) -> Answer
     ]))
 }
 
-/// Keeps the answer to a call that was told so. One that the session or draft hasn't, or that concerns a mark, leaves the last answer.
+/// Keeps the answer to a call that was told this. A call that the session or draft doesn't have, or one that concerns a mark, leaves the last answer.
 #[inline(always)]
 fn keep(told: &Told, answer: &mut Answer)
     ensures { answer.new ≡ answer_after answer.old told.now }
@@ -76,7 +76,7 @@ fn keep(told: &Told, answer: &mut Answer)
     }
 }
 
-/// Keeps the answer to a change that ended so.
+/// Keeps the answer to a change that ended in this way.
 pub fn keep_outcome(ended: Result<(), Failure>, answer: &mut Answer)
     ensures { answer.new ≡ answer_after answer.old (told_of ended) }
 {
@@ -87,7 +87,7 @@ pub fn keep_outcome(ended: Result<(), Failure>, answer: &mut Answer)
     }
 }
 
-/// Keeps the answer to undo or redo that ended so.
+/// Keeps the answer to an undo or redo that ended in this way.
 fn keep_move(ended: Result<(), Refusal>, answer: &mut Answer)
     ensures { answer.new ≡ answer_after answer.old (told_of_move ended) }
 {
@@ -97,7 +97,7 @@ fn keep_move(ended: Result<(), Refusal>, answer: &mut Answer)
     }
 }
 
-/// One operator, where the session or draft lies: in a session it is a command, in a draft a step.
+/// One operator, made in place: in a session it is a command, in a draft a step.
 #[inline(always)]
 pub fn act(console: &mut Console, op: Op)
     ensures { Makes console.old (act_of op) console.new }
@@ -108,7 +108,7 @@ pub fn act(console: &mut Console, op: Op)
     }
 }
 
-/// Takes the last command back, where the session lies. False in a draft, which hasn't this call; then nothing has changed.
+/// Takes the last command back, in place. False in a draft, which doesn't have this call; then nothing has changed.
 #[inline(never)]
 pub(crate) fn undo(console: &mut Console) -> bool
     ensures { UnlessLacking (is_draft console.old.stage) (λ x y. Makes x (Call.Give Command.Undo) y) console.old console.new result }
@@ -124,7 +124,7 @@ pub(crate) fn undo(console: &mut Console) -> bool
     true
 }
 
-/// Does the next command again, where the session lies. False in a draft, which hasn't this call; then nothing has changed.
+/// Does the next command again, in place. False in a draft, which doesn't have this call; then nothing has changed.
 #[inline(never)]
 pub(crate) fn redo(console: &mut Console) -> bool
     ensures { UnlessLacking (is_draft console.old.stage) (λ x y. Makes x (Call.Give Command.Redo) y) console.old console.new result }
@@ -140,7 +140,7 @@ pub(crate) fn redo(console: &mut Console) -> bool
     true
 }
 
-/// A call for which the session or draft is moved.
+/// A call for which the session or draft has to be moved.
 pub(crate) fn carry(alloc: Global, console: &mut Console, wanted: Call<'_>)
     ensures { Makes console.old wanted.entry console.new }
 {

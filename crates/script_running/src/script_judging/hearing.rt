@@ -1,4 +1,4 @@
-//! Lines: each is a call that it spells, or is answered by itself.
+//! Lines: each spells a call, or has an answer of its own.
 ghost use Rattle.std.specs.Prelude.{◌≡◌, Ok, true};
 ghost use Rattle.script_reader.specs.Grammar.{is_operator, arguments};
 ghost use Rattle.script_reader.specs.Polygon.{over};
@@ -17,7 +17,7 @@ use script_reader::{
 use solid_listing::Reply;
 use std::alloc::Global;
 
-/// Answers a line with this fault. The rooms for answers are here and in the next ones, so that no other line pays for them.
+/// Answers a line with this fault. The stack space for answers is in this and the next functions, so that no other line pays for it.
 #[inline(never)]
 #[tactic(auto, unfolding(crate::specs::script_judging::Hearing::Says))]
 fn tell_fault(console: &mut Console, fault: Fault)
@@ -26,7 +26,7 @@ fn tell_fault(console: &mut Console, fault: Fault)
     console.answer = Answer::Reply(Reply::Fault(fault.code()));
 }
 
-/// Answers a line within the limit of whose words this is the first fault: it is told, or that the line isn't ASCII.
+/// Answers a line within the limit whose words have this first fault: with this fault, or with the one that the line isn't ASCII.
 #[inline(never)]
 fn tell_first_fault(console: &mut Console, line: &[u8], fault: Fault)
     ensures { Says console.old (tells (unless_not_ascii line.now (faulty fault))) console.new }
@@ -46,7 +46,7 @@ fn tell(console: &mut Console, answer: Answer)
     console.answer = answer;
 }
 
-/// Answers a line within the limit whose words ask for nothing: it has no reply, or is told that it isn't ASCII.
+/// Answers a line within the limit whose words ask for nothing: it has no reply, or the fault that it isn't ASCII.
 #[inline(never)]
 fn tell_nothing(console: &mut Console, line: &[u8])
     ensures { Says console.old (tells (unless_not_ascii line.now Answer.Silent)) console.new }
@@ -94,7 +94,7 @@ fn change_over(alloc: Global, console: &mut Console, outline: Outline, polygon: 
     change(alloc, console, outline.over(&corners))
 }
 
-/// Gives a command. False where a draft hasn't it; then nothing has changed.
+/// Gives a command. False if a draft doesn't have it; then nothing has changed.
 fn give(alloc: Global, console: &mut Console, command: Command<'_>) -> bool
     ensures { UnlessLacking (lacks_said (gives command.entry) console.old.stage) (λ x y. Says x (gives command.entry) y) console.old console.new result }
 {
@@ -107,7 +107,7 @@ fn give(alloc: Global, console: &mut Console, command: Command<'_>) -> bool
     true
 }
 
-/// Does what the words of a line within the limit ask for. False where a draft hasn't the call; then nothing has changed.
+/// Does what the words of a line within the limit ask for. False if a draft doesn't have the call; then nothing has changed.
 fn obey(alloc: Global, console: &mut Console, line: &[u8], request: Request<'_>) -> bool
     ensures { UnlessLacking (lacks_said (said_of line.now (Ok request.entry)) console.old.stage) (λ x y. Says x (said_of line.now (Ok request.entry)) y) console.old console.new result }
 {
@@ -120,7 +120,7 @@ fn obey(alloc: Global, console: &mut Console, line: &[u8], request: Request<'_>)
     true
 }
 
-/// Answers a line within the limit that begins with the name of an operator, before these words.
+/// Answers a line within the limit that is the name of an operator followed by these words.
 #[inline(always)]
 fn hear_operator(console: &mut Console, line: &[u8], name: Name, words: &mut Words<'_>) -> bool
     requires { is_operator name ≡ true }
@@ -133,8 +133,7 @@ fn hear_operator(console: &mut Console, line: &[u8], name: Name, words: &mut Wor
     true
 }
 
-/// Answers a line within the limit that begins with this name, before these words. False where a draft hasn't the call; then nothing has
-/// changed.
+/// Answers a line within the limit that is this name followed by these words. False if a draft doesn't have the call; then nothing has changed.
 #[inline(never)]
 fn hear_other(
     alloc: Global,
@@ -154,7 +153,7 @@ fn hear_other(
     }
 }
 
-/// Answers any line. It is read once; only one that asks for nothing, or whose words are wrong, is looked at again, for a byte that isn't ASCII.
+/// Answers any line. A line is read once. Only if it asks for nothing, or its words are wrong, is it searched again for a byte that isn't ASCII.
 #[inline(never)]
 #[tactic(auto, using(crate::proofs::Hearing::words_heard))]
 fn hear_line(alloc: Global, console: &mut Console, line: &[u8]) -> bool
@@ -177,9 +176,9 @@ fn hear_line(alloc: Global, console: &mut Console, line: &[u8]) -> bool
     true
 }
 
-/// Answers a line, and keeps the answer. False where a draft hasn't the call that the line spells, undo or redo; then nothing has changed.
-/// What isn't answered `ok` leaves the session or draft as it was, its records too. The lines that are given most often, `undo` and `redo`
-/// alone, are known by their letters.
+/// Answers a line, and keeps the answer. False if the line spells undo or redo in a draft, which doesn't have these calls; then nothing has changed.
+/// If the answer isn't `ok`, the session or draft is as it was, with its records. The lines that are given most often, `undo` and `redo` alone, are
+/// known by their letters.
 #[inline(always)]
 pub fn hear(alloc: Global, console: &mut Console, line: &[u8]) -> bool
     ensures { UnlessLacking (lacks_said (spoken line.now) console.old.stage) (λ x y. Hears x line.now y) console.old console.new result }

@@ -37,7 +37,7 @@ impl Summary {
         self.refused == 0 && self.faults == 0 && self.memory == 0
     }
 
-    /// One line more, with its answer.
+    /// Counts one more line, with its answer.
     pub fn count(&mut self, answer: &Answer)
         requires lines { self.old.lines < 67108865 }
         requires refused { self.old.refused ≤ self.old.lines }

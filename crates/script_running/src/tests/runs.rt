@@ -19,7 +19,7 @@ const FAULTS_TOLD: &[u8] = b"fault 1\nfault 2\nfault 3\nfault 4\nfault 5\n";
 const RINGS: &[u8] =
     b"mvfs 1 1 1 1 0 0 0\nmev @1 @1 1 2 5 0 0\nkemr +1 2\nringmv 2 1 out\nringmv 1 1 in\nlist\nundo\nmfkrh 2 2\nlist\n";
 
-/// Asserts that a run over this reader ends so, and what it wrote.
+/// Asserts how a run over this reader ends, and what it wrote.
 fn ends<R: Read + Drop>(
     rt: &impl Abort,
     alloc: Global,
@@ -91,7 +91,7 @@ fn interrupted(times: u32) -> Interrupted<'static> {
     }
 }
 
-/// A read that is interrupted is tried again, but not a million times in a row.
+/// A read that is interrupted is tried again, but not more than a million times in a row.
 #[test]
 fn reads_interrupted(rt: HostRuntime) {
     for times in [1, 1_000, 999_999] {
@@ -114,7 +114,7 @@ fn whole_lines(text: &[u8]) -> &[u8] {
     }
 }
 
-/// Where a read fails, the replies to the lines before it are written, and no more.
+/// If a read fails, the replies to the lines before it are written, and no more.
 fn read_fails(rt: &impl Abort, alloc: Global, reads: u32) -> Result<(), Fail> {
     let given = RINGS.len().min(7 * reads as usize);
     let wanted = told(alloc, whole_lines(&RINGS[..given]))?;
@@ -136,7 +136,7 @@ fn each_read_fails(rt: HostRuntime) -> Result<(), Fail> {
     Ok(())
 }
 
-/// Asserts that a writer that halts after so many writes has a prefix of the text, or all of it where nothing failed.
+/// Asserts that a writer that halts after so many writes has a prefix of the text, or all of it if nothing failed.
 fn halts(rt: &impl Abort, alloc: Global, whole: &[u8], most: usize, left: u32, halt: Halt) {
     let mut writer = Taker {
         taken: Vec::new(alloc),
@@ -154,7 +154,7 @@ fn halts(rt: &impl Abort, alloc: Global, whole: &[u8], most: usize, left: u32, h
     }
 }
 
-/// The script has 190 bytes of replies: the last runs are answered to their end.
+/// The replies have 190 bytes, so the last runs are answered to their end.
 #[test]
 fn each_write_fails(rt: HostRuntime) -> Result<(), Fail> {
     let whole = told(rt.alloc(), RINGS)?;

@@ -49,14 +49,14 @@ face_conditions M f g =
 unfoldable pub early_glue_conditions : Model → ℕ → ℕ → List Condition
 early_glue_conditions M f g = face_conditions M f g ++ faces_are_flat M (faces_of_both M (solid_of M f) (solid_of M g))
 
--- the outlines have no point twice, and lie on one another
+-- each outline has no point twice, and the two lie on one another
 abbrev pub outline_conditions : Model → ℕ → ℕ → List Condition
 outline_conditions M f g =
     never (has_repeats (outline M f)) RepeatedPoint f
     ∷ never (has_repeats (outline M g)) RepeatedPoint g
     ∷ need (is_rotation (outline M f) (reverse (outline M g))) NoMatch g ∷ []
 
--- all of them, in the order of its refusals
+-- all conditions, in the order of the refusals
 unfoldable pub glue_conditions : Model → ℕ → ℕ → List Condition
 glue_conditions M f g =
     early_glue_conditions M f g ++ outline_conditions M f g ++ numbers_left (taken_in M) (record { faces = 0; loops = 0; edges = 1; vertices = 0 })
@@ -69,24 +69,24 @@ glue_refusal M f g = first_refusal (glue_conditions M f g)
 abbrev pub partner : Model → List ℕ → ℕ → ℕ
 partner M gs h = unwrap_or (first_such (λ g. same_point (start M g) (finish M h)) gs) 0
 
--- each item h of the first face with its partner g, which goes back along it: (h, g)
+-- each item h of the first face with its partner g, which goes back along h: the pair (h, g)
 abbrev pub partners : Model → List ℕ → List ℕ → List (ℕ × ℕ)
 partners M gs [] = []
 partners M gs (h ∷ hs) = (h, partner M gs h) ∷ partners M gs hs
 
--- h stands in place of the mate of g
+-- h takes the place of the mate of g
 abbrev pub swaps : List (ℕ × ℕ) → List (ℕ × ℕ)
 swaps ps = map (λ p. (mate p.1, p.0)) ps
 
--- the vertex at which h ends stands in place of the one at which g starts
+-- the vertex at which h ends takes the place of the one at which g starts
 abbrev pub moves : Model → List (ℕ × ℕ) → List (ℕ × ℕ)
 moves M ps = map (λ p. (tail M p.1, tail M (mate p.0))) ps
 
--- what started at a vertex of the first column starts at the one beside it
+-- a half-edge that started at a vertex of the first column starts at the vertex beside it
 abbrev pub renamed_tails : List (ℕ × ℕ) → ℕ → EdgeRow → EdgeRow
 renamed_tails ms e row = record { plus_tail = renamed ms row.plus_tail; minus_tail = renamed ms row.minus_tail }
 
--- in every other loop h stands in place of the mate of g; the edges and vertices of g go, and both faces with their loops
+-- in every other loop h takes the place of the mate of g; the edges and vertices of g are removed, and both faces with their loops
 abbrev pub glued_along : Model → ℕ → ℕ → List (ℕ × ℕ) → Model
 glued_along M f g ps = let s = solid_of M f in let t = solid_of M g in record {
   solids = table.remove M.solids t;

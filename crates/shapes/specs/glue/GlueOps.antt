@@ -14,11 +14,11 @@ fresh_edge M = (taken_in M).edge + 1
 abbrev pub opening : Model → ℕ → ℕ → ℕ → ℕ → ℕ → List Op
 opening M f g h k x = Merge (solid_of M f) (solid_of M g) ∷ Kfmrh f g ∷ Mekr (At (half h)) (At (half k)) (half (plus x)) ∷ Kev (half (plus x)) ∷ []
 
--- item k with its next item h: both get a loop of their own, their ends become one, and k's edge goes
+-- for item k and its next item h: both get a loop of their own, their ends become one vertex, and k's edge is removed
 abbrev pub closing : ℕ → ℕ → ℕ → ℕ → ℕ → List Op
 closing k h x g r = Mef (half k) (half h) (half (plus x)) g r ∷ Kev (half (minus x)) ∷ Kef (half (mate k)) ∷ []
 
--- one item after the other; for the last one only the edge goes
+-- the items are glued one after the other; for the last one only its edge is removed
 abbrev pub closings : (ℕ → ℕ) → ℕ → ℕ → ℕ → List ℕ → List Op
 closings partner_of x g r [] = []
 closings partner_of x g r (h ∷ []) = Kef (half (mate (partner_of h))) ∷ []

@@ -5,7 +5,7 @@ use Rattle.euler_operators.specs.Table as table
 use Rattle.shapes.specs.Rewriting.{rewritten_row, renamed, without_rows}
 use Rattle.shapes.specs.glue.Glue.{renamed_tails}
 
--- what two functions say of some items, in pairs
+-- the values of two functions at some items, in pairs
 abbrev pub paired : (ℕ → ℕ) → (ℕ → ℕ) → List ℕ → List (ℕ × ℕ)
 paired from to hs = map (λ h. (from h, to h)) hs
 
@@ -13,7 +13,7 @@ paired from to hs = map (λ h. (from h, to h)) hs
 abbrev pub seam : (ℕ → ℕ) → List ℕ → List ℕ
 seam partner_of hs = hs ++ reverse (map partner_of hs)
 
--- the items `done` are glued, the items hs aren't; the end of the last item is
+-- the items `done` are glued, and the items hs aren't; the end of the last item is glued too
 unfoldable pub glued_part : Model → ℕ → ℕ → (ℕ → ℕ) → ℕ → List ℕ → List ℕ → Model
 glued_part M f g partner_of last done hs = let s = solid_of M f in let t = solid_of M g in record {
   solids = table.remove M.solids t;

@@ -18,7 +18,7 @@ pub record FacePairs : Type 0 where
   pub face : ℕ
   pub pairs : List (ℕ × ℕ)
 
--- the pairs of half-edges that start at the pairs of cut places of face f. M is the model before, N the one with its edges cut
+-- the pairs of half-edges that start at the pairs of cut places of face f. M is the model before, and N is M with its edges cut
 unfoldable pub drawn_pairs : Model → Model → Plane → ℕ → List (ℕ × ℕ)
 drawn_pairs M N p f = map (λ q. (from_place N p q.0, from_place N p q.1)) (place_pairs M p f)
 
@@ -26,11 +26,11 @@ drawn_pairs M N p f = map (λ q. (from_place N p q.0, from_place N p q.1)) (plac
 abbrev pub all_pairs : Model → Model → Plane → List ℕ → List FacePairs
 all_pairs M N p fs = map (λ f. record { face = f; pairs = drawn_pairs M N p f }) fs
 
--- an edge from u to k, in one loop, that cuts off the new face f with the loop l: what lies from u up to before k
+-- an edge from u to k, which stand in one loop. It cuts off the new face f with the loop l, which is what lies from u up to before k
 abbrev pub draw_edge : ℕ → ℕ → ℕ → ℕ → ℕ → Op
 draw_edge u k e f l = Mef (half u) (half k) (half (plus e)) f l
 
--- an edge from c to d, whose loop is a ring, that joins the two loops
+-- an edge from c to d that joins their two loops; the loop of d is a ring
 abbrev pub join_edge : ℕ → ℕ → ℕ → Op
 join_edge c d e = Mekr (At (half c)) (At (half d)) (half (plus e))
 
@@ -47,11 +47,11 @@ stuck_at f d = record d { stuck = cond (nat_eq d.stuck 0) f d.stuck }
 abbrev pub in_one_loop : Model → ℕ × ℕ → Bool
 in_one_loop M q = nat_eq (loop_of M q.0) (loop_of M q.1)
 
--- a pair in different loops joined: from k to u where u's loop is a ring, else from u to k
+-- a pair in different loops is joined: if u's loop is a ring, from k to u, else from u to k
 abbrev pub join_pair : Model → ℕ × ℕ → ℕ → Op
 join_pair M q e = cond (is_ring_of M (face_at M q.0) (loop_of M q.0)) (join_edge q.1 q.0 e) (join_edge q.0 q.1 e)
 
--- first pass: a pair in different loops is joined, another is left
+-- first pass: a pair in different loops is joined, any other is left for the second pass
 unfoldable pub join_next : Drawing → ℕ × ℕ → Drawing
 join_next d q = cond (in_one_loop d.model q)
     (record d { left = d.left ++ q ∷ [] })
@@ -60,7 +60,7 @@ join_next d q = cond (in_one_loop d.model q)
 abbrev pub all_joined : List (ℕ × ℕ) → Drawing → Drawing
 all_joined qs d = fold join_next (record d { left = [] }) qs
 
--- a face with more than one pair must have no ring then
+-- after that, a face with more than one pair must have no ring
 abbrev pub ring_free : ℕ → List (ℕ × ℕ) → Drawing → Drawing
 ring_free f qs d = cond (nat_lt 1 (length qs) && has_rings d.model f) (stuck_at f d) d
 
@@ -68,7 +68,7 @@ ring_free f qs d = cond (nat_lt 1 (length qs) && has_rings d.model f) (stuck_at 
 abbrev pub draw_pair : Taken → ℕ × ℕ → Op
 draw_pair c q = draw_edge q.0 q.1 (c.edge + 1) (c.face + 1) (c.loop + 1)
 
--- second pass: a pair is drawn. It can't be drawn where it stands in different loops
+-- second pass: a pair is drawn. If it stands in different loops, it can't be drawn
 unfoldable pub draw_next : ℕ → Drawing → ℕ × ℕ → Drawing
 draw_next f d q = let c = d.taken in cond (in_one_loop d.model q)
     (record d { model = effect d.model (draw_pair c q); taken = record c { face = c.face + 1; loop = c.loop + 1; edge = c.edge + 1 } })
@@ -77,7 +77,7 @@ draw_next f d q = let c = d.taken in cond (in_one_loop d.model q)
 abbrev pub all_drawn : ℕ → Drawing → Drawing
 all_drawn f d = fold (draw_next f) d d.left
 
--- the rings of face f above the plane. Such a ring is uncut, so one corner above tells
+-- the rings of face f above the plane. Such a ring is uncut, so it is above if one of its corners is
 abbrev pub rings_above : Model → Plane → ℕ → List ℕ
 rings_above M p f = filter (λ l. some_above M p (vertices_on M (content M l))) (rings_of M f)
 
@@ -85,7 +85,7 @@ rings_above M p f = filter (λ l. some_above M p (vertices_on M (content M l))) 
 abbrev pub with_rings : Model → List ℕ → ℕ → Model
 with_rings M ls k = fold (λ N l. effect N (RingIn l k)) M ls
 
--- with one pair, the rings above go to the new face
+-- if there is one pair, the rings above the plane go to the new face
 abbrev pub rings_shared : Plane → ℕ → List (ℕ × ℕ) → Drawing → Drawing
 rings_shared p f qs d = cond (nat_eq (length qs) 1) (record d { model = with_rings d.model (rings_above d.model p f) d.taken.face }) d
 
@@ -93,7 +93,7 @@ rings_shared p f qs d = cond (nat_eq (length qs) 1) (record d { model = with_rin
 abbrev pub drawn_between : Plane → ℕ → List (ℕ × ℕ) → Drawing → Drawing
 drawn_between p f qs d = rings_shared p f qs (all_drawn f (ring_free f qs (all_joined qs d)))
 
--- one face more
+-- one more face
 unfoldable pub next_drawn : Plane → Drawing → FacePairs → Drawing
 next_drawn p d f = drawn_between p f.face f.pairs d
 
@@ -109,6 +109,6 @@ undrawn g = record { model = g.model; taken = g.taken; left = []; stuck = 0 }
 abbrev pub straddling_pairs : Model → ℕ → Plane → List FacePairs
 straddling_pairs M s p = all_pairs M (with_crossings M s p).model p (straddling_faces M p s)
 
--- the edges of solid s that cross the plane cut, and then its faces that straddle drawn, rising
+-- the edges of solid s that cross the plane are cut, and then its faces that straddle the plane are drawn, rising
 unfoldable pub with_drawings : Model → ℕ → Plane → Drawing
 with_drawings M s p = faces_drawn p (undrawn (with_crossings M s p)) (straddling_pairs M s p)

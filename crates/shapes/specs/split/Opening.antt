@@ -6,7 +6,7 @@ use Rattle.shapes.specs.Fresh.{Taken, numbers_after}
 use Rattle.shapes.specs.Rewriting.{rewritten_row, renamed}
 use Rattle.shapes.specs.split.Section.{is_hole}
 
--- what starts at a copied vertex in a face above starts at its copy, but for the mates of the below halves
+-- a half-edge in a face above that started at a copied vertex starts at its copy, except the mates of the below halves
 abbrev pub opened_tail : Model → List ℕ → List ℕ → List (ℕ × ℕ) → ℕ → ℕ → ℕ
 opened_tail M above mates copies h v = cond (lists above (face_at M h) && not (lists mates h)) (renamed copies v) v
 
@@ -16,7 +16,7 @@ opened_row M above mates copies e row = record {
   minus_tail = opened_tail M above mates copies (minus e) row.minus_tail;
 }
 
--- the first i of the m edges round the cap above: the i-th, k + i, leads from the copy of the next vertex to that of its own, y + i
+-- the first i of the m edges round the cap above: edge k + i leads from the copy of the next vertex to the copy y + i of its own vertex
 abbrev pub with_rim : Table EdgeRow → ℕ → ℕ → ℕ → ℕ → Table EdgeRow
 with_rim t k y m zero = t
 with_rim t k y m (suc i) = table.put (with_rim t k y m i) (k + suc i)
@@ -31,8 +31,8 @@ both_lists [] ys = []
 both_lists (x ∷ xs) [] = []
 both_lists (x ∷ xs) (y ∷ ys) = (x, y) ∷ both_lists xs ys
 
--- solid s opened along the cycle b1 .. bm of below halves. In the faces above, +ci stands in place of the mate ai of bi,
--- and what starts at xi, where bi does, starts at its copy yi. The cap below has the loop am .. a1, and the cap above -c1 .. -cm
+-- solid s opened along the cycle b1 .. bm of below halves; ai is the mate of bi, and bi starts at vertex xi. In the faces above, +ci takes the place
+-- of ai, and what starts at xi starts at its copy yi. The cap below has the loop am .. a1, and the cap above the loop -c1 .. -cm
 unfoldable pub opened_along : Model → List ℕ → ℕ → Taken → List ℕ → Model
 opened_along M above s c bs =
     let m = length bs in
@@ -60,7 +60,7 @@ pub record Opening : Type 0 where
   pub taken : Taken
   pub caps : List Caps
 
--- one cycle more. It takes m + 1 faces and loops, 2 m edges and m vertices, also those that don't stay
+-- one more cycle. It takes m + 1 faces and loops, 2 m edges and m vertices, counting those that don't stay
 unfoldable pub next_opened : Plane → List ℕ → ℕ → Opening → List ℕ → Opening
 next_opened p above s o bs = let m = length bs in let c = o.taken in record {
   model = opened_along o.model above s c bs;

@@ -5,7 +5,7 @@ use Rattle.euler_operators.specs.Common.{Point, Plane, same_point, is_above, is_
 use Rattle.shapes.specs.Faces.{boundary, start, finish}
 use Rattle.shapes.specs.split.Sides.{crosses}
 
--- a cut place is told by the half-edge that crosses the plane, or that starts on it between corners strictly on opposite sides
+-- a cut place is named by a half-edge: one that crosses the plane, or one that starts on it between corners strictly on opposite sides
 unfoldable pub is_place : Model → Plane → ℕ → Bool
 is_place M p h = crosses M p h || (is_on p (start M h) && are_opposite p (start M (before M h)) (finish M h))
 
@@ -13,7 +13,7 @@ is_place M p h = crosses M p h || (is_on p (start M h) && are_opposite p (start 
 unfoldable pub place_point : Model → Plane → ℕ → Point
 place_point M p h = cond (is_on p (start M h)) (start M h) (cut_between p (start M h) (finish M h))
 
--- a place is up where the loop goes from below to above, else it is down
+-- a place is up if the loop goes from below to above there, else it is down
 abbrev pub goes_up : Model → Plane → ℕ → Bool
 goes_up M p h = is_above p (finish M h)
 
@@ -28,7 +28,7 @@ loop_is_cut M p l = list_any (is_place M p) (items_of (content M l))
 unfoldable pub is_touched : Model → Plane → ℕ → Bool
 is_touched M p f = list_any (λ h. is_on p (start M h) && not (is_place M p h)) (boundary M f)
 
--- the outer loop has no cut place, or a ring has none while the face hasn't exactly two
+-- the outer loop has no cut place; or a ring has none, and the face doesn't have exactly two
 unfoldable pub is_cut_often : Model → Plane → ℕ → Bool
 is_cut_often M p f = not (loop_is_cut M p (outer M f))
     || (not (list_all (loop_is_cut M p) (rings_of M f)) && not (nat_eq (length (places M p f)) 2))

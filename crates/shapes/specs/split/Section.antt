@@ -6,7 +6,7 @@ use Rattle.shapes.specs.Faces.{edges_of}
 use Rattle.shapes.specs.Fresh.{first_such, found}
 use Rattle.shapes.specs.Measure.{area}
 
--- the half of a section edge in the face below. Nothing where the edge is none; `above` are the faces above
+-- the half of a section edge in the face below; none if the edge is no section edge. `above` are the faces above
 abbrev pub below_half : Model → List ℕ → ℕ → List ℕ
 below_half M above e = let a = lists above (face_at M (plus e)) in let b = lists above (face_at M (minus e)) in
     cond a (cond b [] (minus e ∷ [])) (cond b (plus e ∷ []) [])
@@ -30,17 +30,17 @@ next_below M bs b = unwrap_or (first_such (λ c. nat_eq (tail M c) (tail M (mate
 abbrev pub cycle_from : Model → List ℕ → ℕ → List ℕ
 cycle_from M bs b = orbit (next_below M bs) b (length bs)
 
--- the cycles, each from its least edge on, by their least edges
+-- the cycles, each from its least edge on, in the order of their least edges
 unfoldable pub section_cycles : Model → List ℕ → List (List ℕ)
 section_cycles M bs = map (cycle_from M bs) (filter (λ b. nat_eq (least (cycle_from M bs b)) b) bs)
 
--- a cycle is a hole where the normal of its cap below points against the plane's direction, else it is outer
+-- a cycle is a hole if the normal of its cap below points against the plane's direction, else it is outer
 unfoldable pub is_hole : Model → Plane → List ℕ → Bool
 is_hole M p bs = int_lt (dot (area M (map mate bs)) (direction p)) (pos 0)
 
 abbrev pub holes_in : Model → Plane → List (List ℕ) → List (List ℕ)
 holes_in M p cs = filter (is_hole M p) cs
 
--- there is a hole and not exactly one outer cycle
+-- there is a hole, and there isn't exactly one outer cycle
 abbrev pub has_stray_hole : Model → Plane → List (List ℕ) → Bool
 has_stray_hole M p cs = nat_lt 0 (length (holes_in M p cs)) && not (nat_eq (length cs) (length (holes_in M p cs) + 1))

@@ -5,14 +5,14 @@ use Rattle.euler_operators.specs.Common.{Plane, dot, direction, is_above, is_bel
 use Rattle.shapes.specs.Faces.{corners, start, finish, edges_of}
 use Rattle.shapes.specs.Measure.{normal}
 
--- whether some of the vertices lie strictly above the plane, and strictly below
+-- whether some of the vertices lie strictly above the plane, and whether some lie strictly below
 abbrev pub some_above : Model → Plane → List ℕ → Bool
 some_above M p vs = list_any (λ v. is_above p (point_of M v)) vs
 
 abbrev pub some_below : Model → Plane → List ℕ → Bool
 some_below M p vs = list_any (λ v. is_below p (point_of M v)) vs
 
--- whether a face has a corner above, and a corner below
+-- whether a face has a corner above, and whether it has a corner below
 abbrev pub reaches_above : Model → Plane → ℕ → Bool
 reaches_above M p f = some_above M p (corners M f)
 
@@ -34,7 +34,7 @@ crosses M p h = are_opposite p (start M h) (finish M h)
 abbrev pub crossing_edges : Model → Plane → ℕ → List ℕ
 crossing_edges M p s = filter (λ e. crosses M p (plus e)) (edges_of M s)
 
--- a face is above where it has a corner above. One wholly on the plane is above unless its normal points along the plane's direction
+-- a face is above if it has a corner above. A face wholly on the plane is above unless its normal points along the plane's direction
 unfoldable pub face_is_above : Model → Plane → ℕ → Bool
 face_is_above M p f = reaches_above M p f || (not (reaches_below M p f) && not (int_lt (pos 0) (dot (normal M f) (direction p))))
 

@@ -1,4 +1,4 @@
--- A solid split by a plane: what is below and on the plane keeps its number, what is above goes to a new solid.
+-- A solid split by a plane: the part below and on the plane keeps the solid's number, and the part above is a new solid.
 use Rattle.std.specs.Prelude.{ℕ, ◌+◌, ◌*◌, not, ◌&&◌, List, [], ◌∷◌, ◌++◌, map, filter, length, Option}
 use Rattle.std.specs.List.{list_any}
 use Rattle.euler_operators.specs.Common.{Plane, is_coordinate, origin, same_point, direction, cuts_lattice, is_offset, plus, Model, faces_of, Condition, need, never, first_refusal, numbers_in_range, part}
@@ -54,7 +54,7 @@ sectioning_conditions M s p =
 unfoldable pub first_conditions : Model → ℕ → Plane → ℕ → List Condition
 first_conditions M s p t = early_split_conditions M s p t ++ sectioning_conditions M s p
 
--- what is asked of n section edges and their cycles. Numbers count on from c, those really taken by then
+-- what is asked of n section edges and their cycles. Fresh numbers come after c, the greatest numbers really taken by then
 abbrev pub cycle_conditions : Model → ℕ → Plane → Taken → ℕ → List (List ℕ) → List Condition
 cycle_conditions M s p c n cs =
     never (has_stray_hole M p cs) SectionHoles s
@@ -80,11 +80,11 @@ split_refusal M s p t = first_refusal (split_conditions M s p t)
 abbrev pub opened_at : Drawing → List ℕ → ℕ → Plane → Opening
 opened_at d above s p = all_opened p above s (record { model = d.model; taken = d.taken; caps = [] }) (section_cycles d.model (below_halves d.model above s))
 
--- the upper faces that are left when the holes are closed: the faces above, and the caps above of the outer cycles
+-- the upper faces that are left when the holes are closed: the faces above, and the upper caps of the outer cycles
 abbrev pub upper_left : List ℕ → List Caps → List ℕ
 upper_left above ks = above ++ map (λ k. k.upper) (filter (λ k. not k.hole) ks)
 
--- the solid opened, the holes closed, and then the upper faces that are left parted from solid s as solid t
+-- the solid is opened, the holes are closed, and then the upper faces that are left leave solid s and become solid t
 abbrev pub split_drawn : Drawing → List ℕ → ℕ → Plane → ℕ → Model
 split_drawn d above s p t = let o = opened_at d above s p in part (holes_closed o.model o.caps) s t (upper_left above o.caps)
 

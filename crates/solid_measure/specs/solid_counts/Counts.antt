@@ -18,11 +18,11 @@ tally_of v e f r = record { v = v; e = e; f = f; r = r; sum = pos (v + f) -ℤ p
 unfoldable pub counts : Model → ℕ → Tally
 counts M s = tally_of (length (vertices_of M s)) (length (edges_of M s)) (length (faces_of M s)) (length (rings_in M (faces_of M s)))
 
--- where a query about a solid is refused
+-- when a query about a solid is refused
 abbrev pub solid_refusal : Model → ℕ → Option Refusal
 solid_refusal M s = first_refusal (numbers_in_range (s ∷ []) ++ need (table.has M.solids s) NoSolid s ∷ [])
 
--- what a query answers: a value, or the refusal where there is one
+-- the answer to a query: a value, or the refusal if there is one
 abbrev pub answer : {A : Type 0} → Option Refusal → A → Result A Refusal
 answer None a = Ok a
 answer (Some r) a = Err r

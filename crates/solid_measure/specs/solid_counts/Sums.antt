@@ -7,14 +7,14 @@ use Rattle.solid_measure.specs.declared.solid_counts.Met.{Met}
 abbrev pub together : Met → Met → Met
 together a b = record { vertices = a.vertices + b.vertices; edges = a.edges + b.edges }
 
--- no walk counts as much
+-- no walk counts more than this
 abbrev pub IsFew : Met → Type 0
 IsFew m = (m.vertices ≤ 4000000) × (m.edges ≤ 4000000)
 
 abbrev pub nothing : Met
 nothing = record { vertices = 0; edges = 0 }
 
--- a half-edge counts for a vertex where it leads, and for an edge where it is the plus one
+-- a half-edge counts for its vertex if it leads, and for its edge if it is the plus one
 abbrev pub half_met : Model → ℕ → Met
 half_met M h = record { vertices = cond (leads M h) 1 0; edges = cond (is_first h) 1 0 }
 

@@ -22,8 +22,8 @@ pub(crate) fn together(a: Met, b: Met) -> Met
     }
 }
 
-/// A half-edge counts for a vertex where it is of the least edge there, and for an edge where it is the plus one. `last` is the code
-/// of the item before it in its loop.
+/// A half-edge counts for its vertex if it is of the least edge there, and for its edge if it is the plus one. `last` is the code of the item before
+/// it in its loop.
 fn half_met(arena: &Arena, last: u32, code: u32) -> Met
     requires ready { IsReady arena.now }
     requires there { has_half arena.now.model code ≡ true }
@@ -36,7 +36,7 @@ fn half_met(arena: &Arena, last: u32, code: u32) -> Met
     }
 }
 
-/// What the half-edges of loop l count for, in which `first` stands.
+/// What the half-edges of loop l, in which `first` stands, count for.
 fn ring_met(arena: &Arena, l: u32, first: HalfEdge) -> Met
     requires ready { IsReady arena.now }
     requires item { IsIn (code first) (items_of (content arena.now.model l)) }
@@ -59,7 +59,7 @@ fn ring_met(arena: &Arena, l: u32, first: HalfEdge) -> Met
     }
 }
 
-/// What the loop counts for: its vertex where it is lone, else what its half-edges do.
+/// What the loop counts for: its vertex if it is lone, else what its half-edges count for.
 fn loop_met(arena: &Arena, l: u32) -> Met
     requires ready { IsReady arena.now }
     requires there { has_number arena.now Kind.Loop l ≡ true }
@@ -74,7 +74,7 @@ fn loop_met(arena: &Arena, l: u32) -> Met
     }
 }
 
-/// What the loops of face f count for, which has so many rings.
+/// What the loops of face f, which has so many rings, count for.
 pub(crate) fn face_met(arena: &Arena, f: u32, rings: u32) -> Met
     requires ready { IsReady arena.now }
     requires there { has_number arena.now Kind.Face f ≡ true }

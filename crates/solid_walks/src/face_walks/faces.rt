@@ -6,7 +6,7 @@ ghost use Rattle.euler_operators.specs.Common.{faces_of, Sound};
 use euler_conditions::Arena;
 use std::marker::Model;
 
-/// The faces of a solid that are still to come, seen as the list of their numbers.
+/// The faces of a solid that are still to come. Contracts see them as the list of their numbers.
 #[derive(Drop)]
 pub struct Faces<'a> {
     arena: &'a Arena,

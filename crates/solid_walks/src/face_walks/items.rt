@@ -11,7 +11,8 @@ use euler_operators::{Content, HalfEdge, Kind};
 use std::alloc::{AllocError, Global};
 use std::marker::Model;
 
-/// The half-edges that a walk once round a loop still meets, seen as the list of their codes. `next` is the code of the next one, or 0.
+/// The half-edges that a walk once round a loop has still to meet. Contracts see them as the list of their codes. `next` is the code of the next one,
+/// or 0.
 #[derive(Drop)]
 pub struct Items<'a> {
     arena: &'a Arena,
@@ -45,7 +46,7 @@ pub fn items_round(arena: &Arena, h: HalfEdge) -> Items<'_>
     }
 }
 
-/// The code of the half-edge after `item` in their loop, unless that is `first`, with which the walk began, and else 0.
+/// The code of the half-edge after `item` in their loop; 0 if that is `first`, with which the walk began.
 #[inline]
 fn item_after(arena: &Arena, first: u32, item: u32) -> u32
     requires sound { Sound arena.now.model }
@@ -119,8 +120,7 @@ pub fn items_of(arena: &Arena, h: HalfEdge) -> Items<'_>
     items_round(arena, least_item(arena, h))
 }
 
-/// The half-edges of the loop in which h stands, from the least on, in a vector that grows with them. `AllocError` where memory
-/// is refused.
+/// The half-edges of the loop in which h stands, from the least on, in a vector that grows as they come. `AllocError` if memory is refused.
 pub fn items_from(alloc: Global, arena: &Arena, h: HalfEdge) -> Result<Vec<HalfEdge>, AllocError>
     requires sound { Sound arena.now.model }
     requires there { has_half arena.now.model (code h) ≡ true }

@@ -9,7 +9,7 @@ use euler_conditions::Arena;
 use euler_operators::Kind;
 use std::marker::Model;
 
-/// The loops of a face that are still to come, seen as the list of their numbers.
+/// The loops of a face that are still to come. Contracts see them as the list of their numbers.
 #[derive(Drop)]
 pub struct Loops<'a> {
     arena: &'a Arena,

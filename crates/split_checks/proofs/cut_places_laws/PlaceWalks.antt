@@ -1,14 +1,13 @@
 -- The half-edges of a loop, taken one by one as a walk round it meets them.
-use Rattle.std.proofs.Common.{◌≡◌, ◌≢◌, ℕ, Bool, true, false, List, [], ◌∷◌, ◌++◌, map, sym, ap, ◌∙◌, subst, append_assoc, filter, append-nil, arith}
+use Rattle.std.proofs.Common.{◌≡◌, ◌≢◌, ℕ, Bool, true, false, List, [], ◌∷◌, ◌++◌, map, sym, ap, ◌∙◌, append_assoc, filter, append-nil, arith}
 use Rattle.std.proofs.lemmas.List.{map-append}
 use Rattle.std.proofs.lemmas.List.Elements.{filter-append}
 use Rattle.euler_operators.specs.Common.{Plane, HalfEdge, code, edge_of, IsIn, Model, cycle_of, loop_of, point_of, Sound, HasHalf}
-use Rattle.euler_operators.proofs.Common.{IsIn_successor}
 use Rattle.euler_operators.specs.Model as model
 use Rattle.euler_conditions.proofs.Known.{in_a_loop}
 use Rattle.shapes.specs.Common.{start, finish}
 use Rattle.split_checks.specs.cut_places.Crossings.{crossings_in, leads_across}
-use Rattle.solid_measure.proofs.face_walks_laws.CycleWalks.{item_there, next_item}
+use Rattle.solid_measure.proofs.face_walks_laws.CycleWalks.{item_there}
 
 -- one half-edge is looked at: it is taken where it passes
 module _ (p : ℕ → Bool) (had now : List HalfEdge) (x : HalfEdge) (rest : List ℕ) where
@@ -21,11 +20,8 @@ module _ (p : ℕ → Bool) (had now : List HalfEdge) (x : HalfEdge) (rest : Lis
 pub none_left : (p : ℕ → Bool) (hs rest all : List ℕ) → rest ≡ [] → hs ++ filter p rest ≡ all → hs ≡ all
 none_left p hs rest all e t = sym (append-nil hs) ∙ ap (λ (ks : List ℕ). hs ++ filter p ks) (sym e) ∙ t
 
--- the next half-edge is there, and starts where this one ends
+-- the next half-edge starts where this one ends
 module _ (M : Model) (sound : Sound M) (h : ℕ) (there : HasHalf M h) (g r : ℕ) (i : IsIn g (cycle_of M h)) (next : loop_of M g ≢ 0 → r ≡ model.after M g) where
-  pub next_there : HasHalf M r
-  next_there = item_there M sound h there r (subst (λ k. IsIn k (cycle_of M h)) (sym (next_item M sound h there g r i next)) (IsIn_successor g (cycle_of M h) i))
-
   pub next_starts : start M r ≡ finish M g
   next_starts =
       let at = item_there M sound h there g i in

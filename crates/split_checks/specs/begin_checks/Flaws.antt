@@ -10,7 +10,7 @@ abbrev pub has_flaw : Flaw → Model → Plane → ℕ → Bool
 has_flaw Touched M p f = is_touched M p f
 has_flaw CutOften M p f = is_cut_often M p f
 
--- whether what is told of a face shows the flaw, and the first face of which it does
+-- whether a face has the flaw, by what was found of it; and the first face that has it
 abbrev pub shows : Flaw → FaceMet → Bool
 shows Touched q = q.touched
 shows CutOften q = q.often

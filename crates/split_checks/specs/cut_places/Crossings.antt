@@ -7,7 +7,7 @@ use Rattle.shapes.specs.Common.{boundary, start, finish, crosses}
 abbrev pub leads_across : Model → Plane → ℕ → Bool
 leads_across M p h = is_first h && crosses M p h
 
--- the edges of these among some half-edges, and among the half-edges of some faces
+-- the edges that cross the plane, found by their plus half-edges: among some half-edges, and among the half-edges of some faces
 abbrev pub crossings_in : Model → Plane → List ℕ → List ℕ
 crossings_in M p hs = map edge_of (filter (leads_across M p) hs)
 
@@ -24,6 +24,6 @@ abbrev pub AreCrossing : Model → Plane → List ℕ → Type 0
 AreCrossing M p [] = Unit {0}
 AreCrossing M p (e ∷ es) = IsCrossing M p e × AreCrossing M p es
 
--- its cut point is off the lattice
+-- the edge's cut point is off the lattice
 abbrev pub is_off : Model → Plane → ℕ → Bool
 is_off M p e = not (cuts_lattice p (start M (plus e)) (finish M (plus e)))

@@ -1,4 +1,4 @@
--- What a plane meets, as a walk over the corners of a solid adds it up.
+-- What a plane meets, summed up by a walk over the corners of a solid.
 use Rattle.std.specs.Prelude.{◌≡◌, ℕ, false, cond, ◌||◌, List, [], ◌∷◌, ◌++◌, map, filter, length}
 use Rattle.std.specs.List.{list_any}
 use Rattle.euler_operators.specs.Common.{Plane, Sign, Below, Above, code, Model, tail, faces_of}
@@ -10,11 +10,11 @@ use Rattle.split_checks.specs.declared.cut_places.found.Looked.{Looked}
 use Rattle.split_checks.specs.declared.cut_places.found.FaceMet.{FaceMet}
 use Rattle.split_checks.specs.declared.cut_places.found.Met.{Met}
 
--- a corner lies on this side
+-- what was found, once a corner lies on this side
 abbrev pub with_side : Looked → Sign → Looked
 with_side o side = record o { above = same_sign side Above || o.above; below = same_sign side Below || o.below }
 
--- the half-edges hs and the vertices vs of corners are looked at
+-- the half-edges hs, and the vertices vs of corners, were looked at
 pub record IsMet (M : Model) (p : Plane) (old new : Looked) (hs vs : List ℕ) : Type 0 where
   pub above : new.above ≡ old.above || some_lie Above M p vs
   pub below : new.below ≡ old.below || some_lie Below M p vs
@@ -22,19 +22,19 @@ pub record IsMet (M : Model) (p : Plane) (old new : Looked) (hs vs : List ℕ) :
   pub edges : new.edges.items ≡ old.edges.items ++ crossings_in M p hs
   pub places : map code new.places.items ≡ map code old.places.items ++ filter (is_place M p) hs
 
--- half-edges, and the vertices at which they start
+-- half-edges were looked at, and the vertices at which they start
 abbrev pub IsRound : Model → Plane → Looked → Looked → List ℕ → Type 0
 IsRound M p old new hs = IsMet M p old new hs (map (tail M) hs)
 
--- before a face
+-- what was found, with the marks of a face cleared before the next one
 abbrev pub unmarked : Looked → Looked
 unmarked o = record o { above = false; below = false; touched = false }
 
--- a face that straddles
+-- what is found of a face that straddles the plane
 abbrev pub face_met : Model → Plane → ℕ → FaceMet
 face_met M p f = record { face = f; touched = is_touched M p f; often = is_cut_often M p f; places = length (places M p f) }
 
--- face f is looked at
+-- face f was looked at
 pub record IsFaceMet (M : Model) (p : Plane) (old new : Met) (f : ℕ) : Type 0 where
   pub above : new.above ≡ old.above || reaches_above M p f
   pub below : new.below ≡ old.below || reaches_below M p f
@@ -47,7 +47,7 @@ abbrev pub all_places : Model → Plane → List ℕ → List ℕ
 all_places M p [] = []
 all_places M p (f ∷ fs) = places M p f ++ all_places M p fs
 
--- some faces are looked at
+-- some faces were looked at
 pub record IsMeeting (M : Model) (p : Plane) (fs : List ℕ) (met : Met) : Type 0 where
   pub above : met.above ≡ list_any (reaches_above M p) fs
   pub below : met.below ≡ list_any (reaches_below M p) fs
@@ -55,7 +55,7 @@ pub record IsMeeting (M : Model) (p : Plane) (fs : List ℕ) (met : Met) : Type 
   pub faces : met.faces.items ≡ map (face_met M p) (filter (straddles M p) fs)
   pub places : map code met.looked.places.items ≡ all_places M p (filter (straddles M p) fs)
 
--- a solid is looked at, and the edges that cross the plane rise
+-- a solid was looked at, and the edges that cross the plane are sorted, rising
 pub record IsSolidMet (M : Model) (p : Plane) (s : ℕ) (met : Met) : Type 0 where
   pub above : met.above ≡ list_any (reaches_above M p) (faces_of M s)
   pub below : met.below ≡ list_any (reaches_below M p) (faces_of M s)
@@ -66,7 +66,7 @@ pub record IsSolidMet (M : Model) (p : Plane) (s : ℕ) (met : Met) : Type 0 whe
 abbrev pub faces_in : List FaceMet → List ℕ
 faces_in qs = map (λ q. q.face) qs
 
--- what is told of some faces, and their cut places
+-- what was found of some faces, and their cut places
 pub record AreTold (M : Model) (p : Plane) (qs : List FaceMet) (hs : List ℕ) : Type 0 where
   pub told : qs ≡ map (face_met M p) (faces_in qs)
   pub places : hs ≡ all_places M p (faces_in qs)

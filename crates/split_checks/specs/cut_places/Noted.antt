@@ -9,7 +9,7 @@ pub record IsSide (M : Model) (p : Plane) (n : Noted) : Type 0 where
   pub there : Has M.vertices n.vertex
   pub side : n.side ≡ sign_of (height p (point_of M n.vertex))
 
--- so it is with each vertex of which a side is noted
+-- each noted side is that of its vertex, which is there
 abbrev pub AreNoted : Model → Plane → List Noted → Type 0
 AreNoted M p [] = Unit {0}
 AreNoted M p (n ∷ ns) = (n.vertex ≢ 0 → IsSide M p n) × AreNoted M p ns

@@ -10,7 +10,7 @@ same_sign On On = true
 same_sign Above Above = true
 same_sign a b = false
 
--- one is above and the other below
+-- one sign is above and the other below
 abbrev pub opposite_signs : Sign → Sign → Bool
 opposite_signs Below Above = true
 opposite_signs Above Below = true
@@ -22,18 +22,18 @@ lies Below p q = is_below p q
 lies On p q = is_on p q
 lies Above p q = is_above p q
 
--- whether some of the vertices lie there
+-- whether some of the vertices lie on this side
 abbrev pub some_lie : Sign → Model → Plane → List ℕ → Bool
 some_lie side M p vs = list_any (λ v. lies side p (point_of M v)) vs
 
--- whether some of the half-edges start there
+-- whether some of the half-edges start on this side
 abbrev pub some_start : Sign → Model → Plane → List ℕ → Bool
 some_start side M p hs = list_any (λ h. lies side p (start M h)) hs
 
--- whether a face has a corner there
+-- whether a face has a corner on this side
 abbrev pub reaches : Sign → Model → Plane → ℕ → Bool
 reaches side M p f = some_lie side M p (corners M f)
 
--- the side that is reached with a corner above or not, and with one below or not
+-- the side that a face reaches, given whether it has a corner above, and whether it has one below
 abbrev pub side_reached : Bool → Bool → Sign
 side_reached above below = cond above Above (cond below Below On)

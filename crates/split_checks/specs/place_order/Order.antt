@@ -1,4 +1,4 @@
--- Cut places under their points, as entries of a map.
+-- Cut places as entries of a map, each under its point.
 use Rattle.std.specs.Prelude.{◌≡◌, ℕ, ℤ, Bool, true, not, ◌||◌, List, map}
 use Rattle.std.specs.List.{list_all}
 use Rattle.euler_operators.specs.Common.{Point, Plane, IsIn, HalfEdge, code, half, edge_of, Model, HasHalf, strictly_rises}
@@ -11,7 +11,7 @@ pub record AreCrossings (M : Model) (p : Plane) (edges : List ℕ) (cut : List C
   pub rising : strictly_rises edges ≡ true
   pub points : cut ≡ map (cut_at M p) edges
 
--- a cut place; where its half-edge crosses the plane, the edge is among these
+-- a cut place; if its half-edge crosses the plane, the edge is among es
 pub record IsPlaceAlong (M : Model) (p : Plane) (es : List ℕ) (h : ℕ) : Type 0 where
   pub there : HasHalf M h
   pub place : is_place M p h ≡ true
@@ -20,7 +20,7 @@ pub record IsPlaceAlong (M : Model) (p : Plane) (es : List ℕ) (h : ℕ) : Type
 abbrev pub ArePlacesAlong : Model → Plane → List ℕ → List ℕ → Type 0
 ArePlacesAlong M p es hs = (h : ℕ) → IsIn h hs → IsPlaceAlong M p es h
 
--- two of some cut places have equal points, or a pair of them, once they are sorted, isn't one up and one down
+-- two of some cut places have equal points; or, once the places are sorted, a pair of them isn't one up and one down
 abbrev pub are_crossed : Model → Plane → List ℕ → Bool
 are_crossed M p hs = some_meet M p hs || not (list_all (is_up_and_down M p) (in_pairs (sorted M p hs)))
 
@@ -31,7 +31,7 @@ Key = ℤ × ℤ × ℤ
 abbrev pub key : Point → Key
 key q = (q.x, q.y, q.z)
 
--- places as entries of a map: the half-edge of each, under its point
+-- places as entries of a map: each half-edge under the point of its place
 abbrev pub entries_of : Model → Plane → List ℕ → List (Key × HalfEdge)
 entries_of M p hs = map (λ h. (key (place_point M p h), half h)) hs
 

@@ -22,14 +22,14 @@ use euler_operators::{HalfEdge, Kind, Plane, Refusal, Why, is_number, refused};
 use solid_measure::{least_bent, least_lone};
 use std::alloc::{AllocError, Global};
 
-/// A refusal, with what is refused.
+/// A refusal, with the number that it names.
 fn refusal(why: Why, number: u32) -> Refusal
     ensures { result ≡ record { why = why; number = number } }
 {
     Refusal { why, number }
 }
 
-/// Whether solid s is there, and the number of the upper one is free.
+/// Whether solid s is there, and the number for the upper part is free.
 fn check_numbers(arena: &Arena, s: u32, upper: u32) -> Result<(), Refusal>
     requires { IsReady arena.now }
     ensures { result ≡ verdict (first_refusal (number_conditions arena.now.model s upper)) }
@@ -49,7 +49,7 @@ fn check_numbers(arena: &Arena, s: u32, upper: u32) -> Result<(), Refusal>
     Ok(())
 }
 
-/// Whether solid s has no lone loop, and flat faces only.
+/// Whether solid s has no lone loop, and only flat faces.
 fn check_solid(arena: &Arena, s: u32) -> Result<(), Refusal>
     requires { IsReady arena.now }
     ensures { result ≡ verdict (first_refusal (faces_are_flat arena.now.model (faces_of arena.now.model s))) }
@@ -70,7 +70,7 @@ fn is_met(met: &Met) -> bool
     met.above && met.below
 }
 
-/// The faces, which straddle the plane, and the pairs of their cut places, one face after the other, where they can be cut.
+/// If the faces, which straddle the plane, can be cut: these faces, and the pairs of their cut places, one face after the other.
 fn check_faces(
     alloc: Global,
     arena: &Arena,
@@ -104,7 +104,7 @@ fn check_faces(
     }
 }
 
-/// What the plane cuts of solid s, of which it meets this, where it can cut the edges that cross it and the faces that straddle it.
+/// If the plane can cut the edges that cross it and the faces that straddle it: what it cuts of solid s. What it meets of s is given.
 fn check_cuts(
     alloc: Global,
     arena: &Arena,
@@ -149,7 +149,7 @@ fn check_cuts(
     }
 }
 
-/// What the plane cuts of solid s, where it meets s, and can cut the edges that cross it and the faces that straddle it.
+/// If the plane meets solid s, and can cut the edges that cross it and the faces that straddle it: what it cuts of s.
 fn check_section(
     alloc: Global,
     arena: &Arena,
@@ -172,20 +172,21 @@ fn check_section(
     check_cuts(alloc, arena, plane, sides, s, &met)
 }
 
-/// What the plane cuts of solid s, where it can begin to split s, whose upper part is to be solid `upper`: the conditions that are
-/// tested before anything is changed, and what the tests have found.
+/// If a split of solid s by the plane can begin, with `upper` as the number of the upper part: what the plane cuts of s. This tests the conditions
+/// that come before anything is changed, and returns what the tests have found.
 ///
-/// Refused, in this order: NumberRange; NoSolid; SolidTaken; PlaneRange with 1 to 4 for the first of the plane's numbers that is out
-/// of range (1,000,000,000 either way, for the last one 3,000,000,000,000,000,000), or with 0 where the first three are zero;
-/// LoneLoop with the least lone loop of s; NotFlat with its least face that isn't flat; PlaneMisses with s where it has no vertex
-/// above the plane, or none below; NotLattice with the least edge that crosses the plane off the lattice; TouchedFace with the least
-/// face that straddles the plane and touches it at a corner that is no cut place; CutOften with the least of them whose outer loop
-/// has no cut place, or of which a ring has none while the face hasn't exactly two; CutCrossed with the least of them that has two
-/// cut places at one point, or, with the places in the order of their points, a pair that isn't one up and one down; NumbersSpent
-/// with 2, 3, 4 or 5 where no numbers are left for the faces, loops, edges or vertices that cutting the edges and the faces takes.
+/// Refused, in this order: NumberRange; NoSolid; SolidTaken; PlaneRange with 1 to 4 for the first of the plane's numbers that is out of range
+/// (1,000,000,000 either way, for the last one 3,000,000,000,000,000,000), or with 0 if the first three are zero; LoneLoop with the least lone loop
+/// of s; NotFlat with its least face that isn't flat; PlaneMisses with s if it has no vertex above the plane, or none below; NotLattice with the
+/// least edge that crosses the plane off the lattice. The next three name the least face that straddles the plane and has a flaw: TouchedFace if it
+/// touches the plane at a corner that is no cut place; CutOften if its outer loop has no cut place, or if a ring has none and the face doesn't have
+/// exactly two; CutCrossed if it has two cut places at one point, or if, with the places in the order of their points, a pair isn't one up and one
+/// down. Last comes NumbersSpent with 2, 3, 4 or 5 if no numbers are left for the faces, loops, edges or vertices that cutting the edges and the
+/// faces takes.
 ///
-/// It looks at the faces of s alone, at each a few times. On which side of the plane a corner lies it computes where that isn't noted in
-/// `sides`, and notes it then. It takes n log n steps for n edges that cross, and for n cut places of a face. `AllocError` where memory is
+/// It looks only at the faces of s, at each a few times. It computes on which side of the plane a corner lies unless this is noted in `sides`, and
+/// then notes it. It takes n log n steps for n edges that cross, and for n cut places of a face. `AllocError` if memory is refused: none is asked for
+/// before the conditions up to NotFlat hold.
 /// refused: none is asked for before the conditions up to NotFlat hold.
 pub fn check_begin(
     alloc: Global,

@@ -1,4 +1,4 @@
-//! The edges that cross a plane, each with the point at which it meets it.
+//! The edges that cross a plane, each with the point at which it meets the plane.
 ghost use Rattle.std.specs.Prelude.{◌≡◌, is_none, map, None, Some, IfErr, IfOk, IfSome};
 ghost use Rattle.euler_conditions.specs.Ready.{IsReady};
 ghost use Rattle.euler_operators.specs.Common.{IsCutPlane};
@@ -12,7 +12,7 @@ use euler_operators::{HalfEdge, Plane, cut_point};
 use solid_measure::{finish, start};
 use std::alloc::{AllocError, Global};
 
-/// An edge that crosses the plane, with the point at which it meets it; none where that is off the lattice.
+/// An edge that crosses the plane, with the point at which it meets the plane; none if that is off the lattice.
 fn cut_edge(arena: &Arena, plane: Plane, e: u32) -> Option<CutEdge>
     requires ready { IsReady arena.now }
     requires plane { IsCutPlane plane }
@@ -30,7 +30,7 @@ fn cut_edge(arena: &Arena, plane: Plane, e: u32) -> Option<CutEdge>
     }
 }
 
-/// Some edges that cross the plane, each with the point at which it meets it; or the first of them that meets it off the lattice.
+/// Some edges that cross the plane, each with the point at which it meets the plane; or the first of them whose point is off the lattice.
 pub(crate) fn cut_edges(
     alloc: Global,
     arena: &Arena,

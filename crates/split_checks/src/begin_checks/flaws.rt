@@ -9,7 +9,7 @@ use crate::cut_places::FaceMet;
 pub(crate) enum Flaw {
     /// A corner lies on the plane and is no cut place.
     Touched,
-    /// The outer loop has no cut place, or a ring has none while the face hasn't exactly two.
+    /// The outer loop has no cut place; or a ring has none, and the face doesn't have exactly two.
     CutOften,
 }
 
@@ -23,7 +23,7 @@ fn shows(flaw: Flaw, met: FaceMet) -> bool
     }
 }
 
-/// The first of the faces that has the flaw, if one has.
+/// The first of the faces that has the flaw, if there is one.
 pub(crate) fn first_flawed(flaw: Flaw, faces: &[FaceMet]) -> Option<u32>
     ensures { result ≡ first_showing flaw faces.now }
 {

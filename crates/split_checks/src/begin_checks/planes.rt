@@ -26,7 +26,7 @@ fn has_direction(plane: Plane) -> bool
     !(plane.a == 0 && (plane.b == 0 && plane.c == 0))
 }
 
-/// Whether the plane's numbers are in range, and the first three aren't all zero. Else PlaneRange, with 1 to 4 for the first number
+/// Whether the plane's numbers are in range, and the first three aren't all zero. If not, the refusal is PlaneRange, with 1 to 4 for the first number
 /// out of range, or 0.
 pub(crate) fn check_plane(plane: Plane) -> Result<(), Refusal>
     ensures { result ≡ verdict (first_refusal (plane_in_range plane)) }

@@ -12,7 +12,7 @@ use crate::cut_places::planes::same;
 use euler_conditions::{Arena, next_code};
 use euler_operators::{Content, HalfEdge, Kind, Plane, Sign};
 
-/// What is reached where no corner lies above the plane.
+/// The side that is reached if no corner lies above the plane.
 fn none_above(below: bool) -> Sign
     ensures { result ≡ side_reached false below }
 {
@@ -44,8 +44,7 @@ fn ring_side(arena: &Arena, plane: Plane, sides: &mut Sides, h: HalfEdge) -> Sig
     }
 }
 
-/// The side that loop l reaches: above where it has a corner above the plane, or else below where it has one below, or else on. It takes
-/// no memory.
+/// The side that loop l reaches: above if it has a corner above the plane, else below if it has one below, else on. It takes no memory.
 pub fn loop_side(arena: &Arena, plane: Plane, sides: &mut Sides, l: u32) -> Sign
     requires ready { IsReady arena.now }
     requires there { has_number arena.now Kind.Loop l ≡ true }
@@ -60,7 +59,7 @@ pub fn loop_side(arena: &Arena, plane: Plane, sides: &mut Sides, l: u32) -> Sign
     }
 }
 
-/// The side that face f reaches, as a loop does. It takes no memory, and looks at each corner once.
+/// The side that face f reaches, by the same rule. It takes no memory, and looks at each corner once.
 pub fn face_side(arena: &Arena, plane: Plane, sides: &mut Sides, f: u32) -> Sign
     requires ready { IsReady arena.now }
     requires there { has_number arena.now Kind.Face f ≡ true }

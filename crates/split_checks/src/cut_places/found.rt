@@ -2,9 +2,9 @@
 
 use euler_operators::HalfEdge;
 
-/// What a walk over the corners of a face has met of a plane: whether a corner lies above it, and one below, and whether one touches
-/// it, which is to lie on it and be no cut place; then the edges that cross it, each by its plus half-edge, and the cut places, after
-/// those of the faces that were walked over before.
+/// What a walk over the corners of a face has met of a plane: whether a corner lies above it, whether one lies below, and whether one touches it,
+/// that is, lies on it and is no cut place. Then the edges that cross it, each by its plus half-edge, and the cut places; both come after those of
+/// the faces that were walked over before.
 #[derive(Drop)]
 pub(crate) struct Looked {
     pub above: bool,
@@ -23,8 +23,8 @@ pub(crate) struct FaceMet {
     pub places: usize,
 }
 
-/// What a plane meets of some faces: whether one has a corner above it, and one a corner below; those that straddle it; the edges that
-/// cross it, and the cut places of the faces that straddle, one face after the other.
+/// What a plane meets of some faces: whether one has a corner above it, and whether one has a corner below; the faces that straddle it; the edges
+/// that cross it; and the cut places of the faces that straddle it, one face after the other.
 #[derive(Drop)]
 pub(crate) struct Met {
     pub above: bool,

@@ -1,4 +1,4 @@
-//! What an arena and a plane say of a half-edge whose edge is there.
+//! What can be told of a half-edge, whose edge is there, from an arena and a plane.
 ghost use Rattle.std.specs.Prelude.{◌≡◌, true};
 ghost use Rattle.euler_operators.specs.Common.{code, before, has_half, IsCutPlane, are_opposite, height, sign_of};
 ghost use Rattle.euler_conditions.specs.Ready.{IsReady};
@@ -11,7 +11,7 @@ use euler_conditions::Arena;
 use euler_operators::{HalfEdge, Plane, Sign};
 use solid_measure::previous;
 
-/// Whether the corners before and after the half-edge's own lie strictly on opposite sides of the plane, where it ends on this side.
+/// Whether the corners before and after the half-edge's own lie strictly on opposite sides of the plane. `to` is the side on which it ends.
 pub(crate) fn passes(arena: &Arena, plane: Plane, sides: &mut Sides, h: HalfEdge, to: Sign) -> bool
     requires ready { IsReady arena.now }
     requires there { has_half arena.now.model (code h) ≡ true }

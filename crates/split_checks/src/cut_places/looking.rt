@@ -1,4 +1,4 @@
-//! The corners of a loop looked at once, each with the next one.
+//! The corners of a loop are looked at once, each with the next one.
 ghost use Rattle.std.specs.Prelude.{◌≡◌, ◌∷◌, [], true, IfOk, OnOk};
 ghost use Rattle.euler_operators.specs.Common.{code, content, cycle_of, has_half, items_of, tail, IsCutPlane, height, sign_of};
 ghost use Rattle.euler_conditions.specs.Ready.{IsReady};
@@ -16,7 +16,7 @@ use euler_operators::{Content, HalfEdge, Kind, Plane, Sign};
 use solid_measure::least_item;
 use std::alloc::AllocError;
 
-/// A corner lies on this side.
+/// Notes that a corner lies on this side.
 fn mark_side(looked: &mut Looked, side: Sign)
     ensures { looked.new ≡ with_side looked.old side }
 {
@@ -27,7 +27,7 @@ fn mark_side(looked: &mut Looked, side: Sign)
     }
 }
 
-/// The half-edge, which starts and ends on these sides of the plane, is looked at.
+/// Looks at the half-edge, which starts and ends on these sides of the plane.
 fn look_at(
     arena: &Arena,
     plane: &Plane,
@@ -62,7 +62,7 @@ fn look_at(
     Ok(())
 }
 
-/// The half-edges of the loop in which h stands are looked at, from the least on.
+/// Looks at the half-edges of the loop in which h stands, from the least on.
 fn look_round(
     arena: &Arena,
     plane: &Plane,
@@ -93,7 +93,7 @@ fn look_round(
     }
 }
 
-/// The corners of loop l are looked at.
+/// Looks at the corners of loop l.
 fn look_along(
     arena: &Arena,
     plane: &Plane,
@@ -117,7 +117,7 @@ fn look_along(
     }
 }
 
-/// The corners of loop l are looked at. It tells whether the loop has a cut place.
+/// Looks at the corners of loop l, and tells whether the loop has a cut place.
 pub(crate) fn look_at_loop(
     arena: &Arena,
     plane: &Plane,

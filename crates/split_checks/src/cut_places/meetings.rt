@@ -15,7 +15,7 @@ use euler_conditions::Arena;
 use euler_operators::{HalfEdge, Kind, Plane};
 use std::alloc::{AllocError, Global};
 
-/// The corners of the rings of face f are looked at. It tells whether each ring has a cut place.
+/// Looks at the corners of the rings of face f, and tells whether each ring has a cut place.
 fn look_at_rings(
     arena: &Arena,
     plane: &Plane,
@@ -40,15 +40,15 @@ fn look_at_rings(
     Ok(all)
 }
 
-/// Whether a face is cut too often: its outer loop has no cut place, or one of its rings has none while it hasn't exactly two.
+/// Whether a face is cut too often: its outer loop has no cut place; or one of its rings has none, and it doesn't have exactly two.
 fn is_often(outer_cut: bool, rings_cut: bool, places: usize) -> bool
     ensures { result ≡ not outer_cut || (not rings_cut && not (nat_eq places 2)) }
 {
     !outer_cut || (!rings_cut && places != 2)
 }
 
-/// The corners of face f are looked at. It tells whether the outer loop has no cut place, or a ring has none while the face hasn't
-/// exactly two.
+/// Looks at the corners of face f, and tells whether the face is cut too often: the outer loop has no cut place; or a ring has none, and the face
+/// doesn't have exactly two.
 fn look_at_loops(
     arena: &Arena,
     plane: &Plane,
@@ -71,7 +71,7 @@ fn look_at_loops(
     Ok(is_often(outer_cut, rings_cut, places))
 }
 
-/// Forgets what a corner of the face before has met.
+/// Forgets what the corners of the face before have met.
 fn unmark(looked: &mut Looked)
     ensures { looked.new ≡ unmarked looked.old }
 {
@@ -120,7 +120,7 @@ fn look_at_face(
     Ok(())
 }
 
-/// For how many cut places there is room at first: those of eight faces, each cut once.
+/// How many cut places there is room for at first: those of eight faces, each cut once.
 const PLACES_AT_FIRST: usize = 16;
 
 /// Nothing is met yet; `places` is empty.
@@ -146,7 +146,7 @@ fn nothing_met(alloc: Global, places: Vec<HalfEdge>) -> Met
     }
 }
 
-/// What the plane meets of solid s, with the edges that cross it rising. It walks twice round each loop, and looks at each corner once.
+/// What the plane meets of solid s, with the edges that cross it rising. It walks twice round each loop, but looks at each corner once.
 pub(crate) fn meeting(
     alloc: Global,
     arena: &Arena,

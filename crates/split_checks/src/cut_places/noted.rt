@@ -13,15 +13,15 @@ use euler_operators::{HalfEdge, Kind, Plane, Sign};
 /// How many sides are noted at most.
 const PLACES: u32 = 32;
 
-/// A vertex and its side; nothing is noted where the number is 0.
+/// A vertex and its side; if the number is 0, nothing is noted.
 #[derive(Clone, Copy)]
 pub struct Noted {
     pub vertex: u32,
     pub side: Sign,
 }
 
-/// The sides of vertices, each at the place of its number modulo 32. Of vertices with one place the last one asked for stands there, so
-/// those of up to 32 numbers in a row are each computed once. A test of the number tells a vertex from others with its place.
+/// The sides of vertices, each at the place that is its number modulo 32. If several vertices share a place, the last one asked for stands there. So
+/// the sides of up to 32 numbers in a row are each computed once. The noted number tells which vertex stands at a place.
 #[derive(Drop)]
 pub struct Sides {
     pub noted: [Noted; 32],
@@ -38,7 +38,7 @@ pub fn none_noted() -> Sides
     Sides { noted: [none; 32] }
 }
 
-/// On which side of the plane vertex v lies, as noted, or else computed, and noted then.
+/// On which side of the plane vertex v lies. If this isn't noted, it is computed, and then noted.
 #[inline(always)]
 pub(crate) fn vertex_side(arena: &Arena, plane: Plane, sides: &mut Sides, v: u32) -> Sign
     requires ready { IsReady arena.now }
@@ -58,7 +58,7 @@ pub(crate) fn vertex_side(arena: &Arena, plane: Plane, sides: &mut Sides, v: u32
     side
 }
 
-/// On which side of the plane the half-edge starts, as noted, or else computed, and noted then.
+/// On which side of the plane the half-edge starts. If this isn't noted, it is computed, and then noted.
 #[inline(always)]
 pub fn start_side(arena: &Arena, plane: Plane, sides: &mut Sides, h: HalfEdge) -> Sign
     requires ready { IsReady arena.now }
@@ -71,7 +71,7 @@ pub fn start_side(arena: &Arena, plane: Plane, sides: &mut Sides, h: HalfEdge) -
     vertex_side(arena, plane, sides, arena.tail(h))
 }
 
-/// The same of the half-edge of a code.
+/// The same for the half-edge of a code.
 #[inline(always)]
 pub(crate) fn side_of_code(arena: &Arena, plane: Plane, sides: &mut Sides, code: u32) -> Sign
     requires ready { IsReady arena.now }

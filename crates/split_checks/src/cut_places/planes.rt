@@ -5,7 +5,7 @@ ghost use Rattle.split_checks.specs.cut_places.Sides.{opposite_signs, same_sign}
 
 use euler_operators::{Plane, Point, Sign};
 
-/// Whether two signs are one.
+/// Whether two signs are the same.
 pub fn same(a: Sign, b: Sign) -> bool
     ensures { result ≡ same_sign a b }
 {

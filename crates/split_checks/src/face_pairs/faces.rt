@@ -16,8 +16,8 @@ use euler_conditions::Arena;
 use euler_operators::{HalfEdge, Plane};
 use std::alloc::{AllocError, Global};
 
-/// The faces, of which these are the cut places one face after the other, and the pairs of their places, one face after the other; or the
-/// first of them that has two cut places at one point, or a pair that isn't one up and one down.
+/// The faces, whose cut places are given one face after the other, and the pairs of these places, one face after the other; or the first of the faces
+/// that has two cut places at one point, or a pair that isn't one up and one down.
 pub(crate) fn pairs_of_faces(
     alloc: Global,
     arena: &Arena,

@@ -16,7 +16,7 @@ use euler_conditions::Arena;
 use euler_operators::{HalfEdge, Plane};
 use std::alloc::{AllocError, Global};
 
-/// Two cut places as a pair, where one is up and the other down.
+/// Two cut places as a pair, if one is up and the other down.
 #[inline(always)]
 fn up_and_down(
     arena: &Arena,
@@ -50,8 +50,7 @@ fn up_and_down(
     }
 }
 
-/// The pair of two cut places, the only ones of a face, whose order needn't be known; none where they have equal points or aren't one
-/// up and one down.
+/// The pair of a face's only two cut places, whose order needn't be known; none if they have equal points or aren't one up and one down.
 fn only_pair(
     arena: &Arena,
     plane: Plane,
@@ -77,7 +76,7 @@ fn only_pair(
     up_and_down(arena, plane, sides, first, second)
 }
 
-/// Adds the pair of two cut places, the only ones of a face, where they are in pairs. It tells whether they are.
+/// Adds the pair of a face's only two cut places, if they make one. It tells whether they do.
 fn push_only_pair(
     arena: &Arena,
     plane: Plane,
@@ -133,9 +132,8 @@ fn push_in_order(
     Ok(true)
 }
 
-/// Adds the pairs of the cut places of a face, each with its up place first, in the order of their points. It tells whether they are in
-/// pairs: no two places have equal points, and each pair is one up and one down. Of two places the points are compared, but not put in
-/// order.
+/// Adds the pairs of the cut places of a face, each with its up place first, in the order of their points. It tells whether they make pairs: no two
+/// places have equal points, and each pair is one up and one down. If there are only two places, their points are compared, but not put in order.
 pub(crate) fn push_pairs(
     alloc: Global,
     arena: &Arena,

@@ -14,10 +14,10 @@ use euler_operators::{HalfEdge, Plane};
 use std::alloc::{AllocError, Global};
 use std::collections::BTreeMap;
 
-/// For each point of a cut place, the half-edge that tells the place.
+/// For the point of each cut place, the half-edge that names the place.
 pub(crate) type Places = BTreeMap<(i64, i64, i64), HalfEdge>;
 
-/// Some cut places in the order of their points; none where two points are equal. It takes n log n steps for n places.
+/// Some cut places in the order of their points; none if two points are equal. It takes n log n steps for n places.
 pub(crate) fn in_order(
     alloc: Global,
     arena: &Arena,

@@ -12,7 +12,7 @@ use euler_conditions::Arena;
 use euler_operators::{HalfEdge, Plane, Point, Sign};
 use solid_measure::start;
 
-/// The point of a cut place, where its edge is among the crossings or it starts on the plane.
+/// The point of a cut place, whose edge is among the crossings or which starts on the plane.
 pub(crate) fn place_point(
     arena: &Arena,
     plane: Plane,

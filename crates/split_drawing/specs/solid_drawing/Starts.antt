@@ -1,9 +1,9 @@
--- Pairs of cut places, and of the half-edges that start there once the edges that cross the plane are cut.
+-- Pairs of cut places, and of the half-edges that start there after the edges that cross the plane are cut.
 use Rattle.std.specs.Prelude.{ℕ, List, [], ◌∷◌, map}
 use Rattle.euler_operators.specs.Common.{Plane, Model, HasHalf}
 use Rattle.shapes.specs.Common.{from_place}
 
--- what starts at the places of a pair, and of some pairs
+-- the half-edges that start at the places of a pair, and at those of some pairs
 abbrev pub pair_started : Model → Plane → ℕ × ℕ → ℕ × ℕ
 pair_started N p q = (from_place N p q.0, from_place N p q.1)
 

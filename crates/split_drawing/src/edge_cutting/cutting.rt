@@ -1,4 +1,4 @@
-//! Edges cut one after the other in a draft.
+//! Edges that are cut one after the other in a draft.
 ghost use Rattle.std.specs.Prelude.{◌≡◌, ◌≤◌, ◌+◌, None, IfOk, OnOk, OnErr, map};
 ghost use Rattle.euler_operators.specs.Common.{first_false, Has, Sound};
 ghost use Rattle.shapes.specs.Common.{taken_in, with_crossings, crossing_edges};
@@ -14,8 +14,8 @@ use split_checks::CutEdge;
 use std::alloc::AllocError;
 use undo_journal::Draft;
 
-/// Cuts an edge at a point: the next edge leads to the next vertex there, between the edge's first half-edge and what follows its
-/// second. It counts both.
+/// Cuts an edge at a point: the next edge leads to the next vertex, which stands there, between the edge's first half-edge and what follows
+/// its second half-edge. It counts the new edge and the new vertex.
 fn cut_edge(draft: &mut Draft, taken: Counters, cut: CutEdge) -> Result<Counters, AllocError>
     requires there { Has draft.old.model.edges cut.edge }
     requires taken { taken_of taken ≡ taken_in draft.old.model }
@@ -46,11 +46,11 @@ fn cut_edge(draft: &mut Draft, taken: Counters, cut: CutEdge) -> Result<Counters
     })
 }
 
-/// Cuts the edges of solid s that cross the plane where they meet it, from the least edge to the greatest: the first rewriting of a
-/// split of the draft's model, where such a split can begin. The new edges and vertices have the numbers after the greatest in use. It
-/// tells the greatest numbers in use then.
+/// Cuts the edges of solid s that cross the plane where they meet it, from the least edge to the greatest. This is the first rewriting of a
+/// split of the draft's model, and it is asked that such a split can begin. The new edges and vertices have the numbers after the greatest
+/// in use. It answers the greatest numbers that are then in use.
 ///
-/// On `AllocError` some edges may be cut; the session that the draft came from stands, and `abandon` gives it back.
+/// On `AllocError` some edges may be cut. The session from which the draft came is kept, and `abandon` gives it back.
 pub(crate) fn cut_edges(
     draft: &mut Draft,
     s: u32,

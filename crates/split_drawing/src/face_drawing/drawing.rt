@@ -1,4 +1,4 @@
-//! The second pass over the pairs of a face: each pair that is left cuts a new face off.
+//! The second pass over the pairs of a face: each pair that is left cuts off a new face.
 ghost use Rattle.std.specs.Prelude.{◌≡◌, ◌≤◌, ◌+◌, None, OnOk, OnErr, IfOk, fold, map};
 ghost use Rattle.euler_operators.specs.Common.{first_false};
 ghost use Rattle.undo_journal.specs.Journal.{after_step, IsFurther};
@@ -17,7 +17,7 @@ use split_checks::{Pair, Progress};
 use std::alloc::AllocError;
 use undo_journal::Draft;
 
-/// Cuts a new face off between the two of a pair, with the next edge, face and loop, and counts these.
+/// Cuts off a new face between the two of a pair, with the next edge, face and loop, and counts these.
 fn draw_pair(draft: &mut Draft, taken: Counters, pair: Pair) -> Result<Counters, AllocError>
     requires faces_left { taken.faces + 1 ≤ 1000000 }
     requires loops_left { taken.loops + 1 ≤ 1000000 }
@@ -41,7 +41,7 @@ fn draw_pair(draft: &mut Draft, taken: Counters, pair: Pair) -> Result<Counters,
     })
 }
 
-/// The progress once face f has proved not to be drawable: the first such face stays.
+/// The progress after face f has proved not to be drawable. If an earlier face has proved so, that face stays.
 pub(crate) fn stuck_at(progress: Progress, f: u32) -> Progress
     ensures { result ≡ stuck_at progress f }
 {
@@ -55,8 +55,8 @@ pub(crate) fn stuck_at(progress: Progress, f: u32) -> Progress
     }
 }
 
-/// Cuts new faces off face f between the pairs, each of which stands in one loop when its turn comes, and tells how far the drawing
-/// has come then: where a pair stands in different loops f can't be drawn. On `AllocError` some may be cut off.
+/// Cuts off new faces from face f between the pairs, each of which stands in one loop when its turn comes, and answers how far the drawing
+/// has come. If a pair stands in different loops, f can't be drawn. On `AllocError` some may be cut off.
 #[tactic(auto, using(undo_journal::proofs::Marks::further_none))]
 pub(crate) fn draw_pairs(
     draft: &mut Draft,

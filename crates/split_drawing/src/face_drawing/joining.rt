@@ -32,8 +32,8 @@ fn join_pair(draft: &mut Draft, taken: Counters, pair: Pair) -> Result<Counters,
     })
 }
 
-/// Joins the pairs of face f that stand in different loops, each when its turn comes, and tells how far the drawing has come then. It
-/// leaves the pairs that stood in one loop, in their order, and nothing else, in the list. On `AllocError` some may be joined.
+/// Joins the pairs of face f that stand in different loops, each when its turn comes, and answers how far the drawing has come. It leaves
+/// in the list exactly the pairs that stood in one loop, in their order. On `AllocError` some may be joined.
 #[tactic(auto, using(undo_journal::proofs::Marks::further_none))]
 pub(crate) fn join_pairs(
     draft: &mut Draft,

@@ -28,8 +28,8 @@ fn starts_in_ring(arena: &Arena, pair: Pair) -> bool
     arena.is_ring(arena.face_of(l), l)
 }
 
-/// The operator that joins the loops of the two by this edge, which leads from the second to the first where the first stands in a
-/// ring, else from the first to the second.
+/// The operator that joins the loops of the two by this edge. If the first stands in a ring, the edge leads from the second to the first,
+/// otherwise from the first to the second.
 pub(crate) fn join_op(arena: &Arena, pair: Pair, edge: u32) -> Op
     requires ready { IsReady arena.now }
     requires up { has_half arena.now.model (code pair.up) ≡ true }

@@ -14,8 +14,8 @@ use split_checks::Progress;
 use std::alloc::AllocError;
 use undo_journal::Draft;
 
-/// How far the drawing has come once face f, which has so many pairs, is looked at between the two passes: with more than one pair
-/// a face that has a ring can't be drawn.
+/// How far the drawing has come after face f, which has so many pairs, is looked at between the two passes: a face with more than one pair
+/// that has a ring can't be drawn.
 pub(crate) fn ring_free(arena: &Arena, progress: Progress, f: u32, count: usize) -> Progress
     requires { has_number arena.now Kind.Face f ≡ true }
     ensures { result ≡ cond (nat_lt 1 count && has_rings arena.now.model f) (stuck_at progress f) progress }
@@ -27,7 +27,7 @@ pub(crate) fn ring_free(arena: &Arena, progress: Progress, f: u32, count: usize)
     }
 }
 
-/// Gives the rings to the face `to`, where each of these operators is accepted in its turn. On `AllocError` some may be given.
+/// Gives the rings to the face `to`, if each of these operators is accepted in its turn. On `AllocError` some may be given.
 #[tactic(auto, using(undo_journal::proofs::Marks::further_none))]
 pub(crate) fn move_rings(draft: &mut Draft, rings: &[u32], to: u32) -> Result<(), AllocError>
     requires { AreAccepted draft.old.model (ring_ops rings.now to) }

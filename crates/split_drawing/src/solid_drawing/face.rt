@@ -1,4 +1,4 @@
-//! A face drawn between its pairs.
+//! A face in which edges are drawn between its pairs.
 ghost use Rattle.std.specs.Prelude.{◌≡◌, [], map, IfOk, OnOk};
 ghost use Rattle.euler_operators.specs.Common.{IsCutPlane};
 ghost use Rattle.shapes.specs.Common.{drawn_between};
@@ -15,9 +15,9 @@ use split_checks::{Pair, Progress, Sides};
 use std::alloc::{AllocError, Global};
 use undo_journal::Draft;
 
-/// Draws edges between the pairs of face f: those in different loops are joined, and then each that is left cuts a new face off.
-/// With one pair the rings above the plane go to the new face. It tells how far the drawing has come then. In the list it keeps the
-/// pairs that are left, whatever was there. On `AllocError` some edges may be drawn.
+/// Draws edges between the pairs of face f: pairs in different loops are joined, and then each pair that is left cuts off a new face. If
+/// there is only one pair, the rings above the plane go to the new face. It answers how far the drawing has come, and leaves in the list
+/// the pairs that are left, whatever was there. On `AllocError` some edges may be drawn.
 #[tactic(auto, using(undo_journal::proofs::Marks::further_on))]
 pub(crate) fn draw_face(
     alloc: Global,

@@ -1,4 +1,4 @@
-//! The half-edges that start at cut places, once the edges that cross the plane are cut.
+//! The half-edges that start at cut places, after the edges that cross the plane are cut.
 ghost use Rattle.std.specs.Prelude.{◌≡◌, true, map, IfOk};
 ghost use Rattle.euler_operators.specs.Common.{code, has_half, IsCutPlane};
 ghost use Rattle.euler_conditions.specs.Ready.{IsReady};
@@ -12,7 +12,7 @@ use euler_operators::{HalfEdge, Plane, Sign};
 use split_checks::{Pair, Sides, same, start_side};
 use std::alloc::{AllocError, Global};
 
-/// The half-edge that starts at the cut place that h told: h where it starts on the plane, else the one after it.
+/// The half-edge that starts at the cut place of h: if h starts on the plane, it is h, otherwise the one after it.
 fn from_place(arena: &Arena, plane: Plane, sides: &mut Sides, h: HalfEdge) -> HalfEdge
     requires ready { IsReady arena.now }
     requires there { has_half arena.now.model (code h) ≡ true }

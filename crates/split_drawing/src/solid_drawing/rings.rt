@@ -17,7 +17,7 @@ use split_checks::{Sides, loop_side, same};
 use std::alloc::{AllocError, Global};
 use undo_journal::Draft;
 
-/// The rings of face f that have a corner above the plane, rising.
+/// The rings of face f that have a corner above the plane, in rising order.
 fn rings_above(
     alloc: Global,
     arena: &Arena,
@@ -43,7 +43,7 @@ fn rings_above(
     Ok(rings)
 }
 
-/// Gives the rings of face f above the plane to the face `to`, where each such step is accepted in its turn. On `AllocError` some may be
+/// Gives the rings of face f above the plane to the face `to`, if each such step is accepted in its turn. On `AllocError` some may be
 /// given.
 #[tactic(auto, using(undo_journal::proofs::Marks::further_none))]
 pub(crate) fn share_rings(

@@ -1,4 +1,4 @@
-//! A solid cut and drawn.
+//! A solid whose edges are cut and whose faces are drawn.
 ghost use Rattle.std.specs.Prelude.{◌≡◌, ◌≤◌, [], length, map, IfOk, OnOk};
 ghost use Rattle.euler_operators.specs.Common.{IsCutPlane};
 ghost use Rattle.shapes.specs.Common.{faces_drawn, with_drawings};
@@ -17,8 +17,8 @@ use split_checks::{Cuts, Pair, PairedFace, Progress, Sides};
 use std::alloc::{AllocError, Global};
 use undo_journal::Draft;
 
-/// Draws edges between the pairs of some faces, one face after the other, and tells how far the drawing has come then. The pairs come
-/// one face after the other. On `AllocError` some may be drawn.
+/// Draws edges between the pairs of some faces, one face after the other, and answers how far the drawing has come. The pairs come in the
+/// order of their faces. On `AllocError` some may be drawn.
 #[tactic(auto, using(undo_journal::proofs::Marks::further_none, undo_journal::proofs::Marks::further_on))]
 fn draw_faces(
     alloc: Global,
@@ -52,12 +52,11 @@ fn draw_faces(
     Ok(progress)
 }
 
-/// Cuts the edges of solid s that cross the plane, and then draws edges between the cut places of its faces that straddle, where the
-/// plane can begin to split s, and these are its cuts: the first two rewritings of a split. It tells the greatest numbers taken then,
-/// and the first face that can't be drawn, or 0. Sides that aren't noted in `sides` are
-/// computed, and noted then.
+/// Cuts the edges of solid s that cross the plane, and then draws edges between the cut places of its faces that straddle. These are the
+/// first two rewritings of a split. It is asked that the plane can begin to split s, and that these are its cuts. It answers the greatest
+/// numbers then taken, and the first face that can't be drawn, or 0. Sides that aren't noted in `sides` are computed, and then noted.
 ///
-/// On `AllocError` some steps may be taken; the session that the draft came from stands, and `abandon` gives it back.
+/// On `AllocError` the draft may have taken some steps. The session from which the draft came is kept, and `abandon` gives it back.
 #[tactic(auto, using(undo_journal::proofs::Marks::further_on))]
 pub fn draw_solid(
     alloc: Global,

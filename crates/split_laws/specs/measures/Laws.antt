@@ -6,7 +6,7 @@ use Rattle.split_drawing_laws.specs.face_sides.Lone.{NoLoopIsLone}
 use Rattle.split_laws.specs.volumes.Laws.{CanBeSplit}
 use Rattle.split_laws.specs.sides.Sided.{IsOfSolid}
 
--- once its edges are cut and its faces drawn, the model meets all that is asked of a drawn model that is split
+-- after its edges are cut and its faces drawn, the model meets all that is asked of a drawn model that is split
 abbrev pub SplitsCanBeSplit : Type 0
 SplitsCanBeSplit = (M : Model) (s : ℕ) (p : Plane) (t : ℕ) → Sound M → split_refusal M s p t ≡ None →
     CanBeSplit (with_drawings M s p) (faces_above (with_drawings M s p).model p s) s p t
@@ -20,22 +20,22 @@ abbrev pub SplitsShareVolumes : Type 0
 SplitsShareVolumes = (M : Model) (s : ℕ) (p : Plane) (t : ℕ) → Sound M → split_refusal M s p t ≡ None →
     six_volume M s ≡ six_volume (split_model M s p t) s +ℤ six_volume (split_model M s p t) t
 
--- and every other solid keeps its own
+-- every other solid keeps its own
 abbrev pub SplitsKeepOthers : Type 0
 SplitsKeepOthers = (M : Model) (s : ℕ) (p : Plane) (t u : ℕ) → Sound M → split_refusal M s p t ≡ None → u ≢ s → u ≢ t →
     six_volume (split_model M s p t) u ≡ six_volume M u
 
--- no half-edge of solid s starts above the plane any more, and none of t below it
+-- no half-edge of solid s starts above the plane any more, and none of t starts below it
 abbrev pub PartsLieOnEitherSide : Type 0
 PartsLieOnEitherSide = (M : Model) (s : ℕ) (p : Plane) (t : ℕ) → Sound M → split_refusal M s p t ≡ None → (l h : ℕ) →
     (IsOfSolid (split_model M s p t) s l h → is_above p (start (split_model M s p t) h) ≡ false)
     × (IsOfSolid (split_model M s p t) t l h → is_below p (start (split_model M s p t) h) ≡ false)
 
--- no loop of either is lone
+-- no loop of either solid is lone
 abbrev pub PartsHaveNoLoneLoop : Type 0
 PartsHaveNoLoneLoop = (M : Model) (s : ℕ) (p : Plane) (t : ℕ) → Sound M → split_refusal M s p t ≡ None → NoLoopIsLone (split_model M s p t) s × NoLoopIsLone (split_model M s p t) t
 
--- so no vertex of solid s lies above the plane any more, and none of t below it
+-- so no vertex of solid s lies above the plane any more, and none of t lies below it
 abbrev pub VerticesLieOnEitherSide : Type 0
 VerticesLieOnEitherSide = (M : Model) (s : ℕ) (p : Plane) (t : ℕ) → Sound M → split_refusal M s p t ≡ None →
     (some_above (split_model M s p t) p (vertices_of (split_model M s p t) s) ≡ false)

@@ -1,13 +1,13 @@
--- What is asked of the faces of a solid that is opened, so that its six volumes stay.
+-- What is asked of the faces of a solid that is opened so that it keeps its six volumes.
 use Rattle.std.specs.Prelude.{◌≡◌, ◌≢◌, ℕ, true, List, [], ◌∷◌}
 use Rattle.euler_operators.specs.Common.{Plane, origin, dot, cross, direction, is_on, IsIn, Model, cycle, items_of, content, face_of, outer, solid_of, Has}
 use Rattle.shapes.specs.Common.{start, normal, anchor, Caps}
 
--- each corner of the face's outer loop has the same product along its normal, as those of a flat face have
+-- all corners of the face's outer loop have the same product along its normal, as for a flat face
 abbrev pub TellsAlike : Model → ℕ → Type 0
 TellsAlike M f = (h : ℕ) → IsIn h (items_of (content M (outer M f))) → dot (start M h) (normal M f) ≡ dot (anchor M f) (normal M f)
 
--- so it is with all faces of a solid
+-- all faces of a solid are like that
 abbrev pub AllTellAlike : Model → ℕ → Type 0
 AllTellAlike M s = (f : ℕ) → Has M.faces f → solid_of M f ≡ s → TellsAlike M f
 
@@ -19,7 +19,7 @@ pub record LiesAlong (M : Model) (p : Plane) (f : ℕ) : Type 0 where
   pub on_plane : (h : ℕ) → IsIn h items → is_on p (start M h) ≡ true
   pub across : cross (direction p) (normal M f) ≡ origin
 
--- the outer loop of each face is there, and of that face
+-- the outer loop of each face is there, and belongs to that face
 abbrev pub OutersAreOwn : Model → Type 0
 OutersAreOwn M = (k : ℕ) → Has M.faces k → Has M.loops (outer M k) × (face_of M (outer M k) ≡ k)
 

@@ -6,7 +6,8 @@ use Rattle.shapes.specs.Common.{Caps}
 use Rattle.split_opening_laws.specs.sections.Capped.{ArePlain, cap_faces}
 use Rattle.split_laws.specs.opened.Told.{OutersAreOwn, AllLieAlong}
 
--- the caps are different faces of solid s without rings, along the plane, and where one is a hole's, another one is an outer cycle's
+-- the caps are different faces of solid s without rings, along the plane; if one of them belongs to a hole, another belongs to an outer
+-- cycle
 pub record CanClose (M : Model) (s : ℕ) (p : Plane) (ks : List Caps) : Type 0 where
   pub outers : OutersAreOwn M
   pub some_way : direction p ≢ origin

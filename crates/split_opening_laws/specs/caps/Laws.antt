@@ -7,7 +7,7 @@ use Rattle.split_opening_laws.specs.caps.Strips.{HasStrips}
 use Rattle.split_opening_laws.specs.caps.Caps.{joined_part, capped}
 use Rattle.split_opening_laws.specs.caps.CapOps.{joinings, cap_ops}
 
--- a cycle has two strips at least, since the ends of an edge differ
+-- a cycle has at least two strips, since the ends of an edge differ
 abbrev pub CyclesHaveTwo : Type 0
 CyclesHaveTwo = (N : Model) (s : ℕ) (c : Taken) (hs : List ℕ) → Sound N → HasStrips N s c hs → 2 ≤ length hs
 

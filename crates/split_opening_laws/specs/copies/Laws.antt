@@ -1,4 +1,4 @@
--- The laws of copies, each over every model and every cycle along which a solid can be opened, once its strips are cut off.
+-- The laws of copies, each over every model and every cycle along which a solid can be opened, after its strips are cut off.
 use Rattle.std.specs.Prelude.{◌≡◌, ℕ, List, length}
 use Rattle.euler_operators.specs.Common.{Model, Sound}
 use Rattle.euler_laws.specs.Laws.{effects, AreAccepted}

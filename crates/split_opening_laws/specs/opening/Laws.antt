@@ -9,11 +9,11 @@ use Rattle.split_opening_laws.specs.caps.Strips.{HasStrips}
 use Rattle.split_opening_laws.specs.caps.Caps.{capped}
 use Rattle.split_opening_laws.specs.opening.OpeningOps.{opening_ops}
 
--- once the copies are raised there are strips along the mates
+-- after the copies are raised there are strips along the mates
 abbrev pub CopiesLeaveStrips : Type 0
 CopiesLeaveStrips = (M : Model) (above : List ℕ) (s : ℕ) (c : Taken) (bs : List ℕ) → CanBeOpened M above s c bs → HasStrips (copies_raised M above s c bs (length bs)) s c (map mate bs)
 
--- with two caps made of them the solid is open
+-- after two caps are made of the strips, the solid is open
 abbrev pub CappedAreOpened : Type 0
 CappedAreOpened = (M : Model) (above : List ℕ) (s : ℕ) (c : Taken) (bs : List ℕ) → CanBeOpened M above s c bs →
     capped (copies_raised M above s c bs (length bs)) s c (map mate bs) ≡ opened_along M above s c bs

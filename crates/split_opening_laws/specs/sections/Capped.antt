@@ -10,7 +10,7 @@ pub record IsPlain (M : Model) (s f : ℕ) : Type 0 where
   pub of_solid : solid_of M f ≡ s
   pub no_ring : (l : ℕ) → Has M.loops l → face_of M l ≡ f → l ≡ outer M f
 
--- so is each cap
+-- each cap is such a face
 abbrev pub ArePlain : Model → ℕ → List Caps → Type 0
 ArePlain M s [] = Unit {0}
 ArePlain M s (k ∷ ks) = IsPlain M s k.lower × IsPlain M s k.upper × ArePlain M s ks
@@ -19,7 +19,7 @@ ArePlain M s (k ∷ ks) = IsPlain M s k.lower × IsPlain M s k.upper × ArePlain
 abbrev pub cap_faces : List Caps → List ℕ
 cap_faces ks = flat_map (λ k. k.lower ∷ k.upper ∷ []) ks
 
--- the caps have no rings, and after the faces above they rise
+-- the caps have no rings, and they rise after the faces above
 pub record HasCaps (above : List ℕ) (s : ℕ) (o : Opening) : Type 0 where
   pub plain : ArePlain o.model s o.caps
   pub all_rise : strictly_rises (above ++ cap_faces o.caps) ≡ true

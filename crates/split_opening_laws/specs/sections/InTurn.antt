@@ -9,7 +9,7 @@ use Rattle.split_opening_laws.specs.cycles.SectionCycles.{AreApartCycles}
 abbrev pub halves_in : List (List ℕ) → List ℕ
 halves_in cs = flat_map (λ bs. bs) cs
 
--- the half-edges hs lie in none of the faces fs while their mates lie in one, and no others do so
+-- the half-edges hs are those that lie in none of the faces fs while their mates lie in one of them
 pub record AreBetween (M : Model) (fs hs : List ℕ) : Type 0 where
   pub below : (h : ℕ) → IsIn h hs → lists fs (face_at M h) ≡ false
   pub mates_above : (h : ℕ) → IsIn h hs → lists fs (face_at M (mate h)) ≡ true
@@ -19,7 +19,7 @@ pub record AreBetween (M : Model) (fs hs : List ℕ) : Type 0 where
 abbrev pub upper_faces : List ℕ → List Caps → List ℕ
 upper_faces above ks = above ++ map (λ k. k.upper) ks
 
--- solid s can be opened along some cycles in turn, and their halves are all that is between the upper faces and the others
+-- solid s can be opened along some cycles in turn, and between the upper faces and the others there are exactly the halves of these cycles
 pub record CanBeOpenedInTurn (above : List ℕ) (s : ℕ) (o : Opening) (cs : List (List ℕ)) : Type 0 where
   pub sound : Sound o.model
   pub free : AreFree o.model o.taken

@@ -6,11 +6,11 @@ use Rattle.euler_operators.specs.declared.Op.TheVariants.{Mev, Mef}
 use Rattle.shapes.specs.Common.{Taken}
 use Rattle.split_opening_laws.specs.strips.Strips.{copy_riser, strips_cut}
 
--- the strip at a place: mef from ai up to what follows it in the model then
+-- the operator that cuts off the strip at a place: mef from ai up to what then follows it in the model
 abbrev pub cut_strip : Model → Taken → List ℕ → ℕ → Op
 cut_strip N c bs i = let a = mate (get_or bs i 0) in Mef (half a) (half (after N a)) (half (plus (c.edge + suc i))) (c.face + suc i) (c.loop + suc i)
 
--- the first i strips
+-- the operators of the first i strips
 abbrev pub strip_ops : Model → ℕ → Taken → List ℕ → ℕ → List Op
 strip_ops M s c bs zero = []
 strip_ops M s c bs (suc i) = strip_ops M s c bs i ++ cut_strip (strips_cut M s c bs i) c bs i ∷ []
@@ -19,12 +19,12 @@ strip_ops M s c bs (suc i) = strip_ops M s c bs i ++ cut_strip (strips_cut M s c
 abbrev pub place_before : ℕ → ℕ → ℕ
 place_before n i = cond (nat_eq i 0) (n - 1) (i - 1)
 
--- the copy at a place: mev from -ci up to the mate before ai
+-- the operator that raises the copy at a place: mev from -ci up to the mate before ai
 abbrev pub raise_copy : Model → Taken → List ℕ → ℕ → Op
 raise_copy M c bs i = Mev (At (half (minus (c.edge + suc i)))) (At (half (mate (get_or bs (place_before (length bs) i) 0)))) (half (plus (copy_riser c bs i)))
     (c.vertex + suc i) (point_of M (tail M (get_or bs i 0)))
 
--- the first i copies
+-- the operators of the first i copies
 abbrev pub copy_ops : Model → Taken → List ℕ → ℕ → List Op
 copy_ops M c bs zero = []
 copy_ops M c bs (suc i) = copy_ops M c bs i ++ raise_copy M c bs i ∷ []

@@ -5,11 +5,11 @@ use Rattle.shapes.specs.Common.{section_cycles, is_hole}
 use Rattle.split_sections.specs.section_cycles.Halves.{halves_of}
 use Rattle.split_sections.specs.declared.section_cycles.cycle.Cycle.{Cycle}
 
--- a cycle is a hole, and not exactly one is outer
+-- some cycle is a hole, and not exactly one cycle is outer
 abbrev pub has_stray : List Cycle → Bool
 has_stray cs = nat_lt 0 (length (filter (λ c. c.hole) cs)) && not (nat_eq (length cs) (length (filter (λ c. c.hole) cs) + 1))
 
--- cs are the cycles of these below halves, with word on which are holes
+-- cs are the cycles of these below halves, and say which of them are holes
 pub record AreCyclesOf (M : Model) (p : Plane) (bs : List ℕ) (cs : List Cycle) : Type 0 where
   pub cycles : map halves_of cs ≡ section_cycles M bs
   pub holes : map (λ c. c.hole) cs ≡ map (is_hole M p) (map halves_of cs)

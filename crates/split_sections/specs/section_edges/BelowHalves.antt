@@ -11,11 +11,12 @@ leads_above M above h = lists above (face_at M (mate h))
 abbrev pub is_below : Model → List ℕ → ℕ → Bool
 is_below M above h = not (lists above (face_at M h)) && leads_above M above h
 
--- those among some half-edges whose mates lie in faces above
+-- among some half-edges, those whose mates lie in faces above
 abbrev pub leading_above : Model → List ℕ → List ℕ → List ℕ
 leading_above M above hs = filter (leads_above M above) hs
 
--- those among some half-edges, and among the half-edges of some faces
+-- among some half-edges, those that lie in a face that isn't above and whose mates lie in one that is; and all such half-edges of some
+-- faces
 abbrev pub below_in : Model → List ℕ → List ℕ → List ℕ
 below_in M above hs = filter (is_below M above) hs
 

@@ -1,4 +1,4 @@
-//! The conditions of a split that are tested once the faces are drawn, in their order.
+//! The conditions of a split that are tested after the faces are drawn, in their order.
 ghost use Rattle.std.specs.Prelude.{◌≡◌, true, [], None, Some, Ok, Err, Vec};
 ghost use Rattle.std.specs.declared.alloc.Global.{Global};
 ghost use Rattle.euler_conditions.specs.Ready.{IsReady};
@@ -26,8 +26,8 @@ use solid_walks::Counters;
 use split_checks::{Progress, Sides};
 use std::alloc::{AllocError, Global};
 
-/// The cycles of the section of solid s between these faces above, which rise, and its other faces, where the solid can be opened
-/// along them with the numbers after those taken.
+/// The cycles of the section of solid s between these faces above, which rise, and its other faces, if the solid can be opened along them
+/// with the numbers after those taken.
 fn check_cycles(
     alloc: Global,
     arena: &Arena,
@@ -66,12 +66,12 @@ fn check_cycles(
     }
 }
 
-/// The section of solid s by the plane once its faces are drawn, where the solid can be opened along it.
+/// The section of solid s by the plane after its faces are drawn, if the solid can be opened along it.
 ///
-/// Refused, in this order: CutCrossed with the first face that could not be drawn; BranchedVertex with the least vertex at which more
-/// than two section edges meet; SectionHoles with s where a cycle is a hole and not exactly one is outer; NumbersSpent with 2, 3, 4 or
-/// 5 where no numbers are left for the faces, loops, edges or vertices that the opening takes. Sides that aren't noted in `sides` are
-/// computed, and noted then. `AllocError` where memory is refused.
+/// Refused, in this order: CutCrossed with the first face that could not be drawn; BranchedVertex with the least vertex at which more than
+/// two section edges meet; SectionHoles with s, where a cycle is a hole and not exactly one is outer; NumbersSpent with 2, 3, 4 or 5, where
+/// no numbers are left for the faces, loops, edges or vertices that the opening takes. Sides that aren't noted in `sides` are computed, and
+/// then noted. If memory is refused, the answer is `AllocError`.
 pub fn check_later(
     alloc: Global,
     arena: &Arena,

@@ -11,7 +11,7 @@ fn hole_count(cycles: &[Cycle]) -> usize
     cycles.iter().filter(|cycle| cycle.hole).count()
 }
 
-/// Whether a cycle is a hole, and not exactly one is outer.
+/// Whether some cycle is a hole and not exactly one cycle is outer.
 pub(crate) fn has_stray_hole(cycles: &[Cycle]) -> bool
     requires { length cycles.now ≤ 2000002 }
     ensures { result ≡ has_stray cycles.now }

@@ -7,8 +7,8 @@ ghost use Rattle.solid_walks.specs.Counters.{taken_of};
 use euler_operators::Refusal;
 use solid_walks::Counters;
 
-/// Whether numbers are left for so many section edges and cycles: a face and a loop for each of both, and two edges and a vertex for
-/// each edge.
+/// Whether numbers are left for so many section edges and cycles: a face and a loop for each edge and for each cycle, and two edges and a
+/// vertex for each edge.
 pub(crate) fn check_left(taken: Counters, edges: usize, cycles: usize) -> Result<(), Refusal>
     requires edges { edges ≤ 2000002 }
     requires cycles { cycles ≤ 2000002 }

@@ -2,7 +2,8 @@
 
 use crate::section_cycles::Cycle;
 
-/// The faces above the plane, rising, and the cycles of the section, by their least edges, each from its least edge on.
+/// The faces above the plane, in rising order, and the cycles of the section. Each cycle goes from its least edge on, and the cycles stand
+/// in the order of these.
 #[derive(Drop)]
 pub struct Section {
     pub above: Vec<u32>,

@@ -2,7 +2,7 @@
 
 use euler_operators::HalfEdge;
 
-/// A cycle of section edges: their halves in the faces below, each from the one that ends where it starts, and whether the cycle is a
+/// A cycle of section edges: their halves in the faces below, each of which starts where the one before it ends, and whether the cycle is a
 /// hole.
 #[derive(Drop)]
 pub struct Cycle {

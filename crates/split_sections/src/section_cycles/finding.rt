@@ -17,7 +17,7 @@ use euler_operators::{HalfEdge, Plane};
 use std::alloc::{AllocError, Global};
 use std::collections::{BTreeMap, BTreeSet};
 
-/// The cycle of the halves from one of them on, each of which leads to one of them.
+/// The cycle of the halves from one of them on. Each of these halves leads to one of them.
 fn cycle_from(
     alloc: Global,
     arena: &Arena,
@@ -44,8 +44,8 @@ fn cycle_from(
     Ok(cycle)
 }
 
-/// The cycle of the halves from one of them on, each of which leads to one of them and no two to the same, with word on whether it is a
-/// hole.
+/// The cycle of the halves from one of them on, and whether it is a hole. Each of these halves leads to one of them, and no two lead to the
+/// same one.
 fn cycle_with_hole(
     alloc: Global,
     arena: &Arena,
@@ -71,7 +71,7 @@ fn cycle_with_hole(
     })
 }
 
-/// Adds half-edges to those met.
+/// Adds half-edges to those that were met.
 fn meet(met: &mut BTreeSet<u32>, halves: &[HalfEdge]) -> Result<(), AllocError>
     requires { (b : ℕ) → IsIn b (map code halves.now) → b ≤ 2000001 }
     ensures { OnOk result ((b : ℕ) → contains nat_cmp met.new b ≡ lists (map code halves.now) b || contains nat_cmp met.old b) }
@@ -84,9 +84,9 @@ fn meet(met: &mut BTreeSet<u32>, halves: &[HalfEdge]) -> Result<(), AllocError>
     Ok(())
 }
 
-/// The cycles of these below halves, which the map has by the vertices at which they start, each cycle from its least half on, by their
-/// least halves, with word on which are holes. Each half leads to the one that starts where it ends, and no two to the same. It takes
-/// n log n steps for n halves. `AllocError` where memory is refused.
+/// The cycles of these below halves, and which of them are holes. The map has the halves by the vertices at which they start. Each cycle
+/// goes from its least half on, and the cycles stand in the order of these. Each half leads to the half that starts where it ends, and no
+/// two lead to the same one. It takes n log n steps for n halves. If memory is refused, the answer is `AllocError`.
 pub(crate) fn cycles(
     alloc: Global,
     arena: &Arena,

@@ -38,8 +38,8 @@ fn along(vector: Vector, to: Point) -> i128
     dot([vector.x, vector.y, vector.z], to)
 }
 
-/// Whether a cycle of below halves is a hole: the normal of its cap below points against the plane's direction. It takes n steps for
-/// n halves.
+/// Whether a cycle of below halves is a hole: the normal of its cap below points against the plane's direction. It takes n steps for n
+/// halves.
 pub(crate) fn is_hole(arena: &Arena, plane: Plane, halves: &[HalfEdge]) -> bool
     requires ready { IsReady arena.now }
     requires plane { IsCutPlane plane }

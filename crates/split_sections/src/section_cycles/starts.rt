@@ -13,15 +13,15 @@ use solid_walks::lesser;
 use std::alloc::{AllocError, Global};
 use std::collections::BTreeMap;
 
-/// The number alone, if it is wanted.
+/// The number, if it is wanted.
 fn only(wanted: bool, number: u32) -> Option<u32>
     ensures { result ≡ only wanted number }
 {
     if wanted { Some(number) } else { None }
 }
 
-/// For each vertex the first of these half-edges that starts at it; and the least vertex at which more than two of their edges meet, if
-/// there is one, where as many start at each vertex as end there. It takes n log n steps for n half-edges.
+/// For each vertex, the first of these half-edges that starts at it. If as many start at each vertex as end there, also the least vertex at
+/// which more than two of their edges meet, if there is one. It takes n log n steps for n half-edges.
 pub(crate) fn starts_of(
     alloc: Global,
     arena: &Arena,

@@ -38,8 +38,8 @@ fn points_along(arena: &Arena, plane: Plane, f: u32) -> bool
     }
 }
 
-/// Whether face f is above the plane: it has a corner above, or lies wholly on it with a normal that doesn't point along the plane's
-/// direction.
+/// Whether face f is above the plane: it has a corner above the plane, or lies wholly on it with a normal that doesn't point along the
+/// plane's direction.
 #[tactic(auto, unfolding(shapes::specs::split::Sides::face_is_above))]
 fn is_above(arena: &Arena, plane: Plane, sides: &mut Sides, f: u32) -> bool
     requires ready { IsReady arena.now }
@@ -56,8 +56,8 @@ fn is_above(arena: &Arena, plane: Plane, sides: &mut Sides, f: u32) -> bool
     }
 }
 
-/// The faces of solid s that are above the plane, rising: those with a corner above it, and those wholly on it whose normal doesn't
-/// point along the plane's direction. It walks at most twice over the corners of each face.
+/// The faces of solid s that are above the plane, in rising order: those with a corner above it, and those that lie wholly on it and whose
+/// normal doesn't point along the plane's direction. It walks at most twice over the corners of each face.
 pub(crate) fn faces_above(
     alloc: Global,
     arena: &Arena,

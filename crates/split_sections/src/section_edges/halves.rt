@@ -1,4 +1,4 @@
-//! The halves of the section edges that lie in faces below.
+//! The halves of the section edges that lie in the faces below.
 ghost use Rattle.std.specs.Prelude.{◌≡◌, ◌++◌, true, map, IfOk, OnOk};
 ghost use Rattle.euler_operators.specs.Common.{code, SameItems, content, cycle_of, faces_of, has_half, items_of, face_at, lists, strictly_rises};
 ghost use Rattle.euler_conditions.specs.Ready.{IsReady};
@@ -32,7 +32,7 @@ fn leads_above(arena: &Arena, above: &Marked<'_>, h: HalfEdge) -> bool
     is_above(arena, above, h.mate())
 }
 
-/// Adds the half-edges of the loop in which h stands whose mates lie in faces above, as they come from h on.
+/// Adds the half-edges of the loop of h whose mates lie in faces above, in their order from h on.
 fn push_leading_in_ring(
     arena: &Arena,
     above: &Marked<'_>,
@@ -70,7 +70,7 @@ fn push_leading_in_loop(
     }
 }
 
-/// Adds the half-edges of face f whose mates lie in faces above; none where f is above itself.
+/// Adds the half-edges of face f whose mates lie in faces above. If f is above itself, it adds none.
 fn push_below_halves(
     arena: &Arena,
     above: &Marked<'_>,
@@ -94,7 +94,8 @@ fn push_below_halves(
     Ok(())
 }
 
-/// The halves of the section edges of solid s that lie in faces that aren't above, face by face, those of a loop from any one on.
+/// The halves of the section edges of solid s that lie in faces that aren't above, face by face; those of a loop go from any of its
+/// half-edges on.
 fn below_met(
     alloc: Global,
     arena: &Arena,
@@ -114,8 +115,8 @@ fn below_met(
     Ok(found)
 }
 
-/// The halves of the section edges of solid s that lie in faces that aren't above, by rising edge, where `above` are its faces above,
-/// rising. It takes n log n steps for n half-edges of the solid.
+/// The halves of the section edges of solid s that lie in faces that aren't above, by rising edge. `above` has the faces above of the
+/// solid, in rising order. It takes n log n steps for n half-edges of the solid.
 pub(crate) fn below_halves(
     alloc: Global,
     arena: &Arena,

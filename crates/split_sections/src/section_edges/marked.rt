@@ -5,8 +5,7 @@ ghost use Rattle.split_sections.specs.section_edges.Marks.{AreMarked};
 
 use std::marker::Model;
 
-/// Numbers, with a mark for each at the place of its number modulo 64. Most of those that aren't among them have no mark at their places,
-/// and need no search.
+/// Numbers, with a mark for each at the place of its number modulo 64. Most other numbers have no mark at their places, and need no search.
 #[derive(Drop)]
 pub(crate) struct Marked<'a> {
     numbers: &'a [u32],
@@ -38,7 +37,7 @@ fn marks_of(numbers: &[u32]) -> [bool; 64]
     marks
 }
 
-/// The numbers, each with its mark.
+/// The numbers, and the mark of each.
 pub(crate) fn with_marks(numbers: &[u32]) -> Marked<'_>
     ensures { result ≡ numbers.now }
 {
@@ -49,7 +48,7 @@ pub(crate) fn with_marks(numbers: &[u32]) -> Marked<'_>
 }
 
 impl<'a> Marked<'a> {
-    /// Whether a number is one of them, which rise.
+    /// Whether a number is one of these numbers, which rise.
     pub(crate) fn has(&self, number: u32) -> bool
         requires { strictly_rises self.now ≡ true }
         ensures { result ≡ lists self.now number }

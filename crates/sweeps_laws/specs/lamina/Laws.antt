@@ -17,11 +17,11 @@ OperatorsMakeLamina = (M : Model) (s : ℕ) (ps : List Point) → Sound M → la
 abbrev pub LaminaIsSound : Type 0
 LaminaIsSound = (M : Model) (s : ℕ) (ps : List Point) → Sound M → lamina_refusal M s ps ≡ None → Sound (lamina_model M s ps)
 
--- where a block can be made, so can the lamina of its base
+-- if a block can be made, the lamina of its base can be made too
 abbrev pub BlocksHaveBases : Type 0
 BlocksHaveBases = (M : Model) (s : ℕ) (p : Point) (dx dy dz : ℤ) → block_refusal M s p dx dy dz ≡ None → lamina_refusal M s (base_of p dx dy) ≡ None
 
--- and then its first face can be swept up
+-- then the lamina's first face can be swept up
 abbrev pub BasesRise : Type 0
 BasesRise = (M : Model) (s : ℕ) (p : Point) (dx dy dz : ℤ) → Sound M → block_refusal M s p dx dy dz ≡ None →
     prism_refusal (lamina_model M s (base_of p dx dy)) (lamina_face M) (vector (pos 0) (pos 0) dz) ≡ None

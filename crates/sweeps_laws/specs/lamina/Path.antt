@@ -1,4 +1,4 @@
--- A lamina in the making: the models between its operators, and the operators.
+-- A lamina while it is made: the models between its operators, and the operators.
 use Rattle.std.specs.Prelude.{ℕ, zero, suc, ◌+◌, ◌-◌, true, false, List, [], ◌∷◌, ◌++◌, length, get_or}
 use Rattle.euler_operators.specs.Common.{Point, HalfEdge, Corner, At, Lone, plus, minus, Model, LoopContent, lone, cycle, no_point}
 use Rattle.euler_operators.specs.Table as table
@@ -6,7 +6,7 @@ use Rattle.euler_operators.specs.declared.Op.{Op}
 use Rattle.euler_operators.specs.declared.Op.TheVariants.{Mvfs, Mev, Mef}
 use Rattle.shapes.specs.Common.{Taken, taken_in, with_points, with_path}
 
--- the plus halves of j edges from e + 1 on, and the minus halves of these, the last first
+-- the plus halves of j edges from e + 1 on, and their minus halves, the last one first
 abbrev pub out : ℕ → ℕ → List ℕ
 out e zero = []
 out e (suc j) = out e j ++ plus (e + suc j) ∷ []
@@ -49,7 +49,7 @@ end_corner c (suc j) = At (second_half (c.edge + suc j))
 abbrev pub next_point : Taken → List Point → ℕ → Op
 next_point c ps j = Mev (end_corner c j) (end_corner c j) (first_half (c.edge + suc j)) (c.vertex + suc (suc j)) (get_or ps (suc j) no_point)
 
--- those that make j points after the first
+-- the operators that make j points after the first
 abbrev pub further_points : Taken → List Point → ℕ → List Op
 further_points c ps zero = []
 further_points c ps (suc j) = further_points c ps j ++ next_point c ps j ∷ []
