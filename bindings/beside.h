@@ -5,12 +5,15 @@
 
 struct pages;
 struct record;
+struct watch;
 
 struct beside {
     const gwb_heap *heap;  /* in which the session lies */
     struct pages *pages;   /* of that, for its small blocks, or NULL (heap.h) */
     uint64_t changes;      /* how often the model may have changed */
     struct record *record; /* of accepted commands, or NULL */
+    struct watch *watch;   /* of what they touch, or NULL */
+    bool is_drafting;
     gwb_stop stop;         /* whether a feature is to end, or NULL */
     void *stop_user;
     void *known; /* what features have read of the model, or NULL */

@@ -3,6 +3,7 @@
 #include "beside.h"
 #include "heap.h"
 #include "record.h"
+#include "watch.h"
 #include <string.h>
 
 static inline enum gwb_kind counted(const gwb *g, enum gwb_kind kind)
@@ -20,14 +21,19 @@ static inline struct used entered(const gwb *g)
     return before;
 }
 
-/* The line of a call that was made is kept where it was accepted. */
-static enum gwb_kind kept(const gwb *g, enum gwb_kind kind)
+/* Whether calls are recorded or watched. */
+static inline bool is_noting(const gwb *g) { return beside_of(g)->record != NULL || beside_of(g)->watch != NULL; }
+
+/* What was noted of a call is kept where it was accepted. */
+static enum gwb_kind kept(const gwb *g, enum gwb_kind kind, bool is_noted)
 {
     struct record *r = beside_of(g)->record;
     if (r != NULL && kind == GWB_OK)
         record_keep(r, gwb_mark(g));
     else if (r != NULL)
         record_drop(r);
+    if (is_noted && beside_of(g)->watch != NULL)
+        watch_end(beside_of(g)->watch, kind == GWB_OK);
     return kind;
 }
 
@@ -47,51 +53,54 @@ static enum gwb_kind kept(const gwb *g, enum gwb_kind kind)
         return !g->is_open || beside_of(g)->heap == gwb_used.heap ? kernel_gwb_##name arguments : in_own_##name arguments;                    \
     }
 
-/* A command, with `write` for its line. */
-#define COMMAND(name, parameters, arguments, write)                                                                                        \
+/* A command, with `write` for its line, and `touch` for what it touches. */
+#define COMMAND(name, parameters, arguments, write, touch)                                                                                 \
     enum gwb_kind kernel_gwb_##name parameters;                                                                                            \
-    __attribute__((noinline)) static enum gwb_kind recorded_##name parameters                                                              \
+    __attribute__((noinline)) static enum gwb_kind noted_##name parameters                                                                 \
     {                                                                                                                                      \
         struct record *r = beside_of(g)->record;                                                                                           \
-        return write ? kept(g, kernel_gwb_##name arguments) : GWB_MEMORY;                                                                  \
+        struct watch *w = beside_of(g)->watch;                                                                                             \
+        const bool is_noted = (r == NULL || (write)) && (w == NULL || (touch));                                                            \
+        return kept(g, is_noted ? kernel_gwb_##name arguments : GWB_MEMORY, is_noted);                                                     \
     }                                                                                                                                      \
     enum gwb_kind gwb_##name parameters                                                                                                    \
     {                                                                                                                                      \
         if (!g->is_open)                                                                                                                   \
             return kernel_gwb_##name arguments;                                                                                            \
         struct used before = entered(g);                                                                                                   \
-        enum gwb_kind answer = beside_of(g)->record == NULL ? kernel_gwb_##name arguments : recorded_##name arguments;                     \
+        enum gwb_kind answer = is_noting(g) ? noted_##name arguments : kernel_gwb_##name arguments;                                        \
         gwb_used = before;                                                                                                                 \
         return counted(g, answer);                                                                                                         \
     }
 
-/* One whose line is its word and its values, of these forms (record.h). */
-#define CHANGE(name, form, parameters, ...)                                                                                                \
-    COMMAND(name, parameters, (g, __VA_ARGS__),                                                                                            \
-            record_write(r, #name, form, (const int64_t[]){__VA_ARGS__}, sizeof((const int64_t[]){__VA_ARGS__}) / sizeof(int64_t)))
+/* One whose line is its word and its values, of these forms (record.h), and that touches what these say (watch.h). */
+#define CHANGE(name, touches, form, parameters, ...)                                                                                       \
+    COMMAND(name, parameters, (g, __VA_ARGS__), record_write(r, #name, form, (const int64_t[]){__VA_ARGS__}, COUNT(__VA_ARGS__)),          \
+            watch_touch(w, g, touches, (const int64_t[]){__VA_ARGS__}, COUNT(__VA_ARGS__)))
+#define COUNT(...) (sizeof((const int64_t[]){__VA_ARGS__}) / sizeof(int64_t))
 
 CALL(lent_reply, size_t, (gwb *g, char *buf, size_t room), (g, buf, room))
 CALL(lent_listing, size_t, (gwb *g, char *buf, size_t room), (g, buf, room))
-CHANGE(mvfs, "nnnnx", (gwb *g, uint32_t solid, uint32_t face, uint32_t loop, uint32_t vertex, int64_t x, int64_t y, int64_t z), solid, face,
+CHANGE(mvfs, "s", "nnnnx", (gwb *g, uint32_t solid, uint32_t face, uint32_t loop, uint32_t vertex, int64_t x, int64_t y, int64_t z), solid, face,
        loop, vertex, x, y, z)
-CHANGE(kvfs, "n", (gwb *g, uint32_t solid), solid)
-CHANGE(mev, "hhnnx", (gwb *g, uint32_t corner, uint32_t other, uint32_t edge, uint32_t vertex, int64_t x, int64_t y, int64_t z), corner,
+CHANGE(kvfs, "s", "n", (gwb *g, uint32_t solid), solid)
+CHANGE(mev, "h", "hhnnx", (gwb *g, uint32_t corner, uint32_t other, uint32_t edge, uint32_t vertex, int64_t x, int64_t y, int64_t z), corner,
        other, edge, vertex, x, y, z)
-CHANGE(kev, "h", (gwb *g, uint32_t half_edge), half_edge)
-CHANGE(mef, "hhn", (gwb *g, uint32_t half_edge, uint32_t other, uint32_t edge, uint32_t face, uint32_t loop), half_edge, other, edge, face,
+CHANGE(kev, "h", "h", (gwb *g, uint32_t half_edge), half_edge)
+CHANGE(mef, "h", "hhn", (gwb *g, uint32_t half_edge, uint32_t other, uint32_t edge, uint32_t face, uint32_t loop), half_edge, other, edge, face,
        loop)
-CHANGE(kef, "h", (gwb *g, uint32_t half_edge), half_edge)
-CHANGE(kemr, "hn", (gwb *g, uint32_t half_edge, uint32_t ring), half_edge, ring)
-CHANGE(mekr, "hhn", (gwb *g, uint32_t corner, uint32_t other, uint32_t edge), corner, other, edge)
-CHANGE(kfmrh, "n", (gwb *g, uint32_t face, uint32_t other), face, other)
-CHANGE(mfkrh, "n", (gwb *g, uint32_t ring, uint32_t face), ring, face)
-CHANGE(ringmv, "nnw", (gwb *g, uint32_t ring, uint32_t face, uint32_t out), ring, face, out)
-CHANGE(outer, "n", (gwb *g, uint32_t ring, uint32_t face), ring, face)
-CHANGE(merge, "n", (gwb *g, uint32_t solid, uint32_t other), solid, other)
-CHANGE(block, "nx", (gwb *g, uint32_t solid, int64_t x, int64_t y, int64_t z, int64_t dx, int64_t dy, int64_t dz), solid, x, y, z, dx, dy, dz)
-CHANGE(sweep, "nx", (gwb *g, uint32_t face, int64_t dx, int64_t dy, int64_t dz), face, dx, dy, dz)
-CHANGE(glue, "n", (gwb *g, uint32_t face, uint32_t other), face, other)
-CHANGE(split, "nxxxxn", (gwb *g, uint32_t solid, int64_t a, int64_t b, int64_t c, int64_t d, uint32_t above), solid, a, b, c, d, above)
+CHANGE(kef, "h", "h", (gwb *g, uint32_t half_edge), half_edge)
+CHANGE(kemr, "h", "hn", (gwb *g, uint32_t half_edge, uint32_t ring), half_edge, ring)
+CHANGE(mekr, "h", "hhn", (gwb *g, uint32_t corner, uint32_t other, uint32_t edge), corner, other, edge)
+CHANGE(kfmrh, "ff", "n", (gwb *g, uint32_t face, uint32_t other), face, other)
+CHANGE(mfkrh, "l", "n", (gwb *g, uint32_t ring, uint32_t face), ring, face)
+CHANGE(ringmv, "lf", "nnw", (gwb *g, uint32_t ring, uint32_t face, uint32_t out), ring, face, out)
+CHANGE(outer, "lf", "n", (gwb *g, uint32_t ring, uint32_t face), ring, face)
+CHANGE(merge, "ss", "n", (gwb *g, uint32_t solid, uint32_t other), solid, other)
+CHANGE(block, "s", "nx", (gwb *g, uint32_t solid, int64_t x, int64_t y, int64_t z, int64_t dx, int64_t dy, int64_t dz), solid, x, y, z, dx, dy, dz)
+CHANGE(sweep, "f", "nx", (gwb *g, uint32_t face, int64_t dx, int64_t dy, int64_t dz), face, dx, dy, dz)
+CHANGE(glue, "ff", "n", (gwb *g, uint32_t face, uint32_t other), face, other)
+CHANGE(split, "s____s", "nxxxxn", (gwb *g, uint32_t solid, int64_t a, int64_t b, int64_t c, int64_t d, uint32_t above), solid, a, b, c, d, above)
 
 /* The same, of a list of more values than those given one by one: a lamina's points, a part's faces. */
 static bool write_lamina(struct record *r, uint32_t solid, const gwb_point *points, size_t n)
@@ -116,29 +125,36 @@ static bool write_part(struct record *r, const uint32_t *faces, size_t n, uint32
     return record_end(r), true;
 }
 
-COMMAND(part, (gwb *g, const uint32_t *faces, size_t n, uint32_t solid), (g, faces, n, solid), write_part(r, faces, n, solid))
-COMMAND(lamina, (gwb *g, uint32_t solid, const gwb_point *points, size_t n), (g, solid, points, n), write_lamina(r, solid, points, n))
+COMMAND(part, (gwb *g, const uint32_t *faces, size_t n, uint32_t solid), (g, faces, n, solid), write_part(r, faces, n, solid),
+        watch_touch(w, g, "fs", (const int64_t[]){n > 0 ? faces[0] : 0, solid}, 2))
+COMMAND(lamina, (gwb *g, uint32_t solid, const gwb_point *points, size_t n), (g, solid, points, n), write_lamina(r, solid, points, n),
+        watch_touch(w, g, "s", (const int64_t[]){solid}, 1))
 
 /* ---- undo and redo, and drafts */
 
-/* A call with a session's record to follow it. */
-#define STEP(name, parameters, arguments, follow)                                                                                          \
+/* A call with a session's record and watch to follow it, if `see` says that this is possible. */
+#define STEP(name, parameters, arguments, see, follow, end)                                                                                \
     enum gwb_kind kernel_gwb_##name parameters;                                                                                            \
     enum gwb_kind gwb_##name parameters                                                                                                    \
     {                                                                                                                                      \
-        struct used before = g->is_open ? entered(g) : gwb_used;                                                                           \
-        enum gwb_kind answer = kernel_gwb_##name arguments;                                                                                \
-        struct record *r = answer == GWB_OK ? beside_of(g)->record : NULL;                                                                    \
-        if (r != NULL)                                                                                                                     \
+        if (!g->is_open)                                                                                                                   \
+            return kernel_gwb_##name arguments;                                                                                            \
+        struct used before = entered(g);                                                                                                   \
+        struct record *r = beside_of(g)->record;                                                                                           \
+        struct watch *w = beside_of(g)->watch;                                                                                             \
+        enum gwb_kind answer = (see) ? kernel_gwb_##name arguments : GWB_MEMORY;                                                           \
+        if (r != NULL && answer == GWB_OK)                                                                                                 \
             follow;                                                                                                                        \
+        if (w != NULL && answer == GWB_OK)                                                                                                 \
+            end;                                                                                                                           \
         gwb_used = before;                                                                                                                 \
         return counted(g, answer);                                                                                                         \
     }
 
-STEP(undo, (gwb *g), (g), record_undo(r))
-STEP(redo, (gwb *g), (g), record_redo(r))
-STEP(abandon, (gwb *g), (g), record_abandon(r))
-STEP(back, (gwb *g, size_t mark), (g, mark), record_back(r, mark))
+STEP(undo, (gwb *g), (g), w == NULL || watch_see_undo(w, g), record_undo(r), watch_undo(w))
+STEP(redo, (gwb *g), (g), w == NULL || watch_see_redo(w, g), record_redo(r), watch_redo(w))
+STEP(abandon, (gwb *g), (g), (beside_of(g)->is_drafting = false, true), record_abandon(r), watch_abandon(w))
+STEP(back, (gwb *g, size_t mark), (g, mark), true, record_back(r, mark), (void)0)
 
 /* To open a draft, or to make its steps one command, leaves the model as it is. */
 enum gwb_kind kernel_gwb_draft(gwb *g);
@@ -147,10 +163,15 @@ enum gwb_kind gwb_draft(gwb *g)
     if (!g->is_open)
         return GWB_CLOSED;
     struct record *r = beside_of(g)->record;
+    struct watch *w = beside_of(g)->watch;
     struct used before = entered(g);
-    enum gwb_kind answer = r == NULL || record_reserve_draft(r) ? kernel_gwb_draft(g) : GWB_MEMORY;
+    bool has_room = (r == NULL || record_reserve_draft(r)) && (w == NULL || watch_reserve_draft(w));
+    enum gwb_kind answer = has_room ? kernel_gwb_draft(g) : GWB_MEMORY;
     if (r != NULL && answer == GWB_OK)
         record_draft(r);
+    if (w != NULL && answer == GWB_OK)
+        watch_draft(w);
+    beside_of(g)->is_drafting = answer == GWB_OK || answer == GWB_IN_DRAFT;
     gwb_used = before;
     return answer;
 }
@@ -161,6 +182,10 @@ enum gwb_kind gwb_commit(gwb *g)
     enum gwb_kind answer = kernel_gwb_commit(g);
     if (answer == GWB_OK && beside_of(g)->record != NULL)
         record_commit(beside_of(g)->record);
+    if (answer == GWB_OK && beside_of(g)->watch != NULL)
+        watch_commit(beside_of(g)->watch);
+    if (answer == GWB_OK)
+        beside_of(g)->is_drafting = false;
     return answer;
 }
 
@@ -175,26 +200,37 @@ static bool begins_with(const char *line, size_t n, const char *word)
     return n >= length && memcmp(line, word, length) == 0;
 }
 
-/* The record follows a line that was accepted. */
-static void follow_line(const gwb *g, struct record *r, const char *line, size_t n)
+/* The record and the watch follow a line that was accepted. */
+static void follow_line(const gwb *g, struct record *r, struct watch *w, const char *line, size_t n)
 {
-    if (begins_with(line, n, "undo"))
-        record_undo(r);
-    else if (begins_with(line, n, "redo"))
-        record_redo(r);
-    else
-        record_keep(r, gwb_mark(g));
+    const bool is_undo = begins_with(line, n, "undo"), is_redo = begins_with(line, n, "redo");
+    if (r != NULL)
+        is_undo ? record_undo(r) : is_redo ? record_redo(r) : record_keep(r, gwb_mark(g));
+    if (w != NULL && (is_undo || is_redo)) {
+        watch_end(w, false);
+        is_undo ? watch_undo(w) : watch_redo(w);
+    } else if (w != NULL) {
+        watch_end(w, true);
+    }
 }
 
 enum gwb_kind kernel_gwb_line(gwb *g, const char *line, size_t n);
-static enum gwb_kind recorded_line(gwb *g, struct record *r, const char *line, size_t n)
+static enum gwb_kind noted_line(gwb *g, const char *line, size_t n)
 {
-    if (!record_write_line(r, line, n))
+    struct record *r = beside_of(g)->record;
+    struct watch *w = beside_of(g)->watch;
+    if ((r != NULL && !record_write_line(r, line, n)) || (w != NULL && !watch_touch_any(w, g))) {
+        if (r != NULL)
+            record_drop(r);
         return GWB_MEMORY;
+    }
     enum gwb_kind answer = kernel_gwb_line(g, line, n);
     if (answer == GWB_OK)
-        follow_line(g, r, line, n);
-    record_drop(r);
+        follow_line(g, r, w, line, n);
+    else if (w != NULL)
+        watch_end(w, false);
+    if (r != NULL)
+        record_drop(r);
     return answer;
 }
 
@@ -202,9 +238,8 @@ enum gwb_kind gwb_line(gwb *g, const char *line, size_t n)
 {
     if (!g->is_open)
         return GWB_CLOSED;
-    struct record *r = beside_of(g)->record;
     struct used before = entered(g);
-    enum gwb_kind answer = r == NULL ? kernel_gwb_line(g, line, n) : recorded_line(g, r, line, n);
+    enum gwb_kind answer = is_noting(g) ? noted_line(g, line, n) : kernel_gwb_line(g, line, n);
     gwb_used = before;
     return counted(g, answer);
 }
@@ -251,6 +286,7 @@ void gwb_close(gwb *g)
     kernel_gwb_close(g);
     gwb_forget_features(of);
     record_free(of->record);
+    watch_free(of->watch);
     rattle_dealloc(of);
     gwb_close_pages(pages);
     g->beside = NULL;

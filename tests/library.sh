@@ -146,6 +146,19 @@ built 'machining is built' library_machining.cpp "${CXX:-c++}" -std=c++17 -Wold-
 counted 'features and cuts as in Python, and beside unit cubes' "$dir/built/library_machining"
 built 'refused memory of features is built' library_features_refused.c "${CC:-cc}" -std=gnu11 -O2
 counted 'each allocation of features refused' "$dir/alone/library_features_refused" 7
+built 'files of other forms are built' library_export.cpp "${CXX:-c++}" -std=c++17 -Wold-style-cast -Wshadow
+counted 'files of other forms' "$dir/built/library_export"
+if echo '#include <CGAL/version.h>' | "${CXX:-c++}" -E -x c++ - > /dev/null 2>&1; then
+    tried 'the graph of CGAL is built' "${CXX:-c++}" -std=c++17 -O1 -Wall -Wextra -Werror -Wold-style-cast -Wshadow -Ibindings/include \
+        -o "$dir/built/library_cgal" tests/library_cgal.cpp "$dir/built/libgwb.a" -lgmp -lmpfr
+    counted 'the graph of CGAL' "$dir/built/library_cgal"
+else
+    echo 'skipped: the graph of CGAL: there is no CGAL'
+    skipped=$((skipped + 1))
+fi
+built 'one program in C is built' library_same_c.c "${CC:-cc}" -std=gnu11 -O2
+built 'one program in C++ is built' library_same_cpp.cpp "${CXX:-c++}" -std=c++17 -Wold-style-cast -Wshadow
+same="$dir/built/library_same_c $dir/built/library_same_cpp"
 built 'the record is built' library_record.c "${CC:-cc}" -std=gnu11 -O2
 counted 'the record of commands, given again' "$dir/built/library_record"
 counted 'the table of features, by Python' python3 tests/library_features.py "$dir/built/libgwb.so"
@@ -163,16 +176,20 @@ built 'triangles are built' library_triangles.c "${CC:-cc}" -std=gnu11 -O2
 counted 'faces cut into triangles' "$dir/built/library_triangles"
 prints 'the example in Python' bindings/examples/block_python.expected bindings/examples/block.py "$dir/built/libgwb.so"
 if has rustc 'the crate and the example in Rust are built' 'the example in Rust' 'the tests in Rust, session' 'the tests in Rust, features' \
-    'the tests in Rust, machining' 'the tests in Rust, session, with each block alone'; then
+    'the tests in Rust, machining' 'the tests in Rust, session, with each block alone' 'one program in Rust'; then
     tried 'the crate and the example in Rust are built' make_here rust
     prints 'the example in Rust' bindings/examples/block_rust.expected "$dir/built/block_rust"
     for name in session features machining; do
         tried "the tests in Rust, $name" "$dir/built/${name}_rust"
     done
+    tried 'one program in Rust is built' rustc --edition 2021 -O -L "dependency=$dir/built" -o "$dir/built/library_same_rust" \
+        tests/library_same_rust.rs --extern "gwb=$dir/built/libgwb.rlib"
+    same="$same $dir/built/library_same_rust"
     tried 'the tests in Rust with each block alone are built' make -C bindings "ARCHIVE=$archive" "OUT=$dir/alone" 'CFLAGS=-O2 -DGWB_BLOCKS_ALONE' \
         "$dir/alone/session_rust"
     tried 'the tests in Rust, session, with each block alone' env GWB_BLOCKS_ALONE=1 "$dir/alone/session_rust"
 fi
+counted 'one program of features in all languages' python3 tests/library_same.py "$dir/built/libgwb.so" $same
 counted 'the programs of the page' tests/library_readme.py "$dir/built/libgwb.a"
 without_archive() {
     (cd bindings/rust && env "CARGO_TARGET_DIR=$dir/target" "GWB_LIB_DIR=$dir/none" cargo "$@" --offline)

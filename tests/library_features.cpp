@@ -1,6 +1,7 @@
 // Tries gwb_features.hpp: solids that are killed, copied, moved, turned and mirrored; gwb_triangles.hpp; and listings and scripts that are
 // loaded. The last line counts.
 #include "gwb_features.hpp"
+#include "gwb_history.hpp"
 #include "gwb_triangles.hpp"
 #include <cstdlib>
 #include <functional>
@@ -36,7 +37,7 @@ static void check(bool holds, const std::string &what)
 
 using Corners = std::vector<std::array<std::int64_t, 3>>;
 
-// The loops of a face as points from the least on, the outer one first; where `backwards`, each the other way round.
+// The loops of a face as points, each begun so that it comes first in their order; where `backwards`, the other way round.
 static std::multiset<Corners> loops_at(const Workbench &bench, Face face, const Motion &motion, bool backwards)
 {
     std::multiset<Corners> found;
@@ -52,8 +53,12 @@ static std::multiset<Corners> loops_at(const Workbench &bench, Face face, const 
         }
         if (backwards)
             std::reverse(corners.begin(), corners.end());
-        std::rotate(corners.begin(), std::min_element(corners.begin(), corners.end()), corners.end());
-        found.insert(corners);
+        Corners least = corners;
+        for (std::size_t time = 1; time < corners.size(); time++) {
+            std::rotate(corners.begin(), corners.begin() + 1, corners.end());
+            least = std::min(least, corners);
+        }
+        found.insert(least);
     }
     return found;
 }
@@ -275,6 +280,63 @@ static void try_scripts()
     check(bench.run_lines("") == 0 && bench.attempt().run_lines("blok\n").error().problem == Problem::fault, "scripts of no line, and of none");
 }
 
+// Numbers that are spent are low again, whatever has them.
+static void try_renumber()
+{
+    Workbench bench;
+    const Solid holed = two_holes(bench);
+    const Solid gone = bench.block({80, 80, 80}, {1, 1, 1}), wired = wire(bench);
+    bench.mvfs(Solid(1'000'000), Face(1'000'000), Loop(1'000'000), Vertex(1'000'000), {40, 40, 40});
+    kill_solid(bench, gone);
+    const std::string before = bench.listing();
+    const auto wanted = shape(bench, holed);
+    Attempts attempt = bench.attempt();
+    check(attempt.block(Solid(999'999), {9, 9, 9}, {1, 1, 1}).error().is(GWB_WHY_NUMBERS_SPENT), "no number is left");
+    Notes<Face, int> notes;
+    notes[Face(1'000'000)] = 7;
+    const Renumbered all = renumber(bench);
+    notes.renumbered(all);
+    check(shape(bench, all.of(holed)) == wanted && all.of(Solid(1'000'000)) == bench.greatest<Solid>(), "all is as it was");
+    std::size_t faces = 0, edges = 0;
+    for (Face face : bench.numbers<Face>())
+        check(face.number() == ++faces, "faces are numbered one after another");
+    for (Edge edge : bench.numbers<Edge>())
+        check(edge.number() == ++edges, "and edges");
+    check(notes.find(all.of(Face(1'000'000))) != nullptr && notes.all().size() == 1, "notes go along");
+    const std::string after = bench.listing();
+    bench.undo();
+    notes.renumbered(all.back());
+    check(bench.listing() == before && notes.find(Face(1'000'000)) != nullptr, "it is undone at once");
+    bench.redo();
+    check(bench.listing() == after, "and redone");
+    renumber(bench);
+    check(bench.listing() == after && bench.count(all.of(wired)).edges == 3, "low numbers stay");
+    (void)bench.block({9, 9, 9}, {1, 1, 1});
+}
+
+// Solids whose parts have higher numbers the lower their own are, so that what one has on the way another one had.
+static void try_renumber_crosswise()
+{
+    Workbench bench;
+    const Solid holed = two_holes(bench);
+    std::vector<Solid> solids = {copy_solid(bench, holed, Motion::mirror(0)), copy_solid(bench, holed, Motion::move({90, 0, 0}))};
+    kill_solid(bench, holed);
+    bench.block(Solid(99), {200, 0, 0}, {9, 9, 9});
+    for (Solid low : {Solid(7), Solid(6), Solid(5)}) {
+        const std::int64_t x = 300 * std::int64_t{low.number()};
+        bench.block(low, {x, 0, 0}, {9, 9, 9});
+        (void)hole(bench, find_faces(bench, {low, {}, Point{0, 0, 1}, {}, {}})[0], {{x + 2, 2, 9}, {x + 4, 2, 9}, {x + 4, 4, 9}});
+        solids.push_back(low);
+    }
+    std::vector<std::multiset<std::multiset<Corners>>> wanted;
+    for (Solid solid : solids)
+        wanted.push_back(shape(bench, solid));
+    const Renumbered all = renumber(bench);
+    for (std::size_t at = 0; at < solids.size(); at++)
+        check(shape(bench, all.of(solids[at])) == wanted[at], "solids with numbers crosswise");
+    check(bench.greatest<Solid>() == Solid(6), "their own numbers are low too");
+}
+
 static void try_no_triangles()
 {
     Workbench bench;
@@ -297,13 +359,19 @@ static void try_solid(const std::string &name, Solid (*make)(Workbench &))
         const std::size_t depth = bench.depth();
         const std::string before = bench.listing();
         const auto wanted = shape(bench, solid, motion);
-        const Solid copy = copy_solid(bench, solid, motion);
+        const Copy copy = copy_solid(bench, solid, motion);
+        for (const gwb_half_edge_row &row : bench.half_edge_rows(solid))
+            check(copy.of(bench.start_of(HalfEdge(row.half_edge))) == bench.start_of(HalfEdge(copy.of(HalfEdge(row.half_edge).edge()).number() * 2 + row.half_edge % 2)),
+                  name + ": an edge runs as that which it is of");
         check(shape(bench, copy) == wanted && bench.depth() == depth + 1, name + " is copied by one command");
         const gwb_counts counts = bench.count(copy), old = bench.count(solid);
         check(counts.vertices == old.vertices && counts.edges == old.edges && counts.rings == old.rings && counts.sum == old.sum,
               name + ": as many of all");
         kill_solid(bench, copy);
         check(bench.listing() == before, name + ": a copy that is killed leaves what was there");
+        move_solid(bench, solid, Motion());
+        check(bench.listing() == before, name + ": a move by nothing leaves all as it was");
+        bench.undo();
         move_solid(bench, solid, motion);
         check(shape(bench, solid) == wanted && bench.depth() == depth + 3, name + " is moved by one command");
         bench.undo();
@@ -393,6 +461,7 @@ static void try_refused_memory()
         {"chamfer", [&](Workbench &bench) { (void)chamfer(bench, Edge(1), 2); }},
         {"copy", [&](Workbench &bench) { (void)copy_solid(bench, Solid(1), Motion::move({40, 0, 0})); }},
         {"split", [&](Workbench &bench) { (void)split_solid(bench, Solid(1), {0, 0, 1, -4}); }},
+        {"trim", [&](Workbench &bench) { (void)trim(bench, Solid(1), {0, 0, 1, -4}); }},
         {"pattern", [&](Workbench &bench) { (void)pattern(bench, Solid(1), 3, {0, 0, 9}); }},
         {"scale", [&](Workbench &bench) { scale(bench, 3); }},
         {"move", [&](Workbench &bench) { move_solid(bench, Solid(1), Motion::quarter_turns(2)); }},
@@ -413,6 +482,8 @@ static bool try_stopped(const Feature &feature, bool is_drafting, long nth, cons
 {
     Workbench bench;
     (void)bench.block({0, 0, 0}, {8, 8, 8});
+    (void)bench.block(Solid(3), {8, 0, 0}, {4, 8, 4});
+    (void)profile(bench, Solid(4), {{50, 0, 0}, {58, 0, 0}, {58, 0, 4}, {54, 0, 4}, {54, 0, 8}, {50, 0, 8}}, {0, 8, 0});
     std::optional<Draft> draft;
     if (is_drafting)
         draft.emplace(bench.draft());
@@ -438,6 +509,9 @@ static void try_stops()
         {"notch", [&](Workbench &bench) { (void)notch(bench, Face(1), square, 3); }},
         {"chamfer", [&](Workbench &bench) { (void)chamfer(bench, Edge(1), 2); }},
         {"copy", [&](Workbench &bench) { (void)copy_solid(bench, Solid(1), Motion::move({40, 0, 0})); }},
+        {"cut", [&](Workbench &bench) { (void)cut(bench, Solid(4), {0, 0, 1, -4}); }},
+        {"trim", [&](Workbench &bench) { (void)trim(bench, Solid(1), {0, 0, 1, -4}); }},
+        {"union", [&](Workbench &bench) { (void)unite(bench, {Solid(1), Solid(3)}); }},
         {"scale", [&](Workbench &bench) { scale(bench, 3); }},
         {"advice", [&](Workbench &bench) { (void)off_lattice(bench, Solid(1), {2, 3, 5, -17}); }},
     };
@@ -528,6 +602,8 @@ int main()
         try_loading("two parts", parts);
         try_loading("a lone ring", lone_ring);
         try_scripts();
+        try_renumber();
+        try_renumber_crosswise();
         try_no_triangles();
         try_drafts();
     } catch (const std::exception &thrown) {

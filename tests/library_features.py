@@ -6,9 +6,10 @@ whole points, with what is said of them.
 
 Each line of tests/library_features.table is a feature, and behind `=` what it gives: `ok`, and six times the volume, the vertices, edges, faces
 and rings of the solid and a sum over its points; or the name of what is refused. A face is told by the ends of a side of its outer loop, an edge by
-its own, in the direction of its first half-edge; a solid that is cut by its listing. The table was written by features in Python that shared no code
-with those of the library. The last line counts.
+its own, in the direction of its first half-edge; a solid that is cut by its listing. `halve` cuts it in two, and tells of both; `union` adds a block
+at a point. The table was written by features in Python that shared no code with those of the library. The last line counts.
 """
+import re
 import sys
 import tempfile
 from itertools import groupby
@@ -22,6 +23,8 @@ sys.path.insert(0, str(TOP / 'companions'))
 from gwb import FacePart, Refused, Workbench  # noqa: E402
 
 TABLE = TOP / 'tests' / 'library_features.table'
+# What is said of a parallel plane that is too far, in the place of its line.
+FAR = re.compile(r'# a parallel plane that cuts at whole points moves the cut by at least (\S+ along an edge)')
 Point = Tuple[int, int, int]
 
 
@@ -46,9 +49,13 @@ class Row:
         """The next three."""
         return (self.number(), self.number(), self.number())
 
+    def numbers(self) -> List[int]:
+        """All that are left."""
+        return [int(word) for word in self._words]
+
     def points(self) -> List[Point]:
         """All that are left."""
-        left = [int(word) for word in self._words]
+        left = self.numbers()
         return list(zip(left[::3], left[1::3], left[2::3]))
 
 
@@ -59,6 +66,8 @@ class Part:
         self.bench, self.solid = bench, solid
         # Whether the last feature was a chamfer of an edge whose first half-edge runs the other way than in the table.
         self.is_turned = False
+        # The solid above, where the last one was a cut in two.
+        self.above: Optional[int] = None
 
     def face(self, row: Row) -> FacePart:
         """The face with a side between two points."""
@@ -73,7 +82,10 @@ class Part:
 
     def give(self, word: str, row: Row) -> None:
         """Tries a feature."""
-        bench, self.is_turned = self.bench, False
+        bench, self.is_turned, self.above = self.bench, False, None
+        if word in ('halve', 'trim', 'union'):
+            self._shape_whole(word, row)
+            return
         if word == 'chamfer':
             edge, is_first = self.edge((row.point(), row.point()))
             widths, self.is_turned = (row.number(), row.number()), not is_first
@@ -90,6 +102,21 @@ class Part:
             return
         depth = row.number()
         {'pocket': bench.pocket, 'boss': bench.boss, 'notch': bench.notch}[word](face, row.points(), depth)
+
+
+    def _shape_whole(self, word: str, row: Row) -> None:
+        """Cuts or trims it, or adds a block."""
+        if word == 'halve':
+            self.above = self.bench.cut(self.solid, row.numbers()).above
+        elif word == 'trim':
+            self.bench.trim(self.solid, row.numbers())
+        else:
+            with self.bench.draft():
+                self.bench.union([self.solid, self.bench.block(row.point(), row.point())])
+
+    def told(self) -> str:
+        """What there is of it."""
+        return ' '.join(measures(self.bench, solid) for solid in (self.solid, self.above) if solid is not None)
 
 
 class Tried:
@@ -112,8 +139,9 @@ class Tried:
         return f'{words}: {stored!r} is stored, {given!r} is given'
 
     def wrongly_said(self, stored: Sequence[str]) -> str:
-        """What is wrong with what is said of the last cut: the table has all planes nearby, and those are said that are near enough."""
-        said, self._said = self._said, []
+        """What is wrong with what is said of the last cut. The table has all planes nearby. Of those that are too far none is said, but for how far the
+        parallel one is."""
+        said, self._said = [FAR.sub(r'# parallel, the cut moves by at most \1:', line) for line in self._said], []
         left = iter(stored)
         if all(line in left for line in said) and all(line.startswith(('# tilted', 'split')) for line in set(stored) - set(said)):
             return ''
@@ -136,7 +164,7 @@ class Tried:
             assert self._bench.listing() == before, words
             return refused.name
         assert self._part, 'the first row of a part makes its solid'
-        return f'ok {measures(self._part.bench, self._part.solid)}'
+        return f'ok {self._part.told()}'
 
     def _make(self, bench: Workbench, word: str, words: Sequence[str]) -> None:
         row = Row(words)

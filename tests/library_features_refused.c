@@ -41,8 +41,13 @@ static const gwb_heap refusing = {take, grow, give_back, NULL};
 
 static const gwb_point square[] = {{2, 2, 8}, {4, 2, 8}, {4, 4, 8}, {2, 4, 8}}, at_edge[] = {{0, 2, 8}, {4, 2, 8}, {4, 4, 8}, {0, 4, 8}};
 static const gwb_point corner[] = {{5, 5, 8}, {6, 5, 8}, {5, 6, 8}}, along = {0, 0, 9}, start = {6, 0, 8}, end = {6, 8, 8};
+/* of a solid that split doesn't cut level with its step */
+static const gwb_point stepped[] = {{50, 0, 0}, {58, 0, 0}, {58, 0, 4}, {54, 0, 4}, {54, 0, 8}, {50, 0, 8}}, back = {0, 8, 0};
 static const gwb_motion motion = {{-2, 1, 3}, {50, 0, 0}};
+static const gwb_motion mirror = {{-1, 2, 3}, {0, 0, 0}};
 static const gwb_cut_plane plane = {2, 3, 5, -17};
+static const gwb_ratio size = {64, 1};
+static gwb_point drilled[8];
 static gwb_refusal why;
 static gwb_outline_made outline;
 static gwb_profile_made profile;
@@ -65,15 +70,52 @@ static enum gwb_kind shoulder(gwb *g)
 }
 static enum gwb_kind chamfer(gwb *g) { return gwb_chamfer(g, 1, 1, 1, numbers, &why); }
 static enum gwb_kind copy(gwb *g) { return gwb_copy_solid(g, 1, &motion, numbers, &why); }
+static enum gwb_kind image(gwb *g) { return gwb_copy_solid(g, 1, &mirror, numbers, &why); }
 static enum gwb_kind move(gwb *g) { return gwb_move_solid(g, 1, &motion, &why); }
 static enum gwb_kind kill_one(gwb *g) { return gwb_kill_solid(g, 1, &why); }
 static enum gwb_kind make_profile(gwb *g) { return gwb_profile(g, 2, square, 4, &along, &profile, numbers, &why); }
 static enum gwb_kind pattern(gwb *g) { return gwb_pattern(g, 1, 3, &along, numbers, &why); }
+static enum gwb_kind renumber(gwb *g) { return gwb_renumber(g, &why); }
 static enum gwb_kind scale(gwb *g) { return gwb_scale(g, 3, &why); }
-static enum gwb_kind cut(gwb *g)
+static enum gwb_kind glue_all(gwb *g)
 {
-    static const gwb_cut_plane middle = {0, 0, 1, -4};
-    return gwb_split_solid(g, 1, &middle, 2, &why);
+    static const uint32_t both[] = {1, 3};
+    return gwb_glue_all(g, both, 2, &why);
+}
+static enum gwb_kind drill(gwb *g) { return gwb_drill(g, 1, &corner[0], 2, 8, 3, &outline, numbers, drilled, &why); }
+static enum gwb_kind find_faces(gwb *g)
+{
+    const gwb_face_query query = {1, NULL, &along, &corner[0], &size};
+    size_t count = 0;
+    return gwb_find_faces(g, &query, numbers, 16, &count, &why);
+}
+static enum gwb_kind find_edges(gwb *g)
+{
+    const gwb_edge_query query = {1, {1, 3}, NULL, &size};
+    size_t count = 0;
+    return gwb_find_edges(g, &query, numbers, 16, &count, &why);
+}
+/* (where there is none to be undone or redone, memory has nothing to do with it) */
+static enum gwb_kind undo(gwb *g)
+{
+    const enum gwb_kind kind = gwb_undo(g);
+    return kind == GWB_MEMORY ? kind : GWB_OK;
+}
+static enum gwb_kind redo(gwb *g)
+{
+    const enum gwb_kind kind = gwb_redo(g);
+    return kind == GWB_MEMORY ? kind : GWB_OK;
+}
+static enum gwb_kind line(gwb *g) { return gwb_line(g, "split 1 0 0 1 -4 9", 18); }
+static const gwb_cut_plane middle = {0, 0, 1, -4};
+static enum gwb_kind split(gwb *g) { return gwb_split_solid(g, 1, &middle, 2, &why); }
+static enum gwb_kind cut(gwb *g) { return gwb_cut(g, 4, &middle, 2, &why); }
+static enum gwb_kind trim(gwb *g) { return gwb_trim(g, 4, &middle, &why); }
+static enum gwb_kind trim_by_split(gwb *g) { return gwb_trim(g, 1, &middle, &why); }
+static enum gwb_kind unite(gwb *g)
+{
+    static const uint32_t both[] = {1, 3};
+    return gwb_union(g, both, 2, &why);
 }
 static enum gwb_kind advice(gwb *g)
 {
@@ -89,7 +131,9 @@ static const struct feature {
 } features[] = {{"pocket", pocket},     {"boss", boss},   {"hole", hole},         {"ring", ring},       {"notch", notch},
                 {"slot", slot},         {"groove", groove}, {"shoulder", shoulder}, {"chamfer", chamfer}, {"copy", copy},
                 {"move", move},         {"kill", kill_one}, {"profile", make_profile}, {"pattern", pattern},
-                {"scale", scale},       {"split", cut},   {"advice", advice}};
+                 {"scale", scale},       {"split", split}, {"advice", advice},     {"image", image},     {"glue_all", glue_all},
+                 {"drill", drill},       {"find_faces", find_faces}, {"find_edges", find_edges}, {"cut", cut},         {"trim", trim},
+                 {"trim by split", trim_by_split}, {"union", unite}, {"renumber", renumber}, {"undo", undo}, {"redo", redo}, {"line", line}};
 
 /* ---- what must be as it was */
 
@@ -114,8 +158,9 @@ static bool is_same(const gwb *g, const struct seen *before)
            now.depth == before->depth && now.recorded == before->recorded;
 }
 
-/* Where a feature is made: after another one that was undone, so that what it read is known, or not; in a draft, or not; recorded, or not. */
-enum { KNOWN = 1, IN_DRAFT = 2, RECORDED = 4, WAYS = 8 };
+/* Where a feature is made: after another one that was undone, so that what it read is known, or not; in a draft, or not; recorded, or not; watched,
+ * or not. */
+enum { KNOWN = 1, IN_DRAFT = 2, RECORDED = 4, WATCHED = 8, WAYS = 16 };
 
 static void begin(gwb *g, int way)
 {
@@ -124,7 +169,12 @@ static void begin(gwb *g, int way)
     if (way & RECORDED)
         gwb_record(g);
     gwb_block(g, 1, 0, 0, 0, 8, 8, 8);
+    gwb_block(g, 3, -8, 0, 0, 8, 8, 8);
+    if (gwb_profile(g, 4, stepped, 6, &back, &profile, numbers, &why) != GWB_OK)
+        abort();
     if (way & KNOWN && (gwb_pocket(g, 1, corner, 3, 1, &outline, numbers, &why) != GWB_OK || gwb_undo(g) != GWB_OK))
+        abort();
+    if (way & WATCHED && gwb_watch(g, true) != GWB_OK)
         abort();
     if (way & IN_DRAFT) {
         gwb_draft(g);

@@ -3,6 +3,7 @@
 //
 //     library_machining [TIMES]     so many random parts, and as many of the table: 50 and all where none is said
 #include "gwb_features.hpp"
+#include <cmath>
 #include <fstream>
 #include <iostream>
 #include <map>
@@ -137,6 +138,8 @@ private:
     std::string feature(const std::string &word, Numbers &given)
     {
         is_turned_ = false;
+        if (word == "halve" || word == "trim" || word == "union")
+            return of_whole(word, given);
         const Point from = given.point(), to = given.point();
         const HalfEdge side = half_edge(bench_, solid_, from, to);
         if (word == "chamfer") {
@@ -156,6 +159,25 @@ private:
             return gives(word == "slot" ? slot(attempt_, face, start, end, width, depth) : groove(attempt_, face, start, end, width, depth));
         }
         return of_outline(word, face, given);
+    }
+
+    std::string of_whole(const std::string &word, Numbers &given)
+    {
+        if (word == "union") {
+            Draft draft = bench_.draft();
+            const Point at = given.point();
+            const Solid block = bench_.block(at, given.point());
+            const Result<Merged> made = unite(attempt_, {solid_, block});
+            if (made)
+                draft.commit();
+            return gives(made);
+        }
+        const std::int64_t a = given.number(), b = given.number(), c = given.number();
+        const gwb_cut_plane plane{a, b, c, given.number()};
+        if (word == "trim")
+            return gives(trim(attempt_, solid_, plane));
+        const Result<Split> parts = gwb_session::cut(attempt_, solid_, plane);
+        return gives(parts) + (parts ? measures(bench_, parts->above).substr(2) : "");
     }
 
     std::string of_outline(const std::string &word, Face face, Numbers &given)
@@ -333,7 +355,10 @@ private:
     bool made(Face face, const Rectangle &rectangle, std::int64_t depth)
     {
         const bool is_inside = are(rectangle.layers(1, 1, 1), true) && are(rectangle.layers(0, 0, 1), false);
-        switch (random(5)) {
+        switch (random(8)) {
+        case 5: return made_cut();
+        case 6: return made_trim();
+        case 7: return made_union();
         case 0: {
             const bool is_made = static_cast<bool>(pocket(attempt_, face, rectangle.outline(), depth));
             check(is_made || !is_inside || !are(rectangle.layers(1, depth + 1, 1), true) || !lies_in(face, rectangle), "there is room for a pocket");
@@ -389,6 +414,80 @@ private:
         return is_made;
     }
 
+    // The cubes on the side of a plane across an axis to which that looks.
+    [[nodiscard]] std::set<Cube> above(std::size_t axis, std::int64_t level) const
+    {
+        std::set<Cube> found;
+        std::copy_if(filled_.begin(), filled_.end(), std::inserter(found, found.end()), [&](const Cube &cube) { return cube[axis] >= level; });
+        return found;
+    }
+    static gwb_cut_plane plane_at(std::size_t axis, std::int64_t level) { return {axis == 0, axis == 1, axis == 2, -level}; }
+
+    // Cuts it in two, and makes one of both parts again.
+    bool made_cut()
+    {
+        const std::size_t axis = random(3);
+        const auto count = bench_.count(solid_).faces;
+        const auto level = static_cast<std::int64_t>(random(static_cast<std::size_t>(sizes[axis] + 1)));
+        const std::set<Cube> upper = above(axis, level);
+        const Result<Split> parts = cut(attempt_, solid_, plane_at(axis, level));
+        check(parts || parts.error().is(Misfit::meets) || parts.error().is(GWB_WHY_PLANE_MISSES), "there is nothing to cut, or a part touches itself");
+        if (!parts)
+            return false;
+        check(narrow(bench_.six_volumes(parts->above)) == 6 * static_cast<std::int64_t>(upper.size()) &&
+                  narrow(bench_.six_volumes(solid_)) == 6 * static_cast<std::int64_t>(filled_.size() - upper.size()), "the parts have the volume of their cubes");
+        check(static_cast<bool>(unite(attempt_, {solid_, parts->above})), "they are one again");
+        check(bench_.count(solid_).faces <= count, "with no more faces: those of one plane beside each other, which a trim may leave, become one");
+        return true;
+    }
+
+    bool made_trim()
+    {
+        const std::size_t axis = random(3);
+        const Result<std::vector<Face>> caps = trim(attempt_, solid_, plane_at(axis, sizes[axis] - 1));
+        if (caps)
+            for (const Cube &cube : above(axis, sizes[axis] - 1))
+                filled_.erase(cube);
+        return static_cast<bool>(caps);
+    }
+
+    [[nodiscard]] bool has_neighbour(const Cube &cube) const
+    {
+        for (std::size_t axis = 0; axis < 3; axis++)
+            for (int step : {-1, 1}) {
+                Cube beside = cube;
+                beside[axis] += step;
+                if (filled_.count(beside) != 0)
+                    return true;
+            }
+        return false;
+    }
+
+    // Puts a block beside it or into it, and makes one of both.
+    bool made_union()
+    {
+        std::array<std::int64_t, 3> low{}, size{};
+        std::set<Cube> cubes;
+        for (std::size_t axis = 0; axis < 3; axis++) {
+            low[axis] = static_cast<std::int64_t>(random(static_cast<std::size_t>(sizes[axis]) + 2)) - 1;
+            size[axis] = 1 + static_cast<std::int64_t>(random(3));
+        }
+        for (std::int64_t x = low[0]; x < low[0] + size[0]; x++)
+            for (std::int64_t y = low[1]; y < low[1] + size[1]; y++)
+                for (std::int64_t z = low[2]; z < low[2] + size[2]; z++)
+                    cubes.insert({x, y, z});
+        const Solid other = bench_.block({low[0], low[1], low[2]}, {size[0], size[1], size[2]});
+        const bool touches = std::any_of(cubes.begin(), cubes.end(), [&](const Cube &cube) { return has_neighbour(cube); });
+        const Result<Merged> made = unite(attempt_, {solid_, other});
+        if (are(cubes, false))
+            check(made ? touches : made.error().is(touches ? Misfit::overlap : Misfit::no_contact), "a block that touches it is added");
+        if (made)
+            put(cubes, true, "a union");
+        else
+            bench_.undo();
+        return static_cast<bool>(made);
+    }
+
     std::uint32_t state_;
     std::set<Cube> filled_;
     Workbench bench_;
@@ -427,6 +526,33 @@ static void try_what_comes_back()
     check(notch(bench, plate.far, {{0, 0, 10}, {2, 0, 10}, {2, 2, 10}, {0, 2, 10}}, 10).floor.empty(), "a notch that goes through has no floor");
     const Face slope = chamfer(bench, half_edge(bench, plate.solid, {40, 20, 0}, {40, 20, 10}).edge(), 1);
     check(bench.face(slope).solid == plate.solid && bench.depth() == 8, "a chamfer is a face, and each feature one command");
+}
+
+// A solid with a step, which split doesn't cut level with it.
+static void try_cuts()
+{
+    Workbench bench;
+    Attempts attempt = bench.attempt();
+    const Solid step = profile(bench, {{0, 0, 0}, {8, 0, 0}, {8, 0, 4}, {4, 0, 4}, {4, 0, 8}, {0, 0, 8}}, {0, 8, 0}).solid;
+    const gwb_cut_plane level = {0, 0, 1, -4};
+    check(split_solid(attempt, step, level).error().is(GWB_WHY_TOUCHED_FACE), "a plane that split refuses");
+    const Split parts = cut(bench, step, level);
+    check(parts.lower_caps.size() == 1 && parts.upper_caps.size() == 1 && narrow(bench.plane(parts.lower_caps[0]).c) > 0, "a cut's caps");
+    check(bench.count(step).faces == 6 && bench.count(parts.above).faces == 6 && bench.depth() == 2, "the step's face is one with the cap");
+    check(cut(attempt, step, level).error().is(GWB_WHY_PLANE_MISSES) && cut(attempt, Solid(9), level).error().is(GWB_WHY_NO_SOLID), "nothing to cut");
+    check(cut(attempt, step, {2, 0, 0, -3}).error().is(GWB_WHY_NOT_LATTICE) && trim(attempt, step, {0, 0, 0, 1}).error().is(GWB_WHY_PLANE_RANGE), "no plane");
+    check(cut(attempt, step, {1, 0, 0, -3}, parts.above).error().is(GWB_WHY_SOLID_TAKEN), "a number in use");
+    const Merged merged = unite(bench, {step, parts.above});
+    check(!merged.empty() && bench.count(step).faces == 8 && narrow(bench.six_volumes(step)) == 6 * 384, "one solid again");
+    for (const auto &[face, part] : merged)
+        check(bench.face(part).solid == step, "a face that another one went into");
+    check(trim(bench, step, level).size() == 1 && narrow(bench.six_volumes(step)) == 6 * 256 && bench.depth() == 4, "a step that is trimmed");
+    const Solid far = bench.block({40, 0, 0}, {2, 2, 2}), within = bench.block({1, 1, 4}, {2, 2, 1}), across = bench.block({7, 7, 3}, {2, 2, 2});
+    check(unite(attempt, {step, far}).error().value == far.number() && unite(attempt, {step, within, far}).error().is(Misfit::no_contact), "too far off");
+    check(unite(attempt, {step, across}).error().is(Misfit::no_contact) && unite(attempt, {within, Solid(99)}).error().is(GWB_WHY_NO_SOLID), "none that touches");
+    check(unite(attempt, {step}).error().problem == Problem::no_call && !unite(attempt, {step, step}) && bench.depth() == 7, "no two solids");
+    unite(bench, {step, within});
+    check(narrow(bench.six_volumes(step)) == 6 * 260 && bench.count(step).rings == 1, "a block on it");
 }
 
 static void try_refusals()
@@ -500,6 +626,104 @@ static bool makes(Workbench &bench, Face face, std::int64_t x, std::int64_t z, s
     return static_cast<bool>(made);
 }
 
+// A drill's polygon is as near to the circle as whole points are, the same seen along each axis, and outside where two are as near.
+static void try_drills()
+{
+    Workbench bench;
+    const Block plate = bench.block({0, 0, 0}, {4000, 4000, 9});
+    Attempts attempt = bench.attempt();
+    for (std::uint32_t sides : {3U, 4U, 7U, 12U, 360U})
+        for (std::int64_t radius : {3, 5, 41, 1999}) {
+            const Result<Hole> made = drill(attempt, plate.top, {2000, 2000, 9}, radius, sides, 3);
+            for (std::size_t place = 0; made && place < sides; place++) {
+                const double turn = 6.283185307179586 * static_cast<double>(place) / sides, x = static_cast<double>(made->points[place].x - 2000),
+                             y = static_cast<double>(made->points[place].y - 2000), out = static_cast<double>(radius);
+                check(std::abs(x - out * std::cos(turn)) < 0.5 + 1e-6 && std::abs(y - out * std::sin(turn)) < 0.5 + 1e-6, "a corner of a drill");
+            }
+            if (made)
+                bench.undo();
+        }
+    const Hole through = drill(bench, plate.top, {2000, 2000, 9}, 5, 12);
+    check(through.other == plate.bottom && through.points[2].x == 2003 && through.points[1].y == 2003, "halves lie farther out");
+    check(drill(attempt, plate.top, {9, 9, 9}, 0, 4).error().is(GWB_WHY_SIZE_RANGE), "a drill of no radius");
+    check(drill(attempt, plate.top, {9, 9, 9}, 1, 2).error().value == 2 && drill(attempt, plate.top, {9, 9, 9}, 1, 4, -1).error().value == 3, "sizes by place");
+    check(drill(attempt, plate.top, {9, 9, 9}, 1, 9).error().is(GWB_WHY_REPEATED_POINT), "corners that fall on one point");
+    check(drill(attempt, plate.top, {9, 9, 9}, 5'000'000'000, 9).error().is(GWB_WHY_POINT_RANGE), "a drill that is too wide");
+    check(drill(attempt, Face(99), {9, 9, 9}, 1, 4).error().is(GWB_WHY_NO_FACE), "a drill in no face");
+}
+
+// The faces of a solid, or of all, that look a way, that have an area, or that lie in the plane z = 8, as their planes say.
+struct Wanted {
+    std::vector<Face> looking, large, level;
+
+    Wanted(const Workbench &bench, Solid solid, Point way, std::int64_t area)
+    {
+        for (Face face : bench.numbers<Face>()) {
+            const gwb_plane plane = bench.plane(face);
+            const std::int64_t a = narrow(plane.a), b = narrow(plane.b), c = narrow(plane.c);
+            const std::int64_t square = a * a + b * b + c * c, along = a * way.x + b * way.y + c * way.z;
+            if (solid != Solid() && bench.face(face).solid != solid)
+                continue;
+            if (along > 0 && along * along == square * (way.x * way.x + way.y * way.y + way.z * way.z))
+                looking.push_back(face);
+            if (square == 4 * area * area)
+                large.push_back(face);
+            if (a == 0 && b == 0 && narrow(plane.d) == -8 * c)
+                level.push_back(face);
+        }
+    }
+};
+
+static void try_faces_sought(const Workbench &bench)
+{
+    for (std::optional<Solid> solid : {std::optional<Solid>(), std::optional(Solid(1)), std::optional(Solid(2))})
+        for (Point way : {Point{0, 0, 5}, Point{0, -1, 0}, Point{5, 12, 0}, Point{1, 1, 1}})
+            for (std::uint64_t area : {9U, 80U, 104U, 96U}) {
+                const Wanted wanted(bench, solid.value_or(Solid()), way, static_cast<std::int64_t>(area));
+                check(find_faces(bench, {solid, {}, way, {}, {}}) == wanted.looking, "faces by their normal");
+                check(find_faces(bench, {solid, {}, {}, {}, Ratio{2 * area, 2}}) == wanted.large, "faces by their area");
+                check(find_faces(bench, {solid, CutPlane{0, 0, -3, 24}, {}, {}, {}}) == wanted.level, "faces in a plane");
+            }
+    const auto at = [&](Point place) { return find_faces(bench, {{}, {}, {}, place, {}}); };
+    check(at({3, 3, 8}).empty() && at({3, 3, 5}).size() == 1 && at({1, 1, 8}).size() == 1, "a pocket holds its floor's points alone");
+    check(at({2, 3, 8}).size() == 2 && at({0, 0, 0}).size() == 3 && at({0, 0, 2'000'000'000}).empty(), "points on edges are of the faces beside");
+}
+
+static void try_edges_sought(const Workbench &bench)
+{
+    for (Face face : bench.numbers<Face>())
+        for (Face beside : bench.numbers<Face>()) {
+            std::vector<Edge> wanted;
+            for (Edge edge : bench.numbers<Edge>()) {
+                const auto [one, two] = bench.faces_of(edge);
+                if ((one == face && two == beside) || (one == beside && two == face))
+                    wanted.push_back(edge);
+            }
+            check(find_edges(bench, {{}, {{face, beside}}, {}, {}}) == wanted, "the edges between two faces");
+        }
+    check(find_edges(bench, {Solid(1), {}, Point{0, 0, -1}, {}}).size() == 8 && find_edges(bench, {{}, {}, {}, Ratio{13, 1}}).size() == 4,
+          "edges along, and so long");
+    check(find_edges(bench, {{}, {}, {}, Ratio{1, 2}}).empty() && find_edges(bench, {{}, {}, Point{1, 2, 3}, {}}).empty(), "no edges");
+}
+
+// Faces and edges by where they lie, beside what readers say of each.
+static void try_queries()
+{
+    Workbench bench;
+    const Profile wedge = profile(bench, {{0, 0, 0}, {12, 0, 0}, {12, 5, 0}, {0, 10, 0}}, {0, 0, 8});
+    (void)pocket(bench, wedge.far, {{2, 2, 8}, {5, 2, 8}, {5, 5, 8}, {2, 5, 8}}, 3);
+    (void)copy_solid(bench, wedge.solid, Motion::move({40, 0, 0}));
+    try_faces_sought(bench);
+    try_edges_sought(bench);
+    const Attempts attempt = bench.attempt();
+    check(find_faces(attempt, {Solid(9), {}, {}, {}, {}}).error().is(GWB_WHY_NO_SOLID), "faces of no solid");
+    check(find_edges(attempt, {Solid(9), {}, {}, {}}).error().is(GWB_WHY_NO_SOLID), "edges of no solid");
+    check(find_edges(attempt, {{}, {{Face(1), Face(99)}}, {}, {}}).error().is(GWB_WHY_NO_FACE), "edges of no face");
+    check(find_faces(attempt, {{}, {}, Point{0, 0, 0}, {}, {}}).error().problem == Problem::no_call, "no direction");
+    check(find_faces(attempt, {{}, CutPlane{0, 0, 0, 1}, {}, {}, {}}).error().problem == Problem::no_call, "no plane");
+    check(find_edges(attempt, {{}, {}, {}, Ratio{1, 0}}).error().problem == Problem::no_call, "no ratio");
+}
+
 // What else changes a model than features of outlines is not missed by the next one.
 static void try_what_is_known()
 {
@@ -535,6 +759,38 @@ static void try_what_is_known()
     check(makes(bench, plate.base, 18, 0, 1) && !makes(bench, plate.base, 17, 0, 1), "and is used later on");
 }
 
+// Among many pockets, features up to the edges of a face take few steps, and leave what is known of the solid right.
+static void try_among_pockets()
+{
+    Workbench bench;
+    const Block block = bench.block({0, 0, 0}, {200, 100, 20});
+    for (std::int64_t x = 10; x < 200; x += 20)
+        for (std::int64_t y = 4; y < 100; y += 20)
+            (void)pocket(bench, block.top, {{x, y, 20}, {x + 8, y, 20}, {x + 8, y + 8, 20}, {x, y + 8, 20}}, 4);
+    const auto edge = [&](Point from, Point to) { return half_edge(bench, block.solid, from, to).edge(); };
+    std::int64_t free = 10;
+    const auto takes = [&](const std::string &name, std::size_t most, auto &&make) {
+        const std::size_t before = gwb_mark(bench.handle());
+        make();
+        const std::size_t steps = gwb_mark(bench.handle()) - before;
+        check(steps <= most, name + " among pockets takes " + std::to_string(steps) + " steps");
+        check(!makes(bench, block.top, 31, 20, 1) && makes(bench, block.bottom, free += 5, 0, 1), name + ": what is known");
+    };
+    Draft draft = bench.draft();
+    takes("a notch", 50, [&] { (void)notch(bench, block.top, {{40, 0, 20}, {44, 0, 20}, {44, 4, 20}, {40, 4, 20}}, 4); });
+    takes("a notch within", 50, [&] { (void)notch(bench, block.top, {{5, 16, 20}, {8, 16, 20}, {8, 20, 20}}, 4); });
+    takes("a shoulder", 50, [&] { (void)shoulder(bench, block.top, edge({200, 0, 20}, {200, 100, 20}), 1, 3); });
+    takes("a chamfer", 50, [&] { (void)chamfer(bench, edge({0, 0, 20}, {0, 100, 20}), 2); });
+    const auto rings = bench.count(block.solid).rings;
+    takes("a slot, and to move 25 rings,", 75, [&] { (void)slot(bench, block.top, {104, 0, 20}, {104, 100, 20}, 4, 12); });
+    check(bench.count(block.solid).rings == rings + 1, "rings of a face that is cut into parts move");
+    takes("a groove", 50, [&] { (void)groove(bench, block.top, {2, 58, 20}, {102, 58, 20}, 4, 3); });
+    takes("a notch into a pocket", 60, [&] { (void)notch(bench, block.top, {{52, 0, 20}, {54, 0, 20}, {54, 4, 20}, {52, 4, 20}}, 3); });
+    draft.commit();
+    bench.undo();
+    check(bench.count(block.solid).rings == 50, "all of it is one command");
+}
+
 // As far out as points lie: what doesn't fit would be seen by sanitizers.
 static void try_far()
 {
@@ -563,9 +819,13 @@ int main(int count, char **words)
         try_table(count > 1 ? 150 / times + 1 : 1);
         try_cubes(times);
         try_what_comes_back();
+        try_cuts();
         try_refusals();
         try_drafts();
+        try_drills();
+        try_queries();
         try_what_is_known();
+        try_among_pockets();
         try_far();
     } catch (const std::exception &error) {
         std::cout << error.what() << '\n';

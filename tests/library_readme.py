@@ -1,5 +1,5 @@
 #!/usr/bin/env python3
-"""Compiles and runs the programs of bindings/README.md in C, C++ and Rust: the indented blocks that begin with a file's name in a comment.
+"""Compiles and runs the programs of bindings/README.md in C, C++ and Rust: the blocks that begin with a file's name in a comment.
 
     tests/library_readme.py LIBRARY         LIBRARY is a libgwb.a
 
@@ -22,9 +22,9 @@ WARNINGS = ['-Wall', '-Wextra', '-Werror', INCLUDE]
 
 def programs(page: str) -> Dict[str, str]:
     """The programs of a page by their names."""
-    blocks = [re.sub('^    ', '', block, flags=re.MULTILINE) for block in re.findall(r'(?:(?:    .*|)\n)+', page)]
-    named = [(re.match(r'\n*(?:/\*|//) ([\w/]+\.(?:c|cpp|rs))\b.*\n', block), block) for block in blocks]
-    return {Path(name.group(1)).name: re.split(r'\n(?:cc|c\+\+) -std', block)[0] + '\n' for name, block in named if name}
+    blocks = re.findall(r'^```\w+\n(.*?)^```$', page, re.MULTILINE | re.DOTALL)
+    named = [(re.match(r'(?:/\*|//) ([\w/]+\.(?:c|cpp|rs))\b.*\n', block), block) for block in blocks]
+    return {Path(name.group(1)).name: block for name, block in named if name}
 
 
 def compiler(source: Path, library: Path) -> List[str]:

@@ -1,5 +1,5 @@
-/// @file assembly.hpp A closed surface of regions, known by the points of their sides, put together as the model of a solid, for
-/// shaping.hpp. What was there before keeps its numbers, as far as it still is.
+/// @file assembly.hpp A closed surface of regions, known by the points of their sides, put together as the model of a solid. What was there before
+/// keeps its numbers, as far as it still is.
 #ifndef GWB_FEATURES_ASSEMBLY_HPP
 #define GWB_FEATURES_ASSEMBLY_HPP
 #include "sheets.hpp"
@@ -9,11 +9,10 @@ namespace gwb_session::sheets {
 
 // ---- the solid that is held
 
-/// A face as it is read: its cycles, the outline first, which is empty where the outer loop is one vertex, and its lone rings.
+/// A face as it is read: its cycles, the outline first.
 struct HeldFace {
     Face face;
     std::vector<Cycle> cycles;
-    std::vector<LoneRing> lone;
 
     [[nodiscard]] Box box() const
     {
@@ -24,72 +23,7 @@ struct HeldFace {
     }
 };
 
-/// A solid as it is read: its faces, and numbers by places.
-class Held {
-public:
-    struct Row {
-        Vertex start;
-        Loop loop;
-        Vector at;
-    };
-
-    Held(const Attempts &bench, Solid number) : solid(number)
-    {
-        for (const gwb_half_edge_row &row : bench.half_edge_rows(solid)) {
-            go_on();
-            const Vertex start(row.start);
-            const Row read{start, Loop(row.loop), vector(*bench.vertex(start))};
-            rows.emplace(row.half_edge, read);
-            vertices_at_[read.at].insert(start);
-            degrees_[start]++;
-        }
-        for (Face face : bench.faces(solid)) {
-            go_on();
-            HeldFace &made = faces.emplace_back(HeldFace{face, {}, {}});
-            for (Loop loop : bench.loops_of(face))
-                put(bench, loop, made);
-        }
-    }
-
-    [[nodiscard]] const Vector &at(HalfEdge half_edge) const { return rows.at(half_edge.code()).at; }
-    /// Whether the side is all of a half-edge.
-    [[nodiscard]] bool is_whole(const Side &side) const { return side.is_old() && at(side.half) == side.start && at(side.half.twin()) == side.end; }
-    [[nodiscard]] std::set<Vertex> vertices_at(const Vector &point) const
-    {
-        const auto found = vertices_at_.find(point);
-        return found != vertices_at_.end() ? found->second : std::set<Vertex>();
-    }
-    /// Whether a vertex with two edges is at the point: one that somebody wanted there.
-    [[nodiscard]] bool has_bend(const Vector &point) const
-    {
-        const std::set<Vertex> found = vertices_at(point);
-        return std::any_of(found.begin(), found.end(), [&](Vertex vertex) { return degrees_.at(vertex) == 2; });
-    }
-
-    Solid solid;
-    std::unordered_map<std::uint32_t, Row> rows; ///< by the codes of half-edges
-    std::vector<HeldFace> faces;
-
-private:
-    void put(const Attempts &bench, Loop loop, HeldFace &face) const
-    {
-        const std::optional<Vertex> vertex = *bench.lone_vertex(loop);
-        if (vertex && !face.cycles.empty()) {
-            face.lone.push_back({loop, *vertex, vector(*bench.vertex(*vertex))});
-            return;
-        }
-        Cycle &cycle = face.cycles.emplace_back();
-        for (HalfEdge half_edge : bench.around(loop))
-            cycle.push_back({at(half_edge), at(half_edge.twin()), half_edge});
-    }
-
-    std::map<Vector, std::set<Vertex>> vertices_at_;
-    std::unordered_map<Vertex, int> degrees_;
-};
-
-// ---- a closed surface of regions
-
-/// A solid as a model of its own.
+/// Faces of a solid as a model of their own.
 struct Model {
     Solid solid;
     std::map<Face, std::vector<Loop>> faces; ///< their loops, the outer one first
@@ -97,24 +31,66 @@ struct Model {
     std::map<Loop, Vertex> lone;
     std::map<Edge, std::pair<Vertex, Vertex>> edges;
     std::map<Vertex, Vector> vertices;
-    std::vector<Face> of_regions; ///< the face that each region is in it
 
     /// A face with its loops as cycles.
     [[nodiscard]] HeldFace held(Face face) const
     {
-        HeldFace found{face, {}, {}};
-        for (Loop loop : faces.at(face))
-            if (const auto halves = loops.find(loop); halves != loops.end()) {
-                Cycle &cycle = found.cycles.emplace_back();
+        HeldFace found{face, {}};
+        for (Loop loop : faces.at(face)) {
+            Cycle &cycle = found.cycles.emplace_back();
+            if (const auto halves = loops.find(loop); halves != loops.end())
                 for (HalfEdge half : halves->second)
-                    cycle.push_back({vertices.at(start(half)), vertices.at(start(half.twin())), half});
-            }
+                    cycle.push_back({at(half), at(half.twin()), half});
+        }
         return found;
     }
     [[nodiscard]] Vertex start(HalfEdge half) const
     {
         const auto &ends = edges.at(half.edge());
         return half.is_second() ? ends.second : ends.first;
+    }
+    [[nodiscard]] const Vector &at(HalfEdge half) const { return vertices.at(start(half)); }
+
+    /// Takes in a loop of a workbench.
+    void read(const Attempts &bench, Face face, Loop loop)
+    {
+        go_on();
+        faces[face].push_back(loop);
+        if (const std::optional<Vertex> vertex = *bench.lone_vertex(loop)) {
+            lone[loop] = *vertex;
+            vertices[*vertex] = vector(*bench.vertex(*vertex));
+            return;
+        }
+        for (HalfEdge half : loops[loop] = bench.half_edges(loop)) {
+            const auto [from, to] = *bench.edge(half.edge());
+            edges[half.edge()] = {from, to};
+            for (Vertex vertex : {from, to})
+                vertices.try_emplace(vertex, vector(*bench.vertex(vertex)));
+        }
+    }
+    /// All of a solid.
+    static Model whole(const Attempts &bench, Solid solid)
+    {
+        Model found{solid, {}, {}, {}, {}, {}};
+        for (Face face : bench.faces(solid))
+            for (Loop loop : bench.loops_of(face))
+                found.read(bench, face, loop);
+        return found;
+    }
+    /// What this one is where a part of it has become another one.
+    [[nodiscard]] Model with(const Model &part, const Model &made) const
+    {
+        Model found = *this;
+        const auto replace = [](auto &all, const auto &gone, const auto &come) {
+            for (const auto &[number, row] : gone)
+                all.erase(number);
+            all.insert(come.begin(), come.end());
+        };
+        replace(found.faces, part.faces, made.faces);
+        replace(found.loops, part.loops, made.loops);
+        replace(found.edges, part.edges, made.edges);
+        replace(found.vertices, part.vertices, made.vertices);
+        return found;
     }
     [[nodiscard]] std::string listing() const
     {
@@ -146,8 +122,8 @@ private:
     {
         std::string text;
         for (const auto &[edge, ends] : edges)
-            text += "edge " + std::to_string(edge.number()) + " " + std::to_string(ends.first.number()) + " " +
-                    std::to_string(ends.second.number()) + "\n";
+            text += "edge " + std::to_string(edge.number()) + " " + std::to_string(ends.first.number()) + " " + std::to_string(ends.second.number()) +
+                    "\n";
         for (const auto &[vertex, at] : vertices) {
             const Point place = point(at);
             text += "vertex " + std::to_string(vertex.number()) + " " + std::to_string(place.x) + " " + std::to_string(place.y) + " " +
@@ -156,6 +132,83 @@ private:
         return text;
     }
 };
+
+/// Faces of a solid, what of them was there by places, and the rest of the solid as a region that lies at their open edges.
+class Held {
+public:
+    struct Row {
+        Vertex start;
+        Loop loop; ///< none of a half-edge of the rest
+        Vector at;
+    };
+
+    Held(const Attempts &bench, Model parts) : model(std::move(parts))
+    {
+        for (const auto &[loop, halves] : model.loops)
+            for (HalfEdge half : halves)
+                rows.emplace(half.code(), Row{model.start(half), loop, model.at(half)});
+        put_rest(bench);
+        for (const auto &[code, row] : rows)
+            if (vertices_at_[row.at].insert(row.start).second && is_fixed(bench, HalfEdge(code)))
+                fixed_.insert(row.at);
+    }
+
+    [[nodiscard]] const Vector &at(HalfEdge half_edge) const { return rows.at(half_edge.code()).at; }
+    /// Whether the side is all of a half-edge.
+    [[nodiscard]] bool is_whole(const Side &side) const { return side.is_old() && at(side.half) == side.start && at(side.half.twin()) == side.end; }
+    [[nodiscard]] std::set<Vertex> vertices_at(const Vector &point) const
+    {
+        const auto found = vertices_at_.find(point);
+        return found != vertices_at_.end() ? found->second : std::set<Vertex>();
+    }
+    /// Whether a vertex at the point stays: it has two edges, so that somebody wanted it there, or one that is of the rest alone.
+    [[nodiscard]] bool is_fixed(const Vector &point) const { return fixed_.count(point) != 0; }
+
+    Model model;
+    std::unordered_map<std::uint32_t, Row> rows; ///< by the codes of half-edges
+    std::vector<Cycle> rest;                     ///< the half-edges of the rest at the open edges, in cycles
+
+private:
+    [[nodiscard]] bool is_held(HalfEdge half) const { return rows.count(half.code()) != 0; }
+
+    /// Each half-edge of the rest leads to the next one round the vertex at its end, where edges of the rest alone are missing.
+    void put_rest(const Attempts &bench)
+    {
+        std::set<HalfEdge> left;
+        for (const auto &[code, row] : rows)
+            if (!is_held(HalfEdge(code).twin()))
+                left.insert(HalfEdge(code).twin());
+        while (!left.empty()) {
+            Cycle &cycle = rest.emplace_back();
+            for (HalfEdge half = *left.begin(); left.erase(half) != 0;) {
+                go_on();
+                cycle.push_back({model.at(half), model.at(half.twin()), half});
+                half = *bench.next(half);
+                while (!is_held(half.twin()))
+                    half = *bench.next(half.twin());
+            }
+        }
+        for (const Cycle &cycle : rest)
+            for (const Side &side : cycle)
+                rows.emplace(side.half.code(), Row{model.start(side.half), Loop(), side.start});
+    }
+
+    [[nodiscard]] bool is_fixed(const Attempts &bench, HalfEdge half) const
+    {
+        std::size_t edges = 0;
+        bool is_of_rest = false;
+        for (HalfEdge other : bench.around(half)) {
+            edges++;
+            is_of_rest = is_of_rest || (!is_held(other) && !is_held(other.twin()));
+        }
+        return edges == 2 || is_of_rest;
+    }
+
+    std::map<Vector, std::set<Vertex>> vertices_at_;
+    std::set<Vector> fixed_;
+};
+
+// ---- a closed surface of regions
 
 /// Numbers for things of a kind: old ones while they are free, else new ones.
 template <class Kind> class Names {
@@ -166,20 +219,37 @@ public:
         for (Kind number : wanted)
             if (number != Kind() && used_.insert(number).second)
                 return number;
-        return Kind(next_++);
+        return spare();
     }
+    /// A new one.
+    Kind spare() { return Kind(next_++); }
 
 private:
     std::uint32_t next_;
     std::set<Kind> used_;
 };
 
+/// Numbers for the things of a surface, and spare ones.
+struct AllNames {
+    explicit AllNames(const Attempts &bench) : faces(bench), loops(bench), edges(bench), vertices(bench) {}
+
+    Names<Face> faces;
+    Names<Loop> loops;
+    Names<Edge> edges;
+    Names<Vertex> vertices;
+};
+
+/// The model of a surface, and the face that each of its regions is.
+struct Made {
+    Model model;
+    std::vector<Face> of_regions;
+};
+
 /// A closed surface of regions put together: sides by places, what follows each in its loop, and the mate of each. What was there before keeps
 /// its numbers, as far as it still is.
 class Assembly {
 public:
-    Assembly(const Attempts &bench, const Held &held, const std::vector<Region> &regions)
-        : held_(held), regions_(regions), faces_(bench), loops_(bench), edges_(bench), vertices_(bench)
+    Assembly(const Held &held, const std::vector<Region> &regions, AllNames &names) : held_(held), regions_(regions), names_(names)
     {
         for (std::size_t region = 0; region < regions.size(); region++) {
             go_on();
@@ -187,19 +257,21 @@ public:
             for (const Cycle &cycle : regions[region].cycles)
                 starts_.back().push_back(put(cycle, region));
         }
+        for (const Cycle &cycle : held.rest)
+            put(cycle, regions.size());
     }
 
-    /// The model; none where the surface isn't closed, or faces lie back to back at an edge.
-    std::optional<Model> model()
+    /// The model of a solid, without the rest; none where the surface isn't closed, or faces lie back to back at an edge.
+    std::optional<Made> made(Solid solid)
     {
         pair_whole();
         if (!pair_along_lines())
             return std::nullopt;
         straighten();
-        Model made;
-        made.solid = held_.solid;
-        name_vertices(made);
-        name_edges(made);
+        Made made;
+        made.model.solid = solid;
+        name_vertices(made.model);
+        name_edges(made.model);
         for (std::size_t region = 0; region < regions_.size(); region++)
             name_face(made, region);
         return made;
@@ -240,6 +312,8 @@ private:
         std::map<std::pair<Vector, Vector>, std::vector<std::size_t>> lines;
         for (std::size_t at = 0; at < sides_.size(); at++)
             if (sides_[at].mate == none) {
+                if (sides_[at].region == regions_.size()) // the rest's are whole, and so are their mates
+                    return false;
                 const Vector along = reduced(sides_[at].side.way()), way = std::max(along, negative(along));
                 lines[{way, cross(sides_[at].side.start, way)}].push_back(at);
             }
@@ -349,7 +423,7 @@ private:
     [[nodiscard]] bool divides(std::size_t at) const
     {
         const std::size_t onward = sides_[sides_[at].mate].after;
-        if (onward == at || sides_[sides_[onward].mate].after != at || held_.has_bend(sides_[at].side.start))
+        if (onward == at || sides_[sides_[onward].mate].after != at || held_.is_fixed(sides_[at].side.start))
             return false;
         const Vector one = sides_[at].side.way(), other = sides_[onward].side.way();
         return are_parallel(one, other) && dot(one, other) < 0;
@@ -384,7 +458,7 @@ private:
                 std::vector<Vertex> wanted;
                 std::set_intersection(tails.begin(), tails.end(), old.begin(), old.end(), std::back_inserter(wanted));
                 wanted.insert(wanted.end(), old.begin(), old.end());
-                const Vertex vertex = vertices_.one(wanted);
+                const Vertex vertex = names_.vertices.one(wanted);
                 made.vertices[vertex] = sides_[at].side.start;
                 for (std::size_t side : fan)
                     start_[side] = vertex;
@@ -407,7 +481,7 @@ private:
         const std::vector<HalfEdge> halves = old_halves(at);
         std::vector<Edge> wanted;
         std::transform(halves.begin(), halves.end(), std::back_inserter(wanted), [](HalfEdge half) { return half.edge(); });
-        const Edge edge = edges_.one(wanted);
+        const Edge edge = names_.edges.one(wanted);
         const auto old = std::find_if(halves.begin(), halves.end(), [&](HalfEdge half) { return half.edge() == edge; });
         const bool is_second = old != halves.end() ? old->is_second() : start_[mate] < start_[at];
         half_[at] = is_second ? minus(edge) : plus(edge);
@@ -435,7 +509,7 @@ private:
         return halves;
     }
 
-    void name_face(Model &made, std::size_t region)
+    void name_face(Made &made, std::size_t region)
     {
         std::vector<Loop> row;
         for (std::size_t start : starts_[region]) {
@@ -451,25 +525,17 @@ private:
                 at = sides_[at].after;
             } while (at != start);
             std::rotate(halves.begin(), std::min_element(halves.begin(), halves.end()), halves.end());
-            row.push_back(loops_.one(wanted));
-            made.loops[row.back()] = halves;
-        }
-        for (const LoneRing &ring : regions_[region].lone) {
-            row.push_back(ring.loop);
-            made.lone[ring.loop] = ring.vertex;
-            made.vertices[ring.vertex] = ring.at;
+            row.push_back(names_.loops.one(wanted));
+            made.model.loops[row.back()] = halves;
         }
         std::sort(row.begin() + 1, row.end());
-        made.of_regions.push_back(faces_.one(regions_[region].owners));
-        made.faces[made.of_regions.back()] = row;
+        made.of_regions.push_back(names_.faces.one(regions_[region].owners));
+        made.model.faces[made.of_regions.back()] = row;
     }
 
     const Held &held_;
     const std::vector<Region> &regions_;
-    Names<Face> faces_;
-    Names<Loop> loops_;
-    Names<Edge> edges_;
-    Names<Vertex> vertices_;
+    AllNames &names_;
     std::vector<Placed> sides_;
     std::vector<std::vector<std::size_t>> starts_;
     std::vector<Vertex> start_;

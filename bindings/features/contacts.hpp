@@ -1,4 +1,4 @@
-/// @file contacts.hpp Whether faces near a place meet, touch or pass through each other, for shaping.hpp.
+/// @file contacts.hpp Whether faces near a place meet, touch or pass through each other.
 #ifndef GWB_FEATURES_CONTACTS_HPP
 #define GWB_FEATURES_CONTACTS_HPP
 #include "assembly.hpp"
@@ -13,6 +13,7 @@ struct ScaledPoint {
     Wide scale = 1;
 
     [[nodiscard]] Spot spot(Axes axes) const { return {at[axes[0]], at[axes[1]], scale}; }
+    [[nodiscard]] bool lies_in(const Box &box) const { return Box{times(box.low, scale), times(box.high, scale)}.meets(Box{at, at}); }
     /// Between this one and another.
     [[nodiscard]] ScaledPoint between(const ScaledPoint &other) const { return {add(at, other.at), scale + other.scale}; }
 };
@@ -23,10 +24,14 @@ public:
     explicit Shape(const std::vector<Cycle> &cycles, const Vector &normal)
         : across_(normal), axes_(flat_axes(normal))
     {
-        for (const Cycle &cycle : cycles)
+        for (const Cycle &cycle : cycles) {
             sides_.insert(sides_.end(), cycle.begin(), cycle.end());
-        for (const Side &side : sides_)
-            points_.push_back(side.start);
+            Path points;
+            for (const Side &side : cycle)
+                points.push_back(side.start);
+            loops_.emplace_back(Box::around(points), outline(cycle, axes_));
+            points_.insert(points_.end(), points.begin(), points.end());
+        }
         outline_ = outline(sides_, axes_);
     }
 
@@ -39,8 +44,18 @@ public:
     }
     /// Positive before the plane, negative behind it: times the point's scale.
     [[nodiscard]] Wide height(const ScaledPoint &point) const { return dot(across_, subtract(point.at, times(points_[0], point.scale))); }
-    /// Where a point of the plane lies.
-    [[nodiscard]] Place locate(const ScaledPoint &point) const { return exact::locate(outline_, point.spot(axes_)); }
+    /// Where a point of the plane lies: within an odd number of loops, of which those with a box around it count.
+    [[nodiscard]] Place locate(const ScaledPoint &point) const
+    {
+        bool is_within = false;
+        for (const auto &[box, loop] : loops_) {
+            const Place place = point.lies_in(box) ? exact::locate(loop, point.spot(axes_)) : Place::outside;
+            if (place == Place::on)
+                return place;
+            is_within = is_within != (place == Place::inside);
+        }
+        return is_within ? Place::inside : Place::outside;
+    }
 
     /// Where the segment meets the plane on whose two sides its ends lie.
     [[nodiscard]] ScaledPoint met_by(const Vector &start, const Vector &end) const
@@ -173,6 +188,7 @@ private:
     std::vector<Side> sides_;
     Path points_;
     Outline outline_;
+    std::vector<std::pair<Box, Outline>> loops_;
 };
 
 /// Whether a point lies in the room that walls bound, and on none of them: by the parity of crossings of a ray that meets no edge. Of the rays
@@ -198,14 +214,16 @@ inline bool is_bound(const std::vector<Shape> &walls, const ScaledPoint &point)
 inline bool comes_into(const std::vector<Shape> &held, const std::vector<Shape> &walls)
 {
     Box around = walls[0].box();
-    for (const Shape &wall : walls)
-        for (const Vector &at : wall.points())
-            around.take(at);
+    BoxIndex boxes;
+    for (std::size_t at = 0; at < walls.size(); at++) {
+        boxes.put(walls[at].box(), at);
+        for (const Vector &point : walls[at].points())
+            around.take(point);
+    }
     for (const Shape &shape : held) {
         go_on();
-        if (!shape.box().meets(around))
-            continue;
-        if (std::any_of(walls.begin(), walls.end(), [&](const Shape &wall) { return wall.box().meets(shape.box()) && wall.passes_through(shape); }))
+        const std::vector<std::size_t> near = boxes.meeting(shape.box());
+        if (std::any_of(near.begin(), near.end(), [&](std::size_t at) { return walls[at].passes_through(shape); }))
             return true;
         const Path &points = shape.points();
         const bool is_within = std::all_of(points.begin(), points.end(), [&](const Vector &at) { return Box{at, at}.meets(around); });
@@ -229,6 +247,12 @@ public:
     {
         for (const HeldFace &face : faces)
             take(face, box, start);
+        for (const auto &[edge, row] : edges_)
+            edge_boxes_.put(row.box(), edge.number());
+        for (const auto &[vertex, row] : vertices_)
+            vertex_boxes_.put({row.at, row.at}, vertex.number());
+        for (std::size_t at = 0; at < faces_.size(); at++)
+            face_boxes_.put(faces_[at].box, at);
         compare_vertices();
         compare_edges();
         for (const NearFace &face : faces_) {
@@ -306,14 +330,14 @@ private:
 
     void compare_edges()
     {
-        for (auto one = edges_.begin(); one != edges_.end(); ++one) {
+        for (const auto &[edge, row] : edges_) {
             go_on();
-            for (auto other = std::next(one); other != edges_.end(); ++other)
-                if (one->second.box().meets(other->second.box()))
-                    compare_edges(one->first, one->second, other->first, other->second);
-            for (const auto &[vertex, row] : vertices_)
-                if (lies_between(one->second, row.at))
-                    find(Kind::vertex_on_edge, vertex, one->first);
+            for (Edge other : near<Edge>(edge_boxes_, row.box()))
+                if (edge < other)
+                    compare_edges(edge, row, other, edges_.at(other));
+            for (Vertex vertex : near<Vertex>(vertex_boxes_, row.box()))
+                if (lies_between(row, vertices_.at(vertex).at))
+                    find(Kind::vertex_on_edge, vertex, edge);
         }
     }
     void compare_edges(Edge one, const NearEdge &first, Edge other, const NearEdge &second)
@@ -336,15 +360,17 @@ private:
 
     void compare_with_vertices(const NearFace &face)
     {
-        for (const auto &[vertex, row] : vertices_)
-            if (row.faces.count(face.face) == 0 && face.box.meets(Box{row.at, row.at}) && face.shape.height({row.at}) == 0 &&
-                face.shape.locate({row.at}) == Place::inside)
+        for (Vertex vertex : near<Vertex>(vertex_boxes_, face.box)) {
+            const NearVertex &row = vertices_.at(vertex);
+            if (row.faces.count(face.face) == 0 && face.shape.height({row.at}) == 0 && face.shape.locate({row.at}) == Place::inside)
                 find(Kind::vertex_on_face, vertex, face.face);
+        }
     }
     void compare_with_edges(const NearFace &face)
     {
-        for (const auto &[edge, row] : edges_) {
-            if (row.faces.count(face.face) != 0 || !face.box.meets(row.box()))
+        for (Edge edge : near<Edge>(edge_boxes_, face.box)) {
+            const NearEdge &row = edges_.at(edge);
+            if (row.faces.count(face.face) != 0)
                 continue;
             const int before = sign(face.shape.height({row.start})), after = sign(face.shape.height({row.end}));
             if (before * after < 0 && face.shape.locate(face.shape.met_by(row.start, row.end)) == Place::inside)
@@ -357,17 +383,33 @@ private:
     /// Faces of one plane where one has a point within the other; edges that cross or run along faces are found by then.
     void compare_faces()
     {
-        for (const NearFace &one : faces_)
-            for (const NearFace &other : faces_)
-                if (one.face != other.face && one.box.meets(other.box) && are_parallel(one.shape.across(), other.shape.across()) &&
-                    one.shape.height({other.shape.points()[0]}) == 0)
-                    if (const auto inner = one.shape.inner_point(); inner && other.shape.locate(*inner) == Place::inside)
-                        find(Kind::faces_overlap, std::min(one.face, other.face), std::max(one.face, other.face));
+        for (const NearFace &one : faces_) {
+            go_on();
+            std::vector<const NearFace *> beside;
+            for (std::size_t at : face_boxes_.meeting(one.box))
+                if (const NearFace &other = faces_[at]; one.face != other.face && are_parallel(one.shape.across(), other.shape.across()) &&
+                                                        one.shape.height({other.shape.points()[0]}) == 0)
+                    beside.push_back(&other);
+            const std::optional<ScaledPoint> inner = beside.empty() ? std::nullopt : one.shape.inner_point();
+            for (const NearFace *other : beside)
+                if (inner && other->shape.locate(*inner) == Place::inside)
+                    find(Kind::faces_overlap, std::min(one.face, other->face), std::max(one.face, other->face));
+        }
+    }
+
+    /// The numbers whose boxes meet a box.
+    template <class Of> static std::vector<Of> near(const BoxIndex &boxes, const Box &box)
+    {
+        std::vector<Of> found;
+        for (std::size_t number : boxes.meeting(box))
+            found.emplace_back(static_cast<std::uint32_t>(number));
+        return found;
     }
 
     std::vector<NearFace> faces_;
     std::map<Edge, NearEdge> edges_;
     std::map<Vertex, NearVertex> vertices_;
+    BoxIndex edge_boxes_, vertex_boxes_, face_boxes_;
     std::set<Finding> found_;
 };
 

@@ -160,6 +160,16 @@ public:
         grids_[size][cell(box.low, size)].push_back({box, number});
     }
 
+    /// A number that was put with this box goes.
+    void take_away(const Box &box, std::size_t number)
+    {
+        for (auto &[size, grid] : grids_)
+            if (const auto found = grid.find(cell(box.low, size)); found != grid.end()) {
+                auto &held = found->second;
+                held.erase(std::remove_if(held.begin(), held.end(), [&](const Entry &entry) { return entry.number == number; }), held.end());
+            }
+    }
+
     /// The numbers of the boxes that meet one, rising.
     [[nodiscard]] std::vector<std::size_t> meeting(const Box &box) const
     {

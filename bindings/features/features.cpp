@@ -2,10 +2,14 @@
 #pragma GCC visibility push(default)
 #include "gwb_features.h"
 #pragma GCC visibility pop
+#include "cuts.hpp"
+#include "drilling.hpp"
 #include "gluing.hpp"
 #include "off_lattice.hpp"
+#include "selection.hpp"
 #include "shaping.hpp"
 #include "stopping.hpp"
+#include "uniting.hpp"
 
 extern "C" {
 void gwb_forget_features(struct beside *of); // for calls.c
@@ -210,17 +214,31 @@ template <class Make> gwb_kind cut(gwb *g, gwb_refusal *why, Make make)
         [](bool) {});
 }
 
-/// The faces of a solid above a number that lie in a plane.
-void put_caps(const Attempts &bench, Solid solid, Face above, const gwb_cut_plane &plane, std::vector<std::uint32_t> &caps)
+/// A split, cut or trim, whose caps are kept.
+template <class Make> gwb_kind parted(gwb *g, gwb_refusal *why, Make make)
 {
-    const auto is_on = [&](const exact::Vector &at) { return plane.a * at[0] + plane.b * at[1] + plane.c * at[2] + plane.d == 0; };
-    for (Face face : bench.faces(solid)) {
-        if (face <= above)
-            continue;
-        const std::vector<machining::Path> loops = machining::loops_at(bench, face);
-        if (std::all_of(loops.begin(), loops.end(), [&](const machining::Path &loop) { return std::all_of(loop.begin(), loop.end(), is_on); }))
-            caps.push_back(face.number());
-    }
+    return made(
+        g, why,
+        [&](Attempts &bench, Together &, Known &known) -> Result<bool> {
+            const Result<cuts::Caps> caps = make(bench);
+            if (!caps)
+                return caps.error();
+            for (Face face : caps->lower)
+                known.lists[GWB_MADE_LOWER_CAPS].push_back(face.number());
+            for (Face face : caps->upper)
+                known.lists[GWB_MADE_UPPER_CAPS].push_back(face.number());
+            return true;
+        },
+        [](bool) {});
+}
+
+/// Whether each number stands once.
+bool are_different(const std::uint32_t *numbers, std::size_t n)
+{
+    for (std::size_t at = 0; at < n; at++)
+        if (std::find(numbers, numbers + at, numbers[at]) != numbers + at)
+            return false;
+    return true;
 }
 
 gwb_wide wide(exact::Wide number) { return {static_cast<std::int64_t>(number >> 64), static_cast<std::uint64_t>(number)}; }
@@ -230,6 +248,22 @@ template <class Row, class Items, class Of> std::size_t rows(const Items &items,
     for (std::size_t at = 0; at < items.size() && at < room; at++)
         to[at] = of(items[at]);
     return items.size();
+}
+
+/// Writes what a query finds.
+template <class Query, class Find>
+gwb_kind sought(const gwb *g, const Query &query, Find find, std::uint32_t *buf, std::size_t room, std::size_t *count, gwb_refusal *why)
+{
+    return guarded(g, [&] {
+        const Lent session(g);
+        if (!selection::is_query(query))
+            return GWB_NO_CALL;
+        const auto found = find(session.bench(), query);
+        if (!found)
+            return told(found.error(), why);
+        *count = rows(*found, buf, room, [](auto number) { return number.number(); });
+        return GWB_OK;
+    });
 }
 
 } // namespace
@@ -288,7 +322,10 @@ gwb_kind gwb_pattern(gwb *g, std::uint32_t solid, std::uint32_t count, const gwb
     if (count == 0)
         return gwb_is_open(g) ? GWB_NO_CALL : GWB_CLOSED;
     return made(
-        g, why, [&](Attempts &bench, Together &commands, Known &) { return patterned(bench, commands, Solid(solid), count, *step); },
+        g, why,
+        [&](Attempts &bench, Together &commands, Known &known) {
+            return patterned(bench, commands, Solid(solid), count, *step, known.lists);
+        },
         [&](const std::vector<Solid> &row) { write(row, solids); });
 }
 
@@ -303,14 +340,22 @@ gwb_kind gwb_scale(gwb *g, std::int64_t factor, gwb_refusal *why)
         [](bool) {});
 }
 
+gwb_kind gwb_renumber(gwb *g, gwb_refusal *why)
+{
+    return made(
+        g, why,
+        [&](Attempts &bench, Together &, Known &known) -> Result<bool> {
+            const Result<void> done = renumbered(bench, known.lists);
+            return done ? Result<bool>(true) : Result<bool>(done.error());
+        },
+        [](bool) {});
+}
+
 gwb_kind gwb_glue_all(gwb *g, const std::uint32_t *solids, std::size_t n, gwb_refusal *why)
 {
     if (!gwb_is_open(g))
         return GWB_CLOSED;
-    for (std::size_t at = 0; at < n; at++)
-        if (std::find(solids, solids + at, solids[at]) != solids + at)
-            return GWB_NO_CALL;
-    if (n == 0)
+    if (n == 0 || !are_different(solids, n))
         return GWB_NO_CALL;
     return made(
         g, why,
@@ -324,15 +369,32 @@ gwb_kind gwb_glue_all(gwb *g, const std::uint32_t *solids, std::size_t n, gwb_re
 
 gwb_kind gwb_split_solid(gwb *g, std::uint32_t solid, const gwb_cut_plane *plane, std::uint32_t above, gwb_refusal *why)
 {
+    return parted(g, why, [&](Attempts &bench) { return cuts::split(bench, Solid(solid), {*plane}, Solid(above)); });
+}
+
+gwb_kind gwb_cut(gwb *g, std::uint32_t solid, const gwb_cut_plane *plane, std::uint32_t above, gwb_refusal *why)
+{
+    return parted(g, why, [&](Attempts &bench) { return cuts::cut(bench, Solid(solid), {*plane}, Solid(above), true); });
+}
+
+gwb_kind gwb_trim(gwb *g, std::uint32_t solid, const gwb_cut_plane *plane, gwb_refusal *why)
+{
+    return parted(g, why, [&](Attempts &bench) { return cuts::cut(bench, Solid(solid), {*plane}, *bench.next_free<Solid>(), false); });
+}
+
+gwb_kind gwb_union(gwb *g, const std::uint32_t *solids, std::size_t n, gwb_refusal *why)
+{
+    if (!gwb_is_open(g))
+        return GWB_CLOSED;
+    if (n < 2 || !are_different(solids, n))
+        return GWB_NO_CALL;
     return made(
         g, why,
         [&](Attempts &bench, Together &, Known &known) -> Result<bool> {
-            const Face before = *bench.greatest<Face>();
-            const Result<void> done = bench.split(Solid(solid), plane->a, plane->b, plane->c, plane->d, Solid(above));
-            if (!done)
-                return done.error();
-            put_caps(bench, Solid(solid), before, *plane, known.lists[GWB_MADE_LOWER_CAPS]);
-            put_caps(bench, Solid(above), before, *plane, known.lists[GWB_MADE_UPPER_CAPS]);
+            const Result<uniting::Became> became = uniting::unite(bench, solids_of(solids, n));
+            if (!became)
+                return became.error();
+            became->tell(known.lists[GWB_MADE_INTO]);
             return true;
         },
         [](bool) {});
@@ -383,6 +445,28 @@ gwb_kind gwb_hole(gwb *g, std::uint32_t face, const gwb_point *points, std::size
             *out = {made.other.number(), made.loop.number()};
             write(made.sides, sides);
         });
+}
+
+gwb_kind gwb_drill(gwb *g, std::uint32_t face, const gwb_point *center, std::int64_t radius, std::uint32_t n, std::int64_t depth,
+                   gwb_outline_made *out, std::uint32_t *sides, gwb_point *points, gwb_refusal *why)
+{
+    return made(
+        g, why, [&](Attempts &bench, Together &, Known &) { return drilling::drill(bench, Face(face), *center, radius, n, depth); },
+        [&](const drilling::Drilled &made) {
+            *out = {made.hole.other.number(), made.hole.loop.number()};
+            write(made.hole.sides, sides);
+            std::copy(made.points.begin(), made.points.end(), points);
+        });
+}
+
+gwb_kind gwb_find_faces(const gwb *g, const gwb_face_query *query, std::uint32_t *buf, std::size_t room, std::size_t *found, gwb_refusal *why)
+{
+    return sought(g, *query, selection::faces, buf, room, found, why);
+}
+
+gwb_kind gwb_find_edges(const gwb *g, const gwb_edge_query *query, std::uint32_t *buf, std::size_t room, std::size_t *found, gwb_refusal *why)
+{
+    return sought(g, *query, selection::edges, buf, room, found, why);
 }
 
 gwb_kind gwb_notch(gwb *g, std::uint32_t face, const gwb_point *points, std::size_t n, std::int64_t depth, gwb_refusal *why)

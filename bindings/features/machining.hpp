@@ -147,19 +147,26 @@ inline std::optional<Vector> steps_along(const Vector &across, std::int64_t leng
 
 // ---- faces
 
-/// The points of the loops of a face. A lone loop has one.
-inline std::vector<Path> loops_at(const Attempts &bench, Face face)
+/// The points of the loops of a face, and where they are wanted the loops. A lone loop has one.
+inline std::vector<Path> loops_at(const Attempts &bench, Face face, std::vector<Loop> *numbers = nullptr)
 {
     std::vector<Path> loops;
     std::uint32_t last = 0;
+    const auto begin = [&](Loop loop) {
+        loops.emplace_back();
+        if (numbers != nullptr)
+            numbers->push_back(loop);
+    };
     for (const gwb_half_edge_row &row : bench.half_edge_rows(face)) {
         if (std::exchange(last, row.loop) != row.loop)
-            loops.emplace_back();
+            begin(Loop(row.loop));
         loops.back().push_back(vector(*bench.vertex(Vertex(row.start))));
     }
     for (Loop loop : bench.loops_of(face))
-        if (const std::optional<Vertex> vertex = *bench.lone_vertex(loop))
-            loops.push_back({vector(*bench.vertex(*vertex))});
+        if (const std::optional<Vertex> vertex = *bench.lone_vertex(loop)) {
+            begin(loop);
+            loops.back().push_back(vector(*bench.vertex(*vertex)));
+        }
     return loops;
 }
 
@@ -197,15 +204,6 @@ private:
 
     Vector across_, origin_;
 };
-
-/// The plane of a face. Refused: NoFace, NotFlat.
-inline Result<FacePlane> plane_of(const Attempts &bench, Face face)
-{
-    if (!bench.face(face))
-        return bench.is_open() ? refused(GWB_WHY_NO_FACE, face.number()) : Failure{Problem::closed};
-    const std::optional<FacePlane> plane = FacePlane::of(loops_at(bench, face));
-    return plane ? Result<FacePlane>(*plane) : Result<FacePlane>(refused(GWB_WHY_NOT_FLAT, face.number()));
-}
 
 /// A flat face as a region of its plane, so far as its loops tell that lie near a place.
 class Region {
@@ -278,21 +276,38 @@ public:
     /// Takes in a face that is new.
     void put(const Attempts &bench, Face face)
     {
-        const std::vector<Path> loops = loops_at(bench, face);
-        for (const Path &path : loops)
-            put(face, path);
-        if (const std::optional<FacePlane> plane = FacePlane::of(loops))
+        std::vector<Loop> loops;
+        put(face, loops_at(bench, face, &loops), loops);
+    }
+    /// The same, of some of its loops, where the others are known.
+    void put(Face face, const std::vector<Path> &paths, const std::vector<Loop> &loops)
+    {
+        for (std::size_t at = 0; at < loops.size(); at++)
+            put(face, loops[at], paths[at]);
+        if (const std::optional<FacePlane> plane = FacePlane::of(paths))
             planes_.emplace(face, *plane);
     }
 
     /// Takes in a ring of a face that is new, in the face's plane.
-    void put(Face face, const Path &path)
+    void put(Face face, Loop loop, const Path &path)
     {
         const Box box = Box::around(path);
-        boxes_.put(box, loops_.size());
-        loops_.push_back({face, path});
+        boxes_.put(box, loop.number());
+        loops_.insert_or_assign(loop, std::pair(face, path));
         around_ = around_ ? joined(*around_, box) : box;
     }
+
+    /// A loop is gone, or runs elsewhere.
+    void forget(Loop loop)
+    {
+        const auto found = loops_.find(loop);
+        boxes_.take_away(Box::around(found->second.second), loop.number());
+        loops_.erase(found);
+    }
+    /// A face is gone, or lies elsewhere.
+    void forget(Face face) { planes_.erase(face); }
+    /// A ring is one of another face.
+    void move(Loop ring, Face face) { loops_.at(ring).first = face; }
 
     /// The plane of a face, where that is plain and flat.
     [[nodiscard]] const FacePlane *plane(Face face) const
@@ -319,10 +334,21 @@ public:
     [[nodiscard]] Near near(const Box &box) const
     {
         Near found;
-        for (std::size_t at : boxes_.meeting(box))
-            found[loops_[at].first].push_back(loops_[at].second);
+        for (const auto &[face, loops] : loops_near(box))
+            for (Loop loop : loops)
+                found[face].push_back(loops_.at(loop).second);
         return found;
     }
+    [[nodiscard]] std::map<Face, std::vector<Loop>> loops_near(const Box &box) const
+    {
+        std::map<Face, std::vector<Loop>> found;
+        for (std::size_t number : boxes_.meeting(box)) {
+            const Loop loop(static_cast<std::uint32_t>(number));
+            found[loops_.at(loop).first].push_back(loop);
+        }
+        return found;
+    }
+    [[nodiscard]] const Path &path(Loop loop) const { return loops_.at(loop).second; }
 
     /// The points of an outline strictly inside a plain flat face, turned so that they run as a ring does; the first stays the first.
     [[nodiscard]] Result<Path> ring_path(Face face, const Path &path) const
@@ -349,7 +375,7 @@ private:
         return box;
     }
 
-    std::vector<std::pair<Face, Path>> loops_;
+    std::unordered_map<Loop, std::pair<Face, Path>> loops_;
     std::map<Face, FacePlane> planes_;
     BoxIndex boxes_;
     std::optional<Box> around_;
@@ -388,6 +414,16 @@ private:
     std::uint64_t changes_ = UINT64_MAX; ///< after which it was read; the greatest where it is of no model
     std::map<Solid, Surface> surfaces_;
 };
+
+/// The plane of a face. Refused: NoFace, NotFlat.
+inline Result<FacePlane> plane_of(const Attempts &bench, Face face)
+{
+    const Result<FaceRow> row = bench.face(face);
+    if (!row)
+        return bench.is_open() ? refused(GWB_WHY_NO_FACE, face.number()) : Failure{Problem::closed};
+    const FacePlane *plane = Surroundings::of(bench).surface(bench, row->solid).plane(face);
+    return plane != nullptr ? Result<FacePlane>(*plane) : Result<FacePlane>(refused(GWB_WHY_NOT_FLAT, face.number()));
+}
 
 /// Points as seen along a vector: as spots, exactly.
 class Sight {
@@ -644,8 +680,10 @@ inline Result<FlatSolid> flat_solid(Attempts &bench, const Path &path, Solid sol
     const Result<void> start = bench.mvfs(solid, *face, *loop, *vertex, point(path[0]));
     if (!start)
         return start.error();
-    const Result<ClosedPath> made = close_path(bench, *loop, path);
-    return made ? Result<FlatSolid>(FlatSolid{*face, made->inside, made->edges}) : Result<FlatSolid>(made.error());
+    Result<ClosedPath> made = close_path(bench, *loop, path);
+    if (!made)
+        return made.error();
+    return FlatSolid{*face, made->inside, std::move(made->edges)};
 }
 
 inline Result<Profile> make_profile(Attempts &bench, Solid solid, Items<Point> points, Point along)
@@ -666,7 +704,9 @@ inline Result<Profile> make_profile(Attempts &bench, Solid solid, Items<Point> p
     if (!flat)
         return flat.error();
     const Result<std::vector<Face>> sides = sides_of_sweep(bench, flat->front, way, flat->edges, true);
-    return sides ? Result<Profile>(Profile{solid, flat->front, flat->back, by_points(*sides, side < 0)}) : Result<Profile>(sides.error());
+    if (!sides)
+        return sides.error();
+    return Profile{solid, flat->front, flat->back, by_points(*sides, side < 0)};
 }
 
 /// An outline that is ready to be drawn in a face.
@@ -691,8 +731,11 @@ inline Result<Drawing> drawing(const Attempts &bench, Face face, Items<Point> po
     const Result<Path> given = path_of(points);
     if (!given)
         return given.error();
-    const Result<Path> path = surface.ring_path(face, *given);
-    return path ? Result<Drawing>(Drawing{&known, row->solid, plane->across(), *path, *path != *given}) : Result<Drawing>(path.error());
+    Result<Path> path = surface.ring_path(face, *given);
+    if (!path)
+        return path.error();
+    const bool is_turned = *path != *given;
+    return Drawing{&known, row->solid, plane->across(), std::move(*path), is_turned};
 }
 
 inline Result<Ring> make_ring(Attempts &bench, Face face, Items<Point> points)
@@ -703,7 +746,7 @@ inline Result<Ring> make_ring(Attempts &bench, Face face, Items<Point> points)
     Result<Ring> made = draw(bench, face, drawn->path);
     if (made)
         drawn->known->follow(bench, drawn->solid, [&](Surface &surface) {
-            surface.put(face, drawn->path);
+            surface.put(face, made->loop, drawn->path);
             surface.put(bench, made->face);
         });
     if (made && drawn->is_turned) {
@@ -720,13 +763,15 @@ inline Result<Pocket> draw_and_sweep(Attempts &bench, Face face, const Drawing &
     if (!ring)
         return ring.error();
     const Result<std::vector<Face>> sides = sides_of_sweep(bench, ring->face, way, ring->edges, false);
-    return sides ? Result<Pocket>(Pocket{ring->face, ring->loop, by_points(*sides, drawn.is_turned)}) : Result<Pocket>(sides.error());
+    if (!sides)
+        return sides.error();
+    return Pocket{ring->face, ring->loop, by_points(*sides, drawn.is_turned)};
 }
 
 /// Takes in a ring in a face, and the sides over it.
-inline void put_sides(Surface &surface, const Attempts &bench, Face face, const Path &ring, const std::vector<Face> &sides)
+inline void put_sides(Surface &surface, const Attempts &bench, Face face, Loop loop, const Path &ring, const std::vector<Face> &sides)
 {
-    surface.put(face, ring);
+    surface.put(face, loop, ring);
     for (Face side : sides)
         surface.put(bench, side);
 }
@@ -749,7 +794,7 @@ inline Result<Pocket> raise(Attempts &bench, Face face, Items<Point> points, std
     const Result<Pocket> made = draw_and_sweep(bench, face, *drawn, *way);
     if (made)
         drawn->known->follow(bench, drawn->solid, [&](Surface &surface) {
-            put_sides(surface, bench, face, drawn->path, made->sides);
+            put_sides(surface, bench, face, made->loop, drawn->path, made->sides);
             surface.put(bench, made->face);
         });
     return made;
@@ -775,12 +820,13 @@ inline Result<Hole> make_hole(Attempts &bench, Face face, Items<Point> points)
     const Result<Pocket> made = draw_and_sweep(bench, face, *drawn, end->way);
     if (!made)
         return made.error();
+    const Loop far_ring = bench.face(made->face)->outer_loop;
     const Result<void> joined = bench.kfmrh(end->face, made->face);
     if (!joined)
         return joined.error();
     drawn->known->follow(bench, drawn->solid, [&](Surface &of) {
-        put_sides(of, bench, face, drawn->path, made->sides);
-        of.put(end->face, far);
+        put_sides(of, bench, face, made->loop, drawn->path, made->sides);
+        of.put(end->face, far_ring, far);
     });
     return Hole{end->face, made->loop, made->sides};
 }

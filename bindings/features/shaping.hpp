@@ -6,11 +6,11 @@
 ///     slot(bench, Face(1), {20, 0, 10}, {20, 20, 10}, 6, 4);
 ///     shoulder(bench, Face(1), Edge(8), 5, 3);
 ///
-/// A part is cut out of the solid, or put on it: its faces are added to those of the solid (sheets.hpp), which is taken apart and made anew,
-/// with the numbers that it has. That takes as many operators as it has edges, twice, whatever else there is.
+/// A part is cut out of the solid, or put on it: its faces are added to those of the solid that lie near (combining.hpp), and what comes of these
+/// is made of them by operators (changing.hpp).
 #ifndef GWB_FEATURES_SHAPING_HPP
 #define GWB_FEATURES_SHAPING_HPP
-#include "contacts.hpp"
+#include "combining.hpp"
 
 namespace gwb_session {
 
@@ -21,8 +21,7 @@ struct Notch {
 
 namespace shaping {
 
-using namespace contacts;
-using sheets::Region;
+using namespace combining;
 
 /// A part that is cut out, or put on: the face that lies on the solid's, the one opposite to it, and the others, all seen from outside.
 struct Tool {
@@ -101,42 +100,45 @@ inline Result<Tool> notch_tool(const Attempts &bench, Face face, const Path &poi
     return way ? Result<Tool>(prism(points, *way)) : Result<Tool>(way.error());
 }
 
-/// The way from a line in a face to the right side of a strip around it.
-inline Result<Vector> beside(const Vector &across, Face face, const Path &ends, std::int64_t width)
+/// A strip around a line in a face: the normal of the face, and the way from the line to the strip's right side.
+struct Strip {
+    Vector across, side;
+};
+
+inline Result<Strip> strip(const Attempts &bench, Face face, const Path &ends, std::int64_t width)
 {
+    const Result<Vector> across = flat_normal(bench, face);
+    if (!across)
+        return across.error();
     const Vector line = subtract(ends[1], ends[0]);
     if (is_zero(line))
         return refused(GWB_WHY_REPEATED_POINT, 2);
-    if (dot(line, across) != 0)
+    if (dot(line, *across) != 0)
         return impossible(Misfit::not_in_plane, 2);
     if (width % 2 != 0)
         return impossible(Misfit::off_lattice, face.number());
-    return along(reduced(cross(across, line)), width / 2, face);
+    const Result<Vector> side = along(reduced(cross(*across, line)), width / 2, face);
+    return side ? Result<Strip>(Strip{*across, *side}) : Result<Strip>(side.error());
 }
 
 inline Result<Tool> slot_tool(const Attempts &bench, Face face, const Path &ends, std::int64_t width, std::int64_t depth)
 {
-    const Result<Vector> across = flat_normal(bench, face);
-    if (!across)
-        return across.error();
-    const Result<Vector> side = beside(*across, face, ends, width);
-    if (!side)
-        return side.error();
-    return notch_tool(bench, face, {subtract(ends[0], *side), subtract(ends[1], *side), add(ends[1], *side), add(ends[0], *side)}, depth);
+    const Result<Strip> made = strip(bench, face, ends, width);
+    if (!made)
+        return made.error();
+    const Vector &side = made->side;
+    return notch_tool(bench, face, {subtract(ends[0], side), subtract(ends[1], side), add(ends[1], side), add(ends[0], side)}, depth);
 }
 
 inline Result<Tool> groove_tool(const Attempts &bench, Face face, const Path &ends, std::int64_t width, std::int64_t depth)
 {
-    const Result<Vector> across = flat_normal(bench, face);
-    if (!across)
-        return across.error();
-    const Result<Vector> side = beside(*across, face, ends, width);
-    if (!side)
-        return side.error();
-    const Result<Vector> way = along(negative(*across), depth, face);
+    const Result<Strip> around = strip(bench, face, ends, width);
+    if (!around)
+        return around.error();
+    const Result<Vector> way = along(negative(around->across), depth, face);
     if (!way)
         return way.error();
-    const auto corner = [&](const Vector &at) { return Corner{add(at, *way), subtract(at, *side), add(at, *side)}; };
+    const auto corner = [&](const Vector &at) { return Corner{add(at, *way), subtract(at, around->side), add(at, around->side)}; };
     const Wedge made = wedge(corner(ends[0]), corner(ends[1]));
     return Tool{made.slope, {}, {made.first, made.second, made.start, made.end}};
 }
@@ -249,103 +251,15 @@ inline Result<std::vector<Sheet>> sheets_of(const Tool &tool, bool are_cut)
     return sheets;
 }
 
-/// A normal within this fits, with heights above its plane, where faces are compared.
-constexpr Wide steepest = Wide{farthest} * farthest;
-
-/// The faces of a solid near a box as sheets, and the others as regions that stay. Refused: NotFlat: a face near has no area, a lone loop or an
-/// edge without a length.
-struct Parted {
-    std::vector<Sheet> near;
-    std::vector<Region> far;
-    std::vector<HeldFace> faces; ///< those near
-};
-
-inline Result<Parted> parted(const Held &held, const Box &box)
+/// The floor and walls that a tool leaves: its sheets before the first wall are its lid, and its floor where it has one.
+inline Notch notch_of(const Combined &made, std::size_t first_wall, std::size_t end)
 {
-    Parted found;
-    for (const HeldFace &face : held.faces) {
-        go_on();
-        if (face.cycles[0].empty())
-            return refused(GWB_WHY_NOT_FLAT, face.face.number());
-        if (!face.box().meets(box)) {
-            found.far.push_back({{face.face}, {}, {}, face.cycles, face.lone});
-            continue;
-        }
-        Vector sum{};
-        bool has_lengths = true;
-        for (const Cycle &cycle : face.cycles)
-            for (const Side &side : cycle) {
-                sum = add(sum, cross(subtract(side.start, face.cycles[0][0].start), subtract(side.end, face.cycles[0][0].start)));
-                has_lengths = has_lengths && side.start != side.end;
-            }
-        if (is_zero(sum) || !has_lengths || !face.lone.empty() || longest(reduced(sum)) > steepest)
-            return refused(GWB_WHY_NOT_FLAT, face.face.number());
-        found.near.push_back({face.face, reduced(sum), face.cycles, no_mark});
-        found.faces.push_back(face);
-    }
-    return found;
-}
-
-/// Whether near what is added the solid meets or touches itself as it didn't, or sheets pass through each other.
-inline bool has_contact(const Held &held, const Parted &before, const std::vector<Sheet> &added, const Model &after)
-{
-    const Box box = box_of(added);
-    std::vector<HeldFace> faces;
-    for (const auto &[face, loops] : after.faces) {
-        go_on();
-        if (const HeldFace made = after.held(face); !made.cycles.empty() && made.box().meets(box))
-            faces.push_back(made);
-    }
-    const Findings known(before.faces, box, [&](HalfEdge half) { return held.rows.at(half.code()).start; });
-    const Findings found(faces, box, [&](HalfEdge half) { return after.start(half); });
-    if (!std::includes(known.all().begin(), known.all().end(), found.all().begin(), found.all().end()))
-        return true;
-    std::vector<Shape> walls, flat;
-    for (const Sheet &sheet : added)
-        walls.emplace_back(sheet.cycles, sheet.across);
-    for (const Sheet &sheet : before.near)
-        if (Shape shape(sheet.cycles, sheet.across); shape.is_flat())
-            flat.push_back(shape);
-    return comes_into(flat, walls);
-}
-
-/// The faces that an added sheet went into.
-inline std::vector<Face> marked(const Model &model, const std::vector<Region> &regions, std::size_t mark)
-{
-    std::set<Face> found;
-    for (std::size_t at = 0; at < regions.size(); at++)
-        if (std::find(regions[at].marks.begin(), regions[at].marks.end(), mark) != regions[at].marks.end())
-            found.insert(model.of_regions[at]);
-    return {found.begin(), found.end()};
-}
-
-/// A solid that is to become another one.
-struct Change {
-    Model model;
-    std::vector<Region> regions;
-};
-
-inline Result<Change> changed(const Attempts &bench, Face face, const std::vector<Sheet> &added)
-{
-    const Failure meets = impossible(Misfit::meets, face.number());
-    const Held held(bench, bench.face(face)->solid);
-    const Result<Parted> parts = parted(held, box_of(added));
-    if (!parts)
-        return parts.error();
-    Result<std::vector<Region>> regions = overlaid(parts->near, added);
-    if (!regions)
-        return regions.error().is(Misfit::off_lattice) ? regions.error() : meets;
-    regions->insert(regions->end(), parts->far.begin(), parts->far.end());
-    if (regions->empty())
-        return impossible(Misfit::nothing_left, held.solid.number());
-    std::optional<Model> model = Assembly(bench, held, *regions).model();
-    if (!model)
-        return meets;
-    if (!marked(*model, *regions, 0).empty())
-        return impossible(Misfit::outline_outside, face.number());
-    if (has_contact(held, *parts, added, *model))
-        return meets;
-    return Change{*std::move(model), *std::move(regions)};
+    std::set<Face> floor, walls;
+    if (first_wall == 2)
+        floor = made.marked(1);
+    for (std::size_t mark = first_wall; mark < end; mark++)
+        walls.merge(made.marked(mark));
+    return {{floor.begin(), floor.end()}, {walls.begin(), walls.end()}};
 }
 
 /// Cuts a tool out of the solid of a face, in which its lid lies, or puts it on.
@@ -356,24 +270,21 @@ inline Result<Notch> change(Attempts &bench, Face face, const Result<Tool> &tool
     const Result<std::vector<Sheet>> added = sheets_of(*tool, is_cut);
     if (!added)
         return added.error();
-    const Result<Change> change = changed(bench, face, *added);
-    if (!change)
-        return change.error();
-    Result<void> done = TakenApart(bench).take(change->model.solid);
-    if (done)
-        done = bench.load(change->model.listing());
-    if (!done)
-        return done.error();
-    Notch made;
-    const std::size_t first_wall = tool->floor.empty() ? 1 : 2;
-    if (first_wall == 2)
-        made.floor = marked(change->model, change->regions, 1);
-    std::set<Face> walls;
-    for (std::size_t mark = first_wall; mark < added->size(); mark++)
-        for (Face wall : marked(change->model, change->regions, mark))
-            walls.insert(wall);
-    made.walls.assign(walls.begin(), walls.end());
-    return made;
+    const Failure meets = impossible(Misfit::meets, face.number());
+    const Solid solid = bench.face(face)->solid;
+    const auto combine = [&](const Part &part, AllNames &names) -> Result<Combined> {
+        const Result<std::vector<Sheet>> sheets = combining::sheets_of(part.model);
+        if (!sheets)
+            return sheets.error();
+        Result<Combined> found = combined(bench, solid, Held(bench, part.model), *sheets, *added, names, meets);
+        if (found && !found->marked(0).empty())
+            return impossible(Misfit::outline_outside, face.number());
+        if (found && has_contact({&part.model}, found->made.model, *sheets, *added))
+            return meets;
+        return found;
+    };
+    const Result<Combined> made = make_near(bench, solid, box_of(*added), combine, [] { return Result<void>(); });
+    return made ? Result<Notch>(notch_of(*made, tool->floor.empty() ? 1 : 2, added->size())) : Result<Notch>(made.error());
 }
 
 /// Refuses sizes below 1, and a face that isn't there.

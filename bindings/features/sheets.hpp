@@ -6,6 +6,7 @@
 #include <limits>
 #include <map>
 #include <tuple>
+#include <unordered_map>
 
 namespace gwb_session::sheets {
 
@@ -70,26 +71,17 @@ struct Sheet {
     }
 };
 
-/// A ring that is one vertex.
-struct LoneRing {
-    Loop loop;
-    Vertex vertex;
-    Vector at;
-};
-
-/// A region that sheets came to: the faces that they were, the places of the added ones among them, its normal and its cycles. A face that is
-/// kept as it is may have lone rings.
+/// A region that sheets came to: the faces that they were, the places of the added ones among them, its normal and its cycles.
 struct Region {
     std::vector<Face> owners;
     std::vector<std::size_t> marks;
     Vector across;
     std::vector<Cycle> cycles;
-    std::vector<LoneRing> lone;
 };
 
 inline Region unchanged(const Sheet &sheet)
 {
-    Region region{{sheet.owner}, {}, sheet.across, sheet.cycles, {}};
+    Region region{{sheet.owner}, {}, sheet.across, sheet.cycles};
     if (sheet.is_added())
         region.marks.push_back(sheet.mark);
     return region;
@@ -217,23 +209,25 @@ private:
 // ---- sheets of one plane
 
 /// Sets that only grow together.
-class JoinedSets {
+template <class Member> class JoinedSets {
 public:
-    explicit JoinedSets(std::size_t count) : above_(count)
+    Member name(Member member)
     {
-        for (std::size_t at = 0; at < count; at++)
-            above_[at] = at;
-    }
-    std::size_t name(std::size_t member)
-    {
-        while (above_[member] != member)
-            member = above_[member] = above_[above_[member]];
+        for (auto above = above_.find(member); above != above_.end(); above = above_.find(member)) {
+            if (const auto beyond = above_.find(above->second); beyond != above_.end())
+                above->second = beyond->second;
+            member = above->second;
+        }
         return member;
     }
-    void join(std::size_t kept, std::size_t gone) { above_[name(gone)] = name(kept); }
+    void join(Member kept, Member gone)
+    {
+        if (const Member first = name(kept), second = name(gone); first != second)
+            above_[second] = first;
+    }
 
 private:
-    std::vector<std::size_t> above_;
+    std::unordered_map<Member, Member> above_; ///< of those that aren't the name of their set
 };
 
 /// The sheets of one plane, cut up.
@@ -241,11 +235,11 @@ class Overlay {
 public:
     /// The box is that of the added ones.
     Overlay(std::vector<Sheet> sheets, const Box &box)
-        : sheets_(std::move(sheets)), box_(box), axes_(flat_axes(sheets_[0].level().first)), joined_(sheets_.size()), kept_(sheets_.size())
+        : sheets_(std::move(sheets)), box_(box), axes_(flat_axes(sheets_[0].level().first)), kept_(sheets_.size())
     {
         for (const Sheet &sheet : sheets_) {
+            boxes_.put(Box::around(sheet.points()), outlines_.size());
             outlines_.push_back(outline(sheet.sides(), axes_));
-            boxes_.push_back(Box::around(sheet.points()));
         }
     }
 
@@ -278,7 +272,7 @@ private:
     bool put_regions(const std::vector<std::size_t> &places, std::vector<Region> &found) const
     {
         std::vector<Side> sides;
-        Region made{{}, {}, sheets_[places[0]].across, {}, {}};
+        Region made{{}, {}, sheets_[places[0]].across, {}};
         for (std::size_t place : places) {
             sides.insert(sides.end(), kept_[place].begin(), kept_[place].end());
             made.owners.push_back(sheets_[place].owner);
@@ -381,7 +375,7 @@ private:
     {
         go_on();
         std::set<std::size_t> found;
-        for (std::size_t place = 0; place < sheets_.size(); place++)
+        for (std::size_t place : boxes_.meeting(Box::between(ends.first, ends.second)))
             if (covers(place, ends, parts, on_left))
                 found.insert(place);
         for (std::size_t place : std::vector<std::size_t>(found.begin(), found.end())) {
@@ -408,8 +402,6 @@ private:
             const bool along = on_left == sheets_[place].is_facing();
             return std::any_of(own->second.begin(), own->second.end(), [&](const Side &side) { return (side.start == ends.first) == along; });
         }
-        if (!Box::between(ends.first, ends.second).meets(boxes_[place]))
-            return false;
         const Spot start = spot(ends.first, axes_), end = spot(ends.second, axes_);
         return locate(outlines_[place], {start.x + end.x, start.y + end.y, 2}) == Place::inside;
     }
@@ -425,10 +417,13 @@ private:
                 else
                     kept_[place].push_back(side);
             }
+        BoxIndex index;
+        for (std::size_t at = 0; at < near.size(); at++)
+            index.put(Box::between(near[at].side.start, near[at].side.end), at);
         Pieces found;
         for (const Near &one : near) {
             go_on();
-            const std::optional<Path> stops = cut(one, near);
+            const std::optional<Path> stops = cut(one, near, index);
             if (!stops)
                 return std::nullopt;
             for (std::size_t at = 1; at < stops->size(); at++) {
@@ -440,13 +435,14 @@ private:
     }
 
     /// The points at which a side is cut, its ends included: those where one of the others, held against added, meets it.
-    std::optional<Path> cut(const Near &one, const std::vector<Near> &near)
+    std::optional<Path> cut(const Near &one, const std::vector<Near> &near, const BoxIndex &index)
     {
         std::set<Vector> points = {one.side.start, one.side.end};
         const Segment own(spot(one.side.start, axes_), spot(one.side.end, axes_));
-        for (const Near &other : near) {
+        for (std::size_t at : index.meeting(Box::between(one.side.start, one.side.end))) {
+            const Near &other = near[at];
             const Segment across(spot(other.side.start, axes_), spot(other.side.end, axes_));
-            if (sheets_[other.place].is_added() == sheets_[one.place].is_added() || !own.is_near(across))
+            if (sheets_[other.place].is_added() == sheets_[one.place].is_added())
                 continue;
             if (own.holds(across.start))
                 points.insert(other.side.start);
@@ -482,10 +478,10 @@ private:
     std::vector<Sheet> sheets_;
     Box box_;
     Axes axes_;
-    JoinedSets joined_;
+    JoinedSets<std::size_t> joined_;
     std::vector<std::vector<Side>> kept_;
     std::vector<Outline> outlines_;
-    std::vector<Box> boxes_;
+    BoxIndex boxes_; ///< around the sheets, by their places
     Failure failure_;
 };
 
@@ -501,45 +497,48 @@ inline Box box_of(const std::vector<Sheet> &added)
 
 /// Sheets of one plane: those that are held come first, so that what is joined has their name. The box is that of the added ones.
 struct InPlane {
-    Level level;
     std::vector<Sheet> held, added;
     Box box{};
-
-    [[nodiscard]] bool takes(const Sheet &sheet) const
-    {
-        return sheet.level() == level && sheet.lies_in(level) && Box::around(sheet.points()).meets(box);
-    }
 };
 
-/// What is added by planes, in the order in which they come.
-inline std::vector<InPlane> by_planes(const std::vector<Sheet> &added)
-{
-    std::vector<InPlane> planes;
-    for (const Sheet &sheet : added) {
-        const Level level = sheet.level();
-        auto plane = std::find_if(planes.begin(), planes.end(), [&](const InPlane &one) { return one.level == level; });
-        if (plane == planes.end())
-            plane = planes.insert(planes.end(), InPlane{level, {}, {}, {}});
-        plane->added.push_back(sheet);
-        plane->box = box_of(plane->added);
+/// What is added by planes, in the order in which they come, and their places by the planes.
+struct Planes {
+    std::vector<InPlane> all;
+    std::map<Level, std::size_t> places;
+
+    explicit Planes(const std::vector<Sheet> &added)
+    {
+        for (const Sheet &sheet : added) {
+            const auto place = places.emplace(sheet.level(), all.size()).first->second;
+            if (place == all.size())
+                all.emplace_back();
+            all[place].added.push_back(sheet);
+        }
+        for (InPlane &plane : all)
+            plane.box = box_of(plane.added);
     }
-    return planes;
-}
+    /// The plane in which a sheet lies near an added one.
+    [[nodiscard]] InPlane *around(const Sheet &sheet)
+    {
+        const auto place = places.find(sheet.level());
+        const bool is_near = place != places.end() && sheet.lies_in(place->first) && Box::around(sheet.points()).meets(all[place->second].box);
+        return is_near ? &all[place->second] : nullptr;
+    }
+};
 
 /// What sheets come to where others are added to them; what lies in no plane of an added one stays.
 inline Result<std::vector<Region>> overlaid(const std::vector<Sheet> &held, const std::vector<Sheet> &added)
 {
-    std::vector<InPlane> planes = by_planes(added);
+    Planes planes(added);
     std::vector<Region> found;
     for (const Sheet &sheet : held) {
         go_on();
-        const auto plane = std::find_if(planes.begin(), planes.end(), [&](const InPlane &one) { return one.takes(sheet); });
-        if (plane != planes.end())
+        if (InPlane *plane = planes.around(sheet))
             plane->held.push_back(sheet);
         else
             found.push_back(unchanged(sheet));
     }
-    for (InPlane &plane : planes) {
+    for (InPlane &plane : planes.all) {
         plane.held.insert(plane.held.end(), plane.added.begin(), plane.added.end());
         const Result<std::vector<Region>> made = Overlay(plane.held, plane.box).regions();
         if (!made)

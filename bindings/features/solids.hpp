@@ -14,6 +14,7 @@
 #include "gwb.hpp"
 #include "gwb_features.h"
 #include "stopping.hpp"
+#include <set>
 #include <unordered_map>
 
 namespace gwb_session {
@@ -68,22 +69,59 @@ private:
     std::int64_t factor_ = 1;
 };
 
+/// Free numbers of a kind: those above all in use, and then those below that aren't.
+template <class Kind> class FreeNumbers {
+public:
+    /// Those from one on.
+    explicit FreeNumbers(std::uint32_t first) : next_(first) {}
+    /// So many of them at most.
+    FreeNumbers(const Attempts &bench, std::size_t most) : next_(bench.greatest<Kind>().value_or(Kind()).number() + 1)
+    {
+        const std::size_t above = greatest_number + 1 - next_;
+        std::uint32_t last = 0;
+        if (most <= above)
+            return;
+        for (Kind used : bench.numbers<Kind>()) {
+            for (std::uint32_t gap = last + 1; gap < used.number() && gaps_.size() < most - above; gap++)
+                gaps_.push_back(gap);
+            last = used.number();
+        }
+    }
+    /// The next one. Where none is left it is out of range, so that operators refuse it.
+    std::uint32_t take()
+    {
+        if (next_ <= greatest_number)
+            return next_++;
+        is_spent_ = taken_ == gaps_.size();
+        return is_spent_ ? greatest_number + 1 : gaps_[taken_++];
+    }
+    [[nodiscard]] bool is_spent() const { return is_spent_; }
+
+private:
+    static constexpr std::uint32_t greatest_number = 1'000'000;
+    std::uint32_t next_;
+    std::vector<std::uint32_t> gaps_;
+    std::size_t taken_ = 0;
+    bool is_spent_ = false;
+};
+
 /// Lists of what was made, by enum gwb_list.
-using Lists = std::array<std::vector<std::uint32_t>, GWB_MADE_UPPER_CAPS + 1>;
+using Lists = std::array<std::vector<std::uint32_t>, GWB_MADE_SOLIDS + 1>;
 
 /// A solid taken apart, as what makes it again. For the functions below.
 class TakenApart {
 public:
     explicit TakenApart(Attempts bench) : bench_(std::move(bench)) {}
 
-    /// Takes a solid apart in the draft that is open: it is gone then.
-    Result<void> take(Solid solid)
+    /// Takes a solid apart in the draft that is open, so that it can be made again, or its mirror image: it is gone then.
+    Result<void> take(Solid solid, bool as_image = false)
     {
         solid_ = solid;
+        as_image_ = as_image;
         if (bench_.faces(solid).empty())
             return bench_.kvfs(solid); // which is refused
-        spare_face_ = next_face_ = above<Face>(), spare_edge_ = next_edge_ = above<Edge>();
         std::vector<Edge> edges = edges_of(solid);
+        find_spares(edges.size());
         bool goes = rings_out();
         while (goes && !edges.empty())
             goes = faces_out(edges) && leaves_out(edges) && (edges.empty() || handle_out(edges));
@@ -91,21 +129,33 @@ public:
         return goes ? Result<void>() : Result<void>(failure_);
     }
 
-    /// Makes it again in the draft that is open: with its own numbers, or with numbers above all in use.
+    /// Makes it again in the draft that is open: with its own numbers, or with others that are free. Each edge runs as it did. Refused: PointRange,
+    /// with the vertex of the solid; NumbersSpent.
     Result<Solid> make(const Motion &motion, bool with_own_numbers, Lists *lists = nullptr)
     {
-        const bool is_mirror = motion.is_mirror();
-        Numbering numbers(bench_, with_own_numbers);
+        const Result<void> lies = require_in_range(motion);
+        if (!lies)
+            return lies.error();
+        Numbering numbers(bench_, with_own_numbers, steps_.size());
         if (!with_own_numbers)
             number_in_order(numbers);
-        const Solid solid = with_own_numbers ? solid_ : Solid(above<Solid>());
+        const Result<Solid> solid = make(motion, numbers, with_own_numbers ? solid_ : Solid(FreeNumbers<Solid>(bench_, 1).take()));
+        if (solid && lists != nullptr)
+            numbers.tell(*lists, spares_);
+        return solid;
+    }
+
+    class Numbering;
+    struct Spares;
+    [[nodiscard]] const Spares &spares() const { return spares_; }
+    /// Makes it again with these numbers.
+    Result<Solid> make(const Motion &motion, Numbering &numbers, Solid solid)
+    {
         for (auto step = steps_.rbegin(); step != steps_.rend(); ++step) {
             go_on();
-            if (!make_step(*step, motion, is_mirror, numbers, solid))
-                return failure_;
+            if (!make_step(*step, motion, motion.is_mirror(), numbers, solid))
+                return failure_.is(GWB_WHY_NUMBER_RANGE) ? numbers.spent() : failure_;
         }
-        if (lists != nullptr)
-            numbers.tell(*lists, spare_face_, spare_edge_);
         return solid;
     }
 
@@ -128,13 +178,36 @@ private:
         Point at;
     };
 
+public:
+    /// Numbers that are used on the way: for each kind those that were, and the one for an edge that begins at its leaf.
+    struct Spares {
+        std::set<std::uint32_t> faces, loops, edges;
+        Face face;
+        Loop loop;
+        Edge edge;
+    };
+
     /// The numbers of what is made, by those of what was taken apart.
     class Numbering {
     public:
-        Numbering(const Attempts &bench, bool is_same)
-            : is_same_(is_same), faces_{above<Face>(bench), {}}, loops_{above<Loop>(bench), {}}, edges_{above<Edge>(bench), {}},
-              vertices_{above<Vertex>(bench), {}}
+        /// All that are in use become as low as they can be, in their order. What is to be said of it are these.
+        Numbering(const Attempts &bench, Lists &lists)
+            : is_same_(false), faces_(ranked<Face>(bench, lists[GWB_MADE_FACES])), loops_(ranked<Loop>(bench, lists[GWB_MADE_LOOPS])),
+              edges_(ranked<Edge>(bench, lists[GWB_MADE_EDGES])), vertices_(ranked<Vertex>(bench, lists[GWB_MADE_VERTICES]))
         {
+        }
+        /// Of at most so many of a kind, and a spare one.
+        Numbering(const Attempts &bench, bool is_same, std::size_t most)
+            : is_same_(is_same), faces_{{bench, 2 * most + 1}, {}, {}}, loops_{{bench, most + 1}, {}, {}}, edges_{{bench, most + 1}, {}, {}},
+              vertices_{{bench, most}, {}, {}}
+        {
+        }
+        /// Another solid comes, which had these numbers on the way.
+        void begin(const Spares &spares)
+        {
+            begin(faces_, spares.faces);
+            begin(loops_, spares.loops);
+            begin(edges_, spares.edges);
         }
         Face operator[](Face face) { return Face(number(faces_, face.number())); }
         Loop operator[](Loop loop) { return Loop(number(loops_, loop.number())); }
@@ -144,20 +217,27 @@ private:
         HalfEdge operator[](HalfEdge half_edge)
         {
             const HalfEdge first = plus((*this)[half_edge.edge()]);
-            return half_edge.is_second() == turned_[half_edge.edge().number()] ? first : first.twin();
+            return half_edge.is_second() == (turned_.count(half_edge.edge().number()) != 0) ? first : first.twin();
         }
-        void turn(Edge edge, bool is_turned) { turned_[edge.number()] = is_turned; }
+        void turn(Edge edge) { turned_.insert(edge.number()); }
         /// Writes down which numbers became which, by the old ones, rising.
-        void tell(Lists &lists, std::uint32_t spare_face, std::uint32_t spare_edge) const
+        void tell(Lists &lists, const Spares &spares) const
         {
-            tell(faces_, spare_face, lists[GWB_MADE_FACES]);
-            tell(loops_, UINT32_MAX, lists[GWB_MADE_LOOPS]);
-            tell(edges_, spare_edge, lists[GWB_MADE_EDGES]);
-            tell(vertices_, UINT32_MAX, lists[GWB_MADE_VERTICES]);
-            for (auto [edge, is_turned] : turned_)
-                if (const auto made = edges_.given.find(edge); is_turned && made != edges_.given.end())
+            tell(faces_, spares.faces, lists[GWB_MADE_FACES]);
+            tell(loops_, spares.loops, lists[GWB_MADE_LOOPS]);
+            tell(edges_, spares.edges, lists[GWB_MADE_EDGES]);
+            tell(vertices_, {}, lists[GWB_MADE_VERTICES]);
+            for (std::uint32_t edge : turned_)
+                if (const auto made = edges_.given.find(edge); made != edges_.given.end())
                     lists[GWB_MADE_TURNED].push_back(made->second);
             std::sort(lists[GWB_MADE_TURNED].begin(), lists[GWB_MADE_TURNED].end());
+        }
+        /// That no number is left of a kind.
+        [[nodiscard]] Failure spent() const
+        {
+            const std::array<bool, 4> are_spent = {faces_.free.is_spent(), loops_.free.is_spent(), edges_.free.is_spent(), vertices_.free.is_spent()};
+            const auto kind = std::find(are_spent.begin(), are_spent.end(), true) - are_spent.begin();
+            return {Problem::refused, GWB_WHY_NUMBERS_SPENT, kind == 4 ? GWB_SOLID + 1U : static_cast<std::uint32_t>(kind) + GWB_FACE + 1U};
         }
         Corner corner(const Place &place, bool is_mirror)
         {
@@ -167,42 +247,57 @@ private:
         }
 
     private:
-        struct Of {
-            std::uint32_t next;
+        template <class Kind> struct Of {
+            FreeNumbers<Kind> free;
             std::unordered_map<std::uint32_t, std::uint32_t> given;
+            std::unordered_map<std::uint32_t, std::uint32_t> spare; ///< of one solid: another one may have had these numbers
         };
-        template <class Kind> static std::uint32_t above(const Attempts &bench)
+        template <class Kind> static void begin(Of<Kind> &of, const std::set<std::uint32_t> &spares)
         {
-            auto free = bench.next_free<Kind>();
-            return free ? free->number() : 0;
+            of.free = FreeNumbers<Kind>(static_cast<std::uint32_t>(of.given.size() + 1));
+            of.spare.clear();
+            for (std::uint32_t old : spares)
+                of.spare.emplace(old, of.free.take());
         }
-        std::uint32_t number(Of &of, std::uint32_t old)
+        template <class Kind> static Of<Kind> ranked(const Attempts &bench, std::vector<std::uint32_t> &list)
+        {
+            std::uint32_t rank = 1;
+            std::unordered_map<std::uint32_t, std::uint32_t> given;
+            for (Kind old : bench.numbers<Kind>()) {
+                list.insert(list.end(), {old.number(), rank});
+                given.emplace(old.number(), rank++);
+            }
+            return {FreeNumbers<Kind>(rank), std::move(given), {}};
+        }
+        template <class Kind> std::uint32_t number(Of<Kind> &of, std::uint32_t old)
         {
             if (is_same_ || old == 0)
                 return old;
-            auto [found, is_new] = of.given.try_emplace(old, of.next);
-            of.next += is_new;
+            if (const auto spare = of.spare.find(old); spare != of.spare.end())
+                return spare->second;
+            auto [found, is_new] = of.given.try_emplace(old, 0);
+            if (is_new)
+                found->second = of.free.take();
             return found->second;
         }
-        static void tell(const Of &of, std::uint32_t spare, std::vector<std::uint32_t> &list)
+        template <class Kind> static void tell(const Of<Kind> &of, const std::set<std::uint32_t> &spares, std::vector<std::uint32_t> &list)
         {
             std::vector<std::pair<std::uint32_t, std::uint32_t>> pairs(of.given.begin(), of.given.end());
             std::sort(pairs.begin(), pairs.end());
             for (auto [old, made] : pairs)
-                if (old < spare)
+                if (spares.count(old) == 0)
                     list.insert(list.end(), {old, made});
         }
 
         bool is_same_;
-        Of faces_, loops_, edges_, vertices_;
-        std::unordered_map<std::uint32_t, bool> turned_;
+        Of<Face> faces_;
+        Of<Loop> loops_;
+        Of<Edge> edges_;
+        Of<Vertex> vertices_;
+        std::set<std::uint32_t> turned_; ///< of loops of one edge alone: those that run the other way
     };
 
-    template <class Kind> [[nodiscard]] std::uint32_t above() const
-    {
-        auto free = bench_.next_free<Kind>();
-        return free ? free->number() : 0;
-    }
+private:
 
     template <class T> bool done(const Result<T> &result)
     {
@@ -229,6 +324,36 @@ private:
     }
     [[nodiscard]] std::vector<Edge> edges_of(Solid solid) const { return edges_of_rows(bench_.half_edge_rows(solid)); }
 
+    /// Numbers that the solid hasn't: of rings and handles it has no more than edges and loops.
+    void find_spares(std::size_t edges)
+    {
+        std::size_t loops = 0;
+        for (Face face : bench_.faces(solid_))
+            loops += 1 + static_cast<std::size_t>(std::distance(bench_.rings(face).begin(), bench_.rings(face).end()));
+        free_faces_.emplace(bench_, edges + loops + 1);
+        free_loops_.emplace(bench_, edges + 1);
+        spares_.face = spare<Face>(*free_faces_, spares_.faces);
+        spares_.loop = spare<Loop>(*free_loops_, spares_.loops);
+        FreeNumbers<Edge> free_edge(bench_, 1);
+        spares_.edge = spare<Edge>(free_edge, spares_.edges);
+    }
+    template <class Kind> static Kind spare(FreeNumbers<Kind> &free, std::set<std::uint32_t> &spares)
+    {
+        const Kind number(free.take());
+        spares.insert(number.number());
+        return number;
+    }
+
+    /// Refuses a motion by which a point would lie out of range: its least vertex.
+    [[nodiscard]] Result<void> require_in_range(const Motion &motion) const
+    {
+        Vertex out;
+        for (const Step &step : steps_)
+            if (step.vertex != Vertex() && (out == Vertex() || step.vertex < out) && !exact::is_in_range(exact::vector(motion(step.at))))
+                out = step.vertex;
+        return out == Vertex() ? Result<void>() : Result<void>(Failure{Problem::refused, GWB_WHY_POINT_RANGE, out.number()});
+    }
+
     /// Each ring becomes the outer loop of a face of its own.
     bool rings_out()
     {
@@ -245,9 +370,9 @@ private:
     bool ring_out(Face face, Loop ring)
     {
         go_on();
-        const Face spare(next_face_++);
-        steps_.push_back({Makes::ring, {}, {}, {}, face, spare, ring, {}, {}});
-        return done(bench_.mfkrh(ring, spare));
+        const Face own = spare<Face>(*free_faces_, spares_.faces);
+        steps_.push_back({Makes::ring, {}, {}, {}, face, own, ring, {}, {}});
+        return done(bench_.mfkrh(ring, own));
     }
 
     /// Edges between two faces go, and one of the faces with each.
@@ -258,11 +383,19 @@ private:
             go_on();
             if (loop_of(plus(edge)) == loop_of(minus(edge)))
                 left.push_back(edge);
-            else if (!face_out(next(plus(edge)) == plus(edge) ? minus(edge) : plus(edge)))
+            else if (!face_out(face_that_stays(edge)))
                 return false;
         }
         edges = std::move(left);
         return true;
+    }
+
+    /// The half-edge of an edge whose face stays. The one that goes is made at the second half-edge of a new edge, so it is this one of the edge or of its
+    /// image; but a loop of one half-edge goes.
+    [[nodiscard]] HalfEdge face_that_stays(Edge edge) const
+    {
+        const HalfEdge stays = as_image_ ? minus(edge) : plus(edge);
+        return next(stays) == stays ? stays.twin() : stays;
     }
 
     /// The edge of a half-edge goes, and the face on its other side.
@@ -293,11 +426,12 @@ private:
         while (is_there(half_edge.edge()) && is_leaf(half_edge)) {
             go_on();
             const HalfEdge before = previous(half_edge), after = next(half_edge.twin());
-            const Vertex leaf = value(bench_.end_of(half_edge));
             const bool is_last = after == half_edge;
+            const HalfEdge goes = is_last ? plus(half_edge.edge()) : half_edge;
+            const Vertex leaf = value(bench_.end_of(goes));
             const Place place = is_last ? Place{{}, {}, loop_of(half_edge)} : Place{after, before, {}};
-            steps_.push_back({Makes::spur, place, {}, half_edge, {}, {}, {}, leaf, value(bench_.vertex(leaf))});
-            if (!done(bench_.kev(half_edge)))
+            steps_.push_back({Makes::spur, place, {}, goes, {}, {}, {}, leaf, value(bench_.vertex(leaf))});
+            if (!done(bench_.kev(goes)))
                 return false;
             if (is_last)
                 return true;
@@ -314,8 +448,8 @@ private:
         const Place first{next(twin), previous(half_edge), {}}, second{next(half_edge), previous(twin), {}};
         edges.pop_back();
         steps_.push_back({Makes::bridge, first, second, half_edge, {}, {}, {}, {}, {}});
-        Result<Loop> ring = bench_.kemr(half_edge);
-        return done(ring) && ring_out(face, *ring);
+        const Loop ring = spare<Loop>(*free_loops_, spares_.loops);
+        return done(bench_.kemr(half_edge, ring)) && ring_out(face, ring);
     }
 
     /// What is left is a face of one vertex for each part: all but the first go.
@@ -338,9 +472,9 @@ private:
     {
         const Loop loop = value(bench_.face(face)).outer_loop;
         const Vertex vertex = value(bench_.lone_vertex(loop)).value_or(Vertex());
-        const Edge spare(next_edge_);
-        steps_.push_back({Makes::part, {{}, {}, stays}, {}, plus(spare), face, {}, loop, vertex, value(bench_.vertex(vertex))});
-        return done(bench_.kfmrh(first, face)) && done(bench_.mekr(lone(stays), lone(loop), spare)) && done(bench_.kev(plus(spare)));
+        const Edge edge = spares_.edge;
+        steps_.push_back({Makes::part, {{}, {}, stays}, {}, plus(edge), face, {}, loop, vertex, value(bench_.vertex(vertex))});
+        return done(bench_.kfmrh(first, face)) && done(bench_.mekr(lone(stays), lone(loop), edge)) && done(bench_.kev(plus(edge)));
     }
 
     bool make_step(const Step &step, const Motion &motion, bool is_mirror, Numbering &numbers, Solid solid)
@@ -350,15 +484,15 @@ private:
         const Face face = numbers[step.face];
         const Loop loop = numbers[step.loop];
         const Point at = motion(step.at);
-        // where a face is made of a mirror image, the new edge runs the other way
-        numbers.turn(step.half_edge.edge(), step.half_edge.is_second() != (is_mirror && step.makes == Makes::face));
+        if (step.makes == Makes::face && step.half_edge.is_second() != is_mirror)
+            numbers.turn(step.half_edge.edge());
         switch (step.makes) {
         case Makes::solid: return done(bench_.mvfs(solid, face, loop, numbers[step.vertex], at));
         case Makes::part:
             return done(bench_.mev(first, first, edge, numbers[step.vertex], at)) && done(bench_.kemr(plus(edge), loop)) &&
                    done(bench_.mfkrh(loop, face));
         case Makes::bridge: return done(bench_.mekr(first, second, edge));
-        case Makes::spur: return done(bench_.mev(first, first, edge, numbers[step.vertex], at));
+        case Makes::spur: return make_spur(first, step, edge, at, numbers);
         case Makes::face:
             if (is_mirror) // the part that was after the edge lies before it
                 return done(bench_.mef(HalfEdge(second.code()), HalfEdge(first.code()), edge, face, loop));
@@ -368,8 +502,17 @@ private:
         return false;
     }
 
-    Attempts bench_;
-    Solid solid_;
+    /// An edge to a leaf. One that begins there is made beside a spare one, so that it runs as it did.
+    bool make_spur(const Corner &corner, const Step &step, Edge edge, const Point &at, Numbering &numbers)
+    {
+        const bool begins_there = step.half_edge.is_second();
+        const Edge first = begins_there ? numbers[spares_.edge] : edge;
+        if (!done(bench_.mev(corner, corner, first, numbers[step.vertex], at)))
+            return false;
+        return !begins_there || (done(bench_.mef(minus(first), HalfEdge(corner.code()), edge, numbers[spares_.face], numbers[spares_.loop])) &&
+                                 done(bench_.kef(plus(first))));
+    }
+
     /// New numbers rise as the old ones do.
     void number_in_order(Numbering &numbers) const
     {
@@ -392,7 +535,12 @@ private:
             (void)numbers[Vertex(vertex)];
     }
 
-    std::uint32_t next_face_ = 0, next_edge_ = 0, spare_face_ = 0, spare_edge_ = 0;
+    Attempts bench_;
+    Solid solid_;
+    bool as_image_ = false;
+    std::optional<FreeNumbers<Face>> free_faces_;
+    std::optional<FreeNumbers<Loop>> free_loops_;
+    Spares spares_;
     std::vector<Step> steps_;
     Failure failure_;
 };
@@ -437,7 +585,7 @@ private:
 inline Result<Solid> copied(Attempts &bench, Together &commands, Solid solid, const Motion &motion, Lists &lists)
 {
     TakenApart parts(bench);
-    const Result<void> done = parts.take(solid);
+    const Result<void> done = parts.take(solid, motion.is_mirror());
     if (!done)
         return done.error();
     commands.take_back();
@@ -445,7 +593,7 @@ inline Result<Solid> copied(Attempts &bench, Together &commands, Solid solid, co
 }
 
 /// A row of so many solids, of which one is the first, each by a vector from the one before it: those that are new.
-inline Result<std::vector<Solid>> patterned(Attempts &bench, Together &commands, Solid solid, std::uint32_t count, const gwb_point &step)
+inline Result<std::vector<Solid>> patterned(Attempts &bench, Together &commands, Solid solid, std::uint32_t count, const gwb_point &step, Lists &lists)
 {
     TakenApart parts(bench);
     const Result<void> done = parts.take(solid);
@@ -455,7 +603,7 @@ inline Result<std::vector<Solid>> patterned(Attempts &bench, Together &commands,
     std::vector<Solid> row;
     for (std::uint32_t place = 1; place < count; place++) {
         const gwb_point way = Motion::scaled(place)(step);
-        const Result<Solid> made = parts.make(Motion::by(way), false);
+        const Result<Solid> made = parts.make(Motion::by(way), false, &lists);
         if (!made)
             return made.error();
         row.push_back(*made);
@@ -481,11 +629,34 @@ inline Result<void> all_scaled(Attempts &bench, std::int64_t factor)
     return {};
 }
 
+/// All numbers become as low as they can be, in their order.
+inline Result<void> renumbered(Attempts &bench, Lists &lists)
+{
+    std::vector<Solid> solids;
+    for (Solid solid : bench.numbers<Solid>())
+        solids.push_back(solid);
+    TakenApart::Numbering numbers(bench, lists);
+    std::vector<TakenApart> taken;
+    for (Solid solid : solids) {
+        const Result<void> done = taken.emplace_back(bench).take(solid);
+        if (!done)
+            return done;
+        lists[GWB_MADE_SOLIDS].insert(lists[GWB_MADE_SOLIDS].end(), {solid.number(), static_cast<std::uint32_t>(taken.size())});
+    }
+    for (std::size_t at = 0; at < taken.size(); at++) {
+        numbers.begin(taken[at].spares());
+        const Result<Solid> made = taken[at].make(Motion::scaled(1), numbers, Solid(static_cast<std::uint32_t>(at + 1)));
+        if (!made)
+            return made.error();
+    }
+    return {};
+}
+
 /// A solid lies elsewhere, with the numbers that it has.
 inline Result<Solid> moved(Attempts &bench, Solid solid, const Motion &motion)
 {
     TakenApart parts(bench);
-    const Result<void> done = parts.take(solid);
+    const Result<void> done = parts.take(solid, motion.is_mirror());
     return done ? parts.make(motion, true) : Result<Solid>(done.error());
 }
 

@@ -655,8 +655,8 @@ size_t gwb_face_triangles(const gwb *g, uint32_t face, gwb_triangle_row *rows, s
  * listing of a sound model, as no bytes are none; GWB_STOPPED; GWB_CLOSED. But for GWB_OK nothing has changed except for the last answer. */
 enum gwb_kind gwb_load(gwb *g, const char *listing, size_t n, gwb_refusal *refusal);
 
-/** Gives the lines of a script one after another, up to the first whose answer is none that was asked for (gwb_succeeded).
- * @param line how many lines were given
+/** Gives the lines of a script one after another, up to the first whose answer is none that was asked for (gwb_succeeded), and
+ * writes to `line` how many were given.
  * @return the kind of the last one's answer: GWB_SILENT where there was none */
 enum gwb_kind gwb_lines(gwb *g, const char *script, size_t n, size_t *line);
 
@@ -683,6 +683,21 @@ size_t gwb_recorded(const gwb *g);
  * which no script has either. A reader.
  * @return how many bytes there are. SIZE_MAX where the handle is closed; then nothing is written. */
 size_t gwb_script(const gwb *g, size_t first, size_t n, char *buf, size_t room);
+
+/** From here on the session keeps of each command which solids it touches, also of those that are undone and redone; and where `is_asked`, what each solid
+ * was when it was touched first since this call: what was asked for before is forgotten. A command, undo or redo whose solids aren't known, since it was
+ * given before the first such call, or as a line, touches all. Where memory for any of it is refused, calls are GWB_MEMORY.
+ * @return GWB_OK; GWB_MEMORY; GWB_CLOSED. But for GWB_OK nothing has changed. */
+enum gwb_kind gwb_watch(gwb *g, bool is_asked);
+
+/** Writes the numbers of the solids that were touched, rising, as far as there is room: some may be new since, and some be gone. Of a closed handle none.
+ * A reader.
+ * @return how many there are */
+size_t gwb_watched_solids(const gwb *g, uint32_t *solids, size_t room);
+/** The half-edges that they had, alike, those of one solid as gwb_read_half_edges has them; where these start, one row each; and their faces. */
+size_t gwb_watched_half_edges(const gwb *g, gwb_half_edge_row *rows, size_t room);
+size_t gwb_watched_vertices(const gwb *g, gwb_vertex_row *rows, size_t room);
+size_t gwb_watched_faces(const gwb *g, uint32_t *faces, size_t room);
 
 /** Whether work is to end. It is asked often while it is done, by the thread that does it, and gives no call for that handle. */
 typedef bool (*gwb_stop)(void *user) GWB_NOEXCEPT;

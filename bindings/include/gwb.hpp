@@ -202,6 +202,9 @@ enum class Misfit : std::uint32_t {
     nothing_left,        ///< nothing of solid X would be left
     no_match,            ///< no face of solid X matches one of those that are joined
     glued_twice,         ///< face X matches another one besides, which it would touch after the gluing
+    not_across,          ///< face X doesn't lie across an axis
+    no_contact,          ///< solid X touches the others in no face
+    overlap,             ///< solid X has room in common with another one, or their union would touch itself
 };
 
 /// The name of what isn't possible, as Python's session has it.
@@ -223,6 +226,9 @@ enum class Misfit : std::uint32_t {
     case Misfit::nothing_left: return "NothingLeft";
     case Misfit::no_match: return "NoMatch";
     case Misfit::glued_twice: return "GluedTwice";
+    case Misfit::not_across: return "NotAcross";
+    case Misfit::no_contact: return "NoContact";
+    case Misfit::overlap: return "Overlap";
     }
     return "";
 }

@@ -1,6 +1,6 @@
 /** @file gwb_features.h
  * Features of a session of gwb.h: whole solids killed, copied, moved, scaled and glued; profiles, rings, pockets, bosses, holes, notches, slots, grooves,
- * shoulders and chamfers; and what is to be said of a cut whose points aren't whole. Not with libgwb_c.a alone.
+ * shoulders and chamfers; faces and edges by where they lie; and what is to be said of a cut whose points aren't whole. Not with libgwb_c.a alone.
  *
  * Each is one command, or steps of the draft that is open. It answers
  * - GWB_OK, and what it made is written;
@@ -26,14 +26,17 @@ enum gwb_misfit {
     GWB_MISFIT_OUTLINE_OUTSIDE,     /**< the outline crosses or touches the boundary of face X, or doesn't lie inside */
     GWB_MISFIT_OUTLINE_AROUND_RING, /**< a ring of face X lies inside the outline */
     GWB_MISFIT_OFF_LATTICE,         /**< a point or a vector at face X would not be whole */
-    GWB_MISFIT_MEETS,               /**< what is made at face X would meet or touch the solid elsewhere */
+    GWB_MISFIT_MEETS,               /**< what is made at face X would meet or touch the solid elsewhere; of a cut: solid X would touch itself */
     GWB_MISFIT_NO_OPPOSITE,         /**< there is no face behind the outline in face X */
     GWB_MISFIT_NOT_PARALLEL,        /**< face X, behind the outline, isn't parallel */
     GWB_MISFIT_NOT_OF_FACE,         /**< edge X is none of the face */
     GWB_MISFIT_FLAT_EDGE,           /**< the faces of edge X lie in one plane */
     GWB_MISFIT_NOTHING_LEFT,        /**< nothing of solid X would be left */
     GWB_MISFIT_NO_MATCH,            /**< no face of solid X matches one of those that are joined */
-    GWB_MISFIT_GLUED_TWICE          /**< face X matches another one besides, which it would touch after the gluing */
+    GWB_MISFIT_GLUED_TWICE,         /**< face X matches another one besides, which it would touch after the gluing */
+    GWB_MISFIT_NOT_ACROSS,          /**< face X doesn't lie across an axis */
+    GWB_MISFIT_NO_CONTACT,          /**< solid X touches the others in no face */
+    GWB_MISFIT_OVERLAP              /**< solid X has room in common with another one, or their union would touch itself */
 };
 
 /** The name of a misfit, as "OffLattice": "" where there is none. */
@@ -50,14 +53,17 @@ typedef struct gwb_motion {
 enum gwb_list {
     GWB_MADE_FLOOR = 0,    /**< faces at the floor of a notch, slot or shoulder: none where it goes through */
     GWB_MADE_WALLS = 1,    /**< its walls */
-    GWB_MADE_FACES = 2,    /**< of a copy: each face and the one that it became, one after the other */
+    GWB_MADE_FACES = 2,    /**< of a copy: each face and the one that it became, one after the other; of a row that for each copy */
     GWB_MADE_LOOPS = 3,    /**< loops alike */
     GWB_MADE_EDGES = 4,    /**< edges alike */
     GWB_MADE_VERTICES = 5, /**< vertices alike */
-    GWB_MADE_TURNED = 6,   /**< the new edges of a copy that run the other way than those that they are of */
-    /* Of a split: the faces that close both parts. */
+    GWB_MADE_TURNED = 6,   /**< the new edges of a copy that run the other way than those that they are of, as some do that are a loop alone */
+    /* Of a split, cut or trim: the faces that close both parts. */
     GWB_MADE_LOWER_CAPS = 7, /**< of the part below the plane, which keeps its number */
-    GWB_MADE_UPPER_CAPS = 8  /**< of the part above it */
+    GWB_MADE_UPPER_CAPS = 8, /**< of the part above it */
+    /* Of a union. */
+    GWB_MADE_INTO = 9,   /**< faces that became one with others, or several, each with one that it went into, one after the other */
+    GWB_MADE_SOLIDS = 10 /**< of new numbers: each solid and what it is now, one after the other */
 };
 
 /** Writes a list of what the last feature of the session made, as far as there is room. A reader, between features.
@@ -66,10 +72,11 @@ size_t gwb_made(const gwb *g, uint32_t list, uint32_t *buf, size_t room);
 
 /** The solid goes, with all its parts. Refused: NoSolid. */
 enum gwb_kind gwb_kill_solid(gwb *g, uint32_t solid, gwb_refusal *why);
-/** A new solid, that is another moved; its numbers are above all in use. The lists say which are which. Refused: NoSolid; PointRange;
- * NumberRange. GWB_NO_CALL where the motion is none. */
+/** A new solid, that is another moved; its numbers are above all in use, and where those are spent, free ones below. Its edges run as those that
+ * they are of, and its loops the other way where the motion makes left right. The lists say which are which. Refused: NoSolid; PointRange, with the
+ * vertex that would lie out of range; NumbersSpent. GWB_NO_CALL where the motion is none. */
 enum gwb_kind gwb_copy_solid(gwb *g, uint32_t solid, const gwb_motion *motion, uint32_t *made, gwb_refusal *why);
-/** A solid lies elsewhere, with the numbers that it has; some of its edges may run the other way. */
+/** A solid lies elsewhere, with the numbers that it has. Refused: as a copy. */
 enum gwb_kind gwb_move_solid(gwb *g, uint32_t solid, const gwb_motion *motion, gwb_refusal *why);
 
 /** The plane a x + b y + c z + d = 0. */
@@ -77,17 +84,31 @@ typedef struct gwb_cut_plane {
     int64_t a, b, c, d;
 } gwb_cut_plane;
 
-/** A row of `count` solids, of which this is the first, each by the step from the one before it: `solids` has the count - 1 that are new, whose
- * numbers are above all in use. Refused: NoSolid; PointRange; NumberRange. GWB_NO_CALL where `count` is 0. */
+/** A row of `count` solids, of which this is the first, each by the step from the one before it: `solids` has the count - 1 that are new. Numbers,
+ * lists and refusals as of copies. GWB_NO_CALL where `count` is 0. */
 enum gwb_kind gwb_pattern(gwb *g, uint32_t solid, uint32_t count, const gwb_point *step, uint32_t *solids, gwb_refusal *why);
-/** All coordinates times the factor; numbers stay, some edges may run the other way. Refused: SizeRange, where the factor is below 1; PointRange. */
+/** All coordinates times the factor; numbers stay. Refused: SizeRange, where the factor is below 1; PointRange, with the vertex; NumbersSpent. */
 enum gwb_kind gwb_scale(gwb *g, int64_t factor, gwb_refusal *why);
+/** All numbers become as low as they can be, from 1 on in the order that they have: so there are as many free ones again as there can be. The lists say
+ * which became which, as of a copy, and those of solids. Refused: NumbersSpent, where a spare number is wanted on the way and none is free. */
+enum gwb_kind gwb_renumber(gwb *g, gwb_refusal *why);
 /** The `n` solids become the first, glued along the faces that match: those without rings that go through the same points in opposite directions.
  * Refused: NoSolid; what gwb_glue refuses. Not possible: NO_MATCH; GLUED_TWICE. GWB_NO_CALL where a number stands twice, or `n` is 0. */
 enum gwb_kind gwb_glue_all(gwb *g, const uint32_t *solids, size_t n, gwb_refusal *why);
 
 /** What gwb_split does. Lists: the caps. Refused as gwb_split. */
 enum gwb_kind gwb_split_solid(gwb *g, uint32_t solid, const gwb_cut_plane *plane, uint32_t above, gwb_refusal *why);
+
+/** What gwb_split does, also where that refuses the plane for what it touches or for how it runs through faces and holes (TouchedFace, CutOften,
+ * CutCrossed, BranchedVertex, SectionHoles): then the solid is cut face by face, and faces in the plane are one with the caps beside them. Lists: the
+ * caps. Refused as gwb_split otherwise; NotFlat also for a face with an edge without a length. Not possible: MEETS. */
+enum gwb_kind gwb_cut(gwb *g, uint32_t solid, const gwb_cut_plane *plane, uint32_t above, gwb_refusal *why);
+/** The same, and what lies above the plane goes. Lists: the lower caps. */
+enum gwb_kind gwb_trim(gwb *g, uint32_t solid, const gwb_cut_plane *plane, gwb_refusal *why);
+/** The `n` solids, which touch in faces and have no room in common, become the first. Faces of one plane beside each other become one, and so do
+ * edges that go on straight. Lists: GWB_MADE_INTO. Refused: NoSolid; NotFlat. Not possible: NO_CONTACT; OVERLAP; OFF_LATTICE: edges of two solids
+ * cross between whole coordinates. GWB_NO_CALL where a number stands twice, or `n` is below 2. */
+enum gwb_kind gwb_union(gwb *g, const uint32_t *solids, size_t n, gwb_refusal *why);
 
 typedef struct gwb_profile_made {
     uint32_t far, base; /**< the face that was moved, and the one that stayed */
@@ -108,12 +129,49 @@ enum gwb_kind gwb_pocket(gwb *g, uint32_t face, const gwb_point *points, size_t 
 enum gwb_kind gwb_boss(gwb *g, uint32_t face, const gwb_point *points, size_t n, int64_t height, gwb_outline_made *made, uint32_t *sides,
                        gwb_refusal *why);
 enum gwb_kind gwb_hole(gwb *g, uint32_t face, const gwb_point *points, size_t n, gwb_outline_made *made, uint32_t *sides, gwb_refusal *why);
+/** A hole with a polygon of `n` sides, at most 1,000,000, around the center: through, where the depth is 0, else so deep, as a pocket. Its corners, which
+ * are written, are the whole points nearest to those of a regular polygon of this radius from the axis after the face's own on; of two as near, the one
+ * farther out. Refused: SizeRange, with the place of the radius, `n` or the depth; PointRange; what holes and pockets refuse. Not possible: NOT_ACROSS;
+ * what holes and pockets aren't possible for. */
+enum gwb_kind gwb_drill(gwb *g, uint32_t face, const gwb_point *center, int64_t radius, uint32_t n, int64_t depth, gwb_outline_made *made,
+                        uint32_t *sides, gwb_point *points, gwb_refusal *why);
 /** A pocket whose outline may reach the edges of the face. Lists: floor, walls. */
 enum gwb_kind gwb_notch(gwb *g, uint32_t face, const gwb_point *points, size_t n, int64_t depth, gwb_refusal *why);
 enum gwb_kind gwb_slot(gwb *g, uint32_t face, const gwb_point *start, const gwb_point *end, int64_t width, int64_t depth, gwb_refusal *why);
 enum gwb_kind gwb_groove(gwb *g, uint32_t face, const gwb_point *start, const gwb_point *end, int64_t width, int64_t depth, gwb_refusal *why);
 enum gwb_kind gwb_shoulder(gwb *g, uint32_t face, uint32_t edge, int64_t width, int64_t depth, gwb_refusal *why);
 enum gwb_kind gwb_chamfer(gwb *g, uint32_t edge, int64_t width, int64_t other, uint32_t *face, gwb_refusal *why);
+
+/** The numerator divided by the denominator. */
+typedef struct gwb_ratio {
+    uint64_t numerator, denominator;
+} gwb_ratio;
+
+/** Which faces are sought: those for which all holds that isn't 0 or NULL. */
+typedef struct gwb_face_query {
+    uint32_t solid;              /**< of the solid */
+    const gwb_cut_plane *plane;  /**< wholly in the plane, whichever way they look */
+    const gwb_point *normal;     /**< flat, and looking this way */
+    const gwb_point *containing; /**< flat, with the point inside or on an edge */
+    const gwb_ratio *area;       /**< flat, and so large, exactly */
+} gwb_face_query;
+
+/** Writes the faces that are sought, rising, as far as there is room in `buf`, and how many there are. A reader. What it takes for as long as it lasts
+ * is of the heap that the thread uses.
+ * @return GWB_OK; GWB_REFUSED: NoSolid; GWB_NO_CALL where a plane or a direction is zero, or part of a ratio is; GWB_MEMORY; GWB_STOPPED; GWB_CLOSED.
+ * Nothing is written but by GWB_OK, and `why` by GWB_REFUSED. */
+enum gwb_kind gwb_find_faces(const gwb *g, const gwb_face_query *query, uint32_t *buf, size_t room, size_t *found, gwb_refusal *why);
+
+/** Which edges are sought, alike. */
+typedef struct gwb_edge_query {
+    uint32_t solid;          /**< of the solid */
+    uint32_t between[2];     /**< with one half-edge in each of these faces */
+    const gwb_point *along;  /**< along the vector, one way or the other */
+    const gwb_ratio *length; /**< so long, exactly */
+} gwb_edge_query;
+
+/** The same of edges. Refused: NoFace; NoSolid. GWB_NO_CALL also where one of two faces is 0. */
+enum gwb_kind gwb_find_edges(const gwb *g, const gwb_edge_query *query, uint32_t *buf, size_t room, size_t *found, gwb_refusal *why);
 
 /** A plane beside another one. */
 typedef struct gwb_near_plane {

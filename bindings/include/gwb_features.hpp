@@ -84,33 +84,32 @@ struct Pocket {
     Loop loop;
     std::vector<Face> sides;
 };
-/// What hole makes: the face that it ends in, the ring at its start, and for each point the side from it to the next.
+/// What hole and drill make: the face that it ends in, the ring at its start, for each point the side from it to the next, and the points.
 struct Hole {
     Face other;
     Loop loop;
     std::vector<Face> sides;
+    std::vector<Point> points;
 };
 /// What a notch, slot, groove or shoulder leaves: its floor, none where it goes through, and its walls.
 struct Notch {
     std::vector<Face> floor, walls;
 };
 
-/// What split_solid makes: the solid above the plane, and the faces that close both parts.
+/// What split_solid and cut make: the solid above the plane, and the faces that close both parts.
 struct Split {
     Solid above;
     std::vector<Face> lower_caps, upper_caps;
     operator Solid() const { return above; }
 };
 
-/// A copy of a solid, which it stands for, and which of its parts are of which.
-class Copy {
+/// Which of the parts that were made last are of which.
+class Parts {
 public:
-    /// What gwb_made has of the copy that was made last.
-    Copy(const gwb *g, Solid made);
-    Solid solid;
-    operator Solid() const { return solid; }
+    /// What gwb_made has of them.
+    explicit Parts(const gwb *g);
 
-    /// The part of the copy that is of this one: none of what isn't of the solid.
+    /// The part that is of this one: none of another one.
     [[nodiscard]] Face of(Face face) const { return Face(find(faces_, face.number())); }
     [[nodiscard]] Loop of(Loop loop) const { return Loop(find(loops_, loop.number())); }
     [[nodiscard]] Edge of(Edge edge) const { return Edge(find(edges_, edge.number())); }
@@ -123,7 +122,7 @@ public:
         return half_edge.is_second() == is_turned ? plus(edge) : minus(edge);
     }
 
-private:
+protected:
     /// Old numbers, rising, each with the new one after it.
     using Pairs = std::vector<std::uint32_t>;
     static std::uint32_t find(const Pairs &pairs, std::uint32_t old)
@@ -136,8 +135,51 @@ private:
         return low < pairs.size() / 2 && pairs[2 * low] == old ? pairs[2 * low + 1] : 0;
     }
 
+    /// The new numbers, each with the old one after it: both rise where all numbers were made lower.
+    static void turn_back(Pairs &pairs)
+    {
+        for (std::size_t at = 0; at < pairs.size(); at += 2)
+            std::swap(pairs[at], pairs[at + 1]);
+    }
+    void turn_back()
+    {
+        for (Pairs *pairs : {&faces_, &loops_, &edges_, &vertices_})
+            turn_back(*pairs);
+        for (std::uint32_t &edge : turned_)
+            edge = find(edges_, edge);
+    }
+
+private:
     Pairs faces_, loops_, edges_, vertices_;
     std::vector<std::uint32_t> turned_;
+};
+
+/// A copy of a solid, which it stands for, and its parts.
+class Copy : public Parts {
+public:
+    Copy(const gwb *g, Solid made) : Parts(g), solid(made) {}
+    Solid solid;
+    operator Solid() const { return solid; }
+};
+
+/// What all numbers have become.
+class Renumbered : public Parts {
+public:
+    explicit Renumbered(const gwb *g);
+    using Parts::of;
+    [[nodiscard]] Solid of(Solid solid) const { return Solid(find(solids_, solid.number())); }
+    /// The same the other way, for what follows an undo.
+    [[nodiscard]] Renumbered back() const
+    {
+        Renumbered before = *this;
+        before.turn_back();
+        Parts::turn_back(before.solids_);
+        return before;
+    }
+
+private:
+    using Parts::turn_back;
+    Pairs solids_;
 };
 
 namespace features {
@@ -188,6 +230,14 @@ template <class Of, class Row> std::vector<Row> rows(std::size_t (*write)(const 
     return found;
 }
 
+/// The numbers of solids, and room for one more, so that they have an address.
+inline std::vector<std::uint32_t> numbers(Items<Solid> solids)
+{
+    std::vector<std::uint32_t> found(solids.size() + 1);
+    std::transform(solids.begin(), solids.end(), found.begin(), [](Solid solid) { return solid.number(); });
+    return found;
+}
+
 /// A notch, slot, groove or shoulder.
 template <class Policy, class Call> typename Policy::template Returned<Notch> notch(Commands<Policy> &bench, const char *command, Call call)
 {
@@ -204,14 +254,14 @@ template <class Policy> typename Policy::template Returned<void> kill_solid(Comm
     return bench.feature("kill_solid", [&](gwb *g, gwb_refusal *why) { return gwb_kill_solid(g, solid.number(), why); }, [] {});
 }
 
-inline Copy::Copy(const gwb *g, Solid made)
-    : solid(made), faces_(features::listed(g, GWB_MADE_FACES)), loops_(features::listed(g, GWB_MADE_LOOPS)),
-      edges_(features::listed(g, GWB_MADE_EDGES)), vertices_(features::listed(g, GWB_MADE_VERTICES)),
-      turned_(features::listed(g, GWB_MADE_TURNED))
+inline Parts::Parts(const gwb *g)
+    : faces_(features::listed(g, GWB_MADE_FACES)), loops_(features::listed(g, GWB_MADE_LOOPS)), edges_(features::listed(g, GWB_MADE_EDGES)),
+      vertices_(features::listed(g, GWB_MADE_VERTICES)), turned_(features::listed(g, GWB_MADE_TURNED))
 {
 }
+inline Renumbered::Renumbered(const gwb *g) : Parts(g), solids_(features::listed(g, GWB_MADE_SOLIDS)) {}
 
-/// A new solid, that is another one moved; its numbers are above all in use.
+/// A new solid, that is another one moved; its numbers are free ones, above all in use as long as there are any.
 template <class Policy> typename Policy::template Returned<Copy> copy_solid(Commands<Policy> &bench, Solid solid, const Motion &motion = {})
 {
     std::uint32_t made = 0;
@@ -220,7 +270,7 @@ template <class Policy> typename Policy::template Returned<Copy> copy_solid(Comm
                                 [&] { return Copy(bench.handle(), Solid(made)); });
 }
 
-/// A solid lies elsewhere, with the numbers that it has; some of its edges may run the other way.
+/// A solid lies elsewhere, with the numbers that it has.
 template <class Policy> typename Policy::template Returned<void> move_solid(Commands<Policy> &bench, Solid solid, const Motion &motion)
 {
     return bench.feature("move_solid", [&](gwb *g, gwb_refusal *why) { return gwb_move_solid(g, solid.number(), &motion.row(), why); }, [] {});
@@ -250,28 +300,74 @@ template <class Policy> typename Policy::template Returned<void> scale(Commands<
     return bench.feature("scale", [&](gwb *g, gwb_refusal *why) { return gwb_scale(g, factor, why); }, [] {});
 }
 
+/// All numbers become as low as they can be, in their order: where none is left for what comes. Notes follow by renumbered().
+template <class Policy> typename Policy::template Returned<Renumbered> renumber(Commands<Policy> &bench)
+{
+    return bench.listed_feature("renumber", [&](gwb *g, gwb_refusal *why) { return gwb_renumber(g, why); },
+                                [&] { return Renumbered(bench.handle()); });
+}
+
 /// The solids become the first, glued along the faces that match. NoCall where one stands twice, or there are none.
 template <class Policy> typename Policy::template Returned<void> glue_all(Commands<Policy> &bench, Items<Solid> solids)
 {
-    std::vector<std::uint32_t> numbers;
-    numbers.reserve(solids.size() + 1); // so that it has an address
-    for (Solid solid : solids)
-        numbers.push_back(solid.number());
-    return bench.feature("glue_all", [&](gwb *g, gwb_refusal *why) { return gwb_glue_all(g, numbers.data(), numbers.size(), why); }, [] {});
+    const std::vector<std::uint32_t> numbers = features::numbers(solids);
+    return bench.feature("glue_all", [&](gwb *g, gwb_refusal *why) { return gwb_glue_all(g, numbers.data(), solids.size(), why); }, [] {});
 }
+
+namespace features {
+
+/// What the last split or cut made.
+inline Split split(const gwb *g, Solid above) { return {above, faces(g, GWB_MADE_LOWER_CAPS), faces(g, GWB_MADE_UPPER_CAPS)}; }
+
+} // namespace features
 
 /// What the command split does, with the faces that close both parts. Refused as split.
 template <class Policy>
 typename Policy::template Returned<Split> split_solid(Commands<Policy> &bench, Solid solid, const gwb_cut_plane &plane, Solid above)
 {
     return bench.listed_feature(
-        "split", [&](gwb *g, gwb_refusal *why) { return gwb_split_solid(g, solid.number(), &plane, above.number(), why); }, [&] {
-            return Split{above, features::faces(bench.handle(), GWB_MADE_LOWER_CAPS), features::faces(bench.handle(), GWB_MADE_UPPER_CAPS)};
-        });
+        "split", [&](gwb *g, gwb_refusal *why) { return gwb_split_solid(g, solid.number(), &plane, above.number(), why); },
+        [&] { return features::split(bench.handle(), above); });
 }
 template <class Policy> typename Policy::template Returned<Split> split_solid(Commands<Policy> &bench, Solid solid, const gwb_cut_plane &plane)
 {
     return split_solid(bench, solid, plane, bench.attempt().template next_free<Solid>().value_or(Solid()));
+}
+
+/// The same, also where split refuses the plane for what it touches or how it runs through faces and holes.
+template <class Policy> typename Policy::template Returned<Split> cut(Commands<Policy> &bench, Solid solid, const gwb_cut_plane &plane, Solid above)
+{
+    return bench.listed_feature(
+        "cut", [&](gwb *g, gwb_refusal *why) { return gwb_cut(g, solid.number(), &plane, above.number(), why); },
+        [&] { return features::split(bench.handle(), above); });
+}
+template <class Policy> typename Policy::template Returned<Split> cut(Commands<Policy> &bench, Solid solid, const gwb_cut_plane &plane)
+{
+    return cut(bench, solid, plane, bench.attempt().template next_free<Solid>().value_or(Solid()));
+}
+
+/// What lies above the plane goes: the faces that close what is left. Refused as cut.
+template <class Policy> typename Policy::template Returned<std::vector<Face>> trim(Commands<Policy> &bench, Solid solid, const gwb_cut_plane &plane)
+{
+    return bench.listed_feature("trim", [&](gwb *g, gwb_refusal *why) { return gwb_trim(g, solid.number(), &plane, why); },
+                                [&] { return features::faces(bench.handle(), GWB_MADE_LOWER_CAPS); });
+}
+
+/// Faces that became one with others, or several, each with one that it went into.
+using Merged = std::vector<std::pair<Face, Face>>;
+
+/// The solids, which touch in faces, become the first (`union` is a word of the language). NoCall where one stands twice, or there are fewer than
+/// two.
+template <class Policy> typename Policy::template Returned<Merged> unite(Commands<Policy> &bench, Items<Solid> solids)
+{
+    const std::vector<std::uint32_t> numbers = features::numbers(solids);
+    return bench.listed_feature("union", [&](gwb *g, gwb_refusal *why) { return gwb_union(g, numbers.data(), solids.size(), why); }, [&] {
+        const std::vector<Face> faces = features::faces(bench.handle(), GWB_MADE_INTO);
+        Merged merged;
+        for (std::size_t at = 0; at < faces.size(); at += 2)
+            merged.emplace_back(faces[at], faces[at + 1]);
+        return merged;
+    });
 }
 
 /// A new solid: the outline through the points, moved along the vector.
@@ -335,10 +431,31 @@ template <class Policy> typename Policy::template Returned<Hole> hole(Commands<P
 {
     gwb_outline_made made{};
     features::ByPoints<Face> sides(points);
+    std::vector<Point> corners(points.begin(), points.end());
     return bench.feature(
         "hole",
         [&](gwb *g, gwb_refusal *why) { return gwb_hole(g, face.number(), points.data(), points.size(), &made, sides.to(), why); },
-        [&] { return Hole{Face(made.face), Loop(made.loop), sides.take()}; });
+        [&] { return Hole{Face(made.face), Loop(made.loop), sides.take(), std::move(corners)}; });
+}
+
+/// A hole with a polygon of so many sides around the center, on whole numbers nearest to the circle of the radius: through, where the depth is 0, or so deep.
+template <class Policy>
+typename Policy::template Returned<Hole> drill(Commands<Policy> &bench, Face face, Point center, std::int64_t radius, std::uint32_t sides,
+                                               std::int64_t depth = 0)
+{
+    constexpr std::uint32_t most_sides = 1'000'000;
+    gwb_outline_made made{};
+    std::vector<Point> points(sides <= most_sides ? sides + 1 : 1); // (so that it has an address)
+    features::ByPoints<Face> walls(Items<Point>(points.data(), points.size() - 1));
+    return bench.feature(
+        "drill",
+        [&](gwb *g, gwb_refusal *why) {
+            return gwb_drill(g, face.number(), &center, radius, sides, depth, &made, walls.to(), points.data(), why);
+        },
+        [&] {
+            points.pop_back();
+            return Hole{Face(made.face), Loop(made.loop), walls.take(), std::move(points)};
+        });
 }
 
 /// A pocket whose outline may reach the edges of the face.
@@ -385,6 +502,66 @@ typename Policy::template Returned<Face> chamfer(Commands<Policy> &bench, Edge e
 }
 
 using CutPlane = gwb_cut_plane;
+/// The numerator divided by the denominator.
+using Ratio = gwb_ratio;
+
+/// Which faces are sought: those for which all holds that is said (gwb_face_query).
+struct FaceQuery {
+    std::optional<Solid> solid;
+    std::optional<CutPlane> plane;           ///< wholly in it, whichever way they look
+    std::optional<Point> normal, containing; ///< flat, and looking this way; flat, with the point inside or on an edge
+    std::optional<Ratio> area;
+};
+/// Which edges are sought.
+struct EdgeQuery {
+    std::optional<Solid> solid;
+    std::optional<std::pair<Face, Face>> between;
+    std::optional<Point> along; ///< one way or the other
+    std::optional<Ratio> length;
+};
+
+namespace features {
+
+template <class T> const T *pointer(const std::optional<T> &value) { return value ? &*value : nullptr; }
+
+/// What a query finds, which is asked for twice.
+template <class Kind, class Policy, class Query, class Call>
+typename Policy::template Returned<std::vector<Kind>> found(const Commands<Policy> &bench, const char *reader, const Query &query, Call call)
+{
+    std::vector<std::uint32_t> numbers(64);
+    std::size_t count = 0;
+    gwb_refusal why{};
+    gwb_kind kind = call(bench.handle(), &query, numbers.data(), numbers.size(), &count, &why);
+    if (kind == GWB_OK && count > numbers.size()) {
+        numbers.resize(count);
+        kind = call(bench.handle(), &query, numbers.data(), numbers.size(), &count, &why);
+    }
+    if (kind != GWB_OK)
+        return Policy::template failed<std::vector<Kind>>(reader, bench.feature_failure(kind, why));
+    std::vector<Kind> kinds;
+    for (std::size_t at = 0; at < count; at++)
+        kinds.emplace_back(numbers[at]);
+    return kinds;
+}
+
+} // namespace features
+
+/// The faces that are sought, rising. Refused: NoSolid. NoCall where a plane or a direction is zero.
+template <class Policy> typename Policy::template Returned<std::vector<Face>> find_faces(const Commands<Policy> &bench, const FaceQuery &query)
+{
+    const gwb_face_query row = {query.solid.value_or(Solid()).number(), features::pointer(query.plane), features::pointer(query.normal),
+                                features::pointer(query.containing), features::pointer(query.area)};
+    return features::found<Face>(bench, "find_faces", row, gwb_find_faces);
+}
+
+/// The edges that are sought, rising. Refused: NoFace; NoSolid. NoCall where a direction is zero.
+template <class Policy> typename Policy::template Returned<std::vector<Edge>> find_edges(const Commands<Policy> &bench, const EdgeQuery &query)
+{
+    const auto [one, other] = query.between.value_or(std::pair<Face, Face>());
+    const gwb_edge_query row = {query.solid.value_or(Solid()).number(), {one.number(), other.number()}, features::pointer(query.along),
+                                features::pointer(query.length)};
+    return features::found<Edge>(bench, "find_edges", row, gwb_find_edges);
+}
 
 /// What is to be said of a cut whose points aren't whole.
 class OffLattice {

@@ -7,14 +7,12 @@
 ///     follow(bench, [&] { bench.split(block, 0, 0, 1, -2); }, colours);
 ///     follow_undo(bench, colours);
 ///
-/// After the split both parts of face 2 are red, and after the undo the whole of it is. All is found by comparing the model before the
-/// commands with that after them, so each `follow` costs as much as reading the model twice (gwb_read_half_edges), whatever the commands
-/// are.
+/// After the split both parts of face 2 are red, and after the undo the whole of it is. All is found by comparing the solids that the commands touched,
+/// as they were before, with what they are after (gwb_watch), so a `follow` costs as much as reading these, whatever else there is.
 #ifndef GWB_HISTORY_HPP
 #define GWB_HISTORY_HPP
 #include "gwb.hpp"
 #include <map>
-#include <unordered_map>
 
 namespace gwb_session {
 
@@ -53,23 +51,61 @@ struct Changes {
     }
 };
 
-/// A model at one time, so far as it tells what becomes of faces and edges.
+/// What comes is watched until the end of the scope (gwb_watch).
+class Watching {
+public:
+    explicit Watching(gwb *g) : g_(g), began_(gwb_changes(g)), from_(gwb_depth(g))
+    {
+        if (gwb_watch(g, true) == GWB_MEMORY)
+#if defined(__cpp_exceptions)
+            throw std::bad_alloc();
+#else
+            std::abort();
+#endif
+    }
+    Watching(const Watching &) = delete;
+    Watching &operator=(const Watching &) = delete;
+    ~Watching() { (void)gwb_watch(g_, false); }
+    [[nodiscard]] const gwb *handle() const { return g_; }
+    [[nodiscard]] std::uint64_t began() const { return began_; }
+    [[nodiscard]] std::size_t from() const { return from_; }
+
+private:
+    gwb *g_;
+    std::uint64_t began_;
+    std::size_t from_;
+};
+
+/// Solids at one time, so far as they tell what becomes of faces and edges. For the functions below.
 class Reading {
 public:
-    /// Of all solids.
-    template <class Policy> explicit Reading(const Commands<Policy> &bench) : depth_(gwb_depth(bench.handle())), changes_(bench.changes())
+    /// Those that were touched, as they were.
+    static Reading before(const gwb *g)
     {
-        for (const gwb_vertex_row &row : bench.vertex_rows())
-            points_.emplace(row.vertex, row.point);
-        for (Face face : bench.template numbers<Face>())
-            faces_.push_back(face);
-        for (Edge edge : bench.template numbers<Edge>())
-            edges_.push_back(edge);
-        for (const gwb_half_edge_row &row : bench.half_edge_rows()) {
-            sides_.emplace(row.half_edge, row);
-            starts_.emplace(row.start, row.half_edge);
-            borders_.emplace(row.face, row.half_edge);
+        Reading reading;
+        reading.points_ = listed<gwb_vertex_row>(g, gwb_watched_vertices);
+        for (std::uint32_t face : listed<std::uint32_t>(g, gwb_watched_faces))
+            reading.faces_.emplace_back(face);
+        reading.sides_ = listed<gwb_half_edge_row>(g, gwb_watched_half_edges);
+        reading.sort();
+        return reading;
+    }
+    /// The same as they are.
+    template <class Policy> static Reading after(const Commands<Policy> &bench)
+    {
+        Reading reading;
+        for (std::uint32_t solid : listed<std::uint32_t>(bench.handle(), gwb_watched_solids)) {
+            for (Face face : bench.faces(Solid(solid)))
+                reading.faces_.push_back(face);
+            const auto more = bench.half_edge_rows(Solid(solid));
+            reading.sides_.insert(reading.sides_.end(), more.begin(), more.end());
         }
+        for (const gwb_half_edge_row &row : reading.sides_) {
+            reading.points_.push_back({row.start, {}});
+            gwb_vertex(bench.handle(), row.start, &reading.points_.back().point);
+        }
+        reading.sort();
+        return reading;
     }
 
     /// What happened between two readings.
@@ -77,14 +113,9 @@ public:
     /// A new face was split from the one that had a half-edge of it, or else an edge along one of its own from the same vertex, if it lies in that
     /// face's plane and looks the same way. A new edge was split from the one that ran along it from the same vertex. A face that is gone was
     /// joined to the one that has a half-edge of it.
-    friend Changes between(const Reading &before, const Reading &after, Turn turn)
+    friend Changes between(const Reading &before, const Reading &after)
     {
         Changes changes;
-        changes.turn = turn;
-        changes.from = before.depth_;
-        changes.to = after.depth_;
-        changes.began = before.changes_;
-        changes.ended = after.changes_;
         for (Face face : missing(after.faces_, before.faces_))
             changes.faces.made.push_back({face, after.face_before(face, before)});
         for (Face face : missing(before.faces_, after.faces_))
@@ -97,6 +128,55 @@ public:
     }
 
 private:
+    Reading() = default;
+
+    /// A list that the session has.
+    template <class Row> static std::vector<Row> listed(const gwb *g, std::size_t (*write)(const gwb *, Row *, std::size_t))
+    {
+        Row none{};
+        std::vector<Row> found(write(g, &none, 0));
+        if (!found.empty())
+            write(g, found.data(), found.size());
+        return found;
+    }
+    /// Numbers of half-edges with what they are of: those of one lie together, in the order of the rows.
+    using Pairs = std::vector<std::pair<std::uint32_t, std::uint32_t>>;
+    void sort()
+    {
+        for (const gwb_half_edge_row &row : sides_) {
+            starts_.emplace_back(row.start, row.half_edge);
+            borders_.emplace_back(row.face, row.half_edge);
+            if (row.half_edge % 2 == 0)
+                edges_.push_back(HalfEdge(row.half_edge).edge());
+        }
+        const auto by_first = [](const auto &one, const auto &other) { return one.first < other.first; };
+        std::stable_sort(starts_.begin(), starts_.end(), by_first);
+        std::stable_sort(borders_.begin(), borders_.end(), by_first);
+        std::sort(faces_.begin(), faces_.end());
+        std::sort(edges_.begin(), edges_.end());
+        std::sort(sides_.begin(), sides_.end(), [](const auto &one, const auto &other) { return one.half_edge < other.half_edge; });
+        std::sort(points_.begin(), points_.end(), [](const auto &one, const auto &other) { return one.vertex < other.vertex; });
+    }
+    /// Those of one.
+    static std::pair<Pairs::const_iterator, Pairs::const_iterator> those(const Pairs &pairs, std::uint32_t number)
+    {
+        const auto first = std::lower_bound(pairs.begin(), pairs.end(), std::pair(number, std::uint32_t{0}),
+                                            [](const auto &one, const auto &other) { return one.first < other.first; });
+        return {first, std::find_if(first, pairs.end(), [&](const auto &pair) { return pair.first != number; })};
+    }
+    /// The row of a half-edge: nullptr where it is not there.
+    [[nodiscard]] const gwb_half_edge_row *side(std::uint32_t half_edge) const
+    {
+        const auto found =
+            std::lower_bound(sides_.begin(), sides_.end(), half_edge, [](const auto &row, std::uint32_t number) { return row.half_edge < number; });
+        return found != sides_.end() && found->half_edge == half_edge ? &*found : nullptr;
+    }
+    /// Where a vertex lies that is there.
+    [[nodiscard]] const Point &point(std::uint32_t vertex) const
+    {
+        return std::lower_bound(points_.begin(), points_.end(), vertex, [](const auto &row, std::uint32_t number) { return row.vertex < number; })->point;
+    }
+
     /// The numbers of the first list that the second one has not; both rise.
     template <class Kind> static std::vector<Kind> missing(const std::vector<Kind> &these, const std::vector<Kind> &those)
     {
@@ -108,10 +188,10 @@ private:
     /// The face in another reading of a half-edge that both have and that is of the face here.
     [[nodiscard]] Face face_of_survivor(Face face, const Reading &other) const
     {
-        const auto [first, last] = borders_.equal_range(face.number());
+        const auto [first, last] = those(borders_, face.number());
         for (auto at = first; at != last; ++at)
-            if (auto side = other.sides_.find(at->second); side != other.sides_.end())
-                return Face(side->second.face);
+            if (const gwb_half_edge_row *row = other.side(at->second); row != nullptr)
+                return Face(row->face);
         return Face();
     }
 
@@ -119,7 +199,7 @@ private:
     {
         if (Face survivor = face_of_survivor(face, before); survivor != Face())
             return is_part(face, before, survivor) ? survivor : Face();
-        const auto [first, last] = borders_.equal_range(face.number());
+        const auto [first, last] = those(borders_, face.number());
         for (auto at = first; at != last; ++at)
             if (const gwb_half_edge_row *along = along_in(before, at->second); along != nullptr && is_part(face, before, Face(along->face)))
                 return Face(along->face);
@@ -133,7 +213,7 @@ private:
     /// A point of a face, and a vector across it, as long as twice its area: zero where that is.
     [[nodiscard]] std::pair<Point, Vector> plane(Face face) const
     {
-        const auto [first, last] = borders_.equal_range(face.number());
+        const auto [first, last] = those(borders_, face.number());
         const Point origin = first != last ? start_of(first->second) : Point{};
         Vector across{};
         for (auto at = first; at != last; ++at) {
@@ -148,7 +228,7 @@ private:
     [[nodiscard]] bool is_part(Face face, const Reading &other, Face of) const
     {
         const auto [origin, across] = other.plane(of);
-        const auto [first, last] = borders_.equal_range(face.number());
+        const auto [first, last] = those(borders_, face.number());
         for (auto at = first; at != last; ++at) {
             const Vector way = minus_of(start_of(at->second), origin);
             if (across[0] * way[0] + across[1] * way[1] + across[2] * way[2] != 0)
@@ -173,22 +253,22 @@ private:
     /// The half-edge in another reading that starts where one of this one does and goes the same way.
     [[nodiscard]] const gwb_half_edge_row *along_in(const Reading &other, std::uint32_t half_edge) const
     {
-        const std::uint32_t start = sides_.at(half_edge).start;
-        const auto [first, last] = other.starts_.equal_range(start);
-        if (first == last || !same(points_.at(start), other.points_.at(start)))
+        const std::uint32_t start = side(half_edge)->start;
+        const auto [first, last] = those(other.starts_, start);
+        if (first == last || !same(point(start), other.point(start)))
             return nullptr;
         for (auto at = first; at != last; ++at)
             if (is_one_way(way(half_edge), other.way(at->second)))
-                return &other.sides_.at(at->second);
+                return other.side(at->second);
         return nullptr;
     }
 
-    [[nodiscard]] Point start_of(std::uint32_t half_edge) const { return points_.at(sides_.at(half_edge).start); }
+    [[nodiscard]] Point start_of(std::uint32_t half_edge) const { return point(side(half_edge)->start); }
 
     /// From where a half-edge starts to where it ends.
     [[nodiscard]] Point way(std::uint32_t half_edge) const
     {
-        const Point from = points_.at(sides_.at(half_edge).start), to = points_.at(sides_.at(half_edge ^ 1u).start);
+        const Point from = start_of(half_edge), to = start_of(half_edge ^ 1u);
         return {to.x - from.x, to.y - from.y, to.z - from.z};
     }
 
@@ -202,13 +282,11 @@ private:
             && (a.y < 0) == (b.y < 0) && (a.z < 0) == (b.z < 0);
     }
 
-    std::size_t depth_;
-    std::uint64_t changes_;
     std::vector<Face> faces_;
     std::vector<Edge> edges_;
-    std::unordered_map<std::uint32_t, Point> points_;
-    std::unordered_map<std::uint32_t, gwb_half_edge_row> sides_;
-    std::multimap<std::uint32_t, std::uint32_t> borders_, starts_;
+    std::vector<gwb_vertex_row> points_;
+    std::vector<gwb_half_edge_row> sides_;
+    Pairs borders_, starts_;
 };
 
 /// Values on faces or on edges, which follow what becomes of them: a part that was split off has a copy of the value; what is gone has none, and has
@@ -254,6 +332,17 @@ public:
                 made.insert_or_assign(of, value);
         for (auto &[id, value] : made)
             values_.insert_or_assign(id, std::move(value));
+    }
+
+    /// All numbers have become others (renumber of gwb_features.hpp), which follow() doesn't tell: after its undo `all.back()`.
+    template <class Renumbered> void renumbered(const Renumbered &all)
+    {
+        Values made;
+        for (auto &[id, value] : values_)
+            if (const Kind of = all.of(id); of != Kind())
+                made.insert_or_assign(of, std::move(value));
+        values_ = std::move(made);
+        steps_.clear();
     }
 
 private:
@@ -304,49 +393,53 @@ private:
     std::uint64_t seen_ = 0;
 };
 
-/// What happened since a reading, which notes follow.
-template <class Policy, class... AllNotes> Changes followed(const Commands<Policy> &bench, const Reading &before, Turn turn, AllNotes &...notes)
+/// What happened since it is watched, which notes follow.
+template <class Policy, class... AllNotes>
+Changes followed(const Commands<Policy> &bench, const Watching &watching, Turn turn, AllNotes &...notes)
 {
-    const Changes changes = between(before, Reading(bench), turn);
+    Changes changes = between(Reading::before(watching.handle()), Reading::after(bench));
+    changes.turn = turn;
+    changes.from = watching.from(), changes.to = gwb_depth(watching.handle());
+    changes.began = watching.began(), changes.ended = gwb_changes(watching.handle());
     (notes.follow(changes), ...);
     return changes;
 }
 
 /// Gives commands, and lets notes follow them, also those before one that throws. Undo and redo are given by follow_undo and follow_redo.
-template <class Policy, class Call, class... AllNotes> Changes follow(const Commands<Policy> &bench, Call &&call, AllNotes &...notes)
+template <class Policy, class Call, class... AllNotes> Changes follow(Commands<Policy> &bench, Call &&call, AllNotes &...notes)
 {
-    const Reading before(bench);
+    const Watching watching(bench.handle());
 #if defined(__cpp_exceptions)
     try {
         std::forward<Call>(call)();
     } catch (...) {
-        followed(bench, before, Turn::commands, notes...);
+        followed(bench, watching, Turn::commands, notes...);
         throw;
     }
 #else
     std::forward<Call>(call)();
 #endif
-    return followed(bench, before, Turn::commands, notes...);
+    return followed(bench, watching, Turn::commands, notes...);
 }
 
 /// Takes the last command back, and lets notes follow it.
 template <class Policy, class... AllNotes> typename Policy::template Returned<Changes> follow_undo(Commands<Policy> &bench, AllNotes &...notes)
 {
-    const Reading before(bench);
+    const Watching watching(bench.handle());
     const Result<void> done = bench.attempt().undo();
     if (!done)
         return Policy::template failed<Changes>("undo", done.error());
-    return followed(bench, before, Turn::undo, notes...);
+    return followed(bench, watching, Turn::undo, notes...);
 }
 
 /// Does the command again that was taken back last, and lets notes follow it.
 template <class Policy, class... AllNotes> typename Policy::template Returned<Changes> follow_redo(Commands<Policy> &bench, AllNotes &...notes)
 {
-    const Reading before(bench);
+    const Watching watching(bench.handle());
     const Result<void> done = bench.attempt().redo();
     if (!done)
         return Policy::template failed<Changes>("redo", done.error());
-    return followed(bench, before, Turn::redo, notes...);
+    return followed(bench, watching, Turn::redo, notes...);
 }
 
 } // namespace gwb_session

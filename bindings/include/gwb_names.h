@@ -72,13 +72,13 @@ enum gwb_why {
     GWB_WHY_NOT_FLAT = 32,
     /* two corners of face X lie at one point */
     GWB_WHY_REPEATED_POINT = 33,
-    /* the points of face X, read backwards, aren't those of the first face */
+    /* the points of face X, read backwards, aren't those of the first face; faces that are glued have the same corners, and look at each other */
     GWB_WHY_NO_MATCH = 34,
     /* coefficient X is out of range */
     GWB_WHY_PLANE_RANGE = 35,
     /* solid X has no vertex above the plane, or none below */
     GWB_WHY_PLANE_MISSES = 36,
-    /* the plane cuts edge X between whole coordinates */
+    /* the plane cuts edge X between whole coordinates; a finer unit would do, or a plane near by */
     GWB_WHY_NOT_LATTICE = 37,
     /* the plane cuts face X and also touches it at a corner or along an edge */
     GWB_WHY_TOUCHED_FACE = 38,
@@ -185,10 +185,10 @@ static inline const char *gwb_why_text(uint32_t number)
     case GWB_WHY_SAME_SOLID: return "both faces are of solid X";
     case GWB_WHY_NOT_FLAT: return "face X isn't flat";
     case GWB_WHY_REPEATED_POINT: return "two corners of face X lie at one point";
-    case GWB_WHY_NO_MATCH: return "the points of face X, read backwards, aren't those of the first face";
+    case GWB_WHY_NO_MATCH: return "the points of face X, read backwards, aren't those of the first face; faces that are glued have the same corners, and look at each other";
     case GWB_WHY_PLANE_RANGE: return "coefficient X is out of range";
     case GWB_WHY_PLANE_MISSES: return "solid X has no vertex above the plane, or none below";
-    case GWB_WHY_NOT_LATTICE: return "the plane cuts edge X between whole coordinates";
+    case GWB_WHY_NOT_LATTICE: return "the plane cuts edge X between whole coordinates; a finer unit would do, or a plane near by";
     case GWB_WHY_TOUCHED_FACE: return "the plane cuts face X and also touches it at a corner or along an edge";
     case GWB_WHY_CUT_OFTEN: return "the plane cuts face X but not its outer loop, or not one of its rings where there are more than two cuts";
     case GWB_WHY_CUT_CROSSED: return "the cuts of face X don't pair up, or can't be drawn one after another";

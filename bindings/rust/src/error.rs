@@ -31,7 +31,7 @@ pub enum Error {
     /// No draft is open that could be committed, which a [`Draft`](crate::Draft) is as long as it is there; or a mark is of another draft, or of
     /// steps that were taken back.
     NoDraft,
-    /// The caller ended what was under way ([`Session::stop_when`](crate::Session::stop_when)).
+    /// The caller ended what was under way ([`Operators::stop_when`](crate::Operators::stop_when)).
     Stopped,
     /// The library that is linked is of this version, in the form of [`gwb_sys::VERSION`], and the crate of another one.
     OtherVersion(u32),
@@ -73,6 +73,12 @@ pub enum Misfit {
     NoMatch,
     /// Face X matches another one besides, which it would touch after the gluing.
     GluedTwice,
+    /// Face X doesn't lie across an axis.
+    NotAcross,
+    /// Solid X touches the others in no face.
+    NoContact,
+    /// Solid X has room in common with another one, or their union would touch itself.
+    Overlap,
 }
 
 impl fmt::Display for Error {

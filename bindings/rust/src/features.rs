@@ -3,6 +3,7 @@
 use crate::{minus, plus, Draft, Edge, Error, Face, HalfEdge, Id, Loop, Misfit, Point, Session, Solid, Vertex};
 use gwb_sys::{kind, Gwb, OutlineMade};
 use std::collections::BTreeMap;
+use std::ops::Deref;
 
 /// Where points go: each axis to an axis, either way round, and then by a vector.
 #[derive(Clone, Copy, Debug, PartialEq, Eq)]
@@ -100,13 +101,15 @@ pub struct Pocket {
     pub of_loop: Loop,
     pub sides: Vec<Face>,
 }
-/// What [`hole`](Draft::hole) makes: the face that it ends in, the ring at its start, and for each point the side.
+/// What [`hole`](Draft::hole) and [`drill`](Draft::drill) make: the face that it ends in, the ring at its start, for each point the side, and the
+/// points.
 #[derive(Clone, Debug, PartialEq, Eq)]
 #[allow(missing_docs)]
 pub struct Hole {
     pub other: Face,
     pub of_loop: Loop,
     pub sides: Vec<Face>,
+    pub points: Vec<Point>,
 }
 /// What a notch, slot, groove or shoulder leaves: its floor, none where it goes through, and its walls.
 #[derive(Clone, Debug, PartialEq, Eq)]
@@ -116,7 +119,7 @@ pub struct Notch {
     pub walls: Vec<Face>,
 }
 
-/// What [`split_solid`](Draft::split_solid) makes: the solid above the plane, and the faces that close both parts.
+/// What [`split_solid`](Draft::split_solid) and [`cut`](Draft::cut) make: the solid above the plane, and the faces that close both parts.
 #[derive(Clone, Debug, PartialEq, Eq)]
 #[allow(missing_docs)]
 pub struct Split {
@@ -124,19 +127,68 @@ pub struct Split {
     pub lower_caps: Vec<Face>,
     pub upper_caps: Vec<Face>,
 }
-/// A copy of a solid, and which of its parts are of which.
+/// A copy of a solid, and its [`Parts`].
 #[derive(Clone, Debug, PartialEq, Eq)]
 pub struct Copied {
     /// The copy.
     pub solid: Solid,
+    parts: Parts,
+}
+
+impl Deref for Copied {
+    type Target = Parts;
+
+    fn deref(&self) -> &Parts {
+        &self.parts
+    }
+}
+
+/// What all numbers have become: solids, and [`Parts`].
+#[derive(Clone, Debug, PartialEq, Eq)]
+pub struct Renumbered {
+    solids: BTreeMap<Solid, Solid>,
+    parts: Parts,
+}
+
+impl Renumbered {
+    /// What a solid is now: none of what wasn't there.
+    #[must_use]
+    pub fn solid(&self, of: Solid) -> Option<Solid> {
+        self.solids.get(&of).copied()
+    }
+
+    /// The same the other way, for what follows an undo.
+    #[must_use]
+    pub fn back(&self) -> Self {
+        fn turned<N: Ord + Copy>(pairs: &BTreeMap<N, N>) -> BTreeMap<N, N> {
+            pairs.iter().map(|(&old, &new)| (new, old)).collect()
+        }
+        let edge = |(&old, &new): (&Edge, &HalfEdge)| (new.edge(), if new.is_second() { minus(old) } else { plus(old) });
+        let Parts { faces, loops, edges, vertices } = &self.parts;
+        let parts = Parts { faces: turned(faces), loops: turned(loops), edges: edges.iter().map(edge).collect(), vertices: turned(vertices) };
+        Self { solids: turned(&self.solids), parts }
+    }
+}
+
+impl Deref for Renumbered {
+    type Target = Parts;
+
+    fn deref(&self) -> &Parts {
+        &self.parts
+    }
+}
+
+/// Which of the parts that were made are of which.
+#[derive(Clone, Debug, PartialEq, Eq)]
+pub struct Parts {
     faces: BTreeMap<Face, Face>,
     loops: BTreeMap<Loop, Loop>,
     edges: BTreeMap<Edge, HalfEdge>,
     vertices: BTreeMap<Vertex, Vertex>,
 }
 
-impl Copied {
-    /// The face of the copy that is of this one: none of what isn't of the solid.
+impl Parts {
+    /// The face that is of this one: none of another one.
     #[must_use]
     pub fn face(&self, of: Face) -> Option<Face> {
         self.faces.get(&of).copied()
@@ -178,12 +230,14 @@ mod list {
     pub const TURNED: u32 = 6;
     pub const LOWER_CAPS: u32 = 7;
     pub const UPPER_CAPS: u32 = 8;
+    pub const INTO: u32 = 9;
+    pub const SOLIDS: u32 = 10;
 }
 
-const MISFITS: [Misfit; 15] = [
+const MISFITS: [Misfit; 18] = [
     Misfit::NoArea, Misfit::NotInPlane, Misfit::OutlineCrossed, Misfit::AlongPlane, Misfit::OutlineOutside, Misfit::OutlineAroundRing,
     Misfit::OffLattice, Misfit::Meets, Misfit::NoOpposite, Misfit::NotParallel, Misfit::NotOfFace, Misfit::FlatEdge, Misfit::NothingLeft,
-    Misfit::NoMatch, Misfit::GluedTwice,
+    Misfit::NoMatch, Misfit::GluedTwice, Misfit::NotAcross, Misfit::NoContact, Misfit::Overlap,
 ];
 
 fn rows(points: &[impl Copy + Into<Point>]) -> Vec<gwb_sys::Point> {
@@ -223,6 +277,17 @@ impl Draft<'_> {
         self.made(list).chunks_exact(2).map(|pair| (N::from_number(pair[0]), N::from_number(pair[1]))).collect()
     }
 
+    fn made_parts(&self) -> Parts {
+        let turned = self.made(list::TURNED);
+        let edge = |(old, new): (Edge, Edge)| (old, if turned.binary_search(&new.0).is_ok() { minus(new) } else { plus(new) });
+        Parts {
+            faces: self.made_pairs(list::FACES),
+            loops: self.made_pairs(list::LOOPS),
+            edges: self.made_pairs(list::EDGES).into_iter().map(edge).collect(),
+            vertices: self.made_pairs(list::VERTICES),
+        }
+    }
+
     fn outline(
         &mut self,
         points: &[impl Copy + Into<Point>],
@@ -246,20 +311,19 @@ impl Draft<'_> {
         self.feature(|g, why| unsafe { gwb_sys::gwb_kill_solid(g, solid.0, why) })
     }
 
-    /// A new solid, that is another moved; its numbers are above all in use.
+    /// A new solid, that is another moved; its numbers are free ones, above all in use as long as there are any.
     #[allow(missing_docs, clippy::missing_errors_doc)]
     pub fn copy_solid(&mut self, solid: Solid, motion: Motion) -> Result<Copied, Error> {
         let mut made = 0;
         self.feature(|g, why| unsafe { gwb_sys::gwb_copy_solid(g, solid.0, &motion.row(), &mut made, why) })?;
-        let turned = self.made(list::TURNED);
-        let edge = |(old, new): (Edge, Edge)| (old, if turned.binary_search(&new.0).is_ok() { minus(new) } else { plus(new) });
-        Ok(Copied {
-            solid: Solid(made),
-            faces: self.made_pairs(list::FACES),
-            loops: self.made_pairs(list::LOOPS),
-            edges: self.made_pairs(list::EDGES).into_iter().map(edge).collect(),
-            vertices: self.made_pairs(list::VERTICES),
-        })
+        Ok(Copied { solid: Solid(made), parts: self.made_parts() })
+    }
+
+    /// All numbers become as low as they can be, in their order: where none is left for what comes. [`Notes`](crate::Notes) follow by `renumbered`.
+    #[allow(clippy::missing_errors_doc)]
+    pub fn renumber(&mut self) -> Result<Renumbered, Error> {
+        self.feature(|g, why| unsafe { gwb_sys::gwb_renumber(g, why) })?;
+        Ok(Renumbered { solids: self.made_pairs(list::SOLIDS), parts: self.made_parts() })
     }
 
     /// A row of so many solids, of which this is the first, each by the step from the one before it: those that are new.
@@ -289,6 +353,30 @@ impl Draft<'_> {
         let (above, plane) = (self.named(above), gwb_sys::CutPlane { a, b, c, d });
         self.feature(|g, why| unsafe { gwb_sys::gwb_split_solid(g, solid.0, &plane, above.0, why) })?;
         Ok(Split { above, lower_caps: self.made_faces(list::LOWER_CAPS), upper_caps: self.made_faces(list::UPPER_CAPS) })
+    }
+
+    /// The same, also where split refuses the plane for what it touches or how it runs through faces and holes.
+    #[allow(clippy::missing_errors_doc)]
+    pub fn cut(&mut self, solid: Solid, [a, b, c, d]: [i64; 4], above: impl Into<Option<Solid>>) -> Result<Split, Error> {
+        let (above, plane) = (self.named(above), gwb_sys::CutPlane { a, b, c, d });
+        self.feature(|g, why| unsafe { gwb_sys::gwb_cut(g, solid.0, &plane, above.0, why) })?;
+        Ok(Split { above, lower_caps: self.made_faces(list::LOWER_CAPS), upper_caps: self.made_faces(list::UPPER_CAPS) })
+    }
+
+    /// What lies above the plane goes: the faces that close what is left.
+    #[allow(clippy::missing_errors_doc)]
+    pub fn trim(&mut self, solid: Solid, [a, b, c, d]: [i64; 4]) -> Result<Vec<Face>, Error> {
+        let plane = gwb_sys::CutPlane { a, b, c, d };
+        self.feature(|g, why| unsafe { gwb_sys::gwb_trim(g, solid.0, &plane, why) })?;
+        Ok(self.made_faces(list::LOWER_CAPS))
+    }
+
+    /// The solids, which touch in faces, become the first: faces that became one with others, or several, each with one that it went into.
+    #[allow(clippy::missing_errors_doc)]
+    pub fn union(&mut self, solids: &[Solid]) -> Result<Vec<(Face, Face)>, Error> {
+        // `Solid` is a transparent u32
+        self.feature(|g, why| unsafe { gwb_sys::gwb_union(g, solids.as_ptr().cast(), solids.len(), why) })?;
+        Ok(self.made_faces(list::INTO).chunks_exact(2).map(|pair| (pair[0], pair[1])).collect())
     }
 
     /// A solid lies elsewhere, with the numbers that it has.
@@ -343,7 +431,22 @@ impl Draft<'_> {
         let (other, of_loop, sides) = self.outline(points, |g, points, made, sides, why| unsafe {
             gwb_sys::gwb_hole(g, face.0, points.as_ptr(), points.len(), made, sides, why)
         })?;
-        Ok(Hole { other, of_loop, sides })
+        Ok(Hole { other, of_loop, sides, points: points.iter().map(|&at| at.into()).collect() })
+    }
+
+    /// A hole with a polygon of so many sides around the center, on whole numbers nearest to the circle of the radius: through, where the depth is 0,
+    /// or so deep.
+    #[allow(clippy::missing_errors_doc)]
+    pub fn drill(&mut self, face: Face, center: impl Into<Point>, radius: i64, sides: u32, depth: i64) -> Result<Hole, Error> {
+        const MOST_SIDES: u32 = 1_000_000; // more are refused before any is written
+        let room = if sides <= MOST_SIDES { sides as usize } else { 0 };
+        let (center, mut made) = (gwb_sys::Point::from(center.into()), OutlineMade::default());
+        let (mut walls, mut points) = (vec![0; room], vec![gwb_sys::Point::default(); room]);
+        self.feature(|g, why| unsafe {
+            gwb_sys::gwb_drill(g, face.0, &center, radius, sides, depth, &mut made, walls.as_mut_ptr(), points.as_mut_ptr(), why)
+        })?;
+        let points = points.into_iter().map(Point::from).collect();
+        Ok(Hole { other: Face(made.face), of_loop: Loop(made.of_loop), sides: walls.into_iter().map(Face).collect(), points })
     }
 
     /// A pocket whose outline may reach the edges of the face.
@@ -403,14 +506,19 @@ also_alone! {
     copy_solid(solid: Solid, motion: Motion) -> Copied;
     pattern(solid: Solid, count: u32, step: impl Into<Point>) -> Vec<Solid>;
     scale(factor: i64) -> ();
+    renumber() -> Renumbered;
     glue_all(solids: &[Solid]) -> ();
     split_solid(solid: Solid, plane: [i64; 4], above: impl Into<Option<Solid>>) -> Split;
+    cut(solid: Solid, plane: [i64; 4], above: impl Into<Option<Solid>>) -> Split;
+    trim(solid: Solid, plane: [i64; 4]) -> Vec<Face>;
+    union(solids: &[Solid]) -> Vec<(Face, Face)>;
     move_solid(solid: Solid, motion: Motion) -> ();
     profile(solid: impl Into<Option<Solid>>, points: &[impl Copy + Into<Point>], along: impl Into<Point>) -> Profile;
     ring(face: Face, points: &[impl Copy + Into<Point>]) -> Ring;
     pocket(face: Face, points: &[impl Copy + Into<Point>], depth: i64) -> Pocket;
     boss(face: Face, points: &[impl Copy + Into<Point>], height: i64) -> Pocket;
     hole(face: Face, points: &[impl Copy + Into<Point>]) -> Hole;
+    drill(face: Face, center: impl Into<Point>, radius: i64, sides: u32, depth: i64) -> Hole;
     notch(face: Face, points: &[impl Copy + Into<Point>], depth: i64) -> Notch;
     slot(face: Face, start: impl Into<Point>, end: impl Into<Point>, width: i64, depth: i64) -> Notch;
     groove(face: Face, start: impl Into<Point>, end: impl Into<Point>, width: i64, depth: i64) -> Notch;

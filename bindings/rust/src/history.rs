@@ -1,7 +1,9 @@
 //! What commands made, removed and split of a model, and values on faces and edges that follow it.
-use crate::{minus, plus, Edge, Error, Face, HalfEdge, HalfEdgeRow, Id, Point, Readers, Session, Vertex};
+use crate::{minus, plus, Edge, Error, Face, HalfEdge, HalfEdgeRow, Id, Point, Session, Solid, Vertex};
+use gwb_sys::Gwb;
 use std::collections::{BTreeMap, BTreeSet, HashMap};
 use std::ops::Range;
+use std::ptr::NonNull;
 
 /// A number that is new or gone.
 #[derive(Clone, Copy, Debug, PartialEq, Eq)]
@@ -32,7 +34,7 @@ pub enum Turn {
 }
 
 /// What commands did to a model.
-#[derive(Clone, Debug, PartialEq, Eq)]
+#[derive(Clone, Debug, Default, PartialEq, Eq)]
 #[allow(missing_docs)]
 pub struct Changes {
     pub faces: ChangesOf<Face>,
@@ -51,6 +53,13 @@ pub trait Noted: Id {
     fn of(changes: &Changes) -> &ChangesOf<Self>;
 }
 
+impl<N> Default for ChangesOf<N> {
+    /// Nothing.
+    fn default() -> Self {
+        Self { made: Vec::new(), removed: Vec::new() }
+    }
+}
+
 impl Noted for Face {
     fn of(changes: &Changes) -> &ChangesOf<Self> {
         &changes.faces
@@ -63,38 +72,76 @@ impl Noted for Edge {
     }
 }
 
-/// A model at one time, so far as it tells what becomes of faces and edges. To read it costs as much as to read the model.
-pub struct Reading {
+/// What comes is watched for as long as this is there.
+struct Watching<'session> {
+    session: &'session mut Session,
+    depth: usize,
+    count: u64,
+}
+
+// SAFETY, for all calls in this file: as in readers.rs.
+impl<'session> Watching<'session> {
+    fn new(session: &'session mut Session) -> Result<Self, Error> {
+        let answer = unsafe { gwb_sys::gwb_watch(session.handle(), true) };
+        session.answered(answer)?;
+        let (depth, count) = (session.depth(), session.changes());
+        Ok(Self { session, depth, count })
+    }
+
+    /// A list of what was watched.
+    fn listed<Row: Copy + Default>(&self, write: unsafe extern "C" fn(*const Gwb, *mut Row, usize) -> usize) -> Vec<Row> {
+        let mut rows = vec![Row::default(); unsafe { write(self.session.handle(), NonNull::dangling().as_ptr(), 0) }];
+        unsafe { write(self.session.handle(), rows.as_mut_ptr(), rows.len()) };
+        rows
+    }
+
+    /// The solids that were touched, as they were.
+    fn before(&self) -> Reading {
+        let points = self.listed(gwb_sys::gwb_watched_vertices).into_iter().map(|row| (Vertex(row.vertex), row.point.into())).collect();
+        let faces = self.listed(gwb_sys::gwb_watched_faces).into_iter().map(Face).collect();
+        Reading::new(faces, points, self.listed(gwb_sys::gwb_watched_half_edges).into_iter().map(HalfEdgeRow::from).collect())
+    }
+
+    /// The same as they are.
+    fn after(&self) -> Reading {
+        let solids: Vec<Solid> = self.listed(gwb_sys::gwb_watched_solids).into_iter().map(Solid).collect();
+        let rows: Vec<_> = solids.iter().flat_map(|&solid| self.session.half_edge_rows(Some(solid))).collect();
+        let points = rows.iter().filter_map(|row| Some((row.start, self.session.vertex(row.start)?))).collect();
+        Reading::new(solids.iter().flat_map(|&solid| self.session.faces(solid)).collect(), points, rows)
+    }
+
+    fn changes(&self, turn: Turn) -> Changes {
+        let (before, after) = (self.before(), self.after());
+        let (faces, edges) = after.since(&before);
+        Changes { faces, edges, turn, depths: [self.depth, self.session.depth()], counts: [self.count, self.session.changes()] }
+    }
+}
+
+impl Drop for Watching<'_> {
+    fn drop(&mut self) {
+        unsafe { gwb_sys::gwb_watch(self.session.handle(), false) };
+    }
+}
+
+/// Solids at one time, so far as they tell what becomes of faces and edges.
+struct Reading {
     faces: BTreeSet<Face>,
     edges: BTreeSet<Edge>,
     points: HashMap<Vertex, Point>,
     sides: HashMap<HalfEdge, HalfEdgeRow>,
     borders: HashMap<Face, Vec<HalfEdge>>,
     leaving: HashMap<Vertex, Vec<HalfEdge>>,
-    depth: usize,
-    count: u64,
 }
 
 impl Reading {
-    /// The model that a session or a draft holds now.
-    #[must_use]
-    pub fn of(readers: &Readers) -> Self {
-        let rows = readers.half_edge_rows(None);
+    fn new(faces: BTreeSet<Face>, points: HashMap<Vertex, Point>, rows: Vec<HalfEdgeRow>) -> Self {
         let (mut borders, mut leaving) = (HashMap::<_, Vec<_>>::new(), HashMap::<_, Vec<_>>::new());
         for row in &rows {
             borders.entry(row.face).or_default().push(row.half_edge);
             leaving.entry(row.start).or_default().push(row.half_edge);
         }
-        Self {
-            faces: readers.numbers().collect(),
-            edges: readers.numbers().collect(),
-            points: readers.vertex_rows().into_iter().collect(),
-            sides: rows.into_iter().map(|row| (row.half_edge, row)).collect(),
-            borders,
-            leaving,
-            depth: readers.depth(),
-            count: readers.changes(),
-        }
+        let edges = rows.iter().map(|row| row.half_edge.edge()).collect();
+        Self { faces, edges, points, sides: rows.into_iter().map(|row| (row.half_edge, row)).collect(), borders, leaving }
     }
 
     /// What happened since an earlier reading.
@@ -102,21 +149,16 @@ impl Reading {
     /// A new face was split from the one that had a half-edge of it, or else an edge along one of its own from the same vertex, if it lies in that
     /// face's plane and looks the same way. A new edge was split from the one that ran along it from the same vertex. A face that is gone was
     /// joined to the one that has a half-edge of it.
-    #[must_use]
-    pub fn since(&self, before: &Self, turn: Turn) -> Changes {
-        Changes {
-            turn,
-            depths: [before.depth, self.depth],
-            counts: [before.count, self.count],
-            faces: ChangesOf {
-                made: missing(&self.faces, &before.faces, |face| self.face_before(face, before)),
-                removed: missing(&before.faces, &self.faces, |face| before.survivor(face, self)),
-            },
-            edges: ChangesOf {
-                made: missing(&self.edges, &before.edges, |edge| self.edge_in(edge, before)),
-                removed: missing(&before.edges, &self.edges, |edge| before.edge_in(edge, self)),
-            },
-        }
+    fn since(&self, before: &Self) -> (ChangesOf<Face>, ChangesOf<Edge>) {
+        let faces = ChangesOf {
+            made: missing(&self.faces, &before.faces, |face| self.face_before(face, before)),
+            removed: missing(&before.faces, &self.faces, |face| before.survivor(face, self)),
+        };
+        let edges = ChangesOf {
+            made: missing(&self.edges, &before.edges, |edge| self.edge_in(edge, before)),
+            removed: missing(&before.edges, &self.edges, |edge| before.edge_in(edge, self)),
+        };
+        (faces, edges)
     }
 
     fn border(&self, face: Face) -> &[HalfEdge] {
@@ -213,9 +255,9 @@ impl Session {
     /// # Errors
     /// That of the commands, with what those before it did.
     pub fn followed<T>(&mut self, give: impl FnOnce(&mut Self) -> Result<T, Error>) -> Result<(T, Changes), (Error, Box<Changes>)> {
-        let before = Reading::of(self);
-        let given = give(self);
-        let changes = Reading::of(self).since(&before, Turn::Commands);
+        let watching = Watching::new(self).map_err(|error| (error, Box::default()))?;
+        let given = give(&mut *watching.session);
+        let changes = watching.changes(Turn::Commands);
         match given {
             Ok(value) => Ok((value, changes)),
             Err(error) => Err((error, Box::new(changes))),
@@ -227,9 +269,9 @@ impl Session {
     /// # Errors
     /// As [`undo`](Self::undo).
     pub fn followed_undo(&mut self) -> Result<Changes, Error> {
-        let before = Reading::of(self);
-        self.undo()?;
-        Ok(Reading::of(self).since(&before, Turn::Undo))
+        let watching = Watching::new(self)?;
+        watching.session.undo()?;
+        Ok(watching.changes(Turn::Undo))
     }
 
     /// Does the command again that was taken back last, and says what that did.
@@ -237,9 +279,9 @@ impl Session {
     /// # Errors
     /// As [`redo`](Self::redo).
     pub fn followed_redo(&mut self) -> Result<Changes, Error> {
-        let before = Reading::of(self);
-        self.redo()?;
-        Ok(Reading::of(self).since(&before, Turn::Redo))
+        let watching = Watching::new(self)?;
+        watching.session.redo()?;
+        Ok(watching.changes(Turn::Redo))
     }
 }
 
@@ -318,6 +360,14 @@ impl<N: Noted, V: Clone> Notes<N, V> {
     pub fn copied(&mut self, of: impl Fn(N) -> Option<N>) {
         let made: Vec<(N, V)> = self.values.iter().filter_map(|(&id, value)| Some((of(id)?, value.clone()))).collect();
         self.values.extend(made);
+    }
+
+    /// All numbers have become others ([`renumber`](crate::Draft::renumber)), which following doesn't tell: `notes.renumbered(|face| all.face(face))`,
+    /// after its undo of `all.back()`.
+    pub fn renumbered(&mut self, of: impl Fn(N) -> Option<N>) {
+        let values = std::mem::take(&mut self.values);
+        self.values = values.into_iter().filter_map(|(id, value)| Some((of(id)?, value))).collect();
+        self.steps.clear();
     }
 
     /// The step that changed, a new one for new commands; none where it wasn't followed, or was within a draft.

@@ -30,6 +30,7 @@
 
 mod draft;
 mod error;
+mod exporting;
 mod features;
 mod history;
 mod ids;
@@ -38,19 +39,22 @@ mod operators;
 mod readers;
 mod refusal;
 mod rows;
+mod selection;
 mod session;
 
 pub use draft::{Draft, Mark};
 pub use error::{Error, Misfit};
-pub use features::{Copied, Hole, Motion, Notch, Pocket, Profile, Ring, Split};
+pub use exporting::ExportError;
+pub use features::{Copied, Hole, Motion, Notch, Parts, Pocket, Profile, Renumbered, Ring, Split};
 pub use gwb_sys::Heap;
-pub use history::{Change, Changes, ChangesOf, Noted, Notes, Reading, Turn};
+pub use history::{Change, Changes, ChangesOf, Noted, Notes, Turn};
 pub use ids::{lone, minus, plus, Corner, Edge, Face, HalfEdge, Id, Loop, Solid, Vertex};
 pub use off_lattice::{EdgeCut, Fraction, NearPlane, OffLattice};
 pub use operators::Operators;
 pub use readers::{Numbers, Readers, Shared};
 pub use refusal::Refusal;
 pub use rows::{Block, Counts, EdgeRow, FaceRow, HalfEdgeRow, Lamina, NewFace, NewSolid, Plane, Point};
+pub use selection::{EdgeQuery, FaceQuery};
 pub use session::Session;
 
 /// The version of the library that is linked: 3.0.0 is `(3, 0, 0)`.

@@ -71,13 +71,13 @@ pub enum Refusal {
     NotFlat = 32,
     /// two corners of face X lie at one point
     RepeatedPoint = 33,
-    /// the points of face X, read backwards, aren't those of the first face
+    /// the points of face X, read backwards, aren't those of the first face; faces that are glued have the same corners, and look at each other
     NoMatch = 34,
     /// coefficient X is out of range
     PlaneRange = 35,
     /// solid X has no vertex above the plane, or none below
     PlaneMisses = 36,
-    /// the plane cuts edge X between whole coordinates
+    /// the plane cuts edge X between whole coordinates; a finer unit would do, or a plane near by
     NotLattice = 37,
     /// the plane cuts face X and also touches it at a corner or along an edge
     TouchedFace = 38,
@@ -242,10 +242,10 @@ impl Refusal {
             Self::SameSolid => "both faces are of solid X",
             Self::NotFlat => "face X isn't flat",
             Self::RepeatedPoint => "two corners of face X lie at one point",
-            Self::NoMatch => "the points of face X, read backwards, aren't those of the first face",
+            Self::NoMatch => "the points of face X, read backwards, aren't those of the first face; faces that are glued have the same corners, and look at each other",
             Self::PlaneRange => "coefficient X is out of range",
             Self::PlaneMisses => "solid X has no vertex above the plane, or none below",
-            Self::NotLattice => "the plane cuts edge X between whole coordinates",
+            Self::NotLattice => "the plane cuts edge X between whole coordinates; a finer unit would do, or a plane near by",
             Self::TouchedFace => "the plane cuts face X and also touches it at a corner or along an edge",
             Self::CutOften => "the plane cuts face X but not its outer loop, or not one of its rings where there are more than two cuts",
             Self::CutCrossed => "the cuts of face X don't pair up, or can't be drawn one after another",

@@ -1,9 +1,9 @@
 //! Solids from outside: killed, copied, moved, turned and mirrored.
-use gwb::{lone, minus, plus, Error, Face, Misfit, Motion, Point, Refusal, Session, Solid};
+use gwb::{ExportError, lone, minus, plus, Error, Face, Misfit, Motion, Point, Refusal, Session, Solid};
 
 type Corners = Vec<Point>;
 
-/// A solid as its faces, each as its loops from their least points on, where each point lies after a motion.
+/// A solid as its faces, each as its loops, begun so that they come first in their order, where each point lies after a motion.
 fn shape(session: &Session, solid: Solid, motion: Motion) -> Vec<Vec<Corners>> {
     let mut faces: Vec<_> = session.faces(solid).map(|face| loops_at(session, face, motion)).collect();
     faces.sort();
@@ -18,9 +18,8 @@ fn loops_at(session: &Session, face: Face, motion: Motion) -> Vec<Corners> {
         if motion.is_mirror() {
             corners.reverse();
         }
-        let least = (0..corners.len()).min_by_key(|&at| corners[at]).unwrap();
-        corners.rotate_left(least);
-        loops.push(corners);
+        let begun_at = |at| [&corners[at..], &corners[..at]].concat();
+        loops.push((0..corners.len()).map(begun_at).min().unwrap());
     }
     loops.sort();
     loops
@@ -206,4 +205,49 @@ fn a_row_is_glued_and_scaled() {
     session.glue_all(&[block, Solid(2), Solid(3)]).unwrap();
     session.scale(3).unwrap();
     assert_eq!((session.six_volumes(block), session.depth()), (Ok(6 * 27 * 3 * 64), 4));
+}
+
+/// The companions of this repository, from where tests are run.
+fn companions() -> std::path::PathBuf {
+    ["companions", "../../companions"].iter().map(std::path::PathBuf::from).find(|path| path.is_dir()).unwrap()
+}
+
+#[test]
+fn files_of_other_forms() {
+    let mut session = Session::new().unwrap();
+    let base = std::env::temp_dir().join(format!("gwb-export-{}.none", std::process::id()));
+    let file = |ending| base.with_extension(ending);
+    std::env::set_var("GWB_COMPANIONS", companions());
+    assert!(matches!(session.export(file("step"), None), Err(ExportError::Refused(_))));
+    session.block(None, [0, 0, 0], [4, 4, 4]).unwrap();
+    for (ending, first) in [("step", "ISO-10303-21;"), ("3mf", "PK"), ("stl", "solid"), ("obj", "v "), ("glb", "glTF")] {
+        assert_eq!(session.export(file(ending), None).unwrap(), "");
+        assert!(std::fs::read(file(ending)).unwrap().starts_with(first.as_bytes()));
+        std::fs::remove_file(file(ending)).unwrap();
+    }
+    assert!(matches!(session.export(&base, None), Err(ExportError::NoForm(_))));
+    assert!(matches!(session.export("/none/part.stl", None), Err(ExportError::NoFile(..))));
+    std::env::set_var("GWB_COMPANIONS", "/none");
+    assert!(matches!(session.export(file("stl"), None), Err(ExportError::NoProgram(..))));
+}
+
+/// A stepped solid is cut level with its step, trimmed, and made one again.
+#[test]
+fn a_step_is_cut_and_united() {
+    let mut session = Session::new().unwrap();
+    let outline = [[0, 0, 0], [8, 0, 0], [8, 0, 4], [4, 0, 4], [4, 0, 8], [0, 0, 8]];
+    let step = session.profile(None, &outline, [0, 8, 0]).unwrap().solid;
+    let refused = session.split_solid(step, [0, 0, 1, -4], None);
+    assert!(matches!(refused, Err(Error::Refused { refusal: Refusal::TouchedFace, .. })), "{refused:?}");
+    let parts = session.cut(step, [0, 0, 1, -4], None).unwrap();
+    assert_eq!((session.six_volumes(step), session.six_volumes(parts.above)), (Ok(6 * 256), Ok(6 * 128)));
+    assert_eq!((parts.lower_caps.len(), parts.upper_caps.len(), session.depth()), (1, 1, 2));
+    let merged = session.union(&[step, parts.above]).unwrap();
+    assert!(!merged.is_empty() && merged.iter().all(|&(face, part)| session.face(part).is_some() || face == part));
+    assert_eq!((session.six_volumes(step), session.count(step).map(|count| count.faces)), (Ok(6 * 384), Ok(8)));
+    assert_eq!(session.trim(step, [0, 0, 1, -4]).map(|caps| caps.len()), Ok(1));
+    assert_eq!((session.six_volumes(step), session.depth()), (Ok(6 * 256), 4));
+    let far = session.block(None, [50, 0, 0], [1, 1, 1]).unwrap();
+    assert_eq!(session.union(&[step, far]), Err(Error::Impossible { misfit: Misfit::NoContact, value: far.0 }));
+    assert_eq!((session.union(&[step]), session.union(&[step, step])), (Err(Error::NoCall), Err(Error::NoCall)));
 }

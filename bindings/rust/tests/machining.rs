@@ -51,7 +51,33 @@ fn given<T: Debug>(session: &Session, solid: Solid, made: &Result<T, Error>) -> 
     }
 }
 
+/// A cut in two, of which both parts are told, a trim, or the union with a block.
+fn shaped_whole(session: &mut Session, solid: Solid, word: &str, numbers: &mut Numbers) -> String {
+    if word == "union" {
+        let mut draft = session.draft().unwrap();
+        let block = draft.block(None, numbers.point(), numbers.point()).unwrap();
+        let made = draft.union(&[solid, block]);
+        if made.is_ok() {
+            draft.commit().unwrap();
+        } else {
+            drop(draft);
+        }
+        return given(session, solid, &made);
+    }
+    let plane = [0; 4].map(|_: i64| numbers.number());
+    if word == "trim" {
+        let made = session.trim(solid, plane);
+        return given(session, solid, &made);
+    }
+    let made = session.cut(solid, plane, None);
+    let above = made.as_ref().map_or(String::new(), |parts| measures(session, parts.above)[2..].to_owned());
+    given(session, solid, &made) + &above
+}
+
 fn feature(session: &mut Session, solid: Solid, word: &str, numbers: &mut Numbers) -> String {
+    if matches!(word, "halve" | "trim" | "union") {
+        return shaped_whole(session, solid, word, numbers);
+    }
     let (from, to) = (numbers.point(), numbers.point());
     let side = half_edge(session, solid, from, to);
     let face = session.face_of(side).unwrap();

@@ -102,6 +102,29 @@ pub struct NearPlane {
     pub moved: f64,
 }
 
+/// Which faces are sought. What is null isn't asked for.
+#[repr(C)]
+#[derive(Clone, Copy, Debug)]
+#[allow(missing_docs)]
+pub struct FaceQuery {
+    pub solid: u32,
+    pub plane: *const CutPlane,
+    pub normal: *const Point,
+    pub containing: *const Point,
+    pub area: *const Ratio,
+}
+
+/// Which edges are sought.
+#[repr(C)]
+#[derive(Clone, Copy, Debug)]
+#[allow(missing_docs)]
+pub struct EdgeQuery {
+    pub solid: u32,
+    pub between: [u32; 2],
+    pub along: *const Point,
+    pub length: *const Ratio,
+}
+
 /// What a reader says where it has written its value.
 pub const FOUND: u32 = 1;
 
@@ -218,6 +241,13 @@ rows! {
         far: u32,
         #[allow(missing_docs)]
         base: u32
+    }
+    /// The numerator divided by the denominator.
+    Ratio {
+        #[allow(missing_docs)]
+        numerator: u64,
+        #[allow(missing_docs)]
+        denominator: u64
     }
     /// The plane a x + b y + c z + d = 0.
     CutPlane {
@@ -350,12 +380,27 @@ extern "C" {
     pub fn gwb_record(g: *mut Gwb) -> u32;
     pub fn gwb_recorded(g: *const Gwb) -> usize;
     pub fn gwb_script(g: *const Gwb, first: usize, n: usize, buf: *mut u8, room: usize) -> usize;
+    pub fn gwb_watch(g: *mut Gwb, is_asked: bool) -> u32;
+    pub fn gwb_watched_solids(g: *const Gwb, solids: *mut u32, room: usize) -> usize;
+    pub fn gwb_watched_half_edges(g: *const Gwb, rows: *mut HalfEdgeRow, room: usize) -> usize;
+    pub fn gwb_watched_vertices(g: *const Gwb, rows: *mut VertexRow, room: usize) -> usize;
+    pub fn gwb_watched_faces(g: *const Gwb, faces: *mut u32, room: usize) -> usize;
     pub fn gwb_stop_by(g: *mut Gwb, stop: Option<Stop>, user: *mut c_void);
 
     pub fn gwb_pattern(g: *mut Gwb, solid: u32, count: u32, step: *const Point, solids: *mut u32, why: *mut Refusal) -> u32;
     pub fn gwb_scale(g: *mut Gwb, factor: i64, why: *mut Refusal) -> u32;
     pub fn gwb_glue_all(g: *mut Gwb, solids: *const u32, n: usize, why: *mut Refusal) -> u32;
     pub fn gwb_split_solid(g: *mut Gwb, solid: u32, plane: *const CutPlane, above: u32, why: *mut Refusal) -> u32;
+    pub fn gwb_renumber(g: *mut Gwb, why: *mut Refusal) -> u32;
+    pub fn gwb_drill(
+        g: *mut Gwb, face: u32, center: *const Point, radius: i64, n: u32, depth: i64, made: *mut OutlineMade, sides: *mut u32, points: *mut Point,
+        why: *mut Refusal,
+    ) -> u32;
+    pub fn gwb_find_faces(g: *const Gwb, query: *const FaceQuery, buf: *mut u32, room: usize, found: *mut usize, why: *mut Refusal) -> u32;
+    pub fn gwb_find_edges(g: *const Gwb, query: *const EdgeQuery, buf: *mut u32, room: usize, found: *mut usize, why: *mut Refusal) -> u32;
+    pub fn gwb_cut(g: *mut Gwb, solid: u32, plane: *const CutPlane, above: u32, why: *mut Refusal) -> u32;
+    pub fn gwb_trim(g: *mut Gwb, solid: u32, plane: *const CutPlane, why: *mut Refusal) -> u32;
+    pub fn gwb_union(g: *mut Gwb, solids: *const u32, n: usize, why: *mut Refusal) -> u32;
     pub fn gwb_off_lattice(g: *const Gwb, solid: u32, plane: *const CutPlane, most: usize, advice: *mut *mut Advice, why: *mut Refusal) -> u32;
     pub fn gwb_advice_free(advice: *mut Advice);
     pub fn gwb_advice_factor(advice: *const Advice) -> Wide;

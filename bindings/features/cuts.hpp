@@ -1,0 +1,256 @@
+/// @file cuts.hpp Solids cut in two, and trimmed, by planes: by split, or where that refuses for the corners that the plane touches or for how it
+/// runs through faces and holes, face by face; caps close both parts then, and faces in the plane are one with the caps beside them.
+#ifndef GWB_FEATURES_CUTS_HPP
+#define GWB_FEATURES_CUTS_HPP
+#include "combining.hpp"
+
+namespace gwb_session::cuts {
+
+using namespace combining;
+using sheets::Region;
+
+/// The plane of a cut; what has a height above zero lies above it.
+struct Plane {
+    gwb_cut_plane row;
+
+    [[nodiscard]] Vector across() const { return {row.a, row.b, row.c}; }
+    [[nodiscard]] Wide height(const Vector &at) const { return dot(across(), at) + row.d; }
+    [[nodiscard]] Plane turned() const { return {{-row.a, -row.b, -row.c, -row.d}}; }
+};
+
+/// The faces that close what lies below a plane, and what lies above it.
+struct Caps {
+    std::vector<Face> lower, upper;
+};
+
+// ---- what lies below
+
+/// Where a side goes through the plane: at a whole point, which split has seen to.
+inline Vector crossing(const Side &side, const Plane &plane)
+{
+    const Wide start = plane.height(side.start), whole = start - plane.height(side.end);
+    Vector at = side.start;
+    for (std::size_t axis = 0; axis < 3; axis++)
+        at[axis] += start * side.way()[axis] / whole;
+    return at;
+}
+
+/// The parts of a face's sides below the plane; those in it where the face beside them lies below.
+inline std::vector<Side> sides_below(const Sheet &sheet, const Plane &plane)
+{
+    std::vector<Side> found;
+    for (Side side : sheet.sides()) {
+        const int start = sign(plane.height(side.start)), end = sign(plane.height(side.end));
+        if (start * end < 0)
+            (start < 0 ? side.end : side.start) = crossing(side, plane);
+        const bool is_in_plane = start == 0 && end == 0;
+        if (is_in_plane ? dot(plane.across(), cross(sheet.across, side.way())) < 0 : std::min(start, end) < 0)
+            found.push_back(side);
+    }
+    return found;
+}
+
+/// The sides along which the plane cuts a face, as those of the part below it.
+inline std::vector<Side> cuts_of(const Sheet &sheet, const Plane &plane)
+{
+    const Vector along = cross(sheet.across, plane.across());
+    std::map<Wide, Vector> points;
+    for (const Side &side : sheet.sides()) {
+        const int start = sign(plane.height(side.start)), end = sign(plane.height(side.end));
+        if (start == 0 || start * end < 0) {
+            const Vector at = start == 0 ? side.start : crossing(side, plane);
+            points.emplace(dot(along, at), at);
+        }
+    }
+    const Shape shape(sheet.cycles, sheet.across);
+    std::vector<Side> found;
+    for (auto at = points.begin(); at != points.end() && std::next(at) != points.end(); ++at)
+        if (shape.locate({add(at->second, std::next(at)->second), 2}) == Place::inside)
+            found.push_back({at->second, std::next(at)->second});
+    return found;
+}
+
+/// Puts in what is left of a face below the plane; false where its sides make no outline. A face in the plane is left where it looks upwards.
+inline bool put_below(const Sheet &sheet, const Plane &plane, std::vector<Sheet> &left)
+{
+    const Path points = sheet.points();
+    const bool is_below = std::any_of(points.begin(), points.end(), [&](const Vector &at) { return plane.height(at) < 0; });
+    const bool is_above = std::any_of(points.begin(), points.end(), [&](const Vector &at) { return plane.height(at) > 0; });
+    if (!is_above && (is_below || dot(sheet.across, plane.across()) > 0))
+        left.push_back(sheet);
+    if (!is_above || !is_below)
+        return true;
+    std::vector<Side> sides = sides_below(sheet, plane);
+    const std::vector<Side> cuts = cuts_of(sheet, plane);
+    sides.insert(sides.end(), cuts.begin(), cuts.end());
+    const auto regions = Traced(sides, sheet.across).regions();
+    for (const std::vector<Cycle> &cycles : regions.value_or(std::vector<std::vector<Cycle>>()))
+        left.push_back({sheet.owner, sheet.across, cycles, no_mark});
+    return regions.has_value();
+}
+
+/// The sides in the plane that have no other beside them, turned round.
+inline std::vector<Side> open_sides(const std::vector<Sheet> &left, const Plane &plane)
+{
+    std::map<std::pair<Vector, Vector>, int> times;
+    for (const Sheet &sheet : left)
+        for (const Side &side : sheet.sides())
+            if (plane.height(side.start) == 0 && plane.height(side.end) == 0) {
+                times[{side.start, side.end}]++;
+                times[{side.end, side.start}]--;
+            }
+    std::vector<Side> found;
+    for (const auto &[ends, count] : times)
+        if (count > 0)
+            found.push_back({ends.second, ends.first});
+    return found;
+}
+
+/// The part of a solid below a plane, closed by caps, which are its faces that have marks.
+inline Result<Combined> part_below(const Held &held, const std::vector<Sheet> &sheets, const Plane &plane, Solid solid, AllNames &names)
+{
+    const Failure meets = impossible(Misfit::meets, held.model.solid.number());
+    std::vector<Sheet> left, caps;
+    for (const Sheet &sheet : sheets) {
+        go_on();
+        if (!put_below(sheet, plane, left))
+            return meets;
+    }
+    const auto regions = Traced(open_sides(left, plane), plane.across()).regions();
+    for (const std::vector<Cycle> &cycles : regions.value_or(std::vector<std::vector<Cycle>>()))
+        caps.push_back({Face(), reduced(plane.across()), cycles, caps.size()});
+    Result<std::vector<Region>> laid = overlaid(left, caps);
+    if (!regions || !laid)
+        return meets;
+    std::optional<Made> made = Assembly(held, *laid, names).made(solid);
+    if (!made)
+        return meets;
+    return Combined{std::move(*laid), std::move(*made)};
+}
+
+inline std::vector<Face> caps_of(const Combined &part)
+{
+    std::set<Face> caps;
+    for (std::size_t at = 0; at < part.regions.size(); at++)
+        if (!part.regions[at].marks.empty())
+            caps.insert(part.made.of_regions[at]);
+    return {caps.begin(), caps.end()};
+}
+
+// ---- what is cut
+
+/// The corners of a solid that lie in a plane.
+inline Path corners_in(const Attempts &bench, Solid solid, const Plane &plane)
+{
+    Path found;
+    for (const gwb_half_edge_row &row : bench.half_edge_rows(solid)) {
+        go_on();
+        if (const Vector at = vector(*bench.vertex(Vertex(row.start))); plane.height(at) == 0)
+            found.push_back(at);
+    }
+    return found;
+}
+
+/// Refuses parts of a solid, each on one side of a plane, of which one meets or touches itself as the solid didn't: it does so where corners of the
+/// solid lie in the plane.
+inline Result<void> require_apart(const Model &before, const Path &corners, std::initializer_list<const Model *> parts)
+{
+    if (corners.empty())
+        return {};
+    const Box box = Box::around(corners);
+    std::set<Findings::Finding> found;
+    for (const Model *part : parts)
+        found.merge(findings_near(*part, box));
+    if (!found.empty())
+        for (const Findings::Finding &known : findings_near(before, box))
+            found.erase(known);
+    return found.empty() ? Result<void>() : Result<void>(impossible(Misfit::meets, before.solid.number()));
+}
+
+/// Whether another way of cutting copes with what split was refused for.
+inline bool is_coped_with(const Failure &failure)
+{
+    return failure.is(GWB_WHY_TOUCHED_FACE) || failure.is(GWB_WHY_CUT_OFTEN) || failure.is(GWB_WHY_CUT_CROSSED) ||
+           failure.is(GWB_WHY_BRANCHED_VERTEX) || failure.is(GWB_WHY_SECTION_HOLES);
+}
+
+/// The faces of a solid above a number that lie in a plane.
+inline std::vector<Face> faces_in(const Attempts &bench, Solid solid, Face above, const Plane &plane)
+{
+    std::vector<Face> found;
+    for (Face face : bench.faces(solid)) {
+        if (face <= above)
+            continue;
+        const std::vector<Path> loops = loops_at(bench, face);
+        const auto lies_in = [&](const Path &loop) {
+            return std::all_of(loop.begin(), loop.end(), [&](const Vector &at) { return plane.height(at) == 0; });
+        };
+        if (std::all_of(loops.begin(), loops.end(), lies_in))
+            found.push_back(face);
+    }
+    return found;
+}
+
+/// The command split, and the caps.
+inline Result<Caps> split(Attempts &bench, Solid solid, const Plane &plane, Solid above)
+{
+    const Face before = *bench.greatest<Face>();
+    const Result<void> done = bench.split(solid, plane.row.a, plane.row.b, plane.row.c, plane.row.d, above);
+    if (!done)
+        return done.error();
+    return Caps{faces_in(bench, solid, before, plane), faces_in(bench, above, before, plane)};
+}
+
+/// Cuts a solid by split. What lies above may not be wanted.
+inline Result<Caps> cut_at_once(Attempts &bench, Solid solid, const Plane &plane, const Path &corners, Solid above, bool is_wanted)
+{
+    const Model before = corners.empty() ? Model() : Model::whole(bench, solid);
+    Result<Caps> caps = split(bench, solid, plane, above);
+    if (!caps)
+        return caps;
+    if (!corners.empty()) {
+        const Model lower = Model::whole(bench, solid), upper = is_wanted ? Model::whole(bench, above) : Model();
+        if (const Result<void> apart = require_apart(before, corners, {&lower, &upper}); !apart)
+            return apart.error();
+    }
+    if (is_wanted)
+        return caps;
+    const Result<void> gone = TakenApart(bench).take(above);
+    return gone ? Result<Caps>(Caps{caps->lower, {}}) : Result<Caps>(gone.error());
+}
+
+/// Cuts a solid face by face, alike.
+inline Result<Caps> cut_by_faces(Attempts &bench, Solid solid, const Plane &plane, const Path &corners, Solid above, bool is_wanted)
+{
+    const Held held(bench, Model::whole(bench, solid));
+    const Result<std::vector<Sheet>> sheets = sheets_of(held.model);
+    if (!sheets)
+        return sheets.error();
+    AllNames names(bench);
+    const Result<Combined> lower = part_below(held, *sheets, plane, solid, names);
+    const Result<Combined> upper = lower && is_wanted ? part_below(held, *sheets, plane.turned(), above, names) : Combined{};
+    if (!lower || !upper)
+        return lower ? upper.error() : lower.error();
+    Result<void> done = require_apart(held.model, corners, {&lower->made.model, &upper->made.model});
+    const auto operators = done ? changing::operators_between(changing::Pair{held.model, lower->made.model, {}}, names) : std::nullopt;
+    if (done)
+        done = operators ? give(bench, *operators) : give_anew(bench, solid, lower->made.model);
+    if (done && is_wanted)
+        done = bench.load(upper->made.model.listing());
+    if (!done)
+        return done.error();
+    // (one by one: gcc 12 destroys what is not there yet where the second of two in braces throws)
+    std::vector<Face> caps_below = caps_of(*lower), caps_above = caps_of(*upper);
+    return Caps{std::move(caps_below), std::move(caps_above)};
+}
+
+/// What lies above a plane becomes another solid, or goes where it isn't wanted.
+inline Result<Caps> cut(Attempts &bench, Solid solid, const Plane &plane, Solid above, bool is_wanted)
+{
+    const Path corners = corners_in(bench, solid, plane);
+    const Result<Caps> caps = cut_at_once(bench, solid, plane, corners, above, is_wanted);
+    return caps || !is_coped_with(caps.error()) ? caps : cut_by_faces(bench, solid, plane, corners, above, is_wanted);
+}
+
+} // namespace gwb_session::cuts
+#endif

@@ -1,0 +1,97 @@
+/// @file drilling.hpp Holes with regular polygons for circles.
+#ifndef GWB_FEATURES_DRILLING_HPP
+#define GWB_FEATURES_DRILLING_HPP
+#include "machining.hpp"
+
+namespace gwb_session::drilling {
+
+using namespace exact;
+
+/// What a drill makes: as a hole or a pocket, and the corners of its polygon.
+struct Drilled {
+    Hole hole;
+    std::vector<Point> points;
+};
+
+constexpr std::uint32_t most_sides = 1'000'000;
+
+/// The sine and the cosine of an angle from 0 to an eighth of a turn, by their series.
+struct Ratios {
+    long double sine = 0, cosine = 0;
+
+    explicit constexpr Ratios(long double angle)
+    {
+        long double term = 1;
+        for (int power = 0; power < 24; power++) {
+            (power % 2 == 0 ? cosine : sine) += power % 4 < 2 ? term : -term;
+            term *= angle / static_cast<long double>(power + 1);
+        }
+    }
+};
+
+/// The whole number nearest to another one: of two, the one farther from 0. (So both are seen where a product is a half but for its last digits.)
+constexpr std::int64_t nearest(long double number)
+{
+    constexpr long double half = 0.5L + 1e-9L;
+    return static_cast<std::int64_t>(number < 0 ? number - half : number + half);
+}
+
+/// Corner `place` of a regular polygon of `sides` around the origin, from the first axis on, as far out as the radius, on whole numbers.
+constexpr std::array<std::int64_t, 2> corner(std::uint32_t place, std::uint32_t sides, std::int64_t radius)
+{
+    constexpr long double eighth_of_a_turn = 0.785398163397448309615660845819875721L;
+    const std::uint64_t eighths = std::uint64_t{8} * place, rest = eighths % sides;
+    const bool is_before = eighths / sides % 2 == 1; // the quarter that is nearest
+    const Ratios ratios(eighth_of_a_turn * static_cast<long double>(is_before ? sides - rest : rest) / static_cast<long double>(sides));
+    const auto out = static_cast<long double>(radius);
+    std::array<std::int64_t, 2> at = {nearest(out * ratios.cosine), nearest(out * (is_before ? -ratios.sine : ratios.sine))};
+    for (std::uint64_t quarter = 0; quarter < (eighths / sides + 1) / 2 % 4; quarter++)
+        at = {-at[1], at[0]};
+    return at;
+}
+
+/// The corners of the polygon around a center in a face across an axis. Refused: NoFace, NotFlat. Not possible: NotAcross.
+inline Result<std::vector<Point>> polygon(const Attempts &bench, Face face, Point center, std::int64_t radius, std::uint32_t sides)
+{
+    const Result<machining::FacePlane> plane = machining::plane_of(bench, face);
+    if (!plane)
+        return plane.error();
+    const Vector &across = plane->across();
+    if (std::count(across.begin(), across.end(), 0) != 2)
+        return machining::impossible(Misfit::not_across, face.number());
+    if (!is_in_range(vector(center)) || radius > 2 * farthest)
+        return machining::refused(GWB_WHY_POINT_RANGE, 0);
+    const std::size_t axis = across[0] != 0 ? 0 : across[1] != 0 ? 1 : 2;
+    std::vector<Point> points;
+    for (std::uint32_t place = 0; place < sides; place++) {
+        const auto [first, second] = corner(place, sides, radius);
+        Vector at = vector(center);
+        at[(axis + 1) % 3] += first;
+        at[(axis + 2) % 3] += second;
+        points.push_back(point(at));
+    }
+    return points;
+}
+
+/// A hole through the solid of a face, or of a depth.
+inline Result<Drilled> drill(Attempts &bench, Face face, Point center, std::int64_t radius, std::uint32_t sides, std::int64_t depth)
+{
+    if (radius < 1 || sides < 3 || sides > most_sides || depth < 0)
+        return machining::refused(GWB_WHY_SIZE_RANGE, radius < 1 ? 1 : depth < 0 ? 3 : 2);
+    Result<std::vector<Point>> points = polygon(bench, face, center, radius, sides);
+    if (!points)
+        return points.error();
+    if (depth == 0) {
+        Result<Hole> made = machining::make_hole(bench, face, *points);
+        if (!made)
+            return made.error();
+        return Drilled{std::move(*made), std::move(*points)};
+    }
+    Result<Pocket> made = machining::raise(bench, face, *points, -depth);
+    if (!made)
+        return made.error();
+    return Drilled{{made->face, made->loop, std::move(made->sides)}, std::move(*points)};
+}
+
+} // namespace gwb_session::drilling
+#endif

@@ -1,0 +1,127 @@
+/// @file uniting.hpp Solids that touch in faces made one: the faces of each further one are added to those of the first that lie near, and what
+/// comes of these is made. Faces of one plane beside each other become one, and so do edges that go on straight.
+#ifndef GWB_FEATURES_UNITING_HPP
+#define GWB_FEATURES_UNITING_HPP
+#include "combining.hpp"
+
+namespace gwb_session::uniting {
+
+using namespace combining;
+
+/// Faces, and those that they went into.
+class Became {
+public:
+    void follow(const Combined &combined)
+    {
+        std::map<Face, std::set<Face>> step;
+        std::set<Face> owners;
+        for (std::size_t at = 0; at < combined.regions.size(); at++)
+            for (Face owner : combined.regions[at].owners) {
+                step[owner].insert(combined.made.of_regions[at]);
+                owners.insert(owner);
+            }
+        for (auto &[face, now] : into_) {
+            std::set<Face> next;
+            for (Face part : now)
+                if (const auto found = step.find(part); found != step.end())
+                    next.insert(found->second.begin(), found->second.end());
+                else
+                    next.insert(part);
+            now = next;
+        }
+        for (const auto &[face, now] : step)
+            if (made_.count(face) == 0)
+                into_.emplace(face, now);
+        for (Face face : combined.made.of_regions)
+            if (owners.count(face) == 0)
+                made_.insert(face);
+    }
+
+    /// Each of those that became part of another one, or several, with what it went into.
+    void tell(std::vector<std::uint32_t> &list) const
+    {
+        std::map<Face, std::size_t> sources;
+        for (const auto &[face, now] : into_)
+            for (Face part : now)
+                sources[part]++;
+        for (const auto &[face, now] : into_)
+            for (Face part : now)
+                if (part != face || now.size() > 1 || sources[part] > 1)
+                    list.insert(list.end(), {face.number(), part.number()});
+    }
+
+private:
+    std::map<Face, std::set<Face>> into_; ///< of all solids as they were
+    std::set<Face> made_;                 ///< that none of them had
+};
+
+/// A measure of a region's area, by which regions of one plane that look one way add up.
+template <class Flat> Wide size_of(const std::vector<Flat> &regions)
+{
+    Wide size = 0;
+    for (const Flat &region : regions) {
+        Vector sum{};
+        for (const Cycle &cycle : region.cycles)
+            for (const Side &side : cycle)
+                sum = add(sum, cross(subtract(side.start, cycle[0].start), subtract(side.end, cycle[0].start)));
+        size += magnitude(sum[0]) + magnitude(sum[1]) + magnitude(sum[2]);
+    }
+    return size;
+}
+
+/// Adds a solid to another one, which it touches. Not possible: NoContact: it doesn't; Overlap.
+inline Result<Combined> add(Attempts &bench, Solid solid, Solid gone)
+{
+    const Model other = Model::whole(bench, gone);
+    Result<std::vector<Sheet>> added = sheets_of(other);
+    if (!added)
+        return added.error();
+    for (std::size_t at = 0; at < added->size(); at++)
+        (*added)[at].mark = at;
+    const Failure overlap = impossible(Misfit::overlap, solid.number());
+    const auto combine = [&](const Part &part, AllNames &names) -> Result<Combined> {
+        const Result<std::vector<Sheet>> sheets = sheets_of(part.model);
+        if (!sheets)
+            return sheets.error();
+        Result<Combined> found = combined(bench, solid, Held(bench, part.model.with({}, other)), *sheets, *added, names, overlap);
+        if (found && size_of(found->regions) == size_of(*sheets) + size_of(*added))
+            return impossible(Misfit::no_contact, gone.number());
+        if (found && has_contact({&part.model, &other}, found->made.model, *sheets, *added))
+            return overlap;
+        return found;
+    };
+    return make_near(bench, solid, box_of(*added), combine, [&] { return TakenApart(bench).take(gone); });
+}
+
+/// Adds the first of some solids that touches another one to it, and takes it out. Not possible: NoContact: none does.
+inline Result<Combined> add_first(Attempts &bench, Solid solid, std::vector<Solid> &others)
+{
+    for (auto other = others.begin(); other != others.end(); ++other) {
+        Result<Combined> made = add(bench, solid, *other);
+        if (made)
+            others.erase(other);
+        if (made || !made.error().is(Misfit::no_contact))
+            return made;
+    }
+    return impossible(Misfit::no_contact, others.front().number());
+}
+
+/// Makes one solid of several, with the number of the first.
+inline Result<Became> unite(Attempts &bench, const std::vector<Solid> &solids)
+{
+    for (Solid solid : solids)
+        if (bench.faces(solid).empty())
+            return refused(GWB_WHY_NO_SOLID, solid.number());
+    std::vector<Solid> left(solids.begin() + 1, solids.end());
+    Became became;
+    while (!left.empty()) {
+        const Result<Combined> made = add_first(bench, solids[0], left);
+        if (!made)
+            return made.error();
+        became.follow(*made);
+    }
+    return became;
+}
+
+} // namespace gwb_session::uniting
+#endif

@@ -1,0 +1,75 @@
+//! What a session holds as a file of another form: by the companions' programs `gwb-step` and `gwb-mesh`, which are sought in the folder that the
+//! environment variable `GWB_COMPANIONS` names, else as any program is.
+use crate::Readers;
+use std::io::{self, Write};
+use std::path::{Path, PathBuf};
+use std::process::{Command, Stdio};
+use std::{env, fmt, fs};
+
+/// Why nothing was exported: a file that was there is as before, but for `NoFile`.
+#[derive(Debug)]
+#[non_exhaustive]
+pub enum ExportError {
+    /// No program writes files of this ending.
+    NoForm(PathBuf),
+    /// The program of this name wasn't found, or can't be run.
+    NoProgram(PathBuf, io::Error),
+    /// The program refuses the model, as where nothing is held or a face isn't flat: what it says.
+    Refused(String),
+    /// The file can't be written.
+    NoFile(PathBuf, io::Error),
+}
+
+impl fmt::Display for ExportError {
+    fn fmt(&self, f: &mut fmt::Formatter<'_>) -> fmt::Result {
+        match self {
+            Self::NoForm(path) => write!(f, "NoForm: {}: the endings are step stp 3mf stl obj off glb", path.display()),
+            Self::NoProgram(path, why) => write!(f, "NoProgram: {}: {why}", path.display()),
+            Self::Refused(said) => write!(f, "Refused: {said}"),
+            Self::NoFile(path, why) => write!(f, "NoFile: {}: {why}", path.display()),
+        }
+    }
+}
+
+impl std::error::Error for ExportError {}
+
+/// The program that writes files of an ending, and its words.
+fn program(path: &Path) -> Option<(PathBuf, Vec<String>)> {
+    let ending = path.extension()?.to_str()?.to_ascii_lowercase();
+    let (name, words) = match ending.as_str() {
+        "step" | "stp" => ("gwb-step", Vec::new()),
+        "3mf" | "stl" | "obj" | "off" | "glb" => ("gwb-mesh", vec!["--form".to_owned(), ending]),
+        _ => return None,
+    };
+    Some((env::var_os("GWB_COMPANIONS").map_or_else(|| name.into(), |folder| Path::new(&folder).join(name)), words))
+}
+
+impl Readers {
+    /// Writes what is held to a file, by the ending of its name: `.step`, `.stp`, `.3mf`, `.stl`, `.obj`, `.off` or `.glb`. `names` is a script whose
+    /// comments say names, colours and the unit. What comes back are warnings, as of solids that touch.
+    ///
+    /// # Errors
+    /// As [`ExportError`] says.
+    pub fn export(&self, path: impl AsRef<Path>, names: Option<&Path>) -> Result<String, ExportError> {
+        let path = path.as_ref();
+        let (program, words) = program(path).ok_or_else(|| ExportError::NoForm(path.into()))?;
+        let listing = self.listing().map_err(|error| ExportError::Refused(error.to_string()))?;
+        let mut command = Command::new(&program);
+        command.args(words).stdin(Stdio::piped()).stdout(Stdio::piped()).stderr(Stdio::piped());
+        if let Some(names) = names {
+            command.arg("--names").arg(names);
+        }
+        let no_program = |why| ExportError::NoProgram(program.clone(), why);
+        let mut child = command.spawn().map_err(no_program)?;
+        if let Some(mut input) = child.stdin.take() {
+            let _ = input.write_all(listing.as_bytes()); // a program that ends before says why
+        }
+        let done = child.wait_with_output().map_err(no_program)?;
+        let said = String::from_utf8_lossy(&done.stderr).into_owned();
+        if !done.status.success() {
+            return Err(ExportError::Refused(said));
+        }
+        fs::write(path, done.stdout).map_err(|why| ExportError::NoFile(path.into(), why))?;
+        Ok(said)
+    }
+}

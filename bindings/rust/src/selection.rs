@@ -1,0 +1,107 @@
+//! Faces and edges by where they lie, exactly.
+use crate::{Edge, Error, Face, Point, Readers, Solid};
+use gwb_sys::{kind, CutPlane, Gwb, Ratio, Refusal};
+use std::ptr::null;
+
+/// Which faces are sought: those for which all holds that is said.
+///
+/// ```
+/// # use gwb::{Error, FaceQuery, Session};
+/// # let mut session = Session::new()?;
+/// session.block(None, [0, 0, 0], [4, 4, 2])?;
+/// let up = FaceQuery { normal: Some([0, 0, 1].into()), ..FaceQuery::default() };
+/// let large = FaceQuery { area: Some([16, 1]), ..FaceQuery::default() };
+/// assert_eq!((session.find_faces(&up)?.len(), session.find_faces(&large)?.len()), (1, 2));
+/// # Ok::<(), Error>(())
+/// ```
+#[derive(Clone, Copy, Debug, Default, PartialEq, Eq)]
+pub struct FaceQuery {
+    /// Of the solid.
+    pub solid: Option<Solid>,
+    /// Wholly in the plane a x + b y + c z + d = 0, whichever way they look.
+    pub plane: Option<[i64; 4]>,
+    /// Flat, and looking this way.
+    pub normal: Option<Point>,
+    /// Flat, with the point inside or on an edge.
+    pub containing: Option<Point>,
+    /// Flat, and as large as the first number divided by the second, exactly.
+    pub area: Option<[u64; 2]>,
+}
+
+/// Which edges are sought, alike.
+#[derive(Clone, Copy, Debug, Default, PartialEq, Eq)]
+pub struct EdgeQuery {
+    /// Of the solid.
+    pub solid: Option<Solid>,
+    /// With one half-edge in each of the faces.
+    pub between: Option<[Face; 2]>,
+    /// Along the vector, one way or the other.
+    pub along: Option<Point>,
+    /// As long as the first number divided by the second, exactly.
+    pub length: Option<[u64; 2]>,
+}
+
+fn pointer<T>(value: &Option<T>) -> *const T {
+    value.as_ref().map_or(null(), |value| value)
+}
+
+fn ratio(parts: Option<[u64; 2]>) -> Option<Ratio> {
+    parts.map(|[numerator, denominator]| Ratio { numerator, denominator })
+}
+
+// SAFETY, for all calls in this file: as in readers.rs; what a query points to lives until the call returns.
+impl Readers {
+    /// The faces that are sought, rising.
+    ///
+    /// # Errors
+    /// [`Error::Refused`] with `NoSolid`; [`Error::NoCall`] where a plane or a direction is zero, or part of a ratio is; [`Error::Memory`];
+    /// [`Error::Stopped`].
+    pub fn find_faces(&self, query: &FaceQuery) -> Result<Vec<Face>, Error> {
+        let plane = query.plane.map(|[a, b, c, d]| CutPlane { a, b, c, d });
+        let (normal, containing): (Option<gwb_sys::Point>, Option<gwb_sys::Point>) = (query.normal.map(Into::into), query.containing.map(Into::into));
+        let area = ratio(query.area);
+        let row = gwb_sys::FaceQuery {
+            solid: query.solid.map_or(0, |solid| solid.0),
+            plane: pointer(&plane),
+            normal: pointer(&normal),
+            containing: pointer(&containing),
+            area: pointer(&area),
+        };
+        let found = self.sought(|g, buf, room, count, why| unsafe { gwb_sys::gwb_find_faces(g, &row, buf, room, count, why) })?;
+        Ok(found.into_iter().map(Face).collect())
+    }
+
+    /// The edges that are sought, rising.
+    ///
+    /// # Errors
+    /// As [`find_faces`](Self::find_faces), and `NoFace`.
+    pub fn find_edges(&self, query: &EdgeQuery) -> Result<Vec<Edge>, Error> {
+        let along: Option<gwb_sys::Point> = query.along.map(Into::into);
+        let length = ratio(query.length);
+        let row = gwb_sys::EdgeQuery {
+            solid: query.solid.map_or(0, |solid| solid.0),
+            between: query.between.map_or([0; 2], |faces| faces.map(|face| face.0)),
+            along: pointer(&along),
+            length: pointer(&length),
+        };
+        let found = self.sought(|g, buf, room, count, why| unsafe { gwb_sys::gwb_find_edges(g, &row, buf, room, count, why) })?;
+        Ok(found.into_iter().map(Edge).collect())
+    }
+
+    /// What a query finds, which is asked for again where there is more than room.
+    fn sought(&self, call: impl Fn(*mut Gwb, *mut u32, usize, *mut usize, *mut Refusal) -> u32) -> Result<Vec<u32>, Error> {
+        let (mut found, mut count, mut why) = (vec![0; 64], 0, Refusal::default());
+        loop {
+            match call(self.handle(), found.as_mut_ptr(), found.len(), &mut count, &mut why) {
+                kind::OK if count <= found.len() => break,
+                kind::OK => found.resize(count, 0),
+                kind::REFUSED => return Err(crate::operators::named(why)),
+                kind::MEMORY => return Err(Error::Memory),
+                kind::STOPPED => return Err(Error::Stopped),
+                _ => return Err(Error::NoCall),
+            }
+        }
+        found.truncate(count);
+        Ok(found)
+    }
+}

@@ -1,0 +1,286 @@
+/* The solids that commands touch stand one after another: those of the commands that are held, then of those that are undone, then those of the draft's
+ * steps. Solid 0 stands for all. What a solid was before is written down when it is touched first, while that is asked for. */
+#include "watch.h"
+#include "beside.h"
+#include "lists.h"
+#include "walks.h"
+
+struct watch {
+    struct list touched;    /* of uint32_t: solids */
+    struct list commands;   /* of size_t: of each where its solids begin */
+    size_t held;            /* how many commands are: those after them are undone */
+    size_t undone_before;   /* how many are undone that were given before any was watched */
+    size_t draft;           /* where the solids of the draft's steps begin */
+    size_t call;            /* and those of the call that is being made */
+    bool is_drafting;
+    bool is_asked;          /* whether what solids were before is asked for: */
+    bool are_all;           /* whether all were touched, also those that were made */
+    struct list solids;     /* of uint32_t: those that were touched, rising */
+    struct list half_edges; /* of gwb_half_edge_row: theirs */
+    struct list vertices;   /* of gwb_vertex_row: at which those start */
+    struct list faces;      /* of uint32_t */
+};
+
+struct watch *watch_new(bool is_drafting)
+{
+    const uint32_t all = 0;
+    struct tried block = rattle_alloc(sizeof(struct watch), 16);
+    if (!block.ok)
+        return NULL;
+    struct watch *w = block.at;
+    *w = (struct watch){.touched.size = sizeof(uint32_t), .commands.size = sizeof(size_t), .solids.size = sizeof(uint32_t),
+                        .half_edges.size = sizeof(gwb_half_edge_row), .vertices.size = sizeof(gwb_vertex_row), .faces.size = sizeof(uint32_t),
+                        .is_drafting = is_drafting};
+    if (!is_drafting || (list_add(&w->touched, &all) && watch_reserve_draft(w)))
+        return w;
+    watch_free(w);
+    return NULL;
+}
+
+void watch_free(struct watch *w)
+{
+    if (w == NULL)
+        return;
+    struct list *lists[] = {&w->touched, &w->commands, &w->solids, &w->half_edges, &w->vertices, &w->faces};
+    for (size_t i = 0; i < sizeof lists / sizeof *lists; i++)
+        list_free(lists[i]);
+    rattle_dealloc(w);
+}
+
+/* ---- what solids were */
+
+/* The place of a solid among those that were touched, or where it would stand. */
+static size_t place_of(const struct watch *w, uint32_t solid)
+{
+    size_t least = 0, most = w->solids.count;
+    while (least < most) {
+        const size_t middle = least + (most - least) / 2;
+        if (((uint32_t *)w->solids.items)[middle] < solid)
+            least = middle + 1;
+        else
+            most = middle;
+    }
+    return least;
+}
+
+static bool write_faces(struct watch *w, const gwb *g, uint32_t solid)
+{
+    for (uint32_t face = 0; gwb_face_after(g, solid, face, &face) == GWB_FOUND;)
+        if (!list_add(&w->faces, &face))
+            return false;
+    return true;
+}
+
+static bool write_half_edges(struct watch *w, const gwb *g, uint32_t solid)
+{
+    const size_t count = gwb_read_half_edges(g, solid, w->half_edges.items, 0), first = w->half_edges.count;
+    if (!list_reserve(&w->half_edges, first + count) || !list_reserve(&w->vertices, w->vertices.count + count))
+        return false;
+    gwb_half_edge_row *rows = (gwb_half_edge_row *)w->half_edges.items + first;
+    gwb_read_half_edges(g, solid, rows, count);
+    w->half_edges.count += count;
+    for (size_t i = 0; i < count; i++) {
+        gwb_vertex_row row = {rows[i].start, {0, 0, 0}};
+        gwb_vertex(g, row.vertex, &row.point);
+        list_add(&w->vertices, &row);
+    }
+    return true;
+}
+
+/* Writes down what a solid is, if that is asked for and it isn't written down yet. Where all were, it has been made since. */
+static bool write_solid(struct watch *w, const gwb *g, uint32_t solid)
+{
+    const size_t place = w->is_asked ? place_of(w, solid) : 0, half_edges = w->half_edges.count, vertices = w->vertices.count, faces = w->faces.count;
+    if (!w->is_asked || w->are_all || (place < w->solids.count && ((uint32_t *)w->solids.items)[place] == solid))
+        return true;
+    if (!list_reserve(&w->solids, w->solids.count + 1) || !write_faces(w, g, solid) || !write_half_edges(w, g, solid)) {
+        w->half_edges.count = half_edges, w->vertices.count = vertices, w->faces.count = faces;
+        return false;
+    }
+    uint32_t *at = (uint32_t *)w->solids.items + place;
+    memmove(at + 1, at, (w->solids.count++ - place) * sizeof *at);
+    *at = solid;
+    return true;
+}
+
+static bool write_all(struct watch *w, const gwb *g)
+{
+    bool is_well = true;
+    for (uint32_t solid = 0; w->is_asked && is_well && gwb_number_after(g, GWB_SOLID, solid, &solid) == GWB_FOUND;)
+        is_well = write_solid(w, g, solid);
+    w->are_all = is_well;
+    return is_well;
+}
+
+/* ---- which are touched */
+
+static uint32_t solid_of_face(const gwb *g, uint32_t face)
+{
+    gwb_face_row row;
+    return gwb_face(g, face, &row) == GWB_FOUND ? row.solid : 0;
+}
+
+static uint32_t solid_of_loop(const gwb *g, uint32_t loop)
+{
+    uint32_t face;
+    return gwb_loop(g, loop, &face) == GWB_FOUND ? solid_of_face(g, face) : 0;
+}
+
+/* The solid of a value: 0 where there is none, so that the call will be refused. */
+static uint32_t solid_of(const gwb *g, char kind, int64_t value)
+{
+    const uint32_t number = (uint32_t)value;
+    uint32_t loop;
+    switch (kind) {
+    case 's': return number;
+    case 'f': return solid_of_face(g, number);
+    case 'l': return solid_of_loop(g, number);
+    case 'h':
+        if (number >= GWB_LONE(0))
+            return solid_of_loop(g, number - GWB_LONE(0));
+        return gwb_half_edge_loop(g, number, &loop) == GWB_FOUND ? solid_of_loop(g, loop) : 0;
+    default: return 0;
+    }
+}
+
+bool watch_touch(struct watch *w, const gwb *g, const char *kinds, const int64_t *values, size_t n)
+{
+    w->call = w->touched.count;
+    for (size_t i = 0; i < n && kinds[i] != '\0'; i++) {
+        const uint32_t solid = solid_of(g, kinds[i], values[i]);
+        if (solid != 0 && (!list_add(&w->touched, &solid) || !write_solid(w, g, solid)))
+            return w->touched.count = w->call, false;
+    }
+    return list_reserve(&w->commands, w->commands.count + 1) || (w->touched.count = w->call, false);
+}
+
+bool watch_touch_any(struct watch *w, const gwb *g)
+{
+    const uint32_t all = 0;
+    w->call = w->touched.count;
+    return (list_add(&w->touched, &all) && write_all(w, g) && list_reserve(&w->commands, w->commands.count + 1)) || (w->touched.count = w->call, false);
+}
+
+/* Where the solids of a command begin; for the one after the last, where the draft's do, or all end. */
+static size_t first_of(const struct watch *w, size_t command)
+{
+    if (command < w->commands.count)
+        return ((size_t *)w->commands.items)[command];
+    return w->is_drafting ? w->draft : w->touched.count;
+}
+
+/* The solids from a place on are those of a new command: those of commands that could be redone go. */
+static void keep(struct watch *w, size_t from)
+{
+    const size_t to = w->held < w->commands.count ? first_of(w, w->held) : from, count = w->touched.count - from;
+    uint32_t *solids = w->touched.items;
+    if (count > 0)
+        memmove(solids + to, solids + from, count * sizeof *solids);
+    w->touched.count = to + count;
+    w->commands.count = w->held++;
+    w->undone_before = 0;
+    list_add(&w->commands, &to);
+}
+
+void watch_end(struct watch *w, bool is_accepted)
+{
+    if (!is_accepted)
+        w->touched.count = w->call;
+    else if (!w->is_drafting)
+        keep(w, w->call);
+}
+
+bool watch_reserve_draft(struct watch *w) { return list_reserve(&w->commands, w->commands.count + 1); }
+void watch_draft(struct watch *w) { w->is_drafting = true, w->draft = w->touched.count; }
+void watch_commit(struct watch *w)
+{
+    w->is_drafting = false;
+    keep(w, w->draft);
+}
+void watch_abandon(struct watch *w)
+{
+    w->touched.count = w->draft;
+    w->is_drafting = false;
+}
+
+/* Writes down the solids of a command. */
+static bool see(struct watch *w, const gwb *g, size_t command)
+{
+    bool is_well = true;
+    for (size_t i = first_of(w, command); i < first_of(w, command + 1) && is_well; i++) {
+        const uint32_t solid = ((uint32_t *)w->touched.items)[i];
+        is_well = solid != 0 ? write_solid(w, g, solid) : write_all(w, g);
+    }
+    return is_well;
+}
+
+bool watch_see_undo(struct watch *w, const gwb *g) { return w->held > 0 ? see(w, g, w->held - 1) : write_all(w, g); }
+bool watch_see_redo(struct watch *w, const gwb *g)
+{
+    if (w->undone_before > 0)
+        return write_all(w, g);
+    return w->held == w->commands.count || see(w, g, w->held);
+}
+void watch_undo(struct watch *w) { w->held > 0 ? w->held-- : w->undone_before++; }
+void watch_redo(struct watch *w) { w->undone_before > 0 ? w->undone_before-- : w->held++; }
+
+/* ---- what is asked of it */
+
+enum gwb_kind gwb_watch(gwb *g, bool is_asked)
+{
+    if (!gwb_is_open(g))
+        return GWB_CLOSED;
+    struct beside *of = beside_of(g);
+    if (of->watch == NULL) {
+        struct used before = gwb_used;
+        gwb_used = (struct used){of->heap, of->pages};
+        of->watch = watch_new(of->is_drafting);
+        gwb_used = before;
+        if (of->watch == NULL)
+            return GWB_MEMORY;
+    }
+    struct watch *w = of->watch;
+    w->is_asked = is_asked;
+    w->are_all = false;
+    w->solids.count = w->half_edges.count = w->vertices.count = w->faces.count = 0;
+    return GWB_OK;
+}
+
+/* Writes a list as far as there is room. */
+static size_t written(const gwb *g, const struct list *(*list_of)(const struct watch *w), void *to, size_t room)
+{
+    const struct watch *w = gwb_is_open(g) ? beside_of(g)->watch : NULL;
+    const struct list *list = w != NULL ? list_of(w) : NULL;
+    const size_t count = list != NULL ? list->count : 0, fit = count < room ? count : room;
+    if (fit > 0)
+        memcpy(to, list->items, fit * list->size);
+    return count;
+}
+
+static const struct list *the_half_edges(const struct watch *w) { return &w->half_edges; }
+static const struct list *the_vertices(const struct watch *w) { return &w->vertices; }
+static const struct list *the_faces(const struct watch *w) { return &w->faces; }
+
+/* The least solid above one that was touched, or is there where all were: 0 where there is none. */
+static uint32_t touched_after(const gwb *g, const struct watch *w, uint32_t solid)
+{
+    const size_t place = place_of(w, solid + 1);
+    const uint32_t touched = place < w->solids.count ? ((uint32_t *)w->solids.items)[place] : 0;
+    uint32_t found = 0;
+    if (w->are_all)
+        gwb_number_after(g, GWB_SOLID, solid, &found);
+    return found == 0 || (touched != 0 && touched < found) ? touched : found;
+}
+
+size_t gwb_watched_solids(const gwb *g, uint32_t *solids, size_t room)
+{
+    const struct watch *w = gwb_is_open(g) ? beside_of(g)->watch : NULL;
+    size_t count = 0;
+    for (uint32_t solid = 0; w != NULL && (solid = touched_after(g, w, solid)) != 0; count++)
+        if (count < room)
+            solids[count] = solid;
+    return count;
+}
+size_t gwb_watched_half_edges(const gwb *g, gwb_half_edge_row *rows, size_t room) { return written(g, the_half_edges, rows, room); }
+size_t gwb_watched_vertices(const gwb *g, gwb_vertex_row *rows, size_t room) { return written(g, the_vertices, rows, room); }
+size_t gwb_watched_faces(const gwb *g, uint32_t *faces, size_t room) { return written(g, the_faces, faces, room); }

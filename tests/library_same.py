@@ -1,0 +1,378 @@
+#!/usr/bin/env python3
+"""One random program of features in several languages: the session in Python over the library, and programs that read it and write what each line gives.
+
+    tests/library_same.py LIBRARY PROGRAM..
+
+The PROGRAMs are built of library_same_c.c, library_same_cpp.cpp and library_same_rust.rs. A line of the program is a word and numbers, in the order of the arguments
+in gwb_features.h. Compared are for each line the numbers that come back, or the name of what is refused and its value; and the listing after each line, to
+the letter. What languages do differently by their conventions isn't in it: bindings/README.md says what that is. The last line counts.
+"""
+import random
+import subprocess
+import sys
+from collections import Counter
+from fractions import Fraction
+from pathlib import Path
+from typing import Any, Callable, Counter as Counts, Dict, Iterator, List, Optional, Sequence, Tuple
+
+from counts import TOP, there
+
+sys.path.insert(0, str(TOP / 'companions'))
+
+from gwb import FacePart, InDraft, Refused, Workbench  # noqa: E402
+
+PARTS, LINES = 150, 11
+Point = Tuple[int, int, int]
+# How often each word has to be accepted, so that it is tried.
+LEAST = 3
+
+
+class Abandoned(Exception):
+    """Leaves a draft."""
+
+
+class Session:
+    """What the session in Python gives for a line."""
+
+    def __init__(self, library: str) -> None:
+        self._library = library
+        self.bench = Workbench(library)
+        self._draft = self.bench.draft()
+        self.is_drafting = False
+        # How many lines of the draft may have changed something, and whether the last line took something back.
+        self.steps, self.is_undone = 0, False
+
+    def give(self, word: str, numbers: Sequence[int]) -> str:
+        """What a line gives, as text."""
+        left = iter(numbers)
+        one = lambda: next(left)  # noqa: E731
+        try:
+            made = _CALLS[word](self, one, left)
+            self.steps, self.is_undone = self.steps + (word not in ('faces', 'edges', 'off_lattice')), word == 'undo'
+            return 'ok' + ''.join(f' {number}' for number in made)
+        except Refused as refused:
+            return f'{refused.name} {refused.value}'
+        except InDraft:
+            return 'a draft is open'
+
+    def listing(self) -> str:
+        """The text of the model."""
+        return '\n'.join(self.bench.ask('list').lines)
+
+    def part(self) -> List[int]:
+        """A new session."""
+        self.bench.close()
+        self.bench, self.is_drafting = Workbench(self._library), False
+        return []
+
+    def draft(self) -> List[int]:
+        """Opens a draft."""
+        self._draft, self.is_drafting, self.steps = self.bench.draft(), True, -1
+        self._draft.__enter__()
+        return []
+
+    def end(self, is_kept: bool) -> List[int]:
+        """Ends the draft."""
+        self.is_drafting = False
+        abandoned = Abandoned()
+        self._draft.__exit__(*((None, None, None) if is_kept else (Abandoned, abandoned, None)))
+        return []
+
+    def block(self, solid: int, corner: Point, sizes: Point) -> Any:
+        """What makes a block."""
+        return self.bench.block(corner, sizes, solid=solid)
+
+    def copy(self, solid: int, way: int, numbers: List[int]) -> List[int]:
+        """The number of a copy, its faces, and the half-edges for the first ones of its edges."""
+        made = self.bench.copy(solid, move=_point(numbers)) if way == 0 else self.bench.copy(solid, mirror=_across(numbers[0]))
+        halves = [made.half_edge(edge) for edge in sorted(made.edges)]
+        return [made.solid, *(made.faces[face] for face in sorted(made.faces)), *(2 * abs(half) + (half < 0) for half in halves)]
+
+    def move(self, solid: int, way: int, numbers: List[int]) -> List[int]:
+        """A solid elsewhere."""
+        if way == 0:
+            self.bench.move(solid, _point(numbers))
+        elif way == 1:
+            self.bench.turn(solid, 'xyz'[numbers[0]], numbers[1])
+        else:
+            self.bench.mirror(solid, _across(numbers[0]))
+        return []
+
+    def faces(self, solid: int, what: int, numbers: List[int]) -> List[int]:
+        """The faces that are sought."""
+        asked = {0: {}, 1: {'plane': numbers}, 2: {'normal': numbers}, 3: {'containing': numbers}, 4: {'area': _ratio(numbers)}}[what]
+        return [face.number for face in self.bench.faces(solid=solid or None, **asked)]
+
+    def edges(self, solid: int, what: int, numbers: List[int]) -> List[int]:
+        """The edges that are sought."""
+        asked = {0: {}, 1: {'between': tuple(numbers)}, 2: {'along': numbers}, 3: {'length': _ratio(numbers)}}[what]
+        return [edge.number for edge in self.bench.edges(solid=solid or None, **asked)]
+
+    def outlined(self, made: Any) -> List[int]:
+        """The numbers of what a feature of an outline makes."""
+        face = made.other if hasattr(made, 'other') else made.face
+        return [face, made.loop, *(made.edges + made.vertices if hasattr(made, 'edges') else made.sides)]
+
+    def drilled(self, made: Any) -> List[int]:
+        """Those of a drill, and its corners."""
+        return [*self.outlined(made), *(part for point in made.points for part in point)]
+
+    def counted(self, *lists: Sequence[int]) -> List[int]:
+        """Lists with their lengths."""
+        return [number for numbers in lists for number in (len(numbers), *numbers)]
+
+
+def _point(numbers: Sequence[int]) -> Point:
+    return (numbers[0], numbers[1], numbers[2])
+
+
+def _points(left: Iterator[int]) -> List[Point]:
+    numbers = list(left)
+    return list(zip(numbers[::3], numbers[1::3], numbers[2::3]))
+
+
+def _three(left: Iterator[int]) -> Point:
+    return (next(left), next(left), next(left))
+
+
+def _four(left: Iterator[int]) -> Tuple[int, int, int, int]:
+    return (*_three(left), next(left))
+
+
+def _across(axis: int) -> Tuple[int, ...]:
+    return tuple(int(place == axis) for place in range(3)) + (0,)
+
+
+def _ratio(numbers: Sequence[int]) -> Optional[Fraction]:
+    return Fraction(numbers[0], numbers[1]) if len(numbers) == 2 else None
+
+
+def _nothing(_: object) -> List[int]:
+    return []
+
+
+Call = Callable[[Session, Callable[[], int], Iterator[int]], List[int]]
+_CALLS: Dict[str, Call] = {
+    'part': lambda s, n, w: s.part(), 'undo': lambda s, n, w: _nothing(s.bench.undo()), 'redo': lambda s, n, w: _nothing(s.bench.redo()),
+    'draft': lambda s, n, w: s.draft(), 'commit': lambda s, n, w: s.end(True), 'abandon': lambda s, n, w: s.end(False),
+    'block': lambda s, n, w: [number for made in [s.block(n(), _three(w), _three(w))] for number in
+                              (made.top, made.bottom, *made.sides)],
+    'profile': lambda s, n, w: [number for made in [s.bench.profile(solid=n(), along=_three(w), points=_points(w))] for number in
+                                (made.far, made.base, *made.sides)],
+    'ring': lambda s, n, w: s.outlined(s.bench.ring(n(), _points(w))),
+    'pocket': lambda s, n, w: s.outlined(s.bench.pocket(n(), depth=n(), points=_points(w))),
+    'boss': lambda s, n, w: s.outlined(s.bench.boss(n(), height=n(), points=_points(w))),
+    'hole': lambda s, n, w: s.outlined(s.bench.hole(n(), _points(w))),
+    'drill': lambda s, n, w: s.drilled(s.bench.drill(n(), _three(w), n(), n(), depth=n() or None)),
+    'notch': lambda s, n, w: s.counted(*s.bench.notch(n(), depth=n(), points=_points(w))),
+    'slot': lambda s, n, w: s.counted(*s.bench.slot(n(), _three(w), _three(w), n(), n())),
+    'groove': lambda s, n, w: s.counted(*s.bench.groove(n(), _three(w), _three(w), n(), n())),
+    'shoulder': lambda s, n, w: s.counted(*s.bench.shoulder(n(), n(), n(), n())),
+    'chamfer': lambda s, n, w: [s.bench.chamfer(n(), n(), n())], 'kill': lambda s, n, w: _nothing(s.bench.delete(n())),
+    'copy': lambda s, n, w: s.copy(n(), n(), list(w)), 'move': lambda s, n, w: s.move(n(), n(), list(w)),
+    'pattern': lambda s, n, w: [made.solid for made in s.bench.pattern(n(), n(), _three(w))],
+    'renumber': lambda s, n, w: s.counted([number for pair in s.bench.renumber().solids.items() for number in pair]),
+    'scale': lambda s, n, w: _nothing(s.bench.scale(n())), 'glue_all': lambda s, n, w: _nothing(s.bench.glue_all(list(w))),
+    'split': lambda s, n, w: [number for made in [s.bench.split(n(), _four(w), above=n())] for number in s.counted(made.lower_caps, made.upper_caps)],
+    'off_lattice': lambda s, n, w: [number for said in [s.bench.off_lattice(n(), _four(w))] for number in (len(said.crossings), said.factor)],
+    'faces': lambda s, n, w: s.faces(n(), n(), list(w)), 'edges': lambda s, n, w: s.edges(n(), n(), list(w))}
+
+
+class Author:
+    """Writes the lines of the program, by what the session holds."""
+
+    def __init__(self, session: Session) -> None:
+        self._session, self._random = session, random.Random(31)
+
+    def part(self) -> Iterator[Tuple[str, List[int]]]:
+        """The lines of one part."""
+        yield 'part', []
+        yield self._solid()
+        for _ in range(LINES - 2):
+            yield self._line()
+        if self._session.is_drafting:
+            yield 'abandon', []
+
+    def _below(self, most: int) -> int:
+        return self._random.randrange(most)
+
+    def _solid(self) -> Tuple[str, List[int]]:
+        if self._below(3):
+            return 'block', [self._new(), *(self._below(5) for _ in range(3)), *(5 + self._below(10) for _ in range(3))]
+        outline = [0, 0, 0, 12, 0, 0, 12, 4 + self._below(3), 0, 5, 6, 0, 4, 12, 0, 0, 12, 0]
+        return 'profile', [self._new(), self._below(2), 0, self._random.choice([9, 6, -8]), *outline]
+
+    def _line(self) -> Tuple[str, List[int]]:
+        if not self._solids():
+            return self._solid()
+        if self._session.is_undone and self._below(2):
+            return 'redo', []
+        if self._session.is_drafting and not self._below(3):
+            # (a draft of no steps is no command in Python)
+            return self._random.choice(['commit', 'commit', 'abandon'] if self._session.steps else ['abandon']), []
+        kinds = [self._of_outline] * 7 + [self._of_solids] * 4 + [self._of_strip, self._of_edge, self._drill, self._query, self._query]
+        kinds += [self._of_session] * 2
+        return self._random.choice(kinds)()
+
+    # What there is
+
+    def _solids(self) -> List[int]:
+        return [solid.number for solid in self._session.bench.solids()]
+
+    def _any_solid(self) -> int:
+        return self._random.choice(self._solids() * 9 + [77])
+
+    def _new(self) -> int:
+        """The number of a new solid: hardly ever one that is there."""
+        return max(self._solids(), default=0) + (self._below(12) != 0)
+
+    def _face(self) -> Tuple[int, Optional[FacePart]]:
+        faces = list(self._session.bench.faces())
+        face = self._random.choice(faces)
+        return (face.number, face) if self._below(40) else (999, None)
+
+    # Lines
+
+    def _spots(self, face: Optional[FacePart], count: int) -> List[Point]:
+        """Points in a face, or near it: of a rectangle where it lies across an axis."""
+        if face is None:
+            return [(0, 0, 0), (1, 0, 0), (0, 1, 0), (1, 1, 0)][:count]
+        points, normal = list(face.outer.points), face.normal
+        axes = [axis for axis in range(3) if normal[axis] == 0]
+        if len(axes) != 2:
+            return [self._random.choice(points) for _ in range(count)]
+        ranges = [sorted(self._random.sample(range(min(p[axis] for p in points) - 1, max(p[axis] for p in points) + 2), 2)) for axis in axes]
+        spots = []
+        for first, second in ((0, 0), (1, 0), (1, 1), (0, 1)):
+            spot = list(points[0])
+            spot[axes[0]], spot[axes[1]] = ranges[0][first], ranges[1][second]
+            spots.append(_point(spot))
+        if not self._below(12):
+            spots[1] = spots[0] if self._below(2) else (spots[1][0] + 1, spots[1][1] + 1, spots[1][2] + 1)
+        return spots[:count][::self._random.choice([1, -1])]
+
+    def _of_outline(self) -> Tuple[str, List[int]]:
+        number, face = self._face()
+        word = self._random.choice(['pocket', 'pocket', 'boss', 'hole', 'ring', 'ring', 'notch', 'notch'])
+        spots = self._spots(face, self._random.choice([3, 4, 4, 4, 2] if not self._below(6) else [3, 4]))
+        lengths = [] if word in ('hole', 'ring') else [1 + self._below(5)]
+        return word, [number, *lengths, *(part for spot in spots for part in spot)]
+
+    def _of_strip(self) -> Tuple[str, List[int]]:
+        number, face = self._face()
+        start, _, _, end = self._spots(face, 4)
+        if face is not None and len(start) == 3 and face.normal.count(0) == 2:
+            along, across = [axis for axis in range(3) if face.normal[axis] == 0][::self._random.choice([1, -1])]
+            places = sorted(point[along] for point in face.outer.points)
+            level = self._random.randint(*(f(point[across] for point in face.outer.points) for f in (min, max)))
+            start, end = (tuple({along: place, across: level}.get(axis, start[axis]) for axis in range(3)) for place in (places[0], places[-1]))
+        return self._random.choice(['slot', 'groove']), [number, *start, *end, self._random.choice([2, 2, 2, 4, 1]), 1 + self._below(3)]
+
+    def _of_edge(self) -> Tuple[str, List[int]]:
+        number, face = self._face()
+        edges = list(face.edges) if face is not None else []
+        edge = self._random.choice(edges).number if edges and self._below(20) else 1 + self._below(30)
+        if self._below(2):
+            return 'chamfer', [edge, 1 + self._below(3), 1 + self._below(3)]
+        return 'shoulder', [number, edge, 1 + self._below(3), 1 + self._below(3)]
+
+    def _drill(self) -> Tuple[str, List[int]]:
+        number, face = self._face()
+        start, _, across, _ = self._spots(face, 4)
+        middle = [(one + other) // 2 for one, other in zip(start, across)]
+        return 'drill', [number, *middle, 1 + self._below(3), self._random.choice([3, 4, 4, 6, 8, 12]), self._random.choice([0, 0, 1, 2, 9])]
+
+    def _motion(self, is_copy: bool) -> List[int]:
+        way = self._random.choice([0, 0, 2] if is_copy else [0, 1, 2])
+        if way == 0:
+            return [0, *(self._random.choice([0, 20, -3, 7, 40, 999_999_999 if not self._below(9) else 1]) for _ in range(3))]
+        return [way, self._below(3), *([self._below(4)] if way == 1 else [])]
+
+    def _of_solids(self) -> Tuple[str, List[int]]:
+        solid, solids = self._any_solid(), self._solids()
+        word = self._random.choice(['copy', 'copy', 'move', 'kill', 'pattern', 'scale', 'glue_all', 'split', 'split', 'renumber', 'new'])
+        if word == 'new' or (word == 'kill' and len(solids) == 1):
+            return self._solid()
+        if word == 'renumber':
+            return word, []
+        if word == 'scale':
+            return word, [self._random.choice([1, 2, 3, 100_000_000])]
+        if word == 'glue_all':
+            return word, self._random.sample(solids, self._random.randint(1, len(solids)))
+        if word == 'split':
+            return word, [solid, *self._plane(), self._new()]
+        given = {'copy': lambda: self._motion(True), 'move': lambda: self._motion(False), 'kill': list,
+                 'pattern': lambda: [self._random.choice([2, 3, 4]), self._random.choice([15, 0]), 20, 1]}
+        return word, [solid, *given[word]()]
+
+    def _plane(self) -> List[int]:
+        across = self._random.choice([[1, 0, 0], [0, 1, 0], [0, 0, 1], [1, 1, 0], [2, 0, 0], [0, 3, 0], [1, 2, 3]])
+        return [*across, -self._below(12)]
+
+    def _query(self) -> Tuple[str, List[int]]:
+        number, face = self._face()
+        solid = self._random.choice([0, 0, self._any_solid()])
+        word = self._random.choice(['faces', 'edges', 'off_lattice'])
+        if word == 'off_lattice':
+            return word, [self._any_solid(), *self._plane()]
+        if word == 'faces':
+            asked = self._random.choice([[0], [1, *self._plane()], [2, *(list(face.normal) if face is not None else [1, 0, 0])],
+                                         [3, *self._spots(face, 3)[1]], [4, self._below(90) + 1, 1 + self._below(2)]])
+            return word, [solid, *asked]
+        other, _ = self._face()
+        beside = [row.face.number for row in face.edges[0].faces] if face is not None and hasattr(face.edges[0], 'faces') else [number, other]
+        asked = self._random.choice([[0], [1, *(beside if len(beside) == 2 else [number, other])], [2, *self._random.choice([(1, 0, 0), (0, 0, 5), (1, 1, 0)])],
+                                     [3, 1 + self._below(14), 1]])
+        return word, [solid, *asked]
+
+    def _of_session(self) -> Tuple[str, List[int]]:
+        if self._session.is_drafting:
+            return self._solid()
+        return self._random.choice(['undo', 'undo', 'undo', 'redo', 'draft', 'draft']), []
+
+
+def _blocks(text: str) -> List[str]:
+    """What a program wrote for each line."""
+    return [block.partition('\n')[2].rstrip('\n') for block in text.split('> ')[1:]]
+
+
+def written(library: str) -> Tuple[List[str], List[str]]:
+    """The lines of the program, and what the session in Python gives for each."""
+    session = Session(library)
+    author, lines, given = Author(session), [], []
+    for _ in range(PARTS):
+        for word, numbers in author.part():
+            lines += [' '.join(map(str, [word, *numbers])), 'list']
+            given += [session.give(word, numbers), session.listing()]
+    return lines, given
+
+
+def untried(lines: Sequence[str], given: Sequence[str]) -> List[str]:
+    """What the program doesn't try: words that are hardly ever accepted, and too few kinds of refusals."""
+    accepted: Counts[str] = Counter(line.split(' ')[0] for line, gives in zip(lines, given) if gives.split(' ')[0] == 'ok')
+    refused = {gives.split(' ')[0] for line, gives in zip(lines, given) if line != 'list' and gives.split(' ')[0] != 'ok'}
+    print(f'{len(lines) // 2} lines, {sum(accepted.values())} accepted; refused were {" ".join(sorted(refused))}')
+    few = [f'{word} was accepted {accepted[word]} times' for word in _CALLS if accepted[word] < LEAST]
+    return few + ([f'{len(refused)} kinds of refusals alone'] if len(refused) < 15 else [])
+
+
+def main() -> int:
+    if len(sys.argv) < 3 or sys.argv[1] in ('-h', '--help'):
+        print(__doc__)
+        return 0 if len(sys.argv) > 1 and sys.argv[1] in ('-h', '--help') else 2
+    library, *programs = (str(there(path)) for path in sys.argv[1:])
+    lines, given = written(library)
+    wrong = untried(lines, given)
+    for program in programs:
+        ran = subprocess.run([program], input='\n'.join(lines) + '\n', capture_output=True, text=True, check=False)
+        gives = _blocks(ran.stdout)
+        if ran.returncode or len(gives) != len(given):
+            wrong.append(f'{program}: status {ran.returncode}, {len(gives)} answers for {len(given)} lines: {ran.stderr[-300:]}')
+        wrong += [f'{Path(program).name}, line {place}, {line}: {one!r}, and in Python {other!r}'
+                  for place, (line, one, other) in enumerate(zip(lines, gives, given), 1) if one != other]
+    print(*(text[:600] for text in wrong[:20]), f'{len(given) * len(programs)} compared, {len(wrong)} wrong', sep='\n')
+    return 1 if wrong else 0
+
+
+if __name__ == '__main__':
+    sys.exit(main())
