@@ -1,6 +1,6 @@
-"""What the companions raise. Each message is one line for the reader."""
+"""What the companions raise. Each message is one line for the reader; that of a complaint may go on with what would do."""
 
-from typing import Any, Tuple, Type
+from typing import Any, Callable, Optional, Sequence, Tuple, Type
 
 
 class CompanionError(Exception):
@@ -57,7 +57,32 @@ class NotOne(CompanionError, LookupError):
 
 
 class Complaint(CompanionError):
-    """A command that wasn't accepted; nothing has changed."""
+    """A command that wasn't accepted; nothing has changed. Its text goes on with its advice."""
+
+    _advise: Optional[Callable[[], Sequence[str]]] = None
+    _advice: Tuple[str, ...] = ()
+
+    @property
+    def advice(self) -> Tuple[str, ...]:
+        """What would do, as lines of a script; none where that isn't known. It is looked for when it is first asked for, while the model is as
+        it was when the command was refused."""
+        if self._advise is not None:
+            advise, self._advise = self._advise, None
+            try:
+                self._advice = tuple(advise())
+            except CompanionError:
+                self._advice = ()
+        return self._advice
+
+    def advised(self, advise: Callable[[], Sequence[str]]) -> None:
+        """Says how the advice is found."""
+        self._advise = advise
+
+    def __str__(self) -> str:
+        return '\n    '.join([super().__str__(), *self.advice])
+
+    def __reduce__(self) -> Tuple[Any, ...]:
+        return _again, (type(self), self.args), {**self.__dict__, **({'_advice': self.advice, '_advise': None} if self._advise else {})}
 
 
 class Refused(Complaint):

@@ -101,6 +101,17 @@ def turned(faces: List[List[Cycle]]) -> List[List[Cycle]]:
     return [[tuple(reversed(cycle)) for cycle in face] for face in faces]
 
 
+def shells(*corners: Tuple[Point, Point], inside_out: Sequence[int] = ()) -> str:
+    """A listing of one solid whose shells are boxes, some of them inside out."""
+    points: List[Point] = []
+    faces: List[List[Cycle]] = []
+    for place, (low, high) in enumerate(corners):
+        more, others = box(low, high, len(points) + 1)
+        points += more
+        faces += turned(others) if place in inside_out else others
+    return listing(points, faces)
+
+
 def lamina(*loops: Sequence[Tuple[int, int]]) -> str:
     """A listing of a lamina in the plane z = 0 with an outer loop and rings, which are closed by faces of their own."""
     points = [(x, y, 0) for loop in loops for x, y in loop]
@@ -153,6 +164,15 @@ def _halves(cycle: Cycle, edges: Dict[Tuple[int, int], int]) -> str:
             halves.append(edges.setdefault((start, end), len(edges) + 1))
     least = halves.index(min(halves, key=lambda half: (abs(half), half < 0)))
     return ' '.join(f'{half:+d}' for half in halves[least:] + halves[:least])
+
+
+def bench_and_folder(test: unittest.TestCase):
+    """A workbench and a folder for a test, both gone when it ends."""
+    bench = import_module('gwb').Workbench(library())
+    test.addCleanup(bench.close)
+    folder = tempfile.TemporaryDirectory()
+    test.addCleanup(folder.cleanup)
+    return bench, Path(folder.name)
 
 
 def model_in(text: str):

@@ -2,24 +2,20 @@
 
 import tempfile
 import unittest
+from math import cos, sin, tau
 from pathlib import Path
+from random import Random
+from unittest.mock import patch
 
-from support import box, examples, lamina, listing, model_in, run, turned
+from support import box, examples, lamina, listing, model_in, run, shells, turned
 
+from gwb.checks import near_pairs
 from gwb.checks.check import check
+from gwb.checks.patches import Patches, is_simple, patches
+from gwb.geometry.measures import normal
 from gwb.protocol.listing import read_model
 
 SQUARE = [(0, 0), (12, 0), (12, 12), (0, 12)]
-
-
-def boxes(*corners, inside_out=()):
-    """A listing of one solid whose shells are boxes."""
-    points, faces = [], []
-    for i, (low, high) in enumerate(corners):
-        more, others = box(low, high, len(points) + 1)
-        points += more
-        faces += turned(others) if i in inside_out else others
-    return listing(points, faces)
 
 
 class Check(unittest.TestCase):
@@ -60,23 +56,23 @@ class Check(unittest.TestCase):
         self.assertEqual([finding.split(' ')[0] for finding in self.found(listing(points, faces))], ['bent:'])
 
     def test_solid_inside_out(self):
-        self.assertEqual(self.found(boxes(((0, 0, 0), (4, 4, 4)), inside_out=[0])),
+        self.assertEqual(self.found(shells(((0, 0, 0), (4, 4, 4)), inside_out=[0])),
                          ['inside-out: the shell of face 1 of solid 1 is inside out'])
 
     def test_hollow_outside_of_its_solid(self):
-        self.assertEqual(self.found(boxes(((0, 0, 0), (4, 4, 4)), ((6, 0, 0), (8, 2, 2)), inside_out=[1])),
+        self.assertEqual(self.found(shells(((0, 0, 0), (4, 4, 4)), ((6, 0, 0), (8, 2, 2)), inside_out=[1])),
                          ['inside-out: the shell of face 7 of solid 1 is inside out'])
 
     def test_shell_within_material(self):
-        self.assertEqual(self.found(boxes(((0, 0, 0), (9, 9, 9)), ((2, 2, 2), (4, 4, 4)))),
+        self.assertEqual(self.found(shells(((0, 0, 0), (9, 9, 9)), ((2, 2, 2), (4, 4, 4)))),
                          ['meeting: the shell of face 7 of solid 1 lies in the material of another'])
 
     def test_vertices_at_one_point(self):
-        self.assertEqual(self.found(boxes(((0, 0, 0), (4, 4, 4)), ((4, 4, 4), (6, 6, 6)))),
+        self.assertEqual(self.found(shells(((0, 0, 0), (4, 4, 4)), ((4, 4, 4), (6, 6, 6)))),
                          ['touching: vertices 7 and 9 of solid 1 lie at one point'])
 
     def test_vertices_on_an_edge(self):
-        self.assertEqual(self.found(boxes(((0, 0, 0), (4, 4, 4)), ((2, -2, 4), (3, 0, 6)))),
+        self.assertEqual(self.found(shells(((0, 0, 0), (4, 4, 4)), ((2, -2, 4), (3, 0, 6)))),
                          ['touching: vertex 11 lies on edge 5', 'touching: vertex 12 lies on edge 5'])
 
     def test_vertex_on_a_face(self):
@@ -86,34 +82,34 @@ class Check(unittest.TestCase):
         self.assertEqual(self.found(listing(points + tip, faces + tent)), ['touching: vertex 9 lies on face 2'])
 
     def test_edges_through_a_face(self):
-        self.assertEqual(self.found(boxes(((0, 0, 0), (4, 4, 4)), ((1, 1, 2), (2, 2, 9)))),
+        self.assertEqual(self.found(shells(((0, 0, 0), (4, 4, 4)), ((1, 1, 2), (2, 2, 9)))),
                          [f'meeting: edge {edge} passes through face 2' for edge in (21, 22, 23, 24)] +
                          ['meeting: the shell of face 7 of solid 1 lies in the material of another'])
 
     def test_edges_that_cross(self):
-        found = self.found(boxes(((0, 0, 0), (4, 4, 4)), ((1, -1, 4), (2, 3, 6))))
+        found = self.found(shells(((0, 0, 0), (4, 4, 4)), ((1, -1, 4), (2, 3, 6))))
         self.assertEqual(found[:2], ['meeting: edges 5 and 13 cross', 'meeting: edges 5 and 15 cross'])
 
     def test_edges_along_a_face(self):
-        found = self.found(boxes(((0, 0, 0), (4, 4, 4)), ((-1, 1, 4), (5, 2, 6))))
+        found = self.found(shells(((0, 0, 0), (4, 4, 4)), ((-1, 1, 4), (5, 2, 6))))
         self.assertEqual([finding for finding in found if 'runs along' in finding],
                          ['touching: edge 14 runs along face 2', 'touching: edge 16 runs along face 2',
                           'touching: edge 6 runs along face 7', 'touching: edge 8 runs along face 7'])
 
     def test_faces_back_to_back(self):
         self.assertIn('touching: faces 2 and 7 lie on each other',
-                      self.found(boxes(((0, 0, 0), (4, 4, 4)), ((0, 0, 4), (4, 4, 6)))))
+                      self.found(shells(((0, 0, 0), (4, 4, 4)), ((0, 0, 4), (4, 4, 6)))))
 
     def test_faces_on_each_other(self):
         self.assertIn('meeting: faces 1 and 7 lie on each other',
-                      self.found(boxes(((0, 0, 0), (4, 4, 4)), ((1, 1, 0), (2, 2, 2)))))
+                      self.found(shells(((0, 0, 0), (4, 4, 4)), ((1, 1, 0), (2, 2, 2)))))
 
     def test_nothing(self):
         for text in (lamina(SQUARE), lamina(SQUARE, [(2, 2), (2, 4), (4, 2)]),
-                     boxes(((0, 0, 0), (4, 4, 4))),
-                     boxes(((0, 0, 0), (9, 9, 9)), ((2, 2, 2), (4, 4, 4)), inside_out=[1]),
-                     boxes(((0, 0, 0), (9, 9, 9)), ((1, 1, 1), (8, 8, 8)), ((2, 2, 2), (4, 4, 4)), inside_out=[1]),
-                     boxes(((0, 0, 0), (4, 4, 4)), ((6, 0, 0), (8, 2, 2)))):
+                     shells(((0, 0, 0), (4, 4, 4))),
+                     shells(((0, 0, 0), (9, 9, 9)), ((2, 2, 2), (4, 4, 4)), inside_out=[1]),
+                     shells(((0, 0, 0), (9, 9, 9)), ((1, 1, 1), (8, 8, 8)), ((2, 2, 2), (4, 4, 4)), inside_out=[1]),
+                     shells(((0, 0, 0), (4, 4, 4)), ((6, 0, 0), (8, 2, 2)))):
             self.assertEqual(self.found(text), [])
 
     def test_the_examples(self):
@@ -121,6 +117,90 @@ class Check(unittest.TestCase):
             with self.subTest(script.stem):
                 findings = check(read_model(script.with_suffix('.expected').read_bytes())).findings
                 self.assertEqual(findings, [])
+
+
+def ring(around, across, radius, thick, at=(0, 0, 0), first=1):
+    """The points of a ring made of triangles, numbered from first, and its faces."""
+    def vertex(i, j):
+        return i % around * across + j % across + first
+
+    ways = [(tau * i / around, tau * j / across) for i in range(around) for j in range(across)]
+    points = [(round((radius + thick * cos(b)) * cos(a)) + at[0], round((radius + thick * cos(b)) * sin(a)) + at[1], round(thick * sin(b)) + at[2])
+              for a, b in ways]
+    corners = [(vertex(i, j), vertex(i + 1, j), vertex(i + 1, j + 1), vertex(i, j + 1)) for i in range(around) for j in range(across)]
+    return points, [[three] for a, b, c, d in corners for three in ((a, b, c), (a, c, d))]
+
+
+def hill(random, size, height):
+    """A listing of a hill over a square, some of its faces bent, on a bottom of one face."""
+    def vertex(x, y):
+        return x * (size + 1) + y + 1
+
+    def shift(x, y):
+        return random.randint(-1, 1) if 0 < x < size and 0 < y < size else 0
+
+    steps = range(size)
+    points = [(2 * x + shift(x, y), 2 * y + shift(x, y), height * abs(shift(x, y))) for x in range(size + 1) for y in range(size + 1)]
+    corners = [(vertex(x, y), vertex(x + 1, y), vertex(x + 1, y + 1), vertex(x, y + 1)) for x in steps for y in steps]
+    faces = [face for a, b, c, d in corners for face in ([[(a, b, c)], [(a, c, d)]] if random.random() < 0.7 else [[(a, b, c, d)]])]
+    rim = [*(vertex(i, 0) for i in steps), *(vertex(size, i) for i in steps), *(vertex(size - i, size) for i in steps), *(vertex(0, size - i) for i in steps)]
+    return listing(points, [*faces, [tuple(reversed(rim))]])
+
+
+def random_boxes(random):
+    """A listing of some boxes, of rectangles or triangles, that meet each other, some inside out or bent."""
+    points, faces = [], []
+    for _ in range(random.randint(1, 4)):
+        low = [random.randint(0, 5) for _ in 'xyz']
+        more, others = box(low, [part + random.randint(1, 5) for part in low], len(points) + 1)
+        if random.random() < 0.5:
+            others = [[(cycle[0], *cycle[i:i + 2])] for (cycle,) in others for i in (1, 2)]
+        if random.random() < 0.2:
+            more[random.randrange(8)] = tuple(random.randint(0, 9) for _ in 'xyz')
+        points += more
+        faces += turned(others) if random.random() < 0.2 else others
+    return listing(points, faces)
+
+
+def alone(model, normals):
+    """Patches of one face each, none of which is taken for convex."""
+    return Patches({face: face for face in normals}, dict.fromkeys(normals, False))
+
+
+class PatchesOfFaces(unittest.TestCase):
+    """What is left out because it lies in one patch, and what isn't."""
+
+    def test_what_is_found_is_the_same_without_patches(self):
+        random, kinds = Random(5), set()
+        for place in range(60):
+            points, faces = ring(random.randint(5, 9), random.randint(5, 7), random.randint(9, 40), random.randint(3, 30))
+            more, others = ring(5, 6, 20, 9, [random.randint(-30, 30) for _ in 'xyz'], len(points) + 1)
+            text = (random_boxes(random), hill(random, random.randint(3, 5), random.choice((1, 3, 9))), listing(points, faces),
+                    listing(points + more, faces + others), lamina([(random.randint(0, 9), random.randint(0, 9)) for _ in range(7)]))[place % 5]
+            found = check(model_in(text)).findings
+            with patch.object(near_pairs, 'patches', alone):
+                self.assertEqual(check(model_in(text)).findings, found, text)
+            kinds |= {finding.kind for finding in found}
+        self.assertEqual(kinds, {'bent', 'crossing', 'inside-out', 'meeting', 'touching'})
+
+    def test_a_ring_is_of_few_patches(self):
+        model = model_in(listing(*ring(60, 60, 1_000_000, 400_000)))
+        normals = {face: normal(model, face) for face in model.faces}
+        self.assertLess(len(set(patches(model, normals).patch_of.values())), 30)
+        self.assertLess(len(near_pairs.near_pairs(model, normals).faces), len(model.faces) * 3 / 4)
+
+    def test_simple_paths(self):
+        square = [(0, 0), (4, 0), (4, 4), (0, 4)]
+        for name, path, simple in (
+                ('a square', square, True), ('clockwise', square[::-1], True), ('a corner amid a side', [(0, 0), (2, 0), *square[1:]], True),
+                ('a spike', [(0, 0), (6, 0), *square[1:]], False), ('sides that cross', [(0, 0), (4, 4), (4, 0), (0, 4)], False),
+                ('a corner twice', [(0, 0), (4, 0), (2, 2), (4, 4), (0, 4), (2, 2)], False),
+                ('a corner on a side', [(0, 0), (4, 0), (4, 4), (2, 0), (0, 4)], False), ('sides on each other', [(0, 0), (4, 0), (4, 2), (3, 2), (3, 0), (1, 0), (1, 2)], False),
+                ('a crossing of far sides', [(0, 0), (9, 0), (9, 9), (5, -1), (0, 9)], False)):
+            with self.subTest(name):
+                for start in range(len(path)):
+                    turned_path = path[start:] + path[:start]
+                    self.assertEqual([is_simple(turned_path), is_simple([(y, x) for x, y in turned_path])], [simple, simple])
 
 
 class Between(unittest.TestCase):

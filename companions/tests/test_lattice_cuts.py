@@ -94,6 +94,11 @@ class Places(unittest.TestCase):
         cut = replace(off_lattice_cut(block(20, 3, 3), 1, (2, 0, 0, -3)), parallel=None, tilted=tilted)
         self.assertEqual([line for line in cut.advice(2) if line.startswith('split')][1:], ['split 1 1 0 1 0 2', 'split 1 1 0 2 0 2'])
 
+    def test_a_parallel_plane_that_moves_the_cut_far_is_told_without_a_line(self):
+        told = off_lattice_cut(block(12, 12, 12), 1, (1, 5, 0, -46)).advice(2)
+        self.assertIn('# a parallel plane that cuts at whole points moves the cut by at least 3.20 along an edge', told)
+        self.assertEqual([line for line in told if line.startswith('split 1 1 5 0 ')], ['split 1 1 5 0 -230 2'])
+
     def test_a_whole_cut_needs_nothing(self):
         cut = off_lattice_cut(CUBE, 1, (1, 0, 0, -1))
         self.assertEqual((cut.factor, cut.off_lattice, cut.parallel, cut.tilted, cut.advice(2)), (1, (), None, (), []))
@@ -156,8 +161,7 @@ class Near(unittest.TestCase):
             near = [one for one in (cut.parallel, *cut.tilted) if one is not None]
             splits = [' '.join(map(str, ('split', 1, *one.plane, 2))) for one in near]
             told = [line for line in cut.advice(2) if line.startswith('split')][plane[3] != 0:]
-            self.assertEqual(told, [split for one, split in zip(near, splits)
-                                    if one.is_parallel or one.square_moved <= max(1, Fraction(cut.longest ** 2, 100))])
+            self.assertEqual(told, [split for one, split in zip(near, splits) if one.square_moved <= max(1, Fraction(cut.longest ** 2, 100))])
             tried = ''.join(f'{line}\nundo\n' for line in splits)
             answers = replies(script + 'split 1 {} {} {} {} 2\n'.format(*plane) + tried)
             self.assertTrue(answers[2].startswith('refused 37 '), answers)

@@ -92,7 +92,8 @@ CASES['import_file'] = ({'path': 'part.step'}, {
     'path': (1, None, 1.0, b'part.step'), 'form': (1, None, b'stl', 'dxf'), 'scale': (True, 1.0, '1', None, 0, -1, Fraction(-1, 2)),
     'rounded': FLAG, 'keep_triangles': FLAG, 'repair': FLAG})
 CASES['export'] = ({'path': 'part.step'}, {'path': (1, None, 1.0, b'part.step')})
-WITHOUT_ARGUMENTS = {'close', 'draft', 'group', 'listing', 'page', 'script', 'show', 'solids', 'save', 'load', 'labels', 'unit'}
+WITHOUT_ARGUMENTS = {'close', 'draft', 'group', 'listing', 'page', 'script', 'show', 'solids', 'save', 'load', 'labels', 'unit',
+                     'renumber'}
 
 
 class Silent:

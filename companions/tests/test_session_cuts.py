@@ -6,17 +6,19 @@ import unittest
 import warnings
 from collections import Counter
 from fractions import Fraction
-from itertools import count
 from pathlib import Path
 from random import Random
 
+from oracle.cutting import cut_model
+from oracle.held import faces_of
+from oracle.uniting import united
 from support import library
 from voxel_parts import AXES, World, cells_of, squares_of
 
 from gwb import Refused, Workbench
 from gwb.checks.check import check
 from gwb.geometry.measures import six_volume
-from gwb.session.cutting import cut_model
+from gwb.geometry.outlines import Impossible
 
 U_SHAPE = [(0, 0, 0), (12, 0, 0), (12, 12, 0), (8, 12, 0), (8, 4, 0), (4, 4, 0), (4, 12, 0), (0, 12, 0)]
 
@@ -274,17 +276,24 @@ class RandomCuts(unittest.TestCase):
             self.assertIn(refused.name, ('PlaneMisses', 'NotLattice', 'Meets'))
             self.assertEqual(bench.listing(), before)
             if refused.name == 'Meets':
-                free = count(10 ** 4)
-                self.assertTrue(any(self.touches_itself(half.model) for half in cut_model(before, plane, 2, lambda _: next(free))))
+                with self.assertRaisesRegex(Impossible, 'Meets'):
+                    cut_model(before, plane, 2)
             return
         self.assertFalse(any(self.touches_itself(bench.listing().only(part)) for part in (made.below, made.above)))
-        told['split' if bench.script().splitlines()[-1].startswith('split') else 'made anew'] += 1
+        is_split = bench.script().splitlines()[-1].startswith('split')
+        told['split' if is_split else 'made anew'] += 1
+        if not is_split:
+            halves = cut_model(before, plane, made.above)
+            self.assertEqual([faces_of(bench.listing().only(part)) for part in (made.below, made.above)], [faces_of(half.model) for half in halves])
+            self.assertEqual([len(made.lower_caps), len(made.upper_caps)], [len(half.caps) for half in halves])
         self.assertEqual(volume_of(bench, made.below) + volume_of(bench, made.above), volume)
         findings = check(bench.listing()).findings
         self.assertEqual({finding.kind for finding in findings} - {'touching'}, set())
         for cap, way in [*((cap, 1) for cap in made.lower_caps), *((cap, -1) for cap in made.upper_caps)]:
             self.assertGreater(way * sum(one * two for one, two in zip(bench.face(cap).normal, plane)), 0)
+        parts = [bench.listing().only(part) for part in (made.below, made.above)]
         bench.union([made.below, made.above])
+        self.assertEqual(faces_of(bench.listing()), faces_of(united(parts)))
         self.assertEqual(Counter(world.squares(bench.listing(), 1)), Counter(squares_of(world.solids[1])))
         self.assertEqual(len(bench.listing().faces), len(before.faces))
         bench.undo()
@@ -338,6 +347,22 @@ class NothingCut(Stepwise):
         folder = tempfile.TemporaryDirectory()
         self.addCleanup(folder.cleanup)
         self.folder = Path(folder.name)
+
+
+class LabelledStep(Stepwise):
+    """A stepped solid, which split doesn't cut level with its step, and labels."""
+
+    def test_both_parts_of_a_face_have_its_label(self):
+        bench = self.bench
+        step = bench.profile([(0, 0, 0), (8, 0, 0), (8, 0, 4), (4, 0, 4), (4, 0, 8), (0, 0, 8)], along=(0, 8, 0)).solid
+        bench.label(bench.faces(plane=(0, -1, 0, 0)).one(), 'front')
+        bench.label(bench.solid(step), 'step')
+        for cut in (lambda: bench.cut(step, (0, 0, 1, -4)), lambda: bench.cut(step, (0, 0, 1, -4), keep='above'), lambda: bench.trim(step, (0, 0, 1, -4))):
+            self.one_step(cut)
+            front = bench.faces(plane=(0, -1, 0, 0))
+            self.assertEqual({bench.labels['face', face.number].name for face in front}, {'front'})
+            self.assertEqual([bench.labels['solid', solid].name for solid in bench.solids().numbers], ['step'] * len(bench.solids().numbers))
+            bench.undo()
 
 
 class Joined(Stepwise):

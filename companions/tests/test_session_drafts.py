@@ -129,6 +129,7 @@ class Drafts(unittest.TestCase):
             'finer': lambda: bench.split(1, (2, 0, 0, -7), scale=True), 'trim': lambda: bench.trim(1, (1, 0, 0, -4)),
             'cut': lambda: bench.cut(1, (1, -1, 0, 0), keep='above'), 'notch': lambda: bench.notch(top, [(0, 0, 9), (2, 0, 9), (2, 2, 9)], 1),
             'copy': lambda: bench.copy(1, move=(0, 0, 20)), 'delete': lambda: bench.delete(1), 'scale': lambda: bench.scale(2),
+            'pattern': lambda: bench.pattern(1, 2, (20, 0, 0)), 'mirror': lambda: bench.mirror(1, (1, 0, 0, 0)),
             'a line': lambda: bench.ask('block 7 0 0 40 1 1 1'), 'a listing': lambda: bench.ask('list'), 'a fault': lambda: bench.ask('block'),
             'a refusal': lambda: bench.ask('sweep 99 0 0 1')}
         for name, given in calls.items():
@@ -244,33 +245,25 @@ class Drafts(unittest.TestCase):
         self.both = self.bench.listing()
         self.bench.undo()
 
-    def refuse_memory(self, after):
-        """Memory for the call after so many is refused."""
-        ask, given = self.bench._bench.kernel.lines.ask, []
-
-        def refusing(line):
-            given.append(line)
-            if len(given) == after + 1:
-                raise MemoryRefused('memory was refused')
-            return ask(line)
-
-        self.bench._bench.kernel.lines.ask = refusing
-
     def half_has_left_no_trace(self):
         self.assertEqual((self.bench.listing(), self.bench.script()), (self.held, self.script))
         self.bench.redo()
         self.assertEqual(self.bench.listing(), self.both)
 
     def row(self):
-        """Three blocks in a row, which two gluings join."""
-        return [self.block, *(self.bench.block((9 * place, 0, 0), (9, 9, 9)) for place in (1, 2))]
+        """Three blocks in a row, which two gluings join, and one that none joins with them."""
+        return [self.block, *(self.bench.block((9 * place, 0, 0), (9, 9, 9)) for place in (1, 2, 4))]
+
+    def refuse_row(self, row):
+        """The blocks aren't glued."""
+        with self.assertRaises(Refused) as caught:
+            self.bench.glue_all(row)
+        self.assertEqual((caught.exception.name, caught.exception.value), ('NoMatch', row[-1].solid))
 
     def test_a_chain_that_is_refused_half_way_leaves_no_trace(self):
         row, self.held = self.row(), self.bench.listing()
         self.forget_a_vertex()
-        self.refuse_memory(1)
-        with self.assertRaises(MemoryRefused):
-            self.bench.glue_all(row)
+        self.refuse_row(row)
         self.half_has_left_no_trace()
 
     def test_a_chain_that_is_refused_half_way_leaves_its_draft_open(self):
@@ -278,9 +271,7 @@ class Drafts(unittest.TestCase):
         with bench.draft():
             bench.pocket(self.block.top, TRIANGLE, 2)
             made = bench.listing()
-            self.refuse_memory(1)
-            with self.assertRaises(MemoryRefused):
-                bench.glue_all(row)
+            self.refuse_row(row)
             self.assertEqual(bench.listing(), made)
             cut(bench)
         self.assertEqual(len(bench.face(self.block.top).rings), 2)

@@ -2,13 +2,11 @@
 
 import subprocess
 import sys
-import tempfile
 import unittest
 import warnings
 from fractions import Fraction
-from pathlib import Path
 
-from support import COMPANIONS, library
+from support import COMPANIONS, bench_and_folder, library
 
 from gwb import Refused, Unfit, Workbench
 from gwb.formats.appearance import Appearance, appearances_in
@@ -20,11 +18,7 @@ class Exports(unittest.TestCase):
     """A block named Base with a red top, and a block beside it."""
 
     def setUp(self):
-        self.bench = Workbench(library())
-        self.addCleanup(self.bench.close)
-        folder = tempfile.TemporaryDirectory()
-        self.addCleanup(folder.cleanup)
-        self.folder = Path(folder.name)
+        self.bench, self.folder = bench_and_folder(self)
         self.base = self.bench.block((0, 0, 0), (4, 5, 6))
         self.bench.block((10, 0, 0), (1, 2, 3))
         self.bench.label(self.bench.solid(self.base.solid), 'Base "é"', '#00FF00')
@@ -110,6 +104,15 @@ class Exports(unittest.TestCase):
         with Workbench.load(path, library()) as bench:
             self.assertEqual(bench.labels, self.bench.labels)
             self.assertEqual(bench.listing(), self.bench.listing())
+
+    def test_what_a_command_returned_is_labelled(self):
+        copy, parts = self.bench.copy(self.base, move=(50, 0, 0)), self.bench.split(self.base, (0, 0, 1, -3))
+        for made in (self.base, copy, parts):
+            self.bench.label(made, f'part {made.solid}')
+            self.assertEqual(self.bench.labels['solid', made.solid].name, f'part {made.solid}')
+        self.bench.delete(copy)
+        with self.assertRaises(Refused):
+            self.bench.label(copy, 'gone')
 
     def test_what_cannot_be_labelled(self):
         with self.assertRaises(TypeError):

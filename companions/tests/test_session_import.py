@@ -1,11 +1,10 @@
 """Files of other programs taken into a session, beside what it holds."""
 
-import tempfile
 import unittest
 from fractions import Fraction
 from pathlib import Path
 
-from support import STORED, library
+from support import STORED, bench_and_folder, library
 
 from gwb import CompanionError, InDraft, Workbench
 from gwb.formats.appearance import Appearance
@@ -37,11 +36,7 @@ class Imports(unittest.TestCase):
     """A bench that holds a block, whose numbers the files have too."""
 
     def setUp(self):
-        self.bench = Workbench(library())
-        self.addCleanup(self.bench.close)
-        folder = tempfile.TemporaryDirectory()
-        self.addCleanup(folder.cleanup)
-        self.folder = Path(folder.name)
+        self.bench, self.folder = bench_and_folder(self)
         self.block = self.bench.block((100, 0, 0), (2, 3, 4))
 
     def written(self, name, text):

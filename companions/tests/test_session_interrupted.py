@@ -18,7 +18,7 @@ FOLDER = str(Path(gwb.__file__).parent / 'session')
 # The modules in which an exception may come at each line.
 TRACED = {f'{FOLDER}/{name}.py' for name in (
     'workbench', 'bench', 'kernel', 'notes', 'new_numbers', 'library', 'steps', 'turns', 'commands', 'feature_methods', 'feature_calls', 'features',
-    'labelling', 'selection', 'refining', 'cutting', 'uniting', 'solids', 'solid_methods')}
+    'labelling', 'selection', 'refining', 'cutting', 'solids', 'solid_methods')}
 # Python looks for signals where a call begins or returns: not between a line and the `try:` after it, nor between a block and its `finally`.
 NOT_BEFORE = ('try:', '.is_inside =', 'group_from = outer')
 SQUARE = [(5, 5, 20), (15, 5, 20), (15, 15, 20), (5, 15, 20)]
@@ -78,6 +78,11 @@ def grouped(bench):
         bench.ring(1, SQUARE)
 
 
+def united(bench):
+    with bench.group():
+        bench.union([1, bench.block((20, 0, 0), (4, 20, 20))])
+
+
 def finer(bench):
     with bench.group():
         block = bench.block((50, 0, 0), (7, 5, 3))
@@ -88,11 +93,12 @@ CALLS = {
     'block': lambda bench: bench.block((50, 0, 0), (2, 2, 2)), 'mvfs': lambda bench: bench.mvfs((1, 2, 3)),
     'pocket': lambda bench: bench.pocket(1, SQUARE, 3), 'ring': lambda bench: bench.ring(1, SQUARE),
     'hole': lambda bench: bench.hole(1, SQUARE), 'split': lambda bench: bench.split(1, (0, 0, 1, -3)), 'draft': drafted,
+    'cut': lambda bench: bench.cut(1, (0, 0, 1, -17)), 'trim': lambda bench: bench.trim(1, (0, 0, 1, -3)),
     'a draft within': drafted_within, 'group': grouped,
     'undo': lambda bench: bench.undo(), 'redo': lambda bench: bench.redo(), 'volume': lambda bench: bench.volume(1),
     'ask': lambda bench: bench.ask('mvfs 77 77 77 77 1 2 3'), 'a line undo': lambda bench: bench.ask('undo'),
     'listing': lambda bench: bench.listing(), 'a refusal': lambda bench: bench.sweep(1, (0, 0, 0)),
-    'a finer cut': finer}
+    'union': united, 'a finer cut': finer}
 # Of calls of many commands fewer lines are tried.
 LONG = {'a finer cut': 23}
 

@@ -6,11 +6,11 @@ from random import Random
 
 from oracle import outlined
 from oracle.held import Held
+from oracle.outlines import steps_along
 from support import library
 
 from gwb import Face, Loop, Model, Refused, Workbench
 from gwb.checks.check import check
-from gwb.geometry.outlines import steps_along
 from gwb.geometry.vectors import add
 
 

@@ -146,6 +146,22 @@ class Whole(unittest.TestCase):
         made = self.bench.copy(block.solid)
         self.assertEqual((made.solid, made.face(block.top), made.vertex(block.vertices[0])), (6, gone.top + 6, 9))
 
+    def test_low_numbers(self):
+        block = with_hole(self.bench)
+        self.bench.mvfs((40, 0, 0), solid=1_000_000, face=1_000_000)
+        self.bench.label(self.bench.face(1_000_000), 'point')
+        self.bench.label(self.bench.solid(block.solid), 'block')
+        with self.assertRaises(Refused):
+            self.bench.block((50, 0, 0), (1, 1, 1))
+        shape, labels = self.six_volume(block.solid), dict(self.bench.labels)
+        all_now = self.one_step(self.bench.renumber)
+        self.assertEqual((all_now.solids[1_000_000], list(self.bench.listing().faces)), (2, list(range(1, len(all_now.faces) + 1))))
+        self.assertEqual((self.six_volume(all_now.solids[block.solid]), self.bench.block((50, 0, 0), (1, 1, 1)).solid), (shape, 3))
+        self.assertEqual(set(self.bench.labels), {('solid', 1), ('face', all_now.faces[1_000_000])})
+        self.bench.undo()
+        self.bench.undo()
+        self.assertEqual(self.bench.labels, labels)
+
     def test_in_a_draft(self):
         block = with_hole(self.bench)
         before = self.bench.listing()

@@ -7,7 +7,7 @@ import zipfile
 from fractions import Fraction
 from pathlib import Path
 
-from support import library, run
+from support import bench_and_folder, library, run
 
 from gwb import Refused, Workbench
 from gwb.checks.check import check
@@ -19,11 +19,7 @@ class Unit(unittest.TestCase):
     """A block of 7 by 5 by 3, which the plane cuts between whole coordinates, and a cube beside it."""
 
     def setUp(self):
-        self.bench = Workbench(library())
-        self.addCleanup(self.bench.close)
-        folder = tempfile.TemporaryDirectory()
-        self.addCleanup(folder.cleanup)
-        self.folder = Path(folder.name)
+        self.bench, self.folder = bench_and_folder(self)
         self.block = self.bench.block((0, 0, 0), (7, 5, 3))
         self.cube = self.bench.block((20, 0, 0), (2, 2, 2))
 
@@ -48,9 +44,10 @@ class Unit(unittest.TestCase):
     def test_the_least_factor_that_makes_all_points_whole(self):
         self.assertEqual(self.bench.unit, 1)
         self.refused('NotLattice', lambda: self.bench.split(self.block, PLANE))
-        for cut in (self.bench.split, self.bench.cut, self.bench.trim):
-            with self.assertRaisesRegex(Refused, r'^split .*: NotLattice: the plane cuts edge 1 .*; times 6 all its points are whole, .*scale=True'):
-                cut(self.block, PLANE)
+        told = r'\b.*: NotLattice: the plane cuts edge 1 .*; times 6 all its points are whole, .*scale=True'
+        for word in ('split', 'cut', 'trim'):
+            with self.assertRaisesRegex(Refused, f'^{word}{told}'):
+                getattr(self.bench, word)(self.block, PLANE)
         made = self.bench.split(self.block, PLANE, scale=True)
         self.assertEqual(self.bench.unit, Fraction(1, 6))
         self.assertEqual(self.true_volume(self.block.solid), Fraction(3 * 11 * 11, 12))

@@ -3,21 +3,11 @@
 import re
 import unittest
 
-from support import box, examples, listing, model_in, turned
+from support import box, examples, listing, model_in, shells, turned
 
 from gwb.errors import Unfit
 from gwb.formats.step.write import step_text
 from gwb.protocol.listing import read_model
-
-
-def shells(*corners, inside_out=()):
-    """A listing of one solid whose shells are boxes."""
-    points, faces = [], []
-    for i, (low, high) in enumerate(corners):
-        more, others = box(low, high, len(points) + 1)
-        points += more
-        faces += turned(others) if i in inside_out else others
-    return listing(points, faces)
 
 
 class Step(unittest.TestCase):

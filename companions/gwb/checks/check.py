@@ -2,6 +2,7 @@
 
 from typing import Dict, Iterator, List, NamedTuple, Optional
 
+from ..geometry.convexity import is_convex_solid
 from ..geometry.measures import normal
 from ..geometry.model import Model
 from ..geometry.vectors import ZERO
@@ -33,11 +34,13 @@ class Report(NamedTuple):
 def check(model: Model, between: bool = False, slivers: Optional[int] = None) -> Report:
     """Looks at each face, and at each solid by itself; with `between` for solids that share room too, with `slivers` for faces and solids that
     are more than so many times as long as they are wide or thick."""
-    without_area = {face: None for face in model.faces if normal(model, face) == ZERO}
-    findings = [finding for face in model.faces if face not in without_area for finding in face_findings(model, face)]
-    findings += [finding for solid in model.solids for finding in SolidCheck(model, solid).findings()]
+    normals = {face: normal(model, face) for face in model.faces}
+    findings = [finding for face, across in normals.items() if across != ZERO for finding in face_findings(model, face, across)]
+    findings += [finding for solid in model.solids if not is_convex_solid(model, solid, normals)
+                 for finding in SolidCheck(model, solid, normals=normals).findings()]
     if slivers is not None:
         findings += sliver_findings(model, slivers)
     if between:
         findings += overlap_findings(model)
-    return Report(findings, list(without_area), unfit_solids(model) if between and len(model.solids) > 1 else {})
+    without_area = [face for face, across in normals.items() if across == ZERO]
+    return Report(findings, without_area, unfit_solids(model) if between and len(model.solids) > 1 else {})

@@ -3,7 +3,7 @@
 from typing import Iterator, Optional
 
 from ..geometry.box_index import BoxIndex, box_of
-from ..geometry.measures import loop_normal, normal, off_plane
+from ..geometry.measures import loop_normal, off_plane
 from ..geometry.model import Model
 from ..geometry.plane_figures import Place, locate, segments
 from ..geometry.vectors import Vector, ZERO, dot, flat_axes
@@ -20,16 +20,16 @@ def _is_triangle(model: Model, face: int) -> bool:
     return not row.rings and len(model.loops[row.outer].halves) == 3
 
 
-def face_findings(model: Model, face: int) -> Iterator[Finding]:
-    """The slips of a face that has an area."""
+def face_findings(model: Model, face: int, across: Vector) -> Iterator[Finding]:
+    """The slips of a face that has an area; its normal is given."""
     if _is_triangle(model, face):
         return
-    vertex = off_plane(model, face, normal(model, face))
+    vertex = off_plane(model, face, across)
     if vertex is not None:
         yield Finding(BENT, f'vertex {vertex} lies off the plane of face {face}')
-        return
-    yield from _directions(model, face)
-    yield from _places(model, face)
+    elif model.faces[face].rings:
+        yield from _directions(model, face)
+        yield from _places(model, face, across)
 
 
 def _directions(model: Model, face: int) -> Iterator[Finding]:
@@ -41,9 +41,8 @@ def _directions(model: Model, face: int) -> Iterator[Finding]:
             yield Finding(WRONG_WAY, f'ring {ring} of face {face} runs the same way round as its outer loop {outer}')
 
 
-def _places(model: Model, face: int) -> Iterator[Finding]:
+def _places(model: Model, face: int, across: Vector) -> Iterator[Finding]:
     """Rings outside the outer loop, or in other rings."""
-    across = normal(model, face)
     outer, *rings = (_FlatLoop(model, loop, across) for loop in model.faces[face].loops)
     boxes = BoxIndex({ring: ring.box for ring in rings})
     for ring in rings:

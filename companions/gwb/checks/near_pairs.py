@@ -1,25 +1,34 @@
-"""Which vertices and edges of a solid come so near to a face or an edge that they may touch or cross it: all others are left out in one pass.
+"""Which vertices and edges of a solid come so near to a face or an edge that they may touch or cross it: all others are left out.
 
-For each flat face the vertices in its plane and the edges that lie in it or pass through it are looked for within its box. Whatever lies on
-an edge, or crosses it between its ends, lies in the plane of each face beside it, or passes through it.
+What is of one patch doesn't meet. So space is divided into cells, and those in which one patch lies alone are passed over. For each face in the
+others the vertices in its plane and the edges that lie in it or pass through it are looked for within its box. Whatever lies on an edge, or
+crosses it between its ends, lies in the plane of each face beside it, or passes through it.
 """
 
-from itertools import combinations
-from typing import Dict, List, Mapping, NamedTuple, Set
+from itertools import chain, combinations, product
+from math import isqrt
+from typing import Dict, Iterator, List, Mapping, NamedTuple, Sequence, Set, Tuple
 
 from ..geometry.box_index import Box, BoxIndex, box_of, boxes_meet
-from ..geometry.flat_face import FlatFace
+from ..geometry.measures import anchor
 from ..geometry.model import Model
-from ..geometry.vectors import dot
+from ..geometry.vectors import Vector, dot
+from .patches import patches
 
-# A face of more corners is asked for by its edges one by one, and not by all pairs of them.
+# Of a face of more corners not all pairs of edges are taken, but those whose boxes meet.
 _MANY_CORNERS = 8
+# About so many faces of a surface lie in a cell.
+_IN_CELL = 12
+
+_Cell = Tuple[int, ...]
 
 
 class NearPairs(NamedTuple):
-    """By face the vertices and the edges that may touch or cross it, and by edge those that may touch or cross it. `open_edges` are those of
-    which no more is known than that the boxes meet."""
+    """The flat faces that may meet others; by face the vertices and the edges that may touch or cross it; by edge those that may touch or cross
+    it. Of `open_edges`, which have no flat face beside them, nothing is known. Faces of one patch don't meet."""
 
+    faces: List[int]
+    patch_of: Dict[int, int]
     vertices_at_face: Dict[int, List[int]]
     edges_at_face: Dict[int, List[int]]
     vertices_on_edge: Dict[int, Set[int]]
@@ -27,57 +36,104 @@ class NearPairs(NamedTuple):
     open_edges: Set[int]
 
 
-def near_pairs(model: Model, shapes: Mapping[int, FlatFace], boxes: Mapping[int, Box]) -> NearPairs:
-    """The pairs of a solid all of whose faces are flat and have an area; `boxes` are those of its faces."""
-    found = NearPairs({}, {}, {}, {}, set())
-    points, ends = model.vertices, model.edges
-    edges = BoxIndex({edge: box_of((points[start], points[end])) for edge, (start, end) in ends.items()}, is_fine=True)
-    lone = [loop.vertex for loop in model.loops.values() if loop.vertex is not None]
-    for face, shape in shapes.items():
-        corners, box, (a, b, c) = model.face_vertices(face), boxes[face], shape.across
-        sides = [abs(half) for half in model.face_halves(face)]
-        _put_own(found, sides, corners)
-        level = dot(shape.across, shape.origin)
-        heights = dict.fromkeys(corners, 0)
-        through = []
-        for edge in edges.near(box).difference(sides):
-            start, end = ends[edge]
-            if start not in heights:
-                x, y, z = points[start]
-                heights[start] = a * x + b * y + c * z - level
-            if end not in heights:
-                x, y, z = points[end]
-                heights[end] = a * x + b * y + c * z - level
-            first, last = heights[start], heights[end]
-            if (first < 0 < last or last < 0 < first or first == last == 0) and boxes_meet(box_of((points[start], points[end])), box):
-                through.append(edge)
-        heights.update((vertex, dot(shape.across, points[vertex]) - level) for vertex in lone)
-        flat = [vertex for vertex, height in heights.items() if height == 0 and vertex not in corners and boxes_meet(box_of((points[vertex],)), box)]
-        _put(found, face, sides, flat, through)
+def near_pairs(model: Model, normals: Mapping[int, Vector]) -> NearPairs:
+    """The pairs of a solid; `normals` are those of its flat faces with an area."""
+    near = _NearFaces(model, normals)
+    open_edges = {edge for edge in model.edges if model.face_of(edge) not in normals and model.face_of(-edge) not in normals}
+    found = NearPairs(near.faces, near.patch_of, {}, {}, {}, {}, open_edges)
+    for face in normals:
+        if not near.convex[face]:
+            _put_own(found, model, face)
+    for face in near.faces:
+        _put(found, model, face, *near.at(face, normals[face]))
     return found
 
 
-def _put(found: NearPairs, face: int, sides: List[int], flat: List[int], through: List[int]) -> None:
+def _beside_others(boxes: Mapping[int, Box], patch_of: Mapping[int, int]) -> List[int]:
+    """The faces that lie in a cell with one of another patch."""
+    steps = _cell_sizes(list(boxes.values()))
+    owners: Dict[_Cell, int] = {}
+    shared: Set[_Cell] = set()
+    for face, box in boxes.items():
+        patch = patch_of[face]
+        shared.update(cell for cell in _cells(box, steps) if owners.setdefault(cell, patch) != patch)
+    return [face for face, box in boxes.items() if not shared.isdisjoint(_cells(box, steps))]
+
+
+def _cell_sizes(boxes: Sequence[Box]) -> List[int]:
+    """The sizes of a cell along the axes: those that leave so many faces of a surface in each, but no less than faces have in the mean."""
+    per_axis = max(1, isqrt(len(boxes) // (6 * _IN_CELL)))
+    around = box_of(corner for box in boxes for corner in zip(*box))
+    means = [sum(high - low for low, high in axis) // len(boxes) for axis in zip(*boxes)]
+    return [int(max((high - low) // per_axis, mean)) + 1 for (low, high), mean in zip(around, means)]
+
+
+def _cells(box: Box, steps: Sequence[int]) -> Iterator[_Cell]:
+    """The cells that meet a box."""
+    return product(*[range(int(low // step), int(high // step) + 1) for (low, high), step in zip(box, steps)])
+
+
+class _NearFaces:
+    """The flat faces of a solid that may meet others, and the edges that may meet them."""
+
+    def __init__(self, model: Model, normals: Mapping[int, Vector]) -> None:
+        self._model = model
+        known = patches(model, normals)
+        self.convex = known.convex
+        self.patch_of = patch_of = {**{face: -face for face in model.faces}, **known.patch_of}
+        self._lone = [loop.vertex for loop in model.loops.values() if loop.vertex is not None]
+        self._face_boxes = {face: box_of(model.face_points(face)) for face in model.faces}
+        near = list(model.faces) if self._lone else _beside_others(self._face_boxes, patch_of)
+        self.faces = [face for face in near if face in normals]
+        edges = {abs(half) for face in near for half in model.face_halves(face)}
+        self._patches = {edge: (patch_of[model.face_of(edge)], patch_of[model.face_of(-edge)]) for edge in edges}
+        self._boxes = {edge: box_of((model.point(edge), model.point(-edge))) for edge in edges}
+        self._index = BoxIndex(self._boxes, isqrt(len(edges)) // 3)
+
+    def at(self, face: int, across: Vector) -> Tuple[List[int], List[int]]:
+        """The vertices of other patches in the plane of a face, and the edges of other patches that lie in it or pass through it, within its box."""
+        points, corners = self._model.vertices, set(self._model.face_vertices(face))
+        box, patch, level = self._face_boxes[face], self.patch_of[face], dot(across, anchor(self._model, face))
+        patches_of, ends = self._patches, self._model.edges
+        near = [edge for edge in self._index.near(box) if patch not in patches_of[edge]]
+        heights = {vertex: dot(across, points[vertex]) - level for vertex in {*self._lone, *chain.from_iterable(map(ends.__getitem__, near))}}
+        through = []
+        for edge in near:
+            start, end = ends[edge]
+            first, last = heights[start], heights[end]
+            if (first < 0 < last or last < 0 < first or first == last == 0) and boxes_meet(self._boxes[edge], box):
+                through.append(edge)
+        flat = [vertex for vertex, height in heights.items() if height == 0 and vertex not in corners and boxes_meet(box_of((points[vertex],)), box)]
+        return flat, through
+
+
+def _put(found: NearPairs, model: Model, face: int, flat: List[int], through: List[int]) -> None:
     """The vertices in the plane of a face and the edges in it or through it, for the face and for each of its sides."""
     if flat:
         found.vertices_at_face[face] = flat
-        for side in sides:
-            found.vertices_on_edge.setdefault(side, set()).update(flat)
     if through:
         found.edges_at_face[face] = through
-        for side in sides:
-            for edge in through:
-                found.edges_across.setdefault(min(side, edge), set()).add(max(side, edge))
+    for half in model.face_halves(face) if flat or through else ():
+        side = abs(half)
+        found.vertices_on_edge.setdefault(side, set()).update(flat)
+        for edge in through:
+            found.edges_across.setdefault(min(side, edge), set()).add(max(side, edge))
 
 
-def _put_own(found: NearPairs, sides: List[int], corners: List[int]) -> None:
-    """The pairs within one face: none in a triangle, which has an area."""
-    if len(sides) == 3:
-        return
-    if len(sides) > _MANY_CORNERS:
-        found.open_edges.update(sides)
-        return
-    for side in sides:
-        found.vertices_on_edge.setdefault(side, set()).update(corners)
-    for one, other in combinations(sorted(set(sides)), 2):
+def _put_own(found: NearPairs, model: Model, face: int) -> None:
+    """The pairs within one face."""
+    sides = sorted({abs(half) for half in model.face_halves(face)})
+    boxes = {side: box_of((model.point(side), model.point(-side))) for side in sides}
+    lone = [vertex for loop in model.faces[face].rings if model.loops[loop].is_lone for vertex in model.loop_vertices(loop)]
+    for side in sides if lone else ():
+        found.vertices_on_edge.setdefault(side, set()).update(lone)
+    for one, other in combinations(sides, 2) if len(sides) <= _MANY_CORNERS else _meeting(boxes):
         found.edges_across.setdefault(one, set()).add(other)
+        for side, beside in ((one, other), (other, one)):
+            found.vertices_on_edge.setdefault(side, set()).update(model.edges[beside])
+
+
+def _meeting(boxes: Mapping[int, Box]) -> Iterator[Tuple[int, int]]:
+    """The pairs of edges whose boxes meet, the lesser one first."""
+    index = BoxIndex(boxes, isqrt(len(boxes)))
+    return ((one, other) for one, box in boxes.items() for other in index.meeting(box) if other > one)

@@ -9,8 +9,7 @@ from ..geometry.flat_face import FlatFace
 from ..geometry.measures import normal, why_unfit
 from ..geometry.model import Model
 from ..geometry.plane_figures import Place, crossing, locate
-from ..geometry.sheets import Sheet
-from ..geometry.traced_cycles import Side
+from ..geometry.sheets import Sheet, Side
 from ..geometry.vectors import Vector, dot, reduced
 from .findings import OVERLAPPING, Finding
 

@@ -5,11 +5,11 @@ A flat shell, such as a lamina, has faces back to back: what looks one way may l
 
 from fractions import Fraction
 from functools import cached_property
-from itertools import combinations
-from typing import AbstractSet, Dict, FrozenSet, Iterator, List, Optional, Set, Tuple
+from typing import AbstractSet, Dict, FrozenSet, Iterator, List, Mapping, Optional, Set, Tuple
 
 from ..errors import Unfit
-from ..geometry.box_index import Box, BoxIndex, box_of, boxes_meet
+from ..geometry.box_index import Box, BoxIndex, box_of
+from ..geometry.convexity import is_convex
 from ..geometry.flat_face import ExactVector, FlatFace
 from ..geometry.measures import normal
 from ..geometry.model import Model
@@ -24,21 +24,19 @@ from .shell_checks import shell_findings
 
 
 class SolidCheck:
-    """One solid of a model, made ready for its parts to be compared; where a box is given, only those that meet it."""
+    """One solid of a model, made ready for its parts to be compared."""
 
-    def __init__(self, model: Model, solid: int, box: Optional[Box] = None) -> None:
+    def __init__(self, model: Model, solid: int, normals: Optional[Mapping[int, Vector]] = None) -> None:
+        """`normals` are those of its faces, where they are known."""
         self._model = model.only(solid)
         self._solid = solid
-        self._normals = {face: normal(self._model, face) for face in self._model.faces}
-        self._flat_shells = self._find_flat_shells()
-        self._shapes = {face: FlatFace(self._model, face, across) for face, across in self._normals.items() if is_flat(self._model, face, across)}
-        self._boxes = {face: box_of(self._model.face_points(face)) for face in self._shapes}
+        self._normals = {face: normal(self._model, face) for face in self._model.faces} if normals is None else normals
+        self._shells = self._model.shells(solid)
+        self._flat_shells = {face: shell[0] for shell in self._shells if self._is_in_one_plane(shell) for face in shell}
+        self._flat = {face: self._normals[face] for face in self._model.faces if is_flat(self._model, face, self._normals[face])}
+        self._known_shapes: Dict[int, FlatFace] = {}
         self._inner: Dict[int, Optional[ExactVector]] = {}
-        self._around = self._faces_around_vertices()
-        self._near_edges = [edge for edge in self._model.edges if box is None or boxes_meet(box_of(self._ends(edge)), box)]
-        self._near_vertices = [vertex for vertex, point in self._model.vertices.items() if box is None or boxes_meet(box_of([point]), box)]
-        self._is_whole = box is None and len(self._shapes) == len(self._model.faces)
-        self._pairs = near_pairs(self._model, self._shapes, self._boxes) if self._is_whole else None
+        self._pairs = near_pairs(self._model, self._flat)
 
     def findings(self) -> Iterator[Finding]:
         """All slips, each with the numbers concerned."""
@@ -46,46 +44,64 @@ class SolidCheck:
         yield from self._equal_edges()
         yield from self._vertices_on_edges()
         yield from self._crossing_edges()
-        for face in self._shapes:
+        for face in self._pairs.faces:
             yield from self._vertices_on_face(face)
             yield from self._edges_at_face(face)
         yield from self._faces_on_faces()
-        if len(self._shapes) == len(self._model.faces):
-            yield from shell_findings(self._model, self._solid)
+        if len(self._flat) == len(self._model.faces):
+            yield from shell_findings(self._model, self._solid, self._shells, self._normals)
 
     # What stands ready
 
     @cached_property
     def _edges(self) -> BoxIndex[int]:
-        return BoxIndex({edge: box_of(self._ends(edge)) for edge in self._near_edges})
+        return BoxIndex({edge: box_of(self._ends(edge)) for edge in self._model.edges})
 
     @cached_property
     def _vertices(self) -> BoxIndex[int]:
-        return BoxIndex({vertex: box_of([self._model.vertices[vertex]]) for vertex in self._near_vertices})
+        return BoxIndex({vertex: box_of([point]) for vertex, point in self._model.vertices.items()})
+
+    @cached_property
+    def _around(self) -> Dict[int, Set[int]]:
+        """The faces around each vertex."""
+        around: Dict[int, Set[int]] = {vertex: set() for vertex in self._model.vertices}
+        for face in self._model.faces:
+            for vertex in self._model.face_vertices(face):
+                around[vertex].add(face)
+        return around
+
+    def _edges_to_see(self, known: Mapping[int, AbstractSet[int]]) -> List[int]:
+        """The edges that may touch or cross something, rising: those known to, and those of which nothing is known."""
+        return sorted(self._pairs.open_edges.union(known))
 
     def _vertices_near_edge(self, edge: int) -> List[int]:
         """The vertices that may lie on an edge, rising."""
-        if self._pairs is not None and edge not in self._pairs.open_edges:
-            return sorted(self._pairs.vertices_on_edge.get(edge, ()))
-        return sorted(self._vertices.meeting(box_of(self._ends(edge))))
+        if edge in self._pairs.open_edges:
+            return sorted(self._vertices.meeting(box_of(self._ends(edge))))
+        return sorted(self._pairs.vertices_on_edge.get(edge, ()))
 
     def _edges_near_edge(self, edge: int) -> List[int]:
         """The edges of greater numbers that may cross an edge, rising."""
-        if self._pairs is None or edge in self._pairs.open_edges:
+        if edge in self._pairs.open_edges:
             return sorted(other for other in self._edges.meeting(box_of(self._ends(edge))) if other > edge)
         return sorted(self._pairs.edges_across.get(edge, ()))
 
     def _vertices_near_face(self, face: int) -> List[int]:
         """The vertices that may lie on a face, rising."""
-        if self._pairs is not None:
-            return sorted(self._pairs.vertices_at_face.get(face, ()))
-        return sorted(self._vertices.meeting(self._boxes[face]))
+        return sorted(self._pairs.vertices_at_face.get(face, ()))
 
     def _edges_near_face(self, face: int) -> List[int]:
         """The edges that may meet a face, rising."""
-        if self._pairs is not None:
-            return sorted(self._pairs.edges_at_face.get(face, ()))
-        return sorted(self._edges.meeting(self._boxes[face]))
+        return sorted(self._pairs.edges_at_face.get(face, ()))
+
+    def _box(self, face: int) -> Box:
+        return box_of(self._model.face_points(face))
+
+    def _shape(self, face: int) -> FlatFace:
+        """A flat face as a region of its plane, made once."""
+        if face not in self._known_shapes:
+            self._known_shapes[face] = FlatFace(self._model, face, self._flat[face])
+        return self._known_shapes[face]
 
     @cached_property
     def _touched(self) -> TouchedEdges:
@@ -98,21 +114,10 @@ class SolidCheck:
     def _faces_beside(self, edge: int) -> FrozenSet[int]:
         return frozenset((self._model.face_of(edge), self._model.face_of(-edge)))
 
-    def _faces_around_vertices(self) -> Dict[int, Set[int]]:
-        around: Dict[int, Set[int]] = {vertex: set() for vertex in self._model.vertices}
-        for face in self._model.faces:
-            for vertex in self._model.face_vertices(face):
-                around[vertex].add(face)
-        return around
-
-    def _find_flat_shells(self) -> Dict[int, int]:
-        """The faces of shells that lie in one plane, each with the least face of its shell."""
-        flat: Dict[int, int] = {}
-        for shell in self._model.shells(self._solid):
-            normals = {reduced(self._normals[face]) for face in shell if self._normals[face] != ZERO}
-            if len(normals) <= 2 and all(cross(a, b) == ZERO for a, b in combinations(normals, 2)):
-                flat.update(dict.fromkeys(shell, shell[0]))
-        return flat
+    def _is_in_one_plane(self, shell: List[int]) -> bool:
+        """Whether the normals of a shell's faces, but for those that are zero, lie in one line."""
+        normals = [across for across in map(self._normals.__getitem__, shell) if across != ZERO]
+        return all(cross(normals[0], across) == ZERO for across in normals)
 
     def _are_back_to_back(self, some: AbstractSet[int], others: AbstractSet[int]) -> bool:
         """Whether both are faces of one flat shell, and none of the first looks as one of the others does."""
@@ -126,25 +131,30 @@ class SolidCheck:
 
     # Vertices and edges
 
+    @cached_property
+    def _first_there(self) -> Dict[int, int]:
+        """For each vertex the first one at its point."""
+        first: Dict[Vector, int] = {}
+        return {vertex: first.setdefault(point, vertex) for vertex, point in self._model.vertices.items()}
+
     def _equal_points(self) -> Iterator[Finding]:
         first: Dict[Vector, int] = {}
-        for vertex in self._near_vertices:
-            point = self._model.vertices[vertex]
+        for vertex, point in self._model.vertices.items():
             if point in first:
                 yield Finding(TOUCHING, f'vertices {first[point]} and {vertex} of solid {self._solid} lie at one point')
             first.setdefault(point, vertex)
 
     def _equal_edges(self) -> Iterator[Finding]:
-        first: Dict[FrozenSet[Vector], int] = {}
-        for edge in self._near_edges:
-            ends = frozenset(self._ends(edge))
-            if ends in first and not self._are_back_to_back(
-                    self._faces_beside(edge), self._faces_beside(first[ends])):
-                yield Finding(TOUCHING, f'edges {first[ends]} and {edge} of solid {self._solid} lie on each other')
-            first.setdefault(ends, edge)
+        first: Dict[Tuple[int, int], int] = {}
+        for edge in self._model.edges:
+            start, end = map(self._first_there.__getitem__, self._model.edges[edge])
+            ends = (start, end) if start < end else (end, start)
+            beside = first.setdefault(ends, edge)
+            if beside != edge and not self._are_back_to_back(self._faces_beside(edge), self._faces_beside(beside)):
+                yield Finding(TOUCHING, f'edges {beside} and {edge} of solid {self._solid} lie on each other')
 
     def _vertices_on_edges(self) -> Iterator[Finding]:
-        for edge in self._near_edges:
+        for edge in self._edges_to_see(self._pairs.vertices_on_edge):
             start, end = self._ends(edge)
             for vertex in self._vertices_near_edge(edge):
                 if (lies_between(start, end, self._model.vertices[vertex]) and not self._are_back_to_back(
@@ -152,7 +162,7 @@ class SolidCheck:
                     yield Finding(TOUCHING, f'vertex {vertex} lies on edge {edge}')
 
     def _crossing_edges(self) -> Iterator[Finding]:
-        for edge in self._near_edges:
+        for edge in self._edges_to_see(self._pairs.edges_across):
             for other in self._edges_near_edge(edge):
                 if _cross_between(*self._ends(edge), *self._ends(other)):
                     yield from self._crossing(edge, other)
@@ -167,7 +177,7 @@ class SolidCheck:
     # Faces
 
     def _vertices_on_face(self, face: int) -> Iterator[Finding]:
-        shape = self._shapes[face]
+        shape = self._shape(face)
         for vertex in self._vertices_near_face(face):
             point = self._model.vertices[vertex]
             if (face not in self._around[vertex] and shape.height(point) == 0 and shape.locate(point) is Place.INSIDE
@@ -175,7 +185,7 @@ class SolidCheck:
                 yield Finding(TOUCHING, f'vertex {vertex} lies on face {face}')
 
     def _edges_at_face(self, face: int) -> Iterator[Finding]:
-        shape = self._shapes[face]
+        shape = self._shape(face)
         for edge in self._edges_near_face(face):
             if face in self._faces_beside(edge):
                 continue
@@ -191,20 +201,19 @@ class SolidCheck:
     def _faces_on_faces(self) -> Iterator[Finding]:
         """Faces of one plane where one has a point within the other; edges that cross or run along faces are found by then."""
         for faces in self._faces_by_planes():
-            boxes = {face: self._boxes[face] for face in faces}
+            boxes = {face: self._box(face) for face in faces}
             index = BoxIndex(boxes)
             for face in faces:
                 for other in sorted(index.meeting(boxes[face])):
-                    if other > face and not self._are_triangles_of_one_edge(face, other) and self._overlap(face, other):
+                    if other > face and not self._are_apart(face, other) and self._overlap(face, other):
                         yield from self._overlapping(face, other)
 
-    def _are_triangles_of_one_edge(self, face: int, other: int) -> bool:
-        """Whether two faces of one plane are triangles on the two sides of an edge: they look alike, so they lie apart."""
-        halves, beyond = (list(self._model.face_halves(held)) for held in (face, other))
-        return len(halves) == len(beyond) == 3 and self._look_alike(face, other) and any(-half in beyond for half in halves)
+    def _are_apart(self, face: int, other: int) -> bool:
+        """Whether it is known that two faces don't lie on each other."""
+        return self._pairs.patch_of[face] == self._pairs.patch_of[other]
 
     def _overlap(self, face: int, other: int) -> bool:
-        return any(point is not None and self._shapes[around].locate(point) is Place.INSIDE
+        return any(point is not None and self._shape(around).locate(point) is Place.INSIDE
                    for point, around in ((self._inner_point(face), other), (self._inner_point(other), face)))
 
     def _overlapping(self, face: int, other: int) -> Iterator[Finding]:
@@ -213,7 +222,8 @@ class SolidCheck:
 
     def _faces_by_planes(self) -> List[List[int]]:
         planes: Dict[Tuple[Vector, int], List[int]] = {}
-        for face, shape in self._shapes.items():
+        for face in self._pairs.faces:
+            shape = self._shape(face)
             across = reduced(shape.across)
             across = max(across, (-across[0], -across[1], -across[2]))
             planes.setdefault((across, dot(across, shape.origin)), []).append(face)
@@ -226,8 +236,9 @@ class SolidCheck:
         return self._inner[face]
 
     def _new_inner_point(self, face: int) -> Optional[ExactVector]:
+        touched = {} if is_convex(self._model, face, self._normals[face]) else self._touched
         try:
-            corners = [self._model.vertices[vertex] for vertex in face_triangles(self._model, face, self._touched)[0]]
+            corners = [self._model.vertices[vertex] for vertex in face_triangles(self._model, face, touched)[0]]
         except Unfit:
             return None
         x, y, z = (Fraction(sum(axis), 3) for axis in zip(*corners))

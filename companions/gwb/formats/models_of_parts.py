@@ -9,7 +9,6 @@ from ..geometry.measures import anchor, normal, why_unfit
 from ..geometry.model import Face, Loop, Model
 from ..geometry.nesting import Enclosures, Shell, nests
 from ..geometry.plane_figures import Exact
-from ..geometry.shells import shells_of
 from ..geometry.vectors import ZERO, dot
 from ..joining.soup import Soup, soup_of
 from ..joining.surfaces import Surface, arealess, model_of_surfaces, surface_of, with_joined_faces
@@ -46,7 +45,7 @@ def model_of_parts(parts: Sequence[Part], scale: Exact, rounded: bool, keep_tria
             if surface is not None]
     model = model_of_surfaces([surface for _, surface in held])
     stage('looking for shells')
-    shells, measured = shells_of(model), _Measured(model)
+    shells, measured = {solid: model.shells(solid) for solid in model.solids}, _Measured(model)
     work.name_unfit(measured.unfit)
     model = _turned_right(model, shells, measured)
     groups = list(_solids(model, [part for part, _ in held], shells, measured))

@@ -1,7 +1,7 @@
 """Finds which of many boxes meet a given one, by a grid."""
 
 from itertools import product
-from typing import Dict, Generic, Iterable, Iterator, List, Mapping, Sequence, Set, Tuple, TypeVar
+from typing import Dict, Generic, Iterable, Iterator, List, Mapping, Optional, Sequence, Set, Tuple, TypeVar
 
 from .plane_figures import Exact
 
@@ -27,14 +27,14 @@ def boxes_meet(a: Box, b: Box) -> bool:
 class BoxIndex(Generic[Key]):
     """Boxes by their keys. More may be added; those that lie outside the first ones are found too."""
 
-    def __init__(self, boxes: Mapping[Key, Box], is_fine: bool = False) -> None:
-        """A fine grid is one for boxes that lie on a surface, of which each cell is to have few."""
+    def __init__(self, boxes: Mapping[Key, Box], per_axis: Optional[int] = None) -> None:
+        """The grid has so many cells along each axis; as many as there are boxes in all, where no number is given."""
         self._boxes: Dict[Key, Box] = {}
         self._cells: Dict[Tuple[int, ...], List[Key]] = {}
         self._wide: List[Key] = []
         around = box_of(corner for box in boxes.values() for corner in zip(*box))
-        per_axis = min(_MANY_CELLS, round(len(boxes) ** .5 / 3)) if is_fine else round(len(boxes) ** (1 / max(1, len(around))))
-        self._steps = [(high - low) // max(1, per_axis) + 1 for low, high in around]
+        cells = round(len(boxes) ** (1 / max(1, len(around)))) if per_axis is None else min(_MANY_CELLS, per_axis)
+        self._steps = [(high - low) // max(1, cells) + 1 for low, high in around]
         for key, box in boxes.items():
             self.add(key, box)
 

@@ -67,9 +67,10 @@ class OffLatticeCut:
     def _near(self, above: int) -> Iterator[str]:
         if self.parallel is None and self.factor > 1:
             yield '# no parallel plane cuts at whole points'
-        for near in (*([] if self.parallel is None else [self.parallel]), *filter(self._is_near, self.tilted)):
-            way, hundredths = 'parallel' if near.is_parallel else 'tilted', near.hundredths_moved
-            yield f'# {way}, the cut moves by at most {hundredths // 100}.{hundredths % 100:02} along an edge:'
+        elif self.parallel is not None and not self._is_near(self.parallel):
+            yield f'# a parallel plane that cuts at whole points moves the cut by at least {_decimal(self.parallel)} along an edge'
+        for near in filter(self._is_near, (*([] if self.parallel is None else [self.parallel]), *self.tilted)):
+            yield f'# {"parallel" if near.is_parallel else "tilted"}, the cut moves by at most {_decimal(near)} along an edge:'
             yield self._split(near.plane, above)
 
     def _is_near(self, near: NearPlane) -> bool:
@@ -78,6 +79,11 @@ class OffLatticeCut:
 
     def _split(self, plane: Plane, above: int) -> str:
         return ' '.join(map(str, ('split', self.solid, *plane, above)))
+
+
+def _decimal(near: NearPlane) -> str:
+    """How far a plane moves the cut along an edge at most, with two decimals."""
+    return f'{near.hundredths_moved // 100}.{near.hundredths_moved % 100:02}'
 
 
 def whole_factor(found: Iterable[Crossing]) -> int:

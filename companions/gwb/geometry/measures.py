@@ -10,7 +10,11 @@ from .vectors import Vector, ZERO, cross, dot, subtract, total
 def area_vector(points: Sequence[Vector]) -> Vector:
     """Twice the area that the closed path through the points goes round, as a vector."""
     if len(points) == 3:
-        return cross(subtract(points[1], points[0]), subtract(points[2], points[0]))
+        (x, y, z), (a, b, c), (u, v, w) = points
+        a, b, c, u, v, w = a - x, b - y, c - z, u - x, v - y, w - z
+        return (b * w - c * v, c * u - a * w, a * v - b * u)
+    if len(points) == 4:
+        return cross(subtract(points[2], points[0]), subtract(points[3], points[1]))
     return total(cross(points[i - 1], points[i]) for i in range(len(points)))
 
 
@@ -27,14 +31,16 @@ def normal(model: Model, face: int) -> Vector:
 
 def anchor(model: Model, face: int) -> Vector:
     """The first corner of the face's outer loop."""
-    return model.loop_points(model.faces[face].outer)[0]
+    loop = model.loops[model.faces[face].outer]
+    return model.point(loop.halves[0]) if loop.vertex is None else model.vertices[loop.vertex]
 
 
 def off_plane(model: Model, face: int, across: Vector) -> Optional[int]:
     """A vertex of the face off the plane through its anchor with this normal, or None."""
-    origin = anchor(model, face)
+    (a, b, c), points, level = across, model.vertices, dot(across, anchor(model, face))
     for vertex in model.face_vertices(face):
-        if dot(across, subtract(model.vertices[vertex], origin)) != 0:
+        x, y, z = points[vertex]
+        if a * x + b * y + c * z != level:
             return vertex
     return None
 

@@ -1,7 +1,8 @@
 """The boundary model that a listing describes: solids, faces, loops, half-edges and vertices by their numbers."""
 
 from dataclasses import dataclass, field
-from typing import Dict, Iterator, List, NamedTuple, Optional, Tuple
+from functools import cached_property
+from typing import Dict, Iterator, List, NamedTuple, Optional, Set, Tuple
 
 from .vectors import Vector
 
@@ -70,11 +71,13 @@ class Model:
         content = self.loops[loop]
         if content.vertex is not None:
             return [content.vertex]
-        return [self.tail(half) for half in content.halves]
+        edges = self.edges
+        return [edges[half][0] if half > 0 else edges[-half][1] for half in content.halves]
 
     def loop_points(self, loop: int) -> List[Vector]:
         """The points of the loop in its order."""
-        return [self.vertices[vertex] for vertex in self.loop_vertices(loop)]
+        vertices = self.vertices
+        return [vertices[vertex] for vertex in self.loop_vertices(loop)]
 
     def face_halves(self, face: int) -> Iterator[int]:
         """The half-edges of all loops of the face."""
@@ -83,44 +86,49 @@ class Model:
 
     def face_vertices(self, face: int) -> List[int]:
         """The vertices of all loops of the face, the outer loop first; one may come more than once."""
-        return [vertex for loop in self.faces[face].loops for vertex in self.loop_vertices(loop)]
+        row = self.faces[face]
+        return [vertex for loop in row.loops for vertex in self.loop_vertices(loop)] if row.rings else self.loop_vertices(row.outer)
 
     def face_points(self, face: int) -> List[Vector]:
         """The points of all loops of the face."""
-        return [self.vertices[vertex] for vertex in self.face_vertices(face)]
+        vertices = self.vertices
+        return [vertices[vertex] for vertex in self.face_vertices(face)]
 
     def faces_of(self, solid: int) -> List[int]:
         """The faces of the solid, rising."""
-        return [number for number, face in self.faces.items() if face.solid == solid]
+        return list(self._faces_by_solid.get(solid, ()))
+
+    @cached_property
+    def _faces_by_solid(self) -> Dict[int, List[int]]:
+        found: Dict[int, List[int]] = {solid: [] for solid in self.solids}
+        for number, face in self.faces.items():
+            found.setdefault(face.solid, []).append(number)
+        return found
 
     def shells(self, solid: int) -> List[List[int]]:
         """The faces of the solid in connected parts, by their least faces."""
-        left = dict.fromkeys(self.faces_of(solid))
-        found = []
-        while left:
-            shell = self._reached_from(next(iter(left)))
-            for face in shell:
-                del left[face]
-            found.append(sorted(shell))
-        return found
+        seen: Set[int] = set()
+        return [sorted(self._spread(face, seen)) for face in self.faces_of(solid) if face not in seen]
 
-    def _reached_from(self, start: int) -> Dict[int, None]:
-        """The faces that one comes to from a face across edges."""
-        reached, waiting = {start: None}, [start]
-        while waiting:
-            for half in self.face_halves(waiting.pop()):
-                beyond = self.face_of(-half)
-                if beyond not in reached:
-                    reached[beyond] = None
-                    waiting.append(beyond)
+    def _spread(self, start: int, seen: Set[int]) -> List[int]:
+        """The faces that one comes to from a face across edges, which are seen then."""
+        seen.add(start)
+        reached, sides, faces, loops = [start], self._sides, self.faces, self.loops
+        for face in reached:
+            for loop in faces[face].loops:
+                for half in loops[loop].halves:
+                    beyond = sides[-half]
+                    if beyond not in seen:
+                        seen.add(beyond)
+                        reached.append(beyond)
         return reached
 
     def only(self, solid: int) -> 'Model':
-        """The model of one of its solids alone."""
-        faces = {number: face for number, face in self.faces.items() if face.solid == solid}
-        loops = {loop: self.loops[loop] for face in faces.values() for loop in face.loops}
-        halves = {half for loop in loops.values() for half in loop.halves}
-        edges = {edge: ends for edge, ends in self.edges.items() if edge in halves}
-        used = {vertex for loop in loops for vertex in self.loop_vertices(loop)}
-        vertices = {vertex: point for vertex, point in self.vertices.items() if vertex in used}
-        return Model((solid,), faces, dict(sorted(loops.items())), edges, vertices)
+        """The model of one of its solids alone, at the cost of that solid. What is of no face is in none."""
+        if self.solids == (solid,):
+            return self
+        faces = {number: self.faces[number] for number in self.faces_of(solid)}
+        loops = {loop: self.loops[loop] for loop in sorted(loop for row in faces.values() for loop in row.loops)}
+        edges = {edge: self.edges[edge] for edge in sorted({abs(half) for row in loops.values() for half in row.halves})}
+        vertices = {vertex: self.vertices[vertex] for vertex in sorted({vertex for loop in loops for vertex in self.loop_vertices(loop)})}
+        return Model((solid,), faces, loops, edges, vertices)

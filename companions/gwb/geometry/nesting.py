@@ -33,11 +33,18 @@ class Enclosures:
 
     def around(self, inner: int) -> List[int]:
         """The places of the shells in which a shell lies, rising. Shells must have flat faces with an area."""
+        box = self._boxes[inner]
+        return [place for place in self._beside(inner) if _holds(self._boxes[place], box) and self._lies_in(inner, place)]
+
+    def entered(self, inner: int) -> List[int]:
+        """As around, for shells that may cross each other: those in which the first corner of a shell lies that isn't on them."""
+        return [place for place in self._beside(inner) if self._lies_in(inner, place)]
+
+    def _beside(self, inner: int) -> List[int]:
+        """The places of the other shells whose boxes meet that of a shell, rising."""
         if self._index is None or len(self._shells) == 1:
             return []
-        box = self._boxes[inner]
-        wider = [place for place in self._index.meeting(box) if place != inner and _holds(self._boxes[place], box)]
-        return sorted(place for place in wider if self._lies_in(inner, place))
+        return sorted(place for place in self._index.meeting(self._boxes[inner]) if place != inner)
 
     def _lies_in(self, inner: int, outer: int) -> bool:
         if outer not in self._walls:

@@ -3,6 +3,8 @@
 from typing import Dict, List
 
 from .box_index import BoxIndex, box_of
+from .convexity import is_convex
+from .measures import normal
 from .model import Model
 from .vectors import Vector, dot, lies_between, subtract
 
@@ -12,7 +14,7 @@ TouchedEdges = Dict[int, List[int]]
 def touched_edges(model: Model) -> TouchedEdges:
     """The edges amid which other vertices of a face of theirs lie, each with one vertex for each such point, on its way."""
     touching: Dict[int, Dict[Vector, int]] = {}
-    for face in (face for face, row in model.faces.items() if row.rings or len(model.loops[row.outer].halves) > 3):
+    for face in (face for face in model.faces if not is_convex(model, face, normal(model, face))):
         vertices = BoxIndex({vertex: box_of([model.vertices[vertex]]) for vertex in model.face_vertices(face)})
         for half in model.face_halves(face):
             start, end = model.point(half), model.point(-half)

@@ -9,6 +9,7 @@ from typing import Iterator, List, Optional, Sequence, Tuple
 
 from ..errors import Unfit
 from .box_index import BoxIndex, box_of
+from .convexity import is_convex
 from .measures import normal
 from .model import Model
 from .pinches import unpinched
@@ -26,9 +27,9 @@ def face_triangles(model: Model, face: int, touched: TouchedEdges) -> List[Trian
     triangles may take either.
     """
     halves = model.loops[model.faces[face].outer].halves
-    if len(halves) == 3 and not model.faces[face].rings and not any(abs(half) in touched for half in halves):
-        a, b, c = map(model.tail, halves)
-        return [(c, a, b)]
+    if is_convex(model, face, normal(model, face)) and not any(abs(half) in touched for half in halves):
+        *between, last = map(model.tail, halves)
+        return [(last, a, b) for a, b in zip(between, between[1:])]
     outline, *rings = _flat_loops(model, face, touched)
     try:
         return triangulate(outline, rings)

@@ -1,6 +1,7 @@
 """What the programs share: reading input, writing output, errors of one line and statuses."""
 
 import argparse
+import gc
 import os
 import sys
 from typing import Callable, Optional, Sequence
@@ -11,10 +12,13 @@ from ..protocol.listing import Listed, read_listed
 from ..version import VERSION
 
 OK, FOUND, REFUSED, INTERRUPTED = 0, 1, 3, 130
+# A large model is made of millions of things of which none holds itself: the search for those that do is made seldom.
+_SELDOM = 200_000
 
 
 def run(program: str, work: Callable[[Optional[Sequence[str]]], int], words: Optional[Sequence[str]] = None) -> int:
     """The status of a program, whose errors become one line on standard error."""
+    gc.set_threshold(_SELDOM)
     try:
         status = work(words)
         sys.stdout.flush()

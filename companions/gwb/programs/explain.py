@@ -2,23 +2,18 @@
 
 import argparse
 from functools import lru_cache
-from typing import Callable, Dict, Iterable, Iterator, List, NamedTuple, Optional, Sequence, Tuple
+from typing import Iterable, Iterator, List, NamedTuple, Optional, Sequence
 
 from ..errors import CompanionError, NotAListing, NotReplies
-from ..geometry.crossings import Plane
-from ..geometry.lattice_cuts import off_lattice_cut
-from ..geometry.matching_faces import glue_advice
 from ..geometry.model import Model
+from ..protocol.advice import advice
 from ..protocol.language import FAULTS, first_word, is_answered, refusal
 from ..protocol.listing import model_of
-from ..protocol.refusals import NAMES
 from ..protocol.replies import Reply, shortened, split_replies
-from ..protocol.word_advice import word_advice
 from .command_line import FOUND, OK, add_version, read_bytes, run
 from .inside_out import warn_of_inside_out
 
 PROGRAM = 'gwb-explain'
-NOT_LATTICE, NO_MATCH = (next(number for number, name in NAMES.items() if name == wanted) for wanted in ('NotLattice', 'NoMatch'))
 _WIDTH = 48
 
 
@@ -118,52 +113,12 @@ def _carried(joined: Iterable[Answered]) -> Iterator[Optional[Reply]]:
 
 def _advice(answered: Answered, listing: Optional[Reply]) -> List[str]:
     """What would do in the place of a line that wasn't accepted, as lines of a script; nothing where that isn't known."""
-    reply = answered.reply
-    if reply is not None and reply.word == 'fault':
-        return word_advice(answered.text, reply.numbers[0])
-    if reply is not None and reply.word == 'refused' and reply.numbers[0] in _ADVISERS:
-        return _ADVISERS[reply.numbers[0]](answered, listing)
-    return []
-
-
-def _glue_advice(answered: Answered, listing: Optional[Reply]) -> List[str]:
-    """Why two faces don't match, and which would. Raises NotReplies where the line is no glue of faces that the listing has."""
-    words = answered.text.split()
-    if first_word(answered.line) != 'glue' or len(words) != 3 or not all(word.isdecimal() for word in words[1:]):
-        raise NotReplies(f'line {answered.number} of the script is `{shortened(answered.text)}`, which gwb never refuses NoMatch: '
-                         'the replies are of another script')
-    if listing is None:
-        return ['# with a `list` on the line before, it is told here which face would match']
-    model = _model(listing)
-    first, second = map(int, words[1:])
-    if first not in model.faces or second not in model.faces:
-        raise NotReplies(f'line {answered.number} of the script glues faces which the listing beside it has not')
-    return glue_advice(model, first, second)
-
-
-def _split_advice(answered: Answered, listing: Optional[Reply]) -> List[str]:
-    """Where a split cuts, and what would do."""
-    solid, plane, above = _split_words(answered)
-    if listing is None:
-        return ['# with a `list` on the line before, it is told here where the plane cuts, and what would do']
-    if solid not in (model := _model(listing)).solids:
-        raise NotReplies(f'line {answered.number} of the script splits solid {solid}, which the listing beside it has not')
-    return off_lattice_cut(model, solid, plane).advice(above)
-
-
-def _split_words(answered: Answered) -> Tuple[int, Plane, int]:
-    """The numbers of a split: the solid, the plane, the solid above it. Raises NotReplies where the line is no such command."""
+    if answered.reply is None:
+        return []
     try:
-        solid, a, b, c, d, above = map(int, answered.text.split()[1:])
-    except ValueError:
-        a = b = c = 0
-    if first_word(answered.line) != 'split' or (a, b, c) == (0, 0, 0):
-        raise NotReplies(f'line {answered.number} of the script is `{shortened(answered.text)}`, which gwb never refuses NotLattice: '
-                         'the replies are of another script')
-    return solid, (a, b, c, d), above
-
-
-_ADVISERS: Dict[int, Callable[[Answered, Optional[Reply]], List[str]]] = {NOT_LATTICE: _split_advice, NO_MATCH: _glue_advice}
+        return advice(answered.text, answered.reply, lambda: None if listing is None else _model(listing))
+    except NotReplies as error:
+        raise NotReplies(f'line {answered.number} of the script: {error}') from None
 
 
 @lru_cache(maxsize=1)

@@ -79,6 +79,12 @@ TEXTS: Dict[int, str] = {
     44: "the faces can't be parted from solid {}",
 }
 
+# What would do, as far as that can be said without the model (advice.py says more with it).
+_REMEDIES: Dict[int, str] = {
+    34: 'faces that are glued have the same corners, and look at each other',
+    37: 'a finer unit would do, or a plane near by',
+}
+
 # Where a command says it otherwise, or the value means something else.
 _OTHERWISE: Dict[Tuple[str, int], str] = {
     ('lamina', 11): 'point {} lies past 1,000,000,000',
@@ -93,8 +99,8 @@ _OTHERWISE: Dict[Tuple[str, int], str] = {
 
 
 def condition_text(number: int) -> str:
-    """What a refusal with this number says, with X for its value."""
-    return TEXTS[number].format('X')
+    """What a refusal with this number says, with X for its value, and what would do."""
+    return '; '.join([TEXTS[number].format('X'), *([_REMEDIES[number]] if number in _REMEDIES else [])])
 
 
 def refusal(number: int, value: int, command: str = '') -> Meaning:

@@ -1,11 +1,12 @@
 """Reads the listing of a model: the one module that knows how listings are written."""
 
-from typing import Dict, List, NamedTuple, Sequence, Tuple
+from itertools import groupby
+from operator import itemgetter
+from typing import Dict, List, NamedTuple, Sequence
 
 from ..errors import NotAListing
 from ..geometry.free_numbers import KINDS
 from ..geometry.model import Face, Loop, Model
-from ..geometry.vectors import Vector
 from .replies import Reply, last_listing
 from .soundness import require_sound
 
@@ -35,46 +36,32 @@ def model_of(reply: Reply) -> Model:
     rows = _rows(reply.lines)
     model = Model(
         solids=tuple(rows['solid']),
-        faces={number: _face(words) for number, words in rows['face'].items()},
+        faces={number: Face(int(words[2]), int(words[3]), tuple(map(int, words[4:]))) for number, words in rows['face'].items()},
         loops={number: _loop(words) for number, words in rows['loop'].items()},
-        edges={number: _edge(words) for number, words in rows['edge'].items()},
-        vertices={number: _point(words) for number, words in rows['vertex'].items()})
+        edges={number: (int(start), int(end)) for number, (_, _, start, end) in rows['edge'].items()},
+        vertices={number: (int(x), int(y), int(z)) for number, (_, _, x, y, z) in rows['vertex'].items()})
     require_sound(model)
     return model
 
 
 def _rows(lines: Sequence[str]) -> Dict[str, Dict[int, List[str]]]:
-    """For each kind the words after the number, by numbers; kinds and numbers come in order."""
+    """For each kind the words of the lines, by numbers; kinds and numbers come in order."""
     rows: Dict[str, Dict[int, List[str]]] = {kind: {} for kind in KINDS}
     if lines == ('empty',):
         return rows
-    last: Tuple[int, int] = (0, 0)
-    for line in lines:
-        kind, number, *words = line.split(' ')
-        place = (KINDS.index(kind), int(number))
-        if place <= last:
-            raise NotAListing(f'`{kind} {number}` is out of order')
-        last = place
-        rows[kind][place[1]] = words
+    place = 0
+    for kind, group in groupby((line.split(' ') for line in lines), itemgetter(0)):
+        held = list(group)
+        numbers = [int(words[1]) for words in held]
+        later = next((number for last, number in zip([0, *numbers], numbers) if number <= last), None)
+        if KINDS.index(kind) < place or later is not None:
+            raise NotAListing(f'`{kind} {numbers[0] if later is None else later}` is out of order')
+        place = KINDS.index(kind)
+        rows[kind] = dict(zip(numbers, held))
     return rows
 
 
-def _face(words: List[str]) -> Face:
-    solid, outer, *rings = map(int, words)
-    return Face(solid, outer, tuple(rings))
-
-
 def _loop(words: List[str]) -> Loop:
-    if words[0] == 'at':
-        return Loop((), int(words[1]))
-    return Loop(tuple(map(int, words)))
-
-
-def _edge(words: List[str]) -> Tuple[int, int]:
-    start, end = map(int, words)
-    return (start, end)
-
-
-def _point(words: List[str]) -> Vector:
-    x, y, z = map(int, words)
-    return (x, y, z)
+    if words[2] == 'at':
+        return Loop((), int(words[3]))
+    return Loop(tuple(map(int, words[2:])))

@@ -27,6 +27,8 @@ _ELSEWHERE: Dict[str, str] = {
     **dict.fromkeys(('import', 'open', 'load'), 'gwb-import writes the script that makes the solids of a file'),
     **dict.fromkeys(('help', 'quit', 'exit'), 'gwb-shell has it'),
 }
+# What is said of a number that isn't whole.
+FINER_UNIT = 'choose a finer unit, such as tenths'
 _FRACTION = re.compile(r'[+-]?(?:[0-9]*\.[0-9]*|[0-9]+/[0-9]+|[0-9]+(?:\.[0-9]+)?[eE][+-]?[0-9]+)')
 _WHOLE = re.compile(r'[+-]?[0-9]+')
 _SIGNED = re.compile(r'[+-][0-9]+')
@@ -81,7 +83,7 @@ def _of_corner(word: str) -> str:
 def _of_number(word: str) -> str:
     """Why a word is no whole number, '' where it is one that fits."""
     if _FRACTION.fullmatch(word):
-        return f'{_shown(word)} is not whole: all numbers are; choose a finer unit, such as tenths (gwb-script --scale 10 multiplies a model)'
+        return f'{_shown(word)} is not whole: all numbers are; {FINER_UNIT} (gwb-script --scale 10 multiplies a model)'
     if word[:1] == '+' and _WHOLE.fullmatch(word):
         return f'{_shown(word)}: a sign + stands before half-edges alone'
     if not _WHOLE.fullmatch(word):

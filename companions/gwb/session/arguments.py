@@ -9,6 +9,7 @@ from typing import Iterable, List, Optional, Protocol, Sequence, Tuple, Union
 
 from ..geometry.free_numbers import KINDS, LARGEST
 from ..geometry.vectors import Vector
+from ..protocol.word_advice import FINER_UNIT
 from .reading import EdgePart, FacePart, LoopPart, Part, SolidPart, VertexPart
 from .results import Lone, Plane
 
@@ -42,7 +43,8 @@ def whole(name: str, value: object) -> int:
     if type(value) is int:
         return value
     if isinstance(value, bool) or not isinstance(value, Integral):
-        raise TypeError(f'{name}: a whole number is wanted, not {_kind_of(value)}')
+        finer = f'; {FINER_UNIT} (`unit` says which)' if isinstance(value, (float, Rational)) and value % 1 > 0 else ''
+        raise TypeError(f'{name}: a whole number is wanted, not {_kind_of(value)}{finer}')
     return int(value)
 
 

@@ -40,12 +40,16 @@ class Exporting(Methods):
         """The names and colours that were given, by kind and number."""
         return MappingProxyType(self._bench.labels)
 
-    def label(self, thing: Union[SolidPart, FacePart], name: str = '', colour: str = '') -> None:
-        """Gives a solid or a face a name, and a colour such as '#FF8000'; with neither what it had is taken away. Raises ValueError where the
-        colour is none, the name is longer than 200 characters, or the thing is of another workbench. Refused: NoSolid, NoFace."""
+    def label(self, thing: Union[SolidPart, FacePart, arguments.MadeSolid], name: str = '', colour: str = '') -> None:
+        """Gives a solid, or what a command returned that made it, or a face a name, and a colour such as '#FF8000'; with neither what it had is
+        taken away. Raises ValueError where the colour is none, the name is longer than 200 characters, or the thing is of another workbench.
+        Refused: NoSolid, NoFace."""
         look = Appearance(_name(name), _colour(arguments.text('colour', colour)))
         if not isinstance(thing, (SolidPart, FacePart)):
-            raise TypeError(f'thing: a solid or a face is wanted, not {thing!r}')
+            number = getattr(thing, 'solid', None)
+            if type(number) is not int:
+                raise TypeError(f'thing: a solid or a face is wanted, not {thing!r}')
+            thing = SolidPart(self._bench.kernel, number)
         number = self._bench.number('thing', thing, thing.kind)
         _there = thing.faces if isinstance(thing, SolidPart) else thing.solid
         self._bench.kernel.notes.put((thing.kind, number), None if look == Appearance() else look)

@@ -1,7 +1,8 @@
 """The calls of gwb_features.h. Each is one command of the library, or steps of the draft that is open; a complaint is raised, and nothing has changed."""
 
 import ctypes
-from typing import Any, Callable, Dict, List, NamedTuple, Sequence, Tuple
+from fractions import Fraction
+from typing import Any, Callable, Dict, List, NamedTuple, Optional, Sequence, Tuple
 
 from ..errors import CompanionError
 from ..geometry.measures import why_unfit
@@ -17,9 +18,13 @@ _OUTLINE, _MADE = [WORD, ADDRESS, SIZE], [ADDRESS, ADDRESS]
 _STRIP = [WORD, ADDRESS, ADDRESS, _LENGTH, _LENGTH]
 # What each call takes after the handle, and before the refusal.
 _CALLS: Dict[str, List[Any]] = {
-    'kill_solid': [WORD], 'copy_solid': [WORD, ADDRESS, ADDRESS], 'profile': [*_OUTLINE, ADDRESS, *_MADE], 'ring': [*_OUTLINE, *_MADE, ADDRESS],
-    'pocket': [*_OUTLINE, _LENGTH, *_MADE], 'boss': [*_OUTLINE, _LENGTH, *_MADE], 'hole': [*_OUTLINE, *_MADE], 'notch': [*_OUTLINE, _LENGTH],
-    'slot': _STRIP, 'groove': _STRIP, 'shoulder': [WORD, WORD, _LENGTH, _LENGTH], 'chamfer': [WORD, _LENGTH, _LENGTH, ADDRESS]}
+    'kill_solid': [WORD], 'copy_solid': [WORD, ADDRESS, ADDRESS], 'move_solid': [WORD, ADDRESS], 'pattern': [WORD, WORD, ADDRESS, ADDRESS],
+    'scale': [_LENGTH], 'renumber': [], 'glue_all': [ADDRESS, SIZE], 'profile': [*_OUTLINE, ADDRESS, *_MADE],
+    'ring': [*_OUTLINE, *_MADE, ADDRESS], 'pocket': [*_OUTLINE, _LENGTH, *_MADE], 'boss': [*_OUTLINE, _LENGTH, *_MADE], 'hole': [*_OUTLINE, *_MADE],
+    'drill': [WORD, ADDRESS, _LENGTH, WORD, _LENGTH, *_MADE, ADDRESS], 'notch': [*_OUTLINE, _LENGTH],
+    'slot': _STRIP, 'groove': _STRIP, 'shoulder': [WORD, WORD, _LENGTH, _LENGTH], 'chamfer': [WORD, _LENGTH, _LENGTH, ADDRESS],
+    'cut': [WORD, ADDRESS, WORD], 'trim': [WORD, ADDRESS], 'union': [ADDRESS, SIZE]}
+_CUTS = ('cut', 'trim')
 # The conditions that are of a number that was given, so that no feature is at fault.
 _OF_NUMBERS = ('NoSolid', 'NoFace', 'NoEdge', 'SolidTaken')
 _TEXTS = {
@@ -30,15 +35,48 @@ _TEXTS = {
     'Meets': 'what is made at face {} would meet or touch the solid elsewhere, or come through it',
     'NoOpposite': 'there is no face behind the outline in face {}', 'NotParallel': "face {}, behind the outline, isn't parallel",
     'NotOfFace': 'edge {} is none of the face', 'FlatEdge': 'the faces of edge {} lie in one plane',
-    'NothingLeft': 'nothing of solid {} would be left', 'PointRange': 'a point would lie past 1,000,000,000',
+    'NotAcross': "face {} doesn't lie across an axis", 'NothingLeft': 'nothing of solid {} would be left',
+    'NoMatch': 'no face of solid {} matches one of those that are joined',
+    'GluedTwice': 'face {} matches another one too, which it would touch after the gluing', 'NoContact': 'solid {} touches the others in no face',
+    'Overlap': 'solid {} has room in common with another one, or their union would touch itself', 'PointRange': 'a point would lie past 1,000,000,000',
     'NumberRange': 'the number {} is outside 1 to 1,000,000', 'NumbersSpent': 'too few numbers above all that are in use are left'}
-FLOOR, WALLS, FACES, LOOPS, EDGES, VERTICES, TURNED = range(7)
+_PART_MEETS = 'a part of solid {} would touch itself in the plane'
+FLOOR, WALLS, FACES, LOOPS, EDGES, VERTICES, TURNED, LOWER_CAPS, UPPER_CAPS, INTO, SOLIDS = range(11)
+_QUERIES = {'face': 'find_faces', 'edge': 'find_edges'}
+_MOST_TERM = 2 ** 64 - 1
 
 
 class Motion(ctypes.Structure):
     """Where points go: by the axes, signed and counted from 1, and then by a vector."""
 
     _fields_ = [('axes', ctypes.c_int32 * 3), ('by', Point)]
+
+
+class CutPlane(ctypes.Structure):
+    """The plane a x + b y + c z + d = 0."""
+
+    _fields_ = [(name, ctypes.c_int64) for name in 'abcd']
+
+
+class Ratio(ctypes.Structure):
+    """A numerator divided by a denominator."""
+
+    _fields_ = [('numerator', ctypes.c_uint64), ('denominator', ctypes.c_uint64)]
+
+
+_PLANE, _POINT, _RATIO = (ctypes.POINTER(kind) for kind in (CutPlane, Point, Ratio))
+
+
+class FaceQuery(ctypes.Structure):
+    """Which faces are sought."""
+
+    _fields_ = [('solid', WORD), ('plane', _PLANE), ('normal', _POINT), ('containing', _POINT), ('area', _RATIO)]
+
+
+class EdgeQuery(ctypes.Structure):
+    """Which edges are sought."""
+
+    _fields_ = [('solid', WORD), ('between', WORD * 2), ('along', _POINT), ('length', _RATIO)]
 
 
 class Pair(ctypes.Structure):
@@ -56,6 +94,11 @@ class Outlined(NamedTuple):
     vertices: Tuple[int, ...]
 
 
+def ratio(value: Fraction) -> Optional[Ratio]:
+    """A fraction above zero, if its terms fit: those of lengths and areas do."""
+    return Ratio(value.numerator, value.denominator) if max(value.numerator, value.denominator) <= _MOST_TERM else None
+
+
 class FeatureCalls:
     """The calls of the features of a kernel's library."""
 
@@ -63,6 +106,8 @@ class FeatureCalls:
         self._kernel, library, path = kernel, kernel.lines.library, kernel.lines.path
         for name, taken in _CALLS.items():
             declare(library, path, name, f'gwb_{name}', WORD, [ADDRESS, *taken, ADDRESS])
+        for name in _QUERIES.values():
+            declare(library, path, name, f'gwb_{name}', WORD, [ADDRESS] * 2 + [ADDRESS, SIZE, ADDRESS, ADDRESS])
         declare(library, path, 'made', 'gwb_made', SIZE, [ADDRESS, WORD, ADDRESS, SIZE])
         declare(library, path, 'misfit_name', 'gwb_misfit_name', ctypes.c_char_p, [WORD])
         self._library, self._handle = library, ctypes.addressof(kernel.lines.handle)
@@ -84,6 +129,25 @@ class FeatureCalls:
         self.give(word, number, ctypes.addressof(rows), count, *more, ctypes.addressof(made), ctypes.addressof(along), *behind)
         return Outlined(made.first, made.second, tuple(along[:count]), tuple(vertices[:count]))
 
+    def drill(self, face: int, center: Vector, radius: int, sides: int, depth: int) -> Tuple[Outlined, Tuple[Vector, ...]]:
+        """A hole with a polygon, through where the depth is 0; and the corners of the polygon."""
+        middle, made, along, points = Point(*center), Pair(), (WORD * sides)(), (Point * sides)()
+        self.give('drill', face, ctypes.addressof(middle), radius, sides, depth, *map(ctypes.addressof, (made, along, points)))
+        return Outlined(made.first, made.second, tuple(along), ()), tuple((at.x, at.y, at.z) for at in points)
+
+    def find(self, kind: str, query: ctypes.Structure) -> List[int]:
+        """The faces or edges that are sought, rising. A complaint is raised."""
+        word, why, count, room = _QUERIES[kind], Refusal(), SIZE(), 64
+        call: Callable[..., int] = getattr(self._library, word)
+        while True:
+            found = (WORD * room)()
+            said = call(self._handle, ctypes.addressof(query), ctypes.addressof(found), room, ctypes.addressof(count), ctypes.addressof(why))
+            if said != OK:
+                raise self._complaint(word, said, why)
+            if count.value <= room:
+                return found[:count.value]
+            room = count.value
+
     def notch(self, face: int, points: Sequence[Vector], depth: int) -> None:
         """A pocket up to the edges of a face."""
         rows = (_LENGTH * (3 * len(points)))(*[part for point in points for part in point])
@@ -100,11 +164,41 @@ class FeatureCalls:
         self.give('chamfer', edge, width, other, ctypes.addressof(made), frees=True)
         return made.value
 
+    def cut(self, solid: int, plane: Sequence[int], above: int) -> Tuple[Tuple[int, ...], Tuple[int, ...]]:
+        """A cut in two: the caps of both parts."""
+        row = (_LENGTH * 4)(*plane)
+        self.give('cut', solid, ctypes.addressof(row), above, frees=True)
+        return self.made(LOWER_CAPS), self.made(UPPER_CAPS)
+
+    def trim(self, solid: int, plane: Sequence[int]) -> Tuple[int, ...]:
+        """A cut whose upper part goes: the caps."""
+        row = (_LENGTH * 4)(*plane)
+        self.give('trim', solid, ctypes.addressof(row), frees=True)
+        return self.made(LOWER_CAPS)
+
+    def union(self, solids: Sequence[int]) -> List[Tuple[int, int]]:
+        """One solid of several: faces that became one with others, or several, each with one that it went into."""
+        numbers = (WORD * len(solids))(*solids)
+        self.give('union', ctypes.addressof(numbers), len(solids), frees=True)
+        found = self.made(INTO)
+        return list(zip(found[::2], found[1::2]))
+
     def copy(self, solid: int, motion: Motion) -> int:
         """A copy of a solid: its number."""
         made = WORD()
         self.give('copy_solid', solid, ctypes.addressof(motion), ctypes.addressof(made))
         return made.value
+
+    def pattern(self, solid: int, count: int, step: Vector) -> Tuple[int, ...]:
+        """A row of solids: those that are new."""
+        made, way = (WORD * count)(), Point(*step)
+        self.give('pattern', solid, count, ctypes.addressof(way), ctypes.addressof(made))
+        return tuple(made[:count - 1])
+
+    def glue_all(self, solids: Sequence[int]) -> None:
+        """Solids become the first along the faces that match."""
+        numbers = (WORD * len(solids))(*solids)
+        self.give('glue_all', ctypes.addressof(numbers), len(solids), frees=True)
 
     def made(self, which: int) -> Tuple[int, ...]:
         """A list of what the last feature made."""
@@ -113,15 +207,16 @@ class FeatureCalls:
         self._library.made(self._handle, which, ctypes.addressof(found), count)
         return tuple(found[:count])
 
-    def pairs(self, which: int) -> Dict[int, int]:
+    def pairs(self, which: int) -> List[Tuple[int, int]]:
         """A list of numbers and others in their place."""
         found = self.made(which)
-        return dict(zip(found[::2], found[1::2]))
+        return list(zip(found[::2], found[1::2]))
 
     def _complaint(self, word: str, said: int, why: Refusal) -> CompanionError:
         if said == IMPOSSIBLE:
             name = self._library.misfit_name(why.number).decode()
-            return Impossible(name, why.value, _TEXTS[name].format(why.value))
+            text = _PART_MEETS if name == 'Meets' and word in _CUTS else _TEXTS[name]
+            return Impossible(name, why.value, text.format(why.value))
         if said == REFUSED:
             return self._refused(word, why)
         if said == MEMORY:
@@ -130,8 +225,10 @@ class FeatureCalls:
         raise AssertionError(f'{word}: an answer of kind {said}')
 
     def _refused(self, word: str, why: Refusal) -> CompanionError:
-        """The error of a condition. What isn't of a number that was given is a feature that isn't possible."""
+        """The error of a condition. What isn't of a number that was given, nor of a cut, is a feature that isn't possible."""
         found = refused(word, why.number, why.value)
+        if word in _CUTS:
+            return found
         if found.name == 'NumberRange' and word != 'profile':
             return Impossible('NumbersSpent', 0, 'too few numbers above all that are in use are left')
         if found.name in _OF_NUMBERS:

@@ -4,7 +4,7 @@ from ctypes import addressof
 from typing import List, Optional, Sequence, Tuple
 
 from ..geometry.vectors import Vector
-from . import arguments, features
+from . import arguments
 from .bench import Methods
 from .library import Point
 from .results import Hole, Pocket, Profile, Ring
@@ -83,8 +83,8 @@ class FeatureMethods(Methods):
         return self._bench.number('face', face), arguments.points('points', points)
 
     def drill(self, face: arguments.Face, center: arguments.Point, radius: int, sides: int, *, depth: Optional[int] = None) -> Hole:
-        """A hole with a polygon of so many sides around the center, on whole numbers nearest to the circle of the radius: through, or so
-        deep.
+        """A hole with a polygon of so many sides around the center, its corners on the whole numbers nearest to a circle of the radius, of two as
+        near on the one farther out: through, or so deep.
 
         Refused: NoFace; NotFlat: the face isn't flat; NotAcross: it doesn't lie across an axis; RepeatedPoint: two corners of the polygon fall
         on one point; NotInPlane: the center lies off the plane of the face; OutlineOutside: the polygon crosses or touches the boundary of the
@@ -95,11 +95,9 @@ class FeatureMethods(Methods):
         reach, count = arguments.positive('radius', radius), arguments.positive('sides', sides)
         if not 3 <= count <= _MOST_SIDES:
             raise ValueError(f'sides: {count} is outside 3 to {_MOST_SIDES}')
-        deep = None if depth is None else arguments.positive('depth', depth)
-        outline = features.polygon_in(self._bench, number, middle, reach, count)
-        made = (self._bench.features.outline('hole', number, outline) if deep is None
-                else self._bench.features.outline('pocket', number, outline, deep))
-        return Hole(made.first, made.second, made.along, tuple(outline))
+        deep = 0 if depth is None else arguments.positive('depth', depth)
+        made, outline = self._bench.features.drill(number, middle, reach, count, deep)
+        return Hole(made.first, made.second, made.along, outline)
 
     def glue_all(self, solids: Sequence[arguments.Solid]) -> int:
         """The solids become one along the faces that match: its number, the first one's.
@@ -109,4 +107,5 @@ class FeatureMethods(Methods):
         numbers = self._bench.several('solids', solids, 'solid')
         if not numbers or len(set(numbers)) < len(numbers):
             raise ValueError('solids: different numbers are wanted, at least one')
-        return features.glued(self._bench, numbers)
+        self._bench.features.glue_all(numbers)
+        return numbers[0]

@@ -2,10 +2,11 @@
 
 from contextlib import contextmanager
 from fractions import Fraction
-from typing import Any, Callable, Iterator, List, Optional, TypeVar
+from typing import Any, Callable, Iterator, List, Optional, Sequence, Tuple, TypeVar
 
-from ..errors import InDraft, InGroup, OutOfStep
+from ..errors import Complaint, InDraft, InGroup, OutOfStep
 from ..geometry.model import Model
+from ..protocol.advice import advice
 from ..protocol.complaints import complaint
 from ..protocol.language import first_word
 from ..protocol.replies import Reply
@@ -16,6 +17,8 @@ from .turns import Turns
 
 Said = TypeVar('Said')
 _NOTHING_TO_REDO = Reply(('refused 26 0',))
+# Of a larger model it isn't told what would do in the place of a refused command: that may take long.
+_MOST_EDGES = 20_000
 # The commands after which numbers may be free that were in use.
 _FREEING = ('kvfs', 'kev', 'kef', 'kemr', 'mekr', 'kfmrh', 'glue', 'undo')
 
@@ -89,7 +92,26 @@ class Kernel(Turns):
         line = ' '.join(map(str, words))
         reply = self.ask(line)
         if reply.is_complaint:
-            raise complaint(line, reply)
+            raise self.complaint(line, reply)
+
+    def complaint(self, line: str, reply: Reply) -> Complaint:
+        """The error for a complaint about a line, with what would do."""
+        error, state = complaint(line, reply), self.lines.state()
+        error.advised(lambda: self._advice(line, reply, state))
+        return error
+
+    def _advice(self, line: str, reply: Reply, state: Tuple[int, ...]) -> Sequence[str]:
+        """What would do in the place of a line, while the model is as it was and no other thread has the turn. A large model isn't searched."""
+        if reply.word == 'fault':
+            return advice(line, reply, lambda: None)
+        if not self.lock.acquire(blocking=False):
+            return ()
+        try:
+            is_there = self.lines.is_open and self.lines.state() == state and (self.holder is None or self.holder.is_here)
+            model = self.listing() if is_there else None
+            return advice(line, reply, lambda: model) if model is not None and len(model.edges) <= _MOST_EDGES else ()
+        finally:
+            self.lock.release()
 
     def ask(self, line: str) -> Reply:
         """The reply to any line. What it makes, undoes or redoes is taken account of."""

@@ -12,7 +12,7 @@ from ..geometry.free_numbers import KINDS, from_least
 from ..geometry.model import Face, Loop, Model
 from ..geometry.vectors import Vector
 from ..protocol.complaints import complaint
-from ..protocol.language import command_bytes
+from ..protocol.language import command_bytes, first_word
 from ..protocol.replies import ACCEPTED, Reply, only_reply
 from ..version import VERSION
 from .results import Plane
@@ -165,6 +165,8 @@ class Library:
     def __init__(self, path: str) -> None:
         self.handle = Handle()
         self.path, self.library = path, load(path)
+        # How often something was undone, redone, or taken back in a draft.
+        self._taken_back = 0
         if not self.library.open(self.handle) or self.library.record(self.handle) != OK:
             raise MemoryError('no session was opened')
         # Work that takes long ends where a handler of signals raises: the call is answered with that, and nothing has changed.
@@ -194,6 +196,7 @@ class Library:
         """The reply to one line that gwb answers."""
         data = command_bytes(line)
         self.require_open()
+        self._taken_back += first_word(data) in ('undo', 'redo')
         said = self.library.line(self.handle, data, len(data))
         self.require_answer(said)
         return ACCEPTED if said == OK else only_reply(self._text().decode('ascii').split('\n')[:-1])
@@ -233,6 +236,7 @@ class Library:
 
     def abandon(self) -> None:
         """Takes the steps of the draft back. A closed session has no steps."""
+        self._taken_back += self.mark() > 0
         self.library.abandon(self.handle)
 
     def mark(self) -> int:
@@ -242,6 +246,7 @@ class Library:
 
     def back(self, place: int) -> None:
         """Takes the steps of the draft since a mark back. A closed session has no steps."""
+        self._taken_back += self.mark() > place
         self.library.back(self.handle, place)
 
     def fresh(self) -> Dict[str, range]:
@@ -258,6 +263,10 @@ class Library:
     def depth(self) -> int:
         """How many commands are held, in a draft those before it."""
         return int(self.library.recorded(self.handle)) - self.is_drafting if self.handle.is_open else 0
+
+    def state(self) -> Tuple[int, int, int]:
+        """Numbers that are the same only while the model is."""
+        return (self.depth, self.mark(), self._taken_back)
 
     @property
     def ahead(self) -> int:

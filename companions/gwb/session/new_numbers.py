@@ -23,6 +23,10 @@ class NewNumbers:
         for kind in KINDS:
             self._ever[kind] = max(self._ever[kind], self._lines.greatest(kind))
 
+    def forget(self) -> None:
+        """What was in use may be taken again."""
+        self._ever, self._gaps = dict.fromkeys(KINDS, 0), {}
+
     def ever(self, kind: str) -> int:
         """The greatest number of the kind that is in use or was."""
         return max(self._ever[kind], self._lines.greatest(kind))

@@ -1,7 +1,7 @@
 """What a session holds beside the model and follows its commands: which of them are one step to undo, the unit, and labels."""
 
 from fractions import Fraction
-from typing import Dict, List, NamedTuple, Optional, Tuple
+from typing import Dict, List, Mapping, NamedTuple, Optional, Tuple
 
 from ..formats.appearance import Appearance, Thing
 
@@ -81,6 +81,14 @@ class Notes:
             self.put(thing, None)
         else:
             self._coming.looks.append((thing, self.labels.get(thing), None))
+
+    def renumber(self, numbers: Mapping[str, Mapping[int, int]]) -> None:
+        """All things have other numbers, said for each kind."""
+        looks = {(kind, numbers[kind][number]): look for (kind, number), look in self.labels.items() if number in numbers[kind]}
+        for thing in list(self.labels):
+            self.put(thing, None)
+        for thing, look in looks.items():
+            self.put(thing, look)
 
     def _set(self, thing: Thing, look: Look) -> None:
         if look is None:

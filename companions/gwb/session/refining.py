@@ -9,11 +9,7 @@ from typing import Callable, Iterator, TypeVar
 from ..errors import Refused
 from ..geometry.crossings import Plane, crossings, without_common_factor
 from ..geometry.lattice_cuts import whole_factor
-from ..geometry.moved import Displaced, changed, scaling
-from ..geometry.outlines import Impossible
-from ..geometry.solids_apart import solids_apart
 from .bench import Bench
-from .solids import Numbers, give
 
 Made = TypeVar('Made')
 
@@ -43,20 +39,17 @@ def telling_what_helps(bench: Bench, solid: int, plane: Plane) -> Iterator[None]
     except Refused as refused:
         if refused.name == 'NotLattice':
             factor = whole_factor(crossings(bench.solid_model(solid), solid, plane))
-            refused.args = (f'{refused}; times {factor} all its points are whole, as scale=True makes them; off_lattice() names planes near by',)
+            refused.args = (f'{refused.args[0]}; times {factor} all its points are whole, as scale=True makes them; off_lattice() names planes near by',)
         raise
 
 
 def refine(bench: Bench, factor: int) -> None:
     """The unit becomes so many times finer, as one command, or as steps of the draft that is open: all coordinates are multiplied, and the size
     of one is divided. Refused: PointRange."""
-    held = bench.kernel.listing()
-    try:
-        finer = changed(held, scaling(factor))
-    except Displaced as error:
-        raise Impossible(error.name, error.vertex, f'times {factor} all points of the cut are whole, but {error}') from None
-    numbers = Numbers(bench)
     with bench.step():
-        for before, after in zip(solids_apart(held), solids_apart(finer)):
-            give(bench, [*numbers.taking_away(before), *numbers.making(after)])
+        try:
+            bench.features.give('scale', factor)
+        except Refused as refused:
+            refused.args = (f'times {factor} all points of the cut are whole, but {refused}',)
+            raise
         bench.kernel.notes.unit = bench.kernel.notes.unit / factor

@@ -1,6 +1,6 @@
 """The numbers that commands of a workbench return."""
 
-from typing import NamedTuple, Tuple, Union
+from typing import Dict, NamedTuple, Tuple, Union
 
 from .reading import EdgePart, LoopPart
 
@@ -137,6 +137,16 @@ class Hole(NamedTuple):
     loop: int
     sides: Numbers
     points: Tuple[Tuple[int, int, int], ...]
+
+
+class Renumbered(NamedTuple):
+    """What numbers have become, by those that they were."""
+
+    solids: Dict[int, int]
+    faces: Dict[int, int]
+    loops: Dict[int, int]
+    edges: Dict[int, int]
+    vertices: Dict[int, int]
 
 
 class Notch(NamedTuple):

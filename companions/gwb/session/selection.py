@@ -1,13 +1,15 @@
 """Finding things of the model by where they lie, exactly."""
 
-from typing import Callable, List, Optional, Sequence, Set, Tuple
+from ctypes import pointer
+from typing import Optional, Tuple
 
-from ..geometry.flat_face import FlatFace
-from ..geometry.measures import why_unfit
-from ..geometry.plane_figures import Exact, Place
-from ..geometry.vectors import Vector, ZERO, cross, dot, same_direction, subtract
+from ..geometry.crossings import Plane
+from ..geometry.plane_figures import Exact
+from ..geometry.vectors import Vector, ZERO
 from . import arguments
-from .bench import Bench, Methods
+from .bench import Methods
+from .feature_calls import CutPlane, EdgeQuery, FaceQuery, ratio
+from .library import WORD, Point
 from .reading import EdgePart, FacePart, LoopPart, Selection, SolidPart, VertexPart
 
 
@@ -43,55 +45,34 @@ class Selecting(Methods):
               area: Optional[Exact] = None) -> 'Selection[FacePart]':
         """The faces that fit: of the solid; wholly in the plane a x + b y + c z + d = 0, four numbers or what `plane` returns, whichever way
         they look; flat, and looking the way of the normal; flat, with the point inside or on the outline; flat, and so large, exactly."""
-        tests: List[Callable[[FacePart], bool]] = []
+        query = FaceQuery(solid=0 if solid is None else self._bench.number('solid', solid))
         if plane is not None:
-            level = arguments.plane('plane', plane)
-            if level[:3] == ZERO:
-                raise ValueError('plane: a, b and c are all zero')
-            tests.append(lambda face: all(dot(level[:3], vertex.point) + level[3] == 0 for loop in face.loops for vertex in loop.vertices))
+            query.plane = pointer(CutPlane(*_across('plane', arguments.plane('plane', plane))))
         if normal is not None:
-            way = arguments.point('normal', normal)
-            if way == ZERO:
-                raise ValueError('normal: it is zero')
-            tests.append(lambda face: _looks(face.normal, way) and _is_flat(face))
+            query.normal = pointer(Point(*_direction('normal', normal)))
         if containing is not None:
-            place = arguments.point('containing', containing)
-            tests.append(lambda face: _contains(self._bench, face, place))
-        if area is not None:
-            four_squares = 4 * arguments.factor('area', area) ** 2
-            tests.append(lambda face: dot(face.normal, face.normal) == four_squares and _is_flat(face))
+            query.containing = pointer(Point(*arguments.point('containing', containing)))
+        large = None if area is None else ratio(arguments.factor('area', area))
+        if large is not None:
+            query.area = pointer(large)
         wanted = _wanted(solid=solid, plane=plane, normal=normal, containing=containing, area=area)
-        return Selection('face', wanted, [face for face in _faces_in(self._bench, solid) if all(test(face) for test in tests)])
+        numbers = self._bench.features.find('face', query) if area is None or large else []
+        return Selection('face', wanted, [FacePart(self._bench.kernel, number) for number in numbers])
 
     def edges(self, *, solid: Optional[arguments.Solid] = None, between: Optional[Tuple[arguments.Face, arguments.Face]] = None,
               along: Optional[arguments.Point] = None, length: Optional[Exact] = None) -> 'Selection[EdgePart]':
         """The edges that fit: of the solid; between two faces; along the vector, one way or the other; so long, exactly."""
-        tests: List[Callable[[Vector], bool]] = []
-        if along is not None:
-            way = arguments.point('along', along)
-            if way == ZERO:
-                raise ValueError('along: it is zero')
-            tests.append(lambda run: run != ZERO and cross(run, way) == ZERO)
-        if length is not None:
-            square = arguments.factor('length', length) ** 2
-            tests.append(lambda run: dot(run, run) == square)
-        parts = [EdgePart(self._bench.kernel, number) for number in sorted(self._edges(solid, between))]
-        wanted = _wanted(solid=solid, between=between, along=along, length=length)
-        return Selection('edge', wanted, [part for part in parts if not tests or all(test(subtract(*part.points)) for test in tests)])
-
-    def _edges(self, solid: Optional[arguments.Solid], between: Optional[Tuple[arguments.Face, arguments.Face]]) -> Set[int]:
-        """The numbers of the edges of the solid, of those between two faces, or of all."""
+        query = EdgeQuery(solid=0 if solid is None else self._bench.number('solid', solid))
         if between is not None:
-            one, other = self._bench.pair('between', between, 'face')
-            first, second = ({half for loop in FacePart(self._bench.kernel, face).loops for half in loop.half_edges} for face in (one, other))
-            found = {abs(half) for half in first if -half in second}
-        elif solid is not None:
-            found = {edge.number for edge in self.solid(solid).edges}
-        else:
-            found = set(self._bench.kernel.lines.numbers('edge'))
-        if between is not None and solid is not None:
-            found &= {edge.number for edge in self.solid(solid).edges}
-        return found
+            query.between = (WORD * 2)(*self._bench.pair('between', between, 'face'))
+        if along is not None:
+            query.along = pointer(Point(*_direction('along', along)))
+        long = None if length is None else ratio(arguments.factor('length', length))
+        if long is not None:
+            query.length = pointer(long)
+        wanted = _wanted(solid=solid, between=between, along=along, length=length)
+        numbers = self._bench.features.find('edge', query) if length is None or long else []
+        return Selection('edge', wanted, [EdgePart(self._bench.kernel, number) for number in numbers])
 
     def vertices(self, *, solid: Optional[arguments.Solid] = None, at: Optional[arguments.Point] = None) -> 'Selection[VertexPart]':
         """The vertices of the solid, or all; `at` a point."""
@@ -101,34 +82,19 @@ class Selecting(Methods):
         return Selection('vertex', _wanted(solid=solid, at=at), [part for part in parts if place is None or part.point == place])
 
 
-def _faces_in(bench: Bench, solid: Optional[arguments.Solid]) -> Sequence[FacePart]:
-    """The faces of the solid, or all."""
-    if solid is None:
-        return [FacePart(bench.kernel, number) for number in bench.kernel.lines.numbers('face')]
-    return SolidPart(bench.kernel, bench.number('solid', solid)).faces
+def _across(name: str, plane: Plane) -> Plane:
+    """A plane that has a normal."""
+    if plane[:3] == ZERO:
+        raise ValueError(f'{name}: a, b and c are all zero')
+    return plane
 
 
-def _looks(normal: Vector, way: Vector) -> bool:
-    """Whether a normal is one and points the way."""
-    return normal != ZERO and same_direction(normal, way)
-
-
-def _is_flat(face: FacePart) -> bool:
-    origin, across = face.outer.points[0], face.normal
-    level = dot(across, origin)
-    return all(dot(across, point) == level for point in face.points)
-
-
-def _contains(bench: Bench, face: FacePart, point: Vector) -> bool:
-    """Whether a face is flat and plain, and the point lies inside or on its outline."""
-    level = bench.kernel.lines.plane(face.number)
-    if level is None or not level.flat or dot(level[:3], point) + level.d != 0:
-        return False
-    model = bench.model_of([face.number])
-    if why_unfit(model, face.number) is not None:
-        return False
-    shape = FlatFace(model, face.number)
-    return shape.height(point) == 0 and shape.locate(point) is not Place.OUTSIDE
+def _direction(name: str, value: arguments.Point) -> Vector:
+    """A vector that isn't zero."""
+    way = arguments.point(name, value)
+    if way == ZERO:
+        raise ValueError(f'{name}: it is zero')
+    return way
 
 
 def _wanted(**criteria: object) -> str:

@@ -1,17 +1,18 @@
-"""The methods of a workbench that take solids as wholes (solids.py), cut (cutting.py) and unite them (uniting.py), and shape them up to the edges of
-their faces."""
+"""The methods of a workbench that take solids as wholes (solids.py), cut and unite them (cutting.py), and shape them up to the edges of their faces."""
 
 from typing import Callable, Optional, Sequence, Tuple
 
-from ..geometry.moved import Change, mirroring, moving, scaling
+from ..geometry.free_numbers import LARGEST
+from ..geometry.moved import Change, mirroring, moving
+from ..geometry.outlines import Impossible
 from ..geometry.vectors import ZERO
-from . import arguments, cutting, refining, solids, uniting
+from . import arguments, cutting, refining, solids
 from .bench import Bench, Methods
 from .cutting import Cut, Keep, Plane
 from .feature_calls import FLOOR, WALLS, FeatureCalls
 from .labelling import LabelledFaces
 from .reading import EdgePart
-from .results import Notch, Split
+from .results import Notch, Renumbered, Split
 from .solids import Copy
 
 
@@ -30,11 +31,21 @@ class SolidMethods(Methods):
         NumbersSpent: there are no free numbers."""
         changes = [] if mirror is None else [mirroring(solids.mirror_plane('mirror', mirror))]
         changes.append(moving(arguments.point('move', move)))
-        return _copied(self._bench, solid, [changes])[0]
+        number = self._bench.number('solid', solid)
+        with self._bench.step():
+            return _labelled(self._bench, solids.copied(self._bench, number, changes))
 
     def pattern(self, solid: arguments.Solid, count: int, step: arguments.Point) -> Tuple[Copy, ...]:
         """Copies of the solid, each a step farther than the one before, so that there are `count` of it with itself. Refused as copy is."""
-        return _copied(self._bench, solid, solids.in_a_row(count, step))
+        number, many, way = self._bench.number('solid', solid), arguments.positive('count', count), arguments.point('step', step)
+        if many < 2:
+            raise ValueError(f'count: {many} is below 2')
+        if way == ZERO:
+            raise ValueError('step: it is zero')
+        if many > LARGEST:
+            raise Impossible('NumbersSpent', 1, f'there are {LARGEST:,} numbers for solids, not {many:,}')
+        with self._bench.step():
+            return tuple(_labelled(self._bench, made) for made in solids.in_a_row(self._bench, number, many, way))
 
     def move(self, solid: arguments.Solid, vector: arguments.Point) -> int:
         """The solid moves by the vector: its number, which stays, as all of its numbers do. Refused: NoSolid; PointRange: a point would
@@ -55,7 +66,12 @@ class SolidMethods(Methods):
     def scale(self, factor: int) -> None:
         """All coordinates of all solids are multiplied by a whole number from 1 on. Refused: PointRange."""
         times = arguments.positive('factor', factor)
-        solids.place(self._bench, self._bench.kernel.lines.numbers('solid'), scaling(times))
+        self._bench.features.give('scale', times)
+
+    def renumber(self) -> Renumbered:
+        """All numbers become as low as they can be, from 1 on in the order that they have, and may be taken again when they are free: where none is left.
+        Labels go along. Refused: NumbersSpent: a spare number is wanted on the way, and none is free."""
+        return solids.renumber(self._bench)
 
     def split(self, solid: arguments.Solid, plane: arguments.Point, *, above: Optional[int] = None, scale: bool = False) -> Split:
         """The solid is cut by the plane a x + b y + c z + d = 0, four numbers or what `plane` returns; what lies above it becomes a new solid.
@@ -75,8 +91,8 @@ class SolidMethods(Methods):
         of the number `above` where one is given. With keep='below' or 'above' the other part is thrown away, and the part that is kept keeps
         the number of the solid. With scale=True it is cut in a finer unit where its points ask for one, as `split` does.
 
-        Where split refuses the plane for what it touches or how it runs through faces and holes, both parts are made anew, by operators, and
-        faces in the plane are one with the caps beside them. Refused: what split says of the solid, the plane and its points: NoSolid,
+        Where split refuses the plane for what it touches or how it runs through faces and holes, the solid is cut face by face, and faces in
+        the plane are one with the caps beside them. Refused: what split says of the solid, the plane and its points: NoSolid,
         SolidTaken, LoneLoop, NotFlat, PlaneMisses, NotLattice; Meets: a part would touch itself."""
         number, level, wanted = self._bench.number('solid', solid), arguments.plane('plane', plane), cutting.kept(keep)
         new = None if above is None else arguments.number('above', above)
@@ -98,7 +114,7 @@ class SolidMethods(Methods):
 
         Refused: NoSolid, NotFlat; NoContact: a solid touches the others in no face; Overlap: two have room in common, or the union
         would touch itself; OffLattice: edges of two solids cross between whole coordinates."""
-        return uniting.united(self._bench, uniting.solid_numbers(self._bench, solids))
+        return cutting.united(self._bench, cutting.solid_numbers(self._bench, solids))
 
     def notch(self, face: arguments.Face, points: arguments.Points, depth: int) -> Notch:
         """A pocket so deep behind the face whose outline may reach the edges of the face; there it is open, and where it is as deep as the
@@ -150,15 +166,11 @@ class SolidMethods(Methods):
         return made
 
 
-def _copied(bench: Bench, solid: arguments.Solid, ways: Sequence[Sequence[Change]]) -> Tuple[Copy, ...]:
-    """Copies of a solid, one for each way to place it, with the labels that the solid and its faces have."""
-    number = bench.number('solid', solid)
-    with bench.step():
-        made = solids.copies(bench, number, ways)
-        for copy in made:
-            bench.label_alike('solid', [(number, copy.solid)])
-            bench.label_alike('face', copy.faces.items())
-    return made
+def _labelled(bench: Bench, copy: Copy) -> Copy:
+    """A copy, with the labels that the solid and its faces have."""
+    bench.label_alike('solid', [(copy.original, copy.solid)])
+    bench.label_alike('face', copy.faces.items())
+    return copy
 
 
 def _cut(bench: Bench, solid: int, plane: Plane, wanted: Keep, above: Optional[int]) -> Cut:
@@ -182,5 +194,5 @@ def _shaped(bench: Bench, face: int, give: Callable[[FeatureCalls], None]) -> No
 
 def _placed(bench: Bench, solid: arguments.Solid, change: Change) -> int:
     number = bench.number('solid', solid)
-    solids.place(bench, [number], change)
+    solids.place(bench, number, change)
     return number

@@ -8,23 +8,23 @@ import ctypes
 from dataclasses import dataclass, field
 from fractions import Fraction
 from functools import reduce
-from typing import AbstractSet, Container, Dict, Iterator, List, Mapping, Optional, Sequence, Tuple
+from typing import AbstractSet, Dict, Iterator, List, Mapping, Optional, Sequence, Tuple
 
 from ..errors import Refused, Unfit
 from ..geometry.flat_face import ExactVector
 from ..geometry.free_numbers import KINDS, LARGEST, FreeNumbers, numbers_of, renumbered, renumbering
 from ..geometry.model import Model
-from ..geometry.moved import FARTHEST, Change, Displaced, changed, moving, turning
+from ..geometry.moved import FARTHEST, Change, Displaced, changed, turning
 from ..geometry.outlines import Impossible
 from ..geometry.solids_apart import solids_apart
-from ..geometry.vectors import ZERO
-from ..scripts.changing import script_between
+from ..geometry.vectors import ZERO, Vector
 from ..scripts.inversion import Step, steps_apart
 from . import arguments
 from .bench import Bench
-from .feature_calls import EDGES, FACES, LOOPS, TURNED, VERTICES, Motion
+from .feature_calls import EDGES, FACES, LOOPS, SOLIDS, TURNED, VERTICES, Motion
 from .library import Point
 from .reading import Found
+from .results import Renumbered
 
 AXES = ('x', 'y', 'z')
 
@@ -114,14 +114,6 @@ class Numbers:
         """The operators that make the solids of the model."""
         return [step.makes for alone in solids_apart(model) for step in reversed(self._steps(alone))]
 
-    def changing(self, before: Model, after: Model, fast: Container[int] = ()) -> Optional[List[str]]:
-        """The operators that turn a solid into one of the same number by the faces that differ, of which the fast ones never go; None where
-        these aren't of the kind."""
-        try:
-            return script_between(before, after, self._free, fast)
-        except Unfit as error:
-            raise _spent(error) from None
-
     def _steps(self, model: Model) -> List[Step]:
         try:
             return steps_apart(model, self._free)
@@ -144,18 +136,19 @@ def delete(bench: Bench, solid: int) -> None:
     bench.features.give('kill_solid', solid, frees=True)
 
 
-def copies(bench: Bench, solid: int, ways: Sequence[Sequence[Change]]) -> Tuple[Copy, ...]:
-    """A copy of the solid for each sequence of changes of place, by the library where these are of its kind, numbers above all in use are left, and
-    no point would leave the range, which is told of the original. Refused: NoSolid, PointRange, OffLattice, NumbersSpent."""
-    motions = [_motion(way) for way in ways]
-    try:
-        if all(motions):
-            with bench.step():
-                return tuple(_copied(bench, solid, motion) for motion in motions if motion)
-    except Refused as refused:
-        if refused.name not in ('PointRange', 'NumbersSpent'):
-            raise
-    return _copies_anew(bench, solid, ways)
+def copied(bench: Bench, solid: int, way: Sequence[Change]) -> Copy:
+    """A copy of the solid after changes of place, by the library where these are of its kind. Refused: NoSolid, PointRange, OffLattice,
+    NumbersSpent."""
+    motion = _motion(way)
+    if motion is None:
+        return _copied_anew(bench, solid, way)
+    number = bench.features.copy(solid, motion)
+    return _told(bench, solid, [number])[0]
+
+
+def in_a_row(bench: Bench, solid: int, count: int, step: Vector) -> Tuple[Copy, ...]:
+    """Copies of the solid, each a step farther than the one before, so that there are so many of it with itself."""
+    return tuple(_told(bench, solid, bench.features.pattern(solid, count, step)))
 
 
 def _motion(way: Sequence[Change]) -> Optional[Motion]:
@@ -178,27 +171,36 @@ def _motion(way: Sequence[Change]) -> Optional[Motion]:
     return Motion((ctypes.c_int32 * 3)(*axes), Point(*map(int, start)))
 
 
-def _copied(bench: Bench, solid: int, motion: Motion) -> Copy:
-    """A copy by the library."""
-    number = bench.features.copy(solid, motion)
-    faces, loops, edges, vertices = (dict(sorted(bench.features.pairs(which).items())) for which in (FACES, LOOPS, EDGES, VERTICES))
-    return Copy(number, faces, loops, edges, vertices, solid, bench, frozenset(bench.features.made(TURNED)))
+def _told(bench: Bench, solid: int, made: Sequence[int]) -> List[Copy]:
+    """The copies of a solid that the library made last, in their order."""
+    turned = frozenset(bench.features.made(TURNED))
+    faces, loops, edges, vertices = (_shares(bench.features.pairs(which), len(made)) for which in (FACES, LOOPS, EDGES, VERTICES))
+    return [Copy(number, faces[place], loops[place], edges[place], vertices[place], solid, bench, turned) for place, number in enumerate(made)]
 
 
-def _copies_anew(bench: Bench, solid: int, ways: Sequence[Sequence[Change]]) -> Tuple[Copy, ...]:
-    """Copies with any numbers that are free, by operators."""
+def _shares(pairs: Sequence[Tuple[int, int]], count: int) -> List[Dict[int, int]]:
+    """A list in so many parts of one length."""
+    share = len(pairs) // count
+    return [dict(pairs[place * share:(place + 1) * share]) for place in range(count)]
+
+
+def _copied_anew(bench: Bench, solid: int, way: Sequence[Change]) -> Copy:
+    """A copy by operators, with numbers that are free."""
     model, numbers = bench.solid_model(solid), Numbers(bench)
-    renumberings = [numbers.instead_of(model) for _ in ways]
-    made = [renumbered(reduce(placed, way, model), new) for way, new in zip(ways, renumberings)]
-    give(bench, [line for copied in made for line in numbers.making(copied)])
-    return tuple(Copy(new['solid'][solid], new['face'], new['loop'], new['edge'], new['vertex'], solid, bench) for new in renumberings)
+    new = numbers.instead_of(model)
+    give(bench, numbers.making(renumbered(reduce(placed, way, model), new)))
+    return Copy(new['solid'][solid], new['face'], new['loop'], new['edge'], new['vertex'], solid, bench)
 
 
-def place(bench: Bench, solids: Sequence[int], change: Change) -> None:
-    """Solids come to another place, and all their numbers stay. Refused: NoSolid, PointRange, OffLattice."""
-    models = [bench.solid_model(solid) for solid in solids]
-    after, numbers = [placed(model, change) for model in models], Numbers(bench)
-    give(bench, [line for old, new in zip(models, after) for line in (*numbers.taking_away(old), *numbers.making(new))])
+def place(bench: Bench, solid: int, change: Change) -> None:
+    """A solid comes to another place, and all its numbers stay. Refused: NoSolid, PointRange, OffLattice."""
+    motion = _motion([change])
+    if motion is not None:
+        bench.features.give('move_solid', solid, ctypes.addressof(motion))
+        return
+    model, numbers = bench.solid_model(solid), Numbers(bench)
+    after = placed(model, change)
+    give(bench, [*numbers.taking_away(model), *numbers.making(after)])
 
 
 def placed(model: Model, change: Change) -> Model:
@@ -207,6 +209,17 @@ def placed(model: Model, change: Change) -> Model:
         return changed(model, change)
     except Displaced as error:
         raise Impossible(error.name, error.vertex, str(error)) from None
+
+
+def renumber(bench: Bench) -> Renumbered:
+    """All numbers become as low as they can be, also those of what has labels."""
+    with bench.step():
+        bench.features.give('renumber', frees=True)
+        solids, faces, loops, edges, vertices = (dict(bench.features.pairs(which)) for which in (SOLIDS, FACES, LOOPS, EDGES, VERTICES))
+        made = Renumbered(solids, faces, loops, edges, vertices)
+        bench.kernel.notes.renumber({'solid': solids, 'face': faces})
+    bench.numbers.forget()
+    return made
 
 
 def mirror_plane(name: str, value: object) -> Tuple[int, int, int, int]:
@@ -222,15 +235,3 @@ def quarter_turns(axis: object, times: object, about: object) -> Change:
     if axis not in AXES:
         raise ValueError(f"axis: 'x', 'y' or 'z' is wanted, not {axis!r}")
     return turning(str(axis), arguments.coordinate('times', times), arguments.point('about', about))
-
-
-def in_a_row(count: object, step: object) -> List[Sequence[Change]]:
-    """The moves that make a row of so many with the first one."""
-    number, way = arguments.positive('count', count), arguments.point('step', step)
-    if number < 2:
-        raise ValueError(f'count: {number} is below 2')
-    if way == ZERO:
-        raise ValueError('step: it is zero')
-    if number > LARGEST:
-        raise Impossible('NumbersSpent', 0, f'there are {LARGEST:,} numbers for solids, not {number:,}')
-    return [[moving((way[0] * times, way[1] * times, way[2] * times))] for times in range(1, number)]

@@ -22,7 +22,6 @@ from ..errors import CompanionError, Complaint, InDraft
 from ..formats.appearance import appearances_in, comments
 from ..geometry.model import Model
 from ..geometry.plane_figures import Exact
-from ..protocol.complaints import complaint
 from ..protocol.language import is_answered
 from ..protocol.listing import read_model
 from ..protocol.replies import Reply, is_listed
@@ -152,9 +151,9 @@ class Workbench(SolidMethods, FeatureMethods, Commands, Selecting, Measuring, Ex
         try:
             reply = self.ask(line)
             if reply.is_complaint:
-                raise complaint(line, reply)
+                raise self._bench.kernel.complaint(line, reply)
         except (Complaint, InDraft) as error:
-            error.args = (f'{file}, line {number}: {error}{_hint(file, line)}',)
+            error.args = (f'{file}, line {number}: {error.args[0]}{_hint(file, line)}',)
             raise
 
     def show(self) -> Path:

@@ -1,13 +1,16 @@
 """The faces of a listing as regions, and what of a solid lies near a place: everything is looked at each time."""
 
+from collections import Counter
 from typing import Iterator, List, Tuple
 
 from gwb.geometry.box_index import Box, box_of, boxes_meet
+from gwb.geometry.free_numbers import begun_at
 from gwb.geometry.measures import why_unfit
 from gwb.geometry.model import Model
 from gwb.geometry.outlines import Impossible
-from gwb.geometry.regions import LoopShape, Region, region_of
 from gwb.geometry.vectors import Vector
+
+from .regions import LoopShape, Region, region_of
 
 Ends = Tuple[Vector, Vector]
 
@@ -43,3 +46,11 @@ class Held:
     def box_around(self, solid: int) -> Box:
         """A box in which all of the solid lies."""
         return box_of(point for face in self.model.faces_of(solid) for point in self.model.face_points(face))
+
+
+def faces_of(model: Model) -> Counter:
+    """The faces of a model by the points of their loops."""
+    def cycle(loop: int) -> Tuple[Vector, ...]:
+        points = tuple(model.loop_points(loop))
+        return begun_at(points, min(points))
+    return Counter((cycle(face.outer), frozenset(map(cycle, face.rings))) for face in model.faces.values())

@@ -4,12 +4,13 @@ from fractions import Fraction
 from typing import NamedTuple, Optional, Sequence, Tuple
 
 from gwb.geometry.box_index import Box, box_of
-from gwb.geometry.outlines import Impossible, steps_along
+from gwb.geometry.outlines import Impossible
 from gwb.geometry.plane_figures import Place
-from gwb.geometry.regions import Region
 from gwb.geometry.vectors import Vector, ZERO, add, cross, dot, negative
 
 from .held import Held
+from .outlines import steps_along
+from .regions import Region
 from .room import Prism, has_room
 
 

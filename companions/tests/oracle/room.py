@@ -8,12 +8,12 @@ from fractions import Fraction
 from typing import Iterator, List, Sequence, Tuple
 
 from gwb.geometry.box_index import box_of, boxes_meet
-from gwb.geometry.outlines import meet
 from gwb.geometry.plane_figures import Exact, Flat, Place, Segment, locate, segments
-from gwb.geometry.regions import Region
 from gwb.geometry.vectors import Vector, add, dot, flat_axes, negative, subtract
 
 from .held import Held
+from .outlines import meet
+from .regions import Region
 
 
 class Prism:

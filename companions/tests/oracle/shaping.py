@@ -7,12 +7,14 @@ from typing import List, NamedTuple, Optional, Sequence, Tuple
 from gwb.geometry.measures import area_vector, normal
 from gwb.geometry.model import Model
 from gwb.geometry.moved import FARTHEST
-from gwb.geometry.outlines import Impossible, simple_normal, steps_along
-from gwb.geometry.sheets import Sheet
-from gwb.geometry.traced_cycles import Side
+from gwb.geometry.outlines import Impossible
+from gwb.geometry.sheets import Side
 from gwb.geometry.vectors import Vector, ZERO, add, cross, dot, negative, reduced, subtract
-from gwb.joining.assembly import Names
-from gwb.joining.combining import combined, require_flat, require_room, sheets_of
+
+from .assembly import Names
+from .combining import combined, require_flat, require_room, sheets_of
+from .outlines import simple_normal, steps_along
+from .sheets import Sheet
 
 Path = Sequence[Vector]
 

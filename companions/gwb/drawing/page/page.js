@@ -89,7 +89,7 @@ const View = (() => {
   // Half the width of an edge and how dense its ink is: edges that are many, or far away, are thin and pale, so that a quarter of the
   // faces is covered at most: half of the edges is seen, and half of the half of the faces' area that looks to the viewer.
   function penOf() {
-    const wide = Math.min(99, .25 * view.zoom * drawnEdges.room), most = Math.max(.75, 1.5 / (devicePixelRatio || 1));
+    const wide = Math.min(99, .25 * view.zoom * drawnEdges.room), most = Math.max(.75, 1 / (devicePixelRatio || 1));
     return {half: Math.max(.4, Math.min(most, wide / 2)), alpha: Math.max(.06, Math.min(1, wide / .8))};
   }
 

@@ -11,7 +11,6 @@ from typing import Callable, Dict, Hashable, List, Mapping, NamedTuple, Optional
 from ...geometry.measures import normal, require_fit
 from ...geometry.model import Model
 from ...geometry.nesting import Nest, nests
-from ...geometry.shells import shells_of
 from ...geometry.vectors import Vector, negative, reduced, subtract
 from ..appearance import NO_APPEARANCES, Appearances, Colour, look_of, unique_names
 from .lexer import quoted
@@ -230,7 +229,7 @@ def step_text(model: Model, looks: Appearances = NO_APPEARANCES, unit: Fraction 
     require_fit(model)
     entities = _Entities()
     shapes = _Shapes(model, entities, looks)
-    solids = {solid: [shapes.solid(solid, nest) for nest in nests(model, solid, shells)] for solid, shells in shells_of(model).items()}
+    solids = {solid: [shapes.solid(solid, nest) for nest in nests(model, solid)] for solid in model.solids}
     axes = shapes.axes()
     context = _put_context(entities, _accuracy(model), unit)
     names = [look_of(looks, 'solid', solid).name for solid in solids]

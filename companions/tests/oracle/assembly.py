@@ -7,12 +7,13 @@ from functools import cmp_to_key
 from itertools import count
 from typing import Callable, Dict, Iterable, Iterator, List, NamedTuple, Sequence, Set, Tuple
 
-from ..geometry.free_numbers import KINDS, from_least, sorted_model
-from ..geometry.model import Face, Loop, Model
-from ..geometry.outlines import Impossible
-from ..geometry.sheets import Region
-from ..geometry.traced_cycles import Cycle, Side
-from ..geometry.vectors import Vector, cross, dot, negative, reduced, subtract
+from gwb.geometry.free_numbers import KINDS, from_least, sorted_model
+from gwb.geometry.model import Face, Loop, Model
+from gwb.geometry.outlines import Impossible
+from gwb.geometry.sheets import Cycle, Side
+from gwb.geometry.vectors import Vector, cross, dot, negative, reduced, subtract
+
+from .sheets import Region
 
 Take = Callable[[str], int]
 

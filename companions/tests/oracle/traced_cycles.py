@@ -1,23 +1,13 @@
 """Sides of regions of a plane, traced as cycles, with the holes of each region beside its outline."""
 
 from functools import cmp_to_key
-from typing import Dict, Iterator, List, NamedTuple, Sequence, Tuple
+from typing import Dict, Iterator, List, Sequence, Tuple
 
-from .measures import area_vector
-from .outlines import Impossible
-from .plane_figures import Flat, Place, locate
-from .vectors import Vector, dot, flat_axes
-
-
-class Side(NamedTuple):
-    """A directed side, with the region on its left: its ends, and the half-edge that it is, or is a part of, or 0."""
-
-    start: Vector
-    end: Vector
-    half: int = 0
-
-
-Cycle = Sequence[Side]
+from gwb.geometry.measures import area_vector
+from gwb.geometry.outlines import Impossible
+from gwb.geometry.plane_figures import Flat, Place, locate
+from gwb.geometry.sheets import Cycle, Side
+from gwb.geometry.vectors import Vector, dot, flat_axes
 
 
 def traced(sides: Sequence[Side], across: Vector) -> Iterator[List[Cycle]]:

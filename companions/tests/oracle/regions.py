@@ -2,11 +2,13 @@
 
 from typing import Dict, Iterable, List, NamedTuple, Optional, Sequence, Tuple
 
-from .box_index import Box, box_of, boxes_meet
-from .measures import area_vector
-from .outlines import Impossible, meet, simple_normal
-from .plane_figures import Exact, Flat, Place, Segment, locate, segments, twice_area
-from .vectors import Vector, ZERO, dot, flat_axes, reduced, subtract, total
+from gwb.geometry.box_index import Box, box_of, boxes_meet
+from gwb.geometry.measures import area_vector
+from gwb.geometry.outlines import Impossible
+from gwb.geometry.plane_figures import Exact, Flat, Place, Segment, locate, segments, twice_area
+from gwb.geometry.vectors import Vector, ZERO, dot, flat_axes, reduced, subtract, total
+
+from .outlines import meet, simple_normal
 
 
 class FlatLoop(NamedTuple):

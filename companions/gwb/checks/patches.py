@@ -1,0 +1,153 @@
+"""Patches of a surface that can't meet themselves: faces beside each other that all look the same way, with an outline that doesn't cross itself
+as seen from there.
+
+A patch grows from a face across edges, and stays a disc: each face that is added shares with it one way along its edges. The faces are convex and
+all run counterclockwise as the viewer sees them, so each point is covered as often as the outline goes round it, which is once.
+"""
+
+from typing import Dict, List, Mapping, NamedTuple, Optional, Sequence, Set, Tuple
+
+from ..geometry.convexity import is_convex
+from ..geometry.model import Model
+from ..geometry.plane_figures import Flat, segments, turn
+from ..geometry.vectors import Vector
+
+# Outlines of more faces aren't tried; each that crosses itself makes those tried after it smaller.
+_MOST_FACES = 8192
+
+
+class Patches(NamedTuple):
+    """For each face the number of its patch, and whether it is a convex triangle or quadrilateral. What is of one patch meets only where the model
+    says so, by its edges and corners."""
+
+    patch_of: Dict[int, int]
+    convex: Dict[int, bool]
+
+
+def patches(model: Model, normals: Mapping[int, Vector]) -> Patches:
+    """The patches of the faces whose normals are given, which are flat and have an area."""
+    convex = {face: is_convex(model, face, across) for face, across in normals.items()}
+    growing = _Growing(model, normals, convex)
+    for face in normals:
+        if face not in growing.patch_of:
+            growing.grow(face)
+    return Patches(growing.patch_of, convex)
+
+
+class _Growing:
+    """Faces that are put into patches."""
+
+    def __init__(self, model: Model, normals: Mapping[int, Vector], convex: Mapping[int, bool]) -> None:
+        self._model, self._normals, self._convex = model, normals, convex
+        self._most = _MOST_FACES
+        self._count = 0
+        self.patch_of: Dict[int, int] = {}
+
+    def grow(self, seed: int) -> None:
+        """Makes one more patch, from a face that is in none."""
+        faces, way = self._disc(seed)
+        while len(faces) > 1 and not is_simple(self._outline(faces, way)):
+            del faces[len(faces) // 2:]
+            self._most = 2 * len(faces)
+        self._count += 1
+        self.patch_of.update(dict.fromkeys(faces, self._count))
+
+    def _disc(self, seed: int) -> Tuple[List[int], Vector]:
+        """Faces of a disc, in an order in which any first ones are a disc too, and the signs of the parts of their normals, 0 where all are 0."""
+        way = _signs(self._normals[seed])
+        if not self._convex[seed]:
+            return [seed], way
+        disc = _Disc(self._model, seed)
+        for face in disc.beside:
+            if face in disc.faces or face in self.patch_of or not self._convex.get(face) or len(disc.faces) >= self._most:
+                continue
+            signs = _common(way, self._normals[face])
+            if signs is not None and disc.add(face):
+                way = signs
+        return list(disc.faces), way
+
+    def _outline(self, faces: Sequence[int], way: Vector) -> List[Flat]:
+        """The corners of the outline of a disc in their order, as seen from far away on this way."""
+        model, held = self._model, set(faces)
+        after = {model.tail(half): half for face in faces for half in model.face_halves(face) if model.face_of(-half) not in held}
+        start = next(iter(after))
+        vertices, vertex = [start], model.tail(-after[start])
+        while vertex != start:
+            vertices.append(vertex)
+            vertex = model.tail(-after[vertex])
+        return [_seen(model.vertices[vertex], way) for vertex in vertices]
+
+
+class _Disc:
+    """A disc of faces: what is added has edges in common with it that follow one another, and no corner beside them."""
+
+    def __init__(self, model: Model, seed: int) -> None:
+        self._model = model
+        self.faces: Dict[int, None] = {}
+        self.beside: List[int] = []
+        self._corners: Set[int] = set()
+        self._put(seed, model.face_vertices(seed), self._beyond(seed))
+
+    def add(self, face: int) -> bool:
+        """Adds a face that isn't of the disc; False where it stays no disc."""
+        corners, beyond = self._model.face_vertices(face), self._beyond(face)
+        faces, held = self.faces, self._corners
+        if len([vertex for vertex in corners if vertex in held]) != 1 + len([other for other in beyond if other in faces]):
+            return False
+        self._put(face, corners, beyond)
+        return True
+
+    def _beyond(self, face: int) -> List[int]:
+        """The faces beyond each edge of a face."""
+        model = self._model
+        return [model.face_of(-half) for half in model.loops[model.faces[face].outer].halves]
+
+    def _put(self, face: int, corners: Sequence[int], beyond: Sequence[int]) -> None:
+        self.faces[face] = None
+        self._corners.update(corners)
+        self.beside += beyond
+
+
+def _signs(vector: Vector) -> Vector:
+    x, y, z = ((part > 0) - (part < 0) for part in vector)
+    return (x, y, z)
+
+
+def _common(way: Vector, across: Vector) -> Optional[Vector]:
+    """The signs of the parts of both, or None where they have different ones."""
+    (x, y, z), (a, b, c) = way, across
+    if x * a < 0 or y * b < 0 or z * c < 0:
+        return None
+    return way if x and y and z else (x or (a > 0) - (a < 0), y or (b > 0) - (b < 0), z or (c > 0) - (c < 0))
+
+
+def _seen(point: Vector, way: Vector) -> Flat:
+    """Where a point is seen in a plane across a way; what lies behind one another on that way is seen in one place."""
+    (x, y, z), (a, b, c) = point, way
+    if c:
+        return (c * x - a * z, c * y - b * z)
+    return (b * x - a * y, z) if b else (y, z)
+
+
+def is_simple(points: Sequence[Flat]) -> bool:
+    """Whether the sides of a closed path meet only where one follows another. The path is swept from left to right."""
+    count = len(points)
+    if len(set(points)) < count:
+        return False
+    sides = [(min(start, end), max(start, end), place) for place, (start, end) in enumerate(segments(points))]
+    open_sides: List[Tuple[Flat, Flat, int]] = []
+    for low, high, place in sorted(sides):
+        open_sides = [side for side in open_sides if side[1][0] >= low[0]]
+        if any(_meet_wrongly(low, high, start, end, abs(place - other) in (1, count - 1)) for start, end, other in open_sides):
+            return False
+        open_sides.append((low, high, place))
+    return True
+
+
+def _meet_wrongly(a: Flat, b: Flat, c: Flat, d: Flat, follow: bool) -> bool:
+    """Whether two sides, each from its lesser to its greater point, have a point in common, other than the end that they share where one follows
+    the other."""
+    before, after = turn(a, b, c), turn(a, b, d)
+    if before == after == 0:
+        return max(a, c) < min(b, d) if follow else max(a, c) <= min(b, d)
+    return not follow and before * after <= 0 and turn(c, d, a) * turn(c, d, b) <= 0
