@@ -318,6 +318,13 @@ def fan_long(n):
         last = '-%d' % (edges + 1 + k)
 
 
+@may_grow('glue_chain', 'blocks one on the other, each glued to those below: `block` and `glue` in turn', before=block_alone)
+def glue_chain(n):
+    for k in range(n):
+        i = k // 2 + 1
+        yield 'glue %d %d' % (6 * i - 5, 6 * i + 2) if k % 2 else 'block %d 0 0 %d 4 4 4' % (i + 1, 4 * i)
+
+
 @may_grow('comb', 'a comb of so many teeth split through all of them, and `undo`', before=lambda n: prism(comb_polygon(n)), most=30000)
 def comb_split(n):
     return ['split 1 0 1 0 -4 2', 'undo'] * 4

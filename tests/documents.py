@@ -7,7 +7,9 @@ A script is a fenced block marked `gwb`: each line is a command and, after two s
 below it, indented. A block begins with nothing; with the model of the block after a paragraph that begins 'The *wire*', where its own
 paragraph ends 'From the wire:' or 'In the wire:'; with what the block before it left, where the paragraph ends 'And then:'.
 An image after a block shows the model that the block leaves: all of it, with its numbers in NAME.names.svg, solid 2 alone in
-NAME.solid-2.svg or NAME.solid-2.names.svg. --draw draws all of them anew. A line elsewhere that begins with a command is refused.
+NAME.solid-2.svg or NAME.solid-2.names.svg; a flat model from above with its half-edges in NAME.half-edges.svg, with what lies about +5 in
+NAME.around-5.svg, and before and after the block's last command in NAME.change.svg. --draw draws all of them anew. A line elsewhere that
+begins with a command is refused.
 """
 import re
 import subprocess
@@ -16,11 +18,13 @@ from pathlib import Path
 from typing import Dict, Iterator, List, NamedTuple, Set, Tuple
 
 from counts import GWB, TOP, command_line, there, told
+from half_edges import half_edges_svg
 
 sys.path.insert(0, str(TOP / 'companions'))
 
 from gwb.drawing.svg import svg_text
 from gwb.errors import CompanionError
+from gwb.geometry.model import Model
 from gwb.protocol.language import COMMANDS
 from gwb.protocol.listing import model_of
 from gwb.protocol.replies import Reply, split_replies
@@ -142,11 +146,22 @@ def complaint(program: Path, block: Block) -> str:
     return ''
 
 
+def model_after(program: Path, steps: List[Step]) -> Model:
+    """The model that the commands leave."""
+    return model_of(replies(program, steps + [Step('list', ())])[-1])
+
+
 def drawn(program: Path, picture: Picture) -> str:
     """The picture as it is to be."""
-    model = model_of(replies(program, picture.steps + [Step('list', ())])[-1])
+    model = model_after(program, picture.steps)
     marks = picture.path.name.split('.')[1:-1]
+    if 'change' in marks:
+        return half_edges_svg([model_after(program, picture.steps[:-1]), model])
     for mark in marks:
+        if mark.startswith('around-'):
+            return half_edges_svg([model], int(mark[len('around-'):]))
+        if mark == 'half-edges':
+            return half_edges_svg([model])
         if mark.startswith('solid-'):
             model = model.only(int(mark[len('solid-'):]))
     return svg_text(model, STAND, names='names' in marks)

@@ -1,11 +1,12 @@
 #!/usr/bin/env python3
-"""Installs the program, the man page, the companions and the library in a folder of its own, runs them there, and takes them away again.
+"""Installs the program, the man page, the companions, the pages and the library in a folder of its own, runs them there, and takes them away again.
 
     tests/install.py [PROGRAM [ARCHIVE]]        PROGRAM is crates/gwb/out/gwb where none is given
 
 Without an ARCHIVE no library is installed. Afterwards no file may be left in the folder. The last line counts.
 """
 import os
+import re
 import shutil
 import subprocess
 import sys
@@ -20,9 +21,11 @@ COMPANIONS = sorted(path.name for path in (TOP / 'companions').glob('gwb-*'))
 VERSION = (TOP / 'VERSION').read_text().strip()
 SONAME = 'libgwb.so.' + VERSION.split('.')[0]
 LIBRARY = ['include/gwb.h', 'include/gwb.hpp', 'include/gwb_history.hpp', 'include/gwb_features.h', 'include/gwb_features.hpp',
-           'include/gwb_triangles.hpp', 'include/gwb_names.h', 'lib/libgwb.a', 'lib/libgwb_c.a', 'lib/libgwb.so', f'lib/{SONAME}',
+           'include/gwb_triangles.hpp', 'include/gwb_export.hpp', 'include/gwb_cgal.hpp', 'include/gwb_names.h', 'lib/libgwb.a', 'lib/libgwb_c.a', 'lib/libgwb.so', f'lib/{SONAME}',
            f'lib/libgwb.so.{VERSION}', 'lib/pkgconfig/gwb.pc', 'lib/pkgconfig/gwb-static.pc', 'lib/cmake/gwb/gwb-config.cmake',
            'lib/cmake/gwb/gwb-config-version.cmake', 'share/gwb/heap.c', 'share/gwb/heap.h']
+# What pages link to in the sources alone.
+SOURCES = ('bench', 'bindings/heap.c', 'companions/tests', 'crates', 'tests')
 PROGRAM = '''#include <gwb.h>
 #include <gwb_names.h>
 int main(void)
@@ -95,7 +98,8 @@ def installed(at: Installation) -> Iterator[str]:
     """The files, and what the programs do."""
     yield complaint(at.make('install'), b'' if at.archive else b'rt lib')
     here = files(at.prefix)
-    wanted = ['bin/gwb', 'share/man/man1/gwb.1', *(f'bin/{name}' for name in COMPANIONS), *(LIBRARY if at.archive else [])]
+    wanted = ['bin/gwb', 'share/man/man1/gwb.1', 'share/doc/gwb/examples/bracket.py', *(f'bin/{name}' for name in COMPANIONS),
+              *(LIBRARY if at.archive else [])]
     yield '' if set(wanted) <= set(here) else f'not installed: {sorted(set(wanted) - set(here))}'
     yield '' if not [name for name in here if '__pycache__' in name] else 'what Python compiled is installed'
     ran = at.run([at.command('gwb'), EXAMPLE])
@@ -106,6 +110,20 @@ def installed(at: Installation) -> Iterator[str]:
     yield complaint(at.run(['env', 'PATH=/usr/bin:/bin', at.command('gwb-shell')], b'block 1 0 0 0 1 2 3\nvolume 1\n'), b'volume 36')
     for name, told in (('gwb-svg', b'</svg>'), ('gwb-mesh', b'OFF'), ('gwb-view', b'</html>'), ('gwb-check', b'no findings')):
         yield complaint(at.run([at.command(name)], listed), told)
+
+
+def pages(at: Installation) -> Iterator[str]:
+    """The pages are those of the sources, and their links lead to installed pages, pictures and examples, unless they lead into the sources."""
+    folder = at.prefix / 'share' / 'doc' / 'gwb'
+    found = sorted(str(path.relative_to(folder)) for path in folder.rglob('*.md'))
+    wanted = ['CHANGELOG.md', 'README.md', 'bindings/README.md', 'companions/README.md', *(f'docs/{path.name}' for path in (TOP / 'docs').glob('*.md'))]
+    yield '' if found == sorted(wanted) else f'installed are the pages {found}, not {sorted(wanted)}'
+    for page in found:
+        text = (folder / page).read_text()
+        links = [os.path.normpath(Path(page).parent / link) for link in re.findall(r'(?:\]\(|src=")([^)#"\s]+)', text) if '://' not in link]
+        broken = [link for link in links if not (folder / link).exists() and not f'{link}/'.startswith(tuple(f'{source}/' for source in SOURCES))]
+        same = text == (TOP / page).read_text()
+        yield '' if same and not broken else f'{page}: {"" if same else "is another than in the sources; "}nothing at {broken}'
 
 
 def packages(at: Installation) -> Iterator[str]:
@@ -188,6 +206,7 @@ def findings(program: Path, archive: Optional[Path]) -> Iterator[str]:
         at = Installation(Path(folder), program, archive)
         yield from without_program(at)
         yield from installed(at)
+        yield from pages(at)
         if archive is not None:
             yield from library(at)
         yield from taken_away(at)

@@ -17,7 +17,7 @@ from typing import Dict, Iterator, List
 from counts import TOP, command_line, told, without
 
 MANUAL = TOP / 'docs' / 'gwb.1'
-DATE = '2026-11-25'
+DATE = '2026-11-28'
 # The sections of the page, by the headings of docs/SCRIPT.md that they are made from.
 SECTIONS = {'Words': 'WORDS', 'Commands': 'COMMANDS', 'Fresh numbers': 'FRESH NUMBERS', 'Replies': 'REPLIES', 'Faults': 'FAULTS',
             'Refusals': 'REFUSALS', 'Limits': 'LIMITS', 'Statuses': 'EXIT STATUS'}
@@ -85,8 +85,13 @@ def sections() -> Dict[str, str]:
 def commands_alone(section: str) -> str:
     """The section of commands without the models that its scripts begin with."""
     lead, *commands = section.split('\n### ')
-    rules = [part for part in lead.split('\n\n') if part.startswith('For each command')]
+    rules = [part for part in lead.split('\n\n') if part.strip().startswith('Each command has')]
     return '\n\n'.join([*rules, *(f'### {command.replace(chr(10), chr(10) * 2, 1)}' for command in commands)])
+
+
+def worked(section: str, command: str) -> str:
+    """The first script of a command, with its replies."""
+    return section.split(f'\n### `{command} ')[1].split('```gwb\n')[1].split('\n```')[0]
 
 
 def options(source: str) -> Iterator[str]:
@@ -113,7 +118,9 @@ def manual() -> str:
     for heading, name in SECTIONS.items():
         lines += [f'.SH {name}', *paragraphs(found[heading])]
     beside = ', '.join(f'\\fB{plain(name)}\\fR' for name in companions())
-    lines += ['.SH EXAMPLES', '.EX', plain(example), '.EE', '.SH SEE ALSO',
+    lines += ['.SH EXAMPLES', '.EX', plain(example), '.EE', '.PP', 'A block is cut in two. The reply stands behind each command.', '.PP',
+              '.EX', plain(worked(sections()['Commands'], 'split')), '.EE',
+              '.SH FILES', '.TP', '.I share/doc/gwb', 'below the folder that has bin/gwb: the pages that are named here, and examples.', '.SH SEE ALSO',
               filled(f'The companions, which read what gwb writes, and say with \\fB\\-\\-help\\fR what they do: {beside}.')]
     return tidy(lines)
 

@@ -45,8 +45,9 @@ class Outcome:
 
 def trials(program: str, archive: str) -> Iterator[Trial]:
     """The tests, those of documents first."""
-    for name in ('gate', 'quotes', 'statement', 'versions', 'refusals', 'pages', 'words', 'unused'):
+    for name in ('gate', 'quotes', 'sentences', 'statement', 'versions', 'refusals', 'pages', 'words', 'unused'):
         yield Trial((f'tests/{name}.py',))
+    yield Trial(('tests/handed_on.py',), ('cc',))
     yield Trial(('.ci/unused',))
     yield Trial(('tests/scripts.py', program))
     yield Trial(('tests/laws.py', program))

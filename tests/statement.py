@@ -44,16 +44,16 @@ KNOWN_BYTES = 'rattle/std/specs/Io/KnownBytes.antt'
 BYTES = ('Appends', 'Consumes', 'IsAtEnd')
 HEAD = """# Statements
 
-Each theorem has its contract here, and below it all definitions that the contract leads to, by the files in which they stand, in the order in which they
-are used. What a statement takes *by name* is not among them: a law over bytes holds of `answers` as it is, whatever that is, and what is said of the
-larger commands has a chapter of its own. [PROOFS.md](PROOFS.md) explains the signs. This writes each theorem with its definitions on one page:
+This page has the contract of each theorem. Below it stand all definitions that the contract leads to, by their files, in the order in which they are used.
+Some are taken *by name* and left out: a law over bytes holds whatever `answers` is, and what is said of the larger commands has a chapter of its own.
+[PROOFS.md](PROOFS.md) explains the signs. This writes each theorem with its definitions on one page:
 
     tests/statement.py --pages FOLDER
 
-The *sum* is that of the page, so it changes where a statement does.
+The *sum* is a checksum of that page, so it changes when a statement changes.
 
-What is read and written is told where the bytes of a reader and a writer are known, as those of a list of bytes are. Where they aren't, as with files and
-pipes, these words of the standard library are true whatever happened, and a theorem says nothing of the bytes:
+A theorem tells what is read and written if the bytes of the reader and the writer are known, as those of a list of bytes are. If they aren't, as with files
+and pipes, these words of the standard library are true whatever happened, and a theorem says nothing of the bytes:
 """
 MADE = 'Made by `tests/statement.py --write` from the sources; edit nothing here.'
 
