@@ -4,8 +4,8 @@ tells the processor time of a line, the instructions of a line, the peak of memo
 
     bench/run.py [--program PROGRAM] [--sizes 10000,100000,1000000] [--only FAMILY,FAMILY] [--seconds S] [--times N] [--markdown]
 
-The time is the best of N runs (7; fewer of those that take long), user and system together, less the best time for the lines that come before those measured
-(the start of the program, where there are none). A run past S seconds (20) is given up, and so are larger scripts of its family.
+The two programs run by turns. The time is the best of N runs (7; fewer of those that take long), user and system together, less the best time for the
+lines that come before those measured (the start of the program, where there are none). A run past S seconds (20) is given up, and so are larger scripts of its family.
 
 Instructions are those of one run under callgrind, less those for the lines that come before. They are told where valgrind is there and the run takes
 at most a twentieth of a second without it, since it takes some fifty times as long with it.
@@ -72,26 +72,31 @@ class Bench:
         self.starts = [None] * len(programs)
 
     def best(self, text, which):
-        """The cost of the chosen programs, whose answers are compared; None for a program that takes too long."""
+        """The cost of the chosen programs, which run by turns and whose answers are compared; None for a program that takes too long."""
         with tempfile.TemporaryFile() as script, tempfile.NamedTemporaryFile() as one, tempfile.NamedTemporaryFile() as two:
             script.write(text)
             script.flush()
             outs = (one, two)
-            best = [None] * len(which)
-            for i, program in enumerate(which):
-                try:
-                    best[i] = self.best_of(program, script, outs[i])
-                except TooSlow:
-                    pass
-            if None not in best and len(best) == 2 and not filecmp.cmp(one.name, two.name, shallow=False):
+            runs = self.by_turns(which, script, outs)
+            if [] not in runs and len(runs) == 2 and not filecmp.cmp(one.name, two.name, shallow=False):
                 raise SystemExit('the answers differ')
-            return best
+            return [self.cost(program, script, its) if its else None for program, its in zip(which, runs)]
 
-    def best_of(self, program, script, out):
-        runs, spent = [], 0
-        while len(runs) < self.times and spent <= ENOUGH:
-            runs.append(run_once(program, script, out, self.limit))
-            spent += runs[-1][0]
+    def by_turns(self, which, script, outs):
+        """The runs of each program, one after the other in turn; none of one that takes too long."""
+        runs = [[] for _ in which]
+        going = set(range(len(which)))
+        while going:
+            for i in sorted(going):
+                try:
+                    runs[i].append(run_once(which[i], script, outs[i], self.limit))
+                except TooSlow:
+                    runs[i] = []
+                    going.discard(i)
+            going = {i for i in going if len(runs[i]) < self.times and sum(run[0] for run in runs[i]) <= ENOUGH}
+        return runs
+
+    def cost(self, program, script, runs):
         seconds, memory = min(run[0] for run in runs), max(run[1] for run in runs)
         is_counted = seconds <= COUNTED and callgrind.is_there()
         return Cost(seconds, memory, instructions(program, script) if is_counted else None)
