@@ -36,11 +36,12 @@ class Trial:
 
 @dataclass(frozen=True)
 class Outcome:
-    """How many comparisons passed and failed, and what was left out."""
+    """How many comparisons passed, failed and were left out, and what says so of these."""
 
     passed: int
     failed: int
-    skipped: Tuple[str, ...] = ()
+    skipped: int = 0
+    named: Tuple[str, ...] = ()
 
 
 def trials(program: str, archive: str) -> Iterator[Trial]:
@@ -66,7 +67,7 @@ def outcome_of(trial: Trial) -> Outcome:
     """Runs a test, or says what it lacks."""
     missing = [tool for tool in trial.tools if shutil.which(tool) is None] + [str(path) for path in trial.built if not path.is_file()]
     if missing:
-        return Outcome(0, 0, (f'{trial}: there is no {", ".join(missing)}',))
+        return Outcome(0, 0, 1, (f'{trial}: there is no {", ".join(missing)}',))
     try:
         done = subprocess.run([TOP / trial.words[0], *trial.words[1:]], cwd=TOP, stdout=subprocess.PIPE, stderr=subprocess.STDOUT, check=False)
     except OSError as error:
@@ -85,13 +86,15 @@ def counted(trial: Trial, status: int, lines: List[str]) -> Outcome:
     passed = int(last.group(1)) - (failed if last.group(2) == 'compared' else 0)
     if failed:
         print(*lines, sep='\n')
-    return Outcome(passed, failed, left_out(trial, lines, int(last.group(4) or 0)))
+    named = left_out(trial, lines)
+    skipped = max(int(last.group(4) or 0), len(named))
+    more = (f'{trial}: {skipped - len(named)} more, which it names as whole files or not at all',) if skipped > len(named) else ()
+    return Outcome(passed, failed, skipped, (*named, *more))
 
 
-def left_out(trial: Trial, lines: List[str], count: int) -> Tuple[str, ...]:
-    """What a test says that it left out; what it counts and doesn't name is called so."""
-    named = [f'{trial}: {_LEFT_OUT.sub("", line)}' for line in lines if _LEFT_OUT.match(line)]
-    return (*named, *[f'{trial}: one more, which it does not name'] * (count - len(named)))
+def left_out(trial: Trial, lines: List[str]) -> Tuple[str, ...]:
+    """What a test says that it left out."""
+    return tuple(f'{trial}: {_LEFT_OUT.sub("", line)}' for line in lines if _LEFT_OUT.match(line))
 
 
 def absent(*files: str) -> List[str]:
@@ -109,12 +112,11 @@ def main() -> int:
     found: List[Outcome] = []
     for trial in trials(program, archive):
         outcome = outcome_of(trial)
-        print(f'{trial}: {outcome.passed} passed, {outcome.failed} failed, {len(outcome.skipped)} skipped', flush=True)
+        print(f'{trial}: {outcome.passed} passed, {outcome.failed} failed, {outcome.skipped} skipped', flush=True)
         found.append(outcome)
-    skipped = [name for outcome in found for name in outcome.skipped]
-    failed = sum(outcome.failed for outcome in found)
-    told = [f'skipped: {name}' for name in skipped]
-    print(*told, f'{sum(outcome.passed for outcome in found)} passed, {failed} failed, {len(skipped)} skipped', sep='\n')
+    told = [f'skipped: {name}' for outcome in found for name in outcome.named]
+    passed, failed, skipped = (sum(numbers) for numbers in zip(*((it.passed, it.failed, it.skipped) for it in found)))
+    print(*told, f'{passed} passed, {failed} failed, {skipped} skipped', sep='\n')
     return 1 if failed else 0
 
 
