@@ -71,7 +71,7 @@ module _ (M : Model) (s : ℕ) (p : Point) (dx dy dz : ℤ) (sound : Sound M) (g
   unfolding block_model
   block_keeps_rows e there = grind (arith, lamina_keeps_rows, based, prism_keeps_edges)
 
-  block_keeps_places : (v : ℕ) → Has M.vertices v → table.get (block_model M s p dx dy dz).vertices v ≡ table.get M.vertices v
+  pub block_keeps_places : (v : ℕ) → Has M.vertices v → table.get (block_model M s p dx dy dz).vertices v ≡ table.get M.vertices v
   unfolding block_model
   block_keeps_places v there = grind (arith, lamina_keeps_places, prism_keeps_points)
 

@@ -5,3 +5,4 @@ pub mod Within
 pub mod Apart
 pub mod Seen
 pub mod Others
+pub mod Volumes

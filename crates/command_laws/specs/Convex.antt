@@ -1,7 +1,7 @@
--- Solids that are convex: no vertex of the solid lies above the plane of one of its faces.
+-- Solids that are convex: no vertex of the solid lies above the plane of one of its faces. Strictly convex: at each edge the two faces bend, too.
 use Rattle.std.specs.Prelude.{◌≡◌, ◌≢◌, ℕ, ℤ, pos, int_lt, true, false}
 use Rattle.euler_operators.specs.Common.{Plane, Point, IsIn, cross, dot, is_above, is_below, mate, Model, face_at, point_of, solid_of, Sound, Has, HasHalf, lists}
-use Rattle.shapes.specs.Common.{boundary, corners, finish, is_flat, normal, plane_of, start, towards}
+use Rattle.shapes.specs.Common.{boundary, corners, finish, is_flat, normal, plane_of, six_volume, start, towards}
 use Rattle.undo_journal.specs.Machine.{Machine, held}
 use Rattle.plane_split.specs.SplitModels.{IsSplit}
 use Rattle.command_laws.specs.Commands.{IsBlock}
@@ -22,18 +22,22 @@ pub record IsConvex (M : Model) (s : ℕ) : Type 0 where
   pub flat : (k : ℕ) → Has M.faces k → solid_of M k ≡ s → is_flat M k ≡ true
   pub below : (k : ℕ) → Has M.faces k → solid_of M k ≡ s → LiesBelow M (plane_of M k) s
 
--- a new block is convex
-abbrev pub BlocksAreConvex : Type 0
-BlocksAreConvex = (before after : Machine) (s : ℕ) (p : Point) (dx dy dz : ℤ) → Sound (held before) → IsBlock before after s p dx dy dz → IsConvex (held after) s
-
 -- along half-edge h, its face and that of its mate bend away from each other
 abbrev pub BendsAway : Model → ℕ → Type 0
 BendsAway M h = int_lt (pos 0) (dot (towards (start M h) (finish M h)) (cross (normal M (face_at M h)) (normal M (face_at M (mate h))))) ≡ true
 
--- the faces bend away from each other at each edge of a new block
-abbrev pub BlocksBend : Type 0
-BlocksBend = (before after : Machine) (s : ℕ) (p : Point) (dx dy dz : ℤ) → Sound (held before) → IsBlock before after s p dx dy dz →
-    (h : ℕ) → HasHalf (held after) h → solid_of (held after) (face_at (held after) h) ≡ s → BendsAway (held after) h
+-- solid s is strictly convex: it is convex, and at each of its edges the two faces bend away from each other
+pub record IsStrictlyConvex (M : Model) (s : ℕ) : Type 0 where
+  pub convex : IsConvex M s
+  pub bends : (h : ℕ) → HasHalf M h → solid_of M (face_at M h) ≡ s → BendsAway M h
+
+-- a new block is strictly convex
+abbrev pub BlocksAreConvex : Type 0
+BlocksAreConvex = (before after : Machine) (s : ℕ) (p : Point) (dx dy dz : ℤ) → Sound (held before) → IsBlock before after s p dx dy dz → IsStrictlyConvex (held after) s
+
+-- a strictly convex solid has a volume, greater than 0
+abbrev pub ConvexSolidsHaveVolume : Type 0
+ConvexSolidsHaveVolume = (M : Model) (s : ℕ) → Sound M → Has M.solids s → IsStrictlyConvex M s → int_lt (pos 0) (six_volume M s) ≡ true
 
 -- if no vertex of a solid lies above a plane, no vertex of its parts does after a split: each half-space that holds the solid holds both parts
 abbrev pub SplitsStayBelow : Type 0
@@ -69,3 +73,12 @@ BlockKeepsConvex = (before after : Machine) (s : ℕ) (p : Point) (dx dy dz : �
 
 abbrev pub SplitLeavesConvex : Type 0
 SplitLeavesConvex = (before after : Machine) (s : ℕ) (p : Plane) (t u : ℕ) → Sound (held before) → IsSplit before after s p t → u ≢ s → u ≢ t → IsConvex (held before) u → IsConvex (held after) u
+
+-- and strictly convex, if it was
+abbrev pub BlockKeepsStrictlyConvex : Type 0
+BlockKeepsStrictlyConvex = (before after : Machine) (s : ℕ) (p : Point) (dx dy dz : ℤ) (u : ℕ) → Sound (held before) → IsBlock before after s p dx dy dz → u ≢ s →
+    IsStrictlyConvex (held before) u → IsStrictlyConvex (held after) u
+
+abbrev pub SplitLeavesStrictlyConvex : Type 0
+SplitLeavesStrictlyConvex = (before after : Machine) (s : ℕ) (p : Plane) (t u : ℕ) → Sound (held before) → IsSplit before after s p t → u ≢ s → u ≢ t →
+    IsStrictlyConvex (held before) u → IsStrictlyConvex (held after) u

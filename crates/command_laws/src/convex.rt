@@ -1,24 +1,25 @@
-//! Which solids are convex, which half-spaces a split keeps to, and which way a face looks.
+//! Which solids are convex, that they have a volume, which half-spaces a split keeps to, and which way a face looks.
 //!
 //! # What is proved
 //!
-//! A new block is convex: its faces are flat, and none of its vertices lies above the plane of one of its faces. Each other solid that was convex
-//! before a block or a split still is. At each edge of a new block the two faces bend away from each other. For any solid that is split, convex or
-//! not: each half-space that holds the solid holds both parts, and the parts lie on the two sides of the plane. If the half-edges of a face go round
-//! a vector, the face's normal points along it. Not proved: that both parts of a convex solid are convex. For this it would have to be shown that the
-//! pieces of the faces that were cut, and the caps, look outwards.
+//! A new block is strictly convex: its faces are flat, none of its vertices lies above the plane of one of its faces, and at each of its edges the
+//! two faces bend away from each other. Each other solid that was convex before a block or a split still is, and strictly so if it was. Each strictly
+//! convex solid of a sound model has a volume greater than 0. For any solid that is split, convex or not: each half-space that holds the solid holds
+//! both parts, and the parts lie on the two sides of the plane. If the half-edges of a face go round a vector, the face's normal points along it. Not
+//! proved: that both parts of a convex solid are convex. For this it would have to be shown that the pieces of the faces that were cut, and the caps,
+//! look outwards.
 
-ghost use Rattle.command_laws.specs.Convex.{BlockKeepsConvex, BlocksAreConvex, BlocksBend, RoundLooksAlong, SplitLeavesConvex, SplitPartsLieApart, SplitsStayBelow};
+ghost use Rattle.command_laws.specs.Convex.{BlockKeepsConvex, BlockKeepsStrictlyConvex, BlocksAreConvex, ConvexSolidsHaveVolume, RoundLooksAlong, SplitLeavesConvex, SplitLeavesStrictlyConvex, SplitPartsLieApart, SplitsStayBelow};
 
-/// A new block is convex: each face is flat, and no vertex of the solid lies above the plane of one of its faces.
+/// A new block is strictly convex: each face is flat, no vertex of the solid lies above the plane of one of its faces, and at each edge the two
+/// faces bend away from each other, so each half-edge points along the product of its face's normal and that of its mate's face.
 pub fn blocks_are_convex()
     ensures { BlocksAreConvex }
 {}
 
-/// At each edge of a new block the two faces bend away from each other: each half-edge points along the product of its face's normal and
-/// that of its mate's face.
-pub fn blocks_bend()
-    ensures { BlocksBend }
+/// A strictly convex solid has a volume: six times it, as it is measured, is greater than 0.
+pub fn convex_solids_have_volume()
+    ensures { ConvexSolidsHaveVolume }
 {}
 
 /// If no vertex of a solid lies above a plane, and the solid is split, along whatever plane, then no vertex of either part lies above it.
@@ -31,10 +32,12 @@ pub fn parts_lie_apart()
     ensures { SplitPartsLieApart }
 {}
 
-/// Every other solid that was convex before a block or a split is convex after it.
+/// Every other solid that was convex before a block or a split is convex after it, and strictly convex if it was.
 pub fn others_stay_convex()
     ensures block { BlockKeepsConvex }
     ensures split { SplitLeavesConvex }
+    ensures strictly_block { BlockKeepsStrictlyConvex }
+    ensures strictly_split { SplitLeavesStrictlyConvex }
 {}
 
 /// If the half-edges of a face go round a vector, seen from some point, the face's normal points along it.

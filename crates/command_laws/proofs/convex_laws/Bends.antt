@@ -11,10 +11,11 @@ use Rattle.shapes.specs.Common.{block_conditions, base_of, finish, next_place, n
 use Rattle.shapes.proofs.Common.{at_most_greatest, same_is}
 use Rattle.undo_journal.specs.Machine.{Machine, held}
 use Rattle.command_laws.specs.Commands.{IsBlock}
-use Rattle.command_laws.specs.Convex.{BendsAway, BlocksBend}
+use Rattle.command_laws.specs.Convex.{BendsAway, BlocksAreConvex}
 use Rattle.command_laws.specs.NewFaces.{IsFaceOf, all_moved, area_to, last_face, nth, side_over, turned_back, up_by}
 use Rattle.command_laws.proofs.BlockFaces.{block_has_top_and_bottom, block_has_four_sides, block_takes_six_faces}
 use Rattle.command_laws.proofs.BlockFlat.{IsOneOf, no_older, one_of, sound_after}
+use Rattle.command_laws.proofs.convex_laws.Blocks.{block_convex}
 use Rattle.sweeps_laws.proofs.swept.Lifted.{IsPathOf}
 use Rattle.command_laws.proofs.Outlines.{points_are, ring_path}
 
@@ -374,5 +375,5 @@ module _ (before after : Machine) (s : ℕ) (p : Point) (dx dy dz : ℤ) (sound 
       ∙ (λ i. int_lt (pos 0) (dot (ways p dx dy dz r.0.from r.0.to i) (cross (faced p dx dy dz r.0.looks) (faced p dx dy dz t.0.looks))))
       ∙ way_back p dx dy dz sizes.0 sizes.1 sizes.2 (way r.0.from r.0.to) r.0.looks t.0.looks (sym (λ i. not (begins i && ends i) || on_axis (along r.0 t.0)) ∙ t.2)
 
-pub blocks_bend : BlocksBend
-blocks_bend before after s p dx dy dz sound made h half of = two_bend before after s p dx dy dz sound made h half of
+pub blocks_are_convex : BlocksAreConvex
+blocks_are_convex before after s p dx dy dz sound made = record { convex = block_convex before after s p dx dy dz sound made; bends = two_bend before after s p dx dy dz sound made }

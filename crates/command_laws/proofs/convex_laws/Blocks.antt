@@ -10,7 +10,7 @@ use Rattle.shapes.proofs.Common.{at_most_greatest}
 use Rattle.undo_journal.specs.Machine.{Machine, held}
 use Rattle.command_laws.specs.Commands.{IsBlock}
 use Rattle.command_laws.specs.NewFaces.{IsFaceOf, all_moved, last_face, nth, plane_round, side_over, turned_back, up_by}
-use Rattle.command_laws.specs.Convex.{BlocksAreConvex}
+use Rattle.command_laws.specs.Convex.{IsConvex}
 use Rattle.command_laws.proofs.BlockFaces.{block_has_top_and_bottom, block_has_four_sides, block_takes_six_faces}
 use Rattle.command_laws.proofs.BlockFlat as flat
 use Rattle.command_laws.proofs.BlockFlat.{IsOneOf, blocks_lie_flat, no_older, one_of}
@@ -275,8 +275,8 @@ module _ (before after : Machine) (s : ℕ) (p : Point) (dx dy dz : ℤ) (sound 
     | inl m ↦ one_fits k (one_of (last_face before) k m (subst (λ n. k ≤ n) (block_takes_six_faces before after s p dx dy dz sound made) (at_most_greatest (held after).faces k there)))
   ]
 
-pub blocks_are_convex : BlocksAreConvex
-blocks_are_convex before after s p dx dy dz sound made = record {
-  flat = λ k there of. (blocks_lie_flat before after s p dx dy dz sound made).flat k there of;
-  below = λ k there of v w. (all_fit before after s p dx dy dz sound made k there of).under (point_of (held after) v) ((all_fit before after s p dx dy dz sound made w.face w.there w.solid).inside v w.corner);
-}
+  pub block_convex : IsConvex (held after) s
+  block_convex = record {
+    flat = λ k there of. (blocks_lie_flat before after s p dx dy dz sound made).flat k there of;
+    below = λ k there of v w. (all_fit k there of).under (point_of (held after) v) ((all_fit w.face w.there w.solid).inside v w.corner);
+  }
