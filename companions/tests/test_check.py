@@ -1,5 +1,6 @@
 """`check` finds planted slips, each with the numbers concerned, and nothing where there is none."""
 
+import sys
 import tempfile
 import unittest
 from math import cos, sin, tau
@@ -9,9 +10,12 @@ from unittest.mock import patch
 
 from support import box, examples, lamina, listing, model_in, run, shells, turned
 
+from gwb.checks import check as checking
 from gwb.checks import near_pairs
 from gwb.checks.check import check
-from gwb.checks.patches import Patches, is_simple, patches
+from gwb.checks.patches import Patches, patches
+from gwb.checks.simple_paths import is_simple
+from gwb.checks.star_solids import is_star
 from gwb.geometry.measures import normal
 from gwb.protocol.listing import read_model
 
@@ -165,6 +169,91 @@ def random_boxes(random):
 def alone(model, normals):
     """Patches of one face each, none of which is taken for convex."""
     return Patches({face: face for face in normals}, dict.fromkeys(normals, False))
+
+
+def spindle(count, rounds=1, far=lambda place: 1_000_000, first=1):
+    """The points of a double cone, whose rim goes so many times round, and its faces. `far` is how far out each corner of the rim lies."""
+    ways = [tau * rounds * place / count for place in range(count)]
+    points = [(round(far(place) * cos(way)), round(far(place) * sin(way)), 0) for place, way in enumerate(ways)]
+    rim = [(first + place, first + (place + 1) % count) for place in range(count)]
+    up, down = first + count, first + count + 1
+    return [*points, (0, 0, 1_000_000), (0, 0, -1_000_000)], [face for a, b in rim for face in ([(a, b, up)], [(b, a, down)])]
+
+
+def cone(count):
+    """The points of a cone on a polygon of so many sides, some of which turn inwards, and its faces."""
+    points, faces = spindle(count)
+    return points[:-1], [*faces[::2], [tuple(range(count, 0, -1))]]
+
+
+def cylinder(count):
+    """The points of a cylinder of triangles, with tops that are fans round one corner, and its faces."""
+    rim = spindle(count)[0][:count]
+    low, high = [place + 1 for place in range(count)], [place + 1 + count for place in range(count)]
+    tops = [face for i in range(1, count - 1) for face in ([(low[0], low[i + 1], low[i])], [(high[0], high[i], high[i + 1])])]
+    walls = [face for i in range(count) for face in ([(low[i - 1], low[i], high[i])], [(low[i - 1], high[i], high[i - 1])])]
+    return rim + [(x, y, 1_000_000) for x, y, _ in rim], tops + walls
+
+
+def calls_of(work):
+    """How many calls of functions, and of built-in ones, something makes."""
+    count = 0
+
+    def seen(_frame, event, _argument):
+        nonlocal count
+        count += event in ('call', 'c_call')
+    sys.setprofile(seen)
+    try:
+        work()
+    finally:
+        sys.setprofile(None)
+    return count
+
+
+class Stars(unittest.TestCase):
+    """Solids whose faces are all seen from one point within aren't looked at by pairs."""
+
+    def is_star(self, points, faces):
+        model = model_in(listing(points, faces))
+        found = is_star(model, 1, {face: normal(model, face) for face in model.faces})
+        if found:
+            with patch.object(checking, 'is_star', lambda *_: False):
+                self.assertEqual(check(model).findings, [])
+        return found
+
+    def test_which_are(self):
+        low = spindle(12, 1, lambda place: (1_000_000, 300_000)[place % 2])
+        square = box((0, 0, 0), (4, 4, 4))
+        for name, solid, star in (
+                ('a block', square, True), ('a spindle', spindle(12), True), ('with a rim in and out', low, True), ('a cone', cone(300), True),
+                ('a cylinder', cylinder(30), True), ('a block inside out', (square[0], turned(square[1])), False),
+                ('a rim twice round', spindle(11, 2), False), ('a rim three times round', spindle(10, 3), False), ('a ring', ring(9, 7, 40, 20), False),
+                ('two blocks', (square[0] + box((9, 0, 0), (12, 4, 4))[0], square[1] + box((9, 0, 0), (12, 4, 4), 9)[1]), False),
+                ('a bent face', ([*square[0][:6], (4, 4, 5), square[0][7]], square[1]), False), ('a lamina', ([(0, 0, 0), (4, 0, 0), (0, 4, 0)], [[(1, 2, 3)], [(3, 2, 1)]]), False)):
+            with self.subTest(name):
+                self.assertEqual(self.is_star(*solid), star)
+
+    def test_random_ones(self):
+        random, found = Random(3), []
+        for _ in range(80):
+            least = random.randint(1, 20)
+            found.append(self.is_star(*spindle(random.randint(3, 12), random.choice((1, 1, 1, 2)), lambda _, least=least: random.randint(least, 20))))
+            points, faces = ring(4, 3, 9, 3)
+            found.append(self.is_star([tuple(part + random.randint(-2, 2) for part in point) for point in points], faces))
+        self.assertGreater(min(found.count(True), found.count(False)), 20)
+
+    def test_an_outline_that_meets_itself(self):
+        points = [(0, 0, 0), (8, 0, 0), (8, 8, 0), (4, 0, 0), (0, 8, 0), (4, 3, 9)]
+        rim = [1, 2, 3, 4, 5]
+        faces = [[tuple(reversed(rim))], *([(rim[place - 1], rim[place], 6)] for place in range(5))]
+        self.assertFalse(self.is_star(points, faces))
+        self.assertIn('touching: vertex 4 lies on edge 4', [str(finding) for finding in check(model_in(listing(points, faces))).findings])
+
+    def test_their_work_grows_as_their_faces(self):
+        for solid in (cone, cylinder):
+            few, many = (model_in(listing(*solid(count))) for count in (150, 600))
+            with self.subTest(solid.__name__):
+                self.assertLess(calls_of(lambda model=many: check(model)), 5 * calls_of(lambda model=few: check(model)))
 
 
 class PatchesOfFaces(unittest.TestCase):

@@ -2,7 +2,6 @@
 
 from typing import Dict, Iterator, List, NamedTuple, Optional
 
-from ..geometry.convexity import is_convex_solid
 from ..geometry.measures import normal
 from ..geometry.model import Model
 from ..geometry.vectors import ZERO
@@ -11,6 +10,7 @@ from .findings import Finding
 from .overlap_checks import overlap_findings, unfit_solids
 from .sliver_checks import sliver_findings
 from .solid_checks import SolidCheck
+from .star_solids import is_star
 
 
 class Report(NamedTuple):
@@ -36,7 +36,7 @@ def check(model: Model, between: bool = False, slivers: Optional[int] = None) ->
     are more than so many times as long as they are wide or thick."""
     normals = {face: normal(model, face) for face in model.faces}
     findings = [finding for face, across in normals.items() if across != ZERO for finding in face_findings(model, face, across)]
-    findings += [finding for solid in model.solids if not is_convex_solid(model, solid, normals)
+    findings += [finding for solid in model.solids if not is_star(model, solid, normals)
                  for finding in SolidCheck(model, solid, normals=normals).findings()]
     if slivers is not None:
         findings += sliver_findings(model, slivers)

@@ -5,7 +5,7 @@ A flat shell, such as a lamina, has faces back to back: what looks one way may l
 
 from fractions import Fraction
 from functools import cached_property
-from typing import AbstractSet, Dict, FrozenSet, Iterator, List, Mapping, Optional, Set, Tuple
+from typing import AbstractSet, Dict, FrozenSet, Iterator, List, Mapping, Optional, Sequence, Set, Tuple
 
 from ..errors import Unfit
 from ..geometry.box_index import Box, BoxIndex, box_of
@@ -201,16 +201,24 @@ class SolidCheck:
     def _faces_on_faces(self) -> Iterator[Finding]:
         """Faces of one plane where one has a point within the other; edges that cross or run along faces are found by then."""
         for faces in self._faces_by_planes():
-            boxes = {face: self._box(face) for face in faces}
-            index = BoxIndex(boxes)
-            for face in faces:
-                for other in sorted(index.meeting(boxes[face])):
-                    if other > face and not self._are_apart(face, other) and self._overlap(face, other):
-                        yield from self._overlapping(face, other)
+            for face, other in self._pairs_apart(faces):
+                if self._overlap(face, other):
+                    yield from self._overlapping(face, other)
 
-    def _are_apart(self, face: int, other: int) -> bool:
-        """Whether it is known that two faces don't lie on each other."""
-        return self._pairs.patch_of[face] == self._pairs.patch_of[other]
+    def _pairs_apart(self, faces: Sequence[int]) -> Iterator[Tuple[int, int]]:
+        """The pairs of these faces that are of two patches and whose boxes meet, the lesser one first, rising."""
+        patches: Dict[int, Dict[int, Box]] = {}
+        for face in faces:
+            patches.setdefault(self._pairs.patch_of[face], {})[face] = self._box(face)
+        if len(patches) == 1:
+            return
+        around = BoxIndex({patch: box_of(corner for box in held.values() for corner in zip(*box)) for patch, held in patches.items()})
+        within = {patch: BoxIndex(held) for patch, held in patches.items()}
+        for face in faces:
+            patch = self._pairs.patch_of[face]
+            box = patches[patch][face]
+            beside = (within[other] for other in around.meeting(box) if other != patch)
+            yield from sorted((face, other) for index in beside for other in index.meeting(box) if other > face)
 
     def _overlap(self, face: int, other: int) -> bool:
         return any(point is not None and self._shape(around).locate(point) is Place.INSIDE
