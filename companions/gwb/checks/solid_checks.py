@@ -213,12 +213,15 @@ class SolidCheck:
         if len(patches) == 1:
             return
         around = BoxIndex({patch: box_of(corner for box in held.values() for corner in zip(*box)) for patch, held in patches.items()})
-        within = {patch: BoxIndex(held) for patch, held in patches.items()}
+        within: Dict[int, BoxIndex[int]] = {}
         for face in faces:
             patch = self._pairs.patch_of[face]
-            box = patches[patch][face]
-            beside = (within[other] for other in around.meeting(box) if other != patch)
-            yield from sorted((face, other) for index in beside for other in index.meeting(box) if other > face)
+            box, found = patches[patch][face], []
+            for other in around.meeting(box):
+                if other != patch:
+                    within[other] = within.get(other) or BoxIndex(patches[other])
+                    found += [beside for beside in within[other].meeting(box) if beside > face]
+            yield from ((face, other) for other in sorted(found))
 
     def _overlap(self, face: int, other: int) -> bool:
         return any(point is not None and self._shape(around).locate(point) is Place.INSIDE
