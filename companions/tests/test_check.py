@@ -229,7 +229,8 @@ class Stars(unittest.TestCase):
                 ('a cylinder', cylinder(30), True), ('a block inside out', (square[0], turned(square[1])), False),
                 ('a rim twice round', spindle(11, 2), False), ('a rim three times round', spindle(10, 3), False), ('a ring', ring(9, 7, 40, 20), False),
                 ('two blocks', (square[0] + box((9, 0, 0), (12, 4, 4))[0], square[1] + box((9, 0, 0), (12, 4, 4), 9)[1]), False),
-                ('a bent face', ([*square[0][:6], (4, 4, 5), square[0][7]], square[1]), False), ('a lamina', ([(0, 0, 0), (4, 0, 0), (0, 4, 0)], [[(1, 2, 3)], [(3, 2, 1)]]), False)):
+                ('a bent face', ([*square[0][:6], (4, 4, 5), square[0][7]], square[1]), False),
+                ('a lamina', ([(0, 0, 0), (4, 0, 0), (0, 4, 0)], [[(1, 2, 3)], [(3, 2, 1)]]), False)):
             with self.subTest(name):
                 self.assertEqual(self.is_star(*solid), star)
 

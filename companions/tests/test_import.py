@@ -196,6 +196,21 @@ class Forms(InFiles):
         outcome = run('import', '--scale', '3', '--round', self.file(data))
         self.assertEqual((outcome.status, outcome.err), (0, 'gwb-import: points were moved by 0.5 at most\n'))
         self.assertEqual(run('import', '--scale', '0', self.file(data)).status, 2)
+
+    def test_noise(self):
+        noise = [('-4.44e-16', 0, 0), (6, '1e-6', 0), (0, 6, 0), (0, 0, 6)]
+        for points, within, told in ((noise, None, 'is not whole'), (noise, '0.0000009', 'the point 6 0.000001 0 is not whole: --scale'),
+                                     (noise, '0.000001', None), ([*noise[:3], ('1e-6', '1e-6', 6)], '0.000001', 'is not whole'),
+                                     ([*noise[:3], (0, 0, '5.5')], '0.1', 'is not whole')):
+            outcome = run('import', *(['--within', within] if within else []), self.file(off(points, SIDES)))
+            self.assertIn(told or 'gwb-import: points were moved by 0.000001 at most', outcome.err)
+            self.assertEqual(outcome.status, 3 if told else 0)
+        self.assertEqual(volumes(imported(self.file(off(noise, SIDES)), within=Fraction(1, 10 ** 6))), [216])
+        for word in ('0', '-1', 'x', '1/0'):
+            self.assertEqual(run('import', '--within', word, self.file(off(noise, SIDES))).status, 2, word)
+
+    def test_far_points(self):
+        data = off([(0, 0, 0), (0.5, 0, 0), (0, 0.5, 0), (0, 0, '5e-1')], SIDES)
         self.refuse('past 1,000,000,000', data, scale=Fraction(10 ** 10))
 
     def test_triangles_are_kept(self):

@@ -17,14 +17,16 @@ MOST_INEXACT = Fraction(1, 100)
 class Grid:
     """Points times a factor as whole ones, and the square of the greatest distance that one was moved."""
 
-    def __init__(self, scale: Exact, rounded: bool) -> None:
+    def __init__(self, scale: Exact, rounded: bool, within: Exact = 0) -> None:
+        """Points are rounded where `rounded` is set, or where they lie no farther than `within` beside a whole place."""
         self.square_moved: Exact = 0
         self._scale = scale
         self._rounded = rounded
+        self._within = within
 
     def whole(self, points: Sequence[ExactVector], accuracy: Exact) -> List[Vector]:
         """The points on the grid. Raises Unfit where one lies beside it by more than the file's accuracy and isn't to be rounded, or too far away."""
-        reach = min(accuracy * self._scale, MOST_INEXACT) ** 2
+        reach = max(min(accuracy * self._scale, MOST_INEXACT), self._within) ** 2
         return [self._on_grid(point, reach) for point in points]
 
     def _on_grid(self, point: ExactVector, square_reach: Exact) -> Vector:
@@ -39,6 +41,6 @@ class Grid:
         x, y, z = (round(part) for part in point)
         moved = (point[0] - x) ** 2 + (point[1] - y) ** 2 + (point[2] - z) ** 2
         if moved > square_reach and not self._rounded:
-            raise Unfit(f'the point {told_point(point)} is not whole: --scale multiplies, --round rounds')
+            raise Unfit(f'the point {told_point(point)} is not whole: --scale multiplies, --round rounds, --within D rounds what lies as near as D')
         self.square_moved = max(self.square_moved, moved)
         return (x, y, z)

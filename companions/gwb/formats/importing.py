@@ -14,21 +14,22 @@ MOST_BYTES = 300_000_000
 
 
 def imported(path: str, *, form: Optional[str] = None, scale: Exact = 1, rounded: bool = False,
-             keep_triangles: bool = False, repair: bool = False, flat: bool = False) -> Model:
+             keep_triangles: bool = False, repair: bool = False, flat: bool = False, within: Exact = 0) -> Model:
     """The model of the solids in a file of polygons. Raises CompanionError, with the place, where they aren't closed surfaces."""
-    return read_file(path, form=form, scale=scale, rounded=rounded, keep_triangles=keep_triangles, repair=repair, flat=flat).model
+    return read_file(path, form=form, scale=scale, rounded=rounded, keep_triangles=keep_triangles, repair=repair, flat=flat, within=within).model
 
 
 def read_file(path: Optional[str], *, form: Optional[str] = None, scale: Exact = 1, rounded: bool = False, keep_triangles: bool = False,
-              repair: bool = False, flat: bool = False, stage: Stage = lambda name: None) -> Imported:
+              repair: bool = False, flat: bool = False, stage: Stage = lambda name: None, within: Exact = 0) -> Imported:
     """As imported, with all that is to be said; `stage` is told what is being done. No path, or `-`, is standard input.
 
-    With `flat` what of a STEP file is no flat solid is left out, and named in what is wrong.
+    With `flat` what of a STEP file is no flat solid is left out, and named in what is wrong. Points no farther than `within` beside a whole place are
+    put there, whether or not points are rounded.
     """
     data = _read_bytes(path)
     parts = read_parts(data, form or form_of(data, path or ''), files_beside(path), flat)
     stage('joining faces')
-    return model_of_parts(parts, scale, rounded, keep_triangles, repair, stage)
+    return model_of_parts(parts, scale, rounded, keep_triangles, repair, stage, within)
 
 
 def _read_bytes(path: Optional[str]) -> bytes:

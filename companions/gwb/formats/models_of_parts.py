@@ -37,10 +37,10 @@ class Imported(NamedTuple):
 
 
 def model_of_parts(parts: Sequence[Part], scale: Exact, rounded: bool, keep_triangles: bool, repair: bool = False,
-                   stage: Stage = lambda name: None) -> Imported:
+                   stage: Stage = lambda name: None, within: Exact = 0) -> Imported:
     """The model with a solid for each part, for the parts of one named solid together, or for each outer shell where the file doesn't
     say which shells are a solid."""
-    work = _Work(scale, rounded, keep_triangles, repair)
+    work = _Work(Grid(scale, rounded, within), scale, keep_triangles, repair)
     held = [(part, surface) for part, surface in ((part, work.surface(number, part)) for number, part in enumerate(parts, 1))
             if surface is not None]
     model = model_of_surfaces([surface for _, surface in held])
@@ -59,8 +59,8 @@ def model_of_parts(parts: Sequence[Part], scale: Exact, rounded: bool, keep_tria
 class _Work:
     """Makes surfaces of parts, and gathers what is to be said."""
 
-    def __init__(self, scale: Exact, rounded: bool, keep_triangles: bool, repair: bool) -> None:
-        self.grid = Grid(scale, rounded)
+    def __init__(self, grid: Grid, scale: Exact, keep_triangles: bool, repair: bool) -> None:
+        self.grid = grid
         self._scale = scale
         self.wrong: List[str] = []
         self._keep_triangles, self._repair = keep_triangles, repair

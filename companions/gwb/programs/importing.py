@@ -18,14 +18,14 @@ from .progress import Progress
 PROGRAM = 'gwb-import'
 
 
-def _scale(word: str) -> Exact:
+def _above_zero(word: str) -> Exact:
     try:
-        scale = exact_or_ratio(word)
+        number = exact_or_ratio(word)
     except NotANumber as error:
         raise argparse.ArgumentTypeError(str(error)) from None
-    if scale <= 0:
+    if number <= 0:
         raise argparse.ArgumentTypeError(f'{word} is not above zero')
-    return scale
+    return number
 
 
 def _parser() -> argparse.ArgumentParser:
@@ -36,8 +36,10 @@ def _parser() -> argparse.ArgumentParser:
     parser.add_argument('file', nargs='?', metavar='FILE',
                         help='OFF, OBJ, STL, 3MF, PLY, AMF, or STEP with flat faces (default: standard input)')
     parser.add_argument('--form', choices=FORMS, help='the form of the file (default: what it looks like)')
-    parser.add_argument('--scale', type=_scale, default=1, metavar='K', help='multiply coordinates, by 1000 or 1/2 say')
+    parser.add_argument('--scale', type=_above_zero, default=1, metavar='K', help='multiply coordinates, by 1000 or 1/2 say')
     parser.add_argument('--round', action='store_true', help='round coordinates, and say how far a point was moved at most')
+    parser.add_argument('--within', type=_above_zero, default=0, metavar='D',
+                        help='round a point that lies no farther than D, by 0.000001 say, from whole coordinates')
     parser.add_argument('--keep-triangles', action='store_true', help="don't join faces of one plane")
     parser.add_argument('--repair', action='store_true',
                         help='cut bent faces into triangles, drop faces without an area and doubled ones, turn those that run the wrong way')
@@ -51,7 +53,7 @@ def work(words: Optional[Sequence[str]]) -> int:
     options = _parser().parse_args(words)
     with Progress(PROGRAM) as progress:
         found = read_file(options.file, form=options.form, scale=options.scale, rounded=options.round,
-                          keep_triangles=options.keep_triangles, repair=options.repair, flat=options.flat, stage=progress.stage)
+                          keep_triangles=options.keep_triangles, repair=options.repair, flat=options.flat, stage=progress.stage, within=options.within)
         progress.stage('writing')
         lines = [*comments(found.looks), *script_of(found.model)]
     _say(found, options.round)
