@@ -3,8 +3,8 @@
 
     tests/pages.py [--write]
 
-Compares it with what is made from them, and lets mandoc look at it where that is installed; --write first makes it anew. The last line
-counts.
+Compares it with what is made from them, looks whether something stands below each heading, and lets mandoc look at it where that is installed;
+--write first makes it anew. The last line counts.
 """
 import re
 import shutil
@@ -22,9 +22,6 @@ DATE = '2026-11-28'
 SECTIONS = {'Words': 'WORDS', 'Commands': 'COMMANDS', 'Fresh numbers': 'FRESH NUMBERS', 'Replies': 'REPLIES', 'Faults': 'FAULTS',
             'Refusals': 'REFUSALS', 'Limits': 'LIMITS', 'Statuses': 'EXIT STATUS'}
 _MARKED = re.compile(r'`([^`]+)`|\*(\w[^*]*)\*|\[([^]]+)\]\([^)]*\)')
-# What ends a paragraph before a script, and paragraphs that are about the script alone.
-_LEAD = re.compile(r'\s*(?:From|In) (?:nothing|the \w+):$')
-_LEADING = re.compile(r':$|from nothing:')
 
 
 def plain(text: str) -> str:
@@ -56,15 +53,14 @@ def table(rows: List[str]) -> Iterator[str]:
     """The rows of a table: the first cell stands before the others, each of which is named but the first of them."""
     heads, _, *cells = [[cell.strip() for cell in row.strip('|').split(' | ')] for row in rows]
     for first, *others in cells:
-        told = [inline(others[0]), *(f'{inline(head)}: {inline(cell)}' for head, cell in zip(heads[2:], others[1:]))]
+        told = [inline(others[0]), *(f'{inline(head)}: {inline(cell)}' for head, cell in zip(heads[2:], others[1:]) if cell)]
         yield from ('.TP', inline(first), filled('. '.join(told)))
 
 
 def paragraphs(section: str) -> Iterator[str]:
-    """The paragraphs, lists, tables and headings of a section in roff, without its scripts and pictures and what leads to them."""
-    parts = re.split(r'\n{2,}', re.sub(r'^```.*?^```$', '![', section, flags=re.MULTILINE | re.DOTALL).strip())
+    """The paragraphs, lists, tables, headings and scripts of a section in roff, without its pictures and what leads to them."""
+    parts = re.split(r'\n{2,}', section.strip())
     for part, after in zip(parts, [*parts[1:], '']):
-        text = _LEAD.sub('', part)
         if part.startswith('|'):
             yield from table(part.split('\n'))
         elif part.startswith('###'):
@@ -72,26 +68,16 @@ def paragraphs(section: str) -> Iterator[str]:
         elif part.startswith('- '):
             for item in re.split(r'^- ', part, flags=re.MULTILINE)[1:]:
                 yield from ('.IP \\(bu 2', filled(inline(item)))
-        elif text and not text.startswith(('![', '[MODEL.md]')) and not (after.startswith('![') and _LEADING.search(text)):
-            yield from ('.PP', filled(inline(text)))
+        elif part.startswith('```'):
+            yield from ('.PP', '.EX', *map(plain, part.split('\n')[1:-1]), '.EE')
+        elif not part.startswith('![') and not (after.startswith('![') and part.endswith(':')):
+            yield from ('.PP', filled(inline(part)))
 
 
 def sections() -> Dict[str, str]:
     """The text of each section of docs/SCRIPT.md by its heading."""
     _, *parts = re.split(r'^## ', (TOP / 'docs' / 'SCRIPT.md').read_text(), flags=re.MULTILINE)
     return dict(part.split('\n', 1) for part in parts)
-
-
-def commands_alone(section: str) -> str:
-    """The section of commands without the models that its scripts begin with."""
-    lead, *commands = section.split('\n### ')
-    rules = [part for part in lead.split('\n\n') if part.strip().startswith('Each command has')]
-    return '\n\n'.join([*rules, *(f'### {command.replace(chr(10), chr(10) * 2, 1)}' for command in commands)])
-
-
-def worked(section: str, command: str) -> str:
-    """The first script of a command, with its replies."""
-    return section.split(f'\n### `{command} ')[1].split('```gwb\n')[1].split('\n```')[0]
 
 
 def options(source: str) -> Iterator[str]:
@@ -108,7 +94,6 @@ def manual() -> str:
     about = re.search(r'ABOUT: &str =\s*"The Geometric WorkBench: (.*)";', source).group(1)
     example = re.search(r'^Example:\n +(.*)";$', source, re.MULTILINE).group(1).replace('\\\\', '\\')
     found = sections()
-    found['Commands'] = commands_alone(found['Commands'])
     lines = [f'.TH GWB 1 "{DATE}" "gwb {(TOP / "VERSION").read_text().strip()}" "User Commands"',
              '.\\" Made by tests/pages.py --write from the help text and docs/SCRIPT.md; edit nothing here.',
              '.SH NAME', 'gwb \\- the Geometric WorkBench, a proved modeller of solids',
@@ -118,9 +103,7 @@ def manual() -> str:
     for heading, name in SECTIONS.items():
         lines += [f'.SH {name}', *paragraphs(found[heading])]
     beside = ', '.join(f'\\fB{plain(name)}\\fR' for name in companions())
-    lines += ['.SH EXAMPLES', '.EX', plain(example), '.EE', '.PP', 'A block is cut in two. The reply stands behind each command.', '.PP',
-              '.EX', plain(worked(sections()['Commands'], 'split')), '.EE',
-              '.SH FILES', '.TP', '.I share/doc/gwb', 'below the folder that has bin/gwb: the pages that are named here, and examples.', '.SH SEE ALSO',
+    lines += ['.SH EXAMPLES', 'A wire of one edge is made and listed:', '.PP', '.EX', plain(example), '.EE', '.SH FILES', '.TP', '.I share/doc/gwb', 'below the folder that has bin/gwb: the pages that are named here, and examples.', '.SH SEE ALSO',
               filled(f'The companions, which read what gwb writes, and say with \\fB\\-\\-help\\fR what they do: {beside}.')]
     return tidy(lines)
 
@@ -146,6 +129,8 @@ def tidy(lines: List[str]) -> str:
 def findings() -> Iterator[str]:
     """For each comparison what is wrong, or nothing."""
     yield '' if MANUAL.exists() and MANUAL.read_text() == manual() else 'docs/gwb.1 is not the one that --write makes'
+    bare = re.findall(r'^\.S[SH] (.*)\n\.S[SH] ', manual(), re.MULTILINE)
+    yield f'docs/gwb.1: nothing stands below {", ".join(bare)}' if bare else ''
     if shutil.which('mandoc'):
         done = subprocess.run(['mandoc', '-T', 'lint', '-W', 'warning', str(MANUAL)], capture_output=True, text=True)
         yield '' if done.returncode == 0 else done.stdout.strip()
