@@ -24,7 +24,7 @@ ghost use Rattle.std.specs.Prelude.{◌≡◌, ◌≢◌, ◌+ℤ◌, pos, Ok, E
 ghost use Rattle.euler_operators.specs.Common.{Has};
 ghost use Rattle.sweeps.specs.Measure.{six_volume};
 ghost use Rattle.sweeps.specs.PlainMachine.{held};
-ghost use Rattle.command_laws.specs.Flat.{IsClosedFlat};
+ghost use Rattle.gluing.specs.Flat.{IsClosedFlat};
 ghost use Rattle.command_laws.specs.NewFaces.{IsFaceOf};
 ghost use Rattle.block_machining.specs.Machines.{alone, bar, parted, joined_again, near_side, far_side, three_blocks, standing, HasSolids, LieOnEitherSide};
 

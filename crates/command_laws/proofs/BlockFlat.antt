@@ -12,7 +12,8 @@ use Rattle.sweeps_laws.proofs.BlockOps.{blocks_are_sound}
 use Rattle.undo_journal.specs.Machine.{Machine, held}
 use Rattle.command_laws.specs.Commands.{IsBlock}
 use Rattle.command_laws.specs.NewFaces.{IsFaceOf, all_moved, last_face, nth, side_over, turned_back, up_by}
-use Rattle.command_laws.specs.Flat.{lie_flat, IsClosedFlat, BlocksLieFlat, BlockKeepsFlat}
+use Rattle.gluing.specs.Flat.{IsClosedFlat}
+use Rattle.command_laws.specs.Flat.{lie_flat, BlocksLieFlat, BlockKeepsFlat}
 use Rattle.command_laws.specs.LeftAlone.{StandsAsBefore}
 use Rattle.command_laws.proofs.BlockFaces.{block_has_top_and_bottom, block_has_four_sides, block_takes_six_faces}
 use Rattle.command_laws.proofs.Kept.{block_keeps_faces}

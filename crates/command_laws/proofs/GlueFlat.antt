@@ -16,7 +16,8 @@ use Rattle.gluing_laws.proofs.glue.Glued.{glued_sound}
 use Rattle.undo_journal.specs.Machine.{held}
 use Rattle.command_laws.specs.RingedFaces.{loop_points}
 use Rattle.command_laws.specs.TakenOver.{AreTurned}
-use Rattle.command_laws.specs.Flat.{IsClosedFlat, GluesLieFlat, GlueKeepsFlat}
+use Rattle.gluing.specs.Flat.{IsClosedFlat}
+use Rattle.command_laws.specs.Flat.{GluesLieFlat, GlueKeepsFlat}
 use Rattle.command_laws.proofs.OnFaces.{loop_in_face}
 use Rattle.command_laws.proofs.Turned.{IsTurned, rewritten_turned, turned_over}
 

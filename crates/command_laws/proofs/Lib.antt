@@ -17,8 +17,8 @@ pub mod Owners
 pub mod Standing
 pub mod Turned
 mod LyingFlat
-mod BlockFlat
-mod GlueFlat
+pub mod BlockFlat
+pub mod GlueFlat
 pub mod Inner
 mod splits_laws
 mod caps_laws

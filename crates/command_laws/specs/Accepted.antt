@@ -3,10 +3,10 @@ use Rattle.std.specs.Prelude.{◌≡◌, ◌≢◌, ℕ, ℤ, pos, int_le, true,
 use Rattle.euler_operators.specs.Common.{Point, is_in_range, moved, is_number, Sound}
 use Rattle.euler_operators.specs.Table as table
 use Rattle.shapes.specs.Common.{AreLeft, taken_in, vector, has_repeats, is_rotation}
+use Rattle.gluing.specs.Flat.{IsClosedFlat}
 use Rattle.gluing.specs.Machine.{glue_refusal}
 use Rattle.sweeps.specs.Machine.{block_refusal}
 use Rattle.undo_journal.specs.Machine.{Machine, held}
-use Rattle.command_laws.specs.Flat.{IsClosedFlat}
 use Rattle.command_laws.specs.NewFaces.{IsFaceOf}
 
 -- the number is new, the sizes are at least 1, both corners are in range, and numbers are left

@@ -1,9 +1,10 @@
 -- Faces that lie flat, told by the points of their corners.
 use Rattle.std.specs.Prelude.{◌≡◌, ◌≢◌, ℕ, ℤ, Bool, true, false, not, ◌&&◌, List}
 use Rattle.std.specs.List.{list_all}
-use Rattle.euler_operators.specs.Common.{Plane, Point, origin, cross, same_point, is_on, direction, Model, content, face_of, solid_of, Sound, Has, is_lone}
+use Rattle.euler_operators.specs.Common.{Plane, Point, origin, cross, same_point, is_on, direction, Model, solid_of, Sound, Has}
 use Rattle.shapes.specs.Common.{corners, is_flat, is_plane_of, normal, towards}
 use Rattle.undo_journal.specs.Machine.{Machine, held}
+use Rattle.gluing.specs.Flat.{IsClosedFlat}
 use Rattle.command_laws.specs.Commands.{IsBlock, IsSweep, IsGlue}
 use Rattle.command_laws.specs.NewFaces.{IsFaceOf, plane_round, side_over}
 
@@ -26,11 +27,6 @@ SidesLieFlat = (d a b : Point) → cross (towards a b) d ≢ origin → lie_flat
 -- a face that was swept, with or without rings, is flat exactly if it was flat before
 abbrev pub FarFacesLieFlat : Type 0
 FarFacesLieFlat = (before after : Machine) (f : ℕ) (d : Point) → Sound (held before) → IsSweep before after f d → is_flat (held after) f ≡ is_flat (held before) f
-
--- all faces of solid s are flat, and none of their loops is a lone vertex
-pub record IsClosedFlat (M : Model) (s : ℕ) : Type 0 where
-  pub flat : (k : ℕ) → Has M.faces k → solid_of M k ≡ s → is_flat M k ≡ true
-  pub closed : (l : ℕ) → Has M.loops l → solid_of M (face_of M l) ≡ s → is_lone (content M l) ≡ false
 
 -- a new block is closed and flat
 abbrev pub BlocksLieFlat : Type 0

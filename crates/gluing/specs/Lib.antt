@@ -1,5 +1,6 @@
 pub mod glue_checks
 pub mod Rims
+pub mod Flat
 pub mod Measures
 pub mod Machine
 pub mod Calls

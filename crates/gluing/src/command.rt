@@ -1,5 +1,5 @@
 //! The glue of two faces, as one command.
-ghost use Rattle.std.specs.Prelude.{◌≡◌, None, Some, Err, OnOk, OnErr};
+ghost use Rattle.std.specs.Prelude.{◌≡◌, None, Some, Err, IfSome, OnOk, OnErr};
 ghost use Rattle.std.specs.declared.alloc.AllocError.{AllocError};
 ghost use Rattle.euler_operators.specs.declared.Refusal.{Refusal};
 ghost use Rattle.euler_conditions.specs.Ready.{IsReady};
@@ -8,6 +8,7 @@ ghost use Rattle.shapes.specs.glue.Glue as spec;
 ghost use Rattle.shapes.specs.Common.{glue_model};
 ghost use Rattle.undo_journal.specs.Journal.{IsRecorded, IsFurther};
 ghost use Rattle.undo_journal.specs.Machine.{held};
+ghost use Rattle.gluing.specs.Flat.{IsClosedFlat};
 ghost use Rattle.gluing.specs.glue_checks.Conditions.{early_refusal};
 ghost use Rattle.gluing.specs.Machine.{glue, glue_refusal};
 
@@ -18,13 +19,14 @@ use std::alloc::Global;
 use undo_journal::{Draft, Failure, Session};
 
 /// Whether the other face can be glued to face f, and if not, why.
-fn admit(alloc: Global, arena: &Arena, f: u32, other: u32) -> Result<(), Failure>
-    requires { IsReady arena.now }
+fn admit(alloc: Global, arena: &Arena, f: u32, other: u32, flat: Option<u32>) -> Result<(), Failure>
+    requires ready { IsReady arena.now }
+    requires flat { IfSome flat (IsClosedFlat arena.now.model) }
     ensures ok { OnOk result (spec.glue_refusal arena.now.model f other ≡ None) }
     ensures refused { (refusal : Refusal) → (result ≡ Err (Failure.Refused refusal)) → (spec.glue_refusal arena.now.model f other ≡ Some refusal) }
     ensures memory { (error : AllocError) → (result ≡ Err (Failure.Memory error)) → (early_refusal arena.now.model f other ≡ None) }
 {
-    match check_glue(alloc, arena, f, other) {
+    match check_glue(alloc, arena, f, other, flat) {
         Ok(Ok(())) => Ok(()),
         Ok(Err(refusal)) => Err(Failure::Refused(refusal)),
         Err(error) => Err(Failure::Memory(error)),
@@ -40,7 +42,7 @@ pub fn glue_in(alloc: Global, draft: &mut Draft, f: u32, other: u32) -> Result<(
     ensures further { IsFurther draft.old draft.new }
     ensures err { OnErr result (draft.new ≡ draft.old) }
 {
-    if let Err(failure) = admit(alloc, draft.arena(), f, other) {
+    if let Err(failure) = admit(alloc, draft.arena(), f, other, None) {
         return Err(failure);
     }
     match try_join(draft, f, other) {
@@ -73,7 +75,28 @@ pub fn glue(alloc: Global, session: Session, f: u32, other: u32) -> (Session, Re
     ensures memory { (error : AllocError) → (result.1 ≡ Err (Failure.Memory error)) → (early_refusal (held session.machine) f other ≡ None) }
     ensures err { OnErr result.1 (result.0 ≡ session) }
 {
-    if let Err(failure) = admit(alloc, session.arena(), f, other) {
+    glue_with_flat(alloc, session, f, other, None)
+}
+
+/// A glue as `glue` makes it. If a solid is given that is known to be closed and flat, none of its faces is looked at for lone loops and bent
+/// faces.
+pub fn glue_with_flat(
+    alloc: Global,
+    session: Session,
+    f: u32,
+    other: u32,
+    flat: Option<u32>,
+) -> (Session, Result<(), Failure>)
+    requires flat { IfSome flat (IsClosedFlat (held session.machine)) }
+    ensures sound { Sound (held session.machine) }
+    ensures stays_sound { Sound (held result.0.machine) }
+    ensures ok { OnOk result.1 ((glue_refusal session.machine f other ≡ None) × (result.0.machine ≡ glue session.machine f other)) }
+    ensures recorded { OnOk result.1 (IsRecorded session result.0) }
+    ensures refused { (refusal : Refusal) → (result.1 ≡ Err (Failure.Refused refusal)) → (glue_refusal session.machine f other ≡ Some refusal) }
+    ensures memory { (error : AllocError) → (result.1 ≡ Err (Failure.Memory error)) → (early_refusal (held session.machine) f other ≡ None) }
+    ensures err { OnErr result.1 (result.0 ≡ session) }
+{
+    if let Err(failure) = admit(alloc, session.arena(), f, other, flat) {
         return (session, Err(failure));
     }
     let mut draft = match Draft::open(session) {

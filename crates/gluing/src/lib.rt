@@ -10,8 +10,8 @@
 //! then it is one command of the machine with exactly the written model, and leaves one record. It is refused only with the first false
 //! condition and its value. Otherwise the answer is `Memory`. It may come in place of a refusal, but only of one by a condition that is
 //! tested after memory is asked for (`early_refusal`). On any failure the session is as it was, and the models ahead are kept. The models
-//! held before and after are sound. No operator inside is ever refused. `glue_measures`: the six volumes of each solid of the session after
-//! a glue.
+//! held before and after are sound. No operator inside is ever refused. `glue_with_flat` does the same, and looks at no face of a solid that
+//! is known to be closed and flat. `glue_measures`: the six volumes of each solid of the session after a glue.
 
 mod command;
 mod glue_checks;
@@ -19,7 +19,7 @@ mod joining;
 mod laws;
 mod rims;
 
-pub use command::{glue, glue_in};
+pub use command::{glue, glue_in, glue_with_flat};
 pub use euler_operators::Kind;
 pub use gluing_laws::{glues_add, glues_make_glued};
 pub use laws::{glue_measures, glues_are_calls};

@@ -1,16 +1,17 @@
 //! The conditions of a glue, in the order in which they are tested.
-ghost use Rattle.std.specs.Prelude.{◌≡◌, true, false, None, IfOk, OnErr};
-ghost use Rattle.euler_operators.specs.Common.{content, outer, first_refusal, has_rings, is_lone, verdict};
+ghost use Rattle.std.specs.Prelude.{◌≡◌, true, false, None, IfOk, IfSome, OnErr};
+ghost use Rattle.euler_operators.specs.Common.{content, outer, faces_of, first_refusal, has_rings, is_lone, verdict};
 ghost use Rattle.euler_conditions.specs.Ready.{IsReady};
 ghost use Rattle.euler_conditions.specs.Store.{has_number};
 ghost use Rattle.shapes.specs.Common.{face_conditions, faces_are_flat, faces_of_both, glue_refusal, outline_conditions};
+ghost use Rattle.gluing.specs.Flat.{IsClosedFlat};
 ghost use Rattle.gluing.specs.glue_checks.Conditions.{early_refusal};
 
 use crate::glue_checks::outlines::{backwards, has_repeats, is_rotation};
 use crate::rims::outline;
 use euler_conditions::Arena;
 use euler_operators::{Kind, Refusal, Why, is_number, refused};
-use solid_measure::{least_bent_of_both, least_lone_of_both};
+use solid_measure::{least_bent, least_bent_of_both, least_lone, least_lone_of_both};
 use solid_walks::{check_left, counters_of};
 use std::alloc::{AllocError, Global};
 
@@ -53,8 +54,22 @@ fn check_faces(arena: &Arena, f: u32, other: u32) -> Result<(), Refusal>
     Ok(())
 }
 
+/// Whether a solid has no lone loop, and only flat faces.
+fn check_solid(arena: &Arena, s: u32) -> Result<(), Refusal>
+    requires { IsReady arena.now }
+    ensures { result ≡ verdict (first_refusal (faces_are_flat arena.now.model (faces_of arena.now.model s))) }
+{
+    if let Some(lone) = least_lone(arena, s) {
+        return refused(Why::LoneLoop, lone);
+    }
+    if let Some(bent) = least_bent(arena, s) {
+        return refused(Why::NotFlat, bent);
+    }
+    Ok(())
+}
+
 /// Whether the two solids have no lone loop, and only flat faces.
-fn check_solids(arena: &Arena, s: u32, other: u32) -> Result<(), Refusal>
+fn check_both(arena: &Arena, s: u32, other: u32) -> Result<(), Refusal>
     requires { IsReady arena.now }
     ensures { result ≡ verdict (first_refusal (faces_are_flat arena.now.model (faces_of_both arena.now.model s other))) }
 {
@@ -65,6 +80,19 @@ fn check_solids(arena: &Arena, s: u32, other: u32) -> Result<(), Refusal>
         return refused(Why::NotFlat, f);
     }
     Ok(())
+}
+
+/// Whether the two solids have no lone loop, and only flat faces. It looks at no face of the solid that is known to be closed and flat.
+fn check_solids(arena: &Arena, s: u32, other: u32, flat: Option<u32>) -> Result<(), Refusal>
+    requires ready { IsReady arena.now }
+    requires flat { IfSome flat (IsClosedFlat arena.now.model) }
+    ensures { result ≡ verdict (first_refusal (faces_are_flat arena.now.model (faces_of_both arena.now.model s other))) }
+{
+    match flat {
+        Some(known) if known == s => check_solid(arena, other),
+        Some(known) if known == other => check_solid(arena, s),
+        _ => check_both(arena, s, other),
+    }
 }
 
 /// Whether no point stands twice in the outlines of the two faces, and the outlines lie on one another.
@@ -102,15 +130,17 @@ fn check_outlines(
 /// equal points; NoMatch with the other, where its points, read backwards, are no rotation of those of f; NumbersSpent with 4, where no
 /// number is left for an edge.
 ///
-/// It looks once at each face of the two solids, and takes n log n steps for n corners of the two faces. If memory is refused, the answer
-/// is `AllocError`; none is asked for before the conditions up to NotFlat hold.
+/// It looks once at each face of the two solids, but at none of the solid that is known to be closed and flat, and takes n log n steps for n
+/// corners of the two faces. If memory is refused, the answer is `AllocError`; none is asked for before the conditions up to NotFlat hold.
 pub(crate) fn check_glue(
     alloc: Global,
     arena: &Arena,
     f: u32,
     other: u32,
+    flat: Option<u32>,
 ) -> Result<Result<(), Refusal>, AllocError>
-    requires { IsReady arena.now }
+    requires ready { IsReady arena.now }
+    requires flat { IfSome flat (IsClosedFlat arena.now.model) }
     ensures checked { IfOk result (λ checked. checked ≡ verdict (glue_refusal arena.now.model f other)) }
     ensures memory { OnErr result (early_refusal arena.now.model f other ≡ None) }
 {
@@ -118,7 +148,7 @@ pub(crate) fn check_glue(
     if faces.is_err() {
         return Ok(faces);
     }
-    let solids = check_solids(arena, arena.solid_of(f), arena.solid_of(other));
+    let solids = check_solids(arena, arena.solid_of(f), arena.solid_of(other), flat);
     if solids.is_err() {
         return Ok(solids);
     }

@@ -26,12 +26,12 @@ passed c = let M = c.args.arena.now.model in (
 pub check_outlines-requires-clause-first_held : goal.check_outlines-requires-clause-first_held
 check_outlines-requires-clause-first_held c =
     let p = passed (goal.at.check_outlines-requires-clause-first_held c).Else-is_err-2 in
-    first_held _ _ _ p.0 p.1 c.requires.sound
+    first_held _ _ _ p.0 p.1 c.requires.ready.sound
 
 pub check_outlines-requires-clause-second_held : goal.check_outlines-requires-clause-second_held
 check_outlines-requires-clause-second_held c =
     let p = passed (goal.at.check_outlines-requires-clause-second_held c).Else-is_err-2 in
-    second_held _ _ _ p.0 p.1 c.requires.sound
+    second_held _ _ _ p.0 p.1 c.requires.ready.sound
 
 pub returns-then-is_err-3-clause-checked : goal.returns-then-is_err-3-clause-checked
 returns-then-is_err-3-clause-checked c =

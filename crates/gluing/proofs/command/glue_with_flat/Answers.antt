@@ -6,7 +6,7 @@ use Rattle.undo_journal.specs.Machine.{accepted}
 use Rattle.undo_journal.proofs.Marks.{further_recorded, further_session}
 use Rattle.gluing.specs.glue_checks.Conditions.{early_refusal}
 use Rattle.gluing.proofs.glue_checks_laws.Conditions.{none_early}
-use Rattle.gluing.proofs.command.glue.Goals as goal
+use Rattle.gluing.proofs.command.glue_with_flat.Goals as goal
 
 pub returns-in-Err-clause-refused : goal.returns-in-Err-clause-refused
 returns-in-Err-clause-refused c = λ refusal is. sym (λ i. shapes.glue_refusal (c.arena.ensures.model i) c.args.f c.args.other) ∙ c.in-Err.ensures.refused refusal is
