@@ -1,3 +1,4 @@
 pub mod Settling
 pub mod Kept
 pub mod Calls
+mod Knowing

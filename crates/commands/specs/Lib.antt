@@ -1,4 +1,5 @@
 pub mod Common
 pub mod Changes
+pub mod Known
 pub mod Telling
 pub mod Calls

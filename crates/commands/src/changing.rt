@@ -1,9 +1,10 @@
 //! A change as one command of a session.
+ghost use Rattle.commands.specs.Known.{IsKnown};
 ghost use Rattle.commands.specs.Telling.{TellsSession, told_of};
 
 use crate::command::{Change, Command};
 use euler_operators::{Op, Point};
-use gluing::glue;
+use gluing::glue_with_flat;
 use plane_split::split;
 use std::alloc::Global;
 use sweeps::{block, lamina, sweep};
@@ -11,7 +12,7 @@ use undo_journal::{Failure, Session};
 
 /// Gives a session an operator without moving it. It does what `change` does.
 #[inline(always)]
-pub fn act_on_session(session: &mut Session, op: Op) -> Result<(), Failure>
+pub(crate) fn act_on_session(session: &mut Session, op: Op) -> Result<(), Failure>
     ensures { TellsSession session.old (Command.Change (Change.Act op)) (told_of result) session.new }
 {
     session.act(op)
@@ -58,7 +59,15 @@ fn make_split(
 
 /// Makes a change one command of the session. A refusal is that of the command that the change names. On any failure the session is as it
 /// was, with its records. An accepted change leaves one record.
-pub fn change(alloc: Global, session: Session, change: Change<'_>) -> (Session, Result<(), Failure>)
+///
+/// A glue looks at no face of the solid that is known to be closed and flat.
+pub(crate) fn change_session(
+    alloc: Global,
+    session: Session,
+    flat: Option<u32>,
+    change: Change<'_>,
+) -> (Session, Result<(), Failure>)
+    requires { IsKnown session flat }
     ensures { TellsSession session (Command.Change change.entry) (told_of result.1) result.0 }
 {
     match change {
@@ -68,7 +77,7 @@ pub fn change(alloc: Global, session: Session, change: Change<'_>) -> (Session, 
             make_block(alloc, session, solid, corner, dx, dy, dz)
         }
         Change::Sweep(face, way) => sweep(alloc, session, face, way),
-        Change::Glue(face, other) => glue(alloc, session, face, other),
+        Change::Glue(face, other) => glue_with_flat(alloc, session, face, other, flat),
         Change::Split(solid, a, b, c, d, above) => {
             make_split(alloc, session, solid, a, b, c, d, above)
         }

@@ -2,30 +2,32 @@
 //! Commands: the one way in which an operator, a larger command, a question, undo, redo and a draft reach a session.
 //!
 //! `command` defines commands and their answers. `changing` makes a change one command of a session, and `drafting` makes it steps of a
-//! draft; `asking` answers a question. `stage` holds a session or a draft of its next command, and `making` makes calls of any kind on it.
+//! draft; `asking` answers a question. `known` holds a session and a solid of it that is known to be closed and flat; `stage` holds that or
+//! a draft of its next command, and `making` makes calls of any kind on it.
 //!
 //! # What is proved
 //!
 //! A change is an operator or a larger command. It has one first false condition and one model that it makes (`refusal_of`, `made`), both
-//! as a command of a session and as steps of a draft. `change` and `change_in` do one of three things: they make that model, if nothing
-//! refuses the change; they name its first false condition; or they answer that memory was refused, which happens only if the conditions
-//! hold that are tested before memory is asked for (`MayLack`). On any failure session and draft are as they were, with their records and
-//! steps. `make`: one relation, `Tells`, says how a call on a session or a draft is answered, and to which session or draft it leads; each
-//! session and draft on the way is whole. `commands_are_calls`: a command to a session is one call of a history.
+//! as a command of a session and as steps of a draft. `KnownSession::change` and `change_in` do one of three things: they make that
+//! model, if nothing refuses the change; they name its first false condition; or they answer that memory was refused, which happens only
+//! if the conditions hold that are tested before memory is asked for (`MayLack`). On any failure session and draft are as they were, with
+//! their records and steps. `make`: one relation, `Tells`, says how a call on a session or a draft is answered, and to which session or
+//! draft it leads; each session and draft on the way is whole. `commands_are_calls`: a command to a session is one call of a history.
 
 mod asking;
 mod changing;
 mod command;
 mod drafting;
+mod known;
 mod laws;
 mod making;
 mod points;
 mod stage;
 
 pub use asking::ask;
-pub use changing::{act_on_session, change};
 pub use command::{Call, Change, Command, Question, Told, outcome};
 pub use drafting::change_in;
+pub use known::KnownSession;
 pub use laws::commands_are_calls;
 pub use making::{act, give, give_in, make, moved};
 pub use points::Points;

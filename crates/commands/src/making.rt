@@ -3,13 +3,13 @@ ghost use Rattle.std.specs.Prelude.{◌≡◌};
 ghost use Rattle.commands.specs.Telling.{Tells, TellsSession, TellsDraft, IsWhole, told_of, told_of_move};
 
 use crate::asking::ask;
-use crate::changing::{act_on_session, change};
 use crate::command::{Call, Change, Command, Told, outcome};
 use crate::drafting::{act_on_draft, change_in};
+use crate::known::KnownSession;
 use crate::stage::{OpenDraft, Stage};
 use euler_operators::{Op, Refusal};
 use std::alloc::Global;
-use undo_journal::{Draft, Failure, Session};
+use undo_journal::{Draft, Failure};
 
 /// The answer to an undo or redo that ended with this result.
 pub fn moved(ended: Result<(), Refusal>) -> Told
@@ -21,7 +21,7 @@ pub fn moved(ended: Result<(), Refusal>) -> Told
     }
 }
 
-fn undo(session: Session) -> (Session, Told)
+fn undo(session: KnownSession) -> (KnownSession, Told)
     ensures { TellsSession session Command.Undo result.1 result.0 }
 {
     let mut session = session;
@@ -29,7 +29,7 @@ fn undo(session: Session) -> (Session, Told)
     (session, moved(ended))
 }
 
-fn redo(session: Session) -> (Session, Told)
+fn redo(session: KnownSession) -> (KnownSession, Told)
     ensures { TellsSession session Command.Redo result.1 result.0 }
 {
     let mut session = session;
@@ -38,16 +38,16 @@ fn redo(session: Session) -> (Session, Told)
 }
 
 /// Gives a session a command. A command that isn't done leaves the session as it was, with its records.
-pub fn give(alloc: Global, session: Session, command: Command<'_>) -> (Session, Told)
+pub fn give(alloc: Global, session: KnownSession, command: Command<'_>) -> (KnownSession, Told)
     ensures { TellsSession session command.entry result.1 result.0 }
 {
     match command {
         Command::Change(wanted) => {
-            let (session, ended) = change(alloc, session, wanted);
+            let (session, ended) = session.change(alloc, wanted);
             (session, outcome(ended))
         }
         Command::Ask(question) => {
-            let told = ask(session.arena(), question);
+            let told = ask(session.session().arena(), question);
             (session, told)
         }
         Command::Undo => undo(session),
@@ -73,21 +73,21 @@ pub fn act(stage: &mut Stage, op: Op) -> Result<(), Failure>
     ensures { Tells stage.old (Call.Give (Command.Change (Change.Act op))) (told_of result) stage.new }
 {
     match stage {
-        Stage::Session(session) => act_on_session(session, op),
+        Stage::Session(session) => session.act(op),
         Stage::Drafting(open) => act_on_draft(&mut open.draft, op),
     }
 }
 
-fn open(session: Session) -> (Stage, Told)
+fn open(session: KnownSession) -> (Stage, Told)
     ensures { Tells (Stage.Session session) Call.Open result.1 result.0 }
 {
-    match Draft::open(session) {
+    match Draft::open(session.forget()) {
         Ok(draft) => (Stage::Drafting(OpenDraft { draft }), Told::Done),
-        Err((session, _)) => (Stage::Session(session), Told::Memory),
+        Err((session, _)) => (Stage::Session(KnownSession::of(session)), Told::Memory),
     }
 }
 
-fn make_on_session(alloc: Global, session: Session, wanted: Call<'_>) -> (Stage, Told)
+fn make_on_session(alloc: Global, session: KnownSession, wanted: Call<'_>) -> (Stage, Told)
     ensures { Tells (Stage.Session session) wanted.entry result.1 result.0 }
 {
     match wanted {

@@ -4,8 +4,9 @@ ghost use Rattle.euler_conditions.specs.Ready.{IsReady};
 ghost use Rattle.undo_journal.specs.Journal.{after_commit};
 ghost use Rattle.commands.specs.Telling.{shown, undos, redos, steps_in, IsWhole};
 
+use crate::known::KnownSession;
 use euler_conditions::Arena;
-use undo_journal::{Draft, Session};
+use undo_journal::Draft;
 
 /// A draft, which is abandoned when it is dropped.
 pub struct OpenDraft {
@@ -21,26 +22,26 @@ impl Drop for OpenDraft {
 
 impl OpenDraft {
     /// Makes the steps one command.
-    pub fn commit(self) -> Session
+    pub fn commit(self) -> KnownSession
         ensures { result ≡ after_commit self.draft }
     {
         let OpenDraft { draft } = self;
-        draft.commit()
+        KnownSession::of(draft.commit())
     }
 
     /// Takes the steps back.
-    pub fn abandon(self) -> Session
+    pub fn abandon(self) -> KnownSession
         ensures { result ≡ self.draft.session }
     {
         let OpenDraft { draft } = self;
-        draft.abandon()
+        KnownSession::of(draft.abandon())
     }
 }
 
 /// A session, or a draft of its next command.
 #[derive(Drop)]
 pub enum Stage {
-    Session(Session),
+    Session(KnownSession),
     Drafting(OpenDraft),
 }
 
@@ -51,7 +52,7 @@ impl Stage {
         ensures ready { IsReady result.now }
     {
         match self {
-            Stage::Session(session) => session.arena(),
+            Stage::Session(known) => known.session().arena(),
             Stage::Drafting(open) => open.draft.arena(),
         }
     }
@@ -61,7 +62,7 @@ impl Stage {
         ensures { result ≡ undos self.now }
     {
         match self {
-            Stage::Session(session) => session.depth(),
+            Stage::Session(known) => known.session().depth(),
             Stage::Drafting(_) => 0,
         }
     }
@@ -71,7 +72,7 @@ impl Stage {
         ensures { result ≡ redos self.now }
     {
         match self {
-            Stage::Session(session) => session.ahead(),
+            Stage::Session(known) => known.session().ahead(),
             Stage::Drafting(_) => 0,
         }
     }
@@ -92,7 +93,7 @@ impl Stage {
         ensures { IsWhole self.now }
     {
         match self {
-            Stage::Session(session) => session.stays_consistent(),
+            Stage::Session(known) => known.session().stays_consistent(),
             Stage::Drafting(open) => open.draft.stays_consistent(),
         }
     }

@@ -4,7 +4,7 @@ ghost use Rattle.script_running.specs.Common.{told_of, told_of_move};
 ghost use Rattle.script_running.specs.script_judging.Consoles.{IsNew, Makes, Measures, UnlessLacking, act_of, answer_after, is_draft};
 
 use crate::script_judging::judging::Answer;
-use commands::{Call, Command, Question, Stage, Told};
+use commands::{Call, Command, KnownSession, Question, Stage, Told};
 use euler_operators::{Op, Refusal};
 use solid_listing::Reply;
 use solid_measure::Tally;
@@ -27,7 +27,7 @@ impl Console {
     {
         let session = Session::new(alloc)?;
         Ok(Console {
-            stage: Some(Stage::Session(session)),
+            stage: Some(Stage::Session(KnownSession::of(session))),
             answer: Answer::Silent,
         })
     }

@@ -8,8 +8,8 @@ use Rattle.commands.proofs.making.act.Goals as goal
 
 pub returns-in-Session : goal.returns-in-Session
 returns-in-Session c =
-    let t = c.act_on_session.new.session in
-    subst (λ (g : Stage). Tells g (call.Give (command.Change (change.Act c.args.op))) (told_of c.act_on_session.result) (Session t)) (sym c.in-Session.is) (t, refl, c.act_on_session.ensures)
+    let t = c.act.new.self in
+    subst (λ (g : Stage). Tells g (call.Give (command.Change (change.Act c.args.op))) (told_of c.act.result) (Session t)) (sym c.in-Session.is) (t, refl, c.act.ensures)
 
 pub returns-in-Drafting : goal.returns-in-Drafting
 returns-in-Drafting c =

@@ -1,6 +1,6 @@
-use Rattle.std.proofs.Common.{inr, refl, ap}
+use Rattle.std.proofs.Common.{inr, refl, ap, ◌∙◌}
 use Rattle.commands.specs.Common.{Session}
 use Rattle.commands.proofs.making.open.Goals as goal
 
 pub returns-in-Err : goal.returns-in-Err
-returns-in-Err c = inr (refl, ap Session c.in-Err.ensures.err)
+returns-in-Err c = inr (refl, ap Session (c.of.ensures ∙ c.in-Err.ensures.err ∙ c.forget.ensures))

@@ -4,7 +4,7 @@ use Rattle.commands.specs.declared.command.Change.TheVariants as change
 use Rattle.commands.specs.declared.command.Command.TheVariants as command
 use Rattle.commands.specs.Telling.{TellsSession, told_of}
 use Rattle.commands.proofs.Settling.{settled, settled_exactly}
-use Rattle.commands.proofs.changing.change.Goals as goal
+use Rattle.commands.proofs.changing.change_session.Goals as goal
 
 pub returns-in-Lamina : goal.returns-in-Lamina
 returns-in-Lamina c = rw c.in-Lamina.is
@@ -15,4 +15,4 @@ pub returns-in-Sweep : goal.returns-in-Sweep
 returns-in-Sweep c = rw c.in-Sweep.is (settled_exactly _ _ _ _ c.sweep.result.1 c.sweep.ensures.ok c.sweep.ensures.recorded c.sweep.ensures.refused c.sweep.ensures.err)
 
 pub returns-in-Glue : goal.returns-in-Glue
-returns-in-Glue c = rw c.in-Glue.is (settled _ _ _ _ _ c.glue.result.1 c.glue.ensures.ok c.glue.ensures.recorded c.glue.ensures.refused c.glue.ensures.memory c.glue.ensures.err)
+returns-in-Glue c = rw c.in-Glue.is (settled _ _ _ _ _ c.glue_with_flat.result.1 c.glue_with_flat.ensures.ok c.glue_with_flat.ensures.recorded c.glue_with_flat.ensures.refused c.glue_with_flat.ensures.memory c.glue_with_flat.ensures.err)
