@@ -7,3 +7,6 @@ pub mod PartFaces
 pub mod DrawnFaces
 pub mod Lower
 pub mod Pieces
+pub mod Along
+pub mod NewEdges
+pub mod Lines

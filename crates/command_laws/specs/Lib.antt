@@ -11,3 +11,4 @@ pub mod Splits
 pub mod Capped
 pub mod Caps
 pub mod Convex
+pub mod SplitEdges

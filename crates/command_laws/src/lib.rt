@@ -32,7 +32,7 @@ pub use convex::{
 };
 pub use flat::faces_lie_flat;
 pub use frames::{blocks_leave_alone, faces_stand, laminas_leave_alone, sweeps_leave_alone};
-pub use splits::{splits_leave_alone, splits_part_faces, splits_share_faces};
+pub use splits::{splits_leave_alone, splits_make_no_lines, splits_part_faces, splits_share_faces};
 
 /// After a lamina: the face numbered next after the greatest before goes round its points, and the face after that goes round them in reverse.
 pub fn laminas_make_faces()

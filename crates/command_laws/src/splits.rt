@@ -8,9 +8,11 @@
 //! split solid that the plane doesn't straddle belongs to the part on its side. It keeps its loops and its plane, and each loop has the same corner
 //! points, but may begin at another one; in the lower part it stands as it did. Each face of the split solid keeps its number, belongs to one of the
 //! parts and lies in the plane in which it lay. If the plane straddles it, it belongs to the lower part, and a new face of the upper part lies in its
-//! plane. Each new face of the parts lies in the plane of such a face, or is a cap.
+//! plane. Each new face of the parts lies in the plane of such a face, or is a cap. Each half-edge of the parts has both ends on the plane, or lies on
+//! one of the solid that was split, and leads the same way.
 
 ghost use Rattle.command_laws.specs.Splits.{SplitKeepsRows, SplitKeepsOwners, SplitKeepsLoops, SplitKeepsEdges, SplitKeepsPoints, SplitKeepsShapes, SplitKeepsBelow, SplitSharesFaces, SplitKeepsPlanes, SplitPartsFaces, StraddlingGoAbove, StraddlingStayBelow};
+ghost use Rattle.command_laws.specs.SplitEdges.{SplitsMakeNoLines};
 
 /// After a split the faces of other solids, their loops, edges and vertices are as they were.
 pub fn splits_leave_alone()
@@ -38,4 +40,10 @@ pub fn splits_part_faces()
     ensures below { StraddlingStayBelow }
     ensures above { StraddlingGoAbove }
     ensures pieces { SplitPartsFaces }
+{}
+
+/// A split makes no lines but on its plane: each half-edge of the parts has both ends on the plane, or it lies on a half-edge of the solid that was
+/// split, and leads the same way.
+pub fn splits_make_no_lines()
+    ensures { SplitsMakeNoLines }
 {}

@@ -5,7 +5,7 @@ use Rattle.euler_operators.specs.Common.{Plane, count, IsIn, canonical, edge_of,
 use Rattle.euler_operators.specs.Table as table
 use Rattle.euler_operators.proofs.Common.{mate_plus, plus_row, IsIn_or_not, IsIn_rest, count-filter, in-holds, plus_there, same_solid, IsIn_head}
 use Rattle.euler_laws.proofs.Common.{all_where_has, IsIn-from_listed, edge_there, loop_row, half_face}
-use Rattle.shapes.specs.Common.{Growing, growing, rewritten, rewritten_row, crossing_edges, straddling_faces, all_cut, next_cut, with_crossings, Drawing, FacePairs, all_pairs, drawn_between, faces_drawn, next_drawn, straddling_pairs, undrawn, with_drawings}
+use Rattle.shapes.specs.Common.{Growing, growing, rewritten, rewritten_row, crossing_edges, straddling_faces, all_cut, next_cut, with_crossings, Drawing, FacePairs, all_pairs, drawn_between, next_drawn, straddling_pairs, undrawn, with_drawings}
 use Rattle.split_drawing_laws.specs.crossings.Kept.{Kept}
 use Rattle.split_drawing_laws.specs.crossings.Laws.{CanBegin}
 use Rattle.split_drawing_laws.specs.drawings.DrawnIn.{Stays, DrawnIn}
@@ -169,7 +169,10 @@ module _ (M : Model) (s : ℕ) (p : Plane) (t : ℕ) (sound : Sound M) (begins :
       let there : Has (with_crossings M s p).model.faces f = ap (λ u. table.has u f) (crossings_keep M s p t sound begins).faces ∙ w.0 in
       ((there, face_in s M (with_crossings M s p).model cut f there w.1), straddling fs (λ g i. within g (IsIn_rest g f fs i)))
 
-  pub drawings_within : AgreeBut s M (with_drawings M s p).model
+  -- the drawing alone
+  pub drawn_within : AgreeBut s (with_crossings M s p).model (with_drawings M s p).model
   unfolding with_drawings
-  drawings_within = within_on s M (with_crossings M s p).model (faces_drawn p (undrawn (with_crossings M s p)) (straddling_pairs M s p)).model cut
-      (faces_within s p (undrawn (with_crossings M s p)) (straddling_pairs M s p) 0 (drawable (with_crossings M s p) (straddling_pairs M s p) (can_be_drawn M s p t sound begins)) (straddling (straddling_faces M p s) (λ f i. i)))
+  drawn_within = faces_within s p (undrawn (with_crossings M s p)) (straddling_pairs M s p) 0 (drawable (with_crossings M s p) (straddling_pairs M s p) (can_be_drawn M s p t sound begins)) (straddling (straddling_faces M p s) (λ f i. i))
+
+  pub drawings_within : AgreeBut s M (with_drawings M s p).model
+  drawings_within = within_on s M (with_crossings M s p).model (with_drawings M s p).model cut drawn_within
