@@ -118,9 +118,9 @@ fn counted_with_base(taken: &Counters) -> Counters
 }
 
 /// Draws a block whose conditions hold: the lamina of its base, and then the sweep of the lamina's first face, whose half-edges are all
-/// known. If memory is refused, the draft holds what was drawn so far.
+/// known. First it asks for memory for its thirteen steps. If memory is refused, the draft holds what was drawn so far.
 #[tactic(auto, using(undo_journal::proofs::Marks::further_on))]
-fn draw_base_and_walls(
+fn draw_block(
     draft: &mut Draft,
     taken: &Counters,
     solid: u32,
@@ -134,6 +134,7 @@ fn draw_base_and_walls(
     ensures further { IsFurther draft.old draft.new }
 {
     draft.stays_consistent();
+    draft.reserve(13)?;
     let corners = base(corner, size);
     draw_lamina(draft, taken, solid, corners.as_slice())?;
     let items = base_items(taken);
@@ -141,33 +142,6 @@ fn draw_base_and_walls(
     up.x = 0;
     up.y = 0;
     raise_items(draft, &counted_with_base(taken), items.as_slice(), up)
-}
-
-/// Draws a block whose conditions hold. First it asks for memory for its thirteen steps. If memory is refused, the draft is as it was.
-#[tactic(auto, using(undo_journal::proofs::Marks::further_none, undo_journal::proofs::Marks::further_back))]
-fn try_block(
-    draft: &mut Draft,
-    taken: &Counters,
-    solid: u32,
-    corner: Point,
-    size: Point,
-) -> Result<(), AllocError>
-    requires taken { taken_of taken.now ≡ taken_in draft.old.model }
-    requires within { AreWithin taken.now }
-    requires accepted { spec.block_refusal draft.old.model solid corner size.x size.y size.z ≡ None }
-    ensures ok { OnOk result (draft.new.model ≡ block_model draft.old.model solid corner size.x size.y size.z) }
-    ensures further { IsFurther draft.old draft.new }
-    ensures err { OnErr result (draft.new ≡ draft.old) }
-{
-    draft.reserve(13)?;
-    let mark = draft.mark();
-    match draw_base_and_walls(draft, taken, solid, corner, size) {
-        Ok(()) => Ok(()),
-        Err(error) => {
-            draft.back_to(mark);
-            Err(error)
-        }
-    }
 }
 
 /// A block as steps of a draft, with its sizes in one vector.
@@ -183,9 +157,13 @@ fn block_of_in(draft: &mut Draft, solid: u32, corner: Point, size: Point) -> Res
     if let Err(refusal) = check_block(arena, taken, solid, corner, size) {
         return Err(Failure::Refused(refusal));
     }
-    match try_block(draft, &taken, solid, corner, size) {
+    let mark = draft.mark();
+    match draw_block(draft, &taken, solid, corner, size) {
         Ok(()) => Ok(()),
-        Err(error) => Err(Failure::Memory(error)),
+        Err(error) => {
+            draft.back_to(mark);
+            Err(Failure::Memory(error))
+        }
     }
 }
 
@@ -234,7 +212,7 @@ fn block_of(
         Ok(draft) => draft,
         Err((session, error)) => return (session, Err(Failure::Memory(error))),
     };
-    match try_block(&mut draft, &taken, solid, corner, size) {
+    match draw_block(&mut draft, &taken, solid, corner, size) {
         Ok(()) => (draft.commit(), Ok(())),
         Err(error) => (draft.abandon(), Err(Failure::Memory(error))),
     }

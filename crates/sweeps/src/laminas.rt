@@ -152,32 +152,6 @@ pub(crate) fn draw_lamina(
     ))
 }
 
-/// Draws a lamina whose conditions hold. If memory is refused, the draft is as it was.
-#[tactic(auto, using(undo_journal::proofs::Marks::further_none, undo_journal::proofs::Marks::further_back, undo_journal::proofs::Marks::back_at_mark))]
-fn try_lamina(
-    draft: &mut Draft,
-    taken: &Counters,
-    solid: u32,
-    points: &[Point],
-) -> Result<(), AllocError>
-    requires taken { taken_of taken.now ≡ taken_in draft.old.model }
-    requires within { AreWithin taken.now }
-    requires few { length points.now ≤ 64 }
-    requires accepted { spec.lamina_refusal draft.old.model solid points.now ≡ None }
-    ensures ok { OnOk result (draft.new.model ≡ lamina_model draft.old.model solid points.now) }
-    ensures further { IsFurther draft.old draft.new }
-    ensures err { OnErr result (draft.new ≡ draft.old) }
-{
-    let mark = draft.mark();
-    match draw_lamina(draft, taken, solid, points) {
-        Ok(()) => Ok(()),
-        Err(error) => {
-            draft.back_to(mark);
-            Err(error)
-        }
-    }
-}
-
 /// A lamina as steps of a draft, as `lamina` makes it, in the draft's model. On any failure the draft is as it was, and goes on.
 #[tactic(auto, using(undo_journal::proofs::Marks::further_none, undo_journal::proofs::Marks::further_back))]
 pub fn lamina_in(draft: &mut Draft, solid: u32, points: &ArrayVec<Point, 64>) -> Result<(), Failure>
@@ -191,9 +165,13 @@ pub fn lamina_in(draft: &mut Draft, solid: u32, points: &ArrayVec<Point, 64>) ->
     if let Err(refusal) = check_lamina(arena, taken, solid, points) {
         return Err(Failure::Refused(refusal));
     }
-    match try_lamina(draft, &taken, solid, points.as_slice()) {
+    let mark = draft.mark();
+    match draw_lamina(draft, &taken, solid, points.as_slice()) {
         Ok(()) => Ok(()),
-        Err(error) => Err(Failure::Memory(error)),
+        Err(error) => {
+            draft.back_to(mark);
+            Err(Failure::Memory(error))
+        }
     }
 }
 
@@ -225,7 +203,7 @@ pub fn lamina(
         Ok(draft) => draft,
         Err((session, error)) => return (session, Err(Failure::Memory(error))),
     };
-    match try_lamina(&mut draft, &taken, solid, points.as_slice()) {
+    match draw_lamina(&mut draft, &taken, solid, points.as_slice()) {
         Ok(()) => (draft.commit(), Ok(())),
         Err(error) => (draft.abandon(), Err(Failure::Memory(error))),
     }

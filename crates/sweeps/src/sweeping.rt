@@ -55,31 +55,6 @@ fn check_sweep(arena: &Arena, taken: Counters, f: u32, shift: Point) -> Result<(
     check_left(taken, count, count, 2 * count, count)
 }
 
-/// Raises a face whose conditions hold. If memory is refused, the draft is as it was.
-#[tactic(auto, using(undo_journal::proofs::Marks::further_none, undo_journal::proofs::Marks::further_back))]
-fn try_raise(
-    alloc: Global,
-    draft: &mut Draft,
-    taken: &Counters,
-    f: u32,
-    shift: Point,
-) -> Result<(), AllocError>
-    requires taken { taken_of taken.now ≡ taken_in draft.old.model }
-    requires accepted { prism_refusal draft.old.model f shift ≡ None }
-    ensures model { OnOk result (draft.new.model ≡ prism_model draft.old.model f shift) }
-    ensures further { IsFurther draft.old draft.new }
-    ensures err { OnErr result (draft.new ≡ draft.old) }
-{
-    let mark = draft.mark();
-    match raise(alloc, draft, taken, f, shift) {
-        Ok(()) => Ok(()),
-        Err(error) => {
-            draft.back_to(mark);
-            Err(error)
-        }
-    }
-}
-
 /// A sweep as steps of a draft, as `sweep` makes it, in the draft's model. On any failure the draft is as it was, and goes on.
 #[tactic(auto, using(undo_journal::proofs::Marks::further_none, undo_journal::proofs::Marks::further_back))]
 pub fn sweep_in(alloc: Global, draft: &mut Draft, f: u32, shift: Point) -> Result<(), Failure>
@@ -93,9 +68,13 @@ pub fn sweep_in(alloc: Global, draft: &mut Draft, f: u32, shift: Point) -> Resul
     if let Err(refusal) = check_sweep(arena, taken, f, shift) {
         return Err(Failure::Refused(refusal));
     }
-    match try_raise(alloc, draft, &taken, f, shift) {
+    let mark = draft.mark();
+    match raise(alloc, draft, &taken, f, shift) {
         Ok(()) => Ok(()),
-        Err(error) => Err(Failure::Memory(error)),
+        Err(error) => {
+            draft.back_to(mark);
+            Err(Failure::Memory(error))
+        }
     }
 }
 
@@ -128,7 +107,7 @@ pub fn sweep(
         Ok(draft) => draft,
         Err((session, error)) => return (session, Err(Failure::Memory(error))),
     };
-    match try_raise(alloc, &mut draft, &taken, f, shift) {
+    match raise(alloc, &mut draft, &taken, f, shift) {
         Ok(()) => (draft.commit(), Ok(())),
         Err(error) => (draft.abandon(), Err(Failure::Memory(error))),
     }

@@ -6,25 +6,25 @@ use Rattle.euler_laws.proofs.Common.{verdict_passed}
 use Rattle.undo_journal.proofs.Marks.{further_recorded, further_session}
 use Rattle.sweeps.proofs.blocks.block_of.Goals as goal
 
-pub returns-in-Ok-try_block-clause-ok : goal.returns-in-Ok-try_block-clause-ok
-returns-in-Ok-try_block-clause-ok c =
-    let model = c.in-Ok-try_block.ensures.ok ∙ ap (λ (d : DraftJournal). block_model d.model c.args.solid c.args.corner c.args.size.x c.args.size.y c.args.size.z) c.in-Ok.ensures.ok in
-    let session = further_session _ _ c.in-Ok-try_block.ensures.further ∙ ap (λ (d : DraftJournal). d.session) c.in-Ok.ensures.ok in (
+pub returns-in-Ok-draw_block-clause-ok : goal.returns-in-Ok-draw_block-clause-ok
+returns-in-Ok-draw_block-clause-ok c =
+    let model = c.in-Ok-draw_block.ensures.ok ∙ ap (λ (d : DraftJournal). block_model d.model c.args.solid c.args.corner c.args.size.x c.args.size.y c.args.size.z) c.in-Ok.ensures.ok in
+    let session = further_session _ _ c.in-Ok-draw_block.ensures.further ∙ ap (λ (d : DraftJournal). d.session) c.in-Ok.ensures.ok in (
       sym (ap (λ M. block_refusal M c.args.solid c.args.corner c.args.size.x c.args.size.y c.args.size.z) c.arena-arena.ensures.model) ∙ verdict_passed _ _ (sym c.in_default.is ∙ c.check_block.ensures),
       ap (λ (j : Journal). j.machine) c.commit.ensures ∙ (λ t. accepted (session t).machine (model t)),
     )
 
-pub try_block-requires-clause-taken : goal.try_block-requires-clause-taken
-try_block-requires-clause-taken c = c.counters_of-taken.ensures.is ∙ ap taken_in c.arena-arena.ensures.model ∙ sym (ap (λ (d : DraftJournal). taken_in d.model) c.in-Ok.ensures.ok)
+pub draw_block-requires-clause-taken : goal.draw_block-requires-clause-taken
+draw_block-requires-clause-taken c = c.counters_of-taken.ensures.is ∙ ap taken_in c.arena-arena.ensures.model ∙ sym (ap (λ (d : DraftJournal). taken_in d.model) c.in-Ok.ensures.ok)
 
-pub returns-in-Err-try_block-clause-ok : goal.returns-in-Err-try_block-clause-ok
-returns-in-Err-try_block-clause-ok c = tt
+pub returns-in-Err-draw_block-clause-ok : goal.returns-in-Err-draw_block-clause-ok
+returns-in-Err-draw_block-clause-ok c = tt
 
-pub returns-in-Err-try_block-clause-recorded : goal.returns-in-Err-try_block-clause-recorded
-returns-in-Err-try_block-clause-recorded c = tt
+pub returns-in-Err-draw_block-clause-recorded : goal.returns-in-Err-draw_block-clause-recorded
+returns-in-Err-draw_block-clause-recorded c = tt
 
-pub returns-in-Err-try_block-clause-err : goal.returns-in-Err-try_block-clause-err
-returns-in-Err-try_block-clause-err c = search rules
+pub returns-in-Err-draw_block-clause-err : goal.returns-in-Err-draw_block-clause-err
+returns-in-Err-draw_block-clause-err c = let same = further_session _ _ c.in-Err-draw_block.ensures.further ∙ ap (λ (d : DraftJournal). d.session) c.in-Ok.ensures.ok in search rules
 
-pub returns-in-Ok-try_block-clause-recorded : goal.returns-in-Ok-try_block-clause-recorded
-returns-in-Ok-try_block-clause-recorded c = further_recorded _ _ _ _ c.in-Ok.ensures.ok c.in-Ok-try_block.ensures.further c.commit.ensures
+pub returns-in-Ok-draw_block-clause-recorded : goal.returns-in-Ok-draw_block-clause-recorded
+returns-in-Ok-draw_block-clause-recorded c = further_recorded _ _ _ _ c.in-Ok.ensures.ok c.in-Ok-draw_block.ensures.further c.commit.ensures

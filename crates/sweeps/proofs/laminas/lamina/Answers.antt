@@ -1,4 +1,4 @@
-use Rattle.std.proofs.Common.{ap, sym, ◌∙◌}
+use Rattle.std.proofs.Common.{rules, ap, sym, ◌∙◌}
 use Rattle.shapes.specs.Common.{taken_in, lamina_refusal, lamina_model}
 use Rattle.undo_journal.specs.Journal.{Journal, DraftJournal}
 use Rattle.undo_journal.specs.Machine.{accepted}
@@ -6,21 +6,24 @@ use Rattle.euler_laws.proofs.Common.{verdict_passed}
 use Rattle.undo_journal.proofs.Marks.{further_recorded, further_session}
 use Rattle.sweeps.proofs.laminas.lamina.Goals as goal
 
-pub try_lamina-requires-clause-accepted : goal.try_lamina-requires-clause-accepted
-try_lamina-requires-clause-accepted c =
+pub draw_lamina-requires-clause-accepted : goal.draw_lamina-requires-clause-accepted
+draw_lamina-requires-clause-accepted c =
     ap (λ ps. lamina_refusal c.in-Ok.draft.model c.args.solid ps) c.as_slice.ensures.value ∙ ap (λ (d : DraftJournal). lamina_refusal d.model c.args.solid c.args.points.now.items) c.in-Ok.ensures.ok
     ∙ sym (ap (λ M. lamina_refusal M c.args.solid c.args.points.now.items) c.arena-arena.ensures.model) ∙ verdict_passed _ _ (sym c.in_default.is ∙ c.check_lamina.ensures)
 
-pub returns-in-Ok-try_lamina-clause-ok : goal.returns-in-Ok-try_lamina-clause-ok
-returns-in-Ok-try_lamina-clause-ok c =
-    let model = c.in-Ok-try_lamina.ensures.ok ∙ ap (λ ps. lamina_model c.in-Ok.draft.model c.args.solid ps) c.as_slice.ensures.value ∙ ap (λ (d : DraftJournal). lamina_model d.model c.args.solid c.args.points.now.items) c.in-Ok.ensures.ok in
-    let session = further_session _ _ c.in-Ok-try_lamina.ensures.further ∙ ap (λ (d : DraftJournal). d.session) c.in-Ok.ensures.ok in (
+pub returns-in-Ok-draw_lamina-clause-ok : goal.returns-in-Ok-draw_lamina-clause-ok
+returns-in-Ok-draw_lamina-clause-ok c =
+    let model = c.in-Ok-draw_lamina.ensures.ok ∙ ap (λ ps. lamina_model c.in-Ok.draft.model c.args.solid ps) c.as_slice.ensures.value ∙ ap (λ (d : DraftJournal). lamina_model d.model c.args.solid c.args.points.now.items) c.in-Ok.ensures.ok in
+    let session = further_session _ _ c.in-Ok-draw_lamina.ensures.further ∙ ap (λ (d : DraftJournal). d.session) c.in-Ok.ensures.ok in (
       sym (ap (λ M. lamina_refusal M c.args.solid c.args.points.now.items) c.arena-arena.ensures.model) ∙ verdict_passed _ _ (sym c.in_default.is ∙ c.check_lamina.ensures),
       ap (λ (j : Journal). j.machine) c.commit.ensures ∙ (λ t. accepted (session t).machine (model t)),
     )
 
-pub try_lamina-requires-clause-taken : goal.try_lamina-requires-clause-taken
-try_lamina-requires-clause-taken c = c.counters_of-taken.ensures.is ∙ ap taken_in c.arena-arena.ensures.model ∙ sym (ap (λ (d : DraftJournal). taken_in d.model) c.in-Ok.ensures.ok)
+pub draw_lamina-requires-clause-taken : goal.draw_lamina-requires-clause-taken
+draw_lamina-requires-clause-taken c = c.counters_of-taken.ensures.is ∙ ap taken_in c.arena-arena.ensures.model ∙ sym (ap (λ (d : DraftJournal). taken_in d.model) c.in-Ok.ensures.ok)
 
-pub returns-in-Ok-try_lamina-clause-recorded : goal.returns-in-Ok-try_lamina-clause-recorded
-returns-in-Ok-try_lamina-clause-recorded c = further_recorded _ _ _ _ c.in-Ok.ensures.ok c.in-Ok-try_lamina.ensures.further c.commit.ensures
+pub returns-in-Ok-draw_lamina-clause-recorded : goal.returns-in-Ok-draw_lamina-clause-recorded
+returns-in-Ok-draw_lamina-clause-recorded c = further_recorded _ _ _ _ c.in-Ok.ensures.ok c.in-Ok-draw_lamina.ensures.further c.commit.ensures
+
+pub returns-in-Err-draw_lamina-clause-err : goal.returns-in-Err-draw_lamina-clause-err
+returns-in-Err-draw_lamina-clause-err c = let same = further_session _ _ c.in-Err-draw_lamina.ensures.further ∙ ap (λ (d : DraftJournal). d.session) c.in-Ok.ensures.ok in search rules

@@ -6,25 +6,25 @@ use Rattle.euler_laws.proofs.Common.{verdict_passed}
 use Rattle.undo_journal.proofs.Marks.{further_recorded, further_session}
 use Rattle.sweeps.proofs.sweeping.sweep.Goals as goal
 
-pub returns-in-Ok-try_raise-clause-ok : goal.returns-in-Ok-try_raise-clause-ok
-returns-in-Ok-try_raise-clause-ok c =
-    let model = c.in-Ok-try_raise.ensures.model ∙ ap (λ (d : DraftJournal). prism_model d.model c.args.f c.args.shift) c.in-Ok.ensures.ok in
-    let session = further_session _ _ c.in-Ok-try_raise.ensures.further ∙ ap (λ (d : DraftJournal). d.session) c.in-Ok.ensures.ok in (
+pub returns-in-Ok-raise-clause-ok : goal.returns-in-Ok-raise-clause-ok
+returns-in-Ok-raise-clause-ok c =
+    let model = c.in-Ok-raise.ensures.model ∙ ap (λ (d : DraftJournal). prism_model d.model c.args.f c.args.shift) c.in-Ok.ensures.ok in
+    let session = further_session _ _ c.in-Ok-raise.ensures.further ∙ ap (λ (d : DraftJournal). d.session) c.in-Ok.ensures.ok in (
       sym (ap (λ M. prism_refusal M c.args.f c.args.shift) c.arena-arena.ensures.model) ∙ verdict_passed _ _ (sym c.in_default.is ∙ c.check_sweep.ensures),
       ap (λ (j : Journal). j.machine) c.commit.ensures ∙ (λ t. accepted (session t).machine (model t)),
     )
 
-pub try_raise-requires-clause-taken : goal.try_raise-requires-clause-taken
-try_raise-requires-clause-taken c = c.counters_of-taken.ensures.is ∙ ap taken_in c.arena-arena.ensures.model ∙ sym (ap (λ (d : DraftJournal). taken_in d.model) c.in-Ok.ensures.ok)
+pub raise-requires-clause-taken : goal.raise-requires-clause-taken
+raise-requires-clause-taken c = c.counters_of-taken.ensures.is ∙ ap taken_in c.arena-arena.ensures.model ∙ sym (ap (λ (d : DraftJournal). taken_in d.model) c.in-Ok.ensures.ok)
 
-pub returns-in-Err-try_raise-clause-ok : goal.returns-in-Err-try_raise-clause-ok
-returns-in-Err-try_raise-clause-ok c = tt
+pub returns-in-Err-raise-clause-ok : goal.returns-in-Err-raise-clause-ok
+returns-in-Err-raise-clause-ok c = tt
 
-pub returns-in-Err-try_raise-clause-recorded : goal.returns-in-Err-try_raise-clause-recorded
-returns-in-Err-try_raise-clause-recorded c = tt
+pub returns-in-Err-raise-clause-recorded : goal.returns-in-Err-raise-clause-recorded
+returns-in-Err-raise-clause-recorded c = tt
 
-pub returns-in-Err-try_raise-clause-err : goal.returns-in-Err-try_raise-clause-err
-returns-in-Err-try_raise-clause-err c = search rules
+pub returns-in-Err-raise-clause-err : goal.returns-in-Err-raise-clause-err
+returns-in-Err-raise-clause-err c = let same = further_session _ _ c.in-Err-raise.ensures.further ∙ ap (λ (d : DraftJournal). d.session) c.in-Ok.ensures.ok in search rules
 
-pub returns-in-Ok-try_raise-clause-recorded : goal.returns-in-Ok-try_raise-clause-recorded
-returns-in-Ok-try_raise-clause-recorded c = further_recorded _ _ _ _ c.in-Ok.ensures.ok c.in-Ok-try_raise.ensures.further c.commit.ensures
+pub returns-in-Ok-raise-clause-recorded : goal.returns-in-Ok-raise-clause-recorded
+returns-in-Ok-raise-clause-recorded c = further_recorded _ _ _ _ c.in-Ok.ensures.ok c.in-Ok-raise.ensures.further c.commit.ensures

@@ -1,12 +1,14 @@
-use Rattle.std.proofs.Common.{◌≡◌, ap, arith, length, map, subst, sym, refl, ◌∙◌}
+use Rattle.std.proofs.Common.{◌≡◌, ℕ, List, ap, arith, length, map, subst, sym, refl, ◌∙◌}
 use Rattle.std.proofs.lemmas.Result.{on_ok_weaker}
-use Rattle.euler_operators.specs.Common.{code, plus, Model}
-use Rattle.shapes.specs.Common.{AreLeft, Taken, numbers_after, taken_in}
+use Rattle.euler_operators.specs.Common.{Point, code, plus, Model}
+use Rattle.shapes.specs.Common.{AreLeft, Taken, numbers_after, taken_in, lamina_refusal, lamina_model}
+use Rattle.undo_journal.specs.Journal.{DraftJournal}
+use Rattle.undo_journal.proofs.Marks.{further_on, further_same}
 use Rattle.solid_walks.specs.declared.numbers.Counters.{Counters}
 use Rattle.solid_walks.specs.Counters.{taken_of}
 use Rattle.sweeps.specs.Raising.{with_lamina}
 use Rattle.sweeps.proofs.BlockSteps.{corner_fits, base_left, base_goes, block_rises, block_risen}
-use Rattle.sweeps.proofs.blocks.draw_base_and_walls.Goals as goal
+use Rattle.sweeps.proofs.blocks.draw_block.Goals as goal
 
 pub base-corners-requires-clause-second : goal.base-corners-requires-clause-second
 base-corners-requires-clause-second c = corner_fits _ c.stays_consistent.ensures.model c.args.solid c.args.corner c.args.size.x c.args.size.y c.args.size.z c.requires.accepted 1 (omega arith)
@@ -21,7 +23,9 @@ pub draw_lamina-requires-clause-few : goal.draw_lamina-requires-clause-few
 draw_lamina-requires-clause-few c = let four = ap length (c.as_slice.ensures ∙ c.base-corners.ensures) in omega (arith, four)
 
 pub draw_lamina-requires-clause-accepted : goal.draw_lamina-requires-clause-accepted
-draw_lamina-requires-clause-accepted c = base_goes _ c.stays_consistent.ensures.model c.args.solid c.args.corner c.args.size.x c.args.size.y c.args.size.z c.requires.accepted _ (c.as_slice.ensures ∙ c.base-corners.ensures)
+draw_lamina-requires-clause-accepted c =
+    ap (λ (d : DraftJournal). lamina_refusal d.model c.args.solid c.as_slice.result.now) c.reserve.ensures
+    ∙ base_goes _ c.stays_consistent.ensures.model c.args.solid c.args.corner c.args.size.x c.args.size.y c.args.size.z c.requires.accepted _ (c.as_slice.ensures ∙ c.base-corners.ensures)
 
 left : (M : Model) (k : Counters) → taken_of k ≡ taken_in M → AreLeft (taken_in M) (record { faces = 2; loops = 2; edges = 4; vertices = 4 }) → AreLeft (taken_of k) (record { faces = 2; loops = 2; edges = 4; vertices = 4 })
 left M k is w = subst (λ t. AreLeft t (record { faces = 2; loops = 2; edges = 4; vertices = 4 })) (sym is) w
@@ -41,10 +45,23 @@ counted_with_base-requires-clause-edges c = (left _ c.args.taken.now c.requires.
 pub counted_with_base-requires-clause-vertices : goal.counted_with_base-requires-clause-vertices
 counted_with_base-requires-clause-vertices c = (left _ c.args.taken.now c.requires.taken (base_left _ c.stays_consistent.ensures.model c.args.solid c.args.corner c.args.size.x c.args.size.y c.args.size.z c.requires.accepted)).vertices
 
+-- what is made of a draft is made of an equal one
+drawn : {d e : DraftJournal} {N : Model} (s : ℕ) (ps : List Point) → e ≡ d → N ≡ lamina_model e.model s ps → N ≡ lamina_model d.model s ps
+drawn s ps same made = made ∙ ap (λ (d : DraftJournal). lamina_model d.model s ps) same
+
 pub raise_items-requires : goal.raise_items-requires
-raise_items-requires c = block_rises _ c.stays_consistent.ensures.model c.args.solid c.args.corner c.args.size.x c.args.size.y c.args.size.z c.requires.accepted c.as_slice.result.now (c.as_slice.ensures ∙ c.base-corners.ensures) _ c.in_ok-draw_lamina.ensures.ok _ refl _
+raise_items-requires c = block_rises _ c.stays_consistent.ensures.model c.args.solid c.args.corner c.args.size.x c.args.size.y c.args.size.z c.requires.accepted c.as_slice.result.now (c.as_slice.ensures ∙ c.base-corners.ensures) _ (drawn c.args.solid c.as_slice.result.now c.reserve.ensures c.in_ok-draw_lamina.ensures.ok) _ refl _
     (ap (map code) c.as_slice-2.ensures ∙ c.base_items-items.ensures ∙ ap (λ (t : Taken). map plus (numbers_after t.edge 4)) c.requires.taken) _ (c.counted_with_base.ensures ∙ ap (λ t. with_lamina t 4) c.requires.taken)
 
 pub returns-clause-ok : goal.returns-clause-ok
-returns-clause-ok c = on_ok_weaker c.raise_items.result (λ step. block_risen _ c.stays_consistent.ensures.model c.args.solid c.args.corner c.args.size.x c.args.size.y c.args.size.z c.requires.accepted c.as_slice.result.now (c.as_slice.ensures ∙ c.base-corners.ensures) _ c.in_ok-draw_lamina.ensures.ok _ refl _
+returns-clause-ok c = on_ok_weaker c.raise_items.result (λ step. block_risen _ c.stays_consistent.ensures.model c.args.solid c.args.corner c.args.size.x c.args.size.y c.args.size.z c.requires.accepted c.as_slice.result.now (c.as_slice.ensures ∙ c.base-corners.ensures) _ (drawn c.args.solid c.as_slice.result.now c.reserve.ensures c.in_ok-draw_lamina.ensures.ok) _ refl _
     (ap (map code) c.as_slice-2.ensures ∙ c.base_items-items.ensures ∙ ap (λ (t : Taken). map plus (numbers_after t.edge 4)) c.requires.taken) _ (c.counted_with_base.ensures ∙ ap (λ t. with_lamina t 4) c.requires.taken) _ step) c.raise_items.ensures.model
+
+pub returns-in_err-reserve-clause-further : goal.returns-in_err-reserve-clause-further
+returns-in_err-reserve-clause-further c = further_same _ _ c.reserve.ensures
+
+pub returns-in_err-draw_lamina-clause-further : goal.returns-in_err-draw_lamina-clause-further
+returns-in_err-draw_lamina-clause-further c = further_on _ _ _ (further_same _ _ c.reserve.ensures) c.draw_lamina.ensures.further
+
+pub returns-clause-further : goal.returns-clause-further
+returns-clause-further c = further_on _ _ _ (further_on _ _ _ (further_same _ _ c.reserve.ensures) c.draw_lamina.ensures.further) c.raise_items.ensures.further

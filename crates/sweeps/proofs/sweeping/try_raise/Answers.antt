@@ -1,9 +1,0 @@
-use Rattle.std.proofs.Common.{◌∙◌}
-use Rattle.undo_journal.proofs.Marks.{back_at_mark, further_back}
-use Rattle.sweeps.proofs.sweeping.try_raise.Goals as goal
-
-pub returns-in-Err-clause-further : goal.returns-in-Err-clause-further
-returns-in-Err-clause-further c = further_back _ _ _ c.mark-mark.ensures c.raise.ensures.further _ c.back_to.ensures
-
-pub returns-in-Err-clause-err : goal.returns-in-Err-clause-err
-returns-in-Err-clause-err c = c.back_to.ensures ∙ back_at_mark _ _ _ c.mark-mark.ensures c.raise.ensures.further
