@@ -7,12 +7,11 @@ ghost use Rattle.command_line.specs.Serving.{AllHandedOn, RunsFile, RunsOpened, 
 
 use crate::ending::Trouble;
 use crate::words::{Choice, read_words};
-use script_running::{Console, Outlet, Summary, run_in};
+use script_running::{Console, Inlet, Outlet, Summary, run_in};
 use std::alloc::Global;
-use std::io::Read;
 
 /// Runs a script.
-fn answer<R: Read + Drop, W: Outlet>(
+fn answer<R: Inlet<W> + Drop, W: Outlet>(
     alloc: Global,
     script: R,
     console: &mut Console,
@@ -27,7 +26,7 @@ fn answer<R: Read + Drop, W: Outlet>(
 }
 
 /// Runs what was opened.
-fn run_opened<F: Read + Drop, W: Outlet>(
+fn run_opened<F: Inlet<W> + Drop, W: Outlet>(
     alloc: Global,
     opened: Option<F>,
     console: &mut Console,
@@ -45,7 +44,7 @@ fn run_opened<F: Read + Drop, W: Outlet>(
 }
 
 /// Runs the script that was chosen. If no file is named, `opening` is handed back.
-fn follow<R: Read + Drop, F: Read + Drop, O: FnOnce(&str) -> Option<F> + Drop, W: Outlet>(
+fn follow<R: Inlet<W> + Drop, F: Inlet<W> + Drop, O: FnOnce(&str) -> Option<F> + Drop, W: Outlet>(
     alloc: Global,
     choice: &Choice,
     input: R,
@@ -79,7 +78,12 @@ fn follow<R: Read + Drop, F: Read + Drop, O: FnOnce(&str) -> Option<F> + Drop, W
 /// `Trouble::Words` comes if the words are refused or ask for help or the version, `Trouble::Open` if `opening` gives nothing; then nothing is read
 /// or written. `Trouble::Run` is the run's, or says that memory was refused while the words were read. Unless a write failed, all that was written
 /// has been handed on at the end.
-pub fn serve<R: Read + Drop, F: Read + Drop, O: FnOnce(&str) -> Option<F> + Drop, W: Outlet>(
+pub fn serve<
+    R: Inlet<W> + Drop,
+    F: Inlet<W> + Drop,
+    O: FnOnce(&str) -> Option<F> + Drop,
+    W: Outlet,
+>(
     alloc: Global,
     words: &[String],
     input: R,

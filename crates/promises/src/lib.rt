@@ -51,11 +51,10 @@ use script_laws::{
     undo_and_redo_can_be_left_out, undone_lines_can_be_left_out, undos_lead_back,
 };
 use script_running::{
-    Outlet, RunFault, Summary, laws_below, lines_are_calls, lines_are_told, one_output, run,
+    Inlet, Outlet, RunFault, Summary, laws_below, lines_are_calls, lines_are_told, one_output, run,
     runs_tell_histories,
 };
 use std::alloc::{AllocError, Global};
-use std::io::Read;
 
 /// After any list of commands, drafts with marks, undos and redos the workbench holds, with equal numbers, coordinates and cyclic loops, the
 /// model of a plain machine that keeps a whole copy of every model. Undoing gives the model before and redoing the model after. A refused
@@ -501,9 +500,9 @@ pub fn every_run_tells_a_history()
 /// What `gwb` does with a script: it answers each line that the reader gives, in order, and writes the answers. After Ok the answers are those to all
 /// lines, or, if `stop` is set, to those up to the line that stopped the run. If no reply was `memory`, they are the script's one output. After
 /// `Read` or `TooLong` they are the answers to the lines that came with their newlines. After `Write` a prefix of the answers to the lines that were
-/// read is written. After `Memory` nothing was read or written. Unless a write failed, the writer has handed on all that was written when the run
-/// ends.
-pub fn every_line_is_answered<R: Read + Drop, W: Outlet>(
+/// read is written. After `Memory` nothing was read or written. The writer has handed on all that was written before each read (`Inlet`), and, unless
+/// a write failed, when the run ends.
+pub fn every_line_is_answered<R: Inlet<W> + Drop, W: Outlet>(
     alloc: Global,
     reader: R,
     writer: &mut W,
@@ -518,7 +517,7 @@ pub fn every_line_is_answered<R: Read + Drop, W: Outlet>(
 /// A script that is run to its end, where only its bytes are spoken of. What is written has an answer to each line in turn. A line that is answered
 /// `memory` counts for those after it as if it hadn't been there. If no line is answered so, all that is written is a function of the bytes that were
 /// read, `answers`.
-pub fn every_script_is_answered<R: Read + Drop, W: Outlet>(
+pub fn every_script_is_answered<R: Inlet<W> + Drop, W: Outlet>(
     alloc: Global,
     reader: R,
     writer: &mut W,

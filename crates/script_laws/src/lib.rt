@@ -26,14 +26,13 @@ ghost use Rattle.script_laws.specs.Scripts.{Answered};
 use command_laws::{glues_keep_and_join, solids_are_there};
 use gluing::glue_measures;
 use plane_split::splits_are_held;
-use script_running::{Outlet, RunFault, Summary, lines_are_calls, run};
+use script_running::{Inlet, Outlet, RunFault, Summary, lines_are_calls, run};
 use solid_listing::listing_tells;
 use std::alloc::Global;
-use std::io::Read;
 use sweeps::{block_measures, sweep_measures};
 
 /// Runs a script to its end. What is written is a function of the bytes read: `answers`, of which the laws below speak.
-pub fn answer_script<R: Read + Drop, W: Outlet>(
+pub fn answer_script<R: Inlet<W> + Drop, W: Outlet>(
     alloc: Global,
     reader: R,
     writer: &mut W,

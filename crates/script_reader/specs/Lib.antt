@@ -7,6 +7,7 @@ pub mod Next
 pub mod Numbers
 pub mod Places
 pub mod Polygon
+pub mod Reaching
 pub mod Script
 pub mod State
 pub mod Words

@@ -4,10 +4,12 @@ ghost use Rattle.std.specs.Io.{ReadsAtMost};
 ghost use Rattle.std.specs.Io.KnownBytes.{Consumes, Keeps, IsAtEnd, ReadConsumes};
 ghost use Rattle.std.specs.IoError.{error_kind};
 ghost use Rattle.script_reader.specs.Newline.{FirstNewline};
+ghost use Rattle.script_reader.specs.Reaching.{Reaches};
 
+use crate::streams::{Inlet, Outlet};
 use memchr::memchr;
 use std::alloc::{AllocError, Global};
-use std::io::{self, ErrorKind, Read};
+use std::io::{self, ErrorKind};
 use std::marker::Model;
 
 /// A line has at most so many bytes, without its newline.
@@ -54,6 +56,7 @@ impl Buffer {
     ghost use Rattle.std.specs.Prelude.{◌≡◌, ◌≤◌, ◌<◌, [], length, take, ◌-◌, IfOk};
     ghost use Rattle.script_reader.specs.Newline.{has_newline};
     ghost use Rattle.script_reader.specs.Buffer.{TakesLine, ReadsMore};
+    ghost use Rattle.script_reader.specs.Reaching.{Reaches};
 
     /// Makes the whole buffer.
     pub fn new(alloc: Global) -> Result<Buffer, AllocError>
@@ -135,7 +138,13 @@ impl Buffer {
     }
 
     /// Reads at most so many bytes.
-    pub fn read_from<R: Read>(&mut self, reader: &mut R, most: usize) -> io::Result<usize>
+    pub fn read_from<R: Inlet<W>, W: Outlet>(
+        &mut self,
+        reader: &mut R,
+        writer: &W,
+        most: usize,
+    ) -> io::Result<usize>
+        requires handed_on { Reaches (W.reached writer.now) (W.contents writer.now) }
         requires room { length self.old.unread ≤ 65536 }
         requires some { 0 < most }
         ensures { ReadsMore self.old self.new (R.remaining reader.old) (R.remaining reader.new) most result }
@@ -146,7 +155,7 @@ impl Buffer {
         self.start = 0;
         self.line_start = 0;
         self.line_end = 0;
-        let n = read_at(reader, &mut self.bytes, self.end, most)?;
+        let n = read_at(reader, writer, &mut self.bytes, self.end, most)?;
         self.end += n;
         self.newline = first_newline(&self.bytes, self.newline, self.end);
         Ok(n)
@@ -165,7 +174,14 @@ fn shift(bytes: &mut [u8], start: usize, end: usize)
 }
 
 /// Reads at most so many bytes after the first ones.
-fn read_at<R: Read>(reader: &mut R, bytes: &mut [u8], at: usize, most: usize) -> io::Result<usize>
+fn read_at<R: Inlet<W>, W: Outlet>(
+    reader: &mut R,
+    writer: &W,
+    bytes: &mut [u8],
+    at: usize,
+    most: usize,
+) -> io::Result<usize>
+    requires handed_on { Reaches (W.reached writer.now) (W.contents writer.now) }
     requires room { at < length bytes.old }
     requires some { 0 < most }
     ensures front { take at bytes.new ≡ take at bytes.old }
@@ -175,17 +191,22 @@ fn read_at<R: Read>(reader: &mut R, bytes: &mut [u8], at: usize, most: usize) ->
     ensures err { OnErr result (Keeps (R.remaining reader.old) (R.remaining reader.new)) }
 {
     let room = most.min(bytes.len() - at);
-    read_retrying(reader, &mut bytes[at..at + room])
+    read_retrying(reader, writer, &mut bytes[at..at + room])
 }
 
 /// Reads once, and again where a signal interrupted the read before any byte came, at most 1,000,000 times in a row.
-fn read_retrying<R: Read>(reader: &mut R, bytes: &mut [u8]) -> io::Result<usize>
+fn read_retrying<R: Inlet<W>, W: Outlet>(
+    reader: &mut R,
+    writer: &W,
+    bytes: &mut [u8],
+) -> io::Result<usize>
+    requires handed_on { Reaches (W.reached writer.now) (W.contents writer.now) }
     ensures bound { ReadsAtMost result bytes.new }
     ensures bytes { ReadConsumes (R.remaining reader.old) (R.remaining reader.new) result bytes.new }
     ensures retried { IfErr result (λ e. error_kind e ≢ ErrorKind.Interrupted) }
 {
     'tries: for _ in 0..READ_TRIES {
-        match reader.read(bytes) {
+        match reader.read_after(writer, bytes) {
             Ok(n) => return Ok(n),
             Err(error) if error.kind() != ErrorKind::Interrupted => return Err(error),
             Err(_) => {}

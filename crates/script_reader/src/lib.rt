@@ -7,7 +7,7 @@
 //!
 //! `read_line` is the grammar of the script, for every command word: a line is read as a command exactly if it spells that command, and each fault
 //! has its cause, the first from the left. `Lines` gives the lines of the bytes read, in whatever pieces the reader gives them. A read that a signal
-//! interrupts is tried again, at most 1,000,000 times in a row.
+//! interrupts is tried again, at most 1,000,000 times in a row. Each read comes after all that was written was handed on (`Inlet`).
 
 mod buffer;
 mod command;
@@ -20,6 +20,7 @@ mod operators;
 mod places;
 mod polygon;
 mod reading;
+mod streams;
 mod words;
 
 pub use command::{Fault, Request};
@@ -33,3 +34,4 @@ pub use operators::operator;
 pub use places::Words;
 pub use polygon::{Corners, Outline, Polygon};
 pub use reading::arguments;
+pub use streams::{Inlet, Outlet};

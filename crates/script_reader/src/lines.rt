@@ -3,8 +3,8 @@ ghost use Rattle.std.specs.Prelude.{◌≡◌, ◌≢◌, ◌≤◌};
 ghost use Rattle.script_reader.specs.declared.lines.Ending.TheVariants.{Over};
 
 use super::buffer::{Buffer, LINE_LIMIT};
+use crate::streams::{Inlet, Outlet};
 use std::alloc::{AllocError, Global};
-use std::io::Read;
 
 /// A script has at most so many bytes.
 const SCRIPT_LIMIT: u64 = 67_108_864;
@@ -59,13 +59,14 @@ pub struct Lines<R> {
     ghost within: { ending ≢ Over → taken ≤ 67108864 },
 }
 
-impl<R: Read> Lines<R> {
-    ghost use Rattle.std.specs.Prelude.{◌≡◌, ◌≢◌, ◌≤◌, ◌<◌, true, length};
+impl<R> Lines<R> {
+    ghost use Rattle.std.specs.Prelude.{◌≡◌, ◌≢◌, ◌≤◌, ◌<◌, true, false, length};
     ghost use Rattle.std.specs.Io.KnownBytes.{IsAtEnd};
     ghost use Rattle.script_reader.specs.Lines.{Reads, LastAnswer};
     ghost use Rattle.script_reader.specs.Next.{Went, Gives};
     ghost use Rattle.script_reader.specs.declared.lines.Ending.TheVariants.{Open, Ended};
     ghost use Rattle.script_reader.specs.Newline.{has_newline};
+    ghost use Rattle.script_reader.specs.Reaching.{Reaches};
     ghost use Rattle.script_reader.specs.State.{line_of, unread_of, IsStill};
     ghost use Rattle.script_reader.specs.contracts.lines.Lines.{the_row};
     ghost use Rattle.std.specs.Io.BufRead.{Rests};
@@ -74,7 +75,10 @@ impl<R: Read> Lines<R> {
     /// Reads some bytes. It has a stack frame of its own, so that a line that is there already doesn't pay for it.
     #[inline(never)]
     #[tactic(auto, unfolding(crate::specs::Lines::within_limit))]
-    fn fill(&mut self)
+    fn fill<W: Outlet>(&mut self, writer: &W)
+    where
+        R: Inlet<W>,
+        requires handed_on { Reaches (W.reached writer.now) (W.contents writer.now) }
         requires open { self.old.ending ≡ Open }
         requires room { length self.old.buffer.unread ≤ 65536 }
         ensures reads { Reads (R.remaining self.old.reader) (R.remaining self.new.reader)
@@ -83,7 +87,7 @@ impl<R: Read> Lines<R> {
         ensures progress { self.new.ending ≡ Open → self.old.taken < self.new.taken }
     {
         let most = (SCRIPT_LIMIT + 1 - self.taken) as usize;
-        match self.buffer.read_from(&mut self.reader, most) {
+        match self.buffer.read_from(&mut self.reader, writer, most) {
             Err(_) => self.ending = Ending::Failed,
             Ok(0) => self.ending = Ending::Ended,
             Ok(n) => {
@@ -121,8 +125,12 @@ impl<R: Read> Lines<R> {
     }
 
     /// Goes to the next line, or says what comes in its place. After the end, a failed read or a script that is too long it answers the same
-    /// again and reads nothing. It takes no memory.
-    pub fn advance(&mut self) -> Found
+    /// again and reads nothing. It takes no memory. It reads only if no newline is in the buffer; a read may wait, so then all that was written has to
+    /// be handed on.
+    pub fn advance<W: Outlet>(&mut self, writer: &W) -> Found
+    where
+        R: Inlet<W>,
+        requires handed_on { has_newline (unread_of self.old) ≡ false → Reaches (W.reached writer.now) (W.contents writer.now) }
         ensures { Went R.remaining self.old self.new result }
     {
         let mut is_long = false;
@@ -141,16 +149,19 @@ impl<R: Read> Lines<R> {
                 self.buffer.clear();
                 is_long = true;
             }
-            self.fill();
+            self.fill(writer);
         }
     }
 
     /// The next line, or what comes in its place. After the end, a failed read or a script that is too long it
-    /// answers the same again and reads nothing. It takes no memory.
-    pub fn next_line(&mut self) -> NextLine<'_>
+    /// answers the same again and reads nothing. It takes no memory. It reads only if no newline is in the buffer.
+    pub fn next_line<W: Outlet>(&mut self, writer: &W) -> NextLine<'_>
+    where
+        R: Inlet<W>,
+        requires handed_on { has_newline (unread_of self.old) ≡ false → Reaches (W.reached writer.now) (W.contents writer.now) }
         ensures* { sem 𝓛 (Rests (the_row R.row) self.entry (λ new. Gives R.remaining self.old new result)) }
     {
-        match self.advance() {
+        match self.advance(writer) {
             Found::Line => NextLine::Line(self.buffer.line()),
             Found::Long => NextLine::Long,
             Found::End => NextLine::End,
@@ -174,7 +185,7 @@ impl<R: Read> Lines<R> {
     }
 }
 
-impl<R: Read + Drop> Lines<R> {
+impl<R: Drop> Lines<R> {
     ghost use Rattle.std.specs.Prelude.{IfOk};
     ghost use Rattle.script_reader.specs.State.{IsFresh};
 

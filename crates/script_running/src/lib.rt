@@ -1,9 +1,8 @@
 #![tactic(auto)]
 //! Running: a whole script answered, from the bytes of a reader to those of a writer.
 //!
-//! `script_judging` has a console, which hears a line or takes a call, and its answers; `running` answers the lines one after the other; `outlet` is
-//! the writer of a run, which knows what it has handed on. `one_output` does nothing: its contract is the law that a script has one output if no
-//! reply is `memory`. `laws_below` passes on the laws of the crates below.
+//! `script_judging` has a console, which hears a line or takes a call, and its answers; `running` answers the lines one after the other. `one_output`
+//! does nothing: its contract is the law that a script has one output if no reply is `memory`. `laws_below` passes on the laws of the crates below.
 //!
 //! # What is proved
 //!
@@ -16,12 +15,11 @@
 //! whatever comes after these bytes: all lines, or those up to the reply that stops it. If no reply stopped it, the reader gave its end. If no reply
 //! is `memory`, what was written is `output_of` the lines, a function of the text of the script. After a read fault, or if the script is too long,
 //! exactly the lines that came with their newlines are answered. After a write fault a prefix of the replies is out. If the first memory was refused,
-//! nothing was read or written. Unless a write failed, all that was written has been handed on when the run ends (`HandsOn`). It returns for every
-//! reader. `one_output`: if no reply is `memory`, the lines of a script have one output, and one summary.
+//! nothing was read or written. All that was written has been handed on before each read (`Inlet`), and, unless a write failed, when the run ends
+//! (`HandsOn`). It returns for every reader. `one_output`: if no reply is `memory`, the lines of a script have one output, and one summary.
 
 mod laws;
 pub mod laws_below;
-mod outlet;
 mod running;
 mod script_judging;
 #[cfg(test)]
@@ -30,8 +28,8 @@ mod tests;
 pub use laws::{
     lines_are_calls, lines_are_judged, lines_are_told, one_output, runs_tell_histories,
 };
-pub use outlet::Outlet;
 pub use running::{RunFault, run, run_in};
 pub use script_judging::{
     Answer, Console, Summary, act, ask, hear, is_drafting, keep_outcome, make, measure,
 };
+pub use script_reader::{Inlet, Outlet};

@@ -8,14 +8,13 @@ ghost use Rattle.script_running.specs.script_judging.Consoles.{IsNew};
 ghost use Rattle.script_running.specs.script_judging.Judging.{answer_text};
 ghost use Rattle.script_running.specs.Outs.{stops};
 ghost use Rattle.script_running.specs.Runs.{Runs};
-ghost use Rattle.script_running.specs.Reaching.{HandsOn, Reaches};
+ghost use Rattle.script_running.specs.Reaching.{HandsOn};
+ghost use Rattle.script_reader.specs.Reaching.{Reaches};
 
-use crate::outlet::Outlet;
 use crate::script_judging::{Answer, Console, Summary, complains, hear};
-use script_reader::{Fault, Found, Lines};
+use script_reader::{Fault, Found, Inlet, Lines, Outlet};
 use solid_listing::{Reply, Text, release, tell_listing, tell_reply};
 use std::alloc::Global;
-use std::io::Read;
 use thiserror::Error;
 
 /// Why a run ended before the end of its script.
@@ -73,11 +72,7 @@ fn bring_out<W: Outlet>(text: &mut Text, writer: &mut W) -> Result<(), RunFault>
 }
 
 /// If no whole line is left, writes the answers out and has the writer hand them on: this comes before each read, which may wait.
-fn flush<R: Read, W: Outlet>(
-    lines: &Lines<R>,
-    text: &mut Text,
-    writer: &mut W,
-) -> Result<(), RunFault>
+fn flush<R, W: Outlet>(lines: &Lines<R>, text: &mut Text, writer: &mut W) -> Result<(), RunFault>
     ensures tells { Tells (outgoing (W.contents writer.old) text.old) (outgoing (W.contents writer.new) text.new) [] result }
     ensures none { has_newline (unread_of lines.now) ≡ false → text.new ≡ [] }
     ensures reached { has_newline (unread_of lines.now) ≡ false → OnOk result (Reaches (W.reached writer.new) (W.contents writer.new)) }
@@ -115,7 +110,7 @@ fn finish<W: Outlet>(writer: &mut W, summary: Summary) -> Result<Summary, RunFau
 }
 
 /// Answers the lines of a script from its start, in a new session.
-fn run_lines<R: Read, W: Outlet>(
+fn run_lines<R: Inlet<W>, W: Outlet>(
     alloc: Global,
     lines: &mut Lines<R>,
     console: &mut Console,
@@ -133,7 +128,7 @@ fn run_lines<R: Read, W: Outlet>(
         if let Err(fault) = flush(lines, &mut text, writer) {
             break Err(fault);
         }
-        match lines.advance() {
+        match lines.advance(writer) {
             Found::Line => {
                 hear(alloc, console, lines.line());
             }
@@ -152,8 +147,8 @@ fn run_lines<R: Read, W: Outlet>(
     }
 }
 
-/// Runs a script in a console that has a new session: hears each line that the reader gives, in order, and writes its answer. Answers are handed on
-/// before each read, which may wait, and at the end. The contract says so of the end, also if a read failed. If `stop` is set, the run ends after the
+/// Runs a script in a console that has a new session: hears each line that the reader gives, in order, and writes its answer. All that was written is
+/// handed on before each read, which may wait (`Inlet`), and at the end, also if a read failed. If `stop` is set, the run ends after the
 /// first reply that begins with `refused`, `fault` or `memory`; bytes after that line may have been read. The session that the script leaves stays in
 /// the console, for the caller.
 ///
@@ -161,7 +156,7 @@ fn run_lines<R: Read, W: Outlet>(
 /// lines that were read to their newline are written, and nothing else. After `Write` a prefix of the replies to the lines read so far is written.
 ///
 /// A read that a signal interrupts is tried again, at most 1,000,000 times in a row.
-pub fn run_in<R: Read + Drop, W: Outlet>(
+pub fn run_in<R: Inlet<W> + Drop, W: Outlet>(
     alloc: Global,
     reader: R,
     console: &mut Console,
@@ -181,7 +176,7 @@ pub fn run_in<R: Read + Drop, W: Outlet>(
 
 /// Runs a script: hears each line that the reader gives, in order, and writes its answer. It is `run_in` in a session of its own, which is freed at
 /// the end.
-pub fn run<R: Read + Drop, W: Outlet>(
+pub fn run<R: Inlet<W> + Drop, W: Outlet>(
     alloc: Global,
     reader: R,
     writer: &mut W,

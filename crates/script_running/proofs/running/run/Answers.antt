@@ -3,4 +3,4 @@ use Rattle.script_running.proofs.RunLaws.{nothing_begins}
 use Rattle.script_running.proofs.running.run.Goals as goal
 
 pub returns-in_default-clause-runs : goal.returns-in_default-clause-runs
-returns-in_default-clause-runs g c = nothing_begins _ _ _ (Consumes-nil (g.R.Read.remaining c.args.reader))
+returns-in_default-clause-runs g c = nothing_begins _ _ _ (Consumes-nil (g.R.Inlet.remaining c.args.reader))

@@ -5,14 +5,14 @@ use Rattle.script_running.proofs.RunLaws.{from_start, finished, nothing_begins}
 use Rattle.script_running.proofs.running.run_in.Goals as goal
 
 pub returns-in_default-clause-runs : goal.returns-in_default-clause-runs
-returns-in_default-clause-runs g c = nothing_begins _ _ _ (Consumes-nil (g.R.Read.remaining c.args.reader))
+returns-in_default-clause-runs g c = nothing_begins _ _ _ (Consumes-nil (g.R.Inlet.remaining c.args.reader))
 
 pub returns-in_err-summary-clause-runs : goal.returns-in_err-summary-clause-runs
 returns-in_err-summary-clause-runs g c = search rules
 
 pub returns-clause-runs : goal.returns-clause-runs
 returns-clause-runs g c =
-    let served = from_start g.R.Read.remaining c.args.reader c.in-Ok.lines (g.W.Write.contents c.args.writer.now) (g.W.Write.contents c.run_lines.new.writer) c.args.stop (Ok c.in_ok-summary.summary) c.in-Ok.ensures c.in_ok-summary.ensures.runs in
+    let served = from_start g.R.Inlet.remaining c.args.reader c.in-Ok.lines (g.W.Write.contents c.args.writer.now) (g.W.Write.contents c.run_lines.new.writer) c.args.stop (Ok c.in_ok-summary.summary) c.in-Ok.ensures c.in_ok-summary.ensures.runs in
     finished _ _ (g.W.Write.contents c.run_lines.new.writer) _ c.args.stop c.in_ok-summary.summary c.finish.result served c.finish.ensures.kept c.finish.ensures.ok c.finish.ensures.fault
 
 pub returns-clause-reached : goal.returns-clause-reached

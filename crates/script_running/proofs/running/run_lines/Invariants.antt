@@ -6,7 +6,7 @@ use Rattle.script_running.proofs.running.run_lines.Given as goal
 
 abbrev pub invariant-script : goal.invariant-script
 invariant-script g l = record {
-  at : IsAt g.R.Read.remaining (g.R.Read.remaining (reader_of l.fn.lines)) l.lines (g.W.Write.contents l.fn.writer) (outgoing (g.W.Write.contents l.writer) l.text) l.stop l.console l.summary;
+  at : IsAt g.R.Inlet.remaining (g.R.Inlet.remaining (reader_of l.fn.lines)) l.lines (g.W.Write.contents l.fn.writer) (outgoing (g.W.Write.contents l.writer) l.text) l.stop l.console l.summary;
   within : IsWithin l.summary;
   bound : l.summary.lines + to_come (taken_of l.lines) (unread_of l.lines) ≤ 67108865;
 }
