@@ -120,7 +120,7 @@ class _Work:
         """What was done to faces, with how many."""
         lines = [f'{times} {"face" if times == 1 else "faces"} {what}' for what, times in self._repairs.items()]
         if self._collapsed:
-            lines.append(f'{self._collapsed} polygons of fewer than three different corners left out')
+            lines.append(f'{self._collapsed} polygon{"" if self._collapsed == 1 else "s"} of fewer than three different corners left out')
         return lines
 
 

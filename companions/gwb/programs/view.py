@@ -51,7 +51,8 @@ def _ended(script: bytes) -> Listed:
     for complaint in ended.complaints[:_TOLD]:
         print(f'{PROGRAM}: {complaint}', file=sys.stderr)
     if len(ended.complaints) > _TOLD:
-        print(f'{PROGRAM}: {len(ended.complaints) - _TOLD} more complaints', file=sys.stderr)
+        more = len(ended.complaints) - _TOLD
+        print(f'{PROGRAM}: {more} more complaint{"" if more == 1 else "s"}', file=sys.stderr)
     return Listed(ended.model, 0)
 
 
