@@ -16,6 +16,7 @@ from gwb.checks.check import check
 from gwb.checks.patches import Patches, patches
 from gwb.checks.simple_paths import is_simple
 from gwb.checks.star_solids import is_star
+from gwb.geometry.flat_face import FlatFace
 from gwb.geometry.measures import normal
 from gwb.protocol.listing import read_model
 
@@ -180,6 +181,20 @@ def spindle(count, rounds=1, far=lambda place: 1_000_000, first=1):
     return [*points, (0, 0, 1_000_000), (0, 0, -1_000_000)], [face for a, b in rim for face in ([(a, b, up)], [(b, a, down)])]
 
 
+def above_rim(rim, top):
+    """The points of a double cone over a rim in the plane z = 0, and its faces."""
+    points, faces = spindle(len(rim))
+    return [*((x, y, 0) for x, y in rim), (0, 0, top), (0, 0, -top)], faces
+
+
+def prism(outline, height):
+    """The points of a prism over an outline, and its faces."""
+    count = len(outline)
+    sides = [[(place + 1, (place + 1) % count + 1, count + (place + 1) % count + 1, count + place + 1)] for place in range(count)]
+    return ([(x, y, z) for z in (0, height) for x, y in outline],
+            [[tuple(range(count, 0, -1))], [tuple(range(count + 1, 2 * count + 1))], *sides])
+
+
 def cone(count):
     """The points of a cone on a polygon of so many sides, some of which turn inwards, and its faces."""
     points, faces = spindle(count)
@@ -224,10 +239,13 @@ class Stars(unittest.TestCase):
     def test_which_are(self):
         low = spindle(12, 1, lambda place: (1_000_000, 300_000)[place % 2])
         square = box((0, 0, 0), (4, 4, 4))
+        angle = [(0, 0), (2, 0), (2, 1), (1, 1), (1, 2), (0, 2)]
+        twice = [(4, -2), (4, 2), (0, 5), (-5, 0), (0, -5), (6, 0), (0, 6), (-6, 0), (0, -6)]
         for name, solid, star in (
                 ('a block', square, True), ('a spindle', spindle(12), True), ('with a rim in and out', low, True), ('a cone', cone(300), True),
                 ('a cylinder', cylinder(30), True), ('a block inside out', (square[0], turned(square[1])), False),
-                ('a rim twice round', spindle(11, 2), False), ('a rim three times round', spindle(10, 3), False), ('a ring', ring(9, 7, 40, 20), False),
+                ('a prism of five sides', prism(angle[:3] + angle[4:], 3), True), ('an angle, with the eye in planes of its faces', prism(angle, 3), False),
+                ('a rim twice round, with an edge before the middle', above_rim(twice, 3), False), ('a rim twice round', spindle(11, 2), False), ('a rim three times round', spindle(10, 3), False), ('a ring', ring(9, 7, 40, 20), False),
                 ('two blocks', (square[0] + box((9, 0, 0), (12, 4, 4))[0], square[1] + box((9, 0, 0), (12, 4, 4), 9)[1]), False),
                 ('a bent face', ([*square[0][:6], (4, 4, 5), square[0][7]], square[1]), False),
                 ('a lamina', ([(0, 0, 0), (4, 0, 0), (0, 4, 0)], [[(1, 2, 3)], [(3, 2, 1)]]), False)):
@@ -260,7 +278,7 @@ class Stars(unittest.TestCase):
 class PatchesOfFaces(unittest.TestCase):
     """What is left out because it lies in one patch, and what isn't."""
 
-    def test_what_is_found_is_the_same_without_patches(self):
+    def test_what_is_found_is_the_same_without_patches_or_parting_lines(self):
         random, kinds = Random(5), set()
         for place in range(60):
             points, faces = ring(random.randint(5, 9), random.randint(5, 7), random.randint(9, 40), random.randint(3, 30))
@@ -269,6 +287,8 @@ class PatchesOfFaces(unittest.TestCase):
                     listing(points + more, faces + others), lamina([(random.randint(0, 9), random.randint(0, 9)) for _ in range(7)]))[place % 5]
             found = check(model_in(text)).findings
             with patch.object(near_pairs, 'patches', alone):
+                self.assertEqual(check(model_in(text)).findings, found, text)
+            with patch.object(FlatFace, 'is_apart_from', lambda *_: False):
                 self.assertEqual(check(model_in(text)).findings, found, text)
             kinds |= {finding.kind for finding in found}
         self.assertEqual(kinds, {'bent', 'crossing', 'inside-out', 'meeting', 'touching'})

@@ -224,8 +224,11 @@ class SolidCheck:
             yield from ((face, other) for other in sorted(found))
 
     def _overlap(self, face: int, other: int) -> bool:
+        pairs = (face, other), (other, face)
+        if any(self._shape(one).is_apart_from(self._model.face_points(beside)) for one, beside in pairs):
+            return False
         return any(point is not None and self._shape(around).locate(point) is Place.INSIDE
-                   for point, around in ((self._inner_point(face), other), (self._inner_point(other), face)))
+                   for point, around in ((self._inner_point(one), beside) for one, beside in pairs))
 
     def _overlapping(self, face: int, other: int) -> Iterator[Finding]:
         if not self._are_back_to_back({face}, {other}):
@@ -282,9 +285,9 @@ def _passes_through(shape: FlatFace, start: Vector, end: Vector, before: int, af
 
 def _runs_within(shape: FlatFace, start: Vector, end: Vector) -> bool:
     """Whether a part of a segment in the face's plane lies within the face."""
-    a, b = shape.flatten(start), shape.flatten(end)
-    if len(shape.sides) == 3 and any(turn(c, d, a) <= 0 and turn(c, d, b) <= 0 for c, d in shape.sides):
+    if shape.is_apart_from((start, end)):
         return False
+    a, b = shape.flatten(start), shape.flatten(end)
     cuts = {Fraction(0), Fraction(1)}
     for c, d in shape.sides:
         before, after = turn(c, d, a), turn(c, d, b)

@@ -1,11 +1,12 @@
 """A flat face as a region of its plane."""
 
 from functools import cached_property
-from typing import List, Optional, Tuple
+from typing import Iterable, List, Optional, Tuple
 
+from .convexity import is_convex
 from .measures import anchor, normal
 from .model import Model
-from .plane_figures import Exact, Flat, Place, Segment, locate, segments
+from .plane_figures import Exact, Flat, Place, Segment, locate, segments, turn
 from .vectors import Vector, dot, flat_axes, subtract
 
 ExactVector = Tuple[Exact, Exact, Exact]
@@ -26,6 +27,18 @@ class FlatFace:
         """The sides of all its loops, as seen from its front."""
         return [side for loop in self._model.faces[self._face].loops
                 for side in segments([self.flatten(point) for point in self._model.loop_points(loop)])]
+
+    @cached_property
+    def is_convex(self) -> bool:
+        """Whether it is a triangle or a quadrilateral that turns left at each corner."""
+        return is_convex(self._model, self._face, self.across)
+
+    def is_apart_from(self, points: Iterable[Vector]) -> bool:
+        """Whether it is convex, and the line of one of its sides parts it from points of its plane, which may lie on that line."""
+        if not self.is_convex:
+            return False
+        flat = [self.flatten(point) for point in points]
+        return any(all(turn(start, end, point) <= 0 for point in flat) for start, end in self.sides)
 
     def flatten(self, point: ExactVector) -> Flat:
         """The point as seen from the face's front."""
