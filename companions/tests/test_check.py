@@ -245,7 +245,8 @@ class Stars(unittest.TestCase):
                 ('a block', square, True), ('a spindle', spindle(12), True), ('with a rim in and out', low, True), ('a cone', cone(300), True),
                 ('a cylinder', cylinder(30), True), ('a block inside out', (square[0], turned(square[1])), False),
                 ('a prism of five sides', prism(angle[:3] + angle[4:], 3), True), ('an angle, with the eye in planes of its faces', prism(angle, 3), False),
-                ('a rim twice round, with an edge before the middle', above_rim(twice, 3), False), ('a rim twice round', spindle(11, 2), False), ('a rim three times round', spindle(10, 3), False), ('a ring', ring(9, 7, 40, 20), False),
+                ('a rim twice round, with an edge before the middle', above_rim(twice, 3), False), ('a rim twice round', spindle(11, 2), False),
+                ('a rim three times round', spindle(10, 3), False), ('a ring', ring(9, 7, 40, 20), False),
                 ('two blocks', (square[0] + box((9, 0, 0), (12, 4, 4))[0], square[1] + box((9, 0, 0), (12, 4, 4), 9)[1]), False),
                 ('a bent face', ([*square[0][:6], (4, 4, 5), square[0][7]], square[1]), False),
                 ('a lamina', ([(0, 0, 0), (4, 0, 0), (0, 4, 0)], [[(1, 2, 3)], [(3, 2, 1)]]), False)):
