@@ -11,7 +11,7 @@ from unittest.mock import patch
 from support import box, examples, lamina, listing, model_in, run, shells, turned
 
 from gwb.checks import check as checking
-from gwb.checks import near_pairs
+from gwb.checks import face_checks, near_pairs
 from gwb.checks.check import check
 from gwb.checks.patches import Patches, patches
 from gwb.checks.simple_paths import is_simple
@@ -210,6 +210,20 @@ def cylinder(count):
     return rim + [(x, y, 1_000_000) for x, y, _ in rim], tops + walls
 
 
+def gear(count):
+    """The points of a gear with so many corners in each of its two outlines, and its faces."""
+    points = spindle(count, 1, lambda place: (1_000_000, 1_000_000, 800_000, 800_000)[place % 4])[0][:count]
+    return prism([(x, y) for x, y, _ in points], 100_000)
+
+
+def washer(count):
+    """The points of a washer whose outlines have so many corners, and its faces, two of which have a ring."""
+    points, (bottom, top, *walls) = prism([(x, y) for x, y, _ in spindle(count)[0][:count]], 100_000)
+    inner, (floor, roof, *sides) = prism([(2 * x // 5, 2 * y // 5) for x, y, _ in points[:count]], 100_000)
+    floor, roof, *sides = [[tuple(2 * count + vertex for vertex in cycle) for cycle in face] for face in turned([floor, roof, *sides])]
+    return points + inner, [bottom + floor, top + roof, *walls, *sides]
+
+
 def calls_of(work):
     """How many calls of functions, and of built-in ones, something makes."""
     count = 0
@@ -270,10 +284,31 @@ class Stars(unittest.TestCase):
         self.assertIn('touching: vertex 4 lies on edge 4', [str(finding) for finding in check(model_in(listing(points, faces))).findings])
 
     def test_their_work_grows_as_their_faces(self):
-        for solid in (cone, cylinder):
+        for solid in (cone, cylinder, gear):
             few, many = (model_in(listing(*solid(count))) for count in (150, 600))
             with self.subTest(solid.__name__):
                 self.assertLess(calls_of(lambda model=many: check(model)), 5 * calls_of(lambda model=few: check(model)))
+
+
+class Rings(unittest.TestCase):
+    """Rings of many corners in outlines of many corners."""
+
+    def test_their_work_grows_as_their_corners(self):
+        few, many = (model_in(listing(*washer(count))) for count in (100, 400))
+        self.assertLess(calls_of(lambda: check(many)), 6 * calls_of(lambda: check(few)))
+        self.assertEqual(check(many).findings, [])
+
+    def test_which_lie_outside(self):
+        random, found = Random(8), []
+        for _ in range(40):
+            outer = spindle(40, 1, lambda _: random.randint(60, 99))[0][:40]
+            shift, inner = random.randint(-70, 70), spindle(30, 1, lambda _: random.randint(20, 40))[0][:30]
+            text = lamina([(x, y) for x, y, _ in outer], [(x + shift, y) for x, y, _ in reversed(inner)])
+            told = [str(finding) for finding in check(model_in(text)).findings if finding.kind == 'outside']
+            with patch.object(face_checks, '_FEW_SIDES', 99):
+                self.assertEqual([str(finding) for finding in check(model_in(text)).findings if finding.kind == 'outside'], told)
+            found.append(bool(told))
+        self.assertGreater(min(found.count(True), found.count(False)), 8)
 
 
 class PatchesOfFaces(unittest.TestCase):

@@ -1,13 +1,17 @@
 """Slips within one face: bent faces, and rings that run the wrong way, lie outside, or lie in each other."""
 
-from typing import Iterator, Optional
+from functools import cached_property
+from typing import Iterator, List, Optional
 
 from ..geometry.box_index import BoxIndex, box_of
 from ..geometry.measures import loop_normal, off_plane
 from ..geometry.model import Model
-from ..geometry.plane_figures import Place, locate, segments
+from ..geometry.plane_figures import Flat, Place, Segment, locate, segments
 from ..geometry.vectors import Vector, ZERO, dot, flat_axes
 from .findings import BENT, OUTSIDE, WRONG_WAY, Finding
+
+# Of a loop of more sides those are looked for that a ray may meet.
+_FEW_SIDES = 16
 
 
 def is_flat(model: Model, face: int, across: Vector) -> bool:
@@ -67,6 +71,16 @@ class _FlatLoop:
         self.box = box_of(points)
         self._sides = segments(points)
 
+    @cached_property
+    def _index(self) -> BoxIndex[int]:
+        return BoxIndex({side: box_of(ends) for side, ends in enumerate(self._sides)})
+
+    def _beside(self, point: Flat) -> List[Segment]:
+        """The sides that a point lies on, or that a ray from it to the right may meet."""
+        if len(self._sides) <= _FEW_SIDES:
+            return self._sides
+        return [self._sides[side] for side in self._index.meeting(((point[0], self.box[0][1]), (point[1], point[1])))]
+
     def first_at(self, place: Place, around: '_FlatLoop') -> Optional[int]:
         """The first vertex of the loop that lies at this place against another one, or None."""
-        return next((vertex for vertex, point in self._corners if locate(around._sides, point) is place), None)
+        return next((vertex for vertex, point in self._corners if locate(around._beside(point), point) is place), None)

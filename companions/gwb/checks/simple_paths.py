@@ -1,8 +1,18 @@
 """Closed paths in a plane that don't meet themselves."""
 
-from typing import List, Sequence, Tuple
+from typing import List, NamedTuple, Sequence
 
-from ..geometry.plane_figures import Flat, segments, turn
+from ..geometry.plane_figures import Exact, Flat, segments, turn
+
+
+class _Side(NamedTuple):
+    """A side from its lesser to its greater point, its place in the path, and how low and high it lies."""
+
+    low: Flat
+    high: Flat
+    place: int
+    bottom: Exact
+    top: Exact
 
 
 def is_simple(points: Sequence[Flat]) -> bool:
@@ -10,13 +20,16 @@ def is_simple(points: Sequence[Flat]) -> bool:
     count = len(points)
     if len(set(points)) < count:
         return False
-    sides = [(min(start, end), max(start, end), place) for place, (start, end) in enumerate(segments(points))]
-    open_sides: List[Tuple[Flat, Flat, int]] = []
-    for low, high, place in sorted(sides):
-        open_sides = [side for side in open_sides if side[1][0] >= low[0]]
-        if any(_meet_wrongly(low, high, start, end, abs(place - other) in (1, count - 1)) for start, end, other in open_sides):
+    sides = [_Side(min(start, end), max(start, end), place, min(start[1], end[1]), max(start[1], end[1]))
+             for place, (start, end) in enumerate(segments(points))]
+    open_sides: List[_Side] = []
+    for side in sorted(sides):
+        low, high, place, bottom, top = side
+        open_sides = [other for other in open_sides if other.high[0] >= low[0]]
+        beside = [other for other in open_sides if other.bottom <= top and bottom <= other.top]
+        if any(_meet_wrongly(low, high, other.low, other.high, abs(place - other.place) in (1, count - 1)) for other in beside):
             return False
-        open_sides.append((low, high, place))
+        open_sides.append(side)
     return True
 
 
