@@ -20,7 +20,7 @@ EXAMPLE = TOP / 'examples' / 'block_with_hole.gwb'
 COMPANIONS = sorted(path.name for path in (TOP / 'companions').glob('gwb-*'))
 VERSION = (TOP / 'VERSION').read_text().strip()
 SONAME = 'libgwb.so.' + VERSION.split('.')[0]
-LIBRARY = ['include/gwb.h', 'include/gwb.hpp', 'include/gwb_history.hpp', 'include/gwb_features.h', 'include/gwb_features.hpp',
+LIBRARY = ['include/gwb.h', 'include/gwb.hpp', 'include/gwb_history.hpp', 'include/gwb_features.h', 'include/gwb_made.hpp', 'include/gwb_features.hpp',
            'include/gwb_triangles.hpp', 'include/gwb_export.hpp', 'include/gwb_cgal.hpp', 'include/gwb_names.h', 'lib/libgwb.a', 'lib/libgwb_c.a', 'lib/libgwb.so', f'lib/{SONAME}',
            f'lib/libgwb.so.{VERSION}', 'lib/pkgconfig/gwb.pc', 'lib/pkgconfig/gwb-static.pc', 'lib/cmake/gwb/gwb-config.cmake',
            'lib/cmake/gwb/gwb-config-version.cmake', 'share/gwb/heap.c', 'share/gwb/heap.h']

@@ -463,6 +463,8 @@ static void try_refused_memory()
         {"split", [&](Workbench &bench) { (void)split_solid(bench, Solid(1), {0, 0, 1, -4}); }},
         {"trim", [&](Workbench &bench) { (void)trim(bench, Solid(1), {0, 0, 1, -4}); }},
         {"pattern", [&](Workbench &bench) { (void)pattern(bench, Solid(1), 3, {0, 0, 9}); }},
+        {"around", [&](Workbench &bench) { (void)pattern_around(bench, Solid(1), 2, 0, 2, {0, -1, 0}); }},
+        {"chamfers", [&](Workbench &bench) { (void)chamfer_edges(bench, {Edge(1), Edge(2)}, 1); }},
         {"scale", [&](Workbench &bench) { scale(bench, 3); }},
         {"move", [&](Workbench &bench) { move_solid(bench, Solid(1), Motion::quarter_turns(2)); }},
         {"load", [&](Workbench &bench) { bench.load("solid 9\nface 90 9 90\nloop 90 at 90\nvertex 90 1 1 1\n"); }},

@@ -75,6 +75,16 @@ static enum gwb_kind move(gwb *g) { return gwb_move_solid(g, 1, &motion, &why); 
 static enum gwb_kind kill_one(gwb *g) { return gwb_kill_solid(g, 1, &why); }
 static enum gwb_kind make_profile(gwb *g) { return gwb_profile(g, 2, square, 4, &along, &profile, numbers, &why); }
 static enum gwb_kind pattern(gwb *g) { return gwb_pattern(g, 1, 3, &along, numbers, &why); }
+static enum gwb_kind around(gwb *g) { return gwb_pattern_around(g, 1, 4, 2, 1, &corner[0], numbers, &why); }
+static enum gwb_kind chamfers(gwb *g)
+{
+    uint32_t edges[4], n = 0;
+    gwb_half_edge_row rows[8];
+    gwb_half_edge_rows(g, 1, rows, 8);
+    for (; n < 4; n++)
+        edges[n] = rows[n].half_edge / 2;
+    return gwb_chamfer_edges(g, edges, n, 2, numbers, &why);
+}
 static enum gwb_kind renumber(gwb *g) { return gwb_renumber(g, &why); }
 static enum gwb_kind scale(gwb *g) { return gwb_scale(g, 3, &why); }
 static enum gwb_kind glue_all(gwb *g)
@@ -130,7 +140,7 @@ static const struct feature {
     enum gwb_kind (*make)(gwb *g);
 } features[] = {{"pocket", pocket},     {"boss", boss},   {"hole", hole},         {"ring", ring},       {"notch", notch},
                 {"slot", slot},         {"groove", groove}, {"shoulder", shoulder}, {"chamfer", chamfer}, {"copy", copy},
-                {"move", move},         {"kill", kill_one}, {"profile", make_profile}, {"pattern", pattern},
+                {"move", move},         {"kill", kill_one}, {"profile", make_profile}, {"pattern", pattern}, {"around", around}, {"chamfers", chamfers},
                  {"scale", scale},       {"split", split}, {"advice", advice},     {"image", image},     {"glue_all", glue_all},
                  {"drill", drill},       {"find_faces", find_faces}, {"find_edges", find_edges}, {"cut", cut},         {"trim", trim},
                  {"trim by split", trim_by_split}, {"union", unite}, {"renumber", renumber}, {"undo", undo}, {"redo", redo}, {"line", line}};

@@ -138,8 +138,10 @@ private:
     std::string feature(const std::string &word, Numbers &given)
     {
         is_turned_ = false;
-        if (word == "halve" || word == "trim" || word == "union")
+        if (word == "halve" || word == "trim" || word == "union" || word == "around")
             return of_whole(word, given);
+        if (word == "chamfers")
+            return slopes(given);
         const Point from = given.point(), to = given.point();
         const HalfEdge side = half_edge(bench_, solid_, from, to);
         if (word == "chamfer") {
@@ -161,8 +163,31 @@ private:
         return of_outline(word, face, given);
     }
 
+    std::string slopes(Numbers &given)
+    {
+        const std::int64_t width = given.number();
+        const std::vector<Point> ends = given.points();
+        std::vector<Edge> edges;
+        for (std::size_t at = 0; at < ends.size(); at += 2)
+            edges.push_back(half_edge(bench_, solid_, ends[at], ends[at + 1]).edge());
+        return gives(chamfer_edges(attempt_, edges, width));
+    }
+
+    std::string around(Numbers &given)
+    {
+        const auto count = static_cast<std::uint32_t>(given.number()), axis = static_cast<std::uint32_t>(given.number());
+        const auto quarters = static_cast<std::uint32_t>(given.number());
+        const Result<std::vector<Solid>> made = pattern_around(attempt_, solid_, count, axis, quarters, given.point());
+        std::string told = gives(made);
+        for (Solid other : made.value_or(std::vector<Solid>()))
+            told += measures(bench_, other).substr(2);
+        return told;
+    }
+
     std::string of_whole(const std::string &word, Numbers &given)
     {
+        if (word == "around")
+            return around(given);
         if (word == "union") {
             Draft draft = bench_.draft();
             const Point at = given.point();

@@ -18,11 +18,6 @@ struct Plane {
     [[nodiscard]] Plane turned() const { return {{-row.a, -row.b, -row.c, -row.d}}; }
 };
 
-/// The faces that close what lies below a plane, and what lies above it.
-struct Caps {
-    std::vector<Face> lower, upper;
-};
-
 // ---- what lies below
 
 /// Where a side goes through the plane: at a whole point, which split has seen to.
@@ -192,20 +187,22 @@ inline std::vector<Face> faces_in(const Attempts &bench, Solid solid, Face above
 }
 
 /// The command split, and the caps.
-inline Result<Caps> split(Attempts &bench, Solid solid, const Plane &plane, Solid above)
+inline Result<Split> split(Attempts &bench, Solid solid, const Plane &plane, Solid above)
 {
     const Face before = *bench.greatest<Face>();
     const Result<void> done = bench.split(solid, plane.row.a, plane.row.b, plane.row.c, plane.row.d, above);
     if (!done)
         return done.error();
-    return Caps{faces_in(bench, solid, before, plane), faces_in(bench, above, before, plane)};
+    Split made{above, faces_in(bench, solid, before, plane), {}};
+    made.upper_caps = faces_in(bench, above, before, plane);
+    return made;
 }
 
 /// Cuts a solid by split. What lies above may not be wanted.
-inline Result<Caps> cut_at_once(Attempts &bench, Solid solid, const Plane &plane, const Path &corners, Solid above, bool is_wanted)
+inline Result<Split> cut_at_once(Attempts &bench, Solid solid, const Plane &plane, const Path &corners, Solid above, bool is_wanted)
 {
     const Model before = corners.empty() ? Model() : Model::whole(bench, solid);
-    Result<Caps> caps = split(bench, solid, plane, above);
+    Result<Split> caps = split(bench, solid, plane, above);
     if (!caps)
         return caps;
     if (!corners.empty()) {
@@ -215,12 +212,15 @@ inline Result<Caps> cut_at_once(Attempts &bench, Solid solid, const Plane &plane
     }
     if (is_wanted)
         return caps;
+    caps->upper_caps.clear();
     const Result<void> gone = TakenApart(bench).take(above);
-    return gone ? Result<Caps>(Caps{caps->lower, {}}) : Result<Caps>(gone.error());
+    if (!gone)
+        return gone.error();
+    return caps;
 }
 
 /// Cuts a solid face by face, alike.
-inline Result<Caps> cut_by_faces(Attempts &bench, Solid solid, const Plane &plane, const Path &corners, Solid above, bool is_wanted)
+inline Result<Split> cut_by_faces(Attempts &bench, Solid solid, const Plane &plane, const Path &corners, Solid above, bool is_wanted)
 {
     const Held held(bench, Model::whole(bench, solid));
     const Result<std::vector<Sheet>> sheets = sheets_of(held.model);
@@ -228,27 +228,33 @@ inline Result<Caps> cut_by_faces(Attempts &bench, Solid solid, const Plane &plan
         return sheets.error();
     AllNames names(bench);
     const Result<Combined> lower = part_below(held, *sheets, plane, solid, names);
-    const Result<Combined> upper = lower && is_wanted ? part_below(held, *sheets, plane.turned(), above, names) : Combined{};
-    if (!lower || !upper)
-        return lower ? upper.error() : lower.error();
+    if (!lower)
+        return lower.error();
+    Result<Combined> upper = Combined();
+    if (is_wanted)
+        upper = part_below(held, *sheets, plane.turned(), above, names);
+    if (!upper)
+        return upper.error();
     Result<void> done = require_apart(held.model, corners, {&lower->made.model, &upper->made.model});
-    const auto operators = done ? changing::operators_between(changing::Pair{held.model, lower->made.model, {}}, names) : std::nullopt;
-    if (done)
-        done = operators ? give(bench, *operators) : give_anew(bench, solid, lower->made.model);
+    if (!done)
+        return done.error();
+    const std::set<Face> fast;
+    const auto operators = changing::operators_between({held.model, lower->made.model, fast}, names);
+    done = operators ? give(bench, *operators) : give_anew(bench, solid, lower->made.model);
     if (done && is_wanted)
         done = bench.load(upper->made.model.listing());
     if (!done)
         return done.error();
-    // (one by one: gcc 12 destroys what is not there yet where the second of two in braces throws)
-    std::vector<Face> caps_below = caps_of(*lower), caps_above = caps_of(*upper);
-    return Caps{std::move(caps_below), std::move(caps_above)};
+    Split made{above, caps_of(*lower), {}};
+    made.upper_caps = caps_of(*upper);
+    return made;
 }
 
 /// What lies above a plane becomes another solid, or goes where it isn't wanted.
-inline Result<Caps> cut(Attempts &bench, Solid solid, const Plane &plane, Solid above, bool is_wanted)
+inline Result<Split> cut(Attempts &bench, Solid solid, const Plane &plane, Solid above, bool is_wanted)
 {
     const Path corners = corners_in(bench, solid, plane);
-    const Result<Caps> caps = cut_at_once(bench, solid, plane, corners, above, is_wanted);
+    const Result<Split> caps = cut_at_once(bench, solid, plane, corners, above, is_wanted);
     return caps || !is_coped_with(caps.error()) ? caps : cut_by_faces(bench, solid, plane, corners, above, is_wanted);
 }
 

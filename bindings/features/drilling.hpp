@@ -7,12 +7,6 @@ namespace gwb_session::drilling {
 
 using namespace exact;
 
-/// What a drill makes: as a hole or a pocket, and the corners of its polygon.
-struct Drilled {
-    Hole hole;
-    std::vector<Point> points;
-};
-
 constexpr std::uint32_t most_sides = 1'000'000;
 
 /// The sine and the cosine of an angle from 0 to an eighth of a turn, by their series.
@@ -74,23 +68,19 @@ inline Result<std::vector<Point>> polygon(const Attempts &bench, Face face, Poin
 }
 
 /// A hole through the solid of a face, or of a depth.
-inline Result<Drilled> drill(Attempts &bench, Face face, Point center, std::int64_t radius, std::uint32_t sides, std::int64_t depth)
+inline Result<Hole> drill(Attempts &bench, Face face, Point center, std::int64_t radius, std::uint32_t sides, std::int64_t depth)
 {
     if (radius < 1 || sides < 3 || sides > most_sides || depth < 0)
         return machining::refused(GWB_WHY_SIZE_RANGE, radius < 1 ? 1 : depth < 0 ? 3 : 2);
     Result<std::vector<Point>> points = polygon(bench, face, center, radius, sides);
     if (!points)
         return points.error();
-    if (depth == 0) {
-        Result<Hole> made = machining::make_hole(bench, face, *points);
-        if (!made)
-            return made.error();
-        return Drilled{std::move(*made), std::move(*points)};
-    }
+    if (depth == 0)
+        return machining::make_hole(bench, face, *points);
     Result<Pocket> made = machining::raise(bench, face, *points, -depth);
     if (!made)
         return made.error();
-    return Drilled{{made->face, made->loop, std::move(made->sides)}, std::move(*points)};
+    return Hole{made->face, made->loop, std::move(made->sides), std::move(*points)};
 }
 
 } // namespace gwb_session::drilling

@@ -168,12 +168,24 @@ template <class Kind> void write(const std::vector<Kind> &numbers, std::uint32_t
         *to++ = number.number();
 }
 
-std::vector<Solid> solids_of(const std::uint32_t *numbers, std::size_t n)
+/// A row of solids, each by its place in it.
+template <class Place>
+gwb_kind row_of(gwb *g, std::uint32_t solid, std::uint32_t count, Place place, std::uint32_t *solids, gwb_refusal *why)
 {
-    std::vector<Solid> solids;
+    if (count == 0)
+        return gwb_is_open(g) ? GWB_NO_CALL : GWB_CLOSED;
+    return made(
+        g, why,
+        [&](Attempts &bench, Together &commands, Known &known) { return patterned(bench, commands, Solid(solid), count, place, known.lists); },
+        [&](const std::vector<Solid> &row) { write(row, solids); });
+}
+
+template <class Kind> std::vector<Kind> all_of(const std::uint32_t *numbers, std::size_t n)
+{
+    std::vector<Kind> all;
     for (std::size_t at = 0; at < n; at++)
-        solids.emplace_back(numbers[at]);
-    return solids;
+        all.emplace_back(numbers[at]);
+    return all;
 }
 
 Items<Point> items(const gwb_point *points, std::size_t n)
@@ -196,40 +208,60 @@ gwb_kind raised(gwb *g, std::uint32_t face, const gwb_point *points, std::size_t
         });
 }
 
-/// A notch, slot, groove or shoulder, whose lists are kept.
-template <class Make> gwb_kind cut(gwb *g, gwb_refusal *why, Make make)
+/// Changes something, or makes what is told by lists alone.
+template <class Change> gwb_kind changed(gwb *g, gwb_refusal *why, Change change)
 {
     return made(
         g, why,
         [&](Attempts &bench, Together &, Known &known) -> Result<bool> {
-            const Result<Notch> notch = make(bench);
-            if (!notch)
-                return notch.error();
-            for (Face face : notch->floor)
-                known.lists[GWB_MADE_FLOOR].push_back(face.number());
-            for (Face face : notch->walls)
-                known.lists[GWB_MADE_WALLS].push_back(face.number());
-            return true;
+            const Result<void> done = change(bench, known.lists);
+            return done ? Result<bool>(true) : Result<bool>(done.error());
         },
         [](bool) {});
 }
 
-/// A split, cut or trim, whose caps are kept.
+void put(const std::vector<Face> &faces, std::vector<std::uint32_t> &list)
+{
+    for (Face face : faces)
+        list.push_back(face.number());
+}
+
+/// A notch, slot, groove or shoulder.
+template <class Make> gwb_kind cut(gwb *g, gwb_refusal *why, Make make)
+{
+    return changed(g, why, [&](Attempts &bench, Lists &lists) -> Result<void> {
+        const Result<Notch> notch = make(bench);
+        if (!notch)
+            return notch.error();
+        put(notch->floor, lists[GWB_MADE_FLOOR]);
+        put(notch->walls, lists[GWB_MADE_WALLS]);
+        return {};
+    });
+}
+
+/// A slot or a groove.
+template <class MakeTool>
+gwb_kind channel(gwb *g, std::uint32_t face, const gwb_point *start, const gwb_point *end, std::int64_t width, std::int64_t depth, MakeTool make,
+                 gwb_refusal *why)
+{
+    return cut(g, why, [&](Attempts &bench) {
+        return shaping::cut_in_face(bench, Face(face), {*start, *end}, {width, depth}, [&](const machining::Path &ends) {
+            return make(bench, Face(face), ends, width, depth);
+        });
+    });
+}
+
+/// A split, cut or trim.
 template <class Make> gwb_kind parted(gwb *g, gwb_refusal *why, Make make)
 {
-    return made(
-        g, why,
-        [&](Attempts &bench, Together &, Known &known) -> Result<bool> {
-            const Result<cuts::Caps> caps = make(bench);
-            if (!caps)
-                return caps.error();
-            for (Face face : caps->lower)
-                known.lists[GWB_MADE_LOWER_CAPS].push_back(face.number());
-            for (Face face : caps->upper)
-                known.lists[GWB_MADE_UPPER_CAPS].push_back(face.number());
-            return true;
-        },
-        [](bool) {});
+    return changed(g, why, [&](Attempts &bench, Lists &lists) -> Result<void> {
+        const Result<Split> parts = make(bench);
+        if (!parts)
+            return parts.error();
+        put(parts->lower_caps, lists[GWB_MADE_LOWER_CAPS]);
+        put(parts->upper_caps, lists[GWB_MADE_UPPER_CAPS]);
+        return {};
+    });
 }
 
 /// Whether each number stands once.
@@ -239,6 +271,15 @@ bool are_different(const std::uint32_t *numbers, std::size_t n)
         if (std::find(numbers, numbers + at, numbers[at]) != numbers + at)
             return false;
     return true;
+}
+
+/// Chamfers of different edges, made at once.
+gwb_kind sloped(gwb *g, const std::uint32_t *edges, std::size_t n, std::int64_t width, std::int64_t other, std::uint32_t *faces, gwb_refusal *why)
+{
+    return made(
+        g, why,
+        [&](Attempts &bench, Together &, Known &) { return shaping::make_chamfers(bench, all_of<Edge>(edges, n), width, other); },
+        [&](const std::vector<Face> &slopes) { write(slopes, faces); });
 }
 
 gwb_wide wide(exact::Wide number) { return {static_cast<std::int64_t>(number >> 64), static_cast<std::uint64_t>(number)}; }
@@ -288,18 +329,12 @@ std::size_t gwb_made(const gwb *g, std::uint32_t list, std::uint32_t *buf, std::
 
 gwb_kind gwb_kill_solid(gwb *g, std::uint32_t solid, gwb_refusal *why)
 {
-    return made(
-        g, why,
-        [&](Attempts &bench, Together &, Known &) -> Result<bool> {
-            const Result<void> done = TakenApart(bench).take(Solid(solid));
-            return done ? Result<bool>(true) : Result<bool>(done.error());
-        },
-        [](bool) {});
+    return changed(g, why, [&](Attempts &bench, Lists &) { return TakenApart(bench).take(Solid(solid)); });
 }
 
 gwb_kind gwb_copy_solid(gwb *g, std::uint32_t solid, const gwb_motion *motion, std::uint32_t *out, gwb_refusal *why)
 {
-    if (!Motion(*motion).is_one())
+    if (!is_motion(*motion))
         return gwb_is_open(g) ? GWB_NO_CALL : GWB_CLOSED;
     return made(
         g, why,
@@ -311,7 +346,7 @@ gwb_kind gwb_copy_solid(gwb *g, std::uint32_t solid, const gwb_motion *motion, s
 
 gwb_kind gwb_move_solid(gwb *g, std::uint32_t solid, const gwb_motion *motion, gwb_refusal *why)
 {
-    if (!Motion(*motion).is_one())
+    if (!is_motion(*motion))
         return gwb_is_open(g) ? GWB_NO_CALL : GWB_CLOSED;
     return made(
         g, why, [&](Attempts &bench, Together &, Known &) { return moved(bench, Solid(solid), Motion(*motion)); }, [](Solid) {});
@@ -319,36 +354,28 @@ gwb_kind gwb_move_solid(gwb *g, std::uint32_t solid, const gwb_motion *motion, g
 
 gwb_kind gwb_pattern(gwb *g, std::uint32_t solid, std::uint32_t count, const gwb_point *step, std::uint32_t *solids, gwb_refusal *why)
 {
-    if (count == 0)
+    return row_of(g, solid, count, [&](std::uint32_t place) { return steps(*step, place); }, solids, why);
+}
+
+gwb_kind gwb_pattern_around(gwb *g, std::uint32_t solid, std::uint32_t count, std::uint32_t axis, std::uint32_t quarters, const gwb_point *about,
+                            std::uint32_t *solids, gwb_refusal *why)
+{
+    const bool are_apart = quarters == 2 ? count <= 2 : quarters % 2 == 1 && quarters < 4 && count <= 4;
+    if (axis > 2 || !are_apart)
         return gwb_is_open(g) ? GWB_NO_CALL : GWB_CLOSED;
-    return made(
-        g, why,
-        [&](Attempts &bench, Together &commands, Known &known) {
-            return patterned(bench, commands, Solid(solid), count, *step, known.lists);
-        },
-        [&](const std::vector<Solid> &row) { write(row, solids); });
+    return row_of(g, solid, count, [&](std::uint32_t place) { return turn(axis, quarters * place, *about); }, solids, why);
 }
 
 gwb_kind gwb_scale(gwb *g, std::int64_t factor, gwb_refusal *why)
 {
-    return made(
-        g, why,
-        [&](Attempts &bench, Together &, Known &) -> Result<bool> {
-            const Result<void> done = factor < 1 ? Result<void>(machining::refused(GWB_WHY_SIZE_RANGE, 1)) : all_scaled(bench, factor);
-            return done ? Result<bool>(true) : Result<bool>(done.error());
-        },
-        [](bool) {});
+    return changed(g, why, [&](Attempts &bench, Lists &) {
+        return factor < 1 ? Result<void>(machining::refused(GWB_WHY_SIZE_RANGE, 1)) : all_scaled(bench, factor);
+    });
 }
 
 gwb_kind gwb_renumber(gwb *g, gwb_refusal *why)
 {
-    return made(
-        g, why,
-        [&](Attempts &bench, Together &, Known &known) -> Result<bool> {
-            const Result<void> done = renumbered(bench, known.lists);
-            return done ? Result<bool>(true) : Result<bool>(done.error());
-        },
-        [](bool) {});
+    return changed(g, why, [](Attempts &bench, Lists &lists) { return renumbered(bench, lists); });
 }
 
 gwb_kind gwb_glue_all(gwb *g, const std::uint32_t *solids, std::size_t n, gwb_refusal *why)
@@ -357,14 +384,7 @@ gwb_kind gwb_glue_all(gwb *g, const std::uint32_t *solids, std::size_t n, gwb_re
         return GWB_CLOSED;
     if (n == 0 || !are_different(solids, n))
         return GWB_NO_CALL;
-    return made(
-        g, why,
-        [&](Attempts &bench, Together &, Known &) -> Result<bool> {
-            const std::vector<Solid> all = solids_of(solids, n);
-            const Result<void> done = gluing::glue_all(bench, all);
-            return done ? Result<bool>(true) : Result<bool>(done.error());
-        },
-        [](bool) {});
+    return changed(g, why, [&](Attempts &bench, Lists &) { return gluing::glue_all(bench, all_of<Solid>(solids, n)); });
 }
 
 gwb_kind gwb_split_solid(gwb *g, std::uint32_t solid, const gwb_cut_plane *plane, std::uint32_t above, gwb_refusal *why)
@@ -388,16 +408,13 @@ gwb_kind gwb_union(gwb *g, const std::uint32_t *solids, std::size_t n, gwb_refus
         return GWB_CLOSED;
     if (n < 2 || !are_different(solids, n))
         return GWB_NO_CALL;
-    return made(
-        g, why,
-        [&](Attempts &bench, Together &, Known &known) -> Result<bool> {
-            const Result<uniting::Became> became = uniting::unite(bench, solids_of(solids, n));
-            if (!became)
-                return became.error();
-            became->tell(known.lists[GWB_MADE_INTO]);
-            return true;
-        },
-        [](bool) {});
+    return changed(g, why, [&](Attempts &bench, Lists &lists) -> Result<void> {
+        const Result<uniting::Became> became = uniting::unite(bench, all_of<Solid>(solids, n));
+        if (!became)
+            return became.error();
+        became->tell(lists[GWB_MADE_INTO]);
+        return {};
+    });
 }
 
 gwb_kind gwb_profile(gwb *g, std::uint32_t solid, const gwb_point *points, std::size_t n, const gwb_point *along, gwb_profile_made *out,
@@ -452,9 +469,9 @@ gwb_kind gwb_drill(gwb *g, std::uint32_t face, const gwb_point *center, std::int
 {
     return made(
         g, why, [&](Attempts &bench, Together &, Known &) { return drilling::drill(bench, Face(face), *center, radius, n, depth); },
-        [&](const drilling::Drilled &made) {
-            *out = {made.hole.other.number(), made.hole.loop.number()};
-            write(made.hole.sides, sides);
+        [&](const Hole &made) {
+            *out = {made.other.number(), made.loop.number()};
+            write(made.sides, sides);
             std::copy(made.points.begin(), made.points.end(), points);
         });
 }
@@ -480,21 +497,13 @@ gwb_kind gwb_notch(gwb *g, std::uint32_t face, const gwb_point *points, std::siz
 
 gwb_kind gwb_slot(gwb *g, std::uint32_t face, const gwb_point *start, const gwb_point *end, std::int64_t width, std::int64_t depth, gwb_refusal *why)
 {
-    return cut(g, why, [&](Attempts &bench) {
-        return shaping::cut_in_face(bench, Face(face), {*start, *end}, {width, depth}, [&](const machining::Path &ends) {
-            return shaping::slot_tool(bench, Face(face), ends, width, depth);
-        });
-    });
+    return channel(g, face, start, end, width, depth, shaping::slot_tool, why);
 }
 
 gwb_kind gwb_groove(gwb *g, std::uint32_t face, const gwb_point *start, const gwb_point *end, std::int64_t width, std::int64_t depth,
                     gwb_refusal *why)
 {
-    return cut(g, why, [&](Attempts &bench) {
-        return shaping::cut_in_face(bench, Face(face), {*start, *end}, {width, depth}, [&](const machining::Path &ends) {
-            return shaping::groove_tool(bench, Face(face), ends, width, depth);
-        });
-    });
+    return channel(g, face, start, end, width, depth, shaping::groove_tool, why);
 }
 
 gwb_kind gwb_shoulder(gwb *g, std::uint32_t face, std::uint32_t edge, std::int64_t width, std::int64_t depth, gwb_refusal *why)
@@ -504,16 +513,21 @@ gwb_kind gwb_shoulder(gwb *g, std::uint32_t face, std::uint32_t edge, std::int64
 
 gwb_kind gwb_chamfer(gwb *g, std::uint32_t edge, std::int64_t width, std::int64_t other, std::uint32_t *face, gwb_refusal *why)
 {
-    return made(
-        g, why, [&](Attempts &bench, Together &, Known &) { return shaping::make_chamfer(bench, Edge(edge), width, other); },
-        [&](Face made) { *face = made.number(); });
+    return sloped(g, &edge, 1, width, other, face, why);
+}
+
+gwb_kind gwb_chamfer_edges(gwb *g, const std::uint32_t *edges, std::size_t n, std::int64_t width, std::uint32_t *faces, gwb_refusal *why)
+{
+    if (!gwb_is_open(g))
+        return GWB_CLOSED;
+    return n == 0 || !are_different(edges, n) ? GWB_NO_CALL : sloped(g, edges, n, width, width, faces, why);
 }
 
 gwb_kind gwb_off_lattice(const gwb *g, std::uint32_t solid, const gwb_cut_plane *plane, std::size_t most, gwb_advice **advice, gwb_refusal *why)
 {
     return guarded(g, [&] {
         const Lent session(g);
-        const Result<OffLattice> found = cutting::made(session.bench(), Solid(solid), {plane->a, plane->b, plane->c, plane->d}, most);
+        const Result<OffLattice> found = cutting::made(session.bench(), Solid(solid), *plane, most);
         if (!found)
             return told(found.error(), why);
         *advice = new gwb_advice{*found};
@@ -541,9 +555,7 @@ std::size_t gwb_advice_cuts(const gwb_advice *advice, gwb_edge_cut *to, std::siz
 
 std::size_t gwb_advice_planes(const gwb_advice *advice, gwb_near_plane *to, std::size_t room)
 {
-    return rows(advice->found.near, to, room, [](const NearPlane &near) {
-        return gwb_near_plane{{near.plane.a, near.plane.b, near.plane.c, near.plane.d}, near.is_parallel, near.moved};
-    });
+    return rows(advice->found.near, to, room, [](const gwb_near_plane &near) { return near; });
 }
 
 std::size_t gwb_advice_text(const gwb_advice *advice, std::uint32_t above, char *buf, std::size_t room)

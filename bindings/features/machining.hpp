@@ -16,35 +16,6 @@
 
 namespace gwb_session {
 
-/// What profile makes: the face that was moved, the one that stayed, and for each point the side from it to the next.
-struct Profile {
-    Solid solid;
-    Face far, base;
-    std::vector<Face> sides;
-};
-
-/// What ring makes: the face inside the outline, the ring around it, and for each point the edge from it to the next, and the vertex there.
-struct Ring {
-    Face face;
-    Loop loop;
-    std::vector<Edge> edges;
-    std::vector<Vertex> vertices;
-};
-
-/// What pocket and boss make: the floor or top, the ring in the face, and for each point the side from it to the next.
-struct Pocket {
-    Face face;
-    Loop loop;
-    std::vector<Face> sides;
-};
-
-/// What hole makes: the face that it ends in, the ring at its start, and for each point the side from it to the next.
-struct Hole {
-    Face other;
-    Loop loop;
-    std::vector<Face> sides;
-};
-
 namespace machining {
 
 using namespace exact;
@@ -828,7 +799,9 @@ inline Result<Hole> make_hole(Attempts &bench, Face face, Items<Point> points)
         put_sides(of, bench, face, made->loop, drawn->path, made->sides);
         of.put(end->face, far_ring, far);
     });
-    return Hole{end->face, made->loop, made->sides};
+    Hole hole{end->face, made->loop, made->sides, {}};
+    hole.points.assign(points.begin(), points.end());
+    return hole;
 }
 
 } // namespace machining

@@ -8,17 +8,13 @@
 #ifndef GWB_FEATURES_OFF_LATTICE_HPP
 #define GWB_FEATURES_OFF_LATTICE_HPP
 #include "exact.hpp"
+#include "gwb_features.h"
 #include "stopping.hpp"
 #include <cmath>
 #include <limits>
 #include <set>
 
 namespace gwb_session {
-
-/// The plane a x + b y + c z + d = 0; above it the sum is greater than 0.
-struct CutPlane {
-    std::int64_t a, b, c, d;
-};
 
 /// A fraction by its least terms, of which the second is above zero.
 struct Fraction {
@@ -47,24 +43,17 @@ struct EdgeCut {
     [[nodiscard]] bool is_whole() const { return point[0].is_whole() && point[1].is_whole() && point[2].is_whole(); }
 };
 
-/// A plane that cuts the solid at whole points alone.
-struct NearPlane {
-    CutPlane plane;
-    bool is_parallel; ///< else it is tilted
-    double moved;     ///< how far it moves the cut along an edge at most, rounded up to hundredths
-};
-
 /// A cut of a solid by a plane, of which some points may not be whole.
 struct OffLattice {
     Solid solid;
-    CutPlane plane;
+    gwb_cut_plane plane;
     std::vector<EdgeCut> cuts; ///< of all edges that the plane cuts, rising
     /// The least by which the model must be multiplied for all points of the cut to be whole: 1 where they are, 0 where it passes 10^36.
     exact::Wide factor = 1;
     /// Whether the model times the factor stays within 1,000,000,000, and the plane in its range: then the plane a, b, c, d times the factor
     /// cuts it at whole points.
     bool fits = true;
-    std::vector<NearPlane> near; ///< the nearest parallel plane, where there is one, and then tilted ones, the nearest first
+    std::vector<gwb_near_plane> near; ///< that cut at whole points: the nearest parallel plane, where there is one, and then tilted ones, the nearest first
 
     /// Lines of a script: comments, and the splits that would do, with the number for the solid above the plane.
     [[nodiscard]] std::string advice(Solid above) const
@@ -93,7 +82,7 @@ private:
     {
         const bool has_parallel = !near.empty() && near.front().is_parallel;
         std::string text = has_parallel || factor == 1 ? "" : "# no parallel plane cuts at whole points\n";
-        for (const NearPlane &beside : near) {
+        for (const gwb_near_plane &beside : near) {
             const auto hundredths = static_cast<std::int64_t>(beside.moved * 100 + 0.5);
             const std::string rest = std::to_string(hundredths % 100);
             text += std::string(beside.is_parallel ? "# parallel" : "# tilted") + ", the cut moves by at most " + std::to_string(hundredths / 100) +
@@ -101,7 +90,7 @@ private:
         }
         return text;
     }
-    [[nodiscard]] std::string split(const CutPlane &by, Solid above) const
+    [[nodiscard]] std::string split(const gwb_cut_plane &by, Solid above) const
     {
         std::string text = "split " + std::to_string(solid.number());
         for (std::int64_t part : {by.a, by.b, by.c, by.d, static_cast<std::int64_t>(above.number())})
@@ -122,7 +111,7 @@ struct Plane {
     Wide offset;
 
     [[nodiscard]] Wide height(const Vector &at) const { return dot(across, at) + offset; }
-    [[nodiscard]] CutPlane numbers() const
+    [[nodiscard]] gwb_cut_plane numbers() const
     {
         const Point way = point(across);
         return {way.x, way.y, way.z, static_cast<std::int64_t>(offset)};
@@ -344,7 +333,7 @@ public:
     }
 
     /// The nearest plane with the same normal.
-    [[nodiscard]] std::optional<NearPlane> parallel() const
+    [[nodiscard]] std::optional<gwb_near_plane> parallel() const
     {
         const Vector normal = reduced(plane_.across);
         const std::size_t axis = widest(normal);
@@ -369,7 +358,7 @@ public:
     }
 
     /// The nearest of those through whole points of three cut edges, nearest first; at most so many.
-    [[nodiscard]] std::vector<NearPlane> tilted(std::size_t most) const
+    [[nodiscard]] std::vector<gwb_near_plane> tilted(std::size_t most) const
     {
         struct Ranked {
             SquareMoved square;
@@ -386,7 +375,7 @@ public:
             const int nearer = a.square.compare(b.square);
             return nearer != 0 ? nearer < 0 : a.size < b.size;
         });
-        std::vector<NearPlane> found;
+        std::vector<gwb_near_plane> found;
         for (std::size_t at = 0; at < ranked.size() && found.size() < most; at++)
             if (is_cuttable(ranked[at].plane))
                 found.push_back(*near(ranked[at].plane, false));
@@ -536,11 +525,11 @@ private:
     }
 
     /// The plane with how far it moves the cut.
-    [[nodiscard]] std::optional<NearPlane> near(const Plane &plane, bool is_parallel) const
+    [[nodiscard]] std::optional<gwb_near_plane> near(const Plane &plane, bool is_parallel) const
     {
         const std::optional<SquareMoved> square = square_moved(plane);
         // (less than what rounding adds is not rounded up)
-        return square ? std::optional(NearPlane{plane.numbers(), is_parallel, std::ceil(std::sqrt(square->value) * 100 - 1e-9) / 100}) : std::nullopt;
+        return square ? std::optional(gwb_near_plane{plane.numbers(), is_parallel, std::ceil(std::sqrt(square->value) * 100 - 1e-9) / 100}) : std::nullopt;
     }
 
     Plane plane_;
@@ -548,7 +537,7 @@ private:
     std::vector<Ends> edges_, cuts_;
 };
 
-inline Result<OffLattice> made(const Attempts &bench, Solid solid, const CutPlane &numbers, std::size_t most)
+inline Result<OffLattice> made(const Attempts &bench, Solid solid, const gwb_cut_plane &numbers, std::size_t most)
 {
     if (bench.faces(solid).empty())
         return bench.is_open() ? Failure{Problem::refused, GWB_WHY_NO_SOLID, solid.number()} : Failure{Problem::closed};
@@ -572,9 +561,9 @@ inline Result<OffLattice> made(const Attempts &bench, Solid solid, const CutPlan
                                        magnitude(parts[3]) * found.factor <= farthest_offset);
     if (found.factor == 1)
         return found;
-    if (const std::optional<NearPlane> parallel = near.parallel())
+    if (const std::optional<gwb_near_plane> parallel = near.parallel())
         found.near.push_back(*parallel);
-    for (const NearPlane &tilted : near.tilted(most))
+    for (const gwb_near_plane &tilted : near.tilted(most))
         found.near.push_back(tilted);
     return found;
 }

@@ -14,24 +14,20 @@
 
 namespace gwb_session {
 
-/// What a notch, slot, groove or shoulder leaves: its floor, in as many faces as there are, none where it goes through, and its walls.
-struct Notch {
-    std::vector<Face> floor, walls;
-};
-
 namespace shaping {
 
 using namespace combining;
 
-/// A part that is cut out, or put on: the face that lies on the solid's, the one opposite to it, and the others, all seen from outside.
+/// A part that is cut out, or put on, by its faces seen from outside: those that lie on the solid's, those opposite to these, and the others.
 struct Tool {
-    Path lid, floor; ///< there may be no floor
-    std::vector<Path> walls;
+    std::vector<Path> lids, floors, walls;
 };
 
-/// An end of an edge, and the points beside it in the two faces of the edge.
+/// An end of an edge, and the points beside it in the two faces of the edge; where its slope meets others there, perhaps a point between.
 struct Corner {
     Vector point, first, second;
+    bool is_shared = false;
+    std::optional<Vector> between = {};
 };
 
 inline Path backwards(Path path)
@@ -44,9 +40,9 @@ inline Path backwards(Path path)
 inline Tool prism(const Path &outline, const Vector &way)
 {
     const Path path = dot(area_vector(outline), way) < 0 ? outline : backwards(outline);
-    Tool tool{path, {}, {}};
+    Tool tool{{path}, {Path()}, {}};
     for (const Vector &at : path)
-        tool.floor.insert(tool.floor.begin(), add(at, way));
+        tool.floors[0].insert(tool.floors[0].begin(), add(at, way));
     for (std::size_t at = 0; at < path.size(); at++) {
         const Vector &before = path[(at + path.size() - 1) % path.size()];
         tool.walls.push_back({path[at], before, add(before, way), add(path[at], way)});
@@ -54,21 +50,30 @@ inline Tool prism(const Path &outline, const Vector &way)
     return tool;
 }
 
-/// The faces of a wedge between two triangles, seen from outside: the sides at its edge, the slope opposite to it, and its ends.
+/// The faces of a wedge along an edge, seen from outside: the sides at its edge, the slope opposite to it, and its ends, where it has any.
 struct Wedge {
-    Path first, second, slope, start, end;
+    Path first, second, slope;
+    std::vector<Path> ends;
 };
 
 inline Wedge wedge(const Corner &start, const Corner &end)
 {
-    const Wedge made{{start.point, end.point, end.first, start.first},
-                     {start.second, end.second, end.point, start.point},
-                     {start.first, end.first, end.second, start.second},
-                     {start.point, start.first, start.second},
-                     {end.point, end.second, end.first}};
+    Wedge made{{start.point, end.point, end.first, start.first}, {start.second, end.second, end.point, start.point}, {start.first, end.first}, {}};
+    if (end.between)
+        made.slope.push_back(*end.between);
+    made.slope.insert(made.slope.end(), {end.second, start.second});
+    if (start.between)
+        made.slope.push_back(*start.between);
+    if (!start.is_shared)
+        made.ends.push_back({start.point, start.first, start.second});
+    if (!end.is_shared)
+        made.ends.push_back({end.point, end.second, end.first});
     if (dot(area_vector(made.slope), subtract(start.first, start.point)) > 0)
         return made;
-    return {backwards(made.first), backwards(made.second), backwards(made.slope), backwards(made.start), backwards(made.end)};
+    for (Path *path : {&made.first, &made.second, &made.slope})
+        *path = backwards(*path);
+    std::transform(made.ends.begin(), made.ends.end(), made.ends.begin(), backwards);
+    return made;
 }
 
 /// The shortest normal of a face that is plain and flat.
@@ -140,7 +145,16 @@ inline Result<Tool> groove_tool(const Attempts &bench, Face face, const Path &en
         return way.error();
     const auto corner = [&](const Vector &at) { return Corner{add(at, *way), subtract(at, around->side), add(at, around->side)}; };
     const Wedge made = wedge(corner(ends[0]), corner(ends[1]));
-    return Tool{made.slope, {}, {made.first, made.second, made.start, made.end}};
+    return Tool{{made.slope}, {}, {made.first, made.second, made.ends[0], made.ends[1]}};
+}
+
+/// The point that lies so far from a corner along a way as the fraction says.
+inline Result<Vector> part_of_way(Face face, const Vector &corner, const Vector &way, Wide numerator, Wide denominator)
+{
+    const Vector scaled = times(way, numerator);
+    if (std::any_of(scaled.begin(), scaled.end(), [&](Wide part) { return part % denominator != 0; }))
+        return impossible(Misfit::off_lattice, face.number());
+    return add(corner, {scaled[0] / denominator, scaled[1] / denominator, scaled[2] / denominator});
 }
 
 /// The point on the way from a corner to the end of the side there, as far in as the step is; where the side runs the other way, square.
@@ -150,30 +164,46 @@ inline Result<Vector> on_side(Face face, const Vector &corner, const Vector &end
     const Wide rise = dot(step, side), square = dot(step, step);
     if (rise <= 0)
         return add(corner, step);
-    if (square > rise)
-        return impossible(Misfit::outline_outside, face.number());
-    const Vector way = times(side, square);
-    if (std::any_of(way.begin(), way.end(), [&](Wide part) { return part % rise != 0; }))
-        return impossible(Misfit::off_lattice, face.number());
-    return add(corner, {way[0] / rise, way[1] / rise, way[2] / rise});
+    return square > rise ? Result<Vector>(impossible(Misfit::outline_outside, face.number())) : part_of_way(face, corner, side, square, rise);
 }
 
-/// The points where the line at a distance from a half-edge, in its face, meets the sides before and after it.
-inline Result<std::array<Vector, 2>> setbacks(const Attempts &bench, HalfEdge half, std::int64_t width)
+/// The point where the lines meet that lie so far from both sides of a corner as their steps.
+inline Result<Vector> beside_both(Face face, const Vector &corner, const Vector &step, const Vector &other)
+{
+    const Wide square = dot(step, step), whole = square + dot(step, other);
+    return whole == 0 ? Result<Vector>(impossible(Misfit::outline_outside, face.number()))
+                      : part_of_way(face, corner, add(step, other), square, whole);
+}
+
+inline Vector start_of(const Attempts &bench, HalfEdge half) { return vector(*bench.vertex(*bench.start_of(half))); }
+
+/// The way from a half-edge into its face, across it and so long.
+inline Result<Vector> inwards(const Attempts &bench, HalfEdge half, std::int64_t length)
 {
     const Face face = *bench.face_of(half);
     const Result<Vector> across = flat_normal(bench, face);
-    if (!across)
-        return across.error();
-    const auto at = [&](HalfEdge of) { return vector(*bench.vertex(*bench.start_of(of))); };
-    const Vector start = at(half), end = at(half.twin());
-    const Result<Vector> step = along(reduced(cross(*across, subtract(end, start))), width, face);
+    return across ? along(reduced(cross(*across, subtract(start_of(bench, half.twin()), start_of(bench, half)))), length, face) : across;
+}
+
+/// The points where the line at a distance from a half-edge, in its face, meets the sides before and after it; of those that have such a line too
+/// the line.
+inline Result<std::array<Vector, 2>> setbacks(const Attempts &bench, HalfEdge half, std::int64_t width, const std::set<Edge> &lined = {})
+{
+    const Face face = *bench.face_of(half);
+    const Result<Vector> step = inwards(bench, half, width);
     if (!step)
         return step.error();
-    const Result<Vector> first = on_side(face, start, at(*bench.previous(half)), *step);
+    const auto met = [&](HalfEdge side, HalfEdge corner, HalfEdge far) -> Result<Vector> {
+        if (lined.count(side.edge()) == 0)
+            return on_side(face, start_of(bench, corner), start_of(bench, far), *step);
+        const Result<Vector> other = inwards(bench, side, width);
+        return other ? beside_both(face, start_of(bench, corner), *step, *other) : other;
+    };
+    const HalfEdge before = *bench.previous(half), after = *bench.next(half);
+    const Result<Vector> first = met(before, half, before);
     if (!first)
         return first.error();
-    const Result<Vector> last = on_side(face, end, at(bench.next(half)->twin()), *step);
+    const Result<Vector> last = met(after, half.twin(), after.twin());
     return last ? Result<std::array<Vector, 2>>(std::array{*first, *last}) : Result<std::array<Vector, 2>>(last.error());
 }
 
@@ -188,22 +218,98 @@ inline Result<Tool> shoulder_tool(const Attempts &bench, HalfEdge half, std::int
     const Result<Vector> way = along(negative(*across), depth, face);
     if (!way)
         return way.error();
-    const auto at = [&](HalfEdge of) { return vector(*bench.vertex(*bench.start_of(of))); };
-    return prism({at(half), at(half.twin()), (*ends)[1], (*ends)[0]}, *way);
+    return prism({start_of(bench, half), start_of(bench, half.twin()), (*ends)[1], (*ends)[0]}, *way);
 }
 
-/// The wedge along an edge, so far into the face of the half-edge and into that of its mate. Its lid lies in the first of them.
-inline Result<Tool> chamfer_tool(const Attempts &bench, HalfEdge half, std::int64_t first, std::int64_t second)
+// ---- slopes
+
+/// An end of an edge that becomes a slope, and the way that the edge runs.
+struct End {
+    Corner *corner;
+    HalfEdge half;
+    Vector way;
+};
+
+/// The point where three slopes meet.
+inline Result<Vector> common_point(const Attempts &bench, const std::vector<End> &ends, const Failure &apart)
 {
-    const auto near = setbacks(bench, half, first);
-    if (!near)
-        return near.error();
-    const auto far = setbacks(bench, half.twin(), second);
-    if (!far)
-        return far.error();
-    const auto at = [&](HalfEdge of) { return vector(*bench.vertex(*bench.start_of(of))); };
-    const Wedge made = wedge({at(half), (*near)[0], (*far)[1]}, {at(half.twin()), (*near)[1], (*far)[0]});
-    return Tool{made.first, made.slope, {made.second, made.start, made.end}};
+    const auto across = [](const End &end) { return reduced(cross(end.way, subtract(end.corner->second, end.corner->first))); };
+    const Corner &one = *ends[0].corner, &other = *ends[1].corner;
+    const Vector &start = one.first == other.first || one.first == other.second ? one.first : one.second;
+    Vector line = cross(across(ends[0]), across(ends[1]));
+    if (is_zero(line))
+        return apart;
+    line = reduced(line);
+    const Vector third = across(ends[2]);
+    const Wide rise = dot(third, subtract(ends[2].corner->first, start));
+    const Face face = *bench.face_of(ends[0].half);
+    if (rise == 0)
+        return apart;
+    if (longest(line) > 4 * Wide{farthest}) // as far from the start as no point in range
+        return impossible(Misfit::off_lattice, face.number());
+    const Wide slope = dot(third, line);
+    if (slope == 0)
+        return apart;
+    if (rise % slope != 0)
+        return impossible(Misfit::off_lattice, face.number());
+    return magnitude(rise / slope) > 4 * Wide{farthest} ? refused(GWB_WHY_POINT_RANGE, 0) : Result<Vector>(add(start, times(line, rise / slope)));
+}
+
+/// Joins slopes of edges that end at a vertex. Not possible: NoCorner: more than three edges end there, or the slopes don't meet in one point.
+inline Result<void> join_slopes(const Attempts &bench, Vertex vertex, const std::vector<End> &ends)
+{
+    const Failure apart = impossible(Misfit::no_corner, vertex.number());
+    std::set<Vector> points;
+    for (const End &end : ends) {
+        end.corner->is_shared = true;
+        points.insert({end.corner->first, end.corner->second});
+    }
+    const auto edges = bench.around(ends[0].half);
+    if (std::distance(edges.begin(), edges.end()) > 3 || points.size() != ends.size())
+        return apart;
+    if (ends.size() < 3)
+        return {};
+    const Result<Vector> between = common_point(bench, ends, apart);
+    if (!between)
+        return between.error();
+    for (const End &end : ends)
+        end.corner->between = *between;
+    return {};
+}
+
+/// The wedges along edges, so far into the faces of their first half-edges, where their lids lie, and into the others; if there are several both
+/// are as far. The floors are the slopes.
+inline Result<Tool> chamfer_tool(const Attempts &bench, const std::vector<Edge> &edges, std::int64_t first, std::int64_t second)
+{
+    const std::set<Edge> lined(edges.begin(), edges.end());
+    std::vector<std::array<Corner, 2>> corners(edges.size());
+    std::map<Vertex, std::vector<End>> ends;
+    for (std::size_t at = 0; at < edges.size(); at++) {
+        const HalfEdge half = plus(edges[at]), twin = half.twin();
+        const auto near = setbacks(bench, half, first, lined);
+        if (!near)
+            return near.error();
+        const auto far = setbacks(bench, twin, second, lined);
+        if (!far)
+            return far.error();
+        const Vector start = start_of(bench, half), end = start_of(bench, twin);
+        corners[at] = {Corner{start, (*near)[0], (*far)[1]}, Corner{end, (*near)[1], (*far)[0]}};
+        ends[*bench.start_of(half)].push_back({&corners[at][0], half, subtract(end, start)});
+        ends[*bench.start_of(twin)].push_back({&corners[at][1], twin, subtract(end, start)});
+    }
+    for (const auto &[vertex, here] : ends)
+        if (here.size() > 1)
+            if (const Result<void> joined = join_slopes(bench, vertex, here); !joined)
+                return joined.error();
+    Tool tool;
+    for (const auto &[start, end] : corners) {
+        Wedge made = wedge(start, end);
+        tool.lids.push_back(std::move(made.first));
+        tool.floors.push_back(std::move(made.slope));
+        tool.walls.push_back(std::move(made.second));
+        tool.walls.insert(tool.walls.end(), made.ends.begin(), made.ends.end());
+    }
+    return tool;
 }
 
 /// Whether the solid has less than half of the room around an edge; refused where its faces lie in one plane.
@@ -218,22 +324,20 @@ inline Result<bool> bends_outwards(const Attempts &bench, HalfEdge half)
         return beyond.error();
     if (are_parallel(*across, beyond->across()))
         return impossible(Misfit::flat_edge, half.edge().number());
-    const auto at = [&](HalfEdge of) { return vector(*bench.vertex(*bench.start_of(of))); };
     // (what is across both normals runs along the edge, so one part of it tells which way)
-    const Axes axes = flat_axes(subtract(at(half.twin()), at(half)));
+    const Axes axes = flat_axes(subtract(start_of(bench, half.twin()), start_of(bench, half)));
     const Vector &one = *across, &other_one = beyond->across();
     return compare_products(one[axes[0]], other_one[axes[1]], one[axes[1]], other_one[axes[0]]) > 0;
 }
 
 // ---- what is changed
 
-/// The faces of a tool as sheets, the lid first and then the floor, if there is one: seen from outside, or from inside where they cut.
+/// The faces of a tool as sheets: the lids, the floors, and then the walls; seen from outside, or from inside where they cut.
 inline Result<std::vector<Sheet>> sheets_of(const Tool &tool, bool are_cut)
 {
-    std::vector<Path> paths = {tool.lid};
-    if (!tool.floor.empty())
-        paths.push_back(tool.floor);
-    paths.insert(paths.end(), tool.walls.begin(), tool.walls.end());
+    std::vector<Path> paths;
+    for (const std::vector<Path> *part : {&tool.lids, &tool.floors, &tool.walls})
+        paths.insert(paths.end(), part->begin(), part->end());
     for (const Path &path : paths)
         if (!std::all_of(path.begin(), path.end(), is_in_range))
             return refused(GWB_WHY_POINT_RANGE, 0);
@@ -243,48 +347,69 @@ inline Result<std::vector<Sheet>> sheets_of(const Tool &tool, bool are_cut)
         const Vector across = area_vector(path);
         if (is_zero(across) || !std::all_of(path.begin(), path.end(), [&](const Vector &at) { return dot(across, subtract(at, path[0])) == 0; }))
             return refused(GWB_WHY_NOT_FLAT, 0);
-        Cycle cycle;
+        Cycle cycle; // (a strip may end in a point)
         for (std::size_t at = 0; at < path.size(); at++)
-            cycle.push_back({path[at], path[(at + 1) % path.size()]});
+            if (const Vector &next = path[(at + 1) % path.size()]; next != path[at])
+                cycle.push_back({path[at], next});
         sheets.push_back({Face(), reduced(across), {cycle}, sheets.size()});
     }
     return sheets;
 }
 
-/// The floor and walls that a tool leaves: its sheets before the first wall are its lid, and its floor where it has one.
-inline Notch notch_of(const Combined &made, std::size_t first_wall, std::size_t end)
+/// Whether the faces of a tool meet or touch each other elsewhere than at their sides.
+inline bool meets_itself(const Attempts &bench, Solid solid, const std::vector<Sheet> &sheets)
 {
-    std::set<Face> floor, walls;
-    if (first_wall == 2)
-        floor = made.marked(1);
-    for (std::size_t mark = first_wall; mark < end; mark++)
-        walls.merge(made.marked(mark));
-    return {{floor.begin(), floor.end()}, {walls.begin(), walls.end()}};
+    std::vector<sheets::Region> regions;
+    std::transform(sheets.begin(), sheets.end(), std::back_inserter(regions), sheets::unchanged);
+    const Held nothing(bench, Model{solid, {}, {}, {}, {}, {}});
+    AllNames names(bench);
+    const std::optional<Made> made = Assembly(nothing, regions, names).made(solid);
+    return !made || !findings_near(made->model, box_of(sheets)).empty();
 }
 
-/// Cuts a tool out of the solid of a face, in which its lid lies, or puts it on.
-inline Result<Notch> change(Attempts &bench, Face face, const Result<Tool> &tool, bool is_cut)
+/// Cuts a tool out of the solid of a face, in which its first lid lies, or puts it on.
+inline Result<Combined> change(Attempts &bench, Face face, const Tool &tool, bool is_cut)
 {
-    if (!tool)
-        return tool.error();
-    const Result<std::vector<Sheet>> added = sheets_of(*tool, is_cut);
+    const Result<std::vector<Sheet>> added = sheets_of(tool, is_cut);
     if (!added)
         return added.error();
     const Failure meets = impossible(Misfit::meets, face.number());
     const Solid solid = bench.face(face)->solid;
+    if (tool.lids.size() > 1 && meets_itself(bench, solid, *added))
+        return meets;
     const auto combine = [&](const Part &part, AllNames &names) -> Result<Combined> {
         const Result<std::vector<Sheet>> sheets = combining::sheets_of(part.model);
         if (!sheets)
             return sheets.error();
         Result<Combined> found = combined(bench, solid, Held(bench, part.model), *sheets, *added, names, meets);
-        if (found && !found->marked(0).empty())
-            return impossible(Misfit::outline_outside, face.number());
+        for (std::size_t lid = 0; found && lid < tool.lids.size(); lid++)
+            if (!found->marked(lid).empty())
+                return impossible(Misfit::outline_outside, face.number());
         if (found && has_contact({&part.model}, found->made.model, *sheets, *added))
             return meets;
         return found;
     };
-    const Result<Combined> made = make_near(bench, solid, box_of(*added), combine, [] { return Result<void>(); });
-    return made ? Result<Notch>(notch_of(*made, tool->floor.empty() ? 1 : 2, added->size())) : Result<Notch>(made.error());
+    return make_near(bench, solid, box_of(*added), combine, [] { return Result<void>(); });
+}
+
+/// The same, with the floors and walls that the tool leaves.
+inline Result<Notch> cut_out(Attempts &bench, Face face, const Result<Tool> &tool)
+{
+    if (!tool)
+        return tool.error();
+    const Result<Combined> made = change(bench, face, *tool, true);
+    if (!made)
+        return made.error();
+    const auto marked = [&](std::size_t from, std::size_t count) {
+        std::set<Face> found;
+        for (std::size_t mark = from; mark < from + count; mark++)
+            found.merge(made->marked(mark));
+        return std::vector<Face>(found.begin(), found.end());
+    };
+    const std::size_t first_wall = tool->lids.size() + tool->floors.size();
+    Notch notch{marked(tool->lids.size(), tool->floors.size()), {}};
+    notch.walls = marked(first_wall, tool->walls.size());
+    return notch;
 }
 
 /// Refuses sizes below 1, and a face that isn't there.
@@ -306,7 +431,7 @@ Result<Notch> cut_in_face(Attempts &bench, Face face, Items<Point> points, std::
     if (!allowed)
         return allowed.error();
     const Result<Path> path = path_of(points);
-    return path ? change(bench, face, make(*path), true) : Result<Notch>(path.error());
+    return path ? cut_out(bench, face, make(*path)) : Result<Notch>(path.error());
 }
 
 inline Result<Notch> cut_shoulder(Attempts &bench, Face face, Edge edge, std::int64_t width, std::int64_t depth)
@@ -319,20 +444,46 @@ inline Result<Notch> cut_shoulder(Attempts &bench, Face face, Edge edge, std::in
         return refused(GWB_WHY_NO_EDGE, edge.number());
     if ((*faces)[0] != face && (*faces)[1] != face)
         return impossible(Misfit::not_of_face, edge.number());
-    return change(bench, face, shoulder_tool(bench, (*faces)[0] == face ? plus(edge) : minus(edge), width, depth), true);
+    return cut_out(bench, face, shoulder_tool(bench, (*faces)[0] == face ? plus(edge) : minus(edge), width, depth));
 }
 
-inline Result<Face> make_chamfer(Attempts &bench, Edge edge, std::int64_t width, std::int64_t other)
+/// Whether edges of one solid all bend outwards, or none does. Not possible: NotAlike.
+inline Result<bool> all_bend_outwards(const Attempts &bench, const std::vector<Edge> &edges)
+{
+    std::optional<std::pair<Solid, bool>> first;
+    for (Edge edge : edges) {
+        if (!bench.edge(edge))
+            return refused(GWB_WHY_NO_EDGE, edge.number());
+        const Result<bool> is_outer = bends_outwards(bench, plus(edge));
+        if (!is_outer)
+            return is_outer;
+        const std::pair<Solid, bool> own = {bench.face(*bench.face_of(plus(edge)))->solid, *is_outer};
+        if (first.value_or(own) != own)
+            return impossible(Misfit::not_alike, edge.number());
+        first = own;
+    }
+    return first->second;
+}
+
+/// Edges become slopes: their faces.
+inline Result<std::vector<Face>> make_chamfers(Attempts &bench, const std::vector<Edge> &edges, std::int64_t width, std::int64_t other)
 {
     if (width < 1 || other < 1)
         return refused(GWB_WHY_SIZE_RANGE, width < 1 ? 1 : 2);
-    if (!bench.edge(edge))
-        return bench.is_open() ? refused(GWB_WHY_NO_EDGE, edge.number()) : Failure{Problem::closed};
-    const Result<bool> is_outer = bends_outwards(bench, plus(edge));
-    if (!is_outer)
-        return is_outer.error();
-    const Result<Notch> made = change(bench, *bench.face_of(plus(edge)), chamfer_tool(bench, plus(edge), width, other), *is_outer);
-    return made ? Result<Face>(made->floor.front()) : Result<Face>(made.error());
+    const Result<bool> are_outer = all_bend_outwards(bench, edges);
+    if (!are_outer)
+        return are_outer.error();
+    const Result<Tool> tool = chamfer_tool(bench, edges, width, other);
+    if (!tool)
+        return tool.error();
+    const Face face = *bench.face_of(plus(edges[0]));
+    const Result<Combined> made = change(bench, face, *tool, *are_outer);
+    if (!made)
+        return made.error();
+    std::vector<Face> slopes;
+    for (std::size_t at = 0; at < edges.size(); at++)
+        slopes.push_back(*made->marked(edges.size() + at).begin());
+    return slopes;
 }
 
 } // namespace shaping

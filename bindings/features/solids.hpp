@@ -11,62 +11,45 @@
 #ifndef GWB_FEATURES_SOLIDS_HPP
 #define GWB_FEATURES_SOLIDS_HPP
 #include "exact.hpp"
-#include "gwb.hpp"
-#include "gwb_features.h"
+#include "gwb_made.hpp"
 #include "stopping.hpp"
 #include <set>
 #include <unordered_map>
 
 namespace gwb_session {
 
-/// Where points go (gwb_motion), and how many times as far out they lie first.
-class Motion {
-public:
-    explicit Motion(const gwb_motion &motion) : motion_(motion) {}
-    static Motion by(const gwb_point &way) { return Motion({{1, 2, 3}, way}); }
-    static Motion scaled(std::int64_t factor)
-    {
-        Motion motion = by({0, 0, 0});
-        motion.factor_ = factor;
-        return motion;
-    }
+/// Whether each coordinate of a point goes to one of its image.
+inline bool is_motion(const gwb_motion &motion)
+{
+    std::array<bool, 4> is_taken = {true};
+    return std::none_of(std::begin(motion.axes), std::end(motion.axes),
+                        [&](std::int32_t axis) { return axis < -3 || axis > 3 || std::exchange(is_taken[static_cast<std::size_t>(axis < 0 ? -axis : axis)], true); });
+}
 
-    /// Whether each coordinate of a point goes to one of its image.
-    [[nodiscard]] bool is_one() const
+/// Where points go, and how many times as far out they lie first.
+struct Placing {
+    Motion motion;
+    std::int64_t factor = 1;
+
+    static Placing scaled(std::int64_t factor) { return {Motion(), factor}; }
+
+    [[nodiscard]] Point operator()(const Point &point) const
     {
-        std::array<bool, 3> is_taken{};
-        for (std::int32_t axis : motion_.axes)
-            if (axis == 0 || axis < -3 || axis > 3 || std::exchange(is_taken[from(axis)], true))
-                return false;
-        return true;
-    }
-    [[nodiscard]] Point operator()(Point point) const
-    {
-        const std::array<exact::Wide, 3> parts = {point.x, point.y, point.z};
-        const auto part = [&](std::size_t at, std::int64_t by) {
-            const exact::Wide image = parts[from(motion_.axes[at])] * factor_;
-            return in_64_bits((motion_.axes[at] < 0 ? -image : image) + by);
+        const std::array<exact::Wide, 4> parts = {0, point.x, point.y, point.z};
+        const auto part = [&](std::int32_t axis, std::int64_t by) {
+            const exact::Wide image = parts[static_cast<std::size_t>(axis < 0 ? -axis : axis)] * factor;
+            return in_64_bits((axis < 0 ? -image : image) + by);
         };
-        return {part(0, motion_.by.x), part(1, motion_.by.y), part(2, motion_.by.z)};
-    }
-    /// Whether left becomes right.
-    [[nodiscard]] bool is_mirror() const
-    {
-        const bool is_even = from(motion_.axes[1]) == (from(motion_.axes[0]) + 1) % 3;
-        return ((motion_.axes[0] < 0) != ((motion_.axes[1] < 0) != (motion_.axes[2] < 0))) == is_even;
+        const auto &[axes, by] = motion.row();
+        return {part(axes[0], by.x), part(axes[1], by.y), part(axes[2], by.z)};
     }
 
-private:
-    static std::size_t from(std::int32_t axis) { return static_cast<std::size_t>(axis < 0 ? -axis : axis) - 1; }
     /// A coordinate that is out of range stays so.
     static std::int64_t in_64_bits(exact::Wide coordinate)
     {
         constexpr exact::Wide most = 4 * exact::Wide{exact::farthest};
         return static_cast<std::int64_t>(std::max(-most, std::min(coordinate, most)));
     }
-
-    gwb_motion motion_;
-    std::int64_t factor_ = 1;
 };
 
 /// Free numbers of a kind: those above all in use, and then those below that aren't.
@@ -131,15 +114,15 @@ public:
 
     /// Makes it again in the draft that is open: with its own numbers, or with others that are free. Each edge runs as it did. Refused: PointRange,
     /// with the vertex of the solid; NumbersSpent.
-    Result<Solid> make(const Motion &motion, bool with_own_numbers, Lists *lists = nullptr)
+    Result<Solid> make(const Placing &placing, bool with_own_numbers, Lists *lists = nullptr)
     {
-        const Result<void> lies = require_in_range(motion);
+        const Result<void> lies = require_in_range(placing);
         if (!lies)
             return lies.error();
         Numbering numbers(bench_, with_own_numbers, steps_.size());
         if (!with_own_numbers)
             number_in_order(numbers);
-        const Result<Solid> solid = make(motion, numbers, with_own_numbers ? solid_ : Solid(FreeNumbers<Solid>(bench_, 1).take()));
+        const Result<Solid> solid = make(placing, numbers, with_own_numbers ? solid_ : Solid(FreeNumbers<Solid>(bench_, 1).take()));
         if (solid && lists != nullptr)
             numbers.tell(*lists, spares_);
         return solid;
@@ -149,11 +132,11 @@ public:
     struct Spares;
     [[nodiscard]] const Spares &spares() const { return spares_; }
     /// Makes it again with these numbers.
-    Result<Solid> make(const Motion &motion, Numbering &numbers, Solid solid)
+    Result<Solid> make(const Placing &placing, Numbering &numbers, Solid solid)
     {
         for (auto step = steps_.rbegin(); step != steps_.rend(); ++step) {
             go_on();
-            if (!make_step(*step, motion, motion.is_mirror(), numbers, solid))
+            if (!make_step(*step, placing, placing.motion.is_mirror(), numbers, solid))
                 return failure_.is(GWB_WHY_NUMBER_RANGE) ? numbers.spent() : failure_;
         }
         return solid;
@@ -345,11 +328,11 @@ private:
     }
 
     /// Refuses a motion by which a point would lie out of range: its least vertex.
-    [[nodiscard]] Result<void> require_in_range(const Motion &motion) const
+    [[nodiscard]] Result<void> require_in_range(const Placing &placing) const
     {
         Vertex out;
         for (const Step &step : steps_)
-            if (step.vertex != Vertex() && (out == Vertex() || step.vertex < out) && !exact::is_in_range(exact::vector(motion(step.at))))
+            if (step.vertex != Vertex() && (out == Vertex() || step.vertex < out) && !exact::is_in_range(exact::vector(placing(step.at))))
                 out = step.vertex;
         return out == Vertex() ? Result<void>() : Result<void>(Failure{Problem::refused, GWB_WHY_POINT_RANGE, out.number()});
     }
@@ -477,13 +460,13 @@ private:
         return done(bench_.kfmrh(first, face)) && done(bench_.mekr(lone(stays), lone(loop), edge)) && done(bench_.kev(plus(edge)));
     }
 
-    bool make_step(const Step &step, const Motion &motion, bool is_mirror, Numbering &numbers, Solid solid)
+    bool make_step(const Step &step, const Placing &placing, bool is_mirror, Numbering &numbers, Solid solid)
     {
         const Edge edge = numbers[step.half_edge.edge()];
         const Corner first = numbers.corner(step.first, is_mirror), second = numbers.corner(step.second, is_mirror);
         const Face face = numbers[step.face];
         const Loop loop = numbers[step.loop];
-        const Point at = motion(step.at);
+        const Point at = placing(step.at);
         if (step.makes == Makes::face && step.half_edge.is_second() != is_mirror)
             numbers.turn(step.half_edge.edge());
         switch (step.makes) {
@@ -589,11 +572,12 @@ inline Result<Solid> copied(Attempts &bench, Together &commands, Solid solid, co
     if (!done)
         return done.error();
     commands.take_back();
-    return parts.make(motion, false, &lists);
+    return parts.make({motion}, false, &lists);
 }
 
-/// A row of so many solids, of which one is the first, each by a vector from the one before it: those that are new.
-inline Result<std::vector<Solid>> patterned(Attempts &bench, Together &commands, Solid solid, std::uint32_t count, const gwb_point &step, Lists &lists)
+/// So many solids, of which one is the first, each placed by its place after it: those that are new.
+template <class Place>
+Result<std::vector<Solid>> patterned(Attempts &bench, Together &commands, Solid solid, std::uint32_t count, Place place, Lists &lists)
 {
     TakenApart parts(bench);
     const Result<void> done = parts.take(solid);
@@ -601,14 +585,23 @@ inline Result<std::vector<Solid>> patterned(Attempts &bench, Together &commands,
         return done.error();
     commands.take_back();
     std::vector<Solid> row;
-    for (std::uint32_t place = 1; place < count; place++) {
-        const gwb_point way = Motion::scaled(place)(step);
-        const Result<Solid> made = parts.make(Motion::by(way), false, &lists);
+    for (std::uint32_t at = 1; at < count; at++) {
+        const Result<Solid> made = parts.make({place(at)}, false, &lists);
         if (!made)
             return made.error();
         row.push_back(*made);
     }
     return row;
+}
+
+/// By so many times a vector.
+inline Motion steps(const gwb_point &step, std::uint32_t times) { return Motion::move(Placing::scaled(times)(step)); }
+
+/// By so many quarters about the axis through a point. (A point far out of range leaves nothing in range, nor does one beside it.)
+inline Motion turn(std::uint32_t axis, std::uint32_t quarters, const gwb_point &about)
+{
+    const Point way = Placing()(about);
+    return Motion::move({-way.x, -way.y, -way.z}).then(Motion::quarter_turns(axis, quarters)).then(Motion::move(way));
 }
 
 /// All solids so many times as large, with the numbers that they have.
@@ -622,7 +615,7 @@ inline Result<void> all_scaled(Attempts &bench, std::int64_t factor)
         const Result<void> done = parts.take(solid);
         if (!done)
             return done;
-        const Result<Solid> made = parts.make(Motion::scaled(factor), true);
+        const Result<Solid> made = parts.make(Placing::scaled(factor), true);
         if (!made)
             return made.error();
     }
@@ -645,7 +638,7 @@ inline Result<void> renumbered(Attempts &bench, Lists &lists)
     }
     for (std::size_t at = 0; at < taken.size(); at++) {
         numbers.begin(taken[at].spares());
-        const Result<Solid> made = taken[at].make(Motion::scaled(1), numbers, Solid(static_cast<std::uint32_t>(at + 1)));
+        const Result<Solid> made = taken[at].make(Placing(), numbers, Solid(static_cast<std::uint32_t>(at + 1)));
         if (!made)
             return made.error();
     }
@@ -657,7 +650,7 @@ inline Result<Solid> moved(Attempts &bench, Solid solid, const Motion &motion)
 {
     TakenApart parts(bench);
     const Result<void> done = parts.take(solid, motion.is_mirror());
-    return done ? parts.make(motion, true) : Result<Solid>(done.error());
+    return done ? parts.make({motion}, true) : Result<Solid>(done.error());
 }
 
 } // namespace gwb_session

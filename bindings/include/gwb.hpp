@@ -205,6 +205,8 @@ enum class Misfit : std::uint32_t {
     not_across,          ///< face X doesn't lie across an axis
     no_contact,          ///< solid X touches the others in no face
     overlap,             ///< solid X has room in common with another one, or their union would touch itself
+    no_corner,           ///< the slopes of edges that end at vertex X don't meet in one point, or more than three edges end there
+    not_alike,           ///< edge X is of another solid than the first, or bends the other way
 };
 
 /// The name of what isn't possible, as Python's session has it.
@@ -229,6 +231,8 @@ enum class Misfit : std::uint32_t {
     case Misfit::not_across: return "NotAcross";
     case Misfit::no_contact: return "NoContact";
     case Misfit::overlap: return "Overlap";
+    case Misfit::no_corner: return "NoCorner";
+    case Misfit::not_alike: return "NotAlike";
     }
     return "";
 }

@@ -36,7 +36,9 @@ enum gwb_misfit {
     GWB_MISFIT_GLUED_TWICE,         /**< face X matches another one besides, which it would touch after the gluing */
     GWB_MISFIT_NOT_ACROSS,          /**< face X doesn't lie across an axis */
     GWB_MISFIT_NO_CONTACT,          /**< solid X touches the others in no face */
-    GWB_MISFIT_OVERLAP              /**< solid X has room in common with another one, or their union would touch itself */
+    GWB_MISFIT_OVERLAP,             /**< solid X has room in common with another one, or their union would touch itself */
+    GWB_MISFIT_NO_CORNER,           /**< the slopes of edges that end at vertex X don't meet in one point, or more than three edges end there */
+    GWB_MISFIT_NOT_ALIKE            /**< edge X is of another solid than the first, or bends the other way */
 };
 
 /** The name of a misfit, as "OffLattice": "" where there is none. */
@@ -87,6 +89,11 @@ typedef struct gwb_cut_plane {
 /** A row of `count` solids, of which this is the first, each by the step from the one before it: `solids` has the count - 1 that are new. Numbers,
  * lists and refusals as of copies. GWB_NO_CALL where `count` is 0. */
 enum gwb_kind gwb_pattern(gwb *g, uint32_t solid, uint32_t count, const gwb_point *step, uint32_t *solids, gwb_refusal *why);
+/** `count` solids around an axis through a point (0 x, 1 y, 2 z), of which this is the first, each so many quarter turns on from the one before it,
+ * counterclockwise as seen from where the axis points. Numbers, lists and refusals as of a row. GWB_NO_CALL where `axis` is above 2, `quarters`
+ * isn't 1, 2 or 3, `count` is 0, or one would lie where the first does. */
+enum gwb_kind gwb_pattern_around(gwb *g, uint32_t solid, uint32_t count, uint32_t axis, uint32_t quarters, const gwb_point *about, uint32_t *solids,
+                                 gwb_refusal *why);
 /** All coordinates times the factor; numbers stay. Refused: SizeRange, where the factor is below 1; PointRange, with the vertex; NumbersSpent. */
 enum gwb_kind gwb_scale(gwb *g, int64_t factor, gwb_refusal *why);
 /** All numbers become as low as they can be, from 1 on in the order that they have: so there are as many free ones again as there can be. The lists say
@@ -141,6 +148,10 @@ enum gwb_kind gwb_slot(gwb *g, uint32_t face, const gwb_point *start, const gwb_
 enum gwb_kind gwb_groove(gwb *g, uint32_t face, const gwb_point *start, const gwb_point *end, int64_t width, int64_t depth, gwb_refusal *why);
 enum gwb_kind gwb_shoulder(gwb *g, uint32_t face, uint32_t edge, int64_t width, int64_t depth, gwb_refusal *why);
 enum gwb_kind gwb_chamfer(gwb *g, uint32_t edge, int64_t width, int64_t other, uint32_t *face, gwb_refusal *why);
+/** The same of `n` edges at once, all as far into the faces on both sides: where two or three of the edges that end at a vertex are among them, their
+ * slopes meet there. `faces` has the slope of each. Refused: as a chamfer. Not possible: as a chamfer; NO_CORNER; NOT_ALIKE. GWB_NO_CALL where a
+ * number stands twice, or `n` is 0. */
+enum gwb_kind gwb_chamfer_edges(gwb *g, const uint32_t *edges, size_t n, int64_t width, uint32_t *faces, gwb_refusal *why);
 
 /** The numerator divided by the denominator. */
 typedef struct gwb_ratio {

@@ -6,102 +6,9 @@
 ///     Solid other = copy_solid(bench, plate.solid, Motion::mirror(0));
 #ifndef GWB_FEATURES_HPP
 #define GWB_FEATURES_HPP
-#include "gwb.hpp"
-#include "gwb_features.h"
+#include "gwb_made.hpp"
 
 namespace gwb_session {
-
-/// Where points go: each axis to an axis, either way round, and then by a vector.
-class Motion {
-public:
-    static Motion move(Point by)
-    {
-        Motion motion;
-        motion.row_.by = by;
-        return motion;
-    }
-    /// By so many quarters about the axis through the origin (0 x, 1 y, 2 z): counterclockwise as seen from where it points.
-    static Motion quarter_turns(unsigned axis, unsigned times = 1)
-    {
-        Motion quarter, motion;
-        const unsigned first = (axis + 1) % 3, second = (axis + 2) % 3;
-        quarter.row_.axes[first] = -static_cast<std::int32_t>(second + 1), quarter.row_.axes[second] = static_cast<std::int32_t>(first + 1);
-        for (unsigned time = 0; time < times % 4; time++)
-            motion = motion.then(quarter);
-        return motion;
-    }
-    /// At the plane through the origin across an axis.
-    static Motion mirror(unsigned axis)
-    {
-        Motion motion;
-        motion.row_.axes[axis % 3] *= -1;
-        return motion;
-    }
-    [[nodiscard]] Point operator()(Point point) const
-    {
-        const std::array<std::int64_t, 3> parts = {point.x, point.y, point.z};
-        const auto part = [&](std::int32_t axis) { return axis < 0 ? -parts[from(axis)] : parts[from(axis)]; };
-        return {part(row_.axes[0]) + row_.by.x, part(row_.axes[1]) + row_.by.y, part(row_.axes[2]) + row_.by.z};
-    }
-    /// This motion, and then another.
-    [[nodiscard]] Motion then(const Motion &next) const
-    {
-        Motion both;
-        for (std::size_t axis = 0; axis < 3; axis++)
-            both.row_.axes[axis] = next.row_.axes[axis] < 0 ? -row_.axes[from(next.row_.axes[axis])] : row_.axes[from(next.row_.axes[axis])];
-        both.row_.by = next(row_.by);
-        return both;
-    }
-    /// Whether left becomes right.
-    [[nodiscard]] bool is_mirror() const
-    {
-        const bool is_even = from(row_.axes[1]) == (from(row_.axes[0]) + 1) % 3;
-        return ((row_.axes[0] < 0) != ((row_.axes[1] < 0) != (row_.axes[2] < 0))) == is_even;
-    }
-    [[nodiscard]] const gwb_motion &row() const { return row_; }
-
-private:
-    static std::size_t from(std::int32_t axis) { return static_cast<std::size_t>(axis < 0 ? -axis : axis) - 1; }
-    gwb_motion row_ = {{1, 2, 3}, {0, 0, 0}};
-};
-
-/// What profile makes: the face that was moved, the one that stayed, and for each point the side from it to the next.
-struct Profile {
-    Solid solid;
-    Face far, base;
-    std::vector<Face> sides;
-};
-/// What ring makes: the face inside the outline, the ring around it, and for each point the edge from it to the next, and the vertex there.
-struct Ring {
-    Face face;
-    Loop loop;
-    std::vector<Edge> edges;
-    std::vector<Vertex> vertices;
-};
-/// What pocket and boss make: the floor or top, the ring in the face, and for each point the side from it to the next.
-struct Pocket {
-    Face face;
-    Loop loop;
-    std::vector<Face> sides;
-};
-/// What hole and drill make: the face that it ends in, the ring at its start, for each point the side from it to the next, and the points.
-struct Hole {
-    Face other;
-    Loop loop;
-    std::vector<Face> sides;
-    std::vector<Point> points;
-};
-/// What a notch, slot, groove or shoulder leaves: its floor, none where it goes through, and its walls.
-struct Notch {
-    std::vector<Face> floor, walls;
-};
-
-/// What split_solid and cut make: the solid above the plane, and the faces that close both parts.
-struct Split {
-    Solid above;
-    std::vector<Face> lower_caps, upper_caps;
-    operator Solid() const { return above; }
-};
 
 /// Which of the parts that were made last are of which.
 class Parts {
@@ -230,12 +137,36 @@ template <class Of, class Row> std::vector<Row> rows(std::size_t (*write)(const 
     return found;
 }
 
-/// The numbers of solids, and room for one more, so that they have an address.
-inline std::vector<std::uint32_t> numbers(Items<Solid> solids)
+/// The numbers of things, and room for one more, so that they have an address.
+template <class Kind> std::vector<std::uint32_t> numbers(Items<Kind> things)
 {
-    std::vector<std::uint32_t> found(solids.size() + 1);
-    std::transform(solids.begin(), solids.end(), found.begin(), [](Solid solid) { return solid.number(); });
+    std::vector<std::uint32_t> found(things.size() + 1);
+    std::transform(things.begin(), things.end(), found.begin(), [](Kind thing) { return thing.number(); });
     return found;
+}
+
+/// New solids, so many with the one that they are of.
+template <class Policy, class Call>
+typename Policy::template Returned<std::vector<Solid>> row(Commands<Policy> &bench, const char *command, std::uint32_t count, Call call)
+{
+    std::vector<std::uint32_t> numbers(count + std::size_t{1}); // (so that it has an address)
+    std::vector<Solid> made(count > 0 ? count - 1 : 0);
+    return bench.feature(command, [&](gwb *g, gwb_refusal *why) { return call(g, numbers.data(), why); }, [&] {
+        std::transform(numbers.begin(), numbers.begin() + static_cast<std::ptrdiff_t>(made.size()), made.begin(),
+                       [](std::uint32_t number) { return Solid(number); });
+        return std::move(made);
+    });
+}
+
+/// A feature of an outline: its face and loop, and a number for each point.
+template <class Made, class Policy, class Call>
+typename Policy::template Returned<Made> outlined(Commands<Policy> &bench, const char *command, Items<Point> points, Call call)
+{
+    gwb_outline_made made{};
+    ByPoints<Face> sides(points);
+    return bench.feature(command, [&](gwb *g, gwb_refusal *why) { return call(g, &made, sides.to(), why); }, [&] {
+        return Made{Face(made.face), Loop(made.loop), sides.take()};
+    });
 }
 
 /// A notch, slot, groove or shoulder.
@@ -280,18 +211,20 @@ template <class Policy> typename Policy::template Returned<void> move_solid(Comm
 template <class Policy>
 typename Policy::template Returned<std::vector<Solid>> pattern(Commands<Policy> &bench, Solid solid, std::uint32_t count, Point step)
 {
-    std::vector<std::uint32_t> numbers(count);
-    std::vector<Solid> row(count > 0 ? count - 1 : 0);
-    std::uint32_t none = 0;
-    return bench.feature(
-        "pattern",
-        [&](gwb *g, gwb_refusal *why) {
-            return gwb_pattern(g, solid.number(), count, &step, numbers.empty() ? &none : numbers.data(), why);
-        },
-        [&] {
-            std::transform(numbers.begin(), numbers.end() - 1, row.begin(), [](std::uint32_t number) { return Solid(number); });
-            return std::move(row);
-        });
+    return features::row(bench, "pattern", count, [&](gwb *g, std::uint32_t *row, gwb_refusal *why) {
+        return gwb_pattern(g, solid.number(), count, &step, row, why);
+    });
+}
+
+/// So many solids around the axis through a point (0 x, 1 y, 2 z), of which this is the first, each so many quarter turns on from the one before it:
+/// those that are new. NoCall where there are none, or one would lie where the first does.
+template <class Policy>
+typename Policy::template Returned<std::vector<Solid>> pattern_around(Commands<Policy> &bench, Solid solid, std::uint32_t count, std::uint32_t axis,
+                                                                      std::uint32_t quarters = 1, Point about = {0, 0, 0})
+{
+    return features::row(bench, "pattern_around", count, [&](gwb *g, std::uint32_t *row, gwb_refusal *why) {
+        return gwb_pattern_around(g, solid.number(), count, axis, quarters, &about, row, why);
+    });
 }
 
 /// All coordinates times the factor; numbers stay.
@@ -316,34 +249,35 @@ template <class Policy> typename Policy::template Returned<void> glue_all(Comman
 
 namespace features {
 
-/// What the last split or cut made.
-inline Split split(const gwb *g, Solid above) { return {above, faces(g, GWB_MADE_LOWER_CAPS), faces(g, GWB_MADE_UPPER_CAPS)}; }
+/// A split or a cut; where no number is given for the solid above, it takes the next one.
+template <class Policy, class Call>
+typename Policy::template Returned<Split> split(Commands<Policy> &bench, const char *command, Solid solid, const gwb_cut_plane &plane,
+                                                std::optional<Solid> above, Call call)
+{
+    const Solid upper = above ? *above : bench.attempt().template next_free<Solid>().value_or(Solid());
+    return bench.listed_feature(
+        command, [&](gwb *g, gwb_refusal *why) { return call(g, solid.number(), &plane, upper.number(), why); },
+        [&] {
+            Split made{upper, faces(bench.handle(), GWB_MADE_LOWER_CAPS), {}};
+            made.upper_caps = faces(bench.handle(), GWB_MADE_UPPER_CAPS);
+            return made;
+        });
+}
 
 } // namespace features
 
 /// What the command split does, with the faces that close both parts. Refused as split.
 template <class Policy>
-typename Policy::template Returned<Split> split_solid(Commands<Policy> &bench, Solid solid, const gwb_cut_plane &plane, Solid above)
+typename Policy::template Returned<Split> split_solid(Commands<Policy> &bench, Solid solid, const gwb_cut_plane &plane, std::optional<Solid> above = {})
 {
-    return bench.listed_feature(
-        "split", [&](gwb *g, gwb_refusal *why) { return gwb_split_solid(g, solid.number(), &plane, above.number(), why); },
-        [&] { return features::split(bench.handle(), above); });
-}
-template <class Policy> typename Policy::template Returned<Split> split_solid(Commands<Policy> &bench, Solid solid, const gwb_cut_plane &plane)
-{
-    return split_solid(bench, solid, plane, bench.attempt().template next_free<Solid>().value_or(Solid()));
+    return features::split(bench, "split", solid, plane, above, gwb_split_solid);
 }
 
 /// The same, also where split refuses the plane for what it touches or how it runs through faces and holes.
-template <class Policy> typename Policy::template Returned<Split> cut(Commands<Policy> &bench, Solid solid, const gwb_cut_plane &plane, Solid above)
+template <class Policy>
+typename Policy::template Returned<Split> cut(Commands<Policy> &bench, Solid solid, const gwb_cut_plane &plane, std::optional<Solid> above = {})
 {
-    return bench.listed_feature(
-        "cut", [&](gwb *g, gwb_refusal *why) { return gwb_cut(g, solid.number(), &plane, above.number(), why); },
-        [&] { return features::split(bench.handle(), above); });
-}
-template <class Policy> typename Policy::template Returned<Split> cut(Commands<Policy> &bench, Solid solid, const gwb_cut_plane &plane)
-{
-    return cut(bench, solid, plane, bench.attempt().template next_free<Solid>().value_or(Solid()));
+    return features::split(bench, "cut", solid, plane, above, gwb_cut);
 }
 
 /// What lies above the plane goes: the faces that close what is left. Refused as cut.
@@ -406,24 +340,18 @@ template <class Policy> typename Policy::template Returned<Ring> ring(Commands<P
 template <class Policy>
 typename Policy::template Returned<Pocket> pocket(Commands<Policy> &bench, Face face, Items<Point> points, std::int64_t depth)
 {
-    gwb_outline_made made{};
-    features::ByPoints<Face> sides(points);
-    return bench.feature(
-        "pocket",
-        [&](gwb *g, gwb_refusal *why) { return gwb_pocket(g, face.number(), points.data(), points.size(), depth, &made, sides.to(), why); },
-        [&] { return Pocket{Face(made.face), Loop(made.loop), sides.take()}; });
+    return features::outlined<Pocket>(bench, "pocket", points, [&](gwb *g, gwb_outline_made *made, std::uint32_t *sides, gwb_refusal *why) {
+        return gwb_pocket(g, face.number(), points.data(), points.size(), depth, made, sides, why);
+    });
 }
 
 /// A boss so high on the outline in the face.
 template <class Policy>
 typename Policy::template Returned<Pocket> boss(Commands<Policy> &bench, Face face, Items<Point> points, std::int64_t height)
 {
-    gwb_outline_made made{};
-    features::ByPoints<Face> sides(points);
-    return bench.feature(
-        "boss",
-        [&](gwb *g, gwb_refusal *why) { return gwb_boss(g, face.number(), points.data(), points.size(), height, &made, sides.to(), why); },
-        [&] { return Pocket{Face(made.face), Loop(made.loop), sides.take()}; });
+    return features::outlined<Pocket>(bench, "boss", points, [&](gwb *g, gwb_outline_made *made, std::uint32_t *sides, gwb_refusal *why) {
+        return gwb_boss(g, face.number(), points.data(), points.size(), height, made, sides, why);
+    });
 }
 
 /// A hole from the outline in the face through to the face opposite to it, which is parallel.
@@ -499,6 +427,21 @@ typename Policy::template Returned<Face> chamfer(Commands<Policy> &bench, Edge e
     return bench.feature(
         "chamfer", [&](gwb *g, gwb_refusal *why) { return gwb_chamfer(g, edge.number(), width, other.value_or(width), &made, why); },
         [&] { return Face(made); });
+}
+
+/// The same of different edges at once, as far into the faces on both sides, whose slopes meet where the edges do: the slope of each.
+template <class Policy>
+typename Policy::template Returned<std::vector<Face>> chamfer_edges(Commands<Policy> &bench, Items<Edge> edges, std::int64_t width)
+{
+    const std::vector<std::uint32_t> numbers = features::numbers(edges);
+    std::vector<std::uint32_t> made(numbers.size());
+    std::vector<Face> slopes(edges.size());
+    return bench.feature(
+        "chamfer_edges", [&](gwb *g, gwb_refusal *why) { return gwb_chamfer_edges(g, numbers.data(), edges.size(), width, made.data(), why); },
+        [&] {
+            std::transform(made.begin(), made.end() - 1, slopes.begin(), [](std::uint32_t face) { return Face(face); });
+            return std::move(slopes);
+        });
 }
 
 using CutPlane = gwb_cut_plane;

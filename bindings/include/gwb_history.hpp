@@ -363,7 +363,9 @@ private:
         if (changes.turn == Turn::commands) {
             while (!steps_.empty() && steps_.back().to > changes.from)
                 steps_.pop_back();
-            return changes.to > changes.from ? &steps_.emplace_back(Step{changes.from, changes.to, {}, {}}) : nullptr;
+            if (changes.to <= changes.from)
+                return nullptr;
+            return &steps_.emplace_back(Step{changes.from, changes.to, {}, {}});
         }
         const std::size_t command = std::min(changes.from, changes.to);
         const auto found = std::find_if(steps_.rbegin(), steps_.rend(), [&](const Step &step) { return step.from <= command; });

@@ -79,6 +79,10 @@ pub enum Misfit {
     NoContact,
     /// Solid X has room in common with another one, or their union would touch itself.
     Overlap,
+    /// The slopes of edges that end at vertex X don't meet in one point, or more than three edges end there.
+    NoCorner,
+    /// Edge X is of another solid than the first, or bends the other way.
+    NotAlike,
 }
 
 impl fmt::Display for Error {

@@ -1,6 +1,6 @@
 //! Features, by the calls of gwb_features.h. Each is one command of a session, or steps of a draft; what isn't possible is
 //! [`Error::Impossible`], or refused as a command would be, and then nothing has changed.
-use crate::{minus, plus, Draft, Edge, Error, Face, HalfEdge, Id, Loop, Misfit, Point, Session, Solid, Vertex};
+use crate::{minus, plus, Edge, Error, Face, HalfEdge, Id, Loop, Misfit, Operators, Point, Solid, Vertex};
 use gwb_sys::{kind, Gwb, OutlineMade};
 use std::collections::BTreeMap;
 use std::ops::Deref;
@@ -75,7 +75,7 @@ impl Motion {
     }
 }
 
-/// What [`profile`](Draft::profile) makes: the face that was moved, the one that stayed, and for each point the side from it to the next.
+/// What [`profile`](Operators::profile) makes: the face that was moved, the one that stayed, and for each point the side from it to the next.
 #[derive(Clone, Debug, PartialEq, Eq)]
 #[allow(missing_docs)]
 pub struct Profile {
@@ -84,7 +84,7 @@ pub struct Profile {
     pub base: Face,
     pub sides: Vec<Face>,
 }
-/// What [`ring`](Draft::ring) makes: the face inside, the ring around it, and for each point the edge to the next, and the vertex there.
+/// What [`ring`](Operators::ring) makes: the face inside, the ring around it, and for each point the edge to the next, and the vertex there.
 #[derive(Clone, Debug, PartialEq, Eq)]
 #[allow(missing_docs)]
 pub struct Ring {
@@ -93,7 +93,7 @@ pub struct Ring {
     pub edges: Vec<Edge>,
     pub vertices: Vec<Vertex>,
 }
-/// What [`pocket`](Draft::pocket) and [`boss`](Draft::boss) make: the floor or top, the ring in the face, and for each point the side.
+/// What [`pocket`](Operators::pocket) and [`boss`](Operators::boss) make: the floor or top, the ring in the face, and for each point the side.
 #[derive(Clone, Debug, PartialEq, Eq)]
 #[allow(missing_docs)]
 pub struct Pocket {
@@ -101,7 +101,7 @@ pub struct Pocket {
     pub of_loop: Loop,
     pub sides: Vec<Face>,
 }
-/// What [`hole`](Draft::hole) and [`drill`](Draft::drill) make: the face that it ends in, the ring at its start, for each point the side, and the
+/// What [`hole`](Operators::hole) and [`drill`](Operators::drill) make: the face that it ends in, the ring at its start, for each point the side, and the
 /// points.
 #[derive(Clone, Debug, PartialEq, Eq)]
 #[allow(missing_docs)]
@@ -119,7 +119,7 @@ pub struct Notch {
     pub walls: Vec<Face>,
 }
 
-/// What [`split_solid`](Draft::split_solid) and [`cut`](Draft::cut) make: the solid above the plane, and the faces that close both parts.
+/// What [`split_solid`](Operators::split_solid) and [`cut`](Operators::cut) make: the solid above the plane, and the faces that close both parts.
 #[derive(Clone, Debug, PartialEq, Eq)]
 #[allow(missing_docs)]
 pub struct Split {
@@ -234,10 +234,10 @@ mod list {
     pub const SOLIDS: u32 = 10;
 }
 
-const MISFITS: [Misfit; 18] = [
+const MISFITS: [Misfit; 20] = [
     Misfit::NoArea, Misfit::NotInPlane, Misfit::OutlineCrossed, Misfit::AlongPlane, Misfit::OutlineOutside, Misfit::OutlineAroundRing,
     Misfit::OffLattice, Misfit::Meets, Misfit::NoOpposite, Misfit::NotParallel, Misfit::NotOfFace, Misfit::FlatEdge, Misfit::NothingLeft,
-    Misfit::NoMatch, Misfit::GluedTwice, Misfit::NotAcross, Misfit::NoContact, Misfit::Overlap,
+    Misfit::NoMatch, Misfit::GluedTwice, Misfit::NotAcross, Misfit::NoContact, Misfit::Overlap, Misfit::NoCorner, Misfit::NotAlike,
 ];
 
 fn rows(points: &[impl Copy + Into<Point>]) -> Vec<gwb_sys::Point> {
@@ -245,7 +245,8 @@ fn rows(points: &[impl Copy + Into<Point>]) -> Vec<gwb_sys::Point> {
 }
 
 // SAFETY, for all calls in this file: as in operators.rs; lists have as many items as there are points.
-impl Draft<'_> {
+#[allow(clippy::missing_errors_doc)] // (as gwb_features.h says)
+impl Operators {
     /// Gives a feature.
     fn feature(&mut self, call: impl FnOnce(*mut Gwb, *mut gwb_sys::Refusal) -> u32) -> Result<(), Error> {
         let (before, mut why) = (self.all_greatest(), gwb_sys::Refusal::default());
@@ -304,15 +305,11 @@ impl Draft<'_> {
     }
 
     /// A solid goes, with all its parts.
-    ///
-    /// # Errors
-    /// Here and below as gwb_features.h says.
     pub fn kill_solid(&mut self, solid: Solid) -> Result<(), Error> {
         self.feature(|g, why| unsafe { gwb_sys::gwb_kill_solid(g, solid.0, why) })
     }
 
     /// A new solid, that is another moved; its numbers are free ones, above all in use as long as there are any.
-    #[allow(missing_docs, clippy::missing_errors_doc)]
     pub fn copy_solid(&mut self, solid: Solid, motion: Motion) -> Result<Copied, Error> {
         let mut made = 0;
         self.feature(|g, why| unsafe { gwb_sys::gwb_copy_solid(g, solid.0, &motion.row(), &mut made, why) })?;
@@ -320,35 +317,38 @@ impl Draft<'_> {
     }
 
     /// All numbers become as low as they can be, in their order: where none is left for what comes. [`Notes`](crate::Notes) follow by `renumbered`.
-    #[allow(clippy::missing_errors_doc)]
     pub fn renumber(&mut self) -> Result<Renumbered, Error> {
         self.feature(|g, why| unsafe { gwb_sys::gwb_renumber(g, why) })?;
         Ok(Renumbered { solids: self.made_pairs(list::SOLIDS), parts: self.made_parts() })
     }
 
     /// A row of so many solids, of which this is the first, each by the step from the one before it: those that are new.
-    #[allow(clippy::missing_errors_doc)]
     pub fn pattern(&mut self, solid: Solid, count: u32, step: impl Into<Point>) -> Result<Vec<Solid>, Error> {
         let (step, mut row) = (gwb_sys::Point::from(step.into()), vec![0; count.saturating_sub(1) as usize]);
         self.feature(|g, why| unsafe { gwb_sys::gwb_pattern(g, solid.0, count, &step, row.as_mut_ptr(), why) })?;
         Ok(row.into_iter().map(Solid).collect())
     }
 
+    /// So many solids around the axis through a point (0 x, 1 y, 2 z), of which this is the first, each so many quarter turns on from the one before it:
+    /// those that are new.
+    pub fn pattern_around(&mut self, solid: Solid, count: u32, axis: u32, quarters: u32, about: impl Into<Point>) -> Result<Vec<Solid>, Error> {
+        let (about, mut row) = (gwb_sys::Point::from(about.into()), vec![0; count.saturating_sub(1) as usize]);
+        self.feature(|g, why| unsafe { gwb_sys::gwb_pattern_around(g, solid.0, count, axis, quarters, &about, row.as_mut_ptr(), why) })?;
+        Ok(row.into_iter().map(Solid).collect())
+    }
+
     /// All coordinates times the factor; numbers stay.
-    #[allow(clippy::missing_errors_doc)]
     pub fn scale(&mut self, factor: i64) -> Result<(), Error> {
         self.feature(|g, why| unsafe { gwb_sys::gwb_scale(g, factor, why) })
     }
 
     /// The solids become the first, glued along the faces that match.
-    #[allow(clippy::missing_errors_doc)]
     pub fn glue_all(&mut self, solids: &[Solid]) -> Result<(), Error> {
         // `Solid` is a transparent u32
         self.feature(|g, why| unsafe { gwb_sys::gwb_glue_all(g, solids.as_ptr().cast(), solids.len(), why) })
     }
 
     /// What [`split`](crate::Operators::split) does, with the faces that close both parts.
-    #[allow(clippy::missing_errors_doc)]
     pub fn split_solid(&mut self, solid: Solid, [a, b, c, d]: [i64; 4], above: impl Into<Option<Solid>>) -> Result<Split, Error> {
         let (above, plane) = (self.named(above), gwb_sys::CutPlane { a, b, c, d });
         self.feature(|g, why| unsafe { gwb_sys::gwb_split_solid(g, solid.0, &plane, above.0, why) })?;
@@ -356,7 +356,6 @@ impl Draft<'_> {
     }
 
     /// The same, also where split refuses the plane for what it touches or how it runs through faces and holes.
-    #[allow(clippy::missing_errors_doc)]
     pub fn cut(&mut self, solid: Solid, [a, b, c, d]: [i64; 4], above: impl Into<Option<Solid>>) -> Result<Split, Error> {
         let (above, plane) = (self.named(above), gwb_sys::CutPlane { a, b, c, d });
         self.feature(|g, why| unsafe { gwb_sys::gwb_cut(g, solid.0, &plane, above.0, why) })?;
@@ -364,7 +363,6 @@ impl Draft<'_> {
     }
 
     /// What lies above the plane goes: the faces that close what is left.
-    #[allow(clippy::missing_errors_doc)]
     pub fn trim(&mut self, solid: Solid, [a, b, c, d]: [i64; 4]) -> Result<Vec<Face>, Error> {
         let plane = gwb_sys::CutPlane { a, b, c, d };
         self.feature(|g, why| unsafe { gwb_sys::gwb_trim(g, solid.0, &plane, why) })?;
@@ -372,7 +370,6 @@ impl Draft<'_> {
     }
 
     /// The solids, which touch in faces, become the first: faces that became one with others, or several, each with one that it went into.
-    #[allow(clippy::missing_errors_doc)]
     pub fn union(&mut self, solids: &[Solid]) -> Result<Vec<(Face, Face)>, Error> {
         // `Solid` is a transparent u32
         self.feature(|g, why| unsafe { gwb_sys::gwb_union(g, solids.as_ptr().cast(), solids.len(), why) })?;
@@ -380,13 +377,11 @@ impl Draft<'_> {
     }
 
     /// A solid lies elsewhere, with the numbers that it has.
-    #[allow(clippy::missing_errors_doc)]
     pub fn move_solid(&mut self, solid: Solid, motion: Motion) -> Result<(), Error> {
         self.feature(|g, why| unsafe { gwb_sys::gwb_move_solid(g, solid.0, &motion.row(), why) })
     }
 
     /// A new solid: the outline through the points, moved along the vector.
-    #[allow(clippy::missing_errors_doc)]
     pub fn profile(&mut self, solid: impl Into<Option<Solid>>, points: &[impl Copy + Into<Point>], along: impl Into<Point>) -> Result<Profile, Error> {
         let (solid, points, along) = (self.named(solid), rows(points), gwb_sys::Point::from(along.into()));
         let (mut made, mut sides) = (gwb_sys::ProfileMade::default(), vec![0; points.len()]);
@@ -397,7 +392,6 @@ impl Draft<'_> {
     }
 
     /// A face inside the face, with the outline through the points, and a ring around it.
-    #[allow(clippy::missing_errors_doc)]
     pub fn ring(&mut self, face: Face, points: &[impl Copy + Into<Point>]) -> Result<Ring, Error> {
         let mut vertices = vec![0; points.len()];
         let (face, of_loop, edges) = self.outline(points, |g, points, made, edges, why| unsafe {
@@ -408,7 +402,6 @@ impl Draft<'_> {
     }
 
     /// A pocket so deep behind the outline in the face.
-    #[allow(clippy::missing_errors_doc)]
     pub fn pocket(&mut self, face: Face, points: &[impl Copy + Into<Point>], depth: i64) -> Result<Pocket, Error> {
         let (face, of_loop, sides) = self.outline(points, |g, points, made, sides, why| unsafe {
             gwb_sys::gwb_pocket(g, face.0, points.as_ptr(), points.len(), depth, made, sides, why)
@@ -417,7 +410,6 @@ impl Draft<'_> {
     }
 
     /// A boss so high on the outline in the face.
-    #[allow(clippy::missing_errors_doc)]
     pub fn boss(&mut self, face: Face, points: &[impl Copy + Into<Point>], height: i64) -> Result<Pocket, Error> {
         let (face, of_loop, sides) = self.outline(points, |g, points, made, sides, why| unsafe {
             gwb_sys::gwb_boss(g, face.0, points.as_ptr(), points.len(), height, made, sides, why)
@@ -426,7 +418,6 @@ impl Draft<'_> {
     }
 
     /// A hole from the outline in the face through to the opposite face.
-    #[allow(clippy::missing_errors_doc)]
     pub fn hole(&mut self, face: Face, points: &[impl Copy + Into<Point>]) -> Result<Hole, Error> {
         let (other, of_loop, sides) = self.outline(points, |g, points, made, sides, why| unsafe {
             gwb_sys::gwb_hole(g, face.0, points.as_ptr(), points.len(), made, sides, why)
@@ -436,7 +427,6 @@ impl Draft<'_> {
 
     /// A hole with a polygon of so many sides around the center, on whole numbers nearest to the circle of the radius: through, where the depth is 0,
     /// or so deep.
-    #[allow(clippy::missing_errors_doc)]
     pub fn drill(&mut self, face: Face, center: impl Into<Point>, radius: i64, sides: u32, depth: i64) -> Result<Hole, Error> {
         const MOST_SIDES: u32 = 1_000_000; // more are refused before any is written
         let room = if sides <= MOST_SIDES { sides as usize } else { 0 };
@@ -450,88 +440,40 @@ impl Draft<'_> {
     }
 
     /// A pocket whose outline may reach the edges of the face.
-    #[allow(clippy::missing_errors_doc)]
     pub fn notch(&mut self, face: Face, points: &[impl Copy + Into<Point>], depth: i64) -> Result<Notch, Error> {
         let points = rows(points);
         self.notched(|g, why| unsafe { gwb_sys::gwb_notch(g, face.0, points.as_ptr(), points.len(), depth, why) })
     }
 
     /// A slot with a flat floor along a line from one point to another.
-    #[allow(clippy::missing_errors_doc)]
     pub fn slot(&mut self, face: Face, start: impl Into<Point>, end: impl Into<Point>, width: i64, depth: i64) -> Result<Notch, Error> {
         let (start, end) = (start.into().into(), end.into().into());
         self.notched(|g, why| unsafe { gwb_sys::gwb_slot(g, face.0, &start, &end, width, depth, why) })
     }
 
     /// A groove like a V.
-    #[allow(clippy::missing_errors_doc)]
     pub fn groove(&mut self, face: Face, start: impl Into<Point>, end: impl Into<Point>, width: i64, depth: i64) -> Result<Notch, Error> {
         let (start, end) = (start.into().into(), end.into().into());
         self.notched(|g, why| unsafe { gwb_sys::gwb_groove(g, face.0, &start, &end, width, depth, why) })
     }
 
     /// A step along an edge of the face.
-    #[allow(clippy::missing_errors_doc)]
     pub fn shoulder(&mut self, face: Face, edge: Edge, width: i64, depth: i64) -> Result<Notch, Error> {
         self.notched(|g, why| unsafe { gwb_sys::gwb_shoulder(g, face.0, edge.0, width, depth, why) })
     }
 
     /// The edge becomes a sloping face.
-    #[allow(clippy::missing_errors_doc)]
     pub fn chamfer(&mut self, edge: Edge, width: i64, other: impl Into<Option<i64>>) -> Result<Face, Error> {
         let (other, mut face) = (other.into().unwrap_or(width), 0);
         self.feature(|g, why| unsafe { gwb_sys::gwb_chamfer(g, edge.0, width, other, &mut face, why) })?;
         Ok(Face(face))
     }
-}
 
-/// Methods of a draft, also as methods of a session, where each is one command.
-macro_rules! also_alone {
-    ($($name:ident($($given:ident: $type:ty),*) -> $made:ty;)*) => {
-        impl Session {
-            $(
-                #[doc = concat!("As [`Draft::", stringify!($name), "`], as one command.")]
-                ///
-                /// # Errors
-                #[doc = concat!("As those of [`Draft::", stringify!($name), "`].")]
-                pub fn $name(&mut self, $($given: $type),*) -> Result<$made, Error> {
-                    self.drafted_alone(|draft| draft.$name($($given),*))
-                }
-            )*
-        }
-    };
-}
-also_alone! {
-    kill_solid(solid: Solid) -> ();
-    copy_solid(solid: Solid, motion: Motion) -> Copied;
-    pattern(solid: Solid, count: u32, step: impl Into<Point>) -> Vec<Solid>;
-    scale(factor: i64) -> ();
-    renumber() -> Renumbered;
-    glue_all(solids: &[Solid]) -> ();
-    split_solid(solid: Solid, plane: [i64; 4], above: impl Into<Option<Solid>>) -> Split;
-    cut(solid: Solid, plane: [i64; 4], above: impl Into<Option<Solid>>) -> Split;
-    trim(solid: Solid, plane: [i64; 4]) -> Vec<Face>;
-    union(solids: &[Solid]) -> Vec<(Face, Face)>;
-    move_solid(solid: Solid, motion: Motion) -> ();
-    profile(solid: impl Into<Option<Solid>>, points: &[impl Copy + Into<Point>], along: impl Into<Point>) -> Profile;
-    ring(face: Face, points: &[impl Copy + Into<Point>]) -> Ring;
-    pocket(face: Face, points: &[impl Copy + Into<Point>], depth: i64) -> Pocket;
-    boss(face: Face, points: &[impl Copy + Into<Point>], height: i64) -> Pocket;
-    hole(face: Face, points: &[impl Copy + Into<Point>]) -> Hole;
-    drill(face: Face, center: impl Into<Point>, radius: i64, sides: u32, depth: i64) -> Hole;
-    notch(face: Face, points: &[impl Copy + Into<Point>], depth: i64) -> Notch;
-    slot(face: Face, start: impl Into<Point>, end: impl Into<Point>, width: i64, depth: i64) -> Notch;
-    groove(face: Face, start: impl Into<Point>, end: impl Into<Point>, width: i64, depth: i64) -> Notch;
-    shoulder(face: Face, edge: Edge, width: i64, depth: i64) -> Notch;
-    chamfer(edge: Edge, width: i64, other: impl Into<Option<i64>>) -> Face;
-}
-
-impl Session {
-    /// Gives commands in a draft of their own.
-    pub(crate) fn drafted_alone<T>(&mut self, give: impl FnOnce(&mut Draft<'_>) -> Result<T, Error>) -> Result<T, Error> {
-        let mut draft = self.draft()?;
-        let value = give(&mut draft)?;
-        draft.commit()?;
-        Ok(value)
+    /// Different edges become slopes at once, as far into the faces on both sides, which meet where the edges do: the slope of each.
+    pub fn chamfer_edges(&mut self, edges: &[Edge], width: i64) -> Result<Vec<Face>, Error> {
+        let mut faces = vec![0; edges.len()];
+        // `Edge` is a transparent u32
+        self.feature(|g, why| unsafe { gwb_sys::gwb_chamfer_edges(g, edges.as_ptr().cast(), edges.len(), width, faces.as_mut_ptr(), why) })?;
+        Ok(faces.into_iter().map(Face).collect())
     }
 }

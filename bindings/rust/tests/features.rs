@@ -202,6 +202,8 @@ fn a_row_is_glued_and_scaled() {
     assert_eq!(session.pattern(block, 3, [4, 0, 0]), Ok(vec![Solid(2), Solid(3)]));
     assert_eq!(session.glue_all(&[block, Solid(3)]), Err(Error::Impossible { misfit: Misfit::NoMatch, value: 3 }));
     assert_eq!((session.glue_all(&[]), session.pattern(block, 0, [1, 0, 0])), (Err(Error::NoCall), Err(Error::NoCall)));
+    assert_eq!(session.pattern_around(block, 5, 2, 1, [0, 0, 0]), Err(Error::NoCall));
+    assert_eq!((session.pattern_around(block, 2, 3, 1, [0, 0, 0]), session.chamfer_edges(&[], 1)), (Err(Error::NoCall), Err(Error::NoCall)));
     session.glue_all(&[block, Solid(2), Solid(3)]).unwrap();
     session.scale(3).unwrap();
     assert_eq!((session.six_volumes(block), session.depth()), (Ok(6 * 27 * 3 * 64), 4));

@@ -51,7 +51,7 @@ fn given<T: Debug>(session: &Session, solid: Solid, made: &Result<T, Error>) -> 
     }
 }
 
-/// A cut in two, of which both parts are told, a trim, or the union with a block.
+/// A cut in two, of which both parts are told, a trim, the union with a block, or a row around an axis, of which all are told.
 fn shaped_whole(session: &mut Session, solid: Solid, word: &str, numbers: &mut Numbers) -> String {
     if word == "union" {
         let mut draft = session.draft().unwrap();
@@ -64,6 +64,12 @@ fn shaped_whole(session: &mut Session, solid: Solid, word: &str, numbers: &mut N
         }
         return given(session, solid, &made);
     }
+    if word == "around" {
+        let (count, axis, quarters) = (numbers.number() as u32, numbers.number() as u32, numbers.number() as u32);
+        let made = session.pattern_around(solid, count, axis, quarters, numbers.point());
+        let others: String = made.iter().flatten().map(|&other| measures(session, other)[2..].to_owned()).collect();
+        return given(session, solid, &made) + &others;
+    }
     let plane = [0; 4].map(|_: i64| numbers.number());
     if word == "trim" {
         let made = session.trim(solid, plane);
@@ -75,8 +81,14 @@ fn shaped_whole(session: &mut Session, solid: Solid, word: &str, numbers: &mut N
 }
 
 fn feature(session: &mut Session, solid: Solid, word: &str, numbers: &mut Numbers) -> String {
-    if matches!(word, "halve" | "trim" | "union") {
+    if matches!(word, "halve" | "trim" | "union" | "around") {
         return shaped_whole(session, solid, word, numbers);
+    }
+    if word == "chamfers" {
+        let (width, ends) = (numbers.number(), numbers.points());
+        let edges: Vec<Edge> = ends.chunks_exact(2).map(|ends| half_edge(session, solid, ends[0], ends[1]).edge()).collect();
+        let made = session.chamfer_edges(&edges, width);
+        return given(session, solid, &made);
     }
     let (from, to) = (numbers.point(), numbers.point());
     let side = half_edge(session, solid, from, to);

@@ -388,6 +388,9 @@ extern "C" {
     pub fn gwb_stop_by(g: *mut Gwb, stop: Option<Stop>, user: *mut c_void);
 
     pub fn gwb_pattern(g: *mut Gwb, solid: u32, count: u32, step: *const Point, solids: *mut u32, why: *mut Refusal) -> u32;
+    pub fn gwb_pattern_around(
+        g: *mut Gwb, solid: u32, count: u32, axis: u32, quarters: u32, about: *const Point, solids: *mut u32, why: *mut Refusal,
+    ) -> u32;
     pub fn gwb_scale(g: *mut Gwb, factor: i64, why: *mut Refusal) -> u32;
     pub fn gwb_glue_all(g: *mut Gwb, solids: *const u32, n: usize, why: *mut Refusal) -> u32;
     pub fn gwb_split_solid(g: *mut Gwb, solid: u32, plane: *const CutPlane, above: u32, why: *mut Refusal) -> u32;
@@ -423,4 +426,5 @@ extern "C" {
     pub fn gwb_groove(g: *mut Gwb, face: u32, start: *const Point, end: *const Point, width: i64, depth: i64, why: *mut Refusal) -> u32;
     pub fn gwb_shoulder(g: *mut Gwb, face: u32, edge: u32, width: i64, depth: i64, why: *mut Refusal) -> u32;
     pub fn gwb_chamfer(g: *mut Gwb, edge: u32, width: i64, other: i64, face: *mut u32, why: *mut Refusal) -> u32;
+    pub fn gwb_chamfer_edges(g: *mut Gwb, edges: *const u32, n: usize, width: i64, faces: *mut u32, why: *mut Refusal) -> u32;
 }
