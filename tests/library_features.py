@@ -7,7 +7,8 @@ whole points, with what is said of them.
 Each line of tests/library_features.table is a feature, and behind `=` what it gives: `ok`, and six times the volume, the vertices, edges, faces
 and rings of the solid and a sum over its points; or the name of what is refused. A face is told by the ends of a side of its outer loop, an edge by
 its own, in the direction of its first half-edge; a solid that is cut by its listing. `halve` cuts it in two, and tells of both; `union` adds a block
-at a point. The table was written by features in Python that shared no code with those of the library. The last line counts.
+at a point; `around` tells of all of a row; `chamfers` takes a width and the ends of its edges. The table was written by features in Python that shared
+no code with those of the library, a row by turned points, and chamfers of several edges by cuts. The last line counts.
 """
 import re
 import sys
@@ -66,8 +67,8 @@ class Part:
         self.bench, self.solid = bench, solid
         # Whether the last feature was a chamfer of an edge whose first half-edge runs the other way than in the table.
         self.is_turned = False
-        # The solid above, where the last one was a cut in two.
-        self.above: Optional[int] = None
+        # The solid above, where the last one was a cut in two; the others of a row.
+        self.others: List[int] = []
 
     def face(self, row: Row) -> FacePart:
         """The face with a side between two points."""
@@ -82,9 +83,13 @@ class Part:
 
     def give(self, word: str, row: Row) -> None:
         """Tries a feature."""
-        bench, self.is_turned, self.above = self.bench, False, None
-        if word in ('halve', 'trim', 'union'):
+        bench, self.is_turned, self.others = self.bench, False, []
+        if word in ('halve', 'trim', 'union', 'around'):
             self._shape_whole(word, row)
+            return
+        if word == 'chamfers':
+            width, points = row.number(), row.points()
+            bench.chamfer_edges([self.edge(ends)[0] for ends in zip(points[::2], points[1::2])], width)
             return
         if word == 'chamfer':
             edge, is_first = self.edge((row.point(), row.point()))
@@ -105,9 +110,13 @@ class Part:
 
 
     def _shape_whole(self, word: str, row: Row) -> None:
-        """Cuts or trims it, or adds a block."""
+        """Cuts or trims it, adds a block, or sets more around an axis."""
         if word == 'halve':
-            self.above = self.bench.cut(self.solid, row.numbers()).above
+            cut = self.bench.cut(self.solid, row.numbers())
+            self.others = [cut.above] if cut.above is not None else []
+        elif word == 'around':
+            count, axis, quarters = row.number(), 'xyz'[row.number()], row.number()
+            self.others = [copy.solid for copy in self.bench.pattern_around(self.solid, count, axis, quarters, about=row.point())]
         elif word == 'trim':
             self.bench.trim(self.solid, row.numbers())
         else:
@@ -116,7 +125,7 @@ class Part:
 
     def told(self) -> str:
         """What there is of it."""
-        return ' '.join(measures(self.bench, solid) for solid in (self.solid, self.above) if solid is not None)
+        return ' '.join(measures(self.bench, solid) for solid in (self.solid, *self.others))
 
 
 class Tried:

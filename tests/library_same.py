@@ -48,7 +48,8 @@ class Session:
         one = lambda: next(left)  # noqa: E731
         try:
             made = _CALLS[word](self, one, left)
-            self.steps, self.is_undone = self.steps + (word not in ('faces', 'edges', 'off_lattice')), word == 'undo'
+            is_step = word not in ('faces', 'edges', 'off_lattice') and (word, len(numbers)) != ('glue_all', 1)
+            self.steps, self.is_undone = self.steps + is_step, word == 'undo'
             return 'ok' + ''.join(f' {number}' for number in made)
         except Refused as refused:
             return f'{refused.name} {refused.value}'
@@ -171,6 +172,8 @@ _CALLS: Dict[str, Call] = {
     'chamfer': lambda s, n, w: [s.bench.chamfer(n(), n(), n())], 'kill': lambda s, n, w: _nothing(s.bench.delete(n())),
     'copy': lambda s, n, w: s.copy(n(), n(), list(w)), 'move': lambda s, n, w: s.move(n(), n(), list(w)),
     'pattern': lambda s, n, w: [made.solid for made in s.bench.pattern(n(), n(), _three(w))],
+    'pattern_around': lambda s, n, w: [made.solid for made in s.bench.pattern_around(n(), n(), 'xyz'[n()], n(), about=_three(w))],
+    'chamfer_edges': lambda s, n, w: list(s.bench.chamfer_edges(width=n(), edges=list(w))),
     'renumber': lambda s, n, w: s.counted([number for pair in s.bench.renumber().solids.items() for number in pair]),
     'scale': lambda s, n, w: _nothing(s.bench.scale(n())), 'glue_all': lambda s, n, w: _nothing(s.bench.glue_all(list(w))),
     'split': lambda s, n, w: [number for made in [s.bench.split(n(), _four(w), above=n())] for number in s.counted(made.lower_caps, made.upper_caps)],
@@ -272,6 +275,10 @@ class Author:
         number, face = self._face()
         edges = list(face.edges) if face is not None else []
         edge = self._random.choice(edges).number if edges and self._below(20) else 1 + self._below(30)
+        if not self._below(4) and face is not None:
+            corner = face.outer.half_edges[self._below(len(edges)) % len(face.outer.half_edges)]
+            several = list(dict.fromkeys(edge.number for edge in face.edges)) if self._below(2) else [abs(corner), edge]
+            return 'chamfer_edges', [self._random.choice([1, 1, 2]), *dict.fromkeys(several)]
         if self._below(2):
             return 'chamfer', [edge, 1 + self._below(3), 1 + self._below(3)]
         return 'shoulder', [number, edge, 1 + self._below(3), 1 + self._below(3)]
@@ -290,7 +297,10 @@ class Author:
 
     def _of_solids(self) -> Tuple[str, List[int]]:
         solid, solids = self._any_solid(), self._solids()
-        word = self._random.choice(['copy', 'copy', 'move', 'kill', 'pattern', 'scale', 'glue_all', 'split', 'split', 'renumber', 'new'])
+        word = self._random.choice(['copy', 'copy', 'move', 'kill', 'kill', 'pattern', 'around', 'scale', 'glue_all', 'split', 'split', 'renumber', 'new'])
+        if word == 'around':
+            quarters = 1 + self._below(3)
+            return 'pattern_around', [solid, 2 + self._below(1 if quarters == 2 else 3), self._below(3), quarters, -20, self._below(3), 40]
         if word == 'new' or (word == 'kill' and len(solids) == 1):
             return self._solid()
         if word == 'renumber':

@@ -297,6 +297,11 @@ static bool is_of_solid(const char *word, uint32_t solid)
         const gwb_point step = point();
         if (is_well(gwb_pattern(&g, solid, count, &step, made, &why)))
             put(made, count - 1);
+    } else if (strcmp(word, "pattern_around") == 0) {
+        const uint32_t count = name(), axis = name(), quarters = name();
+        const gwb_point about = point();
+        if (is_well(gwb_pattern_around(&g, solid, count, axis, quarters, &about, made, &why)))
+            put(made, count - 1);
     } else if (strcmp(word, "split") == 0) {
         const gwb_cut_plane cut = plane();
         put_lists(gwb_split_solid(&g, solid, &cut, name(), &why), GWB_MADE_LOWER_CAPS, GWB_MADE_UPPER_CAPS);
@@ -315,6 +320,16 @@ static void glue_all(void)
     while (at < given)
         others[n++] = name();
     is_well(gwb_glue_all(&g, others, n, &why));
+}
+
+static void chamfer_edges(void)
+{
+    const int64_t width = number();
+    size_t n = 0;
+    while (at < given)
+        others[n++] = name();
+    if (is_well(gwb_chamfer_edges(&g, others, n, width, made, &why)))
+        put(made, n);
 }
 
 static bool is_of_session(const char *word)
@@ -340,6 +355,8 @@ static bool is_of_session(const char *word)
         is_well(gwb_scale(&g, number(), &why));
     } else if (strcmp(word, "glue_all") == 0) {
         glue_all();
+    } else if (strcmp(word, "chamfer_edges") == 0) {
+        chamfer_edges();
     } else if (strcmp(word, "faces") == 0) {
         find_faces();
     } else if (strcmp(word, "edges") == 0) {

@@ -19,6 +19,14 @@ public:
         return value;
     }
     template <class Kind> Kind name() { return Kind(static_cast<std::uint32_t>(number())); }
+    // All that are left.
+    template <class Kind> std::vector<Kind> names()
+    {
+        std::vector<Kind> found;
+        while (has_more())
+            found.push_back(name<Kind>());
+        return found;
+    }
     Point point()
     {
         const std::int64_t x = number(), y = number();
@@ -79,7 +87,8 @@ private:
             {"groove", &Given::groove},     {"shoulder", &Given::shoulder}, {"chamfer", &Given::chamfer}, {"kill", &Given::kill},
             {"copy", &Given::copy},         {"move", &Given::move},       {"pattern", &Given::pattern},   {"scale", &Given::scale},
             {"glue_all", &Given::glue_all}, {"split", &Given::split},     {"off_lattice", &Given::off_lattice},
-            {"faces", &Given::faces},       {"edges", &Given::edges},     {"renumber", &Given::renumber}};
+            {"faces", &Given::faces},       {"edges", &Given::edges},     {"renumber", &Given::renumber},
+            {"pattern_around", &Given::pattern_around}, {"chamfer_edges", &Given::chamfer_edges}};
         return all;
     }
 
@@ -275,6 +284,22 @@ private:
         if (is_well(made))
             put(*made);
     }
+    void pattern_around(Words &words)
+    {
+        const auto solid = words.name<Solid>();
+        const auto count = static_cast<std::uint32_t>(words.number()), axis = static_cast<std::uint32_t>(words.number());
+        const auto quarters = static_cast<std::uint32_t>(words.number());
+        const Result<std::vector<Solid>> made = gwb_session::pattern_around(*attempt_, solid, count, axis, quarters, words.point());
+        if (is_well(made))
+            put(*made);
+    }
+    void chamfer_edges(Words &words)
+    {
+        const std::int64_t width = words.number();
+        const Result<std::vector<Face>> made = gwb_session::chamfer_edges(*attempt_, words.names<Edge>(), width);
+        if (is_well(made))
+            put(*made);
+    }
     void renumber(Words &)
     {
         std::vector<Solid> solids;
@@ -290,10 +315,7 @@ private:
     void scale(Words &words) { is_well(gwb_session::scale(*attempt_, words.number())); }
     void glue_all(Words &words)
     {
-        std::vector<Solid> solids;
-        while (words.has_more())
-            solids.push_back(words.name<Solid>());
-        is_well(gwb_session::glue_all(*attempt_, solids));
+        is_well(gwb_session::glue_all(*attempt_, words.names<Solid>()));
     }
     void split(Words &words)
     {

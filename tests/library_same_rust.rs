@@ -153,6 +153,15 @@ macro_rules! made {
                 bench.move_solid(solid, words.motion()).map(|()| String::new())
             }
             "pattern" => bench.pattern(words.name(), words.number() as u32, words.point()).map(|made| told(&made)),
+            "pattern_around" => {
+                let (solid, count) = (words.name(), words.number() as u32);
+                bench.pattern_around(solid, count, words.number() as u32, words.number() as u32, words.point()).map(|made| told(&made))
+            }
+            "chamfer_edges" => {
+                let width = words.number();
+                let edges: Vec<Edge> = words.0.by_ref().map(|number| Edge(number as u32)).collect();
+                bench.chamfer_edges(&edges, width).map(|made| told(&made))
+            }
             "renumber" => {
                 let solids: Vec<Solid> = bench.numbers().collect();
                 bench.renumber().map(|all| {

@@ -11,6 +11,8 @@ def solid_cases(number, given, point, plane, points, length, flag):
         'delete': ({'solid': 1}, {'solid': number}),
         'copy': ({'solid': 1}, {'solid': number, 'move': point, 'mirror': mirror}),
         'pattern': ({'solid': 1, 'count': 2, 'step': (1, 0, 0)}, {'solid': number, 'count': (*length, 1), 'step': (*point, (0, 0, 0))}),
+        'pattern_around': ({'solid': 1, 'count': 2, 'axis': 'x'}, {'solid': number, 'count': (*length, 1, 5), 'axis': (1, None, 'w', 'xy', ['x']),
+                                                                   'times': (1.0, '1', None, True, 2 ** 63, 0, 4), 'about': point}),
         'move': ({'solid': 1, 'vector': (1, 0, 0)}, {'solid': number, 'vector': point}),
         'turn': ({'solid': 1, 'axis': 'x'}, {'solid': number, 'axis': (1, None, 'w', 'xy', ['x']), 'times': (1.0, '1', None, True, 2 ** 63),
                                              'about': point}),
@@ -25,4 +27,5 @@ def solid_cases(number, given, point, plane, points, length, flag):
         'groove': (line, wrong_line),
         'shoulder': ({'face': 1, 'edge': 1, 'width': 1, 'depth': 1}, {'face': number, 'edge': number, 'width': length, 'depth': length}),
         'chamfer': ({'edge': 1, 'width': 1}, {'edge': number, 'width': length, 'other': optional}),
+        'chamfer_edges': ({'edges': [1, 2], 'width': 1}, {'edges': (None, 1, '12', [], [1, 1], [1, '2'], [1, 2.0]), 'width': length}),
     }

@@ -41,6 +41,13 @@ class Advice(unittest.TestCase):
         self.bench.ask(said[said.index('# parallel, the cut moves by at most 0.50 along an edge:') + 1])
         self.assertEqual(len(self.bench.listing().solids), 3)
 
+    def test_cuts_off_the_lattice(self):
+        for name, above, call in (('cut', 3, lambda: self.bench.cut(self.block, PLANE)), ('trim', 3, lambda: self.bench.trim(self.block, PLANE)),
+                                  ('above', 9, lambda: self.bench.cut(self.block, PLANE, above=9))):
+            told = self.refused(call)
+            self.assertEqual(list(told.advice), advice(f'split 1 2 3 0 -11 {above}', Reply(('refused 37 1',)), self.bench.listing), name)
+        self.assertEqual(self.refused(lambda: self.bench.cut(self.block, (1, 0, 0, -99))).advice, ())
+
     def test_faces_that_do_not_match(self):
         face = next(face.number for face in self.bench.faces(solid=self.block) if face.normal[0] > 0)
         match = next(face.number for face in self.bench.faces(solid=self.beside) if face.normal[0] < 0)

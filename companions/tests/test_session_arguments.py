@@ -86,6 +86,7 @@ CASES.update(dict.fromkeys(('area', 'square_area'), ({'face': 1}, {'face': NUMBE
 CASES.update(dict.fromkeys(('length', 'square_length'), ({'edge': 1}, {'edge': HALF})))
 CASES.update(dict.fromkeys(('distance', 'square_distance'), ({'face': 1, 'other': 2}, {'face': NUMBER, 'other': NUMBER})))
 CASES.update(dict.fromkeys(('section', 'off_lattice'), ({'solid': 1, 'plane': (1, 0, 0, 0)}, {'solid': NUMBER, 'plane': PLANE})))
+CASES.update(dict.fromkeys(('half_edges_array', 'triangles_array'), ({}, {'solid': GIVEN})))
 CASES['inertia'] = ({'solid': 1}, {'solid': NUMBER, 'about': (True, 1, 'abc', (0, 0), (0, 0, 1.0), (0, True, 0), (0, 0, None))})
 CASES['label'] = ({'thing': 1}, {'thing': (*NUMBER, 1), 'name': (1, None, b'Lid'), 'colour': (1, None, b'#FF8000', 'red', '#FF80')})
 CASES['import_file'] = ({'path': 'part.step'}, {
@@ -93,7 +94,7 @@ CASES['import_file'] = ({'path': 'part.step'}, {
     'rounded': FLAG, 'keep_triangles': FLAG, 'repair': FLAG})
 CASES['export'] = ({'path': 'part.step'}, {'path': (1, None, 1.0, b'part.step')})
 WITHOUT_ARGUMENTS = {'close', 'draft', 'group', 'listing', 'page', 'script', 'show', 'solids', 'save', 'load', 'labels', 'unit',
-                     'renumber'}
+                     'renumber', 'vertices_array'}
 
 
 class Silent:

@@ -139,6 +139,22 @@ class Whole(unittest.TestCase):
             self.assertEqual(self.bench.vertices(solid=made.solid, at=(0, 15 * times, times)).one().number, made.vertex(1))
             self.assertEqual(self.six_volume(made.solid), self.six_volume(block.solid))
 
+    def test_around_an_axis(self):
+        block = with_hole(self.bench)
+        points = {vertex.number: vertex.point for vertex in self.bench.vertices(solid=block)}
+        for axis, (count, times), (x, y, z) in (('z', (4, 1), (-3, 1, 0)), ('x', (4, -1), (0, -20, 2)), ('y', (2, 2), (-9, 0, -9)), ('z', (3, 3), (0, -9, 0))):
+            row = self.one_step(lambda: self.bench.pattern_around(block, count, axis, times, about=(x, y, z)))
+            self.assertEqual(len(row), count - 1)
+            for place, made in enumerate(row, 1):
+                for number, point in points.items():
+                    turned = [one - other for one, other in zip(point, (x, y, z))]
+                    for _ in range(place * times % 4):
+                        first, second = {'x': (1, 2), 'y': (2, 0), 'z': (0, 1)}[axis]
+                        turned[first], turned[second] = -turned[second], turned[first]
+                    self.assertEqual(self.bench.vertex(made.vertex(number)).point, tuple(one + other for one, other in zip(turned, (x, y, z))))
+                self.assertEqual(self.six_volume(made.solid), self.six_volume(block.solid))
+        self.refuse('PointRange', 1, lambda: self.bench.pattern_around(block, 2, 'z', about=(999_999_999, 999_999_999, 0)))
+
     def test_numbers_of_a_copy_were_never_in_use(self):
         gone = self.bench.block((0, 0, 0), (1, 1, 1))
         self.bench.undo()

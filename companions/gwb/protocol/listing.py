@@ -1,8 +1,8 @@
-"""Reads the listing of a model: the one module that knows how listings are written."""
+"""Reads and writes the listing of a model: the one module that knows how listings are written."""
 
 from itertools import groupby
 from operator import itemgetter
-from typing import Dict, List, NamedTuple, Sequence
+from typing import Dict, Iterator, List, NamedTuple, Sequence
 
 from ..errors import NotAListing
 from ..geometry.free_numbers import KINDS
@@ -65,3 +65,14 @@ def _loop(words: List[str]) -> Loop:
     if words[2] == 'at':
         return Loop((), int(words[3]))
     return Loop(tuple(map(int, words[2:])))
+
+
+def listing_lines(model: Model) -> Iterator[str]:
+    """The lines of the listing of a model that isn't empty."""
+    yield from (f'solid {solid}' for solid in model.solids)
+    for number, face in model.faces.items():
+        yield ' '.join(map(str, ('face', number, face.solid, *face.loops)))
+    for number, loop in model.loops.items():
+        yield f'loop {number} at {loop.vertex}' if loop.is_lone else ' '.join((f'loop {number}', *(f'{half:+d}' for half in loop.halves)))
+    yield from ('edge {} {} {}'.format(number, *ends) for number, ends in model.edges.items())
+    yield from ('vertex {} {} {} {}'.format(number, *point) for number, point in model.vertices.items())

@@ -4,13 +4,16 @@ import ctypes
 from fractions import Fraction
 from typing import Any, Callable, Dict, List, NamedTuple, Optional, Sequence, Tuple
 
-from ..errors import CompanionError
+from ..errors import CompanionError, Refused
 from ..geometry.measures import why_unfit
+from ..geometry.model import Model
 from ..geometry.outlines import Impossible
 from ..geometry.vectors import Vector
 from ..protocol.complaints import memory_refused, refused
+from ..protocol.listing import listing_lines
+from ..protocol.replies import Reply
 from .kernel import Kernel
-from .library import ADDRESS, IMPOSSIBLE, MEMORY, OK, REFUSED, SIZE, WORD, Point, Refusal, declare
+from .library import ADDRESS, IMPOSSIBLE, MEMORY, OK, REFUSED, SIZE, WORD, Point, Refusal, Wide, declare
 from .part_models import model_of_faces
 
 _LENGTH = ctypes.c_int64
@@ -19,6 +22,7 @@ _STRIP = [WORD, ADDRESS, ADDRESS, _LENGTH, _LENGTH]
 # What each call takes after the handle, and before the refusal.
 _CALLS: Dict[str, List[Any]] = {
     'kill_solid': [WORD], 'copy_solid': [WORD, ADDRESS, ADDRESS], 'move_solid': [WORD, ADDRESS], 'pattern': [WORD, WORD, ADDRESS, ADDRESS],
+    'pattern_around': [WORD] * 4 + [ADDRESS, ADDRESS], 'chamfer_edges': [ADDRESS, SIZE, _LENGTH, ADDRESS], 'load': [ctypes.c_char_p, SIZE],
     'scale': [_LENGTH], 'renumber': [], 'glue_all': [ADDRESS, SIZE], 'profile': [*_OUTLINE, ADDRESS, *_MADE],
     'ring': [*_OUTLINE, *_MADE, ADDRESS], 'pocket': [*_OUTLINE, _LENGTH, *_MADE], 'boss': [*_OUTLINE, _LENGTH, *_MADE], 'hole': [*_OUTLINE, *_MADE],
     'drill': [WORD, ADDRESS, _LENGTH, WORD, _LENGTH, *_MADE, ADDRESS], 'notch': [*_OUTLINE, _LENGTH],
@@ -39,11 +43,14 @@ _TEXTS = {
     'NoMatch': 'no face of solid {} matches one of those that are joined',
     'GluedTwice': 'face {} matches another one too, which it would touch after the gluing', 'NoContact': 'solid {} touches the others in no face',
     'Overlap': 'solid {} has room in common with another one, or their union would touch itself', 'PointRange': 'a point would lie past 1,000,000,000',
+    'NoCorner': "the slopes of edges that end at vertex {} don't meet in one point, or more than three edges end there",
+    'NotAlike': 'edge {} is of another solid than the first, or bends the other way',
     'NumberRange': 'the number {} is outside 1 to 1,000,000', 'NumbersSpent': 'too few numbers above all that are in use are left'}
 _PART_MEETS = 'a part of solid {} would touch itself in the plane'
 FLOOR, WALLS, FACES, LOOPS, EDGES, VERTICES, TURNED, LOWER_CAPS, UPPER_CAPS, INTO, SOLIDS = range(11)
 _QUERIES = {'face': 'find_faces', 'edge': 'find_edges'}
 _MOST_TERM = 2 ** 64 - 1
+_TOO_MANY = 2 ** 62
 
 
 class Motion(ctypes.Structure):
@@ -108,6 +115,9 @@ class FeatureCalls:
             declare(library, path, name, f'gwb_{name}', WORD, [ADDRESS, *taken, ADDRESS])
         for name in _QUERIES.values():
             declare(library, path, name, f'gwb_{name}', WORD, [ADDRESS] * 2 + [ADDRESS, SIZE, ADDRESS, ADDRESS])
+        declare(library, path, 'off_lattice', 'gwb_off_lattice', WORD, [ADDRESS, WORD, ADDRESS, SIZE, ADDRESS, ADDRESS])
+        declare(library, path, 'advice_factor', 'gwb_advice_factor', Wide, [ADDRESS])
+        declare(library, path, 'advice_free', 'gwb_advice_free', None, [ADDRESS])
         declare(library, path, 'made', 'gwb_made', SIZE, [ADDRESS, WORD, ADDRESS, SIZE])
         declare(library, path, 'misfit_name', 'gwb_misfit_name', ctypes.c_char_p, [WORD])
         self._library, self._handle = library, ctypes.addressof(kernel.lines.handle)
@@ -164,17 +174,50 @@ class FeatureCalls:
         self.give('chamfer', edge, width, other, ctypes.addressof(made), frees=True)
         return made.value
 
+    def chamfer_edges(self, edges: Sequence[int], width: int) -> Tuple[int, ...]:
+        """Chamfers at once: the face of each."""
+        numbers, made = (WORD * len(edges))(*edges), (WORD * len(edges))()
+        self.give('chamfer_edges', ctypes.addressof(numbers), len(edges), width, ctypes.addressof(made), frees=True)
+        return tuple(made)
+
+    def load(self, model: Model) -> None:
+        """Makes what a model has, which isn't empty, with its numbers."""
+        text = ''.join(f'{line}\n' for line in listing_lines(model)).encode()
+        self.give('load', text, len(text))
+
+    def whole_factor(self, solid: int, plane: Sequence[int]) -> int:
+        """The least number by which the model must be multiplied for all points of a cut to be whole."""
+        advice, row, why = ADDRESS(), (_LENGTH * 4)(*plane), Refusal()
+        said = self._library.off_lattice(self._handle, solid, ctypes.addressof(row), 0, ctypes.addressof(advice), ctypes.addressof(why))
+        if said != OK:
+            raise self._complaint('off_lattice', said, why)
+        try:
+            factor: Wide = self._library.advice_factor(advice)
+        finally:
+            self._library.advice_free(advice)
+        # (0 where it is too great to be said: out of range in any case)
+        return (factor.high << 64 | factor.low) or _TOO_MANY
+
     def cut(self, solid: int, plane: Sequence[int], above: int) -> Tuple[Tuple[int, ...], Tuple[int, ...]]:
         """A cut in two: the caps of both parts."""
-        row = (_LENGTH * 4)(*plane)
-        self.give('cut', solid, ctypes.addressof(row), above, frees=True)
+        self._cut('cut', solid, plane, [above], above)
         return self.made(LOWER_CAPS), self.made(UPPER_CAPS)
 
     def trim(self, solid: int, plane: Sequence[int]) -> Tuple[int, ...]:
         """A cut whose upper part goes: the caps."""
-        row = (_LENGTH * 4)(*plane)
-        self.give('trim', solid, ctypes.addressof(row), frees=True)
+        self._cut('trim', solid, plane, [], self._kernel.numbers.next('solid'))
         return self.made(LOWER_CAPS)
+
+    def _cut(self, word: str, solid: int, plane: Sequence[int], more: Sequence[int], above: int) -> None:
+        """Cuts a solid; what is refused has the advice that a split with this number above has."""
+        row = (_LENGTH * 4)(*plane)
+        try:
+            self.give(word, solid, ctypes.addressof(row), *more, frees=True)
+        except Refused as error:
+            if error.number:
+                line = ' '.join(map(str, ('split', solid, *plane, above)))
+                self._kernel.advise(error, line, Reply((f'refused {error.number} {error.value}',)))
+            raise
 
     def union(self, solids: Sequence[int]) -> List[Tuple[int, int]]:
         """One solid of several: faces that became one with others, or several, each with one that it went into."""
@@ -189,10 +232,10 @@ class FeatureCalls:
         self.give('copy_solid', solid, ctypes.addressof(motion), ctypes.addressof(made))
         return made.value
 
-    def pattern(self, solid: int, count: int, step: Vector) -> Tuple[int, ...]:
-        """A row of solids: those that are new."""
-        made, way = (WORD * count)(), Point(*step)
-        self.give('pattern', solid, count, ctypes.addressof(way), ctypes.addressof(made))
+    def row(self, word: str, solid: int, count: int, *way: Any) -> Tuple[int, ...]:
+        """So many solids, each one's place by that of the one before it: those that are new."""
+        made = (WORD * count)()
+        self.give(word, solid, count, *way, ctypes.addressof(made))
         return tuple(made[:count - 1])
 
     def glue_all(self, solids: Sequence[int]) -> None:
@@ -235,5 +278,6 @@ class FeatureCalls:
             return found
         text = _TEXTS.get(found.name, '{}').format(why.value)
         if found.name == 'NotFlat':
-            text = why_unfit(model_of_faces(self._kernel.lines, [why.value]), why.value) or f"face {why.value} isn't flat"
+            model = model_of_faces(self._kernel.lines, [why.value])
+            text = (why_unfit(model, why.value) if model.faces else None) or (f"face {why.value} isn't flat" if why.value else "a slope wouldn't be flat")
         return Impossible(found.name, why.value, text)

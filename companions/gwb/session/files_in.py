@@ -10,7 +10,6 @@ from ..formats.polygon_files import FORMS
 from ..geometry.free_numbers import renumbered
 from ..geometry.plane_figures import Exact
 from .bench import Bench
-from .solids import Numbers, give
 from .telling import warn
 
 
@@ -42,10 +41,10 @@ def take_in(bench: Bench, path: str, options: Options) -> List[int]:
                       rounded=options.rounded, keep_triangles=options.keep_triangles, repair=options.repair)
     for wrong in found.wrong:
         warn(f'{path}: {wrong}')
-    numbers = Numbers(bench)
-    new = numbers.instead_of(found.model)
+    new = bench.numbers.instead_of(found.model)
     with bench.step():
-        give(bench, numbers.making(renumbered(found.model, new)))
+        if found.model.solids:
+            bench.features.load(renumbered(found.model, new))
         for (kind, number), look in found.looks.items():
             bench.kernel.notes.put((kind, new[kind][number]), look._replace(name=look.name[:LONGEST_NAME]))
     return [new['solid'][solid] for solid in found.model.solids]

@@ -96,9 +96,14 @@ class Kernel(Turns):
 
     def complaint(self, line: str, reply: Reply) -> Complaint:
         """The error for a complaint about a line, with what would do."""
-        error, state = complaint(line, reply), self.lines.state()
-        error.advised(lambda: self._advice(line, reply, state))
+        error = complaint(line, reply)
+        self.advise(error, line, reply)
         return error
+
+    def advise(self, error: Complaint, line: str, reply: Reply) -> None:
+        """Says how the advice of an error is found: as that of a line with this reply, while the model is as it is now."""
+        state = self.lines.state()
+        error.advised(lambda: self._advice(line, reply, state))
 
     def _advice(self, line: str, reply: Reply, state: Tuple[int, ...]) -> Sequence[str]:
         """What would do in the place of a line, while the model is as it was and no other thread has the turn. A large model isn't searched."""

@@ -1,8 +1,11 @@
 """The numbers of new things: above all that are or were in use, or in gaps."""
 
-from typing import Dict
+from itertools import islice
+from typing import Dict, List
 
-from ..geometry.free_numbers import KINDS, LARGEST
+from ..geometry.free_numbers import KINDS, LARGEST, numbers_of
+from ..geometry.model import Model
+from ..geometry.outlines import Impossible
 from .library import Library
 
 
@@ -42,4 +45,17 @@ class NewNumbers:
         numbers = range(self._gaps.get(kind, 0) + 1, LARGEST + 1)
         found = next((number for number in numbers if not self.in_use(kind, number)), LARGEST + 1)
         self._gaps[kind] = found
+        return found
+
+    def instead_of(self, model: Model) -> Dict[str, Dict[int, int]]:
+        """For each kind a free number for each of the model's: those that were never in use, then those in gaps. Refused: NumbersSpent."""
+        return {kind: dict(zip(sorted(numbers), self._free(kind, len(numbers)))) for kind, numbers in numbers_of(model).items()}
+
+    def _free(self, kind: str, count: int) -> List[int]:
+        """So many numbers of the kind."""
+        above = self.ever(kind) + 1
+        found = list(range(above, min(above + count, LARGEST + 1)))
+        found += islice((number for number in range(1, above) if not self.in_use(kind, number)), count - len(found))
+        if len(found) < count:
+            raise Impossible('NumbersSpent', 0, f'no {kind} number is free, and one is needed')
         return found

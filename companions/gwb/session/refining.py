@@ -7,8 +7,7 @@ from contextlib import contextmanager
 from typing import Callable, Iterator, TypeVar
 
 from ..errors import Refused
-from ..geometry.crossings import Plane, crossings, without_common_factor
-from ..geometry.lattice_cuts import whole_factor
+from ..geometry.crossings import Plane, without_common_factor
 from .bench import Bench
 
 Made = TypeVar('Made')
@@ -24,9 +23,14 @@ def with_finer_unit(bench: Bench, solid: int, plane: Plane, cut: Callable[[Plane
     except Refused as refused:
         if refused.name != 'NotLattice':
             raise
-    factor = whole_factor(crossings(bench.solid_model(solid), solid, plane))
+    factor = bench.features.whole_factor(solid, plane)
     with bench.step():
-        refine(bench, factor)
+        try:
+            bench.features.give('scale', factor)
+        except Refused as refused:
+            refused.args = (f'times {factor} all points of the cut are whole, but {refused}',)
+            raise
+        bench.kernel.notes.unit = bench.kernel.notes.unit / factor
         # (its offset stays in range, since it meets edges whose ends do)
         return cut(without_common_factor((*plane[:3], plane[3] * factor)))
 
@@ -38,18 +42,6 @@ def telling_what_helps(bench: Bench, solid: int, plane: Plane) -> Iterator[None]
         yield
     except Refused as refused:
         if refused.name == 'NotLattice':
-            factor = whole_factor(crossings(bench.solid_model(solid), solid, plane))
+            factor = bench.features.whole_factor(solid, plane)
             refused.args = (f'{refused.args[0]}; times {factor} all its points are whole, as scale=True makes them; off_lattice() names planes near by',)
         raise
-
-
-def refine(bench: Bench, factor: int) -> None:
-    """The unit becomes so many times finer, as one command, or as steps of the draft that is open: all coordinates are multiplied, and the size
-    of one is divided. Refused: PointRange."""
-    with bench.step():
-        try:
-            bench.features.give('scale', factor)
-        except Refused as refused:
-            refused.args = (f'times {factor} all points of the cut are whole, but {refused}',)
-            raise
-        bench.kernel.notes.unit = bench.kernel.notes.unit / factor

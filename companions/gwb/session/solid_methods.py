@@ -47,6 +47,20 @@ class SolidMethods(Methods):
         with self._bench.step():
             return tuple(_labelled(self._bench, made) for made in solids.in_a_row(self._bench, number, many, way))
 
+    def pattern_around(self, solid: arguments.Solid, count: int, axis: str, times: int = 1, *, about: arguments.Point = ZERO) -> Tuple[Copy, ...]:
+        """Copies of the solid around the axis 'x', 'y' or 'z' through a point, each so many quarter turns on from the one before it, counterclockwise as
+        seen from where the axis points, so that there are `count` of it with itself: at most 4, or 2 by half turns. Refused as copy is."""
+        number, many = self._bench.number('solid', solid), arguments.positive('count', count)
+        turn = solids.axis_of(axis), arguments.coordinate('times', times) % 4
+        middle = arguments.point('about', about)
+        most = (1, 4, 2, 4)[turn[1]]
+        if most == 1:
+            raise ValueError(f'times: {times} quarter turns lead back')
+        if not 2 <= many <= most:
+            raise ValueError(f'count: {many} is outside 2 to {most}')
+        with self._bench.step():
+            return tuple(_labelled(self._bench, made) for made in solids.around(self._bench, number, many, turn, middle))
+
     def move(self, solid: arguments.Solid, vector: arguments.Point) -> int:
         """The solid moves by the vector: its number, which stays, as all of its numbers do. Refused: NoSolid; PointRange: a point would
         leave the range."""
@@ -157,13 +171,30 @@ class SolidMethods(Methods):
         corner wouldn't be whole; OutlineOutside, Meets: there is no room for it."""
         number, wide = self._bench.number('edge', edge), arguments.positive('width', width)
         far = wide if other is None else arguments.positive('other', other)
-        lines = self._bench.kernel.lines
-        EdgePart(self._bench.kernel, number).vertices
-        labelled = LabelledFaces(self._bench.kernel, self._bench.solid_of(lines.face_of_loop(lines.loop_of(number))))
-        with self._bench.step():
-            made = self._bench.features.chamfer(number, wide, far)
-            labelled.label_parts([self._bench.solid_of(made)], [made])
-        return made
+        return _sloped(self._bench, [number], lambda features: [features.chamfer(number, wide, far)])[0]
+
+    def chamfer_edges(self, edges: Sequence[arguments.Edge], width: int) -> Tuple[int, ...]:
+        """Different edges become sloping faces at once, which begin so far from them in the faces on both sides: the face of each. Where two or three
+        of the edges that end at a vertex are among them, their slopes meet there.
+
+        Refused: as chamfer is; NoCorner: slopes of edges that end at a vertex don't meet in one point, or more than three edges end there; NotAlike: an
+        edge is of another solid than the first, or bends the other way."""
+        numbers, wide = self._bench.several('edges', edges, 'edge'), arguments.positive('width', width)
+        if not numbers or len(set(numbers)) < len(numbers):
+            raise ValueError('edges: different numbers are wanted, at least one')
+        return tuple(_sloped(self._bench, numbers, lambda features: features.chamfer_edges(numbers, wide)))
+
+
+def _sloped(bench: Bench, edges: Sequence[int], give: Callable[[FeatureCalls], Sequence[int]]) -> Sequence[int]:
+    """Gives a feature that makes slopes of edges, which it returns; the parts of faces get the labels of these."""
+    lines = bench.kernel.lines
+    for edge in edges:
+        EdgePart(bench.kernel, edge).vertices
+    labelled = LabelledFaces(bench.kernel, bench.solid_of(lines.face_of_loop(lines.loop_of(edges[0]))))
+    with bench.step():
+        made = give(bench.features)
+        labelled.label_parts([bench.solid_of(made[0])], made)
+    return made
 
 
 def _labelled(bench: Bench, copy: Copy) -> Copy:

@@ -1,24 +1,20 @@
-"""Solids as things: taken away, copied, moved, turned, mirrored, set in rows and scaled, each by operators and one command to undo.
+"""Solids as things: taken away, copied, moved, turned, mirrored and set in rows, each as one command to undo.
 
-A solid is taken apart and made anew, as a script of its listing would make it (inversion.py): some 2.5 operators for each of its edges. So
-whatever a sound solid has, rings, handles, wires, laminae and several shells, it keeps, and the faces need not be flat.
+The library does it where axes go to axes. In another plane a solid is mirrored here, and made anew of its listing.
 """
 
 import ctypes
 from dataclasses import dataclass, field
 from fractions import Fraction
 from functools import reduce
-from typing import AbstractSet, Dict, Iterator, List, Mapping, Optional, Sequence, Tuple
+from typing import AbstractSet, Dict, List, Mapping, Optional, Sequence, Tuple
 
-from ..errors import Refused, Unfit
 from ..geometry.flat_face import ExactVector
-from ..geometry.free_numbers import KINDS, LARGEST, FreeNumbers, numbers_of, renumbered, renumbering
+from ..geometry.free_numbers import renumbered
 from ..geometry.model import Model
 from ..geometry.moved import FARTHEST, Change, Displaced, changed, turning
 from ..geometry.outlines import Impossible
-from ..geometry.solids_apart import solids_apart
 from ..geometry.vectors import ZERO, Vector
-from ..scripts.inversion import Step, steps_apart
 from . import arguments
 from .bench import Bench
 from .feature_calls import EDGES, FACES, LOOPS, SOLIDS, TURNED, VERTICES, Motion
@@ -73,64 +69,6 @@ class Copy:
         return type(part)(part._kernel, numbers[part.kind][self._bench.number('part', part, part.kind)])
 
 
-class _Unused(FreeNumbers):
-    """The numbers of a kind that a bench never had in use, then those in gaps: nothing of the model is read before these."""
-
-    def __init__(self, bench: Bench, kind: str) -> None:
-        super().__init__(kind, ())
-        self._bench = bench
-
-    def _rising(self) -> Iterator[int]:
-        ever = self._bench.numbers.ever(self._kind)
-        yield from range(ever + 1, LARGEST + 1)
-        yield from (number for number in range(1, ever + 1) if not self._bench.numbers.in_use(self._kind, number))
-
-
-class Numbers:
-    """The numbers that a bench has free: for what is made, and spare ones on the way there."""
-
-    def __init__(self, bench: Bench) -> None:
-        self._free: Dict[str, FreeNumbers] = {kind: _Unused(bench, kind) for kind in KINDS}
-
-    def take(self, kind: str) -> int:
-        """A number that was never in use, where there is one, else one that is free. NumbersSpent is raised where none is."""
-        try:
-            return self._free[kind].take()
-        except Unfit as error:
-            raise _spent(error) from None
-
-    def instead_of(self, model: Model) -> Dict[str, Dict[int, int]]:
-        """A new number for each of the model's."""
-        try:
-            return {kind: renumbering(self._free[kind], numbers) for kind, numbers in numbers_of(model).items()}
-        except Unfit as error:
-            raise _spent(error) from None
-
-    def taking_away(self, model: Model) -> List[str]:
-        """The operators that take the solids of the model away."""
-        return [step.takes for alone in solids_apart(model) for step in self._steps(alone)]
-
-    def making(self, model: Model) -> List[str]:
-        """The operators that make the solids of the model."""
-        return [step.makes for alone in solids_apart(model) for step in reversed(self._steps(alone))]
-
-    def _steps(self, model: Model) -> List[Step]:
-        try:
-            return steps_apart(model, self._free)
-        except Unfit as error:
-            raise _spent(error) from None
-
-
-def _spent(error: Unfit) -> Refused:
-    return Impossible('NumbersSpent', 0, str(error))
-
-
-def give(bench: Bench, lines: Sequence[str]) -> None:
-    """Gives operators as one command, or as steps of the draft that is open; where one isn't accepted, all is as before."""
-    with bench.step():
-        bench.kernel.giving(lambda: bench.kernel.lines.give(lines), frees=True)
-
-
 def delete(bench: Bench, solid: int) -> None:
     """Takes a solid away. Refused: NoSolid."""
     bench.features.give('kill_solid', solid, frees=True)
@@ -148,7 +86,15 @@ def copied(bench: Bench, solid: int, way: Sequence[Change]) -> Copy:
 
 def in_a_row(bench: Bench, solid: int, count: int, step: Vector) -> Tuple[Copy, ...]:
     """Copies of the solid, each a step farther than the one before, so that there are so many of it with itself."""
-    return tuple(_told(bench, solid, bench.features.pattern(solid, count, step)))
+    way = Point(*step)
+    return tuple(_told(bench, solid, bench.features.row('pattern', solid, count, ctypes.addressof(way))))
+
+
+def around(bench: Bench, solid: int, count: int, turn: Tuple[str, int], about: Vector) -> Tuple[Copy, ...]:
+    """Copies of the solid, each so many quarter turns about an axis farther than the one before."""
+    axis, quarters = turn
+    middle = Point(*about)
+    return tuple(_told(bench, solid, bench.features.row('pattern_around', solid, count, AXES.index(axis), quarters, ctypes.addressof(middle))))
 
 
 def _motion(way: Sequence[Change]) -> Optional[Motion]:
@@ -185,10 +131,10 @@ def _shares(pairs: Sequence[Tuple[int, int]], count: int) -> List[Dict[int, int]
 
 
 def _copied_anew(bench: Bench, solid: int, way: Sequence[Change]) -> Copy:
-    """A copy by operators, with numbers that are free."""
-    model, numbers = bench.solid_model(solid), Numbers(bench)
-    new = numbers.instead_of(model)
-    give(bench, numbers.making(renumbered(reduce(placed, way, model), new)))
+    """A copy by its listing, with numbers that are free."""
+    model = bench.solid_model(solid)
+    new = bench.numbers.instead_of(model)
+    bench.features.load(renumbered(reduce(placed, way, model), new))
     return Copy(new['solid'][solid], new['face'], new['loop'], new['edge'], new['vertex'], solid, bench)
 
 
@@ -198,9 +144,10 @@ def place(bench: Bench, solid: int, change: Change) -> None:
     if motion is not None:
         bench.features.give('move_solid', solid, ctypes.addressof(motion))
         return
-    model, numbers = bench.solid_model(solid), Numbers(bench)
-    after = placed(model, change)
-    give(bench, [*numbers.taking_away(model), *numbers.making(after)])
+    after = placed(bench.solid_model(solid), change)
+    with bench.step():
+        delete(bench, solid)
+        bench.features.load(after)
 
 
 def placed(model: Model, change: Change) -> Model:
@@ -230,8 +177,13 @@ def mirror_plane(name: str, value: object) -> Tuple[int, int, int, int]:
     return found
 
 
+def axis_of(value: object) -> str:
+    """The name of an axis."""
+    if value not in AXES:
+        raise ValueError(f"axis: 'x', 'y' or 'z' is wanted, not {value!r}")
+    return str(value)
+
+
 def quarter_turns(axis: object, times: object, about: object) -> Change:
     """A turn by quarters about an axis through a point."""
-    if axis not in AXES:
-        raise ValueError(f"axis: 'x', 'y' or 'z' is wanted, not {axis!r}")
-    return turning(str(axis), arguments.coordinate('times', times), arguments.point('about', about))
+    return turning(axis_of(axis), arguments.coordinate('times', times), arguments.point('about', about))
