@@ -464,6 +464,9 @@ static void try_refused_memory()
         {"trim", [&](Workbench &bench) { (void)trim(bench, Solid(1), {0, 0, 1, -4}); }},
         {"pattern", [&](Workbench &bench) { (void)pattern(bench, Solid(1), 3, {0, 0, 9}); }},
         {"around", [&](Workbench &bench) { (void)pattern_around(bench, Solid(1), 2, 0, 2, {0, -1, 0}); }},
+        {"polyhedron", [&](Workbench &bench) {
+             (void)polyhedron(bench, {{90, 0, 0}, {96, 0, 0}, {90, 6, 0}, {90, 0, 6}}, {0, 2, 1, 0, 1, 3, 1, 2, 3, 0, 3, 2}, {3, 3, 3, 3});
+         }},
         {"chamfers", [&](Workbench &bench) { (void)chamfer_edges(bench, {Edge(1), Edge(2)}, 1); }},
         {"scale", [&](Workbench &bench) { scale(bench, 3); }},
         {"move", [&](Workbench &bench) { move_solid(bench, Solid(1), Motion::quarter_turns(2)); }},

@@ -85,6 +85,13 @@ static enum gwb_kind chamfers(gwb *g)
         edges[n] = rows[n].half_edge / 2;
     return gwb_chamfer_edges(g, edges, n, 2, numbers, &why);
 }
+static enum gwb_kind polyhedron(gwb *g)
+{
+    static const gwb_point points[] = {{90, 0, 0}, {96, 0, 0}, {90, 6, 0}, {90, 0, 6}};
+    static const uint32_t corners[] = {0, 2, 1, 0, 1, 3, 1, 2, 3, 0, 3, 2}, sizes[] = {3, 3, 3, 3};
+    gwb_polyhedron_made made;
+    return gwb_polyhedron(g, 20, points, 4, corners, sizes, 4, &made, &why);
+}
 static enum gwb_kind renumber(gwb *g) { return gwb_renumber(g, &why); }
 static enum gwb_kind scale(gwb *g) { return gwb_scale(g, 3, &why); }
 static enum gwb_kind glue_all(gwb *g)
@@ -141,6 +148,7 @@ static const struct feature {
 } features[] = {{"pocket", pocket},     {"boss", boss},   {"hole", hole},         {"ring", ring},       {"notch", notch},
                 {"slot", slot},         {"groove", groove}, {"shoulder", shoulder}, {"chamfer", chamfer}, {"copy", copy},
                 {"move", move},         {"kill", kill_one}, {"profile", make_profile}, {"pattern", pattern}, {"around", around}, {"chamfers", chamfers},
+                 {"polyhedron", polyhedron},
                  {"scale", scale},       {"split", split}, {"advice", advice},     {"image", image},     {"glue_all", glue_all},
                  {"drill", drill},       {"find_faces", find_faces}, {"find_edges", find_edges}, {"cut", cut},         {"trim", trim},
                  {"trim by split", trim_by_split}, {"union", unite}, {"renumber", renumber}, {"undo", undo}, {"redo", redo}, {"line", line}};

@@ -109,6 +109,12 @@ class Session:
         asked = {0: {}, 1: {'between': tuple(numbers)}, 2: {'along': numbers}, 3: {'length': _ratio(numbers)}}[what]
         return [edge.number for edge in self.bench.edges(solid=solid or None, **asked)]
 
+    def polyhedron(self, solid: int, count: int, size: int, numbers: List[int]) -> List[int]:
+        """The first vertex and the first face of a solid of so many points, and of faces of this size."""
+        corners = numbers[3 * count:]
+        made = self.bench.polyhedron(_points(iter(numbers[:3 * count])), list(zip(*[iter(corners)] * size)), solid=solid)
+        return [made.vertices[0], made.faces[0]]
+
     def outlined(self, made: Any) -> List[int]:
         """The numbers of what a feature of an outline makes."""
         face = made.other if hasattr(made, 'other') else made.face
@@ -174,6 +180,7 @@ _CALLS: Dict[str, Call] = {
     'pattern': lambda s, n, w: [made.solid for made in s.bench.pattern(n(), n(), _three(w))],
     'pattern_around': lambda s, n, w: [made.solid for made in s.bench.pattern_around(n(), n(), 'xyz'[n()], n(), about=_three(w))],
     'chamfer_edges': lambda s, n, w: list(s.bench.chamfer_edges(width=n(), edges=list(w))),
+    'polyhedron': lambda s, n, w: s.polyhedron(n(), n(), n(), list(w)),
     'renumber': lambda s, n, w: s.counted([number for pair in s.bench.renumber().solids.items() for number in pair]),
     'scale': lambda s, n, w: _nothing(s.bench.scale(n())), 'glue_all': lambda s, n, w: _nothing(s.bench.glue_all(list(w))),
     'split': lambda s, n, w: [number for made in [s.bench.split(n(), _four(w), above=n())] for number in s.counted(made.lower_caps, made.upper_caps)],
@@ -297,7 +304,7 @@ class Author:
 
     def _of_solids(self) -> Tuple[str, List[int]]:
         solid, solids = self._any_solid(), self._solids()
-        word = self._random.choice(['copy', 'copy', 'move', 'kill', 'kill', 'pattern', 'around', 'scale', 'glue_all', 'split', 'split', 'renumber', 'new'])
+        word = self._random.choice(['copy', 'copy', 'move', 'kill', 'kill', 'pattern', 'around', 'scale', 'glue_all', 'split', 'split', 'renumber', 'polyhedron', 'new'])
         if word == 'around':
             quarters = 1 + self._below(3)
             return 'pattern_around', [solid, 2 + self._below(1 if quarters == 2 else 3), self._below(3), quarters, -20, self._below(3), 40]
@@ -305,6 +312,9 @@ class Author:
             return self._solid()
         if word == 'renumber':
             return word, []
+        if word == 'polyhedron':
+            places = [0, 2, 1, 0, 1, 3, 1, 2, 3, 0, 3, 2] if self._below(4) else [0, 2, 1, 0, 1, 3, 1, 2, 3]
+            return word, [self._new(), 4, 3, *(self._below(9) for _ in range(12)), *places]
         if word == 'scale':
             return word, [self._random.choice([1, 2, 3, 100_000_000])]
         if word == 'glue_all':

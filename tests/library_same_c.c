@@ -280,6 +280,23 @@ static void chamfer(uint32_t edge)
         put(made, 1);
 }
 
+static void polyhedron(uint32_t solid)
+{
+    gwb_point corner_points[8];
+    uint32_t corners[64], sizes[32];
+    gwb_polyhedron_made first;
+    const uint32_t count = name(), size = name();
+    size_t n = 0, faces = 0;
+    for (uint32_t place = 0; place < count; place++)
+        corner_points[place] = point();
+    for (; at < given; n++)
+        corners[n] = name();
+    for (; faces < n / size; faces++)
+        sizes[faces] = size;
+    if (is_well(gwb_polyhedron(&g, solid, corner_points, count, corners, sizes, faces, &first, &why)))
+        printf(" %u %u", first.first_vertex, first.first_face);
+}
+
 static bool is_of_solid(const char *word, uint32_t solid)
 {
     if (strcmp(word, "kill") == 0) {
@@ -302,6 +319,8 @@ static bool is_of_solid(const char *word, uint32_t solid)
         const gwb_point about = point();
         if (is_well(gwb_pattern_around(&g, solid, count, axis, quarters, &about, made, &why)))
             put(made, count - 1);
+    } else if (strcmp(word, "polyhedron") == 0) {
+        polyhedron(solid);
     } else if (strcmp(word, "split") == 0) {
         const gwb_cut_plane cut = plane();
         put_lists(gwb_split_solid(&g, solid, &cut, name(), &why), GWB_MADE_LOWER_CAPS, GWB_MADE_UPPER_CAPS);

@@ -88,7 +88,7 @@ private:
             {"copy", &Given::copy},         {"move", &Given::move},       {"pattern", &Given::pattern},   {"scale", &Given::scale},
             {"glue_all", &Given::glue_all}, {"split", &Given::split},     {"off_lattice", &Given::off_lattice},
             {"faces", &Given::faces},       {"edges", &Given::edges},     {"renumber", &Given::renumber},
-            {"pattern_around", &Given::pattern_around}, {"chamfer_edges", &Given::chamfer_edges}};
+            {"polyhedron", &Given::polyhedron},     {"pattern_around", &Given::pattern_around}, {"chamfer_edges", &Given::chamfer_edges}};
         return all;
     }
 
@@ -299,6 +299,22 @@ private:
         const Result<std::vector<Face>> made = gwb_session::chamfer_edges(*attempt_, words.names<Edge>(), width);
         if (is_well(made))
             put(*made);
+    }
+    void polyhedron(Words &words)
+    {
+        const auto solid = words.name<Solid>();
+        const auto count = static_cast<std::size_t>(words.number());
+        const auto size = static_cast<std::uint32_t>(words.number());
+        std::vector<Point> points(count);
+        for (Point &point : points)
+            point = words.point();
+        std::vector<std::uint32_t> corners;
+        while (words.has_more())
+            corners.push_back(static_cast<std::uint32_t>(words.number()));
+        const std::vector<std::uint32_t> sizes(corners.size() / size, size);
+        const Result<Polyhedron> made = gwb_session::polyhedron(*attempt_, solid, points, corners, sizes);
+        if (is_well(made))
+            std::cout << ' ' << made->first_vertex.number() << ' ' << made->first_face.number();
     }
     void renumber(Words &)
     {

@@ -162,6 +162,13 @@ macro_rules! made {
                 let edges: Vec<Edge> = words.0.by_ref().map(|number| Edge(number as u32)).collect();
                 bench.chamfer_edges(&edges, width).map(|made| told(&made))
             }
+            "polyhedron" => {
+                let (solid, count, size) = (words.name::<Solid>(), words.number(), words.number() as u32);
+                let points: Vec<Point> = (0..count).map(|_| words.point()).collect();
+                let corners: Vec<u32> = words.0.by_ref().map(|number| number as u32).collect();
+                let sizes = vec![size; corners.len() / size as usize];
+                bench.polyhedron(solid, &points, &corners, &sizes).map(|made| format!(" {} {}", made.first_vertex, made.first_face))
+            }
             "renumber" => {
                 let solids: Vec<Solid> = bench.numbers().collect();
                 bench.renumber().map(|all| {

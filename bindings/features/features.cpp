@@ -6,10 +6,12 @@
 #include "drilling.hpp"
 #include "gluing.hpp"
 #include "off_lattice.hpp"
+#include "polyhedra.hpp"
 #include "selection.hpp"
 #include "shaping.hpp"
 #include "stopping.hpp"
 #include "uniting.hpp"
+#include <numeric>
 
 extern "C" {
 void gwb_forget_features(struct beside *of); // for calls.c
@@ -427,6 +429,22 @@ gwb_kind gwb_profile(gwb *g, std::uint32_t solid, const gwb_point *points, std::
             *out = {made.far.number(), made.base.number()};
             write(made.sides, sides);
         });
+}
+
+gwb_kind gwb_polyhedron(gwb *g, std::uint32_t solid, const gwb_point *points, std::size_t n, const std::uint32_t *corners, const std::uint32_t *sizes,
+                        std::size_t faces, gwb_polyhedron_made *out, gwb_refusal *why)
+{
+    if (!gwb_is_open(g))
+        return GWB_CLOSED;
+    const std::size_t count = std::accumulate(sizes, sizes + faces, std::size_t{0});
+    if (faces == 0 || n == 0 || std::any_of(corners, corners + count, [&](std::uint32_t corner) { return corner >= n; }))
+        return GWB_NO_CALL;
+    return made(
+        g, why,
+        [&](Attempts &bench, Together &, Known &) {
+            return polyhedra::make(bench, Solid(solid), items(points, n), corners, Items<std::uint32_t>(sizes, faces));
+        },
+        [&](const gwb_polyhedron_made &made) { *out = made; });
 }
 
 gwb_kind gwb_ring(gwb *g, std::uint32_t face, const gwb_point *points, std::size_t n, gwb_outline_made *out, std::uint32_t *edges,

@@ -371,9 +371,9 @@ inline bool meets_itself(const Attempts &bench, Solid solid, const std::vector<S
 inline Result<Combined> change(Attempts &bench, Face face, const Tool &tool, bool is_cut)
 {
     const Result<std::vector<Sheet>> added = sheets_of(tool, is_cut);
-    if (!added)
-        return added.error();
     const Failure meets = impossible(Misfit::meets, face.number());
+    if (!added) // (slopes that lie as far on both sides of their edges are flat, but where there is no room they are twisted)
+        return tool.lids.size() > 1 && added.error().is(GWB_WHY_NOT_FLAT) ? meets : added.error();
     const Solid solid = bench.face(face)->solid;
     if (tool.lids.size() > 1 && meets_itself(bench, solid, *added))
         return meets;

@@ -207,6 +207,7 @@ enum class Misfit : std::uint32_t {
     overlap,             ///< solid X has room in common with another one, or their union would touch itself
     no_corner,           ///< the slopes of edges that end at vertex X don't meet in one point, or more than three edges end there
     not_alike,           ///< edge X is of another solid than the first, or bends the other way
+    not_closed,          ///< a side of the X-th face hasn't one side, of one face, that runs the other way
 };
 
 /// The name of what isn't possible, as Python's session has it.
@@ -233,6 +234,7 @@ enum class Misfit : std::uint32_t {
     case Misfit::overlap: return "Overlap";
     case Misfit::no_corner: return "NoCorner";
     case Misfit::not_alike: return "NotAlike";
+    case Misfit::not_closed: return "NotClosed";
     }
     return "";
 }

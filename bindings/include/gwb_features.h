@@ -38,7 +38,8 @@ enum gwb_misfit {
     GWB_MISFIT_NO_CONTACT,          /**< solid X touches the others in no face */
     GWB_MISFIT_OVERLAP,             /**< solid X has room in common with another one, or their union would touch itself */
     GWB_MISFIT_NO_CORNER,           /**< the slopes of edges that end at vertex X don't meet in one point, or more than three edges end there */
-    GWB_MISFIT_NOT_ALIKE            /**< edge X is of another solid than the first, or bends the other way */
+    GWB_MISFIT_NOT_ALIKE,           /**< edge X is of another solid than the first, or bends the other way */
+    GWB_MISFIT_NOT_CLOSED           /**< a side of the X-th face hasn't one side, of one face, that runs the other way */
 };
 
 /** The name of a misfit, as "OffLattice": "" where there is none. */
@@ -128,6 +129,17 @@ typedef struct gwb_outline_made {
 /** A new solid of this number: the outline moved along the vector. `sides` has the side from each point to the next. */
 enum gwb_kind gwb_profile(gwb *g, uint32_t solid, const gwb_point *points, size_t n, const gwb_point *along, gwb_profile_made *made,
                           uint32_t *sides, gwb_refusal *why);
+/** The numbers of the first point and the first face, which those of the others follow one by one. */
+typedef struct gwb_polyhedron_made {
+    uint32_t first_vertex, first_face;
+} gwb_polyhedron_made;
+/** A new solid of this number: `n` points, and faces without rings, face i with sizes[i] corners. The corners of all stand in a row, each by its place
+ * among the points from 0 on, counterclockwise as seen from outside. Whether faces are flat or cross isn't asked. Refused: SolidTaken; PointRange, with the
+ * point, from 1 on; FewPoints, with the size; NumbersSpent. Not possible: NOT_CLOSED. GWB_NO_CALL where a corner is no place, no face is given, or points
+ * and faces aren't sound as a solid, such as a point of no face, or of faces that meet in it alone. */
+enum gwb_kind gwb_polyhedron(gwb *g, uint32_t solid, const gwb_point *points, size_t n, const uint32_t *corners, const uint32_t *sizes, size_t faces,
+                             gwb_polyhedron_made *made, gwb_refusal *why);
+
 /** A face inside the face, and a ring around it. */
 enum gwb_kind gwb_ring(gwb *g, uint32_t face, const gwb_point *points, size_t n, gwb_outline_made *made, uint32_t *edges, uint32_t *vertices,
                        gwb_refusal *why);

@@ -7,6 +7,7 @@
 #ifndef GWB_FEATURES_HPP
 #define GWB_FEATURES_HPP
 #include "gwb_made.hpp"
+#include <numeric>
 
 namespace gwb_session {
 
@@ -320,6 +321,29 @@ typename Policy::template Returned<Profile> profile(Commands<Policy> &bench, Sol
 template <class Policy> typename Policy::template Returned<Profile> profile(Commands<Policy> &bench, Items<Point> points, Point along)
 {
     return profile(bench, bench.attempt().template next_free<Solid>().value_or(Solid()), points, along);
+}
+
+/// A new solid: points, and faces of so many corners each, by their places among the points from 0 on, counterclockwise as seen from outside. NoCall where
+/// these aren't sound as a solid.
+template <class Policy>
+typename Policy::template Returned<Polyhedron> polyhedron(Commands<Policy> &bench, Solid solid, Items<Point> points, Items<std::uint32_t> corners,
+                                                          Items<std::uint32_t> sizes)
+{
+    gwb_polyhedron_made made{};
+    return bench.feature(
+        "polyhedron",
+        [&](gwb *g, gwb_refusal *why) {
+            const bool has_all = std::accumulate(sizes.begin(), sizes.end(), std::uint64_t{0}) == corners.size();
+            return has_all ? gwb_polyhedron(g, solid.number(), points.data(), points.size(), corners.data(), sizes.data(), sizes.size(), &made, why)
+                           : GWB_NO_CALL;
+        },
+        [&] { return Polyhedron{solid, Vertex(made.first_vertex), Face(made.first_face)}; });
+}
+template <class Policy>
+typename Policy::template Returned<Polyhedron> polyhedron(Commands<Policy> &bench, Items<Point> points, Items<std::uint32_t> corners,
+                                                          Items<std::uint32_t> sizes)
+{
+    return polyhedron(bench, bench.attempt().template next_free<Solid>().value_or(Solid()), points, corners, sizes);
 }
 
 /// A face inside the face, with the outline through the points, and a ring around it.

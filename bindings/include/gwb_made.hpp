@@ -68,6 +68,12 @@ struct Profile {
     Face far, base;
     std::vector<Face> sides;
 };
+/// What polyhedron makes: the first of its vertices and of its faces, which the others follow one by one.
+struct Polyhedron {
+    Solid solid;
+    Vertex first_vertex;
+    Face first_face;
+};
 /// What ring makes: the face inside the outline, the ring around it, and for each point the edge from it to the next, and the vertex there.
 struct Ring {
     Face face;

@@ -10,8 +10,8 @@ from .geometry.solid_measures import BoundingBox, Inertia, NotParallel, NoVolume
 from .protocol.listing import read_model
 from .session.cutting import Cut
 from .session.reading import EdgePart, FacePart, LoopPart, Part, Selection, SolidPart, VertexPart
-from .session.results import (Block, Count, Hole, Lamina, Lone, NewEdge, NewFace, NewSolid, Notch, Plane, Pocket, Profile, Renumbered, Ring,
-                              Split, Sweep)
+from .session.results import (Block, Count, Hole, Lamina, Lone, NewEdge, NewFace, NewSolid, Notch, Plane, Pocket, Polyhedron, Profile,
+                              Renumbered, Ring, Split, Sweep)
 from .session.sketches import Sketch
 from .session.solids import Copy
 from .session.workbench import Workbench
@@ -20,5 +20,5 @@ from .version import VERSION as __version__
 __all__ = ['Block', 'BoundingBox', 'CompanionError', 'Complaint', 'Copy', 'Count', 'Cut', 'EdgePart', 'Ended', 'Face', 'FacePart',
            'Faulted', 'Hole', 'Impossible', 'InDraft', 'InGroup', 'Inertia', 'Lamina', 'Lone', 'Loop', 'LoopPart', 'MemoryRefused',
            'Model', 'NewEdge', 'NewFace', 'NewSolid', 'NoDraft', 'NoPart', 'NoVolume', 'Notch', 'NotOne', 'NotParallel', 'OffLatticeCut',
-           'OutOfStep', 'Part', 'Plane', 'Pocket', 'Profile', 'ProgramMissing', 'Refused', 'Renumbered', 'Ring', 'Selection', 'Sketch', 'SolidPart', 'Split',
+           'OutOfStep', 'Part', 'Plane', 'Pocket', 'Polyhedron', 'Profile', 'ProgramMissing', 'Refused', 'Renumbered', 'Ring', 'Selection', 'Sketch', 'SolidPart', 'Split',
            'Sweep', 'Unfit', 'VertexPart', 'Workbench', '__version__', 'read_model']

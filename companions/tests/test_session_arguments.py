@@ -71,6 +71,8 @@ CASES = {
                    'along': ((0, 0), (0, 0, 0), 'abc', (0, 0, 1.0))}),
     'vertices': ({}, {'solid': GIVEN, 'at': ((0, 0), 'abc', (0, 0, True))}),
     'profile': ({'points': TRIANGLE, 'along': (0, 0, 1)}, {'points': POINTS, 'along': POINT, 'solid': GIVEN}),
+    'polyhedron': ({'points': TRIANGLE, 'faces': [(0, 1, 2)]}, {'points': POINTS, 'faces': (None, 1, [], [1], 'ab', [(0, 1, 3)], [(0, 1, -1)], [(0, 1.0, 2)]),
+                                                                'solid': GIVEN}),
     'sketch': ({'face': 1}, {'face': NUMBER, **dict.fromkeys(('origin', 'right'), tuple(wrong for wrong in POINT if wrong is not None))}),
     'ring': ({'face': 1, 'points': TRIANGLE}, {'face': NUMBER, 'points': POINTS}),
     'pocket': ({'face': 1, 'points': TRIANGLE, 'depth': 1}, {'face': NUMBER, 'points': POINTS, 'depth': LENGTH}),

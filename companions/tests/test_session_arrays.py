@@ -51,6 +51,37 @@ class Arrays(unittest.TestCase):
         self.bench.move(1, (5, 5, 5))
         self.assertEqual(rows.tolist(), before)
 
+    def test_a_solid_of_arrays(self):
+        tetrahedron = self.bench.polyhedron([(0, 0, 0), (6, 0, 0), (0, 6, 0), (0, 0, 6)], [(0, 2, 1), (0, 1, 3), (1, 2, 3), (0, 3, 2)])
+        self.assertEqual((self.bench.volume(tetrahedron), tetrahedron.solid), (36, 9))
+        self.assertEqual([self.bench.vertex(vertex).point for vertex in tetrahedron.vertices], [(0, 0, 0), (6, 0, 0), (0, 6, 0), (0, 0, 6)])
+        self.assertEqual([self.bench.face(face).normal for face in tetrahedron.faces], [(0, 0, -36), (0, -36, 0), (36, 36, 36), (-36, 0, 0)])
+        self.bench.undo()
+        places = {row[0]: place for place, row in enumerate(self.bench.vertices_array().tolist())}
+        triangles = [[places[vertex] for vertex in row[1:]] for row in self.bench.triangles_array().tolist()]
+        made = self.bench.polyhedron([row[1:] for row in self.bench.vertices_array().tolist()], triangles, solid=50)
+        self.assertEqual(self.bench.volume(made), self.bench.volume(1) + self.bench.volume(7))
+        self.bench.undo()
+        self.bench.redo()
+        self.assertEqual(self.bench.count(made).faces, 44)
+
+    def test_what_is_no_solid(self):
+        points, faces = [(0, 0, 0), (6, 0, 0), (0, 6, 0), (0, 0, 6)], [(0, 2, 1), (0, 1, 3), (1, 2, 3), (0, 3, 2)]
+        before = self.bench.listing()
+        for name, value, wrong, solid in (('NotClosed', 1, faces[:3], 50), ('NotClosed', 4, [*faces[:3], (0, 2, 3)], 50), ('FewPoints', 2, [(0, 1), *faces], 50),
+                                          ('NotClosed', 5, [*faces, (0, 2, 1)], 50), ('NotClosed', 1, [(0, 0, 1), *faces], 50), ('SolidTaken', 1, faces, 1)):
+            with self.assertRaises(Refused) as caught:
+                self.bench.polyhedron(points, wrong, solid=solid)
+            self.assertEqual((caught.exception.name, caught.exception.value), (name, value), wrong)
+        with self.assertRaises(Refused) as caught:
+            self.bench.polyhedron([*points[:3], (0, 0, 10 ** 9 + 1)], faces)
+        self.assertEqual((caught.exception.name, caught.exception.value), ('PointRange', 4))
+        for more in ([*points, (9, 9, 9)], [*points, (-6, 0, 0), (0, -6, 0), (0, 0, -6)]):
+            other = [] if len(more) == 5 else [(0, 4, 5), (0, 6, 4), (4, 6, 5), (0, 5, 6)]
+            with self.assertRaisesRegex(ValueError, '^polyhedron: what is given is no solid'):
+                self.bench.polyhedron(more, [*faces, *other])
+        self.assertEqual(self.bench.listing(), before)
+
     def test_of_nothing(self):
         self.bench.delete(1)
         self.bench.delete(7)

@@ -83,6 +83,8 @@ pub enum Misfit {
     NoCorner,
     /// Edge X is of another solid than the first, or bends the other way.
     NotAlike,
+    /// A side of the X-th face hasn't one side, of one face, that runs the other way.
+    NotClosed,
 }
 
 impl fmt::Display for Error {

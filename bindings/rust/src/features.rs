@@ -84,6 +84,14 @@ pub struct Profile {
     pub base: Face,
     pub sides: Vec<Face>,
 }
+/// What [`polyhedron`](Operators::polyhedron) makes: the first of its vertices and of its faces, which the others follow one by one.
+#[derive(Clone, Copy, Debug, PartialEq, Eq)]
+#[allow(missing_docs)]
+pub struct Polyhedron {
+    pub solid: Solid,
+    pub first_vertex: Vertex,
+    pub first_face: Face,
+}
 /// What [`ring`](Operators::ring) makes: the face inside, the ring around it, and for each point the edge to the next, and the vertex there.
 #[derive(Clone, Debug, PartialEq, Eq)]
 #[allow(missing_docs)]
@@ -234,10 +242,10 @@ mod list {
     pub const SOLIDS: u32 = 10;
 }
 
-const MISFITS: [Misfit; 20] = [
+const MISFITS: [Misfit; 21] = [
     Misfit::NoArea, Misfit::NotInPlane, Misfit::OutlineCrossed, Misfit::AlongPlane, Misfit::OutlineOutside, Misfit::OutlineAroundRing,
     Misfit::OffLattice, Misfit::Meets, Misfit::NoOpposite, Misfit::NotParallel, Misfit::NotOfFace, Misfit::FlatEdge, Misfit::NothingLeft,
-    Misfit::NoMatch, Misfit::GluedTwice, Misfit::NotAcross, Misfit::NoContact, Misfit::Overlap, Misfit::NoCorner, Misfit::NotAlike,
+    Misfit::NoMatch, Misfit::GluedTwice, Misfit::NotAcross, Misfit::NoContact, Misfit::Overlap, Misfit::NoCorner, Misfit::NotAlike, Misfit::NotClosed,
 ];
 
 fn rows(points: &[impl Copy + Into<Point>]) -> Vec<gwb_sys::Point> {
@@ -389,6 +397,25 @@ impl Operators {
             gwb_sys::gwb_profile(g, solid.0, points.as_ptr(), points.len(), &along, &mut made, sides.as_mut_ptr(), why)
         })?;
         Ok(Profile { solid, far: Face(made.far), base: Face(made.base), sides: sides.into_iter().map(Face).collect() })
+    }
+
+    /// A new solid: points, and faces of so many corners each, by their places among the points from 0 on, counterclockwise as seen from outside.
+    /// [`Error::NoCall`] where these aren't sound as a solid.
+    pub fn polyhedron(
+        &mut self,
+        solid: impl Into<Option<Solid>>,
+        points: &[impl Copy + Into<Point>],
+        corners: &[u32],
+        sizes: &[u32],
+    ) -> Result<Polyhedron, Error> {
+        let (solid, points, mut made) = (self.named(solid), rows(points), gwb_sys::PolyhedronMade::default());
+        if sizes.iter().map(|&size| size as usize).sum::<usize>() != corners.len() {
+            return Err(Error::NoCall);
+        }
+        self.feature(|g, why| unsafe {
+            gwb_sys::gwb_polyhedron(g, solid.0, points.as_ptr(), points.len(), corners.as_ptr(), sizes.as_ptr(), sizes.len(), &mut made, why)
+        })?;
+        Ok(Polyhedron { solid, first_vertex: Vertex(made.first_vertex), first_face: Face(made.first_face) })
     }
 
     /// A face inside the face, with the outline through the points, and a ring around it.

@@ -204,6 +204,12 @@ fn a_row_is_glued_and_scaled() {
     assert_eq!((session.glue_all(&[]), session.pattern(block, 0, [1, 0, 0])), (Err(Error::NoCall), Err(Error::NoCall)));
     assert_eq!(session.pattern_around(block, 5, 2, 1, [0, 0, 0]), Err(Error::NoCall));
     assert_eq!((session.pattern_around(block, 2, 3, 1, [0, 0, 0]), session.chamfer_edges(&[], 1)), (Err(Error::NoCall), Err(Error::NoCall)));
+    let (points, corners) = ([[0, 0, 50], [6, 0, 50], [0, 6, 50], [0, 0, 56]], [0, 2, 1, 0, 1, 3, 1, 2, 3, 0, 3, 2]);
+    let made = session.polyhedron(Solid(9), &points, &corners, &[3; 4]).unwrap();
+    assert_eq!((session.six_volumes(Solid(9)), session.vertex(made.first_vertex)), (Ok(216), Some(Point { x: 0, y: 0, z: 50 })));
+    assert_eq!(session.polyhedron(None, &points, &corners, &[3; 3]), Err(Error::NoCall));
+    assert_eq!(session.polyhedron(None, &points, &corners[..9], &[3; 3]), Err(Error::Impossible { misfit: Misfit::NotClosed, value: 1 }));
+    session.undo().unwrap();
     session.glue_all(&[block, Solid(2), Solid(3)]).unwrap();
     session.scale(3).unwrap();
     assert_eq!((session.six_volumes(block), session.depth()), (Ok(6 * 27 * 3 * 64), 4));

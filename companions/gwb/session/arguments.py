@@ -135,6 +135,14 @@ def numbers(name: str, value: object, kind: str = '', kernel: object = None) -> 
     return [number(f'{name}[{place}]', item, kind, kernel) for place, item in enumerate(_items(name, value))]
 
 
+def corners(name: str, value: object, count: int) -> List[List[int]]:
+    """Faces, at least one, by the places of their corners among so many points, from 0 on."""
+    found = [[coordinate(f'{name}[{place}]', corner) for corner in _items(f'{name}[{place}]', face)] for place, face in enumerate(_items(name, value))]
+    if not found or not all(0 <= corner < count for face in found for corner in face):
+        raise ValueError(f'{name}: faces of places from 0 to {count - 1} are wanted')
+    return found
+
+
 def positive(name: str, value: object) -> int:
     """A coordinate above zero."""
     found = coordinate(name, value)

@@ -13,7 +13,7 @@ from ..protocol.complaints import memory_refused, refused
 from ..protocol.listing import listing_lines
 from ..protocol.replies import Reply
 from .kernel import Kernel
-from .library import ADDRESS, IMPOSSIBLE, MEMORY, OK, REFUSED, SIZE, WORD, Point, Refusal, Wide, declare
+from .library import ADDRESS, IMPOSSIBLE, MEMORY, NO_CALL, OK, REFUSED, SIZE, WORD, Point, Refusal, Wide, declare
 from .part_models import model_of_faces
 
 _LENGTH = ctypes.c_int64
@@ -24,7 +24,7 @@ _CALLS: Dict[str, List[Any]] = {
     'kill_solid': [WORD], 'copy_solid': [WORD, ADDRESS, ADDRESS], 'move_solid': [WORD, ADDRESS], 'pattern': [WORD, WORD, ADDRESS, ADDRESS],
     'pattern_around': [WORD] * 4 + [ADDRESS, ADDRESS], 'chamfer_edges': [ADDRESS, SIZE, _LENGTH, ADDRESS], 'load': [ctypes.c_char_p, SIZE],
     'scale': [_LENGTH], 'renumber': [], 'glue_all': [ADDRESS, SIZE], 'profile': [*_OUTLINE, ADDRESS, *_MADE],
-    'ring': [*_OUTLINE, *_MADE, ADDRESS], 'pocket': [*_OUTLINE, _LENGTH, *_MADE], 'boss': [*_OUTLINE, _LENGTH, *_MADE], 'hole': [*_OUTLINE, *_MADE],
+    'polyhedron': [*_OUTLINE, ADDRESS, ADDRESS, SIZE, ADDRESS], 'ring': [*_OUTLINE, *_MADE, ADDRESS], 'pocket': [*_OUTLINE, _LENGTH, *_MADE], 'boss': [*_OUTLINE, _LENGTH, *_MADE], 'hole': [*_OUTLINE, *_MADE],
     'drill': [WORD, ADDRESS, _LENGTH, WORD, _LENGTH, *_MADE, ADDRESS], 'notch': [*_OUTLINE, _LENGTH],
     'slot': _STRIP, 'groove': _STRIP, 'shoulder': [WORD, WORD, _LENGTH, _LENGTH], 'chamfer': [WORD, _LENGTH, _LENGTH, ADDRESS],
     'cut': [WORD, ADDRESS, WORD], 'trim': [WORD, ADDRESS], 'union': [ADDRESS, SIZE]}
@@ -45,7 +45,7 @@ _TEXTS = {
     'Overlap': 'solid {} has room in common with another one, or their union would touch itself', 'PointRange': 'a point would lie past 1,000,000,000',
     'NoCorner': "the slopes of edges that end at vertex {} don't meet in one point, or more than three edges end there",
     'NotAlike': 'edge {} is of another solid than the first, or bends the other way',
-    'NumberRange': 'the number {} is outside 1 to 1,000,000', 'NumbersSpent': 'too few numbers above all that are in use are left'}
+    'NotClosed': "a side of face {} hasn't one side, of one face, that runs the other way", 'NumberRange': 'the number {} is outside 1 to 1,000,000', 'NumbersSpent': 'too few numbers above all that are in use are left'}
 _PART_MEETS = 'a part of solid {} would touch itself in the plane'
 FLOOR, WALLS, FACES, LOOPS, EDGES, VERTICES, TURNED, LOWER_CAPS, UPPER_CAPS, INTO, SOLIDS = range(11)
 _QUERIES = {'face': 'find_faces', 'edge': 'find_edges'}
@@ -180,6 +180,15 @@ class FeatureCalls:
         self.give('chamfer_edges', ctypes.addressof(numbers), len(edges), width, ctypes.addressof(made), frees=True)
         return tuple(made)
 
+    def polyhedron(self, solid: int, points: Sequence[Vector], faces: Sequence[Sequence[int]]) -> Pair:
+        """A solid of points, and of faces by their corners: its first vertex and its first face."""
+        made, count = Pair(), len(points)
+        rows = (_LENGTH * (3 * count))(*[part for point in points for part in point])
+        corners, sizes = [corner for face in faces for corner in face], [len(face) for face in faces]
+        lists = (WORD * (len(corners) or 1))(*corners), (WORD * len(sizes))(*sizes)
+        self.give('polyhedron', solid, ctypes.addressof(rows), count, *map(ctypes.addressof, lists), len(sizes), ctypes.addressof(made))
+        return made
+
     def load(self, model: Model) -> None:
         """Makes what a model has, which isn't empty, with its numbers."""
         text = ''.join(f'{line}\n' for line in listing_lines(model)).encode()
@@ -265,6 +274,8 @@ class FeatureCalls:
         if said == MEMORY:
             return memory_refused(word)
         self._kernel.lines.require_answer(said)
+        if said == NO_CALL:
+            raise ValueError(f'{word}: what is given is no solid')
         raise AssertionError(f'{word}: an answer of kind {said}')
 
     def _refused(self, word: str, why: Refusal) -> CompanionError:

@@ -7,7 +7,7 @@ from ..geometry.vectors import Vector
 from . import arguments
 from .bench import Methods
 from .library import Point
-from .results import Hole, Pocket, Profile, Ring
+from .results import Hole, Pocket, Polyhedron, Profile, Ring
 from .sketches import Sketch, sketch_on
 
 _MOST_SIDES = 1_000_000
@@ -25,6 +25,18 @@ class FeatureMethods(Methods):
         number = self._bench.new('solid', solid)
         made = self._bench.features.outline('profile', number, outline, addressof(way))
         return Profile(number, made.first, made.second, made.along)
+
+    def polyhedron(self, points: arguments.Points, faces: Sequence[Sequence[int]], *, solid: Optional[int] = None) -> Polyhedron:
+        """A new solid of points, and of faces without rings, each by the places of its corners among the points from 0 on, counterclockwise as seen from
+        outside. Whether faces are flat or cross isn't asked. What a memoryview's `tolist()` gives will do.
+
+        Refused: FewPoints: a face has fewer than 3 corners; NotClosed: a side of a face, by its place from 1 on, hasn't one side, of one face, that
+        runs the other way; PointRange. ValueError: a point is of no face, or of faces that meet in it alone."""
+        corners = arguments.points('points', points)
+        places = arguments.corners('faces', faces, len(corners))
+        number = self._bench.new('solid', solid)
+        made = self._bench.features.polyhedron(number, corners, places)
+        return Polyhedron(number, tuple(range(made.second, made.second + len(places))), tuple(range(made.first, made.first + len(corners))))
 
     def sketch(self, face: arguments.Face, *, origin: Optional[arguments.Point] = None, right: Optional[arguments.Point] = None) -> Sketch:
         """Two coordinates in the plane of a flat face, as one looks at it from outside, in which outlines are drawn: from the origin on, in steps of

@@ -18,7 +18,7 @@ from ..version import VERSION
 from .results import Plane
 
 WORD, SIZE, ADDRESS = ctypes.c_uint32, ctypes.c_size_t, ctypes.c_void_p
-OK, REFUSED, MEMORY, CLOSED, IN_DRAFT, NO_DRAFT, IMPOSSIBLE = 1, 2, 4, 9, 11, 12, 13
+OK, REFUSED, MEMORY, CLOSED, NO_CALL, IN_DRAFT, NO_DRAFT, IMPOSSIBLE = 1, 2, 4, 9, 10, 11, 12, 13
 _NO_TEXT = SIZE(-1).value
 _ROOM = 4096
 _FEW = 64

@@ -112,6 +112,14 @@ class Profile(NamedTuple):
     sides: Numbers
 
 
+class Polyhedron(NamedTuple):
+    """What polyhedron makes: the faces and vertices in the order of those that were given."""
+
+    solid: int
+    faces: Numbers
+    vertices: Numbers
+
+
 class Ring(NamedTuple):
     """What ring makes: the face inside the outline, the ring around it, and for each point the edge from it to the next, and the vertex there."""
 

@@ -242,6 +242,13 @@ rows! {
         #[allow(missing_docs)]
         base: u32
     }
+    /// What gwb_polyhedron makes.
+    PolyhedronMade {
+        #[allow(missing_docs)]
+        first_vertex: u32,
+        #[allow(missing_docs)]
+        first_face: u32
+    }
     /// The numerator divided by the denominator.
     Ratio {
         #[allow(missing_docs)]
@@ -388,6 +395,10 @@ extern "C" {
     pub fn gwb_stop_by(g: *mut Gwb, stop: Option<Stop>, user: *mut c_void);
 
     pub fn gwb_pattern(g: *mut Gwb, solid: u32, count: u32, step: *const Point, solids: *mut u32, why: *mut Refusal) -> u32;
+    pub fn gwb_polyhedron(
+        g: *mut Gwb, solid: u32, points: *const Point, n: usize, corners: *const u32, sizes: *const u32, faces: usize, made: *mut PolyhedronMade,
+        why: *mut Refusal,
+    ) -> u32;
     pub fn gwb_pattern_around(
         g: *mut Gwb, solid: u32, count: u32, axis: u32, quarters: u32, about: *const Point, solids: *mut u32, why: *mut Refusal,
     ) -> u32;
