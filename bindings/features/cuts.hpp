@@ -7,16 +7,8 @@
 namespace gwb_session::cuts {
 
 using namespace combining;
+using exact::Plane;
 using sheets::Region;
-
-/// The plane of a cut; what has a height above zero lies above it.
-struct Plane {
-    gwb_cut_plane row;
-
-    [[nodiscard]] Vector across() const { return {row.a, row.b, row.c}; }
-    [[nodiscard]] Wide height(const Vector &at) const { return dot(across(), at) + row.d; }
-    [[nodiscard]] Plane turned() const { return {{-row.a, -row.b, -row.c, -row.d}}; }
-};
 
 // ---- what lies below
 
@@ -39,7 +31,7 @@ inline std::vector<Side> sides_below(const Sheet &sheet, const Plane &plane)
         if (start * end < 0)
             (start < 0 ? side.end : side.start) = crossing(side, plane);
         const bool is_in_plane = start == 0 && end == 0;
-        if (is_in_plane ? dot(plane.across(), cross(sheet.across, side.way())) < 0 : std::min(start, end) < 0)
+        if (is_in_plane ? dot(plane.across, cross(sheet.across, side.way())) < 0 : std::min(start, end) < 0)
             found.push_back(side);
     }
     return found;
@@ -48,7 +40,7 @@ inline std::vector<Side> sides_below(const Sheet &sheet, const Plane &plane)
 /// The sides along which the plane cuts a face, as those of the part below it.
 inline std::vector<Side> cuts_of(const Sheet &sheet, const Plane &plane)
 {
-    const Vector along = cross(sheet.across, plane.across());
+    const Vector along = cross(sheet.across, plane.across);
     std::map<Wide, Vector> points;
     for (const Side &side : sheet.sides()) {
         const int start = sign(plane.height(side.start)), end = sign(plane.height(side.end));
@@ -71,7 +63,7 @@ inline bool put_below(const Sheet &sheet, const Plane &plane, std::vector<Sheet>
     const Path points = sheet.points();
     const bool is_below = std::any_of(points.begin(), points.end(), [&](const Vector &at) { return plane.height(at) < 0; });
     const bool is_above = std::any_of(points.begin(), points.end(), [&](const Vector &at) { return plane.height(at) > 0; });
-    if (!is_above && (is_below || dot(sheet.across, plane.across()) > 0))
+    if (!is_above && (is_below || dot(sheet.across, plane.across) > 0))
         left.push_back(sheet);
     if (!is_above || !is_below)
         return true;
@@ -111,9 +103,9 @@ inline Result<Combined> part_below(const Held &held, const std::vector<Sheet> &s
         if (!put_below(sheet, plane, left))
             return meets;
     }
-    const auto regions = Traced(open_sides(left, plane), plane.across()).regions();
+    const auto regions = Traced(open_sides(left, plane), plane.across).regions();
     for (const std::vector<Cycle> &cycles : regions.value_or(std::vector<std::vector<Cycle>>()))
-        caps.push_back({Face(), reduced(plane.across()), cycles, caps.size()});
+        caps.push_back({Face(), reduced(plane.across), cycles, caps.size()});
     Result<std::vector<Region>> laid = overlaid(left, caps);
     if (!regions || !laid)
         return meets;
@@ -190,7 +182,8 @@ inline std::vector<Face> faces_in(const Attempts &bench, Solid solid, Face above
 inline Result<Split> split(Attempts &bench, Solid solid, const Plane &plane, Solid above)
 {
     const Face before = *bench.greatest<Face>();
-    const Result<void> done = bench.split(solid, plane.row.a, plane.row.b, plane.row.c, plane.row.d, above);
+    const gwb_cut_plane row = plane.row();
+    const Result<void> done = bench.split(solid, row.a, row.b, row.c, row.d, above);
     if (!done)
         return done.error();
     Split made{above, faces_in(bench, solid, before, plane), {}};

@@ -5,6 +5,7 @@
 #ifndef GWB_FEATURES_EXACT_HPP
 #define GWB_FEATURES_EXACT_HPP
 #include "gwb.hpp"
+#include "gwb_features.h"
 #include <map>
 #if !defined(__SIZEOF_INT128__)
 #error "the features take integers of 128 bits, as GCC and Clang have them"
@@ -95,6 +96,22 @@ constexpr Vector reduced(const Vector &a)
     const Wide divisor = greatest_divisor(greatest_divisor(a[0], a[1]), a[2]);
     return {a[0] / divisor, a[1] / divisor, a[2] / divisor};
 }
+
+/// The plane of the points whose height is 0; above it heights are greater.
+struct Plane {
+    Vector across;
+    Wide offset;
+
+    static Plane of(const gwb_cut_plane &row) { return {{row.a, row.b, row.c}, row.d}; }
+    /// As it was given, where its numbers are in range.
+    [[nodiscard]] gwb_cut_plane row() const
+    {
+        const Point way = point(across);
+        return {way.x, way.y, way.z, static_cast<std::int64_t>(offset)};
+    }
+    [[nodiscard]] Wide height(const Vector &at) const { return dot(across, at) + offset; }
+    [[nodiscard]] Plane turned() const { return {negative(across), -offset}; }
+};
 
 /// Twice the area that the closed path through points goes round, as a vector.
 inline Vector area_vector(const std::vector<Vector> &points)

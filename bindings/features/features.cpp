@@ -391,17 +391,17 @@ gwb_kind gwb_glue_all(gwb *g, const std::uint32_t *solids, std::size_t n, gwb_re
 
 gwb_kind gwb_split_solid(gwb *g, std::uint32_t solid, const gwb_cut_plane *plane, std::uint32_t above, gwb_refusal *why)
 {
-    return parted(g, why, [&](Attempts &bench) { return cuts::split(bench, Solid(solid), {*plane}, Solid(above)); });
+    return parted(g, why, [&](Attempts &bench) { return cuts::split(bench, Solid(solid), exact::Plane::of(*plane), Solid(above)); });
 }
 
 gwb_kind gwb_cut(gwb *g, std::uint32_t solid, const gwb_cut_plane *plane, std::uint32_t above, gwb_refusal *why)
 {
-    return parted(g, why, [&](Attempts &bench) { return cuts::cut(bench, Solid(solid), {*plane}, Solid(above), true); });
+    return parted(g, why, [&](Attempts &bench) { return cuts::cut(bench, Solid(solid), exact::Plane::of(*plane), Solid(above), true); });
 }
 
 gwb_kind gwb_trim(gwb *g, std::uint32_t solid, const gwb_cut_plane *plane, gwb_refusal *why)
 {
-    return parted(g, why, [&](Attempts &bench) { return cuts::cut(bench, Solid(solid), {*plane}, *bench.next_free<Solid>(), false); });
+    return parted(g, why, [&](Attempts &bench) { return cuts::cut(bench, Solid(solid), exact::Plane::of(*plane), *bench.next_free<Solid>(), false); });
 }
 
 gwb_kind gwb_union(gwb *g, const std::uint32_t *solids, std::size_t n, gwb_refusal *why)

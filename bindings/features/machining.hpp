@@ -1,10 +1,4 @@
-/// @file machining.hpp Features of outlines, for C++17: profiles, rings, pockets, bosses and holes. Each is one command, or steps of the draft
-/// that is open; what isn't possible is refused before anything is given.
-///
-///     using namespace gwb_session;
-///     const Profile plate = profile(bench, {{0, 0, 0}, {40, 0, 0}, {40, 20, 0}, {0, 20, 0}}, {0, 0, 10});
-///     const Pocket made = pocket(bench, plate.far, {{5, 5, 10}, {15, 5, 10}, {10, 15, 10}}, 4);
-///     hole(bench, made.face, {{9, 7, 6}, {11, 7, 6}, {10, 9, 6}});
+/// @file machining.hpp Features of outlines: profiles, rings, pockets, bosses and holes. What isn't possible is refused before anything is given.
 ///
 /// Outlines may run either way round; what belongs to their points comes in the order of the points: the first of `sides` lies between the
 /// first two. A feature compares what lies near. What was read of a solid for one feature is known to the next ones, until another command comes.

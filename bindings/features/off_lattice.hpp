@@ -1,14 +1,10 @@
-/// @file off_lattice.hpp What is to be said of a split that is refused since its points aren't whole (NotLattice), for C++17: where the
-/// plane cuts edges, by how much the model would have to be scaled, and which planes nearby would do.
-///
-///     if (Result<Solid> above = bench.attempt().split(block, 2, 0, 0, -3); above.error().is(GWB_WHY_NOT_LATTICE))
-///         std::cout << off_lattice(bench, block, {2, 0, 0, -3}).advice(Solid(2));
+/// @file off_lattice.hpp What is to be said of a split that is refused since its points aren't whole (NotLattice): where the plane cuts edges, by how
+/// much the model would have to be scaled, and which planes nearby would do.
 ///
 /// It takes time by the edges of the solid for each of some 14,000 planes at most, of which nearly all are given up at their first edge.
 #ifndef GWB_FEATURES_OFF_LATTICE_HPP
 #define GWB_FEATURES_OFF_LATTICE_HPP
 #include "exact.hpp"
-#include "gwb_features.h"
 #include "stopping.hpp"
 #include <cmath>
 #include <limits>
@@ -105,18 +101,6 @@ using namespace exact;
 
 /// The offset of a plane lies within this.
 constexpr Wide farthest_offset = 3 * Wide{farthest} * farthest;
-
-struct Plane {
-    Vector across;
-    Wide offset;
-
-    [[nodiscard]] Wide height(const Vector &at) const { return dot(across, at) + offset; }
-    [[nodiscard]] gwb_cut_plane numbers() const
-    {
-        const Point way = point(across);
-        return {way.x, way.y, way.z, static_cast<std::int64_t>(offset)};
-    }
-};
 
 /// A fraction by its least terms.
 inline Fraction fraction(Wide numerator, Wide denominator)
@@ -529,7 +513,7 @@ private:
     {
         const std::optional<SquareMoved> square = square_moved(plane);
         // (less than what rounding adds is not rounded up)
-        return square ? std::optional(gwb_near_plane{plane.numbers(), is_parallel, std::ceil(std::sqrt(square->value) * 100 - 1e-9) / 100}) : std::nullopt;
+        return square ? std::optional(gwb_near_plane{plane.row(), is_parallel, std::ceil(std::sqrt(square->value) * 100 - 1e-9) / 100}) : std::nullopt;
     }
 
     Plane plane_;
@@ -537,17 +521,17 @@ private:
     std::vector<Ends> edges_, cuts_;
 };
 
-inline Result<OffLattice> made(const Attempts &bench, Solid solid, const gwb_cut_plane &numbers, std::size_t most)
+inline Result<OffLattice> made(const Attempts &bench, Solid solid, const gwb_cut_plane &row, std::size_t most)
 {
     if (bench.faces(solid).empty())
         return bench.is_open() ? Failure{Problem::refused, GWB_WHY_NO_SOLID, solid.number()} : Failure{Problem::closed};
-    const Plane plane{{numbers.a, numbers.b, numbers.c}, numbers.d};
-    const std::array<Wide, 4> parts = {numbers.a, numbers.b, numbers.c, numbers.d};
+    const Plane plane = Plane::of(row);
+    const std::array<Wide, 4> parts = {row.a, row.b, row.c, row.d};
     for (std::uint32_t at = 0; at < 4; at++)
         if (magnitude(parts[at]) > (at < 3 ? Wide{farthest} : farthest_offset))
             return Failure{Problem::refused, GWB_WHY_PLANE_RANGE, at + 1};
     const NearPlanes near(bench, solid, plane);
-    OffLattice found{solid, numbers, {}, 1, true, {}};
+    OffLattice found{solid, row, {}, 1, true, {}};
     for (const Ends &ends : near.cuts())
         found.cuts.push_back(ends.cut(plane));
     constexpr Wide most_factor = Wide{1'000'000'000'000'000'000} * 1'000'000'000'000'000'000;

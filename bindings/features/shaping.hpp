@@ -1,10 +1,5 @@
-/// @file shaping.hpp Features that reach the edges of faces, for C++17: notches, slots, grooves, shoulders and chamfers. Each is one command,
-/// or steps of the draft that is open; what isn't possible is refused before anything is given.
-///
-///     using namespace gwb_session;
-///     const Solid block = bench.block({0, 0, 0}, {40, 20, 10});       // its top is face 1
-///     slot(bench, Face(1), {20, 0, 10}, {20, 20, 10}, 6, 4);
-///     shoulder(bench, Face(1), Edge(8), 5, 3);
+/// @file shaping.hpp Features that reach the edges of faces: notches, slots, grooves, shoulders and chamfers. What isn't possible is refused before
+/// anything is given.
 ///
 /// A part is cut out of the solid, or put on it: its faces are added to those of the solid that lie near (combining.hpp), and what comes of these
 /// is made of them by operators (changing.hpp).

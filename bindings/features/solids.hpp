@@ -1,10 +1,4 @@
-/// @file solids.hpp Whole solids killed, copied and moved, for C++17: each by operators in a draft, and so one command; where a draft
-/// is open, they are steps of it.
-///
-///     using namespace gwb_session;
-///     Solid other = copy_solid(bench, block, Motion::mirror(0));        // x becomes -x
-///     move_solid(bench, other, Motion::quarter_turns(2).then(Motion::move({9, 0, 0})));
-///     kill_solid(bench, block);
+/// @file solids.hpp Whole solids killed, copied and moved, by operators.
 ///
 /// A solid is taken apart by operators, and what is written down of each is its inverse; these inverses, the last one first, make it again,
 /// elsewhere and with other numbers. All take as many operators as the solid has edges, and a few for each ring, handle and part of it.

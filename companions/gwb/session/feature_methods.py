@@ -61,20 +61,16 @@ class FeatureMethods(Methods):
     def pocket(self, face: arguments.Face, points: arguments.Points, depth: int) -> Pocket:
         """A pocket so deep behind the outline in the face.
 
-        Refused: NoFace; NotFlat: the face isn't flat; FewPoints, RepeatedPoint; NoArea: the outline has no area; NotInPlane: a point lies off
-        the plane of the face; OutlineCrossed: the outline crosses or touches itself; OutlineOutside: it crosses or touches the boundary of the
-        face, or doesn't lie inside; OutlineAroundRing: a ring of the face lies inside the outline; OffLattice: no whole vector along the
-        normal is so long; Meets: the pocket would come through, or meet or touch something of the solid."""
+        Refused as ring is; OffLattice: no whole vector along the normal is so long; Meets: the pocket would come through, or meet
+        or touch something of the solid."""
         made = self._bench.features.outline('pocket', *self._outline(face, points), arguments.positive('depth', depth))
         return Pocket(made.first, made.second, made.along)
 
     def boss(self, face: arguments.Face, points: arguments.Points, height: int) -> Pocket:
         """A boss so high on the outline in the face.
 
-        Refused: NoFace; NotFlat: the face isn't flat; FewPoints, RepeatedPoint; NoArea: the outline has no area; NotInPlane: a point lies off
-        the plane of the face; OutlineCrossed: the outline crosses or touches itself; OutlineOutside: it crosses or touches the boundary of the
-        face, or doesn't lie inside; OutlineAroundRing: a ring of the face lies inside the outline; OffLattice: no whole vector along the
-        normal is so long; Meets: the boss would meet or touch something of the solid."""
+        Refused as ring is; OffLattice: no whole vector along the normal is so long; Meets: the boss would meet or touch something
+        of the solid."""
         made = self._bench.features.outline('boss', *self._outline(face, points), arguments.positive('height', height))
         return Pocket(made.first, made.second, made.along)
 
