@@ -2,6 +2,7 @@
  * one first, make it with its very numbers. Rings become faces; edges between two faces go; leaves go; where no edge has either, one goes
  * that opens a handle, and what it cuts off is a face. At last there are faces of one vertex. To find the steps takes time n log n. */
 #include "beside.h"
+#include "gwb_names.h"
 #include "lists.h"
 #include "trees.h"
 #include "walks.h"
@@ -806,6 +807,13 @@ static enum gwb_kind make_listing(gwb *g, const char *listing, size_t n)
     return kind;
 }
 
+/* Whether a vertex was refused as taken that the model hasn't: faces meet in it alone, so that it came twice. */
+static bool came_twice(const gwb *g, const gwb_refusal *refusal)
+{
+    gwb_point point;
+    return refusal->number == GWB_WHY_VERTEX_TAKEN && gwb_vertex(g, refusal->value, &point) == GWB_ABSENT;
+}
+
 enum gwb_kind gwb_load(gwb *g, const char *listing, size_t n, gwb_refusal *refusal)
 {
     enum gwb_kind begun = gwb_draft(g);
@@ -813,12 +821,17 @@ enum gwb_kind gwb_load(gwb *g, const char *listing, size_t n, gwb_refusal *refus
     if (begun != GWB_OK && begun != GWB_IN_DRAFT)
         return begun;
     enum gwb_kind kind = make_listing(g, listing, n);
+    gwb_refusal why = {0, 0};
     if (kind == GWB_REFUSED)
-        gwb_last_refusal(g, refusal);
+        gwb_last_refusal(g, &why);
     if (kind != GWB_OK)
         begun == GWB_OK ? gwb_abandon(g) : gwb_back(g, mark);
     else if (begun == GWB_OK)
         gwb_commit(g);
+    if (kind == GWB_REFUSED && came_twice(g, &why))
+        return GWB_NO_CALL;
+    if (kind == GWB_REFUSED)
+        *refusal = why;
     return kind;
 }
 

@@ -245,12 +245,20 @@ static void try_maps(void)
 static void try_lines(void)
 {
     static const char script[] = "# a comment\nblock 1 0 0 0 4 4 4\n\nkvfs 1\nundo\n";
+    static const char cones[] =
+        "solid 2\nface 11 2 11\nface 12 2 12\nface 13 2 13\nface 14 2 14\nface 15 2 15\nface 16 2 16\nface 17 2 17\nface 18 2 18\n"
+        "loop 11 +21 +22 +23\nloop 12 -23 +24 +25\nloop 13 -22 +26 -24\nloop 14 -21 -25 -26\nloop 15 +27 +28 +29\n"
+        "loop 16 -27 +30 +31\nloop 17 -28 -31 +32\nloop 18 -29 -32 -30\nedge 21 31 33\nedge 22 33 32\nedge 23 32 31\n"
+        "edge 24 32 34\nedge 25 34 31\nedge 26 33 34\nedge 27 31 35\nedge 28 35 36\nedge 29 36 31\nedge 30 31 37\nedge 31 37 35\n"
+        "edge 32 37 36\nvertex 31 0 0 0\nvertex 32 6 0 0\nvertex 33 0 6 0\nvertex 34 0 0 6\nvertex 35 -6 0 0\nvertex 36 0 -6 0\n"
+        "vertex 37 0 0 -6\n";
     gwb g = {0};
     size_t line = 9;
     gwb_refusal refusal;
     check(gwb_lines(&g, script, sizeof script - 1, &line) == GWB_CLOSED && line == 0, "a closed handle");
     check(gwb_open(&g) && gwb_lines(&g, script, sizeof script - 1, &line) == GWB_REFUSED && line == 4 && gwb_depth(&g) == 1, "a script up to its line 4");
     check(gwb_load(&g, "solid 1\n", 8, &refusal) == GWB_NO_CALL && gwb_depth(&g) == 1, "a solid without a face");
+    check(gwb_load(&g, cones, sizeof cones - 1, &refusal) == GWB_NO_CALL && gwb_depth(&g) == 1, "two solids in one that touch in a vertex");
     check(gwb_load(&g, "", 0, &refusal) == GWB_NO_CALL && gwb_load(&g, "\n", 1, &refusal) == GWB_NO_CALL && gwb_depth(&g) == 1, "no line");
     check(gwb_load(&g, "empty\n", 6, &refusal) == GWB_OK && gwb_depth(&g) == 2 && gwb_undo(&g) == GWB_OK, "the empty model");
     check(gwb_draft(&g) == GWB_OK && gwb_load(&g, "solid 2\nface 9 2 9\nloop 9 at 9\nvertex 9 1 2 3\n", 46, &refusal) == GWB_OK, "a vertex in a draft");

@@ -92,8 +92,8 @@ inline Result<gwb_polyhedron_made> make(Attempts &bench, Solid solid, Items<Poin
     Result<void> done = require_numbers(names);
     if (done)
         done = bench.load(model.listing());
-    if (!done) // (all its vertices are free, so one that isn't comes twice: faces meet in it alone)
-        return done.error().is(GWB_WHY_VERTEX_TAKEN) ? Failure{Problem::no_call} : done.error();
+    if (!done)
+        return done.error();
     return gwb_polyhedron_made{vertices.front().number(), model.faces.begin()->first.number()};
 }
 
