@@ -94,6 +94,8 @@ class AtATerminal(unittest.TestCase):
         self.assertEqual(terminal.answer('block 1 0 0 0 4 4 4'), 'ok\n')
         self.assertEqual(terminal.answer('volume 1'), 'volume 384\n')
         self.assertEqual(terminal.answer('kvfs 2'), 'refused 2 2: NoSolid: there is no solid 2\n')
+        self.assertEqual(terminal.answer('kef 17').splitlines()[1:], ['    # `17` is no half-edge: of edge 17 they are +17 and -17'])
+        self.assertEqual(terminal.answer('hole 1').splitlines()[1:], ['    # gwb has no hole: it is a method of Python: bench.hole'])
         self.assertEqual(terminal.answer('# a comment'), '')
         self.assertEqual(terminal.answer(''), '')
         self.assertEqual(terminal.answer('list').count('\n'), 1 + 6 + 6 + 12 + 8)

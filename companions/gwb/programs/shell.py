@@ -19,6 +19,7 @@ from ..geometry.model import Model
 from ..protocol.language import COMMANDS, first_word, is_answered
 from ..protocol.listing import model_of
 from ..protocol.replies import Reply
+from ..protocol.word_advice import word_advice
 from .command_line import FOUND, OK, add_version, read_bytes, run
 from .explain import Answered, complaints, meaning
 from .pipe import Pipe, find_program
@@ -175,6 +176,8 @@ class Shell(cmd.Cmd):
     def _show(line: str, reply: Reply) -> None:
         words = [': ' + meaning(first_word(line.encode('utf-8', 'surrogateescape')), reply)] if reply.is_complaint else []
         print('\n'.join(reply.lines), *words, sep='')
+        for told in word_advice(line, reply.numbers[0]) if reply.word == 'fault' else ():
+            print(f'    {told}')
 
     def help_lines(self, names: Sequence[str]) -> Iterator[str]:
         """What is said of the commands with these names, or of all."""
