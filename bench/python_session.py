@@ -1,8 +1,8 @@
 #!/usr/bin/env python3
-"""Times loops of the Python session over a program or a library, in tenths, so that growth is seen: 10,000 blocks, 1,000 laminas swept, 200 pockets
+"""Times loops of the Python session over a library, in tenths, so that growth is seen: 10,000 blocks, 1,000 laminas swept, 200 pockets
 and 200 notches in one face, and a pocket, a slot, a copy, a union and the end of each of 1,000 blocks.
 
-    bench/python_session.py [PROGRAM ..]
+    bench/python_session.py [LIBRARY ..]
 """
 import sys
 from pathlib import Path
@@ -86,11 +86,11 @@ def tenths(bench, make, count):
 
 
 def main():
-    for program in sys.argv[1:] or [None]:
+    for library in sys.argv[1:] or [None]:
         for name, make, count in LOOPS:
-            with Workbench(program) as bench:
+            with Workbench(library) as bench:
                 times = tenths(bench, make, count)
-            print(f'{program or "gwb"}: {count} {name}: {sum(times):.2f} s; first tenth {times[0]:.3f} s, last {times[-1]:.3f} s')
+            print(f'{library or "gwb"}: {count} {name}: {sum(times):.2f} s; first tenth {times[0]:.3f} s, last {times[-1]:.3f} s')
 
 
 if __name__ == '__main__':
