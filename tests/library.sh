@@ -34,13 +34,13 @@ tried() {
     fi
 }
 
-# has TOOL NAME..: whether a tool is there; else each of what it was to try is skipped
+# has TOOL NAME..: whether a tool is there and runs; else each of what it was to try is skipped
 has() {
     tool=$1
     shift
-    command -v "$tool" > /dev/null && return
+    "$tool" --version > /dev/null 2>&1 && return
     for name in "$@"; do
-        echo "skipped: $name: there is no $tool"
+        echo "skipped: $name: there is no $tool that runs"
         skipped=$((skipped + 1))
     done
     false
