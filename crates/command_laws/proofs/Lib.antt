@@ -1,14 +1,14 @@
 mod Solids
-mod Outlines
+pub mod Outlines
 mod SweptFaces
 mod LaminaFaces
-mod BlockFaces
+pub mod BlockFaces
 mod Series
-mod Kept
+pub mod Kept
 mod Accepted
 pub mod OnFaces
 mod SweptAlone
-mod DrawnAlone
+pub mod DrawnAlone
 mod SweptLoops
 mod SweptSides
 mod SweptRings
@@ -16,10 +16,9 @@ mod MovedAreas
 pub mod Owners
 pub mod Standing
 pub mod Turned
-mod LyingFlat
+pub mod LyingFlat
 pub mod BlockFlat
 pub mod GlueFlat
 pub mod Inner
-mod splits_laws
-mod caps_laws
-mod convex_laws
+pub mod splits_laws
+pub mod caps_laws

@@ -10,5 +10,4 @@ pub mod Flat
 pub mod Splits
 pub mod Capped
 pub mod Caps
-pub mod Convex
 pub mod SplitEdges

@@ -11,11 +11,8 @@
 //! - *Flat faces* (`flat`): faces whose corners lie on one plane, the sides of a sweep, a swept face that was flat before, all faces of a new block
 //!   and all of a solid to which another one was glued.
 //! - *Splits*: what they leave unchanged, and to which part each face belongs (`splits`); the caps (`caps`).
-//! - *Convex solids* (`convex`): blocks are convex, what is strictly convex has a volume, and each half-space that holds a solid holds both parts
-//!   of a split of it.
 
 mod caps;
-mod convex;
 mod flat;
 mod frames;
 mod splits;
@@ -26,10 +23,6 @@ ghost use Rattle.command_laws.specs.Accepted.{BlocksFit, GluesFit};
 ghost use Rattle.command_laws.specs.Solids.{BlocksAreThere, LaminasAreThere, SweptAreThere, SweepsKeepSolids, GluesJoinSolids};
 
 pub use caps::{caps_close_the_parts, caps_face_apart};
-pub use convex::{
-    blocks_are_convex, convex_solids_have_volume, others_stay_convex, parts_lie_apart,
-    round_looks_along, splits_stay_below,
-};
 pub use flat::faces_lie_flat;
 pub use frames::{blocks_leave_alone, faces_stand, laminas_leave_alone, sweeps_leave_alone};
 pub use splits::{splits_leave_alone, splits_make_no_lines, splits_part_faces, splits_share_faces};

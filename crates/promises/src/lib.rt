@@ -10,7 +10,7 @@
 //! - nodes linked by `next` and `prev`, a splice of them, and what a drop frees: `raw_ring/src/rings.rt`, `raw_ring/src/nodes.rt`;
 //! - normals, planes, flat faces and counts: `solid_measure/src/measures.rt`, `solid_measure/src/solid_counts/solids.rt`;
 //! - points, sides of a plane and cut points: `lattice/src`;
-//! - the faces of new solids, what larger commands leave unchanged, and which solids are convex: `command_laws/src`;
+//! - the faces of new solids, and what larger commands leave unchanged: `command_laws/src`; which solids are convex: `convex_laws/src`;
 //! - what the volumes are after a sweep and after a glue, in terms of bytes: `script_laws/src`;
 //! - the grammar, the command line and the exit status: `script_reader/src/line.rt`, `command_line/src`;
 //! - what each call of the library for C does, and what its readers answer: `session_slots/src`, `gwb_c/src`.

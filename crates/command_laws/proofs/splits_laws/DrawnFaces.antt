@@ -23,23 +23,23 @@ use Rattle.split_drawing_laws.proofs.face_sides.Beside.{never_free}
 use Rattle.split_drawing_laws.proofs.pairs.Whole.{can_be_drawn}
 
 -- face g of X lies on the planes of one of the faces fs of B
-record Comes (B X : Model) (fs : List ℕ) (g : ℕ) : Type 0 where
-  face : ℕ
-  listed : IsIn face fs
-  on : (t : Plane) → OnFace B t face → OnFace X t g
+pub record Comes (B X : Model) (fs : List ℕ) (g : ℕ) : Type 0 where
+  pub face : ℕ
+  pub listed : IsIn face fs
+  pub on : (t : Plane) → OnFace B t face → OnFace X t g
 
 -- half-edge h is in X of the face that it had in B, or of a new one, which lies on the planes of that
-record IsMoved (B X : Model) (h : ℕ) : Type 0 where
-  face : (face_at X h ≡ face_at B h) ⊎ (table.get B.faces (face_at X h) ≡ None)
-  on : (t : Plane) → OnFace B t (face_at B h) → OnFace X t (face_at X h)
+pub record IsMoved (B X : Model) (h : ℕ) : Type 0 where
+  pub face : (face_at X h ≡ face_at B h) ⊎ (table.get B.faces (face_at X h) ≡ None)
+  pub on : (t : Plane) → OnFace B t (face_at B h) → OnFace X t (face_at X h)
 
 -- X is B with edges drawn in the faces fs
-record Spread (B X : Model) (fs : List ℕ) : Type 0 where
-  there : (g : ℕ) → Has B.faces g → Has X.faces g
-  olds : (g : ℕ) → Has B.faces g → (t : Plane) → OnFace B t g → OnFace X t g
-  news : (g : ℕ) → Has X.faces g → table.get B.faces g ≡ None → Comes B X fs g
-  old_halves : (h : ℕ) → HasHalf B h → HasHalf X h
-  halves : (h : ℕ) → HasHalf B h → IsMoved B X h
+pub record Spread (B X : Model) (fs : List ℕ) : Type 0 where
+  pub there : (g : ℕ) → Has B.faces g → Has X.faces g
+  pub olds : (g : ℕ) → Has B.faces g → (t : Plane) → OnFace B t g → OnFace X t g
+  pub news : (g : ℕ) → Has X.faces g → table.get B.faces g ≡ None → Comes B X fs g
+  pub old_halves : (h : ℕ) → HasHalf B h → HasHalf X h
+  pub halves : (h : ℕ) → HasHalf B h → IsMoved B X h
 
 pub drawn_one : (p : Plane) (d : Drawing) (q : FacePairs) (qs : List FacePairs) (n : ℕ) → Drawable d (q ∷ qs) n → DrawnIn d.model (next_drawn p d q).model q.face
 drawn_one p d q qs n w = subst (λ x. DrawnIn d.model x.model q.face) (sym (next_is p d q qs n w)) (face_goes p q.face q.pairs d (pairs_in qs + n) (ready p d q qs n w)).drawn
@@ -115,7 +115,7 @@ module _ (M : Model) (s : ℕ) (p : Plane) (t : ℕ) (sound : Sound M) (begins :
       let flat = lies_flat M s p t sound begins f has (solid_stays M C same_faces f ∙ w.1) in
       (has, flat.0, flat.1)
 
-  spread : Spread C D (straddling_faces M p s)
+  pub spread : Spread C D (straddling_faces M p s)
   spread = all_spread C (straddling_faces M p s) (λ f i. let w = lies f i in (w.0, record { plane = plane_of M f; some = w.1; on = w.2 })) p (undrawn (with_crossings M s p)) (straddling_pairs M s p) 0 (drawable (with_crossings M s p) (straddling_pairs M s p) (can_be_drawn M s p t sound begins))
       (λ f i. subst (IsIn f) (faces_are M C p (straddling_faces M p s)) i) (record { there = λ g has. has; olds = λ g has r on. on; news = λ g has none. absurd (never_free C.faces g has none); old_halves = λ h has. has; halves = λ h has. record { face = inl refl; on = λ r on. on } })
 

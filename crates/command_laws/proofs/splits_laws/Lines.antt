@@ -139,7 +139,7 @@ module _ (before after : Machine) (s : ℕ) (p : Plane) (t : ℕ) (sound : Sound
   abbrev P : Model
   P = part K s t (upper_faces above X.caps)
 
-  begun : CanBegin M s p t
+  pub begun : CanBegin M s p t
   begun = begins M s p t sound made.0
 
   opened : Retraced d.model X.model s (is_of s)
@@ -173,7 +173,7 @@ module _ (before after : Machine) (s : ℕ) (p : Plane) (t : ℕ) (sound : Sound
   Known G h = IsOfEither G s t (face_at G h) → EndsOn G p h ⊎ LeadsAlongSolid M G s h
 
   -- a half-edge with its edges cut is of the solid if it is so once they are drawn, and then so is the one along which it leads
-  came_of : (x : ℕ) (was : HasHalf C x) → solid_of_half d.model x ≡ s → solid_of M (face_at M (half_comes M s p t sound begun x was).half) ≡ s
+  pub came_of : (x : ℕ) (was : HasHalf C x) → solid_of_half d.model x ≡ s → solid_of M (face_at M (half_comes M s p t sound begun x was).half) ≡ s
   came_of x was of =
       ap (solid_of M) (sym (half_comes M s p t sound begun x was).face) ∙ sym (solid_stays M C (crossings_measured M s p t sound begun).faces (face_at C x))
       ∙ was_of C d.model s (is_of s) (drawn_within M s p t sound begun) x was (eq-eqb (solid_of_half d.model x) s of)

@@ -217,7 +217,7 @@ module _ (M : Model) (s : ℕ) (p : Plane) (t : ℕ) (sound : Sound M) (accepted
   Low y = HasHalf C y × (is_below p (finish C y) ≡ true)
 
   module _ (f : ℕ) (i : IsIn f (straddling_faces M p s)) where
-    leads_below : (y : ℕ) → IsIn y (ends (drawn_pairs M C p f)) → HasHalf C y → face_at C y ≡ f → side y ≡ false → is_below p (finish C y) ≡ true
+    pub leads_below : (y : ℕ) → IsIn y (ends (drawn_pairs M C p f)) → HasHalf C y → face_at C y ≡ f → side y ≡ false → is_below p (finish C y) ≡ true
     leads_below y j there at down =
         let place = place_of_end M s p t sound begun f i y j in
         let on : is_on p (start C y) ≡ true = ap (λ z. is_on p (start C z)) place.2 ∙ place_on M s p t sound begun f i place.0 place.1 in
@@ -289,7 +289,7 @@ module _ (M : Model) (s : ℕ) (p : Plane) (t : ℕ) (sound : Sound M) (accepted
   -- ---- the first place of a pair goes up
 
   module _ (f : ℕ) (i : IsIn f (straddling_faces M p s)) where
-    leads_above : (y : ℕ) → IsIn y (ends (drawn_pairs M C p f)) → face_at C y ≡ f → side y ≡ true → is_above p (finish C y) ≡ true
+    pub leads_above : (y : ℕ) → IsIn y (ends (drawn_pairs M C p f)) → face_at C y ≡ f → side y ≡ true → is_above p (finish C y) ≡ true
     leads_above y j at up =
         let place = place_of_end M s p t sound begun f i y j in
         let on : is_on p (start C y) ≡ true = ap (λ z. is_on p (start C z)) place.2 ∙ place_on M s p t sound begun f i place.0 place.1 in

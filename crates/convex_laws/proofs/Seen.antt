@@ -6,7 +6,7 @@ use Rattle.euler_operators.specs.Common.{Point, cross, dot, moved, origin, IsIn,
 use Rattle.euler_operators.proofs.Common.{IsIn_head, IsIn_rest, dif-parts, difs, number, same_dif, same_vector, tick_other}
 use Rattle.shapes.specs.Common.{area, boundary, finish, items_in, loops_of, normal, start, towards}
 use Rattle.shapes.proofs.Common.{area-append, IsClosed, IsPathTo, begins, loop_closed}
-use Rattle.command_laws.specs.Convex.{RoundLooksAlong, swept_from}
+use Rattle.convex_laws.specs.Convex.{RoundLooksAlong, swept_from}
 
 step_part : (sy sz fy fz qy qz ey ez r : ℤ) → (sy *ℤ fz -ℤ sz *ℤ fy) +ℤ (r +ℤ (qy *ℤ (ez -ℤ fz) -ℤ qz *ℤ (ey -ℤ fy)))
     ≡ (((sy -ℤ qy) *ℤ (fz -ℤ qz) -ℤ (sz -ℤ qz) *ℤ (fy -ℤ qy)) +ℤ r) +ℤ (qy *ℤ (ez -ℤ sz) -ℤ qz *ℤ (ey -ℤ sy))

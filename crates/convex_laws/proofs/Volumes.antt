@@ -11,7 +11,7 @@ use Rattle.shapes.specs.Common.{anchor, area, boundary, corners, finish, is_flat
 use Rattle.shapes.proofs.Common.{anchor_on, face_listed, face_of_loop, face_told, items_there, listed_face, some_direction}
 use Rattle.solid_measure_laws.specs.Models.{normals_in}
 use Rattle.solid_measure_laws.proofs.Moved.{normals_close}
-use Rattle.command_laws.specs.Convex.{ConvexSolidsHaveVolume, IsStrictlyConvex, IsVertexOf}
+use Rattle.convex_laws.specs.Convex.{ConvexSolidsHaveVolume, IsStrictlyConvex, IsVertexOf}
 
 -- ---- the six volumes, seen from a point
 

@@ -11,11 +11,11 @@ use Rattle.shapes.specs.Common.{block_conditions, base_of, finish, next_place, n
 use Rattle.shapes.proofs.Common.{at_most_greatest, same_is}
 use Rattle.undo_journal.specs.Machine.{Machine, held}
 use Rattle.command_laws.specs.Commands.{IsBlock}
-use Rattle.command_laws.specs.Convex.{BendsAway, BlocksAreConvex}
+use Rattle.convex_laws.specs.Convex.{BendsAway, BlocksAreConvex}
 use Rattle.command_laws.specs.NewFaces.{IsFaceOf, all_moved, area_to, last_face, nth, side_over, turned_back, up_by}
 use Rattle.command_laws.proofs.BlockFaces.{block_has_top_and_bottom, block_has_four_sides, block_takes_six_faces}
 use Rattle.command_laws.proofs.BlockFlat.{IsOneOf, no_older, one_of, sound_after}
-use Rattle.command_laws.proofs.convex_laws.Blocks.{block_convex}
+use Rattle.convex_laws.proofs.Blocks.{block_convex}
 use Rattle.sweeps_laws.proofs.swept.Lifted.{IsPathOf}
 use Rattle.command_laws.proofs.Outlines.{points_are, ring_path}
 

@@ -1,3 +1,4 @@
+#![tactic(auto)]
 //! Which solids are convex, that they have a volume, which half-spaces a split keeps to, and which way a face looks.
 //!
 //! # What is proved
@@ -9,7 +10,7 @@
 //! proved: that both parts of a convex solid are convex. For this it would have to be shown that the pieces of the faces that were cut, and the caps,
 //! look outwards.
 
-ghost use Rattle.command_laws.specs.Convex.{BlockKeepsConvex, BlockKeepsStrictlyConvex, BlocksAreConvex, ConvexSolidsHaveVolume, RoundLooksAlong, SplitLeavesConvex, SplitLeavesStrictlyConvex, SplitPartsLieApart, SplitsStayBelow};
+ghost use Rattle.convex_laws.specs.Convex.{BlockKeepsConvex, BlockKeepsStrictlyConvex, BlocksAreConvex, ConvexSolidsHaveVolume, RoundLooksAlong, SplitLeavesConvex, SplitLeavesStrictlyConvex, SplitPartsLieApart, SplitsStayBelow};
 
 /// A new block is strictly convex: each face is flat, no vertex of the solid lies above the plane of one of its faces, and at each edge the two
 /// faces bend away from each other, so each half-edge points along the product of its face's normal and that of its mate's face.

@@ -10,12 +10,12 @@ use Rattle.shapes.proofs.Common.{at_most_greatest}
 use Rattle.undo_journal.specs.Machine.{Machine, held}
 use Rattle.command_laws.specs.Commands.{IsBlock}
 use Rattle.command_laws.specs.NewFaces.{IsFaceOf, all_moved, last_face, nth, plane_round, side_over, turned_back, up_by}
-use Rattle.command_laws.specs.Convex.{IsConvex}
+use Rattle.convex_laws.specs.Convex.{IsConvex}
 use Rattle.command_laws.proofs.BlockFaces.{block_has_top_and_bottom, block_has_four_sides, block_takes_six_faces}
 use Rattle.command_laws.proofs.BlockFlat as flat
 use Rattle.command_laws.proofs.BlockFlat.{IsOneOf, blocks_lie_flat, no_older, one_of}
 use Rattle.command_laws.proofs.LyingFlat as lying
-use Rattle.command_laws.proofs.convex_laws.Levels.{IsLow, height_at, is_low, low_times}
+use Rattle.convex_laws.proofs.Levels.{IsLow, height_at, is_low, low_times}
 
 -- ---- a box
 

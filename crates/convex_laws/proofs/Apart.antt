@@ -15,7 +15,7 @@ use Rattle.split_laws.proofs.drawn.Drawn.{begins, drawn_sound, never_stuck}
 use Rattle.undo_journal.specs.Machine.{Machine, held}
 use Rattle.plane_split.specs.SplitModels.{IsSplit}
 use Rattle.command_laws.specs.Capped.{IsCapOf, cap, caps_of}
-use Rattle.command_laws.specs.Convex.{SplitPartsLieApart}
+use Rattle.convex_laws.specs.Convex.{SplitPartsLieApart}
 use Rattle.command_laws.specs.Splits.{IsOfEither}
 use Rattle.command_laws.proofs.Turned.{IsTurned, turned_pass}
 use Rattle.command_laws.proofs.caps_laws.Whole.{caps_stand, holes_are_closed}

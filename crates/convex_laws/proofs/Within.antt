@@ -24,11 +24,11 @@ use Rattle.split_laws.proofs.volumes.Split as split
 use Rattle.euler_laws.proofs.Common.{listed_front}
 use Rattle.undo_journal.specs.Machine.{Machine, held}
 use Rattle.plane_split.specs.SplitModels.{IsSplit}
-use Rattle.command_laws.specs.Convex.{IsVertexOf, LiesBelow, SplitsStayBelow}
+use Rattle.convex_laws.specs.Convex.{IsVertexOf, LiesBelow, SplitsStayBelow}
 use Rattle.command_laws.proofs.Inner.{AgreeBut}
 use Rattle.command_laws.proofs.OnFaces.{loop_in_face, vertex_there}
 use Rattle.command_laws.proofs.Owners.{Agree, OnSolid, agree_on, half_is_on, has_owner, is_either, is_of, owner_is, solid_of_vertex, vertex_kept}
-use Rattle.command_laws.proofs.convex_laws.Levels.{divided_low}
+use Rattle.convex_laws.proofs.Levels.{divided_low}
 use Rattle.command_laws.proofs.splits_laws.DrawnWithin.{drawings_within}
 use Rattle.command_laws.proofs.splits_laws.PartedWithin.{holes_keep, holes_within, opened_within, part_keeps}
 use Rattle.command_laws.proofs.splits_laws.Steps.{part_agrees}

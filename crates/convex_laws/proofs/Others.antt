@@ -10,7 +10,7 @@ use Rattle.shapes.proofs.Common.{at_most_greatest, face_of_loop}
 use Rattle.undo_journal.specs.Machine.{Machine, held}
 use Rattle.plane_split.specs.SplitModels.{IsSplit}
 use Rattle.command_laws.specs.Commands.{IsBlock}
-use Rattle.command_laws.specs.Convex.{BendsAway, BlockKeepsConvex, BlockKeepsStrictlyConvex, IsConvex, IsStrictlyConvex, SplitLeavesConvex, SplitLeavesStrictlyConvex}
+use Rattle.convex_laws.specs.Convex.{BendsAway, BlockKeepsConvex, BlockKeepsStrictlyConvex, IsConvex, IsStrictlyConvex, SplitLeavesConvex, SplitLeavesStrictlyConvex}
 use Rattle.command_laws.specs.LeftAlone.{StandsAsBefore}
 use Rattle.command_laws.specs.NewFaces.{last_face}
 use Rattle.command_laws.proofs.BlockFaces.{block_takes_six_faces}
