@@ -1,7 +1,7 @@
 # Builds gwb unproved, tries what is built, and installs it: the program, its man page, the companions, the pages and examples, and the library if
 # it is built. It proves nothing: that is .ci/run.
 #
-#   make try                                 in about a minute: out/gwb-unproved, and in out/unproved the library for C, C++, Rust and Python
+#   make try                                 in about two minutes: out/gwb-unproved, and in out/unproved the library for C, C++, Rust and Python
 #   make check                               all tests that need no proof: the last line counts
 #   make check-unproved                      the same on what `make try` builds
 #   make reference                           out/reference: what each call is for, in C and C++, Python and Rust, from the sources
@@ -32,7 +32,7 @@ SOURCES = .ci/unproved .ci/crates.py crates.txt $(shell find crates -path '*/src
 
 .PHONY: help try check check-unproved reference install uninstall install-program install-companions install-pages install-library
 help:
-	@echo 'make try                            builds the program and the library in about a minute, unproved'
+	@echo 'make try                            builds the program and the library in about two minutes, unproved'
 	@echo 'make check                          runs all tests that need no proof on what is built and proved'
 	@echo 'make check-unproved                 runs them on what make try builds'
 	@echo 'make reference                      writes each language'"'"'s reference, from its headers and docstrings'
@@ -83,7 +83,7 @@ $(filter-out $(UNPROVED),$(PROGRAM)):
 	@echo '$(PROGRAM) is not built. One of these proves and builds it:'
 	@echo '    (cd crates/gwb && rt run) < examples/wire.gwb'
 	@echo '    .ci/run'
-	@echo 'In a minute, unproved: make try. A program that lies elsewhere is named by PROGRAM=..'
+	@echo 'In two minutes, unproved: make try. A program that lies elsewhere is named by PROGRAM=..'
 	@false
 
 install-program: $(PROGRAM)

@@ -24,7 +24,7 @@ def find_program() -> str:
     program = named if named and not is_library(named) else next(built, '') or shutil.which('gwb')
     if program is None:
         raise ProgramMissing('the program gwb was not found: the environment variable GWB may name it, or it lies on the path; '
-                             'in a copy of the sources `make try` builds it in a minute, unproved, for GWB=out/gwb-unproved')
+                             'in a copy of the sources `make try` builds it in two minutes, unproved, for GWB=out/gwb-unproved')
     return program
 
 
