@@ -3,8 +3,8 @@
 
     tests/refusals.py [--write]
 
-Compares with them what is made from them, and what says them by hand: the help text of gwb, the last one in gwb.hpp, and the table of
-docs/SCRIPT.md. --write first makes anew companions/gwb/protocol/refusals.py, bindings/include/gwb_names.h and
+Compares with them what is made from them, and what says them by hand: the help text of gwb, the last one in gwb.hpp, and the tables of
+docs/SCRIPT.md and docs/REFUSALS.md, the latter also of what features say. --write first makes anew companions/gwb/protocol/refusals.py, bindings/include/gwb_names.h and
 bindings/rust/src/refusal.rs. The texts are those of companions/gwb/protocol/language.py. The last line counts.
 """
 import re
@@ -165,6 +165,18 @@ def advice_names(title: str) -> Names:
     return {int(number): name for number, name in re.findall(r'^\| (\d+) (\w+) \|', part, re.MULTILINE)}
 
 
+def feature_names() -> List[str]:
+    """The names in the table of the page that says why features are refused."""
+    part = text_of('docs/REFUSALS.md').partition('# What features say\n')[2].partition('|---|')[2]
+    return re.findall(r'^\| ([A-Z]\w+) \|', part, re.MULTILINE)
+
+
+def misfit_names() -> List[str]:
+    """The names of why features are refused, by gwb_features.h: GWB_MISFIT_NO_AREA is NoArea."""
+    found = re.findall(r'^    GWB_MISFIT_(\w+)', text_of('bindings/include/gwb_features.h'), re.MULTILINE)
+    return [''.join(map(str.capitalize, name.split('_'))) for name in found]
+
+
 def header_names() -> List[str]:
     """The conditions that gwb.hpp names in code: the last one, up to which it has an exception for each."""
     return re.findall(r'<GWB_WHY_(\w+)>\(\)', text_of('bindings/include/gwb.hpp'))
@@ -180,6 +192,7 @@ def findings(names: Names) -> Iterator[str]:
     yield '' if advice_names('What to do about a refusal') == names else 'docs/REFUSALS.md: the table of refusals has other names'
     last = [capitals(name) for name in list(names.values())[-1:]]
     yield '' if header_names() == last else 'bindings/include/gwb.hpp: its last condition is another'
+    yield '' if feature_names() == misfit_names() != [] else 'docs/REFUSALS.md: the table of what features say has other names'
     faults = {number: meaning.name for number, meaning in FAULTS.items()}
     yield '' if advice_names('Faults') == faults else 'docs/REFUSALS.md: the table of faults has other names'
     yield '' if help_names('Faults') == faults else 'crates/command_line/src/words.rt: its faults are not those of companions/gwb/protocol/language.py'
