@@ -34,7 +34,7 @@ def _parser() -> argparse.ArgumentParser:
         epilog='Status 0: done; 1: done, and something was left out or a face is not flat; 2: the command line is refused; '
                '3: the input is refused, or reading or writing failed.')
     parser.add_argument('file', nargs='?', metavar='FILE',
-                        help='OFF, OBJ, STL, 3MF, PLY, AMF, or STEP with flat faces (default: standard input)')
+                        help='OFF, OBJ, STL, 3MF, PLY, AMF, GLB, or STEP with flat faces (default: standard input)')
     parser.add_argument('--form', choices=FORMS, help='the form of the file (default: what it looks like)')
     parser.add_argument('--scale', type=_above_zero, default=1, metavar='K', help='multiply coordinates, by 1000 or 1/2 say')
     parser.add_argument('--round', action='store_true', help='round coordinates, and say how far a point was moved at most')
