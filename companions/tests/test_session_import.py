@@ -6,7 +6,7 @@ from pathlib import Path
 
 from support import STORED, bench_and_folder, library
 
-from gwb import CompanionError, InDraft, Workbench
+from gwb import CompanionError, InDraft, Unfit, Workbench
 from gwb.formats.appearance import Appearance
 from gwb.checks.check import check
 from gwb.formats.importing import imported
@@ -86,6 +86,16 @@ class Imports(unittest.TestCase):
         plain, triangles = (self.bench.import_file(hole, keep_triangles=keep).one() for keep in (False, True))
         self.assertLess(len(plain.faces), len(triangles.faces))
         self.assertEqual(self.bench.volume(plain), self.bench.volume(triangles))
+
+    def test_points_that_lie_near_a_whole_place(self):
+        near = self.written('near.ply', ply().replace('6 0 0', '6.0004 0 0'))
+        self.assertRaises(Unfit, self.bench.import_file, near)
+        self.assertRaises(Unfit, self.bench.import_file, near, within=Fraction(3, 10_000))
+        self.assertRaises(Unfit, self.bench.import_file, near, within=Fraction(1, 1000), scale=10)  # (where it lies ten times as far)
+        self.assertEqual(self.bench.volume(self.bench.import_file(near, within=Fraction(1, 1000)).one()), 36)
+        self.assertEqual(self.bench.volume(self.bench.import_file(self.written('part.ply', ply()), within=0).one()), 36)
+        self.assertRaisesRegex(ValueError, '^within: -1 is below zero$', self.bench.import_file, near, within=-1)
+        self.assertRaisesRegex(TypeError, '^within: a whole number or a fraction is wanted', self.bench.import_file, near, within=0.001)
 
     def test_mended(self):
         twisted = STORED / 'programs' / 'blender_flipped.obj'

@@ -153,12 +153,24 @@ def positive(name: str, value: object) -> int:
 
 def factor(name: str, value: object) -> Fraction:
     """A whole number or a fraction above zero."""
-    if isinstance(value, bool) or not isinstance(value, Rational):
-        raise TypeError(f'{name}: a whole number or a fraction is wanted, not {_kind_of(value)}')
-    found = Fraction(int(value.numerator), int(value.denominator))
+    found = _fraction(name, value)
     if found <= 0:
         raise ValueError(f'{name}: {found} is not above zero')
     return found
+
+
+def distance(name: str, value: object) -> Fraction:
+    """A whole number or a fraction from zero on."""
+    found = _fraction(name, value)
+    if found < 0:
+        raise ValueError(f'{name}: {found} is below zero')
+    return found
+
+
+def _fraction(name: str, value: object) -> Fraction:
+    if isinstance(value, bool) or not isinstance(value, Rational):
+        raise TypeError(f'{name}: a whole number or a fraction is wanted, not {_kind_of(value)}')
+    return Fraction(int(value.numerator), int(value.denominator))
 
 
 def way(name: str, value: object) -> str:
