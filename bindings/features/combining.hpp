@@ -240,7 +240,7 @@ inline Result<void> give(Attempts &bench, const std::vector<Operator> &operators
 /// A solid goes, and another one comes.
 inline Result<void> give_anew(Attempts &bench, Solid solid, const Model &model)
 {
-    const Result<void> gone = TakenApart(bench).take(solid);
+    const Result<void> gone = taken_away(bench, solid);
     return gone ? bench.load(model.listing()) : gone;
 }
 

@@ -206,10 +206,8 @@ inline Result<Split> cut_at_once(Attempts &bench, Solid solid, const Plane &plan
     if (is_wanted)
         return caps;
     caps->upper_caps.clear();
-    const Result<void> gone = TakenApart(bench).take(above);
-    if (!gone)
-        return gone.error();
-    return caps;
+    const Result<void> gone = taken_away(bench, above);
+    return gone ? caps : gone.error();
 }
 
 /// Cuts a solid face by face, alike.

@@ -2,6 +2,7 @@
 #pragma GCC visibility push(default)
 #include "gwb_features.h"
 #pragma GCC visibility pop
+#include "copies.hpp"
 #include "cuts.hpp"
 #include "drilling.hpp"
 #include "gluing.hpp"
@@ -118,12 +119,12 @@ template <class Make, class Put> gwb_kind made_at_once(gwb *g, gwb_refusal *why,
     const std::uint64_t before = of.changes;
     const bool was_known = known.is_of(before);
     known.clear();
-    using Made = decltype(make(std::declval<Attempts &>(), std::declval<Together &>(), known));
+    using Made = decltype(make(std::declval<Attempts &>(), known));
     const Made made = [&]() -> Made {
         Borrowed session(g);
         Together commands(session.bench());
         Result<void> done = commands.begun();
-        Made found = done ? make(session.bench(), commands, known) : Made(done.error());
+        Made found = done ? make(session.bench(), known) : Made(done.error());
         if (found) // nothing takes memory from here on
             done = commands.keep();
         if (!done)
@@ -178,7 +179,7 @@ gwb_kind row_of(gwb *g, std::uint32_t solid, std::uint32_t count, Place place, s
         return gwb_is_open(g) ? GWB_NO_CALL : GWB_CLOSED;
     return made(
         g, why,
-        [&](Attempts &bench, Together &commands, Known &known) { return patterned(bench, commands, Solid(solid), count, place, known.lists); },
+        [&](Attempts &bench, Known &known) { return copies::patterned(bench, Solid(solid), count, place, known.lists); },
         [&](const std::vector<Solid> &row) { write(row, solids); });
 }
 
@@ -200,7 +201,7 @@ gwb_kind raised(gwb *g, std::uint32_t face, const gwb_point *points, std::size_t
 {
     return made(
         g, why,
-        [&](Attempts &bench, Together &, Known &) {
+        [&](Attempts &bench, Known &) {
             return length < 1 ? Result<Pocket>(machining::refused(GWB_WHY_SIZE_RANGE, 1))
                               : machining::raise(bench, Face(face), items(points, n), is_pocket ? -length : length);
         },
@@ -215,7 +216,7 @@ template <class Change> gwb_kind changed(gwb *g, gwb_refusal *why, Change change
 {
     return made(
         g, why,
-        [&](Attempts &bench, Together &, Known &known) -> Result<bool> {
+        [&](Attempts &bench, Known &known) -> Result<bool> {
             const Result<void> done = change(bench, known.lists);
             return done ? Result<bool>(true) : Result<bool>(done.error());
         },
@@ -280,7 +281,7 @@ gwb_kind sloped(gwb *g, const std::uint32_t *edges, std::size_t n, std::int64_t 
 {
     return made(
         g, why,
-        [&](Attempts &bench, Together &, Known &) { return shaping::make_chamfers(bench, all_of<Edge>(edges, n), width, other); },
+        [&](Attempts &bench, Known &) { return shaping::make_chamfers(bench, all_of<Edge>(edges, n), width, other); },
         [&](const std::vector<Face> &slopes) { write(slopes, faces); });
 }
 
@@ -331,32 +332,28 @@ std::size_t gwb_made(const gwb *g, std::uint32_t list, std::uint32_t *buf, std::
 
 gwb_kind gwb_kill_solid(gwb *g, std::uint32_t solid, gwb_refusal *why)
 {
-    return changed(g, why, [&](Attempts &bench, Lists &) { return TakenApart(bench).take(Solid(solid)); });
+    return changed(g, why, [&](Attempts &bench, Lists &) { return taken_away(bench, Solid(solid)); });
 }
 
 gwb_kind gwb_copy_solid(gwb *g, std::uint32_t solid, const gwb_motion *motion, std::uint32_t *out, gwb_refusal *why)
 {
-    if (!is_motion(*motion))
+    if (!copies::is_motion(*motion))
         return gwb_is_open(g) ? GWB_NO_CALL : GWB_CLOSED;
     return made(
-        g, why,
-        [&](Attempts &bench, Together &commands, Known &known) {
-            return copied(bench, commands, Solid(solid), Motion(*motion), known.lists);
-        },
+        g, why, [&](Attempts &bench, Known &known) { return copies::copied(bench, Solid(solid), Motion(*motion), known.lists); },
         [&](Solid made) { *out = made.number(); });
 }
 
 gwb_kind gwb_move_solid(gwb *g, std::uint32_t solid, const gwb_motion *motion, gwb_refusal *why)
 {
-    if (!is_motion(*motion))
+    if (!copies::is_motion(*motion))
         return gwb_is_open(g) ? GWB_NO_CALL : GWB_CLOSED;
-    return made(
-        g, why, [&](Attempts &bench, Together &, Known &) { return moved(bench, Solid(solid), Motion(*motion)); }, [](Solid) {});
+    return changed(g, why, [&](Attempts &bench, Lists &) { return copies::moved(bench, Solid(solid), Motion(*motion)); });
 }
 
 gwb_kind gwb_pattern(gwb *g, std::uint32_t solid, std::uint32_t count, const gwb_point *step, std::uint32_t *solids, gwb_refusal *why)
 {
-    return row_of(g, solid, count, [&](std::uint32_t place) { return steps(*step, place); }, solids, why);
+    return row_of(g, solid, count, [&](std::uint32_t place) { return copies::steps(*step, place); }, solids, why);
 }
 
 gwb_kind gwb_pattern_around(gwb *g, std::uint32_t solid, std::uint32_t count, std::uint32_t axis, std::uint32_t quarters, const gwb_point *about,
@@ -365,19 +362,19 @@ gwb_kind gwb_pattern_around(gwb *g, std::uint32_t solid, std::uint32_t count, st
     const bool are_apart = quarters == 2 ? count <= 2 : quarters % 2 == 1 && quarters < 4 && count <= 4;
     if (axis > 2 || !are_apart)
         return gwb_is_open(g) ? GWB_NO_CALL : GWB_CLOSED;
-    return row_of(g, solid, count, [&](std::uint32_t place) { return turn(axis, quarters * place, *about); }, solids, why);
+    return row_of(g, solid, count, [&](std::uint32_t place) { return copies::turn(axis, quarters * place, *about); }, solids, why);
 }
 
 gwb_kind gwb_scale(gwb *g, std::int64_t factor, gwb_refusal *why)
 {
     return changed(g, why, [&](Attempts &bench, Lists &) {
-        return factor < 1 ? Result<void>(machining::refused(GWB_WHY_SIZE_RANGE, 1)) : all_scaled(bench, factor);
+        return factor < 1 ? Result<void>(machining::refused(GWB_WHY_SIZE_RANGE, 1)) : copies::all_scaled(bench, factor);
     });
 }
 
 gwb_kind gwb_renumber(gwb *g, gwb_refusal *why)
 {
-    return changed(g, why, [](Attempts &bench, Lists &lists) { return renumbered(bench, lists); });
+    return changed(g, why, [](Attempts &bench, Lists &lists) { return copies::renumbered(bench, lists); });
 }
 
 gwb_kind gwb_glue_all(gwb *g, const std::uint32_t *solids, std::size_t n, gwb_refusal *why)
@@ -424,7 +421,7 @@ gwb_kind gwb_profile(gwb *g, std::uint32_t solid, const gwb_point *points, std::
 {
     return made(
         g, why,
-        [&](Attempts &bench, Together &, Known &) { return machining::make_profile(bench, Solid(solid), items(points, n), *along); },
+        [&](Attempts &bench, Known &) { return machining::make_profile(bench, Solid(solid), items(points, n), *along); },
         [&](const Profile &made) {
             *out = {made.far.number(), made.base.number()};
             write(made.sides, sides);
@@ -441,7 +438,7 @@ gwb_kind gwb_polyhedron(gwb *g, std::uint32_t solid, const gwb_point *points, st
         return GWB_NO_CALL;
     return made(
         g, why,
-        [&](Attempts &bench, Together &, Known &) {
+        [&](Attempts &bench, Known &) {
             return polyhedra::make(bench, Solid(solid), items(points, n), corners, Items<std::uint32_t>(sizes, faces));
         },
         [&](const gwb_polyhedron_made &made) { *out = made; });
@@ -451,7 +448,7 @@ gwb_kind gwb_ring(gwb *g, std::uint32_t face, const gwb_point *points, std::size
                   std::uint32_t *vertices, gwb_refusal *why)
 {
     return made(
-        g, why, [&](Attempts &bench, Together &, Known &) { return machining::make_ring(bench, Face(face), items(points, n)); },
+        g, why, [&](Attempts &bench, Known &) { return machining::make_ring(bench, Face(face), items(points, n)); },
         [&](const Ring &made) {
             *out = {made.face.number(), made.loop.number()};
             write(made.edges, edges);
@@ -475,7 +472,7 @@ gwb_kind gwb_hole(gwb *g, std::uint32_t face, const gwb_point *points, std::size
                   gwb_refusal *why)
 {
     return made(
-        g, why, [&](Attempts &bench, Together &, Known &) { return machining::make_hole(bench, Face(face), items(points, n)); },
+        g, why, [&](Attempts &bench, Known &) { return machining::make_hole(bench, Face(face), items(points, n)); },
         [&](const Hole &made) {
             *out = {made.other.number(), made.loop.number()};
             write(made.sides, sides);
@@ -486,7 +483,7 @@ gwb_kind gwb_drill(gwb *g, std::uint32_t face, const gwb_point *center, std::int
                    gwb_outline_made *out, std::uint32_t *sides, gwb_point *points, gwb_refusal *why)
 {
     return made(
-        g, why, [&](Attempts &bench, Together &, Known &) { return drilling::drill(bench, Face(face), *center, radius, n, depth); },
+        g, why, [&](Attempts &bench, Known &) { return drilling::drill(bench, Face(face), *center, radius, n, depth); },
         [&](const Hole &made) {
             *out = {made.other.number(), made.loop.number()};
             write(made.sides, sides);

@@ -90,7 +90,7 @@ inline Result<Combined> add(Attempts &bench, Solid solid, Solid gone)
             return overlap;
         return found;
     };
-    return make_near(bench, solid, box_of(*added), combine, [&] { return TakenApart(bench).take(gone); });
+    return make_near(bench, solid, box_of(*added), combine, [&] { return taken_away(bench, gone); });
 }
 
 /// Adds the first of some solids that touches another one to it, and takes it out. Not possible: NoContact: none does.

@@ -60,7 +60,7 @@ enum gwb_list {
     GWB_MADE_LOOPS = 3,    /**< loops alike */
     GWB_MADE_EDGES = 4,    /**< edges alike */
     GWB_MADE_VERTICES = 5, /**< vertices alike */
-    GWB_MADE_TURNED = 6,   /**< the new edges of a copy that run the other way than those that they are of, as some do that are a loop alone */
+    GWB_MADE_TURNED = 6,   /**< nothing: each edge of a copy runs as that which it is of */
     /* Of a split, cut or trim: the faces that close both parts. */
     GWB_MADE_LOWER_CAPS = 7, /**< of the part below the plane, which keeps its number */
     GWB_MADE_UPPER_CAPS = 8, /**< of the part above it */

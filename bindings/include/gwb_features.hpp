@@ -26,8 +26,7 @@ public:
     [[nodiscard]] HalfEdge of(HalfEdge half_edge) const
     {
         const Edge edge = of(half_edge.edge());
-        const bool is_turned = std::binary_search(turned_.begin(), turned_.end(), edge.number());
-        return half_edge.is_second() == is_turned ? plus(edge) : minus(edge);
+        return half_edge.is_second() ? minus(edge) : plus(edge);
     }
 
 protected:
@@ -53,13 +52,10 @@ protected:
     {
         for (Pairs *pairs : {&faces_, &loops_, &edges_, &vertices_})
             turn_back(*pairs);
-        for (std::uint32_t &edge : turned_)
-            edge = find(edges_, edge);
     }
 
 private:
     Pairs faces_, loops_, edges_, vertices_;
-    std::vector<std::uint32_t> turned_;
 };
 
 /// A copy of a solid, which it stands for, and its parts.
@@ -188,7 +184,7 @@ template <class Policy> typename Policy::template Returned<void> kill_solid(Comm
 
 inline Parts::Parts(const gwb *g)
     : faces_(features::listed(g, GWB_MADE_FACES)), loops_(features::listed(g, GWB_MADE_LOOPS)), edges_(features::listed(g, GWB_MADE_EDGES)),
-      vertices_(features::listed(g, GWB_MADE_VERTICES)), turned_(features::listed(g, GWB_MADE_TURNED))
+      vertices_(features::listed(g, GWB_MADE_VERTICES))
 {
 }
 inline Renumbered::Renumbered(const gwb *g) : Parts(g), solids_(features::listed(g, GWB_MADE_SOLIDS)) {}

@@ -171,9 +171,8 @@ impl Renumbered {
         fn turned<N: Ord + Copy>(pairs: &BTreeMap<N, N>) -> BTreeMap<N, N> {
             pairs.iter().map(|(&old, &new)| (new, old)).collect()
         }
-        let edge = |(&old, &new): (&Edge, &HalfEdge)| (new.edge(), if new.is_second() { minus(old) } else { plus(old) });
         let Parts { faces, loops, edges, vertices } = &self.parts;
-        let parts = Parts { faces: turned(faces), loops: turned(loops), edges: edges.iter().map(edge).collect(), vertices: turned(vertices) };
+        let parts = Parts { faces: turned(faces), loops: turned(loops), edges: turned(edges), vertices: turned(vertices) };
         Self { solids: turned(&self.solids), parts }
     }
 }
@@ -191,7 +190,7 @@ impl Deref for Renumbered {
 pub struct Parts {
     faces: BTreeMap<Face, Face>,
     loops: BTreeMap<Loop, Loop>,
-    edges: BTreeMap<Edge, HalfEdge>,
+    edges: BTreeMap<Edge, Edge>,
     vertices: BTreeMap<Vertex, Vertex>,
 }
 
@@ -211,13 +210,13 @@ impl Parts {
     /// The edge alike.
     #[must_use]
     pub fn edge(&self, of: Edge) -> Option<Edge> {
-        self.edges.get(&of).map(|half_edge| half_edge.edge())
+        self.edges.get(&of).copied()
     }
 
     /// The half-edge from the vertex of this one to that of its other end.
     #[must_use]
     pub fn half_edge(&self, of: HalfEdge) -> Option<HalfEdge> {
-        self.edges.get(&of.edge()).map(|&first| if of.is_second() { first.twin() } else { first })
+        self.edge(of.edge()).map(if of.is_second() { minus } else { plus })
     }
 
     /// The vertex alike.
@@ -235,7 +234,6 @@ mod list {
     pub const LOOPS: u32 = 3;
     pub const EDGES: u32 = 4;
     pub const VERTICES: u32 = 5;
-    pub const TURNED: u32 = 6;
     pub const LOWER_CAPS: u32 = 7;
     pub const UPPER_CAPS: u32 = 8;
     pub const INTO: u32 = 9;
@@ -287,12 +285,10 @@ impl Operators {
     }
 
     fn made_parts(&self) -> Parts {
-        let turned = self.made(list::TURNED);
-        let edge = |(old, new): (Edge, Edge)| (old, if turned.binary_search(&new.0).is_ok() { minus(new) } else { plus(new) });
         Parts {
             faces: self.made_pairs(list::FACES),
             loops: self.made_pairs(list::LOOPS),
-            edges: self.made_pairs(list::EDGES).into_iter().map(edge).collect(),
+            edges: self.made_pairs(list::EDGES),
             vertices: self.made_pairs(list::VERTICES),
         }
     }

@@ -7,7 +7,7 @@ import ctypes
 from dataclasses import dataclass, field
 from fractions import Fraction
 from functools import reduce
-from typing import AbstractSet, Dict, List, Mapping, Optional, Sequence, Tuple
+from typing import Dict, List, Mapping, Optional, Sequence, Tuple
 
 from ..geometry.flat_face import ExactVector
 from ..geometry.free_numbers import renumbered
@@ -17,7 +17,7 @@ from ..geometry.outlines import Impossible
 from ..geometry.vectors import ZERO, Vector
 from . import arguments
 from .bench import Bench
-from .feature_calls import EDGES, FACES, LOOPS, SOLIDS, TURNED, VERTICES, Motion
+from .feature_calls import EDGES, FACES, LOOPS, SOLIDS, VERTICES, Motion
 from .library import Point
 from .reading import Found
 from .results import Renumbered
@@ -38,7 +38,6 @@ class Copy:
     vertices: Mapping[int, int]
     original: int
     _bench: Bench = field(repr=False, compare=False)
-    _turned: AbstractSet[int] = field(default=frozenset(), repr=False)
 
     def face(self, face: arguments.Face) -> int:
         """The copy of the face."""
@@ -56,7 +55,7 @@ class Copy:
         """The copy of the half-edge: it starts at the copy of its vertex. In a mirrored copy the loop of its mate has it."""
         edge = self._bench.half_edge('half', half)
         copied = self.edges[abs(edge)]
-        return copied if (edge > 0) == (copied not in self._turned) else -copied
+        return copied if edge > 0 else -copied
 
     def vertex(self, vertex: arguments.Vertex) -> int:
         """The copy of the vertex."""
@@ -119,9 +118,8 @@ def _motion(way: Sequence[Change]) -> Optional[Motion]:
 
 def _told(bench: Bench, solid: int, made: Sequence[int]) -> List[Copy]:
     """The copies of a solid that the library made last, in their order."""
-    turned = frozenset(bench.features.made(TURNED))
     faces, loops, edges, vertices = (_shares(bench.features.pairs(which), len(made)) for which in (FACES, LOOPS, EDGES, VERTICES))
-    return [Copy(number, faces[place], loops[place], edges[place], vertices[place], solid, bench, turned) for place, number in enumerate(made)]
+    return [Copy(number, faces[place], loops[place], edges[place], vertices[place], solid, bench) for place, number in enumerate(made)]
 
 
 def _shares(pairs: Sequence[Tuple[int, int]], count: int) -> List[Dict[int, int]]:

@@ -1,0 +1,293 @@
+/// @file copies.hpp Solids copied, moved, scaled and numbered anew: each is read as a model, and the model that it is to be is made as its listing is.
+#ifndef GWB_FEATURES_COPIES_HPP
+#define GWB_FEATURES_COPIES_HPP
+#include "assembly.hpp"
+
+namespace gwb_session::copies {
+
+using namespace sheets;
+
+// ---- places
+
+/// Whether each coordinate of a point goes to one of its image.
+inline bool is_motion(const gwb_motion &motion)
+{
+    std::array<bool, 4> is_taken = {true};
+    return std::none_of(std::begin(motion.axes), std::end(motion.axes),
+                        [&](std::int32_t axis) { return axis < -3 || axis > 3 || std::exchange(is_taken[static_cast<std::size_t>(axis < 0 ? -axis : axis)], true); });
+}
+
+/// Where points go, and how many times as far out they lie first.
+struct Placing {
+    Motion motion;
+    std::int64_t factor = 1;
+
+    static Placing scaled(std::int64_t factor) { return {Motion(), factor}; }
+
+    [[nodiscard]] Point operator()(const Point &point) const
+    {
+        const std::array<exact::Wide, 4> parts = {0, point.x, point.y, point.z};
+        const auto part = [&](std::int32_t axis, std::int64_t by) {
+            const exact::Wide image = parts[static_cast<std::size_t>(axis < 0 ? -axis : axis)] * factor;
+            return in_64_bits((axis < 0 ? -image : image) + by);
+        };
+        const auto &[axes, by] = motion.row();
+        return {part(axes[0], by.x), part(axes[1], by.y), part(axes[2], by.z)};
+    }
+
+    /// A coordinate that is out of range stays so.
+    static std::int64_t in_64_bits(exact::Wide coordinate)
+    {
+        constexpr exact::Wide most = 4 * exact::Wide{exact::farthest};
+        return static_cast<std::int64_t>(std::max(-most, std::min(coordinate, most)));
+    }
+};
+
+// ---- numbers
+
+/// The numbers that parts get, by those that they have.
+struct Numbering {
+    std::map<Face, Face> faces;
+    std::map<Loop, Loop> loops;
+    std::map<Edge, Edge> edges;
+    std::map<Vertex, Vertex> vertices;
+
+    /// Those that a function gives the parts of a model, which are asked for as the old ones rise.
+    template <class Number> static Numbering of(const Model &model, Number &&number)
+    {
+        Numbering numbers;
+        for (const auto &[face, row] : model.faces) {
+            numbers.faces.emplace(face, number(face));
+            for (Loop loop : row)
+                numbers.loops.emplace(loop, Loop());
+        }
+        for (auto &[loop, made] : numbers.loops)
+            made = number(loop);
+        for (const auto &[edge, ends] : model.edges)
+            numbers.edges.emplace(edge, number(edge));
+        for (const auto &[vertex, at] : model.vertices)
+            numbers.vertices.emplace(vertex, number(vertex));
+        return numbers;
+    }
+    [[nodiscard]] HalfEdge of(HalfEdge half) const
+    {
+        const Edge edge = edges.at(half.edge());
+        return half.is_second() ? minus(edge) : plus(edge);
+    }
+    /// Writes down which numbers became which.
+    void tell(Lists &lists) const
+    {
+        tell(faces, lists[GWB_MADE_FACES]);
+        tell(loops, lists[GWB_MADE_LOOPS]);
+        tell(edges, lists[GWB_MADE_EDGES]);
+        tell(vertices, lists[GWB_MADE_VERTICES]);
+    }
+    template <class Kind> static void tell(const std::map<Kind, Kind> &numbers, std::vector<std::uint32_t> &list)
+    {
+        for (auto [old, made] : numbers)
+            list.insert(list.end(), {old.number(), made.number()});
+    }
+};
+
+/// Free numbers for a model.
+class AllFree {
+public:
+    AllFree(const Attempts &bench, const Model &model)
+        : solids_(bench, 1), faces_(bench, model.faces.size() + 1), loops_(bench, model.loops.size() + model.lone.size() + 1),
+          edges_(bench, model.edges.size() + 1), vertices_(bench, model.vertices.size())
+    {
+    }
+    Solid operator()(Solid) { return Solid(solids_.take()); }
+    Face operator()(Face) { return Face(faces_.take()); }
+    Loop operator()(Loop) { return Loop(loops_.take()); }
+    Edge operator()(Edge) { return Edge(edges_.take()); }
+    Vertex operator()(Vertex) { return Vertex(vertices_.take()); }
+
+    /// Refuses a kind of which no number was left.
+    [[nodiscard]] Result<void> require_enough() const
+    {
+        std::uint32_t kind = GWB_SOLID;
+        for (bool is_spent : {solids_.is_spent(), faces_.is_spent(), loops_.is_spent(), edges_.is_spent(), vertices_.is_spent()})
+            if (kind++; is_spent)
+                return refused(GWB_WHY_NUMBERS_SPENT, kind);
+        return {};
+    }
+    /// That none was left for what comes on the way and goes again.
+    [[nodiscard]] Failure spent_on_the_way()
+    {
+        (void)(*this)(Face()), (void)(*this)(Loop()), (void)(*this)(Edge());
+        const Result<void> enough = require_enough();
+        return enough ? refused(GWB_WHY_NUMBERS_SPENT, GWB_FACE + 1U) : enough.error();
+    }
+
+private:
+    FreeNumbers<Solid> solids_;
+    FreeNumbers<Face> faces_;
+    FreeNumbers<Loop> loops_;
+    FreeNumbers<Edge> edges_;
+    FreeNumbers<Vertex> vertices_;
+};
+
+/// All numbers in use of a kind as low as they can be, in their order, by what they are.
+template <class Kind> std::map<Kind, Kind> ranked(const Attempts &bench)
+{
+    std::map<Kind, Kind> ranks;
+    for (Kind old : bench.numbers<Kind>())
+        ranks.emplace_hint(ranks.end(), old, Kind(static_cast<std::uint32_t>(ranks.size() + 1)));
+    return ranks;
+}
+
+// ---- models
+
+/// A solid as a model. Refused as kvfs, where there is none.
+inline Result<Model> read(Attempts &bench, Solid solid)
+{
+    if (bench.faces(solid).empty())
+        return bench.kvfs(solid).error();
+    return Model::whole(bench, solid);
+}
+
+/// The half-edges of a loop with other numbers; of its mirror image, which runs the other way, their mates.
+inline std::vector<HalfEdge> cycle_of(const std::vector<HalfEdge> &halves, const Numbering &numbers, bool is_mirror)
+{
+    std::vector<HalfEdge> cycle;
+    for (HalfEdge half : halves)
+        cycle.push_back(numbers.of(is_mirror ? half.twin() : half));
+    if (is_mirror)
+        std::reverse(cycle.begin(), cycle.end());
+    std::rotate(cycle.begin(), std::min_element(cycle.begin(), cycle.end()), cycle.end());
+    return cycle;
+}
+
+/// The model elsewhere, with other numbers. Each edge runs as it did.
+inline Model placed(const Model &model, const Placing &placing, const Numbering &numbers, Solid solid)
+{
+    Model made{solid, {}, {}, {}, {}, {}};
+    for (const auto &[face, row] : model.faces)
+        std::transform(row.begin(), row.end(), std::back_inserter(made.faces[numbers.faces.at(face)]), [&](Loop loop) { return numbers.loops.at(loop); });
+    for (const auto &[loop, halves] : model.loops)
+        made.loops[numbers.loops.at(loop)] = cycle_of(halves, numbers, placing.motion.is_mirror());
+    for (const auto &[loop, vertex] : model.lone)
+        made.lone[numbers.loops.at(loop)] = numbers.vertices.at(vertex);
+    for (const auto &[edge, ends] : model.edges)
+        made.edges[numbers.edges.at(edge)] = {numbers.vertices.at(ends.first), numbers.vertices.at(ends.second)};
+    for (const auto &[vertex, at] : model.vertices)
+        made.vertices[numbers.vertices.at(vertex)] = vector(placing(point(at)));
+    return made;
+}
+
+/// Refuses a place in which a point would lie out of range, with the least vertex.
+inline Result<void> require_in_range(const Model &model, const Placing &placing)
+{
+    for (const auto &[vertex, at] : model.vertices)
+        if (!is_in_range(vector(placing(point(at)))))
+            return refused(GWB_WHY_POINT_RANGE, vertex.number());
+    return {};
+}
+
+/// A new solid, that is a model elsewhere; its numbers are above all in use, as long as there are any. Refused: PointRange; NumbersSpent.
+inline Result<Solid> make(Attempts &bench, const Model &model, const Placing &placing, Lists &lists)
+{
+    const Result<void> lies = require_in_range(model, placing);
+    if (!lies)
+        return lies.error();
+    AllFree free(bench, model);
+    const Solid solid = free(model.solid);
+    const Numbering numbers = Numbering::of(model, free);
+    if (const Result<void> enough = free.require_enough(); !enough)
+        return enough.error();
+    const Result<void> made = bench.load(placed(model, placing, numbers, solid).listing());
+    if (!made)
+        return made.error().is(GWB_WHY_NUMBER_RANGE) ? free.spent_on_the_way() : made.error();
+    numbers.tell(lists);
+    return solid;
+}
+
+/// A solid lies elsewhere, with the numbers that it has. Refused: PointRange.
+inline Result<void> replace(Attempts &bench, const Model &model, const Placing &placing)
+{
+    Result<void> done = require_in_range(model, placing);
+    if (done)
+        done = taken_away(bench, model.solid);
+    const auto same = [](auto number) { return number; };
+    return done ? bench.load(placed(model, placing, Numbering::of(model, same), model.solid).listing()) : done;
+}
+
+// ---- features
+
+/// A new solid, that is another moved.
+inline Result<Solid> copied(Attempts &bench, Solid solid, const Motion &motion, Lists &lists)
+{
+    const Result<Model> model = read(bench, solid);
+    return model ? make(bench, *model, {motion}, lists) : model.error();
+}
+
+/// So many solids, of which one is the first, each placed by its place after it: those that are new.
+template <class Place>
+Result<std::vector<Solid>> patterned(Attempts &bench, Solid solid, std::uint32_t count, Place place, Lists &lists)
+{
+    const Result<Model> model = read(bench, solid);
+    if (!model)
+        return model.error();
+    std::vector<Solid> row;
+    for (std::uint32_t at = 1; at < count; at++) {
+        const Result<Solid> made = make(bench, *model, {place(at)}, lists);
+        if (!made)
+            return made.error();
+        row.push_back(*made);
+    }
+    return row;
+}
+
+/// By so many times a vector.
+inline Motion steps(const gwb_point &step, std::uint32_t times) { return Motion::move(Placing::scaled(times)(step)); }
+
+/// By so many quarters about the axis through a point. (A point far out of range leaves nothing in range, nor does one beside it.)
+inline Motion turn(std::uint32_t axis, std::uint32_t quarters, const gwb_point &about)
+{
+    const Point way = Placing()(about);
+    return Motion::move({-way.x, -way.y, -way.z}).then(Motion::quarter_turns(axis, quarters)).then(Motion::move(way));
+}
+
+/// The solid lies elsewhere.
+inline Result<void> moved(Attempts &bench, Solid solid, const Motion &motion)
+{
+    const Result<Model> model = read(bench, solid);
+    return model ? replace(bench, *model, {motion}) : Result<void>(model.error());
+}
+
+inline std::vector<Model> all_read(const Attempts &bench)
+{
+    std::vector<Model> models;
+    for (Solid solid : bench.numbers<Solid>())
+        models.push_back(Model::whole(bench, solid));
+    return models;
+}
+
+/// All solids so many times as large, with the numbers that they have.
+inline Result<void> all_scaled(Attempts &bench, std::int64_t factor)
+{
+    for (const Model &model : all_read(bench))
+        if (const Result<void> done = replace(bench, model, Placing::scaled(factor)); !done)
+            return done;
+    return {};
+}
+
+/// All numbers become as low as they can be, in their order.
+inline Result<void> renumbered(Attempts &bench, Lists &lists)
+{
+    const std::vector<Model> models = all_read(bench);
+    const std::map<Solid, Solid> solids = ranked<Solid>(bench);
+    const Numbering numbers{ranked<Face>(bench), ranked<Loop>(bench), ranked<Edge>(bench), ranked<Vertex>(bench)};
+    Numbering::tell(solids, lists[GWB_MADE_SOLIDS]);
+    numbers.tell(lists);
+    Result<void> done;
+    for (std::size_t at = 0; at < models.size() && done; at++)
+        done = taken_away(bench, models[at].solid);
+    for (std::size_t at = 0; at < models.size() && done; at++)
+        done = bench.load(placed(models[at], Placing(), numbers, solids.at(models[at].solid)).listing());
+    return done;
+}
+
+} // namespace gwb_session::copies
+#endif
