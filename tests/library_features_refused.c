@@ -1,17 +1,26 @@
-/* Each allocation of each feature refused in turn, in a session and in a draft with a mark: the answer is GWB_MEMORY, and the model, the draft and the
- * depth are as they were; given again the feature is made; nothing stays allocated when the session is closed. The last line counts.
+/* Each allocation of each feature refused in turn, and all from it on, in a session and in a draft with a mark: the answer is GWB_MEMORY, and the
+ * model, the draft and the depth are as they were; given again the feature is made; nothing stays allocated when the session is closed. The last
+ * line counts.
  *
- *     library_features_refused [EVERY]     of the allocations each, or each EVERYth where one is said */
+ *     library_features_refused [EVERY]     of the allocations each, or each EVERYth where one is said, and a fifth of these with all after it */
 #include "gwb_features.h"
 #include <stdio.h>
 #include <stdlib.h>
 #include <string.h>
 
-/* ---- a heap that refuses one request */
+/* ---- a heap that refuses one request, or all from one on */
 
 static long until_refused = -1, live;
+static bool refuses_on, was_refused;
 
-static bool refuses(void) { return until_refused >= 0 && until_refused-- == 0; }
+static bool refuses(void)
+{
+    const bool is_refused = until_refused == 0;
+    if (until_refused > 0 || (is_refused && !refuses_on))
+        until_refused--;
+    was_refused = was_refused || is_refused;
+    return is_refused;
+}
 
 static void *take(void *user, size_t size)
 {
@@ -210,35 +219,38 @@ static void check(bool is_so, const char *what, const struct feature *feature, i
         printf("%s, way %d, allocation %ld: %s\n", feature->name, way, nth, what);
 }
 
-/* The feature with one allocation refused: whether there was one. */
+/* The feature with an allocation refused: whether there was one. */
 static bool try_refused(const struct feature *feature, int way, long nth)
 {
     static struct seen before;
     gwb g = {0};
     begin(&g, way);
     look(&g, &before);
+    was_refused = false;
     until_refused = nth;
     enum gwb_kind kind = feature->make(&g);
-    const bool was_refused = until_refused < 0;
     until_refused = -1;
     check(kind == GWB_OK || (was_refused && kind == GWB_MEMORY), gwb_kind_text(kind), feature, way, nth); /* a request may be one for speed alone */
     if (kind == GWB_MEMORY) {
         check(is_same(&g, &before), "not as before", feature, way, nth);
         check(feature->make(&g) == GWB_OK, "not made when given again", feature, way, nth);
     }
+    const bool was_there = was_refused;
     gwb_close(&g);
     check(live == 0, "leaks", feature, way, nth);
     live = 0;
-    return was_refused;
+    return was_there;
 }
 
 int main(int argc, char **argv)
 {
     const long every = argc > 1 ? strtol(argv[1], NULL, 10) : 1;
     for (size_t at = 0; at < sizeof features / sizeof features[0]; at++)
-        for (int way = 0; way < WAYS; way++)
-            for (long nth = 0; try_refused(&features[at], way, nth); nth += every)
+        for (int way = 0; way < 2 * WAYS; way++) {
+            refuses_on = way >= WAYS;
+            for (long nth = 0; try_refused(&features[at], way % WAYS, nth); nth += refuses_on ? 5 * every : every)
                 ;
+        }
     printf("%ld passed, %ld failed\n", passed, failed);
     return failed != 0;
 }

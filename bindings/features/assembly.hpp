@@ -14,13 +14,7 @@ struct HeldFace {
     Face face;
     std::vector<Cycle> cycles;
 
-    [[nodiscard]] Box box() const
-    {
-        Path points;
-        for (const Side &side : cycles[0])
-            points.push_back(side.start);
-        return Box::around(points);
-    }
+    [[nodiscard]] Box box() const { return Box::around(points_of(cycles[0])); }
 };
 
 /// Faces of a solid as a model of their own.
@@ -52,24 +46,24 @@ struct Model {
     [[nodiscard]] const Vector &at(HalfEdge half) const { return vertices.at(start(half)); }
 
     /// Takes in a loop of a workbench.
-    void read(const Attempts &bench, Face face, Loop loop)
+    void read(const Bench &bench, Face face, Loop loop)
     {
         go_on();
         faces[face].push_back(loop);
-        if (const std::optional<Vertex> vertex = *bench.lone_vertex(loop)) {
+        if (const std::optional<Vertex> vertex = bench.lone_vertex(loop)) {
             lone[loop] = *vertex;
-            vertices[*vertex] = vector(*bench.vertex(*vertex));
+            vertices[*vertex] = vector(bench.vertex(*vertex));
             return;
         }
         for (HalfEdge half : loops[loop] = bench.half_edges(loop)) {
-            const auto [from, to] = *bench.edge(half.edge());
+            const auto [from, to] = bench.edge(half.edge());
             edges[half.edge()] = {from, to};
             for (Vertex vertex : {from, to})
-                vertices.try_emplace(vertex, vector(*bench.vertex(vertex)));
+                vertices.try_emplace(vertex, vector(bench.vertex(vertex)));
         }
     }
     /// All of a solid.
-    static Model whole(const Attempts &bench, Solid solid)
+    static Model whole(const Bench &bench, Solid solid)
     {
         Model found{solid, {}, {}, {}, {}, {}};
         for (Face face : bench.faces(solid))
@@ -142,7 +136,7 @@ public:
         Vector at;
     };
 
-    Held(const Attempts &bench, Model parts) : model(std::move(parts))
+    Held(const Bench &bench, Model parts) : model(std::move(parts))
     {
         for (const auto &[loop, halves] : model.loops)
             for (HalfEdge half : halves)
@@ -172,7 +166,7 @@ private:
     [[nodiscard]] bool is_held(HalfEdge half) const { return rows.count(half.code()) != 0; }
 
     /// Each half-edge of the rest leads to the next one round the vertex at its end, where edges of the rest alone are missing.
-    void put_rest(const Attempts &bench)
+    void put_rest(const Bench &bench)
     {
         std::set<HalfEdge> left;
         for (const auto &[code, row] : rows)
@@ -183,9 +177,9 @@ private:
             for (HalfEdge half = *left.begin(); left.erase(half) != 0;) {
                 go_on();
                 cycle.push_back({model.at(half), model.at(half.twin()), half});
-                half = *bench.next(half);
+                half = bench.next(half);
                 while (!is_held(half.twin()))
-                    half = *bench.next(half.twin());
+                    half = bench.next(half.twin());
             }
         }
         for (const Cycle &cycle : rest)
@@ -193,7 +187,7 @@ private:
                 rows.emplace(side.half.code(), Row{model.start(side.half), Loop(), side.start});
     }
 
-    [[nodiscard]] bool is_fixed(const Attempts &bench, HalfEdge half) const
+    [[nodiscard]] bool is_fixed(const Bench &bench, HalfEdge half) const
     {
         std::size_t edges = 0;
         bool is_of_rest = false;
@@ -213,7 +207,7 @@ private:
 /// Numbers for things of a kind: old ones while they are free, else new ones.
 template <class Kind> class Names {
 public:
-    explicit Names(const Attempts &bench) : next_(bench.next_free<Kind>()->number()) {}
+    explicit Names(const Bench &bench) : next_(bench.next_free<Kind>().number()) {}
     template <class Numbers> Kind one(const Numbers &wanted)
     {
         for (Kind number : wanted)
@@ -231,7 +225,7 @@ private:
 
 /// Numbers for the things of a surface, and spare ones.
 struct AllNames {
-    explicit AllNames(const Attempts &bench) : faces(bench), loops(bench), edges(bench), vertices(bench) {}
+    explicit AllNames(const Bench &bench) : faces(bench), loops(bench), edges(bench), vertices(bench) {}
 
     Names<Face> faces;
     Names<Loop> loops;

@@ -38,7 +38,7 @@ struct Operator {
     static Operator kfmrh(Face face, Face gone) { return of_ring(Kind::kfmrh, face, gone, {}); }
     static Operator ring_in(Loop ring, Face face) { return of_ring(Kind::ring_in, face, {}, ring); }
 
-    Result<void> give(Attempts &bench) const
+    void give(Bench &bench) const
     {
         const HalfEdge half(first.code());
         switch (kind) {

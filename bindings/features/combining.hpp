@@ -20,11 +20,11 @@ struct Part {
 
 /// The faces of a solid whose boxes meet a box. Rings of theirs whose boxes don't are left out where the face looks the same way without them, and
 /// not all are wanted.
-inline Part part_near(const Attempts &bench, const Surface &surface, Solid solid, const Box &box, bool all_rings)
+inline Part part_near(const Bench &bench, const Surface &surface, Solid solid, const Box &box, bool all_rings)
 {
     Part found{{solid, {}, {}, {}, {}, {}}, {}};
     for (const auto &[face, near] : surface.loops_near(box)) {
-        const Loop outer = bench.face(face)->outer_loop;
+        const Loop outer = bench.face(face).outer_loop;
         if (!std::binary_search(near.begin(), near.end(), outer))
             continue;
         const FacePlane *plane = surface.plane(face);
@@ -48,24 +48,19 @@ inline Part part_near(const Attempts &bench, const Surface &surface, Solid solid
 constexpr Wide steepest = Wide{farthest} * farthest;
 
 /// The faces of a model as sheets. Refused: NotFlat: a face has no area, a lone loop or an edge without a length.
-inline Result<std::vector<Sheet>> sheets_of(const Model &model)
+inline std::vector<Sheet> sheets_of(const Model &model)
 {
     std::vector<Sheet> sheets;
     for (const auto &[face, loops] : model.faces) {
         go_on();
         const HeldFace held = model.held(face);
-        Vector sum{};
-        bool has_lengths = true;
-        for (const Cycle &cycle : held.cycles) {
-            has_lengths = has_lengths && !cycle.empty();
-            for (const Side &side : cycle) {
-                sum = add(sum, cross(subtract(side.start, cycle[0].start), subtract(side.end, cycle[0].start)));
-                has_lengths = has_lengths && side.start != side.end;
-            }
-        }
-        if (!has_lengths || is_zero(sum) || longest(reduced(sum)) > steepest)
-            return refused(GWB_WHY_NOT_FLAT, face.number());
-        sheets.push_back({face, reduced(sum), held.cycles, no_mark});
+        const bool has_lengths = std::all_of(held.cycles.begin(), held.cycles.end(), [](const Cycle &cycle) {
+            return !cycle.empty() && std::all_of(cycle.begin(), cycle.end(), [](const Side &side) { return side.start != side.end; });
+        });
+        const Vector across = area_of(held.cycles);
+        if (!has_lengths || is_zero(across) || longest(reduced(across)) > steepest)
+            throw refused(GWB_WHY_NOT_FLAT, face.number());
+        sheets.push_back({face, reduced(across), held.cycles, no_mark});
     }
     return sheets;
 }
@@ -98,7 +93,7 @@ struct Combined {
 };
 
 /// Whether a model has all faces of a solid.
-inline bool has_all(const Attempts &bench, const Model &model, Solid solid)
+inline bool has_all(const Bench &bench, const Model &model, Solid solid)
 {
     for (Face face : bench.faces(solid))
         if (model.faces.count(face) == 0)
@@ -107,17 +102,17 @@ inline bool has_all(const Attempts &bench, const Model &model, Solid solid)
 }
 
 /// The solid of held sheets with the others added. Not possible: OffLattice; NothingLeft; what the caller says where they make no faces.
-inline Result<Combined> combined(const Attempts &bench, Solid solid, const Held &held, const std::vector<Sheet> &sheets,
-                                 const std::vector<Sheet> &added, AllNames &names, const Failure &why)
+inline Combined combined(const Bench &bench, Solid solid, const Held &held, const std::vector<Sheet> &sheets,
+                         const std::vector<Sheet> &added, AllNames &names, const Failure &why)
 {
-    Result<std::vector<Region>> regions = overlaid(sheets, added);
+    Result<std::vector<Region>> regions = tried([&] { return overlaid(sheets, added); });
     if (!regions)
-        return regions.error().is(Misfit::off_lattice) ? regions.error() : why;
+        throw regions.error().is(Misfit::off_lattice) ? regions.error() : why;
     if (regions->empty() && has_all(bench, held.model, solid))
-        return impossible(Misfit::nothing_left, solid.number());
+        throw impossible(Misfit::nothing_left, solid.number());
     std::optional<Made> made = Assembly(held, *regions, names).made(solid);
     if (!made)
-        return why;
+        throw why;
     return Combined{std::move(*regions), std::move(*made)};
 }
 
@@ -156,7 +151,7 @@ inline bool has_contact(std::initializer_list<const Model *> before, const Model
 
 /// The operators that move rings of a face that weren't looked at to those faces that it went into in which they lie; none where all corners of one
 /// lie on outlines.
-inline std::optional<std::vector<Operator>> moves(const Attempts &bench, const Surface &surface, const Part &part, const Combined &combined,
+inline std::optional<std::vector<Operator>> moves(const Bench &bench, const Surface &surface, const Part &part, const Combined &combined,
                                                   Face face)
 {
     std::vector<std::pair<Face, Shape>> regions;
@@ -187,7 +182,7 @@ inline std::optional<std::vector<Operator>> moves(const Attempts &bench, const S
 
 /// The operators that turn a part of a solid into what comes of it; none where they aren't of the kind, or rings that weren't looked at are in
 /// the way.
-inline std::optional<std::vector<Operator>> operators_for(const Attempts &bench, const Surface &surface, const Part &part, const Combined &combined,
+inline std::optional<std::vector<Operator>> operators_for(const Bench &bench, const Surface &surface, const Part &part, const Combined &combined,
                                                           AllNames &names)
 {
     std::vector<Face> split;
@@ -217,9 +212,9 @@ inline void follow(Surface &surface, const Model &part, const Model &made, const
             surface.forget(loop);
     }
     for (const auto &[face, loops] : made.faces) {
+        const std::vector<Cycle> cycles = made.held(face).cycles;
         std::vector<Path> paths;
-        for (const Cycle &cycle : made.held(face).cycles)
-            std::transform(cycle.begin(), cycle.end(), std::back_inserter(paths.emplace_back()), [](const Side &side) { return side.start; });
+        std::transform(cycles.begin(), cycles.end(), std::back_inserter(paths), points_of);
         surface.put(face, paths, loops);
     }
     for (const Operator &made_by : operators)
@@ -227,46 +222,42 @@ inline void follow(Surface &surface, const Model &part, const Model &made, const
             surface.move(made_by.loop, made_by.face);
 }
 
-inline Result<void> give(Attempts &bench, const std::vector<Operator> &operators)
+inline void give(Bench &bench, const std::vector<Operator> &operators)
 {
     for (const Operator &one : operators) {
         go_on();
-        if (const Result<void> done = one.give(bench); !done)
-            return done;
+        one.give(bench);
     }
-    return {};
 }
 
 /// A solid goes, and another one comes.
-inline Result<void> give_anew(Attempts &bench, Solid solid, const Model &model)
+inline void give_anew(Bench &bench, Solid solid, const Model &model)
 {
-    const Result<void> gone = taken_away(bench, solid);
-    return gone ? bench.load(model.listing()) : gone;
+    take_away(bench, solid);
+    bench.load(model.listing());
 }
 
 /// Makes what comes of the faces of a solid near a box: by operators on those that differ, without the rings elsewhere, else with all rings; where
 /// that can't be, all of the solid is made anew. `combine` makes it of the part that it is given, and `before` gives what comes first.
-template <class Combine, class Before> Result<Combined> make_near(Attempts &bench, Solid solid, const Box &box, Combine combine, Before before)
+template <class Combine, class Before> Combined make_near(Bench &bench, Solid solid, const Box &box, Combine combine, Before before)
 {
     Surroundings &known = Surroundings::of(bench);
     for (bool all_rings = false;; all_rings = true) {
         const Surface &surface = known.surface(bench, solid);
         const Part part = part_near(bench, surface, solid, box, all_rings);
         AllNames names(bench);
-        Result<Combined> found = combine(part, names);
-        if (!found)
-            return found;
-        const auto operators = operators_for(bench, surface, part, *found, names);
+        Combined found = combine(part, names);
+        const auto operators = operators_for(bench, surface, part, found, names);
         if (!operators && !part.fast.empty())
             continue;
-        const Model after = operators ? Model() : Model::whole(bench, solid).with(part.model, found->made.model);
-        Result<void> done = before();
-        if (done)
-            done = operators ? give(bench, *operators) : give_anew(bench, solid, after);
-        if (!done)
-            return done.error();
-        if (operators)
-            known.follow(bench, solid, [&](Surface &of) { follow(of, part.model, found->made.model, *operators); });
+        const Model after = operators ? Model() : Model::whole(bench, solid).with(part.model, found.made.model);
+        before();
+        if (!operators) {
+            give_anew(bench, solid, after);
+            return found;
+        }
+        give(bench, *operators);
+        known.follow(bench, solid, [&](Surface &of) { follow(of, part.model, found.made.model, *operators); });
         return found;
     }
 }

@@ -26,9 +26,7 @@ public:
     {
         for (const Cycle &cycle : cycles) {
             sides_.insert(sides_.end(), cycle.begin(), cycle.end());
-            Path points;
-            for (const Side &side : cycle)
-                points.push_back(side.start);
+            const Path points = points_of(cycle);
             loops_.emplace_back(Box::around(points), outline(cycle, axes_));
             points_.insert(points_.end(), points.begin(), points.end());
         }
@@ -47,14 +45,9 @@ public:
     /// Where a point of the plane lies: within an odd number of loops, of which those with a box around it count.
     [[nodiscard]] Place locate(const ScaledPoint &point) const
     {
-        bool is_within = false;
-        for (const auto &[box, loop] : loops_) {
-            const Place place = point.lies_in(box) ? exact::locate(loop, point.spot(axes_)) : Place::outside;
-            if (place == Place::on)
-                return place;
-            is_within = is_within != (place == Place::inside);
-        }
-        return is_within ? Place::inside : Place::outside;
+        return locate_in(loops_, [&](const auto &loop) {
+            return point.lies_in(loop.first) ? exact::locate(loop.second, point.spot(axes_)) : Place::outside;
+        });
     }
 
     /// Where the segment meets the plane on whose two sides its ends lie.
@@ -103,8 +96,7 @@ public:
     {
         if (are_parallel(across_, other.across_) || !is_cut_by(other) || !other.is_cut_by(*this))
             return false;
-        const Axes axes = flat_axes(cross(across_, other.across_));
-        const std::size_t axis = 3 - axes[0] - axes[1];
+        const std::size_t axis = widest(cross(across_, other.across_));
         const auto one = spans(other, axis), beyond = other.spans(*this, axis);
         return std::any_of(one.begin(), one.end(), [&](const Span &span) {
             return std::any_of(beyond.begin(), beyond.end(), [&](const Span &beside) {
@@ -285,21 +277,14 @@ private:
     template <class Start> void take(const HeldFace &face, const Box &box, Start start)
     {
         std::vector<Cycle> near;
-        for (const Cycle &cycle : face.cycles) {
-            Path points;
-            for (const Side &side : cycle)
-                points.push_back(side.start);
-            if (near.empty() || Box::around(points).meets(box))
+        for (const Cycle &cycle : face.cycles)
+            if (near.empty() || Box::around(points_of(cycle)).meets(box))
                 near.push_back(cycle);
-        }
-        Vector sum{};
         for (const Cycle &cycle : near)
-            for (const Side &side : cycle) {
-                sum = add(sum, cross(subtract(side.start, near[0][0].start), subtract(side.end, near[0][0].start)));
+            for (const Side &side : cycle)
                 take(side, face.face, box, start);
-            }
-        if (!is_zero(sum))
-            if (Shape shape(near, reduced(sum)); shape.is_flat())
+        if (const Vector across = area_of(near); !is_zero(across))
+            if (Shape shape(near, reduced(across)); shape.is_flat())
                 faces_.push_back({face.face, shape, shape.box()});
     }
     template <class Start> void take(const Side &side, Face face, const Box &box, Start start)

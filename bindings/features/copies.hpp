@@ -92,7 +92,7 @@ struct Numbering {
 /// Free numbers for a model.
 class AllFree {
 public:
-    AllFree(const Attempts &bench, const Model &model)
+    AllFree(const Bench &bench, const Model &model)
         : solids_(bench, 1), faces_(bench, model.faces.size() + 1), loops_(bench, model.loops.size() + model.lone.size() + 1),
           edges_(bench, model.edges.size() + 1), vertices_(bench, model.vertices.size())
     {
@@ -104,20 +104,19 @@ public:
     Vertex operator()(Vertex) { return Vertex(vertices_.take()); }
 
     /// Refuses a kind of which no number was left.
-    [[nodiscard]] Result<void> require_enough() const
+    void require_enough() const
     {
         std::uint32_t kind = GWB_SOLID;
         for (bool is_spent : {solids_.is_spent(), faces_.is_spent(), loops_.is_spent(), edges_.is_spent(), vertices_.is_spent()})
             if (kind++; is_spent)
-                return refused(GWB_WHY_NUMBERS_SPENT, kind);
-        return {};
+                throw refused(GWB_WHY_NUMBERS_SPENT, kind);
     }
-    /// That none was left for what comes on the way and goes again.
-    [[nodiscard]] Failure spent_on_the_way()
+    /// Throws that none was left for what comes on the way and goes again.
+    [[noreturn]] void fail_on_the_way()
     {
         (void)(*this)(Face()), (void)(*this)(Loop()), (void)(*this)(Edge());
-        const Result<void> enough = require_enough();
-        return enough ? refused(GWB_WHY_NUMBERS_SPENT, GWB_FACE + 1U) : enough.error();
+        require_enough();
+        throw refused(GWB_WHY_NUMBERS_SPENT, GWB_FACE + 1U);
     }
 
 private:
@@ -129,7 +128,7 @@ private:
 };
 
 /// All numbers in use of a kind as low as they can be, in their order, by what they are.
-template <class Kind> std::map<Kind, Kind> ranked(const Attempts &bench)
+template <class Kind> std::map<Kind, Kind> ranked(const Bench &bench)
 {
     std::map<Kind, Kind> ranks;
     for (Kind old : bench.numbers<Kind>())
@@ -140,10 +139,10 @@ template <class Kind> std::map<Kind, Kind> ranked(const Attempts &bench)
 // ---- models
 
 /// A solid as a model. Refused as kvfs, where there is none.
-inline Result<Model> read(Attempts &bench, Solid solid)
+inline Model read(Bench &bench, Solid solid)
 {
     if (bench.faces(solid).empty())
-        return bench.kvfs(solid).error();
+        bench.kvfs(solid);
     return Model::whole(bench, solid);
 }
 
@@ -177,65 +176,47 @@ inline Model placed(const Model &model, const Placing &placing, const Numbering 
 }
 
 /// Refuses a place in which a point would lie out of range, with the least vertex.
-inline Result<void> require_in_range(const Model &model, const Placing &placing)
+inline void require_in_range(const Model &model, const Placing &placing)
 {
     for (const auto &[vertex, at] : model.vertices)
         if (!is_in_range(vector(placing(point(at)))))
-            return refused(GWB_WHY_POINT_RANGE, vertex.number());
-    return {};
+            throw refused(GWB_WHY_POINT_RANGE, vertex.number());
 }
 
 /// A new solid, that is a model elsewhere; its numbers are above all in use, as long as there are any. Refused: PointRange; NumbersSpent.
-inline Result<Solid> make(Attempts &bench, const Model &model, const Placing &placing, Lists &lists)
+inline Solid make(Bench &bench, const Model &model, const Placing &placing, Lists &lists)
 {
-    const Result<void> lies = require_in_range(model, placing);
-    if (!lies)
-        return lies.error();
+    require_in_range(model, placing);
     AllFree free(bench, model);
     const Solid solid = free(model.solid);
     const Numbering numbers = Numbering::of(model, free);
-    if (const Result<void> enough = free.require_enough(); !enough)
-        return enough.error();
-    const Result<void> made = bench.load(placed(model, placing, numbers, solid).listing());
+    free.require_enough();
+    const Result<void> made = bench.attempt().load(placed(model, placing, numbers, solid).listing());
+    if (made.error().is(GWB_WHY_NUMBER_RANGE))
+        free.fail_on_the_way();
     if (!made)
-        return made.error().is(GWB_WHY_NUMBER_RANGE) ? free.spent_on_the_way() : made.error();
+        throw made.error();
     numbers.tell(lists);
     return solid;
 }
 
 /// A solid lies elsewhere, with the numbers that it has. Refused: PointRange.
-inline Result<void> replace(Attempts &bench, const Model &model, const Placing &placing)
+inline void replace(Bench &bench, const Model &model, const Placing &placing)
 {
-    Result<void> done = require_in_range(model, placing);
-    if (done)
-        done = taken_away(bench, model.solid);
-    const auto same = [](auto number) { return number; };
-    return done ? bench.load(placed(model, placing, Numbering::of(model, same), model.solid).listing()) : done;
+    require_in_range(model, placing);
+    take_away(bench, model.solid);
+    bench.load(placed(model, placing, Numbering::of(model, [](auto number) { return number; }), model.solid).listing());
 }
 
 // ---- features
 
-/// A new solid, that is another moved.
-inline Result<Solid> copied(Attempts &bench, Solid solid, const Motion &motion, Lists &lists)
-{
-    const Result<Model> model = read(bench, solid);
-    return model ? make(bench, *model, {motion}, lists) : model.error();
-}
-
 /// So many solids, of which one is the first, each placed by its place after it: those that are new.
-template <class Place>
-Result<std::vector<Solid>> patterned(Attempts &bench, Solid solid, std::uint32_t count, Place place, Lists &lists)
+template <class Place> std::vector<Solid> patterned(Bench &bench, Solid solid, std::uint32_t count, Place place, Lists &lists)
 {
-    const Result<Model> model = read(bench, solid);
-    if (!model)
-        return model.error();
+    const Model model = read(bench, solid);
     std::vector<Solid> row;
-    for (std::uint32_t at = 1; at < count; at++) {
-        const Result<Solid> made = make(bench, *model, {place(at)}, lists);
-        if (!made)
-            return made.error();
-        row.push_back(*made);
-    }
+    for (std::uint32_t at = 1; at < count; at++)
+        row.push_back(make(bench, model, {place(at)}, lists));
     return row;
 }
 
@@ -249,14 +230,7 @@ inline Motion turn(std::uint32_t axis, std::uint32_t quarters, const gwb_point &
     return Motion::move({-way.x, -way.y, -way.z}).then(Motion::quarter_turns(axis, quarters)).then(Motion::move(way));
 }
 
-/// The solid lies elsewhere.
-inline Result<void> moved(Attempts &bench, Solid solid, const Motion &motion)
-{
-    const Result<Model> model = read(bench, solid);
-    return model ? replace(bench, *model, {motion}) : Result<void>(model.error());
-}
-
-inline std::vector<Model> all_read(const Attempts &bench)
+inline std::vector<Model> all_read(const Bench &bench)
 {
     std::vector<Model> models;
     for (Solid solid : bench.numbers<Solid>())
@@ -265,28 +239,24 @@ inline std::vector<Model> all_read(const Attempts &bench)
 }
 
 /// All solids so many times as large, with the numbers that they have.
-inline Result<void> all_scaled(Attempts &bench, std::int64_t factor)
+inline void scale_all(Bench &bench, std::int64_t factor)
 {
     for (const Model &model : all_read(bench))
-        if (const Result<void> done = replace(bench, model, Placing::scaled(factor)); !done)
-            return done;
-    return {};
+        replace(bench, model, Placing::scaled(factor));
 }
 
 /// All numbers become as low as they can be, in their order.
-inline Result<void> renumbered(Attempts &bench, Lists &lists)
+inline void renumber(Bench &bench, Lists &lists)
 {
     const std::vector<Model> models = all_read(bench);
     const std::map<Solid, Solid> solids = ranked<Solid>(bench);
     const Numbering numbers{ranked<Face>(bench), ranked<Loop>(bench), ranked<Edge>(bench), ranked<Vertex>(bench)};
     Numbering::tell(solids, lists[GWB_MADE_SOLIDS]);
     numbers.tell(lists);
-    Result<void> done;
-    for (std::size_t at = 0; at < models.size() && done; at++)
-        done = taken_away(bench, models[at].solid);
-    for (std::size_t at = 0; at < models.size() && done; at++)
-        done = bench.load(placed(models[at], Placing(), numbers, solids.at(models[at].solid)).listing());
-    return done;
+    for (const Model &model : models)
+        take_away(bench, model.solid);
+    for (const Model &model : models)
+        bench.load(placed(model, Placing(), numbers, solids.at(model.solid)).listing());
 }
 
 } // namespace gwb_session::copies

@@ -57,8 +57,8 @@ inline std::vector<Side> cuts_of(const Sheet &sheet, const Plane &plane)
     return found;
 }
 
-/// Puts in what is left of a face below the plane; false where its sides make no outline. A face in the plane is left where it looks upwards.
-inline bool put_below(const Sheet &sheet, const Plane &plane, std::vector<Sheet> &left)
+/// Puts in what is left of a face below the plane. A face in the plane is left where it looks upwards.
+inline void put_below(const Sheet &sheet, const Plane &plane, const Failure &why, std::vector<Sheet> &left)
 {
     const Path points = sheet.points();
     const bool is_below = std::any_of(points.begin(), points.end(), [&](const Vector &at) { return plane.height(at) < 0; });
@@ -66,14 +66,12 @@ inline bool put_below(const Sheet &sheet, const Plane &plane, std::vector<Sheet>
     if (!is_above && (is_below || dot(sheet.across, plane.across) > 0))
         left.push_back(sheet);
     if (!is_above || !is_below)
-        return true;
+        return;
     std::vector<Side> sides = sides_below(sheet, plane);
     const std::vector<Side> cuts = cuts_of(sheet, plane);
     sides.insert(sides.end(), cuts.begin(), cuts.end());
-    const auto regions = Traced(sides, sheet.across).regions();
-    for (const std::vector<Cycle> &cycles : regions.value_or(std::vector<std::vector<Cycle>>()))
+    for (const std::vector<Cycle> &cycles : regions_of(sides, sheet.across, why))
         left.push_back({sheet.owner, sheet.across, cycles, no_mark});
-    return regions.has_value();
 }
 
 /// The sides in the plane that have no other beside them, turned round.
@@ -94,24 +92,20 @@ inline std::vector<Side> open_sides(const std::vector<Sheet> &left, const Plane 
 }
 
 /// The part of a solid below a plane, closed by caps, which are its faces that have marks.
-inline Result<Combined> part_below(const Held &held, const std::vector<Sheet> &sheets, const Plane &plane, Solid solid, AllNames &names)
+inline Combined part_below(const Held &held, const std::vector<Sheet> &sheets, const Plane &plane, Solid solid, AllNames &names)
 {
     const Failure meets = impossible(Misfit::meets, held.model.solid.number());
     std::vector<Sheet> left, caps;
     for (const Sheet &sheet : sheets) {
         go_on();
-        if (!put_below(sheet, plane, left))
-            return meets;
+        put_below(sheet, plane, meets, left);
     }
-    const auto regions = Traced(open_sides(left, plane), plane.across).regions();
-    for (const std::vector<Cycle> &cycles : regions.value_or(std::vector<std::vector<Cycle>>()))
+    for (const std::vector<Cycle> &cycles : regions_of(open_sides(left, plane), plane.across, meets))
         caps.push_back({Face(), reduced(plane.across), cycles, caps.size()});
-    Result<std::vector<Region>> laid = overlaid(left, caps);
-    if (!regions || !laid)
-        return meets;
-    std::optional<Made> made = Assembly(held, *laid, names).made(solid);
+    Result<std::vector<Region>> laid = tried([&] { return overlaid(left, caps); });
+    std::optional<Made> made = laid ? Assembly(held, *laid, names).made(solid) : std::nullopt;
     if (!made)
-        return meets;
+        throw meets;
     return Combined{std::move(*laid), std::move(*made)};
 }
 
@@ -127,12 +121,12 @@ inline std::vector<Face> caps_of(const Combined &part)
 // ---- what is cut
 
 /// The corners of a solid that lie in a plane.
-inline Path corners_in(const Attempts &bench, Solid solid, const Plane &plane)
+inline Path corners_in(const Bench &bench, Solid solid, const Plane &plane)
 {
     Path found;
     for (const gwb_half_edge_row &row : bench.half_edge_rows(solid)) {
         go_on();
-        if (const Vector at = vector(*bench.vertex(Vertex(row.start))); plane.height(at) == 0)
+        if (const Vector at = vector(bench.vertex(Vertex(row.start))); plane.height(at) == 0)
             found.push_back(at);
     }
     return found;
@@ -140,10 +134,10 @@ inline Path corners_in(const Attempts &bench, Solid solid, const Plane &plane)
 
 /// Refuses parts of a solid, each on one side of a plane, of which one meets or touches itself as the solid didn't: it does so where corners of the
 /// solid lie in the plane.
-inline Result<void> require_apart(const Model &before, const Path &corners, std::initializer_list<const Model *> parts)
+inline void require_apart(const Model &before, const Path &corners, std::initializer_list<const Model *> parts)
 {
     if (corners.empty())
-        return {};
+        return;
     const Box box = Box::around(corners);
     std::set<Findings::Finding> found;
     for (const Model *part : parts)
@@ -151,7 +145,8 @@ inline Result<void> require_apart(const Model &before, const Path &corners, std:
     if (!found.empty())
         for (const Findings::Finding &known : findings_near(before, box))
             found.erase(known);
-    return found.empty() ? Result<void>() : Result<void>(impossible(Misfit::meets, before.solid.number()));
+    if (!found.empty())
+        throw impossible(Misfit::meets, before.solid.number());
 }
 
 /// Whether another way of cutting copes with what split was refused for.
@@ -162,7 +157,7 @@ inline bool is_coped_with(const Failure &failure)
 }
 
 /// The faces of a solid above a number that lie in a plane.
-inline std::vector<Face> faces_in(const Attempts &bench, Solid solid, Face above, const Plane &plane)
+inline std::vector<Face> faces_in(const Bench &bench, Solid solid, Face above, const Plane &plane)
 {
     std::vector<Face> found;
     for (Face face : bench.faces(solid)) {
@@ -179,74 +174,66 @@ inline std::vector<Face> faces_in(const Attempts &bench, Solid solid, Face above
 }
 
 /// The command split, and the caps.
-inline Result<Split> split(Attempts &bench, Solid solid, const Plane &plane, Solid above)
+inline Split split(Bench &bench, Solid solid, const Plane &plane, Solid above)
 {
-    const Face before = *bench.greatest<Face>();
+    const Face before = bench.greatest<Face>();
     const gwb_cut_plane row = plane.row();
-    const Result<void> done = bench.split(solid, row.a, row.b, row.c, row.d, above);
-    if (!done)
-        return done.error();
+    bench.split(solid, row.a, row.b, row.c, row.d, above);
     Split made{above, faces_in(bench, solid, before, plane), {}};
     made.upper_caps = faces_in(bench, above, before, plane);
     return made;
 }
 
 /// Cuts a solid by split. What lies above may not be wanted.
-inline Result<Split> cut_at_once(Attempts &bench, Solid solid, const Plane &plane, const Path &corners, Solid above, bool is_wanted)
+inline Split cut_at_once(Bench &bench, Solid solid, const Plane &plane, const Path &corners, Solid above, bool is_wanted)
 {
     const Model before = corners.empty() ? Model() : Model::whole(bench, solid);
-    Result<Split> caps = split(bench, solid, plane, above);
-    if (!caps)
-        return caps;
+    Split caps = split(bench, solid, plane, above);
     if (!corners.empty()) {
         const Model lower = Model::whole(bench, solid), upper = is_wanted ? Model::whole(bench, above) : Model();
-        if (const Result<void> apart = require_apart(before, corners, {&lower, &upper}); !apart)
-            return apart.error();
+        require_apart(before, corners, {&lower, &upper});
     }
-    if (is_wanted)
-        return caps;
-    caps->upper_caps.clear();
-    const Result<void> gone = taken_away(bench, above);
-    return gone ? caps : gone.error();
+    if (!is_wanted) {
+        caps.upper_caps.clear();
+        take_away(bench, above);
+    }
+    return caps;
 }
 
 /// Cuts a solid face by face, alike.
-inline Result<Split> cut_by_faces(Attempts &bench, Solid solid, const Plane &plane, const Path &corners, Solid above, bool is_wanted)
+inline Split cut_by_faces(Bench &bench, Solid solid, const Plane &plane, const Path &corners, Solid above, bool is_wanted)
 {
     const Held held(bench, Model::whole(bench, solid));
-    const Result<std::vector<Sheet>> sheets = sheets_of(held.model);
-    if (!sheets)
-        return sheets.error();
+    const std::vector<Sheet> sheets = sheets_of(held.model);
     AllNames names(bench);
-    const Result<Combined> lower = part_below(held, *sheets, plane, solid, names);
-    if (!lower)
-        return lower.error();
-    Result<Combined> upper = Combined();
+    const Combined lower = part_below(held, sheets, plane, solid, names);
+    Combined upper;
     if (is_wanted)
-        upper = part_below(held, *sheets, plane.turned(), above, names);
-    if (!upper)
-        return upper.error();
-    Result<void> done = require_apart(held.model, corners, {&lower->made.model, &upper->made.model});
-    if (!done)
-        return done.error();
+        upper = part_below(held, sheets, plane.turned(), above, names);
+    require_apart(held.model, corners, {&lower.made.model, &upper.made.model});
     const std::set<Face> fast;
-    const auto operators = changing::operators_between({held.model, lower->made.model, fast}, names);
-    done = operators ? give(bench, *operators) : give_anew(bench, solid, lower->made.model);
-    if (done && is_wanted)
-        done = bench.load(upper->made.model.listing());
-    if (!done)
-        return done.error();
-    Split made{above, caps_of(*lower), {}};
-    made.upper_caps = caps_of(*upper);
+    const auto operators = changing::operators_between({held.model, lower.made.model, fast}, names);
+    if (operators)
+        give(bench, *operators);
+    else
+        give_anew(bench, solid, lower.made.model);
+    if (is_wanted)
+        bench.load(upper.made.model.listing());
+    Split made{above, caps_of(lower), {}};
+    made.upper_caps = caps_of(upper);
     return made;
 }
 
 /// What lies above a plane becomes another solid, or goes where it isn't wanted.
-inline Result<Split> cut(Attempts &bench, Solid solid, const Plane &plane, Solid above, bool is_wanted)
+inline Split cut(Bench &bench, Solid solid, const Plane &plane, Solid above, bool is_wanted)
 {
     const Path corners = corners_in(bench, solid, plane);
-    const Result<Split> caps = cut_at_once(bench, solid, plane, corners, above, is_wanted);
-    return caps || !is_coped_with(caps.error()) ? caps : cut_by_faces(bench, solid, plane, corners, above, is_wanted);
+    const Result<Split> caps = tried([&] { return cut_at_once(bench, solid, plane, corners, above, is_wanted); });
+    if (is_coped_with(caps.error()))
+        return cut_by_faces(bench, solid, plane, corners, above, is_wanted);
+    if (!caps)
+        throw caps.error();
+    return *caps;
 }
 
 } // namespace gwb_session::cuts

@@ -45,16 +45,14 @@ constexpr std::array<std::int64_t, 2> corner(std::uint32_t place, std::uint32_t 
 }
 
 /// The corners of the polygon around a center in a face across an axis. Refused: NoFace, NotFlat. Not possible: NotAcross.
-inline Result<std::vector<Point>> polygon(const Attempts &bench, Face face, Point center, std::int64_t radius, std::uint32_t sides)
+inline std::vector<Point> polygon(const Bench &bench, Face face, Point center, std::int64_t radius, std::uint32_t sides)
 {
-    const Result<machining::FacePlane> plane = machining::plane_of(bench, face);
-    if (!plane)
-        return plane.error();
-    const Vector &across = plane->across();
+    const machining::FacePlane plane = machining::plane_of(bench, face);
+    const Vector &across = plane.across();
     if (std::count(across.begin(), across.end(), 0) != 2)
-        return machining::impossible(Misfit::not_across, face.number());
+        throw machining::impossible(Misfit::not_across, face.number());
     if (!is_in_range(vector(center)) || radius > 2 * farthest)
-        return machining::refused(GWB_WHY_POINT_RANGE, 0);
+        throw machining::refused(GWB_WHY_POINT_RANGE, 0);
     const std::size_t axis = across[0] != 0 ? 0 : across[1] != 0 ? 1 : 2;
     std::vector<Point> points;
     for (std::uint32_t place = 0; place < sides; place++) {
@@ -68,19 +66,15 @@ inline Result<std::vector<Point>> polygon(const Attempts &bench, Face face, Poin
 }
 
 /// A hole through the solid of a face, or of a depth.
-inline Result<Hole> drill(Attempts &bench, Face face, Point center, std::int64_t radius, std::uint32_t sides, std::int64_t depth)
+inline Hole drill(Bench &bench, Face face, Point center, std::int64_t radius, std::uint32_t sides, std::int64_t depth)
 {
     if (radius < 1 || sides < 3 || sides > most_sides || depth < 0)
-        return machining::refused(GWB_WHY_SIZE_RANGE, radius < 1 ? 1 : depth < 0 ? 3 : 2);
-    Result<std::vector<Point>> points = polygon(bench, face, center, radius, sides);
-    if (!points)
-        return points.error();
+        throw machining::refused(GWB_WHY_SIZE_RANGE, radius < 1 ? 1 : depth < 0 ? 3 : 2);
+    std::vector<Point> points = polygon(bench, face, center, radius, sides);
     if (depth == 0)
-        return machining::make_hole(bench, face, *points);
-    Result<Pocket> made = machining::raise(bench, face, *points, -depth);
-    if (!made)
-        return made.error();
-    return Hole{made->face, made->loop, std::move(made->sides), std::move(*points)};
+        return machining::make_hole(bench, face, points);
+    Pocket made = machining::raise(bench, face, points, -depth);
+    return Hole{made.face, made.loop, std::move(made.sides), std::move(points)};
 }
 
 } // namespace gwb_session::drilling

@@ -122,15 +122,21 @@ inline Vector area_vector(const std::vector<Vector> &points)
     return sum;
 }
 
+/// The axis along which a vector is longest.
+constexpr std::size_t widest(const Vector &a)
+{
+    std::size_t found = 0;
+    for (std::size_t axis = 1; axis < 3; axis++)
+        if (magnitude(a[axis]) > magnitude(a[found]))
+            found = axis;
+    return found;
+}
+
 /// The axes in which a plane with this normal is seen from its front, undistorted enough to be exact.
 constexpr Axes flat_axes(const Vector &normal)
 {
-    std::size_t widest = 0;
-    for (std::size_t axis = 1; axis < 3; axis++)
-        if (magnitude(normal[axis]) > magnitude(normal[widest]))
-            widest = axis;
-    const std::size_t first = (widest + 1) % 3, second = (widest + 2) % 3;
-    return normal[widest] > 0 ? Axes{first, second} : Axes{second, first};
+    const std::size_t away = widest(normal), first = (away + 1) % 3, second = (away + 2) % 3;
+    return normal[away] > 0 ? Axes{first, second} : Axes{second, first};
 }
 
 /// The least box around points.
@@ -304,6 +310,19 @@ inline Place locate(const Outline &sides, const Spot &point)
         const bool is_above = side.start.y * point.scale > point.y;
         if (is_above != (side.end.y * point.scale > point.y) && (side.turn(point) > 0) == (side.end.y > side.start.y))
             is_within = !is_within;
+    }
+    return is_within ? Place::inside : Place::outside;
+}
+
+/// Where a point lies against all of some loops, of each of which a function tells it: within an odd number of them, or on one.
+template <class Loops, class Of> Place locate_in(const Loops &loops, Of of)
+{
+    bool is_within = false;
+    for (const auto &loop : loops) {
+        const Place place = of(loop);
+        if (place == Place::on)
+            return place;
+        is_within = is_within != (place == Place::inside);
     }
     return is_within ? Place::inside : Place::outside;
 }

@@ -66,8 +66,8 @@ struct Known : machining::Surroundings {
 };
 
 /// The calls of a session that something else holds.
-struct Shared : Attempts {
-    explicit Shared(std::shared_ptr<State> state) : Attempts(std::move(state)) {}
+struct Shared : Bench {
+    explicit Shared(std::shared_ptr<State> state) : Commands(std::move(state)) {}
 };
 
 /// A session in the place of a handle, which is closed meanwhile.
@@ -77,7 +77,7 @@ public:
     Borrowed(const Borrowed &) = delete;
     Borrowed &operator=(const Borrowed &) = delete;
     ~Borrowed() { *g_ = std::exchange(state_->handle, gwb{}); }
-    [[nodiscard]] Attempts &bench() { return bench_; }
+    [[nodiscard]] Bench &bench() { return bench_; }
 
 private:
     gwb *g_;
@@ -92,7 +92,7 @@ public:
     Lent(const Lent &) = delete;
     Lent &operator=(const Lent &) = delete;
     ~Lent() { state_->handle = gwb{}; }
-    [[nodiscard]] const Attempts &bench() const { return bench_; }
+    [[nodiscard]] const Bench &bench() const { return bench_; }
 
 private:
     std::shared_ptr<State> state_;
@@ -111,43 +111,18 @@ gwb_kind told(const Failure &failure, gwb_refusal *why)
     }
 }
 
-/// Makes something as one command, in the heap of the session, and then puts it where the caller wants it.
-template <class Make, class Put> gwb_kind made_at_once(gwb *g, gwb_refusal *why, Make make, Put put)
-{
-    const struct beside &of = *beside_of(g);
-    Known &known = Known::at(*beside_of(g));
-    const std::uint64_t before = of.changes;
-    const bool was_known = known.is_of(before);
-    known.clear();
-    using Made = decltype(make(std::declval<Attempts &>(), known));
-    const Made made = [&]() -> Made {
-        Borrowed session(g);
-        Together commands(session.bench());
-        Result<void> done = commands.begun();
-        Made found = done ? make(session.bench(), known) : Made(done.error());
-        if (found) // nothing takes memory from here on
-            done = commands.keep();
-        if (!done)
-            found = Made(done.error());
-        return found;
-    }();
-    if (!made && was_known && known.is_of(before)) // it is again what it was
-        known.is_again(of.changes);
-    if (!made)
-        return told(made.error(), why);
-    put(*made);
-    return GWB_OK;
-}
-
 /// Answers for what a call throws, while its caller may end it.
-template <class Call> gwb_kind guarded(const gwb *g, Call call) noexcept
+template <class Call> gwb_kind guarded(const gwb *g, gwb_refusal *why, Call call) noexcept
 {
     if (!gwb_is_open(g))
         return GWB_CLOSED;
     const gwb session = *g; // which is not where it was, while something is made
     const Making making(session);
     try {
-        return call();
+        call();
+        return GWB_OK;
+    } catch (const Failure &failure) {
+        return told(failure, why);
     } catch (const EndedByCaller &) {
         return GWB_STOPPED;
     } catch (const std::bad_alloc &) {
@@ -155,15 +130,40 @@ template <class Call> gwb_kind guarded(const gwb *g, Call call) noexcept
     }
 }
 
+/// Makes something as one command, and then puts it where the caller wants it.
+template <class Make, class Put> void make_at_once(gwb *g, Make make, Put put)
+{
+    const struct beside &of = *beside_of(g);
+    Known &known = Known::at(*beside_of(g));
+    const std::uint64_t before = of.changes;
+    const bool was_known = known.is_of(before);
+    known.clear();
+    try {
+        Borrowed session(g);
+        Together commands(session.bench());
+        const auto found = make(session.bench(), known);
+        commands.keep(); // nothing takes memory from here on
+        put(found);
+    } catch (const Failure &) {
+        if (was_known && known.is_of(before)) // it is again what it was
+            known.is_again(of.changes);
+        throw;
+    }
+}
+
+/// The same, in the heap of the session.
 template <class Make, class Put> gwb_kind made(gwb *g, gwb_refusal *why, Make make, Put put) noexcept
 {
     if (!gwb_is_open(g))
         return GWB_CLOSED;
     const gwb_heap *before = gwb_use_heap(beside_of(g)->heap);
-    const gwb_kind kind = guarded(g, [&] { return made_at_once(g, why, make, put); });
+    const gwb_kind kind = guarded(g, why, [&] { make_at_once(g, make, put); });
     gwb_use_heap(before);
     return kind;
 }
+
+/// What is answered to a call whose arguments make none.
+gwb_kind no_call(const gwb *g) { return gwb_is_open(g) ? GWB_NO_CALL : GWB_CLOSED; }
 
 template <class Kind> void write(const std::vector<Kind> &numbers, std::uint32_t *to)
 {
@@ -176,10 +176,10 @@ template <class Place>
 gwb_kind row_of(gwb *g, std::uint32_t solid, std::uint32_t count, Place place, std::uint32_t *solids, gwb_refusal *why)
 {
     if (count == 0)
-        return gwb_is_open(g) ? GWB_NO_CALL : GWB_CLOSED;
+        return no_call(g);
     return made(
         g, why,
-        [&](Attempts &bench, Known &known) { return copies::patterned(bench, Solid(solid), count, place, known.lists); },
+        [&](Bench &bench, Known &known) { return copies::patterned(bench, Solid(solid), count, place, known.lists); },
         [&](const std::vector<Solid> &row) { write(row, solids); });
 }
 
@@ -201,9 +201,10 @@ gwb_kind raised(gwb *g, std::uint32_t face, const gwb_point *points, std::size_t
 {
     return made(
         g, why,
-        [&](Attempts &bench, Known &) {
-            return length < 1 ? Result<Pocket>(machining::refused(GWB_WHY_SIZE_RANGE, 1))
-                              : machining::raise(bench, Face(face), items(points, n), is_pocket ? -length : length);
+        [&](Bench &bench, Known &) {
+            if (length < 1)
+                throw machining::refused(GWB_WHY_SIZE_RANGE, 1);
+            return machining::raise(bench, Face(face), items(points, n), is_pocket ? -length : length);
         },
         [&](const Pocket &made) {
             *out = {made.face.number(), made.loop.number()};
@@ -216,9 +217,9 @@ template <class Change> gwb_kind changed(gwb *g, gwb_refusal *why, Change change
 {
     return made(
         g, why,
-        [&](Attempts &bench, Known &known) -> Result<bool> {
-            const Result<void> done = change(bench, known.lists);
-            return done ? Result<bool>(true) : Result<bool>(done.error());
+        [&](Bench &bench, Known &known) {
+            change(bench, known.lists);
+            return true;
         },
         [](bool) {});
 }
@@ -232,13 +233,10 @@ void put(const std::vector<Face> &faces, std::vector<std::uint32_t> &list)
 /// A notch, slot, groove or shoulder.
 template <class Make> gwb_kind cut(gwb *g, gwb_refusal *why, Make make)
 {
-    return changed(g, why, [&](Attempts &bench, Lists &lists) -> Result<void> {
-        const Result<Notch> notch = make(bench);
-        if (!notch)
-            return notch.error();
-        put(notch->floor, lists[GWB_MADE_FLOOR]);
-        put(notch->walls, lists[GWB_MADE_WALLS]);
-        return {};
+    return changed(g, why, [&](Bench &bench, Lists &lists) {
+        const Notch notch = make(bench);
+        put(notch.floor, lists[GWB_MADE_FLOOR]);
+        put(notch.walls, lists[GWB_MADE_WALLS]);
     });
 }
 
@@ -247,7 +245,7 @@ template <class MakeTool>
 gwb_kind channel(gwb *g, std::uint32_t face, const gwb_point *start, const gwb_point *end, std::int64_t width, std::int64_t depth, MakeTool make,
                  gwb_refusal *why)
 {
-    return cut(g, why, [&](Attempts &bench) {
+    return cut(g, why, [&](Bench &bench) {
         return shaping::cut_in_face(bench, Face(face), {*start, *end}, {width, depth}, [&](const machining::Path &ends) {
             return make(bench, Face(face), ends, width, depth);
         });
@@ -257,13 +255,10 @@ gwb_kind channel(gwb *g, std::uint32_t face, const gwb_point *start, const gwb_p
 /// A split, cut or trim.
 template <class Make> gwb_kind parted(gwb *g, gwb_refusal *why, Make make)
 {
-    return changed(g, why, [&](Attempts &bench, Lists &lists) -> Result<void> {
-        const Result<Split> parts = make(bench);
-        if (!parts)
-            return parts.error();
-        put(parts->lower_caps, lists[GWB_MADE_LOWER_CAPS]);
-        put(parts->upper_caps, lists[GWB_MADE_UPPER_CAPS]);
-        return {};
+    return changed(g, why, [&](Bench &bench, Lists &lists) {
+        const Split parts = make(bench);
+        put(parts.lower_caps, lists[GWB_MADE_LOWER_CAPS]);
+        put(parts.upper_caps, lists[GWB_MADE_UPPER_CAPS]);
     });
 }
 
@@ -281,7 +276,7 @@ gwb_kind sloped(gwb *g, const std::uint32_t *edges, std::size_t n, std::int64_t 
 {
     return made(
         g, why,
-        [&](Attempts &bench, Known &) { return shaping::make_chamfers(bench, all_of<Edge>(edges, n), width, other); },
+        [&](Bench &bench, Known &) { return shaping::make_chamfers(bench, all_of<Edge>(edges, n), width, other); },
         [&](const std::vector<Face> &slopes) { write(slopes, faces); });
 }
 
@@ -298,15 +293,11 @@ template <class Row, class Items, class Of> std::size_t rows(const Items &items,
 template <class Query, class Find>
 gwb_kind sought(const gwb *g, const Query &query, Find find, std::uint32_t *buf, std::size_t room, std::size_t *count, gwb_refusal *why)
 {
-    return guarded(g, [&] {
+    if (!selection::is_query(query))
+        return no_call(g);
+    return guarded(g, why, [&] {
         const Lent session(g);
-        if (!selection::is_query(query))
-            return GWB_NO_CALL;
-        const auto found = find(session.bench(), query);
-        if (!found)
-            return told(found.error(), why);
-        *count = rows(*found, buf, room, [](auto number) { return number.number(); });
-        return GWB_OK;
+        *count = rows(find(session.bench(), query), buf, room, [](auto number) { return number.number(); });
     });
 }
 
@@ -332,23 +323,23 @@ std::size_t gwb_made(const gwb *g, std::uint32_t list, std::uint32_t *buf, std::
 
 gwb_kind gwb_kill_solid(gwb *g, std::uint32_t solid, gwb_refusal *why)
 {
-    return changed(g, why, [&](Attempts &bench, Lists &) { return taken_away(bench, Solid(solid)); });
+    return changed(g, why, [&](Bench &bench, Lists &) { take_away(bench, Solid(solid)); });
 }
 
 gwb_kind gwb_copy_solid(gwb *g, std::uint32_t solid, const gwb_motion *motion, std::uint32_t *out, gwb_refusal *why)
 {
     if (!copies::is_motion(*motion))
-        return gwb_is_open(g) ? GWB_NO_CALL : GWB_CLOSED;
+        return no_call(g);
     return made(
-        g, why, [&](Attempts &bench, Known &known) { return copies::copied(bench, Solid(solid), Motion(*motion), known.lists); },
+        g, why, [&](Bench &bench, Known &known) { return copies::make(bench, copies::read(bench, Solid(solid)), {Motion(*motion)}, known.lists); },
         [&](Solid made) { *out = made.number(); });
 }
 
 gwb_kind gwb_move_solid(gwb *g, std::uint32_t solid, const gwb_motion *motion, gwb_refusal *why)
 {
     if (!copies::is_motion(*motion))
-        return gwb_is_open(g) ? GWB_NO_CALL : GWB_CLOSED;
-    return changed(g, why, [&](Attempts &bench, Lists &) { return copies::moved(bench, Solid(solid), Motion(*motion)); });
+        return no_call(g);
+    return changed(g, why, [&](Bench &bench, Lists &) { copies::replace(bench, copies::read(bench, Solid(solid)), {Motion(*motion)}); });
 }
 
 gwb_kind gwb_pattern(gwb *g, std::uint32_t solid, std::uint32_t count, const gwb_point *step, std::uint32_t *solids, gwb_refusal *why)
@@ -361,58 +352,52 @@ gwb_kind gwb_pattern_around(gwb *g, std::uint32_t solid, std::uint32_t count, st
 {
     const bool are_apart = quarters == 2 ? count <= 2 : quarters % 2 == 1 && quarters < 4 && count <= 4;
     if (axis > 2 || !are_apart)
-        return gwb_is_open(g) ? GWB_NO_CALL : GWB_CLOSED;
+        return no_call(g);
     return row_of(g, solid, count, [&](std::uint32_t place) { return copies::turn(axis, quarters * place, *about); }, solids, why);
 }
 
 gwb_kind gwb_scale(gwb *g, std::int64_t factor, gwb_refusal *why)
 {
-    return changed(g, why, [&](Attempts &bench, Lists &) {
-        return factor < 1 ? Result<void>(machining::refused(GWB_WHY_SIZE_RANGE, 1)) : copies::all_scaled(bench, factor);
+    return changed(g, why, [&](Bench &bench, Lists &) {
+        if (factor < 1)
+            throw machining::refused(GWB_WHY_SIZE_RANGE, 1);
+        copies::scale_all(bench, factor);
     });
 }
 
 gwb_kind gwb_renumber(gwb *g, gwb_refusal *why)
 {
-    return changed(g, why, [](Attempts &bench, Lists &lists) { return copies::renumbered(bench, lists); });
+    return changed(g, why, [](Bench &bench, Lists &lists) { copies::renumber(bench, lists); });
 }
 
 gwb_kind gwb_glue_all(gwb *g, const std::uint32_t *solids, std::size_t n, gwb_refusal *why)
 {
-    if (!gwb_is_open(g))
-        return GWB_CLOSED;
     if (n == 0 || !are_different(solids, n))
-        return GWB_NO_CALL;
-    return changed(g, why, [&](Attempts &bench, Lists &) { return gluing::glue_all(bench, all_of<Solid>(solids, n)); });
+        return no_call(g);
+    return changed(g, why, [&](Bench &bench, Lists &) { gluing::glue_all(bench, all_of<Solid>(solids, n)); });
 }
 
 gwb_kind gwb_split_solid(gwb *g, std::uint32_t solid, const gwb_cut_plane *plane, std::uint32_t above, gwb_refusal *why)
 {
-    return parted(g, why, [&](Attempts &bench) { return cuts::split(bench, Solid(solid), exact::Plane::of(*plane), Solid(above)); });
+    return parted(g, why, [&](Bench &bench) { return cuts::split(bench, Solid(solid), exact::Plane::of(*plane), Solid(above)); });
 }
 
 gwb_kind gwb_cut(gwb *g, std::uint32_t solid, const gwb_cut_plane *plane, std::uint32_t above, gwb_refusal *why)
 {
-    return parted(g, why, [&](Attempts &bench) { return cuts::cut(bench, Solid(solid), exact::Plane::of(*plane), Solid(above), true); });
+    return parted(g, why, [&](Bench &bench) { return cuts::cut(bench, Solid(solid), exact::Plane::of(*plane), Solid(above), true); });
 }
 
 gwb_kind gwb_trim(gwb *g, std::uint32_t solid, const gwb_cut_plane *plane, gwb_refusal *why)
 {
-    return parted(g, why, [&](Attempts &bench) { return cuts::cut(bench, Solid(solid), exact::Plane::of(*plane), *bench.next_free<Solid>(), false); });
+    return parted(g, why, [&](Bench &bench) { return cuts::cut(bench, Solid(solid), exact::Plane::of(*plane), bench.next_free<Solid>(), false); });
 }
 
 gwb_kind gwb_union(gwb *g, const std::uint32_t *solids, std::size_t n, gwb_refusal *why)
 {
-    if (!gwb_is_open(g))
-        return GWB_CLOSED;
     if (n < 2 || !are_different(solids, n))
-        return GWB_NO_CALL;
-    return changed(g, why, [&](Attempts &bench, Lists &lists) -> Result<void> {
-        const Result<uniting::Became> became = uniting::unite(bench, all_of<Solid>(solids, n));
-        if (!became)
-            return became.error();
-        became->tell(lists[GWB_MADE_INTO]);
-        return {};
+        return no_call(g);
+    return changed(g, why, [&](Bench &bench, Lists &lists) {
+        uniting::unite(bench, all_of<Solid>(solids, n)).tell(lists[GWB_MADE_INTO]);
     });
 }
 
@@ -421,7 +406,7 @@ gwb_kind gwb_profile(gwb *g, std::uint32_t solid, const gwb_point *points, std::
 {
     return made(
         g, why,
-        [&](Attempts &bench, Known &) { return machining::make_profile(bench, Solid(solid), items(points, n), *along); },
+        [&](Bench &bench, Known &) { return machining::make_profile(bench, Solid(solid), items(points, n), *along); },
         [&](const Profile &made) {
             *out = {made.far.number(), made.base.number()};
             write(made.sides, sides);
@@ -431,14 +416,12 @@ gwb_kind gwb_profile(gwb *g, std::uint32_t solid, const gwb_point *points, std::
 gwb_kind gwb_polyhedron(gwb *g, std::uint32_t solid, const gwb_point *points, std::size_t n, const std::uint32_t *corners, const std::uint32_t *sizes,
                         std::size_t faces, gwb_polyhedron_made *out, gwb_refusal *why)
 {
-    if (!gwb_is_open(g))
-        return GWB_CLOSED;
     const std::size_t count = std::accumulate(sizes, sizes + faces, std::size_t{0});
     if (faces == 0 || n == 0 || std::any_of(corners, corners + count, [&](std::uint32_t corner) { return corner >= n; }))
-        return GWB_NO_CALL;
+        return no_call(g);
     return made(
         g, why,
-        [&](Attempts &bench, Known &) {
+        [&](Bench &bench, Known &) {
             return polyhedra::make(bench, Solid(solid), items(points, n), corners, Items<std::uint32_t>(sizes, faces));
         },
         [&](const gwb_polyhedron_made &made) { *out = made; });
@@ -448,7 +431,7 @@ gwb_kind gwb_ring(gwb *g, std::uint32_t face, const gwb_point *points, std::size
                   std::uint32_t *vertices, gwb_refusal *why)
 {
     return made(
-        g, why, [&](Attempts &bench, Known &) { return machining::make_ring(bench, Face(face), items(points, n)); },
+        g, why, [&](Bench &bench, Known &) { return machining::make_ring(bench, Face(face), items(points, n)); },
         [&](const Ring &made) {
             *out = {made.face.number(), made.loop.number()};
             write(made.edges, edges);
@@ -472,7 +455,7 @@ gwb_kind gwb_hole(gwb *g, std::uint32_t face, const gwb_point *points, std::size
                   gwb_refusal *why)
 {
     return made(
-        g, why, [&](Attempts &bench, Known &) { return machining::make_hole(bench, Face(face), items(points, n)); },
+        g, why, [&](Bench &bench, Known &) { return machining::make_hole(bench, Face(face), items(points, n)); },
         [&](const Hole &made) {
             *out = {made.other.number(), made.loop.number()};
             write(made.sides, sides);
@@ -483,7 +466,7 @@ gwb_kind gwb_drill(gwb *g, std::uint32_t face, const gwb_point *center, std::int
                    gwb_outline_made *out, std::uint32_t *sides, gwb_point *points, gwb_refusal *why)
 {
     return made(
-        g, why, [&](Attempts &bench, Known &) { return drilling::drill(bench, Face(face), *center, radius, n, depth); },
+        g, why, [&](Bench &bench, Known &) { return drilling::drill(bench, Face(face), *center, radius, n, depth); },
         [&](const Hole &made) {
             *out = {made.other.number(), made.loop.number()};
             write(made.sides, sides);
@@ -503,7 +486,7 @@ gwb_kind gwb_find_edges(const gwb *g, const gwb_edge_query *query, std::uint32_t
 
 gwb_kind gwb_notch(gwb *g, std::uint32_t face, const gwb_point *points, std::size_t n, std::int64_t depth, gwb_refusal *why)
 {
-    return cut(g, why, [&](Attempts &bench) {
+    return cut(g, why, [&](Bench &bench) {
         return shaping::cut_in_face(bench, Face(face), items(points, n), {depth}, [&](const machining::Path &path) {
             return shaping::notch_tool(bench, Face(face), path, depth);
         });
@@ -523,7 +506,7 @@ gwb_kind gwb_groove(gwb *g, std::uint32_t face, const gwb_point *start, const gw
 
 gwb_kind gwb_shoulder(gwb *g, std::uint32_t face, std::uint32_t edge, std::int64_t width, std::int64_t depth, gwb_refusal *why)
 {
-    return cut(g, why, [&](Attempts &bench) { return shaping::cut_shoulder(bench, Face(face), Edge(edge), width, depth); });
+    return cut(g, why, [&](Bench &bench) { return shaping::cut_shoulder(bench, Face(face), Edge(edge), width, depth); });
 }
 
 gwb_kind gwb_chamfer(gwb *g, std::uint32_t edge, std::int64_t width, std::int64_t other, std::uint32_t *face, gwb_refusal *why)
@@ -533,20 +516,14 @@ gwb_kind gwb_chamfer(gwb *g, std::uint32_t edge, std::int64_t width, std::int64_
 
 gwb_kind gwb_chamfer_edges(gwb *g, const std::uint32_t *edges, std::size_t n, std::int64_t width, std::uint32_t *faces, gwb_refusal *why)
 {
-    if (!gwb_is_open(g))
-        return GWB_CLOSED;
-    return n == 0 || !are_different(edges, n) ? GWB_NO_CALL : sloped(g, edges, n, width, width, faces, why);
+    return n == 0 || !are_different(edges, n) ? no_call(g) : sloped(g, edges, n, width, width, faces, why);
 }
 
 gwb_kind gwb_off_lattice(const gwb *g, std::uint32_t solid, const gwb_cut_plane *plane, std::size_t most, gwb_advice **advice, gwb_refusal *why)
 {
-    return guarded(g, [&] {
+    return guarded(g, why, [&] {
         const Lent session(g);
-        const Result<OffLattice> found = cutting::made(session.bench(), Solid(solid), *plane, most);
-        if (!found)
-            return told(found.error(), why);
-        *advice = new gwb_advice{*found};
-        return GWB_OK;
+        *advice = new gwb_advice{cutting::made(session.bench(), Solid(solid), *plane, most)};
     });
 }
 

@@ -28,13 +28,13 @@ inline Path from_least(Path path)
 }
 
 /// The faces that match, in the order of the solids and their faces. Faces with rings match none.
-inline Result<std::vector<Match>> matches(const Attempts &bench, Items<Solid> solids)
+inline std::vector<Match> matches(const Bench &bench, Items<Solid> solids)
 {
     std::map<Path, std::vector<Side>> seen;
     std::vector<Match> found;
     for (Solid solid : solids) {
         if (bench.faces(solid).empty())
-            return machining::refused(GWB_WHY_NO_SOLID, solid.number());
+            throw machining::refused(GWB_WHY_NO_SOLID, solid.number());
         for (Face face : bench.faces(solid)) {
             go_on();
             if (!bench.rings(face).empty())
@@ -50,24 +50,22 @@ inline Result<std::vector<Match>> matches(const Attempts &bench, Items<Solid> so
 }
 
 /// Glues solids along the faces that match, so that each is joined once to what hangs on the first: that is all of them then.
-inline Result<void> glue_all(Attempts &bench, Items<Solid> solids)
+inline void glue_all(Bench &bench, Items<Solid> solids)
 {
-    Result<std::vector<Match>> left = matches(bench, solids);
-    if (!left)
-        return left.error();
+    std::vector<Match> left = matches(bench, solids);
     std::set<Solid> joined = {*solids.begin()};
     const auto has_one = [&](const Match &match) { return joined.count(match.one.solid) != joined.count(match.other.solid); };
-    for (auto next = left->begin(); (next = std::find_if(left->begin(), left->end(), has_one)) != left->end(); left->erase(next)) {
+    for (auto next = left.begin(); (next = std::find_if(left.begin(), left.end(), has_one)) != left.end(); left.erase(next)) {
         const bool is_first = joined.count(next->one.solid) != 0;
-        const Result<void> glued = is_first ? bench.glue(next->one.face, next->other.face) : bench.glue(next->other.face, next->one.face);
-        if (!glued)
-            return glued;
+        const auto [stays, goes] = is_first ? std::pair(next->one.face, next->other.face) : std::pair(next->other.face, next->one.face);
+        bench.glue(stays, goes);
         joined.insert({next->one.solid, next->other.solid});
     }
     for (Solid solid : solids)
         if (joined.count(solid) == 0)
-            return impossible(Misfit::no_match, solid.number());
-    return left->empty() ? Result<void>() : Result<void>(impossible(Misfit::glued_twice, left->front().one.face.number()));
+            throw impossible(Misfit::no_match, solid.number());
+    if (!left.empty())
+        throw impossible(Misfit::glued_twice, left.front().one.face.number());
 }
 
 } // namespace gwb_session::gluing

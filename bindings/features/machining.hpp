@@ -23,13 +23,15 @@ inline std::uint32_t place(std::size_t at) { return static_cast<std::uint32_t>(a
 // ---- outlines
 
 /// Points of the caller; refused where one lies out of range.
-inline Result<Path> path_of(Items<Point> points)
+inline Path path_of(Items<Point> points)
 {
     Path path;
     path.reserve(points.size());
     for (const Point &at : points)
         path.push_back(vector(at));
-    return std::all_of(path.begin(), path.end(), is_in_range) ? Result<Path>(path) : Result<Path>(refused(GWB_WHY_POINT_RANGE, 0));
+    if (!std::all_of(path.begin(), path.end(), is_in_range))
+        throw refused(GWB_WHY_POINT_RANGE, 0);
+    return path;
 }
 
 inline Outline flattened(const Path &path, Axes axes)
@@ -52,36 +54,35 @@ inline bool clash(const Segment &side, const Segment &other, bool are_neighbours
 }
 
 /// Refuses an outline that crosses or touches itself.
-inline Result<void> require_simple(const Outline &sides)
+inline void require_simple(const Outline &sides)
 {
     for (std::size_t at = 0; at < sides.size(); at++) {
         go_on();
         for (std::size_t beyond = at + 1; beyond < sides.size(); beyond++) {
             const bool are_neighbours = beyond - at == 1 || beyond - at == sides.size() - 1;
             if (sides[at].is_near(sides[beyond]) && clash(sides[at], sides[beyond], are_neighbours))
-                return impossible(Misfit::outline_crossed, place(at));
+                throw impossible(Misfit::outline_crossed, place(at));
         }
     }
-    return {};
 }
 
 /// The normal of the flat simple outline through points.
-inline Result<Vector> simple_normal(const Path &path)
+inline Vector simple_normal(const Path &path)
 {
     if (path.size() < 3)
-        return refused(GWB_WHY_FEW_POINTS, static_cast<std::uint32_t>(path.size()));
+        throw refused(GWB_WHY_FEW_POINTS, static_cast<std::uint32_t>(path.size()));
     std::set<Vector> seen;
     for (std::size_t at = 0; at < path.size(); at++)
         if (!seen.insert(path[at]).second)
-            return refused(GWB_WHY_REPEATED_POINT, place(at));
+            throw refused(GWB_WHY_REPEATED_POINT, place(at));
     const Vector across = area_vector(path);
     if (is_zero(across))
-        return impossible(Misfit::no_area, 0);
+        throw impossible(Misfit::no_area, 0);
     for (std::size_t at = 0; at < path.size(); at++)
         if (dot(across, subtract(path[at], path[0])) != 0)
-            return impossible(Misfit::not_in_plane, place(at));
-    const Result<void> simple = require_simple(flattened(path, flat_axes(across)));
-    return simple ? Result<Vector>(across) : Result<Vector>(simple.error());
+            throw impossible(Misfit::not_in_plane, place(at));
+    require_simple(flattened(path, flat_axes(across)));
+    return across;
 }
 
 /// The path the other way round, from the same point on.
@@ -113,7 +114,7 @@ inline std::optional<Vector> steps_along(const Vector &across, std::int64_t leng
 // ---- faces
 
 /// The points of the loops of a face, and where they are wanted the loops. A lone loop has one.
-inline std::vector<Path> loops_at(const Attempts &bench, Face face, std::vector<Loop> *numbers = nullptr)
+inline std::vector<Path> loops_at(const Bench &bench, Face face, std::vector<Loop> *numbers = nullptr)
 {
     std::vector<Path> loops;
     std::uint32_t last = 0;
@@ -125,12 +126,12 @@ inline std::vector<Path> loops_at(const Attempts &bench, Face face, std::vector<
     for (const gwb_half_edge_row &row : bench.half_edge_rows(face)) {
         if (std::exchange(last, row.loop) != row.loop)
             begin(Loop(row.loop));
-        loops.back().push_back(vector(*bench.vertex(Vertex(row.start))));
+        loops.back().push_back(vector(bench.vertex(Vertex(row.start))));
     }
     for (Loop loop : bench.loops_of(face))
-        if (const std::optional<Vertex> vertex = *bench.lone_vertex(loop)) {
+        if (const std::optional<Vertex> vertex = bench.lone_vertex(loop)) {
             begin(loop);
-            loops.back().push_back(vector(*bench.vertex(*vertex)));
+            loops.back().push_back(vector(bench.vertex(*vertex)));
         }
     return loops;
 }
@@ -192,32 +193,26 @@ public:
     }
 
     /// Refuses an outline of its plane that doesn't lie strictly inside the face, which has this number, or has a ring of it inside.
-    [[nodiscard]] Result<void> require_inside(Face face, const Outline &own) const
+    void require_inside(Face face, const Outline &own) const
     {
         bool is_around = false;
         for (const Outline &sides : loops_) {
             for (const Segment &side : sides)
                 for (const Segment &other : own)
                     if (side.is_near(other) && side.meets(other))
-                        return impossible(Misfit::outline_outside, face.number());
+                        throw impossible(Misfit::outline_outside, face.number());
             is_around = is_around || exact::locate(own, sides[0].start) == Place::inside;
         }
         if (locate(own[0].start) != Place::inside)
-            return impossible(Misfit::outline_outside, face.number());
-        return is_around ? Result<void>(impossible(Misfit::outline_around_ring, face.number())) : Result<void>();
+            throw impossible(Misfit::outline_outside, face.number());
+        if (is_around)
+            throw impossible(Misfit::outline_around_ring, face.number());
     }
 
 private:
     [[nodiscard]] Place locate(const Spot &spot) const
     {
-        bool is_within = false;
-        for (const Outline &sides : loops_) {
-            const Place at = exact::locate(sides, spot);
-            if (at == Place::on)
-                return at;
-            is_within = is_within != (at == Place::inside);
-        }
-        return is_within ? Place::inside : Place::outside;
+        return locate_in(loops_, [&](const Outline &sides) { return exact::locate(sides, spot); });
     }
 
     FacePlane plane_;
@@ -230,7 +225,7 @@ private:
 /// The loops of a solid with their points, by boxes, and the planes of its faces.
 class Surface {
 public:
-    Surface(const Attempts &bench, Solid solid)
+    Surface(const Bench &bench, Solid solid)
     {
         for (Face face : bench.faces(solid)) {
             go_on();
@@ -239,7 +234,7 @@ public:
     }
 
     /// Takes in a face that is new.
-    void put(const Attempts &bench, Face face)
+    void put(const Bench &bench, Face face)
     {
         std::vector<Loop> loops;
         put(face, loops_at(bench, face, &loops), loops);
@@ -316,19 +311,15 @@ public:
     [[nodiscard]] const Path &path(Loop loop) const { return loops_.at(loop).second; }
 
     /// The points of an outline strictly inside a plain flat face, turned so that they run as a ring does; the first stays the first.
-    [[nodiscard]] Result<Path> ring_path(Face face, const Path &path) const
+    [[nodiscard]] Path ring_path(Face face, const Path &path) const
     {
         const FacePlane &plane = planes_.at(face);
         for (std::size_t at = 0; at < path.size(); at++)
             if (plane.height(path[at]) != 0)
-                return impossible(Misfit::not_in_plane, place(at));
-        const Result<Vector> normal = simple_normal(path);
-        if (!normal)
-            return normal.error();
+                throw impossible(Misfit::not_in_plane, place(at));
+        (void)simple_normal(path);
         const Outline own = flattened(path, flat_axes(plane.across()));
-        const Result<void> inside = Region(plane, near(Box::around(path))[face]).require_inside(face, own);
-        if (!inside)
-            return inside.error();
+        Region(plane, near(Box::around(path))[face]).require_inside(face, own);
         return twice_area(own) < 0 ? path : turned(path);
     }
 
@@ -350,7 +341,7 @@ private:
 class Surroundings {
 public:
     /// Those of the model that a workbench holds, which are forgotten where it isn't the one that they are of.
-    static Surroundings &of(const Attempts &bench)
+    static Surroundings &of(const Bench &bench)
     {
         const struct beside &of = *beside_of(bench.handle());
         Surroundings &known = *static_cast<Surroundings *>(of.known);
@@ -365,10 +356,10 @@ public:
     void is_again(std::uint64_t changes) { changes_ = changes; }
 
     /// The surface of a solid, which is read where it isn't known.
-    const Surface &surface(const Attempts &bench, Solid solid) { return surfaces_.try_emplace(solid, bench, solid).first->second; }
+    const Surface &surface(const Bench &bench, Solid solid) { return surfaces_.try_emplace(solid, bench, solid).first->second; }
 
     /// Takes in what a command did to a solid, and that it did nothing else to the model.
-    template <class Put> void follow(const Attempts &bench, Solid solid, Put put)
+    template <class Put> void follow(const Bench &bench, Solid solid, Put put)
     {
         changes_ = UINT64_MAX;
         put(surfaces_.at(solid));
@@ -380,23 +371,28 @@ private:
     std::map<Solid, Surface> surfaces_;
 };
 
-/// The plane of a face. Refused: NoFace, NotFlat.
-inline Result<FacePlane> plane_of(const Attempts &bench, Face face)
+/// The solid of a face. Refused: NoFace.
+inline Solid solid_of(const Bench &bench, Face face)
 {
-    const Result<FaceRow> row = bench.face(face);
+    const Result<FaceRow> row = bench.attempt().face(face);
     if (!row)
-        return bench.is_open() ? refused(GWB_WHY_NO_FACE, face.number()) : Failure{Problem::closed};
-    const FacePlane *plane = Surroundings::of(bench).surface(bench, row->solid).plane(face);
-    return plane != nullptr ? Result<FacePlane>(*plane) : Result<FacePlane>(refused(GWB_WHY_NOT_FLAT, face.number()));
+        throw refused(GWB_WHY_NO_FACE, face.number());
+    return row->solid;
+}
+
+/// The plane of a face. Refused: NoFace, NotFlat.
+inline FacePlane plane_of(const Bench &bench, Face face)
+{
+    const FacePlane *plane = Surroundings::of(bench).surface(bench, solid_of(bench, face)).plane(face);
+    if (plane == nullptr)
+        throw refused(GWB_WHY_NOT_FLAT, face.number());
+    return *plane;
 }
 
 /// Points as seen along a vector: as spots, exactly.
 class Sight {
 public:
-    Sight(const Vector &along, const Vector &origin) : along_(along), origin_(origin), axes_(flat_axes(along))
-    {
-        third_ = 3 - axes_[0] - axes_[1];
-    }
+    Sight(const Vector &along, const Vector &origin) : along_(along), origin_(origin), axes_(flat_axes(along)), third_(widest(along)) {}
     [[nodiscard]] Spot spot(const Vector &at) const
     {
         const Vector way = subtract(at, origin_);
@@ -499,7 +495,7 @@ private:
 };
 
 /// Refuses a feature that would meet or touch the solid elsewhere than in the face, or in the other one where it ends there.
-inline Result<void> require_room(const Surface &surface, const Prism &prism, Face face, Face other = Face())
+inline void require_room(const Surface &surface, const Prism &prism, Face face, Face other = Face())
 {
     const Surface::Near near = surface.near(prism.box());
     const auto has_edge = [&](const auto &of) {
@@ -510,8 +506,7 @@ inline Result<void> require_room(const Surface &surface, const Prism &prism, Fac
         return plane != nullptr && prism.meets_face(Region(*plane, of.second));
     };
     if (std::any_of(near.begin(), near.end(), has_edge) || std::any_of(near.begin(), near.end(), is_face))
-        return impossible(Misfit::meets, face.number());
-    return {};
+        throw impossible(Misfit::meets, face.number());
 }
 
 /// The face that a ray from a point of a face goes out through, which is parallel, and the way to it.
@@ -532,20 +527,13 @@ struct Reach {
 /// Whether a point that the sight begins at lies in the face that has these loops, as seen along it, or on its outline.
 inline bool is_seen(const Sight &sight, const std::vector<Path> &loops)
 {
-    bool is_within = false;
-    for (const Path &path : loops) {
-        const Place at = locate(sight.outline(path), Spot());
-        if (at == Place::on)
-            return true;
-        is_within = is_within != (at == Place::inside);
-    }
-    return is_within;
+    return locate_in(loops, [&](const Path &path) { return locate(sight.outline(path), Spot()); }) != Place::outside;
 }
 
-inline Result<Opposite> opposite(const Surface &surface, Face face, const Vector &across, const Vector &start)
+inline Opposite opposite(const Surface &surface, Face face, const Vector &across, const Vector &start)
 {
     if (longest(across) > 2 * farthest)
-        return impossible(Misfit::off_lattice, face.number());
+        throw impossible(Misfit::off_lattice, face.number());
     const Sight sight(across, start);
     const Vector back = negative(across);
     std::optional<Reach> nearest;
@@ -559,11 +547,11 @@ inline Result<Opposite> opposite(const Surface &surface, Face face, const Vector
             nearest = reach;
     }
     if (!nearest)
-        return impossible(Misfit::no_opposite, face.number());
+        throw impossible(Misfit::no_opposite, face.number());
     if (!are_parallel(nearest->across, back))
-        return impossible(Misfit::not_parallel, nearest->face.number());
+        throw impossible(Misfit::not_parallel, nearest->face.number());
     if (nearest->height % nearest->slope != 0)
-        return impossible(Misfit::off_lattice, nearest->face.number());
+        throw impossible(Misfit::off_lattice, nearest->face.number());
     return Opposite{nearest->face, times(back, nearest->height / nearest->slope)};
 }
 
@@ -578,53 +566,41 @@ struct ClosedPath {
 };
 
 /// Draws a closed path from the lone vertex of a loop, where its first point lies.
-inline Result<ClosedPath> close_path(Attempts &bench, Loop loop, const Path &path)
+inline ClosedPath close_path(Bench &bench, Loop loop, const Path &path)
 {
     ClosedPath made;
     for (std::size_t at = 1; at < path.size(); at++) {
         go_on();
         const Corner corner = at == 1 ? lone(loop) : Corner(minus(made.edges.back()));
-        const Result<NewVertex> grown = bench.mev(corner, corner, point(path[at]));
-        if (!grown)
-            return grown.error();
-        made.edges.push_back(grown->edge);
-        made.vertices.push_back(grown->vertex);
+        const NewVertex grown = bench.mev(corner, corner, point(path[at]));
+        made.edges.push_back(grown.edge);
+        made.vertices.push_back(grown.vertex);
     }
-    const Result<NewFace> closing = bench.mef(minus(made.edges.back()), plus(made.edges.front()));
-    if (!closing)
-        return closing.error();
-    made.inside = closing->face;
-    made.edges.push_back(closing->edge);
+    const NewFace closing = bench.mef(minus(made.edges.back()), plus(made.edges.front()));
+    made.inside = closing.face;
+    made.edges.push_back(closing.edge);
     return made;
 }
 
 /// The ring through points that run as a ring does, and the face inside it, whose half-edges are the second ones of the edges.
-inline Result<Ring> draw(Attempts &bench, Face face, const Path &path)
+inline Ring draw(Bench &bench, Face face, const Path &path)
 {
-    const HalfEdge start = *bench.around(bench.face(face)->outer_loop).begin();
-    const Result<NewVertex> spur = bench.mev(start, start, point(path[0]));
-    if (!spur)
-        return spur.error();
-    const Result<Loop> loop = bench.kemr(plus(spur->edge));
-    if (!loop)
-        return loop.error();
-    const Result<ClosedPath> made = close_path(bench, *loop, path);
-    if (!made)
-        return made.error();
-    Ring ring{made->inside, *loop, made->edges, {spur->vertex}};
-    ring.vertices.insert(ring.vertices.end(), made->vertices.begin(), made->vertices.end());
+    const HalfEdge start = *bench.around(bench.face(face).outer_loop).begin();
+    const NewVertex spur = bench.mev(start, start, point(path[0]));
+    const Loop loop = bench.kemr(plus(spur.edge));
+    const ClosedPath made = close_path(bench, loop, path);
+    Ring ring{made.inside, loop, made.edges, {spur.vertex}};
+    ring.vertices.insert(ring.vertices.end(), made.vertices.begin(), made.vertices.end());
     return ring;
 }
 
 /// Moves a face, and finds the sides over half-edges of it.
-inline Result<std::vector<Face>> sides_of_sweep(Attempts &bench, Face face, const Vector &way, const std::vector<Edge> &edges, bool of_first)
+inline std::vector<Face> sides_of_sweep(Bench &bench, Face face, const Vector &way, const std::vector<Edge> &edges, bool of_first)
 {
-    const Result<void> swept = bench.sweep(face, point(way));
-    if (!swept)
-        return swept.error();
+    bench.sweep(face, point(way));
     std::vector<Face> sides;
     for (Edge edge : edges)
-        sides.push_back(*bench.face_of(of_first ? plus(edge) : minus(edge)));
+        sides.push_back(bench.face_of(of_first ? plus(edge) : minus(edge)));
     return sides;
 }
 
@@ -635,43 +611,29 @@ struct FlatSolid {
     std::vector<Edge> edges;
 };
 
-inline Result<FlatSolid> flat_solid(Attempts &bench, const Path &path, Solid solid)
+inline FlatSolid flat_solid(Bench &bench, const Path &path, Solid solid)
 {
-    const Result<Face> face = bench.next_free<Face>();
-    const Result<Loop> loop = bench.next_free<Loop>();
-    const Result<Vertex> vertex = bench.next_free<Vertex>();
-    if (!face || !loop || !vertex)
-        return face.error();
-    const Result<void> start = bench.mvfs(solid, *face, *loop, *vertex, point(path[0]));
-    if (!start)
-        return start.error();
-    Result<ClosedPath> made = close_path(bench, *loop, path);
-    if (!made)
-        return made.error();
-    return FlatSolid{*face, made->inside, std::move(made->edges)};
+    const Face face = bench.next_free<Face>();
+    const Loop loop = bench.next_free<Loop>();
+    const Vertex vertex = bench.next_free<Vertex>();
+    bench.mvfs(solid, face, loop, vertex, point(path[0]));
+    ClosedPath made = close_path(bench, loop, path);
+    return FlatSolid{face, made.inside, std::move(made.edges)};
 }
 
-inline Result<Profile> make_profile(Attempts &bench, Solid solid, Items<Point> points, Point along)
+inline Profile make_profile(Bench &bench, Solid solid, Items<Point> points, Point along)
 {
-    const Result<Path> path = path_of(points);
-    if (!path)
-        return path.error();
-    const Result<Vector> across = simple_normal(*path);
-    if (!across)
-        return across.error();
+    const Path path = path_of(points);
+    const Vector across = simple_normal(path);
     const Vector way = vector(along);
     if (longest(way) > 2 * farthest)
-        return refused(GWB_WHY_POINT_RANGE, 0);
-    const int side = sign(dot(*across, way));
+        throw refused(GWB_WHY_POINT_RANGE, 0);
+    const int side = sign(dot(across, way));
     if (side == 0)
-        return impossible(Misfit::along_plane, 0);
-    const Result<FlatSolid> flat = flat_solid(bench, side > 0 ? *path : turned(*path), solid);
-    if (!flat)
-        return flat.error();
-    const Result<std::vector<Face>> sides = sides_of_sweep(bench, flat->front, way, flat->edges, true);
-    if (!sides)
-        return sides.error();
-    return Profile{solid, flat->front, flat->back, by_points(*sides, side < 0)};
+        throw impossible(Misfit::along_plane, 0);
+    const FlatSolid flat = flat_solid(bench, side > 0 ? path : turned(path), solid);
+    const std::vector<Face> sides = sides_of_sweep(bench, flat.front, way, flat.edges, true);
+    return Profile{solid, flat.front, flat.back, by_points(sides, side < 0)};
 }
 
 /// An outline that is ready to be drawn in a face.
@@ -683,58 +645,45 @@ struct Drawing {
     bool is_turned;
 };
 
-inline Result<Drawing> drawing(const Attempts &bench, Face face, Items<Point> points)
+inline Drawing drawing(const Bench &bench, Face face, Items<Point> points)
 {
-    const Result<FaceRow> row = bench.face(face);
-    if (!row)
-        return bench.is_open() ? refused(GWB_WHY_NO_FACE, face.number()) : Failure{Problem::closed};
+    const Solid solid = solid_of(bench, face);
     Surroundings &known = Surroundings::of(bench);
-    const Surface &surface = known.surface(bench, row->solid);
+    const Surface &surface = known.surface(bench, solid);
     const FacePlane *plane = surface.plane(face);
     if (plane == nullptr)
-        return refused(GWB_WHY_NOT_FLAT, face.number());
-    const Result<Path> given = path_of(points);
-    if (!given)
-        return given.error();
-    Result<Path> path = surface.ring_path(face, *given);
-    if (!path)
-        return path.error();
-    const bool is_turned = *path != *given;
-    return Drawing{&known, row->solid, plane->across(), std::move(*path), is_turned};
+        throw refused(GWB_WHY_NOT_FLAT, face.number());
+    const Path given = path_of(points);
+    Path path = surface.ring_path(face, given);
+    const bool is_turned = path != given;
+    return Drawing{&known, solid, plane->across(), std::move(path), is_turned};
 }
 
-inline Result<Ring> make_ring(Attempts &bench, Face face, Items<Point> points)
+inline Ring make_ring(Bench &bench, Face face, Items<Point> points)
 {
-    const Result<Drawing> drawn = drawing(bench, face, points);
-    if (!drawn)
-        return drawn.error();
-    Result<Ring> made = draw(bench, face, drawn->path);
-    if (made)
-        drawn->known->follow(bench, drawn->solid, [&](Surface &surface) {
-            surface.put(face, made->loop, drawn->path);
-            surface.put(bench, made->face);
-        });
-    if (made && drawn->is_turned) {
-        std::reverse(made->edges.begin(), made->edges.end());
-        std::reverse(made->vertices.begin() + 1, made->vertices.end());
+    const Drawing drawn = drawing(bench, face, points);
+    Ring made = draw(bench, face, drawn.path);
+    drawn.known->follow(bench, drawn.solid, [&](Surface &surface) {
+        surface.put(face, made.loop, drawn.path);
+        surface.put(bench, made.face);
+    });
+    if (drawn.is_turned) {
+        std::reverse(made.edges.begin(), made.edges.end());
+        std::reverse(made.vertices.begin() + 1, made.vertices.end());
     }
     return made;
 }
 
 /// Draws an outline and moves the face inside it.
-inline Result<Pocket> draw_and_sweep(Attempts &bench, Face face, const Drawing &drawn, const Vector &way)
+inline Pocket draw_and_sweep(Bench &bench, Face face, const Drawing &drawn, const Vector &way)
 {
-    const Result<Ring> ring = draw(bench, face, drawn.path);
-    if (!ring)
-        return ring.error();
-    const Result<std::vector<Face>> sides = sides_of_sweep(bench, ring->face, way, ring->edges, false);
-    if (!sides)
-        return sides.error();
-    return Pocket{ring->face, ring->loop, by_points(*sides, drawn.is_turned)};
+    const Ring ring = draw(bench, face, drawn.path);
+    const std::vector<Face> sides = sides_of_sweep(bench, ring.face, way, ring.edges, false);
+    return Pocket{ring.face, ring.loop, by_points(sides, drawn.is_turned)};
 }
 
 /// Takes in a ring in a face, and the sides over it.
-inline void put_sides(Surface &surface, const Attempts &bench, Face face, Loop loop, const Path &ring, const std::vector<Face> &sides)
+inline void put_sides(Surface &surface, const Bench &bench, Face face, Loop loop, const Path &ring, const std::vector<Face> &sides)
 {
     surface.put(face, loop, ring);
     for (Face side : sides)
@@ -742,58 +691,41 @@ inline void put_sides(Surface &surface, const Attempts &bench, Face face, Loop l
 }
 
 /// Moves an outline in a face along the face's normal: by a length that is below zero for a pocket.
-inline Result<Pocket> raise(Attempts &bench, Face face, Items<Point> points, std::int64_t length)
+inline Pocket raise(Bench &bench, Face face, Items<Point> points, std::int64_t length)
 {
-    const Result<Drawing> drawn = drawing(bench, face, points);
-    if (!drawn)
-        return drawn.error();
-    const std::optional<Vector> way = steps_along(drawn->across, length);
+    const Drawing drawn = drawing(bench, face, points);
+    const std::optional<Vector> way = steps_along(drawn.across, length);
     if (!way)
-        return impossible(Misfit::off_lattice, face.number());
-    if (std::any_of(drawn->path.begin(), drawn->path.end(), [&](const Vector &at) { return !is_in_range(add(at, *way)); }))
-        return length < 0 ? impossible(Misfit::meets, face.number()) : refused(GWB_WHY_POINT_RANGE, 0);
-    const Prism prism(drawn->across, drawn->path, *way, false);
-    const Result<void> room = require_room(drawn->known->surface(bench, drawn->solid), prism, face);
-    if (!room)
-        return room.error();
-    const Result<Pocket> made = draw_and_sweep(bench, face, *drawn, *way);
-    if (made)
-        drawn->known->follow(bench, drawn->solid, [&](Surface &surface) {
-            put_sides(surface, bench, face, made->loop, drawn->path, made->sides);
-            surface.put(bench, made->face);
-        });
+        throw impossible(Misfit::off_lattice, face.number());
+    if (std::any_of(drawn.path.begin(), drawn.path.end(), [&](const Vector &at) { return !is_in_range(add(at, *way)); }))
+        throw length < 0 ? impossible(Misfit::meets, face.number()) : refused(GWB_WHY_POINT_RANGE, 0);
+    const Prism prism(drawn.across, drawn.path, *way, false);
+    require_room(drawn.known->surface(bench, drawn.solid), prism, face);
+    const Pocket made = draw_and_sweep(bench, face, drawn, *way);
+    drawn.known->follow(bench, drawn.solid, [&](Surface &surface) {
+        put_sides(surface, bench, face, made.loop, drawn.path, made.sides);
+        surface.put(bench, made.face);
+    });
     return made;
 }
 
-inline Result<Hole> make_hole(Attempts &bench, Face face, Items<Point> points)
+inline Hole make_hole(Bench &bench, Face face, Items<Point> points)
 {
-    const Result<Drawing> drawn = drawing(bench, face, points);
-    if (!drawn)
-        return drawn.error();
-    const Surface &surface = drawn->known->surface(bench, drawn->solid);
-    const Result<Opposite> end = opposite(surface, face, drawn->across, drawn->path[0]);
-    if (!end)
-        return end.error();
+    const Drawing drawn = drawing(bench, face, points);
+    const Surface &surface = drawn.known->surface(bench, drawn.solid);
+    const Opposite end = opposite(surface, face, drawn.across, drawn.path[0]);
     Path far;
-    std::transform(drawn->path.begin(), drawn->path.end(), std::back_inserter(far), [&](const Vector &at) { return add(at, end->way); });
-    const Result<Path> there = surface.ring_path(end->face, far);
-    if (!there)
-        return there.error();
-    const Result<void> room = require_room(surface, Prism(drawn->across, drawn->path, end->way, true), face, end->face);
-    if (!room)
-        return room.error();
-    const Result<Pocket> made = draw_and_sweep(bench, face, *drawn, end->way);
-    if (!made)
-        return made.error();
-    const Loop far_ring = bench.face(made->face)->outer_loop;
-    const Result<void> joined = bench.kfmrh(end->face, made->face);
-    if (!joined)
-        return joined.error();
-    drawn->known->follow(bench, drawn->solid, [&](Surface &of) {
-        put_sides(of, bench, face, made->loop, drawn->path, made->sides);
-        of.put(end->face, far_ring, far);
+    std::transform(drawn.path.begin(), drawn.path.end(), std::back_inserter(far), [&](const Vector &at) { return add(at, end.way); });
+    (void)surface.ring_path(end.face, far);
+    require_room(surface, Prism(drawn.across, drawn.path, end.way, true), face, end.face);
+    const Pocket made = draw_and_sweep(bench, face, drawn, end.way);
+    const Loop far_ring = bench.face(made.face).outer_loop;
+    bench.kfmrh(end.face, made.face);
+    drawn.known->follow(bench, drawn.solid, [&](Surface &of) {
+        put_sides(of, bench, face, made.loop, drawn.path, made.sides);
+        of.put(end.face, far_ring, far);
     });
-    Hole hole{end->face, made->loop, made->sides, {}};
+    Hole hole{end.face, made.loop, made.sides, {}};
     hole.points.assign(points.begin(), points.end());
     return hole;
 }

@@ -46,7 +46,7 @@ void *operator new(std::size_t size, const std::nothrow_t &) noexcept
 void operator delete(void *at, const std::nothrow_t &) noexcept { operator delete(at); }
 extern "C" [[noreturn]] void __cxa_pure_virtual() { std::abort(); }
 
-// What is thrown is bad_alloc alone, one at a time, so it needs no memory, and the pool that the C++ library keeps for it isn't brought along.
+// What is thrown is small, one at a time, so it needs no memory, and the pool that the C++ library keeps for it isn't brought along.
 extern "C" {
 static thread_local union {
     long double aligned;

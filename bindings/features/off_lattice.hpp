@@ -4,8 +4,7 @@
 /// It takes time by the edges of the solid for each of some 14,000 planes at most, of which nearly all are given up at their first edge.
 #ifndef GWB_FEATURES_OFF_LATTICE_HPP
 #define GWB_FEATURES_OFF_LATTICE_HPP
-#include "exact.hpp"
-#include "stopping.hpp"
+#include "machining.hpp"
 #include <cmath>
 #include <limits>
 #include <set>
@@ -287,18 +286,18 @@ struct SquareMoved {
 /// Looks for planes near one that cuts a solid.
 class NearPlanes {
 public:
-    NearPlanes(const Attempts &bench, Solid solid, const Plane &plane) : plane_(plane)
+    NearPlanes(const Bench &bench, Solid solid, const Plane &plane) : plane_(plane)
     {
-        std::set<Edge> edges;
         for (Face face : bench.faces(solid)) {
             go_on();
-            faces_.emplace_back();
-            for (Loop loop : bench.loops_of(face))
-                faces_.back().push_back(points_of(bench, loop, edges));
+            faces_.push_back(machining::loops_at(bench, face));
         }
+        std::set<Edge> edges;
+        for (const gwb_half_edge_row &half : bench.half_edge_rows(solid))
+            edges.insert(HalfEdge(half.half_edge).edge());
         for (Edge edge : edges) {
-            const EdgeRow row = *bench.edge(edge);
-            edges_.push_back({edge, vector(*bench.vertex(row.from)), vector(*bench.vertex(row.to))});
+            const EdgeRow row = bench.edge(edge);
+            edges_.push_back({edge, vector(bench.vertex(row.from)), vector(bench.vertex(row.to))});
         }
         std::copy_if(edges_.begin(), edges_.end(), std::back_inserter(cuts_), [&](const Ends &ends) { return ends.is_cut(plane); });
         std::stable_partition(edges_.begin(), edges_.end(), [&](const Ends &ends) { return ends.is_cut(plane); });
@@ -367,24 +366,6 @@ public:
     }
 
 private:
-    static std::vector<Vector> points_of(const Attempts &bench, Loop loop, std::set<Edge> &edges)
-    {
-        std::vector<Vector> points;
-        for (HalfEdge half_edge : bench.around(loop)) {
-            edges.insert(half_edge.edge());
-            points.push_back(vector(*bench.vertex(*bench.start_of(half_edge))));
-        }
-        if (points.empty())
-            points.push_back(vector(*bench.vertex(bench.lone_vertex(loop)->value_or(Vertex()))));
-        return points;
-    }
-
-    static std::size_t widest(const Vector &normal)
-    {
-        const Axes axes = flat_axes(normal);
-        return 3 - axes[0] - axes[1];
-    }
-
     static Wide size(const Plane &plane)
     {
         return magnitude(plane.across[0]) + magnitude(plane.across[1]) + magnitude(plane.across[2]) + magnitude(plane.offset);
@@ -521,15 +502,15 @@ private:
     std::vector<Ends> edges_, cuts_;
 };
 
-inline Result<OffLattice> made(const Attempts &bench, Solid solid, const gwb_cut_plane &row, std::size_t most)
+inline OffLattice made(const Bench &bench, Solid solid, const gwb_cut_plane &row, std::size_t most)
 {
     if (bench.faces(solid).empty())
-        return bench.is_open() ? Failure{Problem::refused, GWB_WHY_NO_SOLID, solid.number()} : Failure{Problem::closed};
+        throw machining::refused(GWB_WHY_NO_SOLID, solid.number());
     const Plane plane = Plane::of(row);
     const std::array<Wide, 4> parts = {row.a, row.b, row.c, row.d};
     for (std::uint32_t at = 0; at < 4; at++)
         if (magnitude(parts[at]) > (at < 3 ? Wide{farthest} : farthest_offset))
-            return Failure{Problem::refused, GWB_WHY_PLANE_RANGE, at + 1};
+            throw machining::refused(GWB_WHY_PLANE_RANGE, at + 1);
     const NearPlanes near(bench, solid, plane);
     OffLattice found{solid, row, {}, 1, true, {}};
     for (const Ends &ends : near.cuts())

@@ -35,17 +35,17 @@ private:
 };
 
 /// Takes a face with these corners into a model. Refused: FewPoints. Not possible: NotClosed.
-inline Result<void> put_face(Model &model, AllNames &names, Sides &sides, std::size_t place_of_face, Items<std::uint32_t> corners,
-                             const std::vector<Vertex> &vertices)
+inline void put_face(Model &model, AllNames &names, Sides &sides, std::size_t place_of_face, Items<std::uint32_t> corners,
+                     const std::vector<Vertex> &vertices)
 {
     if (corners.size() < 3)
-        return refused(GWB_WHY_FEW_POINTS, static_cast<std::uint32_t>(corners.size()));
+        throw refused(GWB_WHY_FEW_POINTS, static_cast<std::uint32_t>(corners.size()));
     std::vector<HalfEdge> halves;
     for (std::size_t at = 0; at < corners.size(); at++) {
         const std::uint32_t from = corners.data()[at], to = corners.data()[(at + 1) % corners.size()];
         const std::optional<HalfEdge> half = sides.put(from, to, place_of_face);
         if (!half)
-            return impossible(Misfit::not_closed, place(place_of_face));
+            throw impossible(Misfit::not_closed, place(place_of_face));
         if (!half->is_second())
             model.edges[half->edge()] = {vertices[from], vertices[to]};
         halves.push_back(*half);
@@ -54,46 +54,39 @@ inline Result<void> put_face(Model &model, AllNames &names, Sides &sides, std::s
     const Loop loop = names.loops.spare();
     model.faces[names.faces.spare()] = {loop};
     model.loops[loop] = std::move(halves);
-    return {};
 }
 
 /// Refuses a kind of which there aren't as many numbers.
-inline Result<void> require_numbers(AllNames &names)
+inline void require_numbers(AllNames &names)
 {
     constexpr std::uint32_t greatest = 1'000'000;
     std::uint32_t kind = GWB_FACE;
     for (std::uint32_t next : {names.faces.spare().number(), names.loops.spare().number(), names.edges.spare().number(), names.vertices.spare().number()})
         if (kind++; next > greatest + 1)
-            return refused(GWB_WHY_NUMBERS_SPENT, kind);
-    return {};
+            throw refused(GWB_WHY_NUMBERS_SPENT, kind);
 }
 
 /// A solid of points, and of faces of so many corners each.
-inline Result<gwb_polyhedron_made> make(Attempts &bench, Solid solid, Items<Point> points, const std::uint32_t *corners, Items<std::uint32_t> sizes)
+inline gwb_polyhedron_made make(Bench &bench, Solid solid, Items<Point> points, const std::uint32_t *corners, Items<std::uint32_t> sizes)
 {
     AllNames names(bench);
     Model model{solid, {}, {}, {}, {}, {}};
     std::vector<Vertex> vertices;
     for (const Point &at : points) {
         if (!is_in_range(vector(at)))
-            return refused(GWB_WHY_POINT_RANGE, place(vertices.size()));
+            throw refused(GWB_WHY_POINT_RANGE, place(vertices.size()));
         vertices.push_back(names.vertices.spare());
         model.vertices[vertices.back()] = vector(at);
     }
     Sides sides(names);
     for (std::size_t face = 0; face < sizes.size(); corners += sizes.data()[face++]) {
         go_on();
-        const Result<void> done = put_face(model, names, sides, face, Items<std::uint32_t>(corners, sizes.data()[face]), vertices);
-        if (!done)
-            return done.error();
+        put_face(model, names, sides, face, Items<std::uint32_t>(corners, sizes.data()[face]), vertices);
     }
     if (const std::optional<std::size_t> open = sides.open())
-        return impossible(Misfit::not_closed, place(*open));
-    Result<void> done = require_numbers(names);
-    if (done)
-        done = bench.load(model.listing());
-    if (!done)
-        return done.error();
+        throw impossible(Misfit::not_closed, place(*open));
+    require_numbers(names);
+    bench.load(model.listing());
     return gwb_polyhedron_made{vertices.front().number(), model.faces.begin()->first.number()};
 }
 

@@ -46,7 +46,7 @@ inline bool is_query(const gwb_edge_query &query)
 /// A face that is looked at.
 class Candidate {
 public:
-    Candidate(const Attempts &bench, Face face) : loops_(machining::loops_at(bench, face))
+    Candidate(const Bench &bench, Face face) : loops_(machining::loops_at(bench, face))
     {
         for (const Path &path : loops_)
             across_ = add(across_, area_vector(path));
@@ -82,7 +82,7 @@ private:
 };
 
 /// The faces for which all holds that is asked, rising. Refused: NoSolid.
-inline Result<std::vector<Face>> faces(const Attempts &bench, const gwb_face_query &query)
+inline std::vector<Face> faces(const Bench &bench, const gwb_face_query &query)
 {
     std::vector<Face> found;
     const auto look = [&](const auto &all) {
@@ -95,39 +95,37 @@ inline Result<std::vector<Face>> faces(const Attempts &bench, const gwb_face_que
     if (query.solid == 0)
         look(bench.numbers<Face>());
     else if (bench.faces(Solid(query.solid)).empty())
-        return machining::refused(GWB_WHY_NO_SOLID, query.solid);
+        throw machining::refused(GWB_WHY_NO_SOLID, query.solid);
     else
         look(bench.faces(Solid(query.solid)));
     return found;
 }
 
 /// The edges between two faces of a solid, or of any. Refused: NoFace.
-inline Result<std::set<Edge>> edges_between(const Attempts &bench, Face one, Face other, Solid solid)
+inline std::set<Edge> edges_between(const Bench &bench, Face one, Face other, Solid solid)
 {
+    const Solid first = machining::solid_of(bench, one), second = machining::solid_of(bench, other);
     std::set<Edge> found;
-    for (Face face : {one, other})
-        if (!bench.face(face))
-            return machining::refused(GWB_WHY_NO_FACE, face.number());
-    if (solid != Solid() && (bench.face(one)->solid != solid || bench.face(other)->solid != solid))
+    if (solid != Solid() && (first != solid || second != solid))
         return found;
     for (const gwb_half_edge_row &row : bench.half_edge_rows(one))
-        if (*bench.face_of(HalfEdge(row.half_edge).twin()) == other)
+        if (bench.face_of(HalfEdge(row.half_edge).twin()) == other)
             found.insert(HalfEdge(row.half_edge).edge());
     return found;
 }
 
 /// The edges among which others are sought. Refused: NoFace, NoSolid.
-inline Result<std::set<Edge>> candidates(const Attempts &bench, const gwb_edge_query &query)
+inline std::set<Edge> candidates(const Bench &bench, const gwb_edge_query &query)
 {
     const Solid solid(query.solid);
     const bool is_there = solid == Solid() || !bench.faces(solid).empty();
     if (query.between[0] != 0) {
-        const Result<std::set<Edge>> found = edges_between(bench, Face(query.between[0]), Face(query.between[1]), solid);
-        if (!found || is_there)
+        std::set<Edge> found = edges_between(bench, Face(query.between[0]), Face(query.between[1]), solid);
+        if (is_there)
             return found;
     }
     if (!is_there)
-        return machining::refused(GWB_WHY_NO_SOLID, query.solid);
+        throw machining::refused(GWB_WHY_NO_SOLID, query.solid);
     std::set<Edge> found;
     if (solid == Solid())
         for (Edge edge : bench.numbers<Edge>())
@@ -139,21 +137,19 @@ inline Result<std::set<Edge>> candidates(const Attempts &bench, const gwb_edge_q
 }
 
 /// The edges for which all holds that is asked, rising. Refused: NoFace, NoSolid.
-inline Result<std::vector<Edge>> edges(const Attempts &bench, const gwb_edge_query &query)
+inline std::vector<Edge> edges(const Bench &bench, const gwb_edge_query &query)
 {
-    const Result<std::set<Edge>> all = candidates(bench, query);
-    if (!all)
-        return all.error();
+    const std::set<Edge> all = candidates(bench, query);
     const auto fits = [&](Edge edge) {
         go_on();
-        const EdgeRow row = *bench.edge(edge);
-        const Vector way = subtract(vector(*bench.vertex(row.to)), vector(*bench.vertex(row.from)));
+        const EdgeRow row = bench.edge(edge);
+        const Vector way = subtract(vector(bench.vertex(row.to)), vector(bench.vertex(row.from)));
         if (query.along != nullptr && (is_zero(way) || !are_parallel(way, vector(*query.along))))
             return false;
         return query.length == nullptr || is_as_long(way, whole(*query.length, 1));
     };
     std::vector<Edge> found;
-    std::copy_if(all->begin(), all->end(), std::back_inserter(found), fits);
+    std::copy_if(all.begin(), all.end(), std::back_inserter(found), fits);
     return found;
 }
 

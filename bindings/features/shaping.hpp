@@ -72,32 +72,28 @@ inline Wedge wedge(const Corner &start, const Corner &end)
 }
 
 /// The shortest normal of a face that is plain and flat.
-inline Result<Vector> flat_normal(const Attempts &bench, Face face)
+inline Vector flat_normal(const Bench &bench, Face face)
 {
-    const Result<FacePlane> plane = plane_of(bench, face);
-    return plane ? Result<Vector>(plane->across()) : Result<Vector>(plane.error());
+    return plane_of(bench, face).across();
 }
 
 /// The whole vector of a length along a direction.
-inline Result<Vector> along(const Vector &way, std::int64_t length, Face face)
+inline Vector along(const Vector &way, std::int64_t length, Face face)
 {
     const std::optional<Vector> found = steps_along(way, length);
-    return found ? Result<Vector>(*found) : Result<Vector>(impossible(Misfit::off_lattice, face.number()));
+    if (!found)
+        throw impossible(Misfit::off_lattice, face.number());
+    return *found;
 }
 
-inline Result<Tool> notch_tool(const Attempts &bench, Face face, const Path &points, std::int64_t depth)
+inline Tool notch_tool(const Bench &bench, Face face, const Path &points, std::int64_t depth)
 {
-    const Result<FacePlane> plane = plane_of(bench, face);
-    if (!plane)
-        return plane.error();
+    const FacePlane plane = plane_of(bench, face);
     for (std::size_t at = 0; at < points.size(); at++)
-        if (plane->height(points[at]) != 0)
-            return impossible(Misfit::not_in_plane, place(at));
-    const Result<Vector> normal = simple_normal(points);
-    if (!normal)
-        return normal.error();
-    const Result<Vector> way = along(negative(plane->across()), depth, face);
-    return way ? Result<Tool>(prism(points, *way)) : Result<Tool>(way.error());
+        if (plane.height(points[at]) != 0)
+            throw impossible(Misfit::not_in_plane, place(at));
+    (void)simple_normal(points);
+    return prism(points, along(negative(plane.across()), depth, face));
 }
 
 /// A strip around a line in a face: the normal of the face, and the way from the line to the strip's right side.
@@ -105,115 +101,96 @@ struct Strip {
     Vector across, side;
 };
 
-inline Result<Strip> strip(const Attempts &bench, Face face, const Path &ends, std::int64_t width)
+inline Strip strip(const Bench &bench, Face face, const Path &ends, std::int64_t width)
 {
-    const Result<Vector> across = flat_normal(bench, face);
-    if (!across)
-        return across.error();
+    const Vector across = flat_normal(bench, face);
     const Vector line = subtract(ends[1], ends[0]);
     if (is_zero(line))
-        return refused(GWB_WHY_REPEATED_POINT, 2);
-    if (dot(line, *across) != 0)
-        return impossible(Misfit::not_in_plane, 2);
+        throw refused(GWB_WHY_REPEATED_POINT, 2);
+    if (dot(line, across) != 0)
+        throw impossible(Misfit::not_in_plane, 2);
     if (width % 2 != 0)
-        return impossible(Misfit::off_lattice, face.number());
-    const Result<Vector> side = along(reduced(cross(*across, line)), width / 2, face);
-    return side ? Result<Strip>(Strip{*across, *side}) : Result<Strip>(side.error());
+        throw impossible(Misfit::off_lattice, face.number());
+    return {across, along(reduced(cross(across, line)), width / 2, face)};
 }
 
-inline Result<Tool> slot_tool(const Attempts &bench, Face face, const Path &ends, std::int64_t width, std::int64_t depth)
+inline Tool slot_tool(const Bench &bench, Face face, const Path &ends, std::int64_t width, std::int64_t depth)
 {
-    const Result<Strip> made = strip(bench, face, ends, width);
-    if (!made)
-        return made.error();
-    const Vector &side = made->side;
+    const Strip made = strip(bench, face, ends, width);
+    const Vector &side = made.side;
     return notch_tool(bench, face, {subtract(ends[0], side), subtract(ends[1], side), add(ends[1], side), add(ends[0], side)}, depth);
 }
 
-inline Result<Tool> groove_tool(const Attempts &bench, Face face, const Path &ends, std::int64_t width, std::int64_t depth)
+inline Tool groove_tool(const Bench &bench, Face face, const Path &ends, std::int64_t width, std::int64_t depth)
 {
-    const Result<Strip> around = strip(bench, face, ends, width);
-    if (!around)
-        return around.error();
-    const Result<Vector> way = along(negative(around->across), depth, face);
-    if (!way)
-        return way.error();
-    const auto corner = [&](const Vector &at) { return Corner{add(at, *way), subtract(at, around->side), add(at, around->side)}; };
+    const Strip around = strip(bench, face, ends, width);
+    const Vector way = along(negative(around.across), depth, face);
+    const auto corner = [&](const Vector &at) { return Corner{add(at, way), subtract(at, around.side), add(at, around.side)}; };
     const Wedge made = wedge(corner(ends[0]), corner(ends[1]));
     return Tool{{made.slope}, {}, {made.first, made.second, made.ends[0], made.ends[1]}};
 }
 
 /// The point that lies so far from a corner along a way as the fraction says.
-inline Result<Vector> part_of_way(Face face, const Vector &corner, const Vector &way, Wide numerator, Wide denominator)
+inline Vector part_of_way(Face face, const Vector &corner, const Vector &way, Wide numerator, Wide denominator)
 {
     const Vector scaled = times(way, numerator);
     if (std::any_of(scaled.begin(), scaled.end(), [&](Wide part) { return part % denominator != 0; }))
-        return impossible(Misfit::off_lattice, face.number());
+        throw impossible(Misfit::off_lattice, face.number());
     return add(corner, {scaled[0] / denominator, scaled[1] / denominator, scaled[2] / denominator});
 }
 
 /// The point on the way from a corner to the end of the side there, as far in as the step is; where the side runs the other way, square.
-inline Result<Vector> on_side(Face face, const Vector &corner, const Vector &end, const Vector &step)
+inline Vector on_side(Face face, const Vector &corner, const Vector &end, const Vector &step)
 {
     const Vector side = subtract(end, corner);
     const Wide rise = dot(step, side), square = dot(step, step);
     if (rise <= 0)
         return add(corner, step);
-    return square > rise ? Result<Vector>(impossible(Misfit::outline_outside, face.number())) : part_of_way(face, corner, side, square, rise);
+    if (square > rise)
+        throw impossible(Misfit::outline_outside, face.number());
+    return part_of_way(face, corner, side, square, rise);
 }
 
 /// The point where the lines meet that lie so far from both sides of a corner as their steps.
-inline Result<Vector> beside_both(Face face, const Vector &corner, const Vector &step, const Vector &other)
+inline Vector beside_both(Face face, const Vector &corner, const Vector &step, const Vector &other)
 {
     const Wide square = dot(step, step), whole = square + dot(step, other);
-    return whole == 0 ? Result<Vector>(impossible(Misfit::outline_outside, face.number()))
-                      : part_of_way(face, corner, add(step, other), square, whole);
+    if (whole == 0)
+        throw impossible(Misfit::outline_outside, face.number());
+    return part_of_way(face, corner, add(step, other), square, whole);
 }
 
-inline Vector start_of(const Attempts &bench, HalfEdge half) { return vector(*bench.vertex(*bench.start_of(half))); }
+inline Vector start_of(const Bench &bench, HalfEdge half) { return vector(bench.vertex(bench.start_of(half))); }
 
 /// The way from a half-edge into its face, across it and so long.
-inline Result<Vector> inwards(const Attempts &bench, HalfEdge half, std::int64_t length)
+inline Vector inwards(const Bench &bench, HalfEdge half, std::int64_t length)
 {
-    const Face face = *bench.face_of(half);
-    const Result<Vector> across = flat_normal(bench, face);
-    return across ? along(reduced(cross(*across, subtract(start_of(bench, half.twin()), start_of(bench, half)))), length, face) : across;
+    const Face face = bench.face_of(half);
+    return along(reduced(cross(flat_normal(bench, face), subtract(start_of(bench, half.twin()), start_of(bench, half)))), length, face);
 }
 
 /// The points where the line at a distance from a half-edge, in its face, meets the sides before and after it; of those that have such a line too
 /// the line.
-inline Result<std::array<Vector, 2>> setbacks(const Attempts &bench, HalfEdge half, std::int64_t width, const std::set<Edge> &lined = {})
+inline std::array<Vector, 2> setbacks(const Bench &bench, HalfEdge half, std::int64_t width, const std::set<Edge> &lined = {})
 {
-    const Face face = *bench.face_of(half);
-    const Result<Vector> step = inwards(bench, half, width);
-    if (!step)
-        return step.error();
-    const auto met = [&](HalfEdge side, HalfEdge corner, HalfEdge far) -> Result<Vector> {
+    const Face face = bench.face_of(half);
+    const Vector step = inwards(bench, half, width);
+    const auto met = [&](HalfEdge side, HalfEdge corner, HalfEdge far) {
         if (lined.count(side.edge()) == 0)
-            return on_side(face, start_of(bench, corner), start_of(bench, far), *step);
-        const Result<Vector> other = inwards(bench, side, width);
-        return other ? beside_both(face, start_of(bench, corner), *step, *other) : other;
+            return on_side(face, start_of(bench, corner), start_of(bench, far), step);
+        return beside_both(face, start_of(bench, corner), step, inwards(bench, side, width));
     };
-    const HalfEdge before = *bench.previous(half), after = *bench.next(half);
-    const Result<Vector> first = met(before, half, before);
-    if (!first)
-        return first.error();
-    const Result<Vector> last = met(after, half.twin(), after.twin());
-    return last ? Result<std::array<Vector, 2>>(std::array{*first, *last}) : Result<std::array<Vector, 2>>(last.error());
+    const HalfEdge before = bench.previous(half), after = bench.next(half);
+    return {met(before, half, before), met(after, half.twin(), after.twin())};
 }
 
 /// The prism under the strip of a face along one of its half-edges.
-inline Result<Tool> shoulder_tool(const Attempts &bench, HalfEdge half, std::int64_t width, std::int64_t depth)
+inline Tool shoulder_tool(const Bench &bench, HalfEdge half, std::int64_t width, std::int64_t depth)
 {
-    const Face face = *bench.face_of(half);
+    const Face face = bench.face_of(half);
     const auto ends = setbacks(bench, half, width);
-    if (!ends)
-        return ends.error();
-    const Result<Vector> across = flat_normal(bench, face);
-    const Result<Vector> way = along(negative(*across), depth, face);
-    if (!way)
-        return way.error();
-    return prism({start_of(bench, half), start_of(bench, half.twin()), (*ends)[1], (*ends)[0]}, *way);
+    const Vector way = along(negative(flat_normal(bench, face)), depth, face);
+    return prism({start_of(bench, half), start_of(bench, half.twin()), ends[1], ends[0]}, way);
 }
 
 // ---- slopes
@@ -226,32 +203,34 @@ struct End {
 };
 
 /// The point where three slopes meet.
-inline Result<Vector> common_point(const Attempts &bench, const std::vector<End> &ends, const Failure &apart)
+inline Vector common_point(const Bench &bench, const std::vector<End> &ends, const Failure &apart)
 {
     const auto across = [](const End &end) { return reduced(cross(end.way, subtract(end.corner->second, end.corner->first))); };
     const Corner &one = *ends[0].corner, &other = *ends[1].corner;
     const Vector &start = one.first == other.first || one.first == other.second ? one.first : one.second;
     Vector line = cross(across(ends[0]), across(ends[1]));
     if (is_zero(line))
-        return apart;
+        throw apart;
     line = reduced(line);
     const Vector third = across(ends[2]);
     const Wide rise = dot(third, subtract(ends[2].corner->first, start));
-    const Face face = *bench.face_of(ends[0].half);
+    const Face face = bench.face_of(ends[0].half);
     if (rise == 0)
-        return apart;
+        throw apart;
     if (longest(line) > 4 * Wide{farthest}) // as far from the start as no point in range
-        return impossible(Misfit::off_lattice, face.number());
+        throw impossible(Misfit::off_lattice, face.number());
     const Wide slope = dot(third, line);
     if (slope == 0)
-        return apart;
+        throw apart;
     if (rise % slope != 0)
-        return impossible(Misfit::off_lattice, face.number());
-    return magnitude(rise / slope) > 4 * Wide{farthest} ? refused(GWB_WHY_POINT_RANGE, 0) : Result<Vector>(add(start, times(line, rise / slope)));
+        throw impossible(Misfit::off_lattice, face.number());
+    if (magnitude(rise / slope) > 4 * Wide{farthest})
+        throw refused(GWB_WHY_POINT_RANGE, 0);
+    return add(start, times(line, rise / slope));
 }
 
 /// Joins slopes of edges that end at a vertex. Not possible: NoCorner: more than three edges end there, or the slopes don't meet in one point.
-inline Result<void> join_slopes(const Attempts &bench, Vertex vertex, const std::vector<End> &ends)
+inline void join_slopes(const Bench &bench, Vertex vertex, const std::vector<End> &ends)
 {
     const Failure apart = impossible(Misfit::no_corner, vertex.number());
     std::set<Vector> points;
@@ -261,20 +240,17 @@ inline Result<void> join_slopes(const Attempts &bench, Vertex vertex, const std:
     }
     const auto edges = bench.around(ends[0].half);
     if (std::distance(edges.begin(), edges.end()) > 3 || points.size() != ends.size())
-        return apart;
+        throw apart;
     if (ends.size() < 3)
-        return {};
-    const Result<Vector> between = common_point(bench, ends, apart);
-    if (!between)
-        return between.error();
+        return;
+    const Vector between = common_point(bench, ends, apart);
     for (const End &end : ends)
-        end.corner->between = *between;
-    return {};
+        end.corner->between = between;
 }
 
 /// The wedges along edges, so far into the faces of their first half-edges, where their lids lie, and into the others; if there are several both
 /// are as far. The floors are the slopes.
-inline Result<Tool> chamfer_tool(const Attempts &bench, const std::vector<Edge> &edges, std::int64_t first, std::int64_t second)
+inline Tool chamfer_tool(const Bench &bench, const std::vector<Edge> &edges, std::int64_t first, std::int64_t second)
 {
     const std::set<Edge> lined(edges.begin(), edges.end());
     std::vector<std::array<Corner, 2>> corners(edges.size());
@@ -282,20 +258,15 @@ inline Result<Tool> chamfer_tool(const Attempts &bench, const std::vector<Edge> 
     for (std::size_t at = 0; at < edges.size(); at++) {
         const HalfEdge half = plus(edges[at]), twin = half.twin();
         const auto near = setbacks(bench, half, first, lined);
-        if (!near)
-            return near.error();
         const auto far = setbacks(bench, twin, second, lined);
-        if (!far)
-            return far.error();
         const Vector start = start_of(bench, half), end = start_of(bench, twin);
-        corners[at] = {Corner{start, (*near)[0], (*far)[1]}, Corner{end, (*near)[1], (*far)[0]}};
-        ends[*bench.start_of(half)].push_back({&corners[at][0], half, subtract(end, start)});
-        ends[*bench.start_of(twin)].push_back({&corners[at][1], twin, subtract(end, start)});
+        corners[at] = {Corner{start, near[0], far[1]}, Corner{end, near[1], far[0]}};
+        ends[bench.start_of(half)].push_back({&corners[at][0], half, subtract(end, start)});
+        ends[bench.start_of(twin)].push_back({&corners[at][1], twin, subtract(end, start)});
     }
     for (const auto &[vertex, here] : ends)
         if (here.size() > 1)
-            if (const Result<void> joined = join_slopes(bench, vertex, here); !joined)
-                return joined.error();
+            join_slopes(bench, vertex, here);
     Tool tool;
     for (const auto &[start, end] : corners) {
         Wedge made = wedge(start, end);
@@ -308,40 +279,36 @@ inline Result<Tool> chamfer_tool(const Attempts &bench, const std::vector<Edge> 
 }
 
 /// Whether the solid has less than half of the room around an edge; refused where its faces lie in one plane.
-inline Result<bool> bends_outwards(const Attempts &bench, HalfEdge half)
+inline bool bends_outwards(const Bench &bench, HalfEdge half)
 {
-    const Result<Vector> across = flat_normal(bench, *bench.face_of(half));
-    if (!across)
-        return across.error();
-    const Face other = *bench.face_of(half.twin());
-    const Result<FacePlane> beyond = plane_of(bench, other);
-    if (!beyond)
-        return beyond.error();
-    if (are_parallel(*across, beyond->across()))
-        return impossible(Misfit::flat_edge, half.edge().number());
+    const Vector across = flat_normal(bench, bench.face_of(half));
+    const Face other = bench.face_of(half.twin());
+    const FacePlane beyond = plane_of(bench, other);
+    if (are_parallel(across, beyond.across()))
+        throw impossible(Misfit::flat_edge, half.edge().number());
     // (what is across both normals runs along the edge, so one part of it tells which way)
     const Axes axes = flat_axes(subtract(start_of(bench, half.twin()), start_of(bench, half)));
-    const Vector &one = *across, &other_one = beyond->across();
+    const Vector &one = across, &other_one = beyond.across();
     return compare_products(one[axes[0]], other_one[axes[1]], one[axes[1]], other_one[axes[0]]) > 0;
 }
 
 // ---- what is changed
 
 /// The faces of a tool as sheets: the lids, the floors, and then the walls; seen from outside, or from inside where they cut.
-inline Result<std::vector<Sheet>> sheets_of(const Tool &tool, bool are_cut)
+inline std::vector<Sheet> sheets_of(const Tool &tool, bool are_cut)
 {
     std::vector<Path> paths;
     for (const std::vector<Path> *part : {&tool.lids, &tool.floors, &tool.walls})
         paths.insert(paths.end(), part->begin(), part->end());
     for (const Path &path : paths)
         if (!std::all_of(path.begin(), path.end(), is_in_range))
-            return refused(GWB_WHY_POINT_RANGE, 0);
+            throw refused(GWB_WHY_POINT_RANGE, 0);
     std::vector<Sheet> sheets;
     for (const Path &seen : paths) {
         const Path path = are_cut ? backwards(seen) : seen;
         const Vector across = area_vector(path);
         if (is_zero(across) || !std::all_of(path.begin(), path.end(), [&](const Vector &at) { return dot(across, subtract(at, path[0])) == 0; }))
-            return refused(GWB_WHY_NOT_FLAT, 0);
+            throw refused(GWB_WHY_NOT_FLAT, 0);
         Cycle cycle; // (a strip may end in a point)
         for (std::size_t at = 0; at < path.size(); at++)
             if (const Vector &next = path[(at + 1) % path.size()]; next != path[at])
@@ -352,7 +319,7 @@ inline Result<std::vector<Sheet>> sheets_of(const Tool &tool, bool are_cut)
 }
 
 /// Whether the faces of a tool meet or touch each other elsewhere than at their sides.
-inline bool meets_itself(const Attempts &bench, Solid solid, const std::vector<Sheet> &sheets)
+inline bool meets_itself(const Bench &bench, Solid solid, const std::vector<Sheet> &sheets)
 {
     std::vector<sheets::Region> regions;
     std::transform(sheets.begin(), sheets.end(), std::back_inserter(regions), sheets::unchanged);
@@ -363,121 +330,101 @@ inline bool meets_itself(const Attempts &bench, Solid solid, const std::vector<S
 }
 
 /// Cuts a tool out of the solid of a face, in which its first lid lies, or puts it on.
-inline Result<Combined> change(Attempts &bench, Face face, const Tool &tool, bool is_cut)
+inline Combined change(Bench &bench, Face face, const Tool &tool, bool is_cut)
 {
-    const Result<std::vector<Sheet>> added = sheets_of(tool, is_cut);
+    const Result<std::vector<Sheet>> added = tried([&] { return sheets_of(tool, is_cut); });
     const Failure meets = impossible(Misfit::meets, face.number());
     if (!added) // (slopes that lie as far on both sides of their edges are flat, but where there is no room they are twisted)
-        return tool.lids.size() > 1 && added.error().is(GWB_WHY_NOT_FLAT) ? meets : added.error();
-    const Solid solid = bench.face(face)->solid;
+        throw tool.lids.size() > 1 && added.error().is(GWB_WHY_NOT_FLAT) ? meets : added.error();
+    const Solid solid = bench.face(face).solid;
     if (tool.lids.size() > 1 && meets_itself(bench, solid, *added))
-        return meets;
-    const auto combine = [&](const Part &part, AllNames &names) -> Result<Combined> {
-        const Result<std::vector<Sheet>> sheets = combining::sheets_of(part.model);
-        if (!sheets)
-            return sheets.error();
-        Result<Combined> found = combined(bench, solid, Held(bench, part.model), *sheets, *added, names, meets);
-        for (std::size_t lid = 0; found && lid < tool.lids.size(); lid++)
-            if (!found->marked(lid).empty())
-                return impossible(Misfit::outline_outside, face.number());
-        if (found && has_contact({&part.model}, found->made.model, *sheets, *added))
-            return meets;
+        throw meets;
+    const auto combine = [&](const Part &part, AllNames &names) {
+        const std::vector<Sheet> sheets = combining::sheets_of(part.model);
+        Combined found = combined(bench, solid, Held(bench, part.model), sheets, *added, names, meets);
+        for (std::size_t lid = 0; lid < tool.lids.size(); lid++)
+            if (!found.marked(lid).empty())
+                throw impossible(Misfit::outline_outside, face.number());
+        if (has_contact({&part.model}, found.made.model, sheets, *added))
+            throw meets;
         return found;
     };
-    return make_near(bench, solid, box_of(*added), combine, [] { return Result<void>(); });
+    return make_near(bench, solid, box_of(*added), combine, [] {});
 }
 
 /// The same, with the floors and walls that the tool leaves.
-inline Result<Notch> cut_out(Attempts &bench, Face face, const Result<Tool> &tool)
+inline Notch cut_out(Bench &bench, Face face, const Tool &tool)
 {
-    if (!tool)
-        return tool.error();
-    const Result<Combined> made = change(bench, face, *tool, true);
-    if (!made)
-        return made.error();
+    const Combined made = change(bench, face, tool, true);
     const auto marked = [&](std::size_t from, std::size_t count) {
         std::set<Face> found;
         for (std::size_t mark = from; mark < from + count; mark++)
-            found.merge(made->marked(mark));
+            found.merge(made.marked(mark));
         return std::vector<Face>(found.begin(), found.end());
     };
-    const std::size_t first_wall = tool->lids.size() + tool->floors.size();
-    Notch notch{marked(tool->lids.size(), tool->floors.size()), {}};
-    notch.walls = marked(first_wall, tool->walls.size());
+    const std::size_t first_wall = tool.lids.size() + tool.floors.size();
+    Notch notch{marked(tool.lids.size(), tool.floors.size()), {}};
+    notch.walls = marked(first_wall, tool.walls.size());
     return notch;
 }
 
 /// Refuses sizes below 1, and a face that isn't there.
-inline Result<void> given(const Attempts &bench, Face face, std::initializer_list<std::int64_t> sizes)
+inline void given(const Bench &bench, Face face, std::initializer_list<std::int64_t> sizes)
 {
     std::uint32_t number = 0;
     for (std::int64_t size : sizes)
         if (number++; size < 1)
-            return refused(GWB_WHY_SIZE_RANGE, number);
-    const Result<FacePlane> plane = plane_of(bench, face);
-    return plane ? Result<void>() : Result<void>(plane.error());
+            throw refused(GWB_WHY_SIZE_RANGE, number);
+    (void)plane_of(bench, face);
 }
 
 /// A feature in a face by a tool that is made of points and sizes.
 template <class MakeTool>
-Result<Notch> cut_in_face(Attempts &bench, Face face, Items<Point> points, std::initializer_list<std::int64_t> sizes, MakeTool make)
+Notch cut_in_face(Bench &bench, Face face, Items<Point> points, std::initializer_list<std::int64_t> sizes, MakeTool make)
 {
-    const Result<void> allowed = given(bench, face, sizes);
-    if (!allowed)
-        return allowed.error();
-    const Result<Path> path = path_of(points);
-    return path ? cut_out(bench, face, make(*path)) : Result<Notch>(path.error());
+    given(bench, face, sizes);
+    return cut_out(bench, face, make(path_of(points)));
 }
 
-inline Result<Notch> cut_shoulder(Attempts &bench, Face face, Edge edge, std::int64_t width, std::int64_t depth)
+inline Notch cut_shoulder(Bench &bench, Face face, Edge edge, std::int64_t width, std::int64_t depth)
 {
-    const Result<void> allowed = given(bench, face, {width, depth});
-    if (!allowed)
-        return allowed.error();
-    const auto faces = bench.faces_of(edge);
+    given(bench, face, {width, depth});
+    const auto faces = bench.attempt().faces_of(edge);
     if (!faces)
-        return refused(GWB_WHY_NO_EDGE, edge.number());
+        throw refused(GWB_WHY_NO_EDGE, edge.number());
     if ((*faces)[0] != face && (*faces)[1] != face)
-        return impossible(Misfit::not_of_face, edge.number());
+        throw impossible(Misfit::not_of_face, edge.number());
     return cut_out(bench, face, shoulder_tool(bench, (*faces)[0] == face ? plus(edge) : minus(edge), width, depth));
 }
 
 /// Whether edges of one solid all bend outwards, or none does. Not possible: NotAlike.
-inline Result<bool> all_bend_outwards(const Attempts &bench, const std::vector<Edge> &edges)
+inline bool all_bend_outwards(const Bench &bench, const std::vector<Edge> &edges)
 {
     std::optional<std::pair<Solid, bool>> first;
     for (Edge edge : edges) {
-        if (!bench.edge(edge))
-            return refused(GWB_WHY_NO_EDGE, edge.number());
-        const Result<bool> is_outer = bends_outwards(bench, plus(edge));
-        if (!is_outer)
-            return is_outer;
-        const std::pair<Solid, bool> own = {bench.face(*bench.face_of(plus(edge)))->solid, *is_outer};
+        if (!has(bench.attempt().edge(edge)))
+            throw refused(GWB_WHY_NO_EDGE, edge.number());
+        const bool is_outer = bends_outwards(bench, plus(edge));
+        const std::pair<Solid, bool> own = {bench.face(bench.face_of(plus(edge))).solid, is_outer};
         if (first.value_or(own) != own)
-            return impossible(Misfit::not_alike, edge.number());
+            throw impossible(Misfit::not_alike, edge.number());
         first = own;
     }
     return first->second;
 }
 
 /// Edges become slopes: their faces.
-inline Result<std::vector<Face>> make_chamfers(Attempts &bench, const std::vector<Edge> &edges, std::int64_t width, std::int64_t other)
+inline std::vector<Face> make_chamfers(Bench &bench, const std::vector<Edge> &edges, std::int64_t width, std::int64_t other)
 {
     if (width < 1 || other < 1)
-        return refused(GWB_WHY_SIZE_RANGE, width < 1 ? 1 : 2);
-    const Result<bool> are_outer = all_bend_outwards(bench, edges);
-    if (!are_outer)
-        return are_outer.error();
-    const Result<Tool> tool = chamfer_tool(bench, edges, width, other);
-    if (!tool)
-        return tool.error();
-    const Face face = *bench.face_of(plus(edges[0]));
-    const Result<Combined> made = change(bench, face, *tool, *are_outer);
-    if (!made)
-        return made.error();
+        throw refused(GWB_WHY_SIZE_RANGE, width < 1 ? 1 : 2);
+    const bool are_outer = all_bend_outwards(bench, edges);
+    const Tool tool = chamfer_tool(bench, edges, width, other);
+    const Face face = bench.face_of(plus(edges[0]));
+    const Combined made = change(bench, face, tool, are_outer);
     std::vector<Face> slopes;
     for (std::size_t at = 0; at < edges.size(); at++)
-        slopes.push_back(*made->marked(edges.size() + at).begin());
+        slopes.push_back(*made.marked(edges.size() + at).begin());
     return slopes;
 }
 

@@ -28,6 +28,24 @@ struct Side {
 
 using Cycle = std::vector<Side>;
 
+/// The points that a cycle goes through.
+inline Path points_of(const Cycle &cycle)
+{
+    Path points;
+    for (const Side &side : cycle)
+        points.push_back(side.start);
+    return points;
+}
+
+/// Twice the area that cycles go round, as a vector.
+inline Vector area_of(const std::vector<Cycle> &cycles)
+{
+    Vector sum{};
+    for (const Cycle &cycle : cycles)
+        sum = add(sum, area_vector(points_of(cycle)));
+    return sum;
+}
+
 /// A plane, whichever way it is looked at: its reduced normal, the first part of which that isn't zero is positive, and its height.
 using Level = std::pair<Vector, Wide>;
 
@@ -58,11 +76,7 @@ struct Sheet {
     }
     [[nodiscard]] Path points() const
     {
-        Path all;
-        for (const Cycle &cycle : cycles)
-            for (const Side &side : cycle)
-                all.push_back(side.start);
-        return all;
+        return points_of(sides());
     }
     [[nodiscard]] bool lies_in(const Level &level) const
     {
@@ -206,6 +220,15 @@ private:
     std::map<Vector, std::vector<std::size_t>> leaving_;
 };
 
+/// The regions that sides come to. Not possible, for what the caller says: they make no outlines.
+inline std::vector<std::vector<Cycle>> regions_of(const std::vector<Side> &sides, const Vector &across, const Failure &why)
+{
+    auto regions = Traced(sides, across).regions();
+    if (!regions)
+        throw why;
+    return std::move(*regions);
+}
+
 // ---- sheets of one plane
 
 /// Sets that only grow together.
@@ -245,17 +268,15 @@ public:
 
     /// The regions that they come to. Refused: Overlap, as Meets: two that look one way have room in common; OffLattice: two sides cross
     /// between whole coordinates.
-    Result<std::vector<Region>> regions()
+    std::vector<Region> regions()
     {
-        if (!emit())
-            return failure_;
+        emit();
         std::map<std::size_t, std::vector<std::size_t>> members;
         for (std::size_t at = 0; at < sheets_.size(); at++)
             members[joined_.name(at)].push_back(at);
         std::vector<Region> found;
         for (const auto &[name, places] : members)
-            if (!put_regions(places, found))
-                return impossible(Misfit::meets, 0);
+            put_regions(places, found);
         return found;
     }
 
@@ -269,7 +290,7 @@ private:
         Side side;
     };
 
-    bool put_regions(const std::vector<std::size_t> &places, std::vector<Region> &found) const
+    void put_regions(const std::vector<std::size_t> &places, std::vector<Region> &found) const
     {
         std::vector<Side> sides;
         Region made{{}, {}, sheets_[places[0]].across, {}};
@@ -282,14 +303,12 @@ private:
         const std::vector<Side> own = sheets_[places[0]].sides();
         if (places.size() == 1 && std::set<Side>(sides.begin(), sides.end()) == std::set<Side>(own.begin(), own.end())) {
             found.push_back(unchanged(sheets_[places[0]]));
-            return true;
+            return;
         }
-        const auto regions = Traced(places.size() > 2 ? without_seams(sides) : sides, made.across).regions();
-        for (const std::vector<Cycle> &cycles : regions.value_or(std::vector<std::vector<Cycle>>())) {
+        for (const std::vector<Cycle> &cycles : regions_of(places.size() > 2 ? without_seams(sides) : sides, made.across, impossible(Misfit::meets, 0))) {
             made.cycles = cycles;
             found.push_back(made);
         }
-        return regions.has_value();
     }
 
     /// The sides without those that are there in both directions.
@@ -304,26 +323,20 @@ private:
     }
 
     /// Each side, or part of one, goes to the sheets that it bounds afterwards.
-    bool emit()
+    void emit()
     {
-        const std::optional<Pieces> pieces = cut_pieces();
-        if (!pieces)
-            return false;
+        const Pieces pieces = cut_pieces();
         std::vector<std::array<std::vector<std::size_t>, 2>> beside;
-        for (const auto &[ends, parts] : *pieces) {
-            const auto left = left_over(ends, parts, true), right = left_over(ends, parts, false);
-            if (!left || !right)
-                return false;
-            join(*left, *right);
-            beside.push_back({*left, *right});
+        for (const auto &[ends, parts] : pieces) {
+            beside.push_back({left_over(ends, parts, true), left_over(ends, parts, false)});
+            join(beside.back()[0], beside.back()[1]);
         }
         auto sides = beside.begin();
-        for (const auto &[ends, parts] : *pieces) {
+        for (const auto &[ends, parts] : pieces) {
             keep(only((*sides)[0], (*sides)[1]), parts, ends);
             keep(only((*sides)[1], (*sides)[0]), parts, {ends.second, ends.first});
             ++sides;
         }
-        return true;
     }
 
     /// Those that are of no set with one of the others.
@@ -371,7 +384,7 @@ private:
     }
 
     /// The sheets beside a piece, left of it or right, without those that go: an added one and a held one that look against each other.
-    std::optional<std::vector<std::size_t>> left_over(const Ends &ends, const Parts &parts, bool on_left)
+    std::vector<std::size_t> left_over(const Ends &ends, const Parts &parts, bool on_left)
     {
         go_on();
         std::set<std::size_t> found;
@@ -382,17 +395,15 @@ private:
             if (!sheets_[place].is_added())
                 continue;
             const auto looks_alike = [&](std::size_t other) { return other != place && sheets_[other].is_facing() == sheets_[place].is_facing(); };
-            if (std::any_of(found.begin(), found.end(), looks_alike)) {
-                failure_ = impossible(Misfit::meets, 0);
-                return std::nullopt;
-            }
+            if (std::any_of(found.begin(), found.end(), looks_alike))
+                throw impossible(Misfit::meets, 0);
             const auto against = std::find_if(found.begin(), found.end(), [&](std::size_t other) { return !sheets_[other].is_added(); });
             if (against != found.end()) {
                 found.erase(against);
                 found.erase(place);
             }
         }
-        return std::vector<std::size_t>(found.begin(), found.end());
+        return {found.begin(), found.end()};
     }
 
     /// Whether the sheet lies on this side of the piece.
@@ -407,7 +418,7 @@ private:
     }
 
     /// The parts of sides near added sheets; the other sides are kept as they are.
-    std::optional<Pieces> cut_pieces()
+    Pieces cut_pieces()
     {
         std::vector<Near> near;
         for (std::size_t place = 0; place < sheets_.size(); place++)
@@ -423,11 +434,9 @@ private:
         Pieces found;
         for (const Near &one : near) {
             go_on();
-            const std::optional<Path> stops = cut(one, near, index);
-            if (!stops)
-                return std::nullopt;
-            for (std::size_t at = 1; at < stops->size(); at++) {
-                const Side part{(*stops)[at - 1], (*stops)[at], one.side.half};
+            const Path stops = cut(one, near, index);
+            for (std::size_t at = 1; at < stops.size(); at++) {
+                const Side part{stops[at - 1], stops[at], one.side.half};
                 found[std::minmax(part.start, part.end)][one.place].push_back(part);
             }
         }
@@ -435,7 +444,7 @@ private:
     }
 
     /// The points at which a side is cut, its ends included: those where one of the others, held against added, meets it.
-    std::optional<Path> cut(const Near &one, const std::vector<Near> &near, const BoxIndex &index)
+    [[nodiscard]] Path cut(const Near &one, const std::vector<Near> &near, const BoxIndex &index) const
     {
         std::set<Vector> points = {one.side.start, one.side.end};
         const Segment own(spot(one.side.start, axes_), spot(one.side.end, axes_));
@@ -448,8 +457,8 @@ private:
                 points.insert(other.side.start);
             if (own.holds(across.end))
                 points.insert(other.side.end);
-            if (own.crosses(across) && !put_crossing(one.side, own, across, points))
-                return std::nullopt;
+            if (own.crosses(across))
+                points.insert(crossing(one.side, own, across));
         }
         Path path(points.begin(), points.end());
         if (one.side.end < one.side.start)
@@ -457,22 +466,19 @@ private:
         return path;
     }
 
-    /// Puts in the point where two sides cross; refused where it isn't whole.
-    bool put_crossing(const Side &side, const Segment &own, const Segment &across, std::set<Vector> &points)
+    /// The point where two sides cross; refused where it isn't whole.
+    static Vector crossing(const Side &side, const Segment &own, const Segment &across)
     {
         const auto turn = [&](const Spot &at) { return across.x * (at.y - across.start.y) - across.y * (at.x - across.start.x); };
         const Wide before = turn(own.start), whole = before - turn(own.end);
         Vector at = side.start;
         for (std::size_t axis = 0; axis < 3; axis++) {
             const Wide along = before * side.way()[axis];
-            if (along % whole != 0) {
-                failure_ = impossible(Misfit::off_lattice, side.half.edge().number());
-                return false;
-            }
+            if (along % whole != 0)
+                throw impossible(Misfit::off_lattice, side.half.edge().number());
             at[axis] += along / whole;
         }
-        points.insert(at);
-        return true;
+        return at;
     }
 
     std::vector<Sheet> sheets_;
@@ -482,7 +488,6 @@ private:
     std::vector<std::vector<Side>> kept_;
     std::vector<Outline> outlines_;
     BoxIndex boxes_; ///< around the sheets, by their places
-    Failure failure_;
 };
 
 /// The box around what is added.
@@ -527,7 +532,7 @@ struct Planes {
 };
 
 /// What sheets come to where others are added to them; what lies in no plane of an added one stays.
-inline Result<std::vector<Region>> overlaid(const std::vector<Sheet> &held, const std::vector<Sheet> &added)
+inline std::vector<Region> overlaid(const std::vector<Sheet> &held, const std::vector<Sheet> &added)
 {
     Planes planes(added);
     std::vector<Region> found;
@@ -540,10 +545,8 @@ inline Result<std::vector<Region>> overlaid(const std::vector<Sheet> &held, cons
     }
     for (InPlane &plane : planes.all) {
         plane.held.insert(plane.held.end(), plane.added.begin(), plane.added.end());
-        const Result<std::vector<Region>> made = Overlay(plane.held, plane.box).regions();
-        if (!made)
-            return made.error();
-        found.insert(found.end(), made->begin(), made->end());
+        const std::vector<Region> made = Overlay(plane.held, plane.box).regions();
+        found.insert(found.end(), made.begin(), made.end());
     }
     return found;
 }

@@ -59,66 +59,57 @@ private:
 template <class Flat> Wide size_of(const std::vector<Flat> &regions)
 {
     Wide size = 0;
-    for (const Flat &region : regions) {
-        Vector sum{};
-        for (const Cycle &cycle : region.cycles)
-            for (const Side &side : cycle)
-                sum = add(sum, cross(subtract(side.start, cycle[0].start), subtract(side.end, cycle[0].start)));
-        size += magnitude(sum[0]) + magnitude(sum[1]) + magnitude(sum[2]);
-    }
+    for (const Flat &region : regions)
+        for (Wide part : area_of(region.cycles))
+            size += magnitude(part);
     return size;
 }
 
 /// Adds a solid to another one, which it touches. Not possible: NoContact: it doesn't; Overlap.
-inline Result<Combined> add(Attempts &bench, Solid solid, Solid gone)
+inline Combined add(Bench &bench, Solid solid, Solid gone)
 {
     const Model other = Model::whole(bench, gone);
-    Result<std::vector<Sheet>> added = sheets_of(other);
-    if (!added)
-        return added.error();
-    for (std::size_t at = 0; at < added->size(); at++)
-        (*added)[at].mark = at;
+    std::vector<Sheet> added = sheets_of(other);
+    for (std::size_t at = 0; at < added.size(); at++)
+        added[at].mark = at;
     const Failure overlap = impossible(Misfit::overlap, solid.number());
-    const auto combine = [&](const Part &part, AllNames &names) -> Result<Combined> {
-        const Result<std::vector<Sheet>> sheets = sheets_of(part.model);
-        if (!sheets)
-            return sheets.error();
-        Result<Combined> found = combined(bench, solid, Held(bench, part.model.with({}, other)), *sheets, *added, names, overlap);
-        if (found && size_of(found->regions) == size_of(*sheets) + size_of(*added))
-            return impossible(Misfit::no_contact, gone.number());
-        if (found && has_contact({&part.model, &other}, found->made.model, *sheets, *added))
-            return overlap;
+    const auto combine = [&](const Part &part, AllNames &names) {
+        const std::vector<Sheet> sheets = sheets_of(part.model);
+        Combined found = combined(bench, solid, Held(bench, part.model.with({}, other)), sheets, added, names, overlap);
+        if (size_of(found.regions) == size_of(sheets) + size_of(added))
+            throw impossible(Misfit::no_contact, gone.number());
+        if (has_contact({&part.model, &other}, found.made.model, sheets, added))
+            throw overlap;
         return found;
     };
-    return make_near(bench, solid, box_of(*added), combine, [&] { return taken_away(bench, gone); });
+    return make_near(bench, solid, box_of(added), combine, [&] { take_away(bench, gone); });
 }
 
 /// Adds the first of some solids that touches another one to it, and takes it out. Not possible: NoContact: none does.
-inline Result<Combined> add_first(Attempts &bench, Solid solid, std::vector<Solid> &others)
+inline Combined add_first(Bench &bench, Solid solid, std::vector<Solid> &others)
 {
     for (auto other = others.begin(); other != others.end(); ++other) {
-        Result<Combined> made = add(bench, solid, *other);
-        if (made)
+        Result<Combined> made = tried([&] { return add(bench, solid, *other); });
+        if (!made && !made.error().is(Misfit::no_contact))
+            throw made.error();
+        if (made) {
             others.erase(other);
-        if (made || !made.error().is(Misfit::no_contact))
-            return made;
+            return std::move(*made);
+        }
     }
-    return impossible(Misfit::no_contact, others.front().number());
+    throw impossible(Misfit::no_contact, others.front().number());
 }
 
 /// Makes one solid of several, with the number of the first.
-inline Result<Became> unite(Attempts &bench, const std::vector<Solid> &solids)
+inline Became unite(Bench &bench, const std::vector<Solid> &solids)
 {
     for (Solid solid : solids)
         if (bench.faces(solid).empty())
-            return refused(GWB_WHY_NO_SOLID, solid.number());
+            throw refused(GWB_WHY_NO_SOLID, solid.number());
     std::vector<Solid> left(solids.begin() + 1, solids.end());
     Became became;
     while (!left.empty()) {
-        const Result<Combined> made = add_first(bench, solids[0], left);
-        if (!made)
-            return made.error();
-        became.follow(*made);
+        became.follow(add_first(bench, solids[0], left));
     }
     return became;
 }

@@ -1,0 +1,32 @@
+/// @file throwing.hpp What a feature is refused for, or why it isn't possible, is thrown as a Failure: that takes no memory.
+#ifndef GWB_FEATURES_THROWING_HPP
+#define GWB_FEATURES_THROWING_HPP
+#include "gwb.hpp"
+
+namespace gwb_session {
+
+/// What calls of a workbench give in features: their value. What isn't accepted is thrown.
+struct Failing {
+    template <class T> using Returned = T;
+    template <class T> [[noreturn]] static T failed(std::string_view, Failure failure) { throw failure; }
+    /// A range ends where there is nothing more.
+    static void ended(Failure) {}
+};
+
+using Bench = Commands<Failing>;
+
+/// Whether there is what a reader was asked for.
+template <class T> bool has(const Result<T> &found) { return static_cast<bool>(found); }
+
+/// What a call gives, or the failure that it throws.
+template <class Call> auto tried(Call call) -> Result<decltype(call())>
+{
+    try {
+        return call();
+    } catch (const Failure &failure) {
+        return failure;
+    }
+}
+
+} // namespace gwb_session
+#endif
