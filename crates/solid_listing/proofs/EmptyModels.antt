@@ -4,8 +4,7 @@ use Rattle.euler_operators.specs.Common.{Kind, Solid, Face, Loop, Edge, Vertex, 
 use Rattle.euler_operators.specs.Table as table
 use Rattle.euler_operators.proofs.Common.{plus_row, held_row, lone_there, one_or_more}
 use Rattle.euler_conditions.specs.Store.{Store, IsGreatest}
-use Rattle.solid_listing.specs.Lines.{text_of}
-use Rattle.solid_listing.specs.Listing.{line, numbers_of, lines, or_empty, listing}
+use Rattle.solid_listing.specs.Common.{text_of, line, numbers_of, lines, or_empty, listing}
 use Rattle.solid_listing.proofs.Lines.{here}
 use Rattle.solid_walks.proofs.face_walks_laws.TableWalks.{member_numbers}
 use Rattle.solid_walks.proofs.face_walks_laws.Above.{member}

@@ -5,8 +5,7 @@ use Rattle.std.proofs.lemmas.Fmt.{decimal_injective, signed_decimal_injective}
 use Rattle.std.specs.Fmt.{signed_decimal}
 use Rattle.euler_operators.specs.Common.{Point, is_coordinate, is_in_range, Kind, Solid, Face, Loop, Edge, Vertex, plus, minus, edge_of, is_first, Table, get, has, numbers, same_table, Model, LoopContent, lone, cycle, solid_of, outer, face_of, content, tail, point_of, rings_of, Sound, Has}
 use Rattle.euler_operators.proofs.Common.{content_row, face_row, solid_row, outer_row, point_row, plus_tail_row, minus_tail_row, and_first, and_second}
-use Rattle.solid_listing.specs.Lines.{text_of}
-use Rattle.solid_listing.specs.Listing.{line, content_words, half_word, lines, or_empty, listing}
+use Rattle.solid_listing.specs.Common.{text_of, line, content_words, half_word, lines, or_empty, listing}
 use Rattle.solid_walks.proofs.face_walks_laws.Above.{member}
 use Rattle.solid_walks.proofs.face_walks_laws.RingWalks.{member_rings}
 use Rattle.solid_listing.proofs.Parsing.{Word, Line, is_good, are_good, parsed, parsed_text, parsed_one}
@@ -108,9 +107,6 @@ module _ (M N : Model) (one : Sound M) (two : Sound N) (same : lines M ≡ lines
   contents_told l (cycle hs) (cycle gs) p q e = ap cycle (same_numbers half_word half_word hs gs
       (λ h g a b s. half_told h g (small M one Edge (edge_of h) (item_there M one l hs p h a)) (small N two Edge (edge_of g) (item_there N two l gs q g b)) s) e)
 
-  content_told : (l : ℕ) → Has M.loops l → content M l ≡ content N l
-  content_told l there = contents_told l (content M l) (content N l) refl refl (cc (told Loop l there))
-
   plus_told : (e : ℕ) → Has M.edges e → tail M (plus e) ≡ tail N (plus e)
   plus_told e there = decimal_injective (tail M (plus e)) (tail N (plus e)) (plus_tail_small M one e there) (plus_tail_small N two e (sym (used Edge e) ∙ there))
       (cc (told Edge e there))
@@ -146,7 +142,7 @@ module _ (M N : Model) (one : Sound M) (two : Sound N) (same : lines M ≡ lines
   same_loops : M.loops ≡ N.loops
   same_loops = same_rows M.loops N.loops (used Loop) (λ q x y at bt.
       let f = sym (face_row M q x at) ∙ face_told q (ap is_some at) ∙ face_row N q y bt in
-      let c = sym (content_row M q x at) ∙ content_told q (ap is_some at) ∙ content_row N q y bt in
+      let c = sym (content_row M q x at) ∙ (contents_told q (content M q) (content N q) refl refl (cc (told Loop q (ap is_some at)))) ∙ content_row N q y bt in
       λ i. record { face = f i; content = c i })
 
   same_edges : M.edges ≡ N.edges

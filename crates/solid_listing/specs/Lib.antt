@@ -3,3 +3,4 @@ pub mod Lines
 pub mod Listing
 pub mod Replies
 pub mod Telling
+pub mod Common

@@ -1,9 +1,7 @@
 //! The half-edges of a loop, from the least on.
 ghost use Rattle.std.specs.Prelude.{◌≡◌, true, ◌∷◌, map};
 ghost use Rattle.euler_operators.specs.Common.{least, code, has_half, cycle_of, Sound};
-ghost use Rattle.solid_listing.specs.Lines.{spaced};
-ghost use Rattle.solid_listing.specs.Listing.{half_word};
-ghost use Rattle.solid_listing.specs.Writing.{Tells, outgoing};
+ghost use Rattle.solid_listing.specs.Common.{spaced, half_word, Tells, outgoing};
 
 use crate::pending::{Text, put};
 use crate::text::put_number;

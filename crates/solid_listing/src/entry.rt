@@ -2,9 +2,7 @@
 ghost use Rattle.std.specs.Prelude.{◌≡◌, true, map, decimal};
 ghost use Rattle.euler_operators.specs.Common.{rings_of, content, Sound};
 ghost use Rattle.euler_conditions.specs.Store.{has_number};
-ghost use Rattle.solid_listing.specs.Lines.{spaced, line_text};
-ghost use Rattle.solid_listing.specs.Listing.{line, content_words};
-ghost use Rattle.solid_listing.specs.Writing.{Tells, outgoing};
+ghost use Rattle.solid_listing.specs.Common.{spaced, line_text, line, content_words, Tells, outgoing};
 
 use crate::cycle::write_cycle;
 use crate::pending::{Text, put};

@@ -1,8 +1,6 @@
 //! Listings.
 ghost use Rattle.euler_operators.specs.Common.{Sound};
-ghost use Rattle.solid_listing.specs.Lines.{text_of};
-ghost use Rattle.solid_listing.specs.Listing.{kind_lines, lines, listing};
-ghost use Rattle.solid_listing.specs.Writing.{Puts, Tells, outgoing};
+ghost use Rattle.solid_listing.specs.Common.{text_of, kind_lines, lines, listing, Puts, Tells, outgoing};
 
 use crate::entry::write_entry;
 use crate::pending::{Text, put, release};

@@ -1,6 +1,6 @@
 //! A text that is put together before it is written.
 ghost use Rattle.std.specs.Prelude.{◌≡◌, []};
-ghost use Rattle.solid_listing.specs.Writing.{Puts, Tells, outgoing};
+ghost use Rattle.solid_listing.specs.Common.{Puts, Tells, outgoing, Takes};
 
 use crate::writing::{WriteFault, write_whole};
 use arrayvec::ArrayVec;
@@ -23,7 +23,6 @@ impl Model for Text {
 
 impl Text {
     ghost use Rattle.std.specs.Prelude.{◌≡◌, []};
-    ghost use Rattle.solid_listing.specs.Writing.{Takes};
 
     /// No text.
     pub fn new() -> Text

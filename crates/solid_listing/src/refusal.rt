@@ -1,7 +1,6 @@
 //! The line of a refusal.
 ghost use Rattle.std.specs.Prelude.{◌≡◌, ◌∷◌, [], ◌++◌, IfSome, decimal};
-ghost use Rattle.solid_listing.specs.Replies.{refused_head, reply_text};
-ghost use Rattle.solid_listing.specs.Writing.{Tells, outgoing};
+ghost use Rattle.solid_listing.specs.Common.{refused_head, reply_text, Tells, outgoing};
 ghost use Rattle.solid_listing.specs.declared.reply.Reply.TheVariants.{Refused};
 
 use crate::pending::{Text, put};

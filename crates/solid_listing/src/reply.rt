@@ -1,8 +1,6 @@
 //! Replies.
 ghost use Rattle.std.specs.Prelude.{◌++◌, codes};
-ghost use Rattle.solid_listing.specs.Lines.{spaced};
-ghost use Rattle.solid_listing.specs.Replies.{coefficient_words, reply_text};
-ghost use Rattle.solid_listing.specs.Writing.{Puts, Tells, outgoing};
+ghost use Rattle.solid_listing.specs.Common.{spaced, coefficient_words, reply_text, Puts, Tells, outgoing};
 
 use crate::pending::{Text, put, release};
 use crate::refusal::put_refused;

@@ -1,7 +1,6 @@
 //! Writing words and numbers.
 ghost use Rattle.std.specs.Prelude.{◌≡◌, ◌∷◌, ◌++◌, map};
-ghost use Rattle.solid_listing.specs.Lines.{spaced, line_text};
-ghost use Rattle.solid_listing.specs.Writing.{Tells, outgoing};
+ghost use Rattle.solid_listing.specs.Common.{spaced, line_text, Tells, outgoing};
 
 use crate::pending::{Text, put};
 use crate::writing::WriteFault;

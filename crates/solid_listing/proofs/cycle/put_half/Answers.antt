@@ -2,8 +2,7 @@ use Rattle.std.proofs.Common.{◌≡◌, ◌∙◌, sym, ap, subst, ℕ, List, [
 use Rattle.std.proofs.lemmas.Result.{err_from_is_err_and}
 use Rattle.euler_operators.specs.Common.{HalfEdge, code, edge_of}
 use Rattle.euler_operators.proofs.Common.{edge_of-code, is_first-code}
-use Rattle.solid_listing.specs.Listing.{half_word}
-use Rattle.solid_listing.specs.Writing.{Gathers, outgoing, Tells}
+use Rattle.solid_listing.specs.Common.{half_word, Gathers, outgoing, Tells}
 use Rattle.solid_listing.proofs.TellingLaws.{Breaks, Breaks-longer, tells_after}
 use Rattle.solid_listing.proofs.cycle.put_half.Goals as goal
 use Rattle.solid_listing.proofs.cycle.put_half.Goals.{then-h, else-h}

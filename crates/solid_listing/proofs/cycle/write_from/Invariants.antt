@@ -1,10 +1,8 @@
 use Rattle.std.proofs.Common.{◌∷◌, length, map}
 use Rattle.euler_operators.specs.Common.{IsIn, code, cycle_of}
-use Rattle.solid_listing.specs.Lines.{spaced}
-use Rattle.solid_listing.specs.Listing.{half_word}
+use Rattle.solid_listing.specs.Common.{spaced, half_word, outgoing}
 use Rattle.solid_walks.proofs.face_walks_laws.CycleWalks.{to_come}
 use Rattle.solid_listing.proofs.TellingLaws.{Telling}
-use Rattle.solid_listing.specs.Writing.{outgoing}
 use Rattle.solid_listing.proofs.cycle.write_from.Given as goal
 
 abbrev pub invariant-round : goal.invariant-round

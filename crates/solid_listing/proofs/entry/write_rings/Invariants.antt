@@ -1,9 +1,8 @@
 use Rattle.std.proofs.Common.{length, map, decimal}
 use Rattle.euler_operators.specs.Common.{rings_of}
-use Rattle.solid_listing.specs.Lines.{spaced}
+use Rattle.solid_listing.specs.Common.{spaced, outgoing}
 use Rattle.solid_walks.proofs.face_walks_laws.Above.{above}
 use Rattle.solid_listing.proofs.TellingLaws.{Telling}
-use Rattle.solid_listing.specs.Writing.{outgoing}
 use Rattle.solid_listing.proofs.entry.write_rings.Given as goal
 
 abbrev pub invariant-loop-l : goal.invariant-loop-l

@@ -1,9 +1,7 @@
 use Rattle.std.proofs.Common.{length, map}
-use Rattle.solid_listing.specs.Lines.{text_of}
-use Rattle.solid_listing.specs.Listing.{line, kind_lines, numbers_of}
+use Rattle.solid_listing.specs.Common.{text_of, line, kind_lines, numbers_of, outgoing}
 use Rattle.solid_walks.proofs.face_walks_laws.Above.{above}
 use Rattle.solid_listing.proofs.TellingLaws.{Telling}
-use Rattle.solid_listing.specs.Writing.{outgoing}
 use Rattle.solid_listing.proofs.listing.write_kind.Given as goal
 
 abbrev pub invariant-loop-n : goal.invariant-loop-n

@@ -1,8 +1,6 @@
 use Rattle.std.proofs.Common.{drop, flat_map}
-use Rattle.solid_listing.specs.Lines.{text_of}
-use Rattle.solid_listing.specs.Listing.{kind_lines, kinds, lines}
+use Rattle.solid_listing.specs.Common.{text_of, kind_lines, kinds, lines, outgoing}
 use Rattle.solid_listing.proofs.TellingLaws.{Telling}
-use Rattle.solid_listing.specs.Writing.{outgoing}
 use Rattle.solid_listing.proofs.listing.write_lines.Given as goal
 
 abbrev pub invariant-loop-kind : goal.invariant-loop-kind

@@ -1,6 +1,5 @@
 use Rattle.std.proofs.lemmas.Result.{err_from_is_err_and}
-use Rattle.solid_listing.specs.Listing.{listing}
-use Rattle.solid_listing.specs.Writing.{outgoing}
+use Rattle.solid_listing.specs.Common.{listing, outgoing}
 use Rattle.solid_listing.proofs.TellingLaws.{all_out, breaks_from_none}
 use Rattle.solid_listing.proofs.listing.write_listing.Goals as goal
 

@@ -1,6 +1,5 @@
 use Rattle.std.proofs.lemmas.Result.{err_from_is_err_and}
-use Rattle.solid_listing.specs.Replies.{reply_text}
-use Rattle.solid_listing.specs.Writing.{outgoing}
+use Rattle.solid_listing.specs.Common.{reply_text, outgoing}
 use Rattle.solid_listing.proofs.TellingLaws.{all_out, breaks_from_none}
 use Rattle.solid_listing.proofs.reply.write_reply.Goals as goal
 

@@ -1,9 +1,8 @@
 use Rattle.std.proofs.Common.{◌∷◌, map}
 use Rattle.std.proofs.lemmas.Result.{err_from_is_err_and}
-use Rattle.solid_listing.specs.Lines.{spaced}
+use Rattle.solid_listing.specs.Common.{spaced, outgoing}
 use Rattle.solid_listing.proofs.LineLaws.{spaced_next}
 use Rattle.solid_listing.proofs.TellingLaws.{Breaks-longer, told_more, breaks_inside}
-use Rattle.solid_listing.specs.Writing.{outgoing}
 use Rattle.solid_listing.proofs.text.put_words.Goals as goal
 
 pub returns-in_err-put : goal.returns-in_err-put

@@ -1,7 +1,6 @@
 use Rattle.std.proofs.Common.{◌++◌, map, drop}
-use Rattle.solid_listing.specs.Lines.{spaced}
+use Rattle.solid_listing.specs.Common.{spaced, outgoing}
 use Rattle.solid_listing.proofs.TellingLaws.{Telling}
-use Rattle.solid_listing.specs.Writing.{outgoing}
 use Rattle.solid_listing.proofs.text.put_words.Given as goal
 
 abbrev pub invariant-loop-n : goal.invariant-loop-n
