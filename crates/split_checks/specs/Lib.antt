@@ -5,3 +5,4 @@ pub mod Cuts
 pub mod Progress
 pub use Rattle.solid_measure.specs.Measure
 pub use Rattle.solid_measure.specs.solid_checks.Least
+pub mod Common

@@ -9,8 +9,7 @@ use Rattle.euler_laws.proofs.Common.{all_hold, verdict_passed, verdict_failed}
 use Rattle.shapes.proofs.Common.{first_refusal-append, first_refusal-front, first_refusal-refused}
 use Rattle.shapes.proofs.split.Facts.{plane_within}
 use Rattle.shapes.specs.Common.{Taken, taken_in, numbers_left, no_such, first_such, is_touched, is_cut_often, is_crossed, pair_count, reaches_above, reaches_below, straddling_faces, crossing_edges, number_conditions, plane_in_range, faces_are_flat, early_split_conditions, straddling_conditions, cut_conditions, sectioning_conditions, first_conditions}
-use Rattle.split_checks.specs.begin_checks.Conditions.{early_refusal}
-use Rattle.split_checks.specs.cut_places.Crossings.{is_off}
+use Rattle.split_checks.specs.Common.{early_refusal, is_off}
 
 -- what holds of the value of a result, and of its error
 pub at_ok : {X E : Type 0} (r : Result X E) (x : X) (P : X → Type 0) → r ≡ Ok x → IfOk r P → P x

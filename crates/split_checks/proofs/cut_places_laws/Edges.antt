@@ -10,8 +10,7 @@ use Rattle.euler_laws.proofs.Common.{halves_of_edge, listed_passes, passes_liste
 use Rattle.solid_measure.proofs.face_walks_laws.TableWalks.{rising_passing}
 use Rattle.shapes.specs.Common.{items_in, loops_of, boundary, edges_of, crosses, straddles, straddling_faces, crossing_edges, loops_in}
 use Rattle.solid_measure.proofs.solid_counts_laws.HowMany.{of_map, equally_many}
-use Rattle.split_checks.specs.cut_places.Crossings.{leads_across, crossings_met, IsCrossing, AreCrossing}
-use Rattle.split_checks.specs.cut_places.Places.{IsFaceAlong, AreFacesAlong}
+use Rattle.split_checks.specs.Common.{leads_across, crossings_met, IsCrossing, AreCrossing, IsFaceAlong, AreFacesAlong}
 use Rattle.split_checks.proofs.cut_places_laws.CrossingHalves.{plus_crosses}
 use Rattle.split_checks.proofs.cut_places_laws.Lists.{of_picked, picked_apart, picked_rise}
 use Rattle.solid_measure.proofs.face_walks_laws.Above.{Rising}

@@ -11,10 +11,7 @@ use Rattle.euler_conditions.specs.Store.{Tells}
 use Rattle.euler_operators.proofs.Common.{edge_of-code, is_first-code, and_false, or_false}
 use Rattle.shapes.specs.Common.{start, finish, boundary, corners, loops_of, items_in, vertices_on, vertices_in, is_place, is_touched, is_cut_often, places, crosses, reaches_above, reaches_below, straddles}
 use Rattle.shapes.proofs.Common.{items_joined, vertices_joined}
-use Rattle.split_checks.specs.cut_places.Crossings.{leads_across, crossings_in, crossings_met}
-use Rattle.split_checks.specs.cut_places.Meetings.{IsMet, IsRound, IsFaceMet, IsMeeting, unmarked, with_side, face_met, all_places}
-use Rattle.split_checks.specs.cut_places.Places.{touches}
-use Rattle.split_checks.specs.cut_places.Sides.{same_sign, opposite_signs, lies, some_lie}
+use Rattle.split_checks.specs.Common.{leads_across, crossings_in, crossings_met, IsMet, IsRound, IsFaceMet, IsMeeting, unmarked, with_side, face_met, all_places, touches, same_sign, opposite_signs, lies, some_lie}
 use Rattle.split_checks.specs.declared.cut_places.found.Looked.{Looked}
 use Rattle.split_checks.specs.declared.cut_places.found.Met.{Met}
 use Rattle.split_checks.proofs.cut_places_laws.PlaceWalks.{crossings_both}

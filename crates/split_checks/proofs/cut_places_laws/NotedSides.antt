@@ -7,8 +7,7 @@ use Rattle.euler_operators.proofs.Common.{or_false}
 use Rattle.euler_conditions.specs.Store.{Tells}
 use Rattle.shapes.specs.Common.{vertices_on}
 use Rattle.split_checks.specs.declared.cut_places.noted.Noted.{Noted}
-use Rattle.split_checks.specs.cut_places.Noted.{IsSide, AreNoted}
-use Rattle.split_checks.specs.cut_places.Sides.{same_sign, side_reached, some_lie}
+use Rattle.split_checks.specs.Common.{IsSide, AreNoted, same_sign, side_reached, some_lie}
 use Rattle.split_checks.proofs.cut_places_laws.Signs.{sign_lies}
 
 -- ---- what is noted

@@ -3,8 +3,7 @@ use Rattle.std.proofs.Common.{◌≡◌, ℕ, ◌≤◌, false, List, [], ◌∷
 use Rattle.std.proofs.lemmas.List.{take-map, drop-map, length-map}
 use Rattle.euler_operators.specs.Common.{Plane, HalfEdge, code, Model}
 use Rattle.shapes.specs.Common.{first_such, places, straddling_faces}
-use Rattle.split_checks.specs.begin_checks.Flaws.{has_flaw, shows, first_showing}
-use Rattle.split_checks.specs.cut_places.Meetings.{face_met, faces_in, all_places, AreTold, IsSolidMet}
+use Rattle.split_checks.specs.Common.{has_flaw, shows, first_showing, face_met, faces_in, all_places, AreTold, IsSolidMet}
 use Rattle.split_checks.specs.declared.begin_checks.flaws.Flaw.{Flaw}
 use Rattle.split_checks.specs.declared.begin_checks.flaws.Flaw.TheVariants.{Touched, CutOften}
 use Rattle.split_checks.specs.declared.cut_places.found.FaceMet.{FaceMet}

@@ -3,8 +3,7 @@ use Rattle.std.proofs.Common.{◌≡◌, ℕ, ◌<◌, Bool, not, List, [], ◌�
 use Rattle.std.specs.List.{list_all}
 use Rattle.euler_operators.specs.Common.{Plane, HalfEdge, code, Model, has_half}
 use Rattle.shapes.specs.Common.{in_pairs, is_up_and_down, up_first}
-use Rattle.split_checks.specs.cut_places.Walks.{AreThere}
-use Rattle.split_checks.specs.place_order.Order.{Key, places_of}
+use Rattle.split_checks.specs.Common.{AreThere, Key, places_of}
 
 -- a place that is left alone makes no pair
 pub last_alone : (M : Model) (p : Plane) (made all : List (ℕ × ℕ)) (es more : List (Key × HalfEdge)) (e : Key × HalfEdge) → es ≡ e ∷ more → more ≡ []

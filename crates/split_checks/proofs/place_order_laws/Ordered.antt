@@ -4,11 +4,9 @@ use Rattle.euler_operators.specs.Common.{Plane, IsIn, HalfEdge, Model, Sound, Ha
 use Rattle.euler_operators.proofs.Common.{code-half}
 use Rattle.shapes.specs.Common.{boundary, loops_of, is_place, places, sorted_in, sorted}
 use Rattle.shapes.proofs.Common.{items_there}
-use Rattle.split_checks.specs.cut_places.Places.{IsFaceAlong}
-use Rattle.split_checks.specs.cut_places.Walks.{AreThere}
+use Rattle.split_checks.specs.Common.{IsFaceAlong, AreThere, Key, ArePlacesAlong, entries_of, places_of}
 use Rattle.split_checks.proofs.cut_places_laws.Lists.{of_picked}
 use Rattle.split_checks.proofs.cut_places_laws.Walks.{all_there}
-use Rattle.split_checks.specs.place_order.Order.{Key, ArePlacesAlong, entries_of, places_of}
 
 pub at_some : {X : Type 0} (o : Option X) (x : X) (P : Type 0) (Q : X → Type 0) → o ≡ Some x → MatchOption o P Q → Q x
 at_some o x P Q e h = subst (λ y. MatchOption y P Q) e h

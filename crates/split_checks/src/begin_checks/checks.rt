@@ -2,12 +2,7 @@
 ghost use Rattle.std.specs.Prelude.{◌≡◌, ◌&&◌, map, None, Some, IfErr, IfOk, OnErr};
 ghost use Rattle.euler_operators.specs.Common.{code, faces_of, first_refusal, verdict, IsCutPlane};
 ghost use Rattle.euler_conditions.specs.Ready.{IsReady};
-ghost use Rattle.split_checks.specs.Cuts.{AreCuts, all_pairs, codes, paired_face};
-ghost use Rattle.split_checks.specs.begin_checks.Conditions.{early_refusal};
-ghost use Rattle.split_checks.specs.cut_places.Meetings.{AreTold, IsSolidMet, faces_in};
-ghost use Rattle.split_checks.specs.cut_places.Noted.{AreSides};
-ghost use Rattle.split_checks.specs.cut_places.Places.{AreFacesAlong};
-ghost use Rattle.split_checks.specs.place_order.Order.{AreCrossings};
+ghost use Rattle.split_checks.specs.Common.{AreCuts, all_pairs, codes, paired_face, early_refusal, AreTold, IsSolidMet, faces_in, AreSides, AreFacesAlong, AreCrossings};
 ghost use Rattle.shapes.specs.Common.{crossing_edges, straddling_faces, cut_conditions, faces_are_flat, first_conditions, number_conditions, sectioning_conditions, straddling_conditions};
 
 use crate::begin_checks::crossings::cut_edges;

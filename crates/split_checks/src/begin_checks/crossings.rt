@@ -3,8 +3,7 @@ ghost use Rattle.std.specs.Prelude.{◌≡◌, is_none, map, None, Some, IfErr, 
 ghost use Rattle.euler_conditions.specs.Ready.{IsReady};
 ghost use Rattle.euler_operators.specs.Common.{IsCutPlane};
 ghost use Rattle.shapes.specs.Common.{first_such};
-ghost use Rattle.split_checks.specs.Cuts.{cut_at};
-ghost use Rattle.split_checks.specs.cut_places.Crossings.{AreCrossing, IsCrossing, is_off};
+ghost use Rattle.split_checks.specs.Common.{cut_at, AreCrossing, IsCrossing, is_off};
 
 use crate::cuts::CutEdge;
 use euler_conditions::Arena;

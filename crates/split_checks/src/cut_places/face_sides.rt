@@ -4,8 +4,7 @@ ghost use Rattle.euler_operators.specs.Common.{code, content, cycle_of, has_half
 ghost use Rattle.euler_conditions.specs.Ready.{IsReady};
 ghost use Rattle.euler_conditions.specs.Store.{has_number};
 ghost use Rattle.shapes.specs.Common.{vertices_on};
-ghost use Rattle.split_checks.specs.cut_places.Noted.{AreSides};
-ghost use Rattle.split_checks.specs.cut_places.Sides.{reaches, side_reached, some_lie, some_start};
+ghost use Rattle.split_checks.specs.Common.{AreSides, reaches, side_reached, some_lie, some_start};
 
 use crate::cut_places::noted::{Sides, side_of_code, vertex_side};
 use crate::cut_places::planes::same;

@@ -4,8 +4,7 @@ ghost use Rattle.euler_operators.specs.Common.{code, content, cycle_of, has_half
 ghost use Rattle.euler_conditions.specs.Ready.{IsReady};
 ghost use Rattle.euler_conditions.specs.Store.{has_number};
 ghost use Rattle.shapes.specs.Common.{finish, start, vertices_on, loop_is_cut};
-ghost use Rattle.split_checks.specs.cut_places.Meetings.{IsMet, IsRound, with_side};
-ghost use Rattle.split_checks.specs.cut_places.Noted.{AreSides};
+ghost use Rattle.split_checks.specs.Common.{IsMet, IsRound, with_side, AreSides};
 
 use crate::cut_places::found::Looked;
 use crate::cut_places::halves::passes;

@@ -5,8 +5,7 @@ ghost use Rattle.euler_operators.specs.Common.{rings_of, IsCutPlane};
 ghost use Rattle.euler_conditions.specs.Ready.{IsReady};
 ghost use Rattle.euler_conditions.specs.Store.{has_number};
 ghost use Rattle.shapes.specs.Common.{boundary, corners, items_in, vertices_in, is_cut_often, loop_is_cut};
-ghost use Rattle.split_checks.specs.cut_places.Meetings.{IsFaceMet, IsMet, IsSolidMet, unmarked};
-ghost use Rattle.split_checks.specs.cut_places.Noted.{AreSides};
+ghost use Rattle.split_checks.specs.Common.{IsFaceMet, IsMet, IsSolidMet, unmarked, AreSides};
 
 use crate::cut_places::found::{FaceMet, Looked, Met};
 use crate::cut_places::looking::look_at_loop;

@@ -3,11 +3,7 @@ ghost use Rattle.std.specs.Prelude.{◌≡◌, map, None, Some, IfErr, IfOk};
 ghost use Rattle.euler_operators.specs.Common.{code, IsCutPlane};
 ghost use Rattle.euler_conditions.specs.Ready.{IsReady};
 ghost use Rattle.shapes.specs.Common.{first_such, is_crossed};
-ghost use Rattle.split_checks.specs.Cuts.{all_pairs, codes, paired_face};
-ghost use Rattle.split_checks.specs.cut_places.Meetings.{AreTold, faces_in};
-ghost use Rattle.split_checks.specs.cut_places.Noted.{AreSides};
-ghost use Rattle.split_checks.specs.cut_places.Places.{AreFacesAlong};
-ghost use Rattle.split_checks.specs.place_order.Order.{AreCrossings};
+ghost use Rattle.split_checks.specs.Common.{all_pairs, codes, paired_face, AreTold, faces_in, AreSides, AreFacesAlong, AreCrossings};
 
 use crate::cut_places::{FaceMet, Sides};
 use crate::cuts::{Crossings, Pair, PairedFace};

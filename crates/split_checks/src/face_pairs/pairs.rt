@@ -4,10 +4,7 @@ ghost use Rattle.std.specs.List.{list_all};
 ghost use Rattle.euler_operators.specs.Common.{code, has_half, IsCutPlane, same_point};
 ghost use Rattle.euler_conditions.specs.Ready.{IsReady};
 ghost use Rattle.shapes.specs.Common.{in_pairs, is_up_and_down, place_point, sorted, up_first};
-ghost use Rattle.split_checks.specs.Cuts.{codes};
-ghost use Rattle.split_checks.specs.cut_places.Noted.{AreSides};
-ghost use Rattle.split_checks.specs.cut_places.Walks.{AreThere};
-ghost use Rattle.split_checks.specs.place_order.Order.{AreCrossings, ArePlacesAlong, IsPlaceAlong, are_crossed, places_of};
+ghost use Rattle.split_checks.specs.Common.{codes, AreSides, AreThere, AreCrossings, ArePlacesAlong, IsPlaceAlong, are_crossed, places_of};
 
 use crate::cut_places::{Sides, goes_up};
 use crate::cuts::{Crossings, Pair};

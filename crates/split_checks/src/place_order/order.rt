@@ -2,8 +2,7 @@
 ghost use Rattle.std.specs.Prelude.{◌≡◌, true, false, map, IfOk, MatchOption};
 ghost use Rattle.euler_operators.specs.Common.{code, IsCutPlane};
 ghost use Rattle.euler_conditions.specs.Ready.{IsReady};
-ghost use Rattle.split_checks.specs.cut_places.Noted.{AreSides};
-ghost use Rattle.split_checks.specs.place_order.Order.{AreCrossings, ArePlacesAlong, entries_of};
+ghost use Rattle.split_checks.specs.Common.{AreSides, AreCrossings, ArePlacesAlong, entries_of};
 ghost use Rattle.shapes.specs.Common.{some_meet, sorted};
 
 use crate::cut_places::Sides;

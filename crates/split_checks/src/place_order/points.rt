@@ -2,8 +2,7 @@
 ghost use Rattle.std.specs.Prelude.{◌≡◌};
 ghost use Rattle.euler_operators.specs.Common.{code, IsCutPlane};
 ghost use Rattle.euler_conditions.specs.Ready.{IsReady};
-ghost use Rattle.split_checks.specs.cut_places.Noted.{AreSides};
-ghost use Rattle.split_checks.specs.place_order.Order.{AreCrossings, IsPlaceAlong, key};
+ghost use Rattle.split_checks.specs.Common.{AreSides, AreCrossings, IsPlaceAlong, key};
 ghost use Rattle.shapes.specs.Common.{place_point};
 
 use crate::cut_places::{Sides, same, start_side};

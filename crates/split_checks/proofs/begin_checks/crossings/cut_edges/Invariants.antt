@@ -1,7 +1,6 @@
 use Rattle.std.proofs.Common.{◌≡◌, ◌++◌, map, length}
 use Rattle.shapes.specs.Common.{first_such}
-use Rattle.split_checks.specs.Cuts.{cut_at}
-use Rattle.split_checks.specs.cut_places.Crossings.{AreCrossing, is_off}
+use Rattle.split_checks.specs.Common.{cut_at, AreCrossing, is_off}
 use Rattle.split_checks.proofs.begin_checks.crossings.cut_edges.Given as goal
 
 abbrev pub invariant-edges : goal.invariant-edges

@@ -1,8 +1,7 @@
 use Rattle.std.proofs.Common.{◌≡◌, ◌||◌, ◌∷◌, length}
 use Rattle.euler_operators.specs.Common.{IsIn, cycle_of, Above, Below}
 use Rattle.solid_measure.proofs.face_walks_laws.CycleWalks.{to_come}
-use Rattle.split_checks.specs.cut_places.Noted.{AreSides}
-use Rattle.split_checks.specs.cut_places.Sides.{some_start}
+use Rattle.split_checks.specs.Common.{AreSides, some_start}
 use Rattle.split_checks.proofs.cut_places.face_sides.ring_side.Given as goal
 
 abbrev pub invariant-round : goal.invariant-round

@@ -1,10 +1,7 @@
 use Rattle.std.proofs.Common.{◌≡◌, ◌∙◌, ℕ, ◌/◌, true, false, cond, not, length, Ok, List, [], ◌∷◌, ◌++◌, Some, map, slice_index_or, sym, ap, subst, append_assoc}
 use Rattle.euler_operators.specs.Common.{code}
 use Rattle.shapes.specs.Common.{first_such, is_crossed, place_pairs}
-use Rattle.split_checks.specs.Cuts.{codes, all_pairs, paired_face}
-use Rattle.split_checks.specs.cut_places.Meetings.{AreTold, faces_in}
-use Rattle.split_checks.specs.cut_places.Places.{AreFacesAlong}
-use Rattle.split_checks.specs.place_order.Order.{ArePlacesAlong}
+use Rattle.split_checks.specs.Common.{codes, all_pairs, paired_face, AreTold, faces_in, AreFacesAlong, ArePlacesAlong}
 use Rattle.split_checks.specs.declared.cut_places.found.FaceMet.{FaceMet}
 use Rattle.split_checks.specs.declared.cuts.PairedFace.{PairedFace}
 use Rattle.split_checks.proofs.cut_places_laws.Lists.{others, parts}

@@ -1,10 +1,7 @@
 use Rattle.std.proofs.Common.{◌≡◌, ◌++◌, map, length}
 use Rattle.euler_operators.specs.Common.{code}
 use Rattle.shapes.specs.Common.{first_such, is_crossed}
-use Rattle.split_checks.specs.Cuts.{all_pairs, codes, paired_face}
-use Rattle.split_checks.specs.cut_places.Meetings.{AreTold, faces_in}
-use Rattle.split_checks.specs.cut_places.Noted.{AreSides}
-use Rattle.split_checks.specs.cut_places.Places.{AreFacesAlong}
+use Rattle.split_checks.specs.Common.{all_pairs, codes, paired_face, AreTold, faces_in, AreSides, AreFacesAlong}
 use Rattle.split_checks.proofs.face_pairs.faces.pairs_of_faces.Given as goal
 
 abbrev pub invariant-faces : goal.invariant-faces

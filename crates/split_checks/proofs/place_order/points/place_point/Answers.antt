@@ -4,8 +4,7 @@ use Rattle.euler_operators.specs.Common.{code, IsIn, On}
 use Rattle.euler_operators.proofs.Common.{edge_of-code}
 use Rattle.euler_laws.proofs.Common.{listed-from_in}
 use Rattle.shapes.specs.Common.{start}
-use Rattle.split_checks.specs.Cuts.{cut_at}
-use Rattle.split_checks.specs.cut_places.Sides.{same_sign}
+use Rattle.split_checks.specs.Common.{cut_at, same_sign}
 use Rattle.split_checks.specs.declared.cuts.CutEdge.{CutEdge}
 use Rattle.split_checks.proofs.cut_places_laws.Searched.{found_at, none_missed}
 use Rattle.split_checks.proofs.cut_places_laws.Signs.{sign_lies}
