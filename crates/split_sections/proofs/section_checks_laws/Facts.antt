@@ -8,10 +8,7 @@ use Rattle.split_opening_laws.specs.cycles.Permuting.{Permutes}
 use Rattle.split_opening_laws.specs.cycles.SectionCycles.{AreOf, IsUnbranched}
 use Rattle.split_opening_laws.proofs.cycles.BelowHalves.{halves_rise, starts_are_ends}
 use Rattle.split_opening_laws.proofs.cycles.NextBelow.{permutes}
-use Rattle.split_sections.specs.section_cycles.Halves.{AreThere}
-use Rattle.split_sections.specs.section_checks.Cycles.{AreCyclesOf, has_stray}
-use Rattle.split_sections.specs.section_cycles.Halves.{halves_of}
-use Rattle.split_sections.specs.section_cycles.Starts.{AreBalanced}
+use Rattle.split_sections.specs.Common.{AreThere, AreCyclesOf, has_stray, halves_of, AreBalanced}
 use Rattle.split_sections.specs.declared.section_cycles.cycle.Cycle.{Cycle}
 use Rattle.split_sections.proofs.section_checks_laws.Above.{halves_there, few_halves, few_cycles}
 use Rattle.split_sections.proofs.section_checks_laws.HoleFlags.{stray_is}

@@ -2,8 +2,7 @@
 use Rattle.std.proofs.Common.{◌≡◌, ◌+◌, ◌≤◌, Bool, true, cond, not, ◌&&◌, nat_eq, nat_lt, List, [], ◌∷◌, map, length, refl, sym, ap, arith, filter}
 use Rattle.euler_operators.specs.Common.{Plane, Model}
 use Rattle.shapes.specs.Common.{is_hole, has_stray_hole}
-use Rattle.split_sections.specs.section_checks.Cycles.{has_stray}
-use Rattle.split_sections.specs.section_cycles.Halves.{halves_of}
+use Rattle.split_sections.specs.Common.{has_stray, halves_of}
 use Rattle.split_sections.specs.declared.section_cycles.cycle.Cycle.{Cycle}
 
 module _ (M : Model) (p : Plane) where

@@ -8,8 +8,7 @@ use Rattle.shapes.specs.Common.{first_such}
 use Rattle.split_checks.specs.Least.{only, lesser}
 use Rattle.split_checks.proofs.Searches.{IsLeast, least_same, least_either}
 use Rattle.split_checks.proofs.cut_places_laws.Lists.{fewer, last_code}
-use Rattle.split_sections.specs.section_cycles.Halves.{AreThere}
-use Rattle.split_sections.specs.section_cycles.Starts.{code_or_none, AreStarts}
+use Rattle.split_sections.specs.Common.{AreThere, code_or_none, AreStarts}
 
 -- more than one of these half-edges start at the vertex
 abbrev pub several : Model → List ℕ → ℕ → Bool

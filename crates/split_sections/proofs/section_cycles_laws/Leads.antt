@@ -3,8 +3,7 @@ use Rattle.std.proofs.Common.{◌≡◌, ◌≢◌, ℕ, List, sym, ◌∙◌, B
 use Rattle.euler_operators.specs.Common.{IsIn, HalfEdge, mate, Model, tail, Sound}
 use Rattle.euler_operators.proofs.Common.{half_number}
 use Rattle.shapes.specs.Common.{next_below}
-use Rattle.split_sections.specs.section_cycles.Halves.{AreThere}
-use Rattle.split_sections.specs.section_cycles.Starts.{half_at, AreStarts}
+use Rattle.split_sections.specs.Common.{AreThere, half_at, AreStarts}
 
 module _ (M : Model) (sound : Sound M) (bs : List ℕ) (starts : BTreeMap ℕ HalfEdge) (there : AreThere M bs) (told : AreStarts M bs starts) where
   pub is_next : (b : ℕ) → half_at starts (tail M (mate b)) ≡ next_below M bs b

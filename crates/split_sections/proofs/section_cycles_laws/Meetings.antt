@@ -9,8 +9,7 @@ use Rattle.solid_walks.proofs.face_walks_laws.TableWalks.{passes, member_passing
 use Rattle.split_checks.proofs.Searches.{IsLeast, one_least, least_same, least_row}
 use Rattle.shapes.specs.Common.{section_ends, least_branched}
 use Rattle.split_checks.proofs.cut_places_laws.Lists.{others, parts}
-use Rattle.split_sections.specs.section_cycles.Halves.{AreThere}
-use Rattle.split_sections.specs.section_cycles.Starts.{AreBalanced}
+use Rattle.split_sections.specs.Common.{AreThere, AreBalanced}
 use Rattle.split_sections.proofs.section_cycles_laws.Chains.{several}
 
 -- ---- the half-edges of a list, one by one

@@ -10,8 +10,7 @@ ghost use Rattle.shapes.specs.Common.{below_halves, later_conditions, section_co
 ghost use Rattle.solid_walks.specs.Counters.{taken_of};
 ghost use Rattle.split_checks.specs.cut_places.Noted.{AreSides};
 ghost use Rattle.split_checks.specs.Progress.{drawing_of};
-ghost use Rattle.split_sections.specs.section_checks.Cycles.{AreCyclesOf};
-ghost use Rattle.split_sections.specs.section_checks.Sections.{IsSection};
+ghost use Rattle.split_sections.specs.Common.{AreCyclesOf, IsSection};
 ghost use Rattle.split_sections.specs.declared.section_cycles.cycle.Cycle.{Cycle};
 ghost use Rattle.split_sections.specs.declared.section_checks.section.Section.{Section};
 

@@ -6,8 +6,7 @@ ghost use Rattle.euler_operators.specs.Common.{IsIn, code, IsCutPlane, lists, st
 ghost use Rattle.euler_conditions.specs.Ready.{IsReady};
 ghost use Rattle.split_opening_laws.specs.cycles.Permuting.{Permutes};
 ghost use Rattle.shapes.specs.Common.{cycle_from, is_hole, next_below, section_cycles};
-ghost use Rattle.split_sections.specs.section_cycles.Halves.{AreThere, halves_of};
-ghost use Rattle.split_sections.specs.section_cycles.Starts.{AreStarts};
+ghost use Rattle.split_sections.specs.Common.{AreThere, halves_of, AreStarts};
 
 use crate::section_cycles::cycle::Cycle;
 use crate::section_cycles::holes::is_hole;

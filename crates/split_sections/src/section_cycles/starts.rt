@@ -4,8 +4,7 @@ ghost use Rattle.euler_operators.specs.Common.{code, mate, has_half, tail};
 ghost use Rattle.euler_conditions.specs.Ready.{IsReady};
 ghost use Rattle.shapes.specs.Common.{least_branched, section_ends};
 ghost use Rattle.split_checks.specs.Least.{only};
-ghost use Rattle.split_sections.specs.section_cycles.Halves.{AreThere};
-ghost use Rattle.split_sections.specs.section_cycles.Starts.{AreBalanced, AreStarts, half_at};
+ghost use Rattle.split_sections.specs.Common.{AreThere, AreBalanced, AreStarts, half_at};
 
 use euler_conditions::Arena;
 use euler_operators::HalfEdge;

@@ -6,8 +6,7 @@ use Rattle.solid_walks.specs.Counters.{taken_of}
 use Rattle.split_checks.specs.Progress.{drawing_of}
 use Rattle.split_sections.proofs.section_checks_laws.Above.{above_rises, above_of}
 use Rattle.shapes.specs.Common.{below_halves, later_conditions, section_conditions}
-use Rattle.split_sections.specs.section_checks.Cycles.{AreCyclesOf}
-use Rattle.split_sections.specs.section_checks.Sections.{IsSection}
+use Rattle.split_sections.specs.Common.{AreCyclesOf, IsSection}
 use Rattle.split_sections.specs.declared.section_checks.section.Section.{Section}
 use Rattle.split_sections.proofs.section_checks_laws.Stages.{told, value_told, drawn, stuck}
 use Rattle.split_sections.proofs.section_checks.checks.check_later.Goals as goal
