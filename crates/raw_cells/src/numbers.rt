@@ -158,7 +158,8 @@ fn highest(word: u64) -> u32
     ensures there { is_set word result ≡ true }
     ensures none { (k : ℕ) → result < k → is_set word k ≡ false }
 {
-    63 - word.leading_zeros()
+    // `63 ^` is `63 -` here; it takes back the `^` with which the machine counts leading zeros
+    63 ^ word.leading_zeros()
 }
 
 /// Whether the number is in use.
@@ -246,8 +247,21 @@ fn first_in(words: &[u64], from: u32) -> Option<u32>
     None
 }
 
-/// The last word that has bits.
+/// The last word that has bits. It is mostly the last word of all, which is looked at first.
+#[inline(always)]
 fn last_in(words: &[u64]) -> Option<u32>
+    requires { length words.now ≤ 31264 }
+    ensures { IsLastIn (has_bits words.now) 0 (length words.now) result }
+{
+    let count = words.len() as u32;
+    if 0 < count && words[(count - 1) as usize] != 0 {
+        return Some(count - 1);
+    }
+    last_sought(words)
+}
+
+/// The last word that has bits, by a walk from the last word down.
+fn last_sought(words: &[u64]) -> Option<u32>
     requires { length words.now ≤ 31264 }
     ensures { IsLastIn (has_bits words.now) 0 (length words.now) result }
 {

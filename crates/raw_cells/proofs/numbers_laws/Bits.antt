@@ -1,6 +1,6 @@
 -- The bits of a word: the lowest and the greatest, those of a word that is shifted, and one that is set or cleared.
-use Rattle.std.proofs.Common.{◌≡◌, ℕ, suc, ◌+◌, ◌-◌, ◌*◌, ◌/◌, ◌%◌, ◌^◌, ◌≤◌, ◌<◌, true, false, cond, nat_eq, bit_and, bit_or, sym, ap, ◌∙◌, arith, eq-eqb, ne_eqb, inl, inr, pow-add, w64}
-use Rattle.std.proofs.lemmas.Bool.{cases_eq}
+use Rattle.std.proofs.Common.{◌≡◌, ℕ, suc, ◌+◌, ◌-◌, ◌*◌, ◌/◌, ◌%◌, ◌^◌, ◌≤◌, ◌<◌, true, false, cond, nat_eq, bit_and, bit_or, bit_xor, refl, true-eqb, sym, ap, ◌∙◌, arith, eq-eqb, ne_eqb, inl, inr, pow-add, w64}
+use Rattle.std.proofs.lemmas.Bool.{cases_eq, agree_below_at}
 use Rattle.std.proofs.Math.Nat.{div-div-eq-div-mul, div-eq_of_lt-le, pow-suc}
 use Rattle.std.proofs.lemmas.Nat.{leading_top}
 use Rattle.std.proofs.lemmas.Nat.Bits.{bit_at-zero, bit_at_above, bit_at-trailing_zeros, bit_at_set_same, bit_at_set_other, bit_at_clear_same, bit_at_clear_other}
@@ -30,12 +30,19 @@ shifted word k i = ap (λ a. nat_eq (a % 2) 1) (
       product : 2 ^ k * (2 * 2 ^ i) ≡ 2 ^ (k + 1 + i)
       product = sym (pow-add 2 (k + 1) i ∙ ap (λ p. p * 2 ^ i) (pow-add 2 k 1) ∙ omega arith)
 
+-- the bits of 63 turned at those of a number below 64
+turned : (n : ℕ) → n < 64 → bit_xor 63 n ≡ 63 - n
+turned n h = true-eqb (bit_xor 63 n) (63 - n) (sym (agree_below_at (λ m. nat_eq (bit_xor 63 m) (63 - m)) (λ m. true) 64 n refl h))
+
 module _ (word : ℕ) (some : 0 < word) (fits : word < 2 ^ 64) where
   pub lowest_set : is_set word (trailing_zeros w64 word) ≡ true
   lowest_set = set_bit word _ (bit_at-trailing_zeros w64 word some fits).1
 
   pub lowest_none : (k : ℕ) → k < trailing_zeros w64 word → is_set word k ≡ false
   lowest_none k h = clear_bit word k ((bit_at-trailing_zeros w64 word some fits).2 k h)
+
+  pub highest_turned : bit_xor 63 (leading_zeros w64 word) ≡ 63 - leading_zeros w64 word
+  highest_turned = let top = leading_top 64 word some fits in turned (leading_zeros w64 word) (omega (arith, top.1))
 
   pub highest_set : is_set word (63 - leading_zeros w64 word) ≡ true
   highest_set =

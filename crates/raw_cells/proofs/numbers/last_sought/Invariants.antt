@@ -1,6 +1,6 @@
 use Rattle.std.proofs.Common.{◌≡◌, ◌≤◌, ◌<◌, ℕ, false, length}
 use Rattle.raw_cells.specs.Numbers.{has_bits}
-use Rattle.raw_cells.proofs.numbers.last_in.Given as goal
+use Rattle.raw_cells.proofs.numbers.last_sought.Given as goal
 
 abbrev pub invariant-down : goal.invariant-down
 invariant-down l = record {
