@@ -7,7 +7,7 @@ ghost use Rattle.boundary_model.specs.Items.{count};
 ghost use Rattle.arena_rows.specs.ring_spots.Spots.{live, ring, labelled, woken, woken_as, asleep, spliced, set_tail, AreRings};
 ghost use Rattle.arena_rows.specs.ring_spots.Labels.{has_label, own, holder, loop_at, in_loops, AreLabelled};
 
-use crate::ring_spots::labels::{Label, reach, row_of, stand_for_own};
+use crate::ring_spots::labels::{Label, reach, stand_for_own};
 use boundary_model::{HALF_EDGE_CODES, NUMBER_LIMIT};
 use raw_cells::Rows;
 use raw_ring::Rings;
@@ -34,7 +34,7 @@ pub(crate) fn put_edge(rings: &mut Rings, labels: &mut Rows<Label>, e: u32, star
     wake(rings, labels, 2 * e + 1, end);
 }
 
-/// Wakes a half-edge with the label that it owns, which stands for no loop.
+/// Wakes a half-edge with the label that it owns, which stands for no loop. If its row isn't written, this writes none.
 fn wake(rings: &mut Rings, labels: &mut Rows<Label>, code: u32, tail: u32)
     requires asleep { IsAsleep rings.old code }
     requires code { has_label labels.old code ≡ true }
@@ -46,9 +46,13 @@ fn wake(rings: &mut Rings, labels: &mut Rows<Label>, code: u32, tail: u32)
     ensures holder { holder labels.new ≡ holder labels.old }
     ensures there { has_label labels.new ≡ has_label labels.old }
 {
-    let row = row_of(labels, code);
-    rings.wake_as(code, tail, row.own);
-    stand_for_own(labels, code, row, 0);
+    match labels.find_within(code) {
+        Some(row) => {
+            rings.wake_as(code, tail, row.own);
+            stand_for_own(labels, code, row, 0);
+        }
+        None => rings.wake_as(code, tail, code),
+    }
 }
 
 /// Puts both half-edges of an edge to sleep; each is a ring of one.
