@@ -1,12 +1,12 @@
 -- The lamina of a block's base: its first face has one loop, of four half-edges, and these are ready to be swept.
-use Rattle.std.proofs.Common.{◌≡◌, ℕ, ◌+◌, List, [], ◌∷◌, None, refl, sym, ap, subst, ◌∙◌, arith, map, length}
+use Rattle.std.proofs.Common.{◌≡◌, ℕ, ◌+◌, List, [], ◌∷◌, None, refl, sym, ap, subst, ◌∙◌, arith, map, append-nil}
 use Rattle.euler_operators.specs.Common.{Point, plus, Model, FaceRow, LoopRow, content, items_of, outer, rings_of, Sound}
 use Rattle.euler_operators.proofs.Common.{content_row, outer_row}
-use Rattle.euler_laws.specs.Laws.{effects}
 use Rattle.shapes.proofs.Common.{greatest-put_last}
-use Rattle.shapes.specs.Common.{Taken, taken_in, numbers_after, lamina_at, prism_refusal, prism_model}
-use Rattle.sweeps_laws.specs.prism.SweepOps.{loop_ops, taken_after}
+use Rattle.shapes.specs.Common.{Taken, taken_in, numbers_after, lamina_at, prism_refusal}
+use Rattle.sweeps_laws.specs.prism.SweepOps.{loop_ops, sweep_ops}
 use Rattle.sweeps_laws.specs.prism.Ready.{Ready}
+use Rattle.sweeps_laws.proofs.prism.Whole.{turn_ready}
 use Rattle.sweeps_laws.proofs.swept.Bounds.{taken_free}
 use Rattle.sweeps_laws.proofs.LaminaRows as rows
 use Rattle.sweeps_laws.proofs.lamina.Steps.{greatest-with_path, greatest-with_points}
@@ -56,11 +56,10 @@ module _ (M : Model) (sound : Sound M) (s : ℕ) (a b g h : Point) where
     base_rises = record {
       face = _;
       loop_number = c.loop + 1;
-      ready = subst (Ready N k _ (c.loop + 1) d) held (raised.loop_ready N N k (c.face + 1) d (c.loop + 1) [] (raised.all_going N N refl same (c.face + 1) d e k taken (c.loop + 1) loop_is [] rings_are));
+      ready = subst (Ready N k _ (c.loop + 1) d) held (turn_ready N N k (c.face + 1) (c.loop + 1) d [] (raised.all_going N N refl same (c.face + 1) d e k taken (c.loop + 1) loop_is [] rings_are));
     }
 
-    pub base_risen : (X : Model) → X ≡ effects N (loop_ops N k d hs) → X ≡ prism_model N (c.face + 1) d
-    base_risen X made =
-        raised.loop_model N N k (c.face + 1) d (c.loop + 1) [] (raised.all_going N N refl same (c.face + 1) d e k taken (c.loop + 1) loop_is [] rings_are) X (made ∙ ap (λ xs. effects N (loop_ops N k d xs)) (sym held))
-        (taken_after k (length (items_of (content N (c.loop + 1))))) refl
-        ∙ raised.all_model N N refl same (c.face + 1) d e k taken (c.loop + 1) loop_is [] rings_are
+    pub base_ops : loop_ops N k d hs ≡ sweep_ops N (c.face + 1) d
+    base_ops =
+        ap (loop_ops N k d) (sym held) ∙ sym (append-nil (loop_ops N k d (items_of (content N (c.loop + 1)))))
+        ∙ raised.all_ops N N refl same (c.face + 1) d e k taken (c.loop + 1) loop_is [] rings_are

@@ -1,13 +1,14 @@
 -- What the steps of a block say, put together.
-use Rattle.std.proofs.Common.{◌≡◌, ℕ, ◌<◌, ℤ, pos, List, None, sym, ap, ◌∙◌, subst, get_or, map}
+use Rattle.std.proofs.Common.{◌≡◌, ℕ, ◌<◌, ℤ, pos, List, ◌++◌, None, sym, ap, ◌∙◌, subst, get_or, map}
 use Rattle.euler_operators.specs.Common.{Point, IsInRange, moved, plus, Model, no_point, Sound}
-use Rattle.shapes.specs.Common.{AreLeft, Taken, taken_in, numbers_after, lamina_refusal, lamina_model, lamina_face, prism_refusal, prism_model, vector, base_of, block_refusal, block_model}
+use Rattle.shapes.specs.Common.{AreLeft, Taken, taken_in, numbers_after, lamina_refusal, lamina_model, lamina_face, prism_refusal, vector, base_of, block_refusal}
 use Rattle.sweeps_laws.proofs.lamina.Walk.{lamina_goes, lamina_is_sound}
 use Rattle.sweeps_laws.proofs.lamina.Blocks.{blocks_have_bases, bases_rise}
-use Rattle.sweeps_laws.specs.prism.SweepOps.{loop_ops}
-use Rattle.euler_laws.specs.Laws.{effects}
+use Rattle.sweeps_laws.specs.lamina.Path.{lamina_operators}
+use Rattle.sweeps_laws.specs.prism.SweepOps.{loop_ops, sweep_ops}
+use Rattle.sweeps_laws.specs.block.BlockOps.{block_operators}
 use Rattle.sweeps.specs.Raising.{CanRise, with_lamina}
-use Rattle.sweeps.proofs.Base.{base, base_rises, base_risen}
+use Rattle.sweeps.proofs.Base.{base, base_rises, base_ops}
 
 module _ (M : Model) (sound : Sound M) (s : ℕ) (p : Point) (dx dy dz : ℤ) (e : block_refusal M s p dx dy dz ≡ None) where
   -- the corners of the base are in range
@@ -41,10 +42,12 @@ module _ (M : Model) (sound : Sound M) (s : ℕ) (p : Point) (dx dy dz : ℤ) (e
     pub block_rises : CanRise N k d hs
     block_rises = base_rises M sound s _ _ _ _ N base_is same d rise_goes hs holds k counted
 
-    -- which makes the block
-    pub block_risen : (X : Model) → X ≡ effects N (loop_ops N k d hs) → X ≡ block_model M s p dx dy dz
-    unfolding block_model
-    block_risen X x = base_risen M sound s _ _ _ _ N base_is same d rise_goes hs holds k counted X x ∙ (λ i. prism_model (lamina_is i) (lamina_face M) (up i))
+    -- and so its operators are those of the block
+    pub block_ops : lamina_operators M s ps ++ loop_ops N k d hs ≡ block_operators M s p dx dy dz
+    unfolding block_operators
+    block_ops =
+        (λ t. lamina_operators M s (is t) ++ base_ops M sound s _ _ _ _ N base_is same d rise_goes hs holds k counted t)
+        ∙ (λ t. lamina_operators M s (base_of p dx dy) ++ sweep_ops (lamina_is t) (lamina_face M) (up t))
 
 -- what holds of the sizes as they were passed on holds of the sizes
 pub at_sizes : (P : ℤ → ℤ → ℤ → Type 0) (a b g x y z : ℤ) → a ≡ x → b ≡ y → g ≡ z → P a b g → P x y z

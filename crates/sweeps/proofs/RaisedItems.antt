@@ -1,14 +1,14 @@
 -- The items of a loop that is swept, as the code holds them, and the steps that it takes with them.
-use Rattle.std.proofs.Common.{◌≡◌, ℕ, suc, ◌+◌, ◌-◌, ◌<◌, ◌≤◌, List, map, length, None, sym, ap, ◌∙◌, subst, arith, add-one, get_or}
+use Rattle.std.proofs.Common.{◌≡◌, ℕ, suc, ◌+◌, ◌-◌, ◌<◌, ◌≤◌, List, [], ◌∷◌, ◌++◌, map, length, None, sym, append_assoc, ap, ◌∙◌, subst, arith, add-one, get_or}
 use Rattle.std.proofs.lemmas.List.{get_or-map, length-map}
 use Rattle.euler_operators.specs.Common.{Point, IsInRange, moved, IsIn, HalfEdge, At, code, half, plus, Model, HasHalf, first_false, effect}
 use Rattle.euler_operators.proofs.Common.{IsIn-get_or, half-code}
 use Rattle.euler_operators.specs.declared.Op.TheVariants.{Mev}
 use Rattle.euler_laws.specs.Laws.{effects}
 use Rattle.shapes.specs.Common.{AreLeft, start, Taken, riser}
-use Rattle.sweeps_laws.specs.prism.SweepOps.{raise_item, close, close_last, rounds, loop_ops}
+use Rattle.sweeps_laws.specs.prism.SweepOps.{raise_item, raise, close, close_last, rounds, loop_ops}
 use Rattle.sweeps_laws.proofs.prism.Sides.{half_there, two_items}
-use Rattle.sweeps_laws.proofs.prism.Turns.{turn_half, turn_range, raise_accepted, close_accepted, turn_is, last_accepted, last_is}
+use Rattle.sweeps_laws.proofs.prism.Turns.{turn_half, turn_range, raises, raise_accepted, close_accepted, last_accepted}
 use Rattle.sweeps_laws.proofs.prism.Loops.{first_accepted}
 use Rattle.sweeps_laws.specs.prism.Ready.{Ready, needed_for_sides}
 
@@ -44,8 +44,8 @@ module _ (M : Model) (c : Taken) (f l : ℕ) (d : Point) (hs : List ℕ) (w : Re
     pub accepted_first : first_false M (raise_item M c d (code h) 0) ≡ None
     accepted_first = ap (λ k. first_false M (raise_item M c d k 0)) (item_is 0 h some e) ∙ first_accepted M c f l d hs w
 
-    pub after_first : effect M (raise_item M c d (code h) 0) ≡ effects M (rounds M c d hs 0)
-    after_first = ap (λ k. effect M (raise_item M c d k 0)) (item_is 0 h some e)
+    pub first_is : raise_item M c d (code h) 0 ∷ [] ≡ rounds M c d hs 0
+    first_is = ap (λ k. raise_item M c d k 0 ∷ []) (item_is 0 h some e)
 
   -- one more
   module _ (i : ℕ) (X : Model) (x : X ≡ effects M (rounds M c d hs i)) (lt : i + 1 < length hs) (h : HalfEdge) (e : h ≡ get_or items (i + 1) h) where
@@ -74,8 +74,10 @@ module _ (M : Model) (c : Taken) (f l : ℕ) (d : Point) (hs : List ℕ) (w : Re
       pub closes_next : first_false Y (close c (length hs) i) ≡ None
       closes_next = ap (λ N. first_false N (close c (length hs) i)) made ∙ close_accepted M c f l d hs w i below
 
-      pub after_next : effect Y (close c (length hs) i) ≡ effects M (rounds M c d hs (i + 1))
-      after_next = ap (λ N. effect N (close c (length hs) i)) made ∙ turn_is M c f l d hs w i below ∙ ap (λ k. effects M (rounds M c d hs k)) (sym (add-one i))
+    pub round_is : (rounds M c d hs i ++ raise_item X c d (code h) (i + 1) ∷ []) ++ close c (length items) i ∷ [] ≡ rounds M c d hs (i + 1)
+    round_is = (λ j. (rounds M c d hs i ++ (op_is ∙ raises M c f l d hs w i below) j ∷ []) ++ close c (how_many j) i ∷ [])
+        ∙ append_assoc (rounds M c d hs i) (raise M c d hs (suc i) ∷ []) (close c (length hs) i ∷ [])
+        ∙ ap (rounds M c d hs) (sym (add-one i))
 
   -- the last side
   module _ (i : ℕ) (X : Model) (x : X ≡ effects M (rounds M c d hs i)) (inside : i < length hs) (ends : length hs ≤ i + 1) where
@@ -88,5 +90,5 @@ module _ (M : Model) (c : Taken) (f l : ℕ) (d : Point) (hs : List ℕ) (w : Re
     pub closes_last : first_false X (close_last c (length hs) (length hs - 1)) ≡ None
     closes_last = ap (λ N. first_false N (close_last c (length hs) (length hs - 1))) all_rounds ∙ last_accepted M c f l d hs w
 
-    pub after_last : effect X (close_last c (length hs) (length hs - 1)) ≡ effects M (loop_ops M c d hs)
-    after_last = ap (λ N. effect N (close_last c (length hs) (length hs - 1))) all_rounds ∙ last_is M c f l d hs w
+    pub all_is : rounds M c d hs i ++ close_last c (length items) (length items - 1) ∷ [] ≡ loop_ops M c d hs
+    all_is = λ j. rounds M c d hs (at_end j) ++ close_last c (how_many j) (how_many j - 1) ∷ []

@@ -1,12 +1,14 @@
 -- The loops of a face that is swept, as the code takes them one after the other.
-use Rattle.std.proofs.Common.{◌≡◌, ℕ, ◌-◌, ◌≤◌, None, List, [], ◌∷◌, length, sym, ap, ◌∙◌, subst, arith, take, drop, slice_index_or}
+use Rattle.std.proofs.Common.{◌≡◌, ℕ, ◌-◌, ◌≤◌, ◌<◌, None, List, [], ◌∷◌, ◌++◌, length, append-nil, append_assoc, sym, ap, ◌∙◌, subst, arith, take, drop, slice_index_or}
 use Rattle.std.proofs.lemmas.List.{take_rest}
 use Rattle.euler_operators.specs.Common.{Point, Model, face_of, items_of, content, outer, rings_of, Sound}
-use Rattle.euler_laws.specs.Laws.{effects}
-use Rattle.shapes.specs.Common.{loops_of, Taken, taken_in, prism_from, prism_model, prism_refusal}
-use Rattle.sweeps_laws.specs.prism.SweepOps.{loop_ops, taken_after}
+use Rattle.euler_operators.specs.declared.Op.{Op}
+use Rattle.undo_journal.specs.Journal.{DraftJournal, after_steps}
+use Rattle.undo_journal.proofs.Marks.{no_steps, steps_after, steps_make}
+use Rattle.shapes.specs.Common.{loops_of, Taken, taken_in, prism_refusal}
+use Rattle.sweeps_laws.specs.prism.SweepOps.{loop_ops, ops_from, sweep_ops, taken_after}
 use Rattle.sweeps_laws.specs.prism.Ready.{Ready}
-use Rattle.sweeps_laws.proofs.prism.Whole.{Going, turn_ready, turn_next, turn_model}
+use Rattle.sweeps_laws.proofs.prism.Whole.{Going, same_items, turn_ready, turn_ops, turn_next}
 use Rattle.sweeps_laws.proofs.prism.Accepted.{begins}
 
 -- the first of a list, and the rest
@@ -33,24 +35,47 @@ module _ (M A : Model) (same : A ≡ M) (sound : Sound A) (f : ℕ) (d : Point) 
   pub all_going : Going M M c f d (l ∷ rs)
   all_going = subst (λ t. Going M M t f d (l ∷ rs)) (sym taken) (subst (Going M M (taken_in M) f d) (sym loops) (begins M f d (subst Sound same sound) e))
 
-  pub all_model : (prism_from f d (record { model = M; taken = c }) (l ∷ rs)).model ≡ prism_model M f d
-  unfolding prism_model
-  all_model = λ j. (prism_from f d (record { model = M; taken = taken j }) (loops j)).model
+  pub all_ops : ops_from M d c (l ∷ rs) ≡ sweep_ops M f d
+  unfolding sweep_ops
+  all_ops = λ j. ops_from M d (taken j) (loops j)
 
-module _ (M N : Model) (c : Taken) (f : ℕ) (d : Point) where
-  pub going_on : (xs : List ℕ) → 1 ≤ length xs → Going M N c f d xs → Going M N c f d (first xs ∷ others xs)
-  going_on xs lt going = subst (Going M N c f d) (parts xs lt) going
+-- a draft in which some loops of face f are swept; those of the list are left
+pub record Sweeping (old new : DraftJournal) (c : Taken) (f : ℕ) (d : Point) (ls : List ℕ) : Type 0 where
+  pub going : Going old.model new.model c f d ls
+  pub done : List Op
+  pub steps : new ≡ after_steps old done
+  pub left : done ++ ops_from old.model d c ls ≡ sweep_ops old.model f d
 
-  pub same_model : (xs : List ℕ) → 1 ≤ length xs → (prism_from f d (record { model = N; taken = c }) (first xs ∷ others xs)).model ≡ (prism_from f d (record { model = N; taken = c }) xs).model
-  same_model xs lt = ap (λ ys. (prism_from f d (record { model = N; taken = c }) ys).model) (sym (parts xs lt))
+-- before the outer loop
+pub begun : (old : DraftJournal) (c : Taken) (f : ℕ) (d : Point) (ls : List ℕ) → Going old.model old.model c f d ls → ops_from old.model d c ls ≡ sweep_ops old.model f d → Sweeping old old c f d ls
+begun old c f d ls going all = record { going = going; done = []; steps = sym (no_steps old); left = all }
 
-  module _ (x : ℕ) (xs : List ℕ) (going : Going M N c f d (x ∷ xs)) where
-    pub loop_ready : Ready N c (face_of N x) x d (items_of (content N x))
-    loop_ready = turn_ready M N c f x d xs going
+module _ (old new : DraftJournal) (c : Taken) (f : ℕ) (d : Point) where
+  pub going_on : (xs : List ℕ) → 1 ≤ length xs → Sweeping old new c f d xs → Sweeping old new c f d (first xs ∷ others xs)
+  going_on xs lt w = subst (Sweeping old new c f d) (parts xs lt) w
 
-    module _ (X : Model) (made : X ≡ effects N (loop_ops N c d (items_of (content N x)))) (t : Taken) (is : t ≡ taken_after c (length (items_of (content N x)))) where
-      pub loop_next : Going M X t f d xs
-      loop_next = subst (λ q. Going M X q f d xs) (sym is) (turn_next M N c f x d xs going X made)
+  -- after the last loop
+  pub all_swept : (xs : List ℕ) → length xs < 1 → Sweeping old new c f d xs → new ≡ after_steps old (sweep_ops old.model f d)
+  all_swept [] lt w = w.steps ∙ ap (after_steps old) (sym (append-nil w.done) ∙ w.left)
+  all_swept (x ∷ xs) lt w = absurd (omega (arith, lt))
 
-      pub loop_model : (prism_from f d (record { model = X; taken = t }) xs).model ≡ (prism_from f d (record { model = N; taken = c }) (x ∷ xs)).model
-      loop_model = ap (λ q. (prism_from f d (record { model = X; taken = q }) xs).model) is ∙ turn_model M N c f x d xs going X made
+  module _ (x : ℕ) (xs : List ℕ) (w : Sweeping old new c f d (x ∷ xs)) where
+    abbrev hs : List ℕ
+    hs = items_of (content old.model x)
+
+    pub loop_ready : Ready new.model c (face_of new.model x) x d (items_of (content new.model x))
+    loop_ready = turn_ready old.model new.model c f x d xs w.going
+
+    module _ (N : DraftJournal) (made : N ≡ after_steps new (loop_ops new.model c d (items_of (content new.model x)))) (t : Taken) (is : t ≡ taken_after c (length (items_of (content new.model x)))) where
+      taken_is : t ≡ taken_after c (length hs)
+      taken_is = is ∙ ap (λ ks. taken_after c (length ks)) (same_items old.model new.model c f x d xs w.going)
+
+      pub loop_next : Sweeping old N t f d xs
+      loop_next = record {
+        going = subst (λ q. Going old.model N.model q f d xs) (sym is) (turn_next old.model new.model c f x d xs w.going N.model (steps_make _ _ _ made));
+        done = w.done ++ loop_ops old.model c d hs;
+        steps = steps_after old new N w.done (loop_ops old.model c d hs) w.steps (made ∙ ap (after_steps new) (turn_ops old.model new.model c f x d xs w.going));
+        left = ap (λ q. (w.done ++ loop_ops old.model c d hs) ++ ops_from old.model d q xs) taken_is
+            ∙ append_assoc w.done (loop_ops old.model c d hs) (ops_from old.model d (taken_after c (length hs)) xs)
+            ∙ w.left;
+      }

@@ -6,9 +6,10 @@ ghost use Rattle.euler_conditions.specs.Ready.{IsReady};
 ghost use Rattle.shapes.specs.Common.{vector, base_of, block_model, numbers_after, taken_in};
 ghost use Rattle.shapes.specs.Block as spec;
 ghost use Rattle.solid_walks.specs.Counters.{AreWithin, taken_of};
-ghost use Rattle.undo_journal.specs.Journal.{IsRecorded, IsFurther};
+ghost use Rattle.undo_journal.specs.Journal.{after_steps, record_of, recorded, IsRecorded, IsFurther};
 ghost use Rattle.undo_journal.specs.Machine.{held};
 ghost use Rattle.sweeps.specs.Machine.{block, block_refusal};
+ghost use Rattle.sweeps_laws.specs.block.BlockOps.{block_operators};
 ghost use Rattle.sweeps.specs.Raising.{with_lamina};
 
 use crate::laminas::draw_lamina;
@@ -131,6 +132,7 @@ fn draw_block(
     requires within { AreWithin taken.now }
     requires accepted { spec.block_refusal draft.old.model solid corner size.x size.y size.z ≡ None }
     ensures ok { OnOk result (draft.new.model ≡ block_model draft.old.model solid corner size.x size.y size.z) }
+    ensures steps { OnOk result (draft.new ≡ after_steps draft.old (block_operators draft.old.model solid corner size.x size.y size.z)) }
     ensures further { IsFurther draft.old draft.new }
 {
     draft.stays_consistent();
@@ -148,6 +150,7 @@ fn draw_block(
 #[tactic(auto, using(undo_journal::proofs::Marks::further_none, undo_journal::proofs::Marks::further_back))]
 fn block_of_in(draft: &mut Draft, solid: u32, corner: Point, size: Point) -> Result<(), Failure>
     ensures ok { OnOk result ((spec.block_refusal draft.old.model solid corner size.x size.y size.z ≡ None) × (draft.new.model ≡ block_model draft.old.model solid corner size.x size.y size.z)) }
+    ensures steps { OnOk result (draft.new ≡ after_steps draft.old (block_operators draft.old.model solid corner size.x size.y size.z)) }
     ensures refused { (refusal : Refusal) → ((result ≡ Err (Failure.Refused refusal)) ↔ (spec.block_refusal draft.old.model solid corner size.x size.y size.z ≡ Some refusal)) }
     ensures further { IsFurther draft.old draft.new }
     ensures err { OnErr result (draft.new ≡ draft.old) }
@@ -177,6 +180,7 @@ pub fn block_in(
     dz: i64,
 ) -> Result<(), Failure>
     ensures ok { OnOk result ((spec.block_refusal draft.old.model solid corner dx dy dz ≡ None) × (draft.new.model ≡ block_model draft.old.model solid corner dx dy dz)) }
+    ensures steps { OnOk result (draft.new ≡ after_steps draft.old (block_operators draft.old.model solid corner dx dy dz)) }
     ensures refused { (refusal : Refusal) → ((result ≡ Err (Failure.Refused refusal)) ↔ (spec.block_refusal draft.old.model solid corner dx dy dz ≡ Some refusal)) }
     ensures further { IsFurther draft.old draft.new }
     ensures err { OnErr result (draft.new ≡ draft.old) }
@@ -200,6 +204,7 @@ fn block_of(
     ensures stays_sound { Sound (held result.0.machine) }
     ensures ok { OnOk result.1 ((block_refusal session.machine solid corner size.x size.y size.z ≡ None) × (result.0.machine ≡ block session.machine solid corner size.x size.y size.z)) }
     ensures recorded { OnOk result.1 (IsRecorded session result.0) }
+    ensures record { OnOk result.1 (result.0.records ≡ recorded session (record_of (held session.machine) (block_operators (held session.machine) solid corner size.x size.y size.z))) }
     ensures refused { (refusal : Refusal) → ((result.1 ≡ Err (Failure.Refused refusal)) ↔ (block_refusal session.machine solid corner size.x size.y size.z ≡ Some refusal)) }
     ensures err { OnErr result.1 (result.0 ≡ session) }
 {
@@ -237,6 +242,7 @@ pub fn block(
     ensures stays_sound { Sound (held result.0.machine) }
     ensures ok { OnOk result.1 ((block_refusal session.machine solid corner dx dy dz ≡ None) × (result.0.machine ≡ block session.machine solid corner dx dy dz)) }
     ensures recorded { OnOk result.1 (IsRecorded session result.0) }
+    ensures record { OnOk result.1 (result.0.records ≡ recorded session (record_of (held session.machine) (block_operators (held session.machine) solid corner dx dy dz))) }
     ensures refused { (refusal : Refusal) → ((result.1 ≡ Err (Failure.Refused refusal)) ↔ (block_refusal session.machine solid corner dx dy dz ≡ Some refusal)) }
     ensures err { OnErr result.1 (result.0 ≡ session) }
 {

@@ -7,9 +7,10 @@ ghost use Rattle.euler_operators.specs.declared.Refusal.{Refusal};
 ghost use Rattle.shapes.specs.Common.{taken_in, lamina_model};
 ghost use Rattle.shapes.specs.Lamina as spec;
 ghost use Rattle.solid_walks.specs.Counters.{AreWithin, taken_of};
-ghost use Rattle.undo_journal.specs.Journal.{IsRecorded, IsFurther};
+ghost use Rattle.undo_journal.specs.Journal.{after_steps, record_of, recorded, IsRecorded, IsFurther};
 ghost use Rattle.undo_journal.specs.Machine.{held};
 ghost use Rattle.sweeps.specs.Machine.{lamina, lamina_refusal};
+ghost use Rattle.sweeps_laws.specs.lamina.Path.{lamina_operators};
 
 use arrayvec::ArrayVec;
 use euler_conditions::Arena;
@@ -121,6 +122,7 @@ pub(crate) fn draw_lamina(
     requires few { length points.now ≤ 64 }
     requires accepted { spec.lamina_refusal draft.old.model solid points.now ≡ None }
     ensures ok { OnOk result (draft.new.model ≡ lamina_model draft.old.model solid points.now) }
+    ensures steps { OnOk result (draft.new ≡ after_steps draft.old (lamina_operators draft.old.model solid points.now)) }
     ensures further { IsFurther draft.old draft.new }
 {
     draft.stays_consistent();
@@ -156,6 +158,7 @@ pub(crate) fn draw_lamina(
 #[tactic(auto, using(undo_journal::proofs::Marks::further_none, undo_journal::proofs::Marks::further_back))]
 pub fn lamina_in(draft: &mut Draft, solid: u32, points: &ArrayVec<Point, 64>) -> Result<(), Failure>
     ensures ok { OnOk result ((spec.lamina_refusal draft.old.model solid points.now.items ≡ None) × (draft.new.model ≡ lamina_model draft.old.model solid points.now.items)) }
+    ensures steps { OnOk result (draft.new ≡ after_steps draft.old (lamina_operators draft.old.model solid points.now.items)) }
     ensures refused { (refusal : Refusal) → ((result ≡ Err (Failure.Refused refusal)) ↔ (spec.lamina_refusal draft.old.model solid points.now.items ≡ Some refusal)) }
     ensures further { IsFurther draft.old draft.new }
     ensures err { OnErr result (draft.new ≡ draft.old) }
@@ -191,6 +194,7 @@ pub fn lamina(
     ensures stays_sound { Sound (held result.0.machine) }
     ensures ok { OnOk result.1 ((lamina_refusal session.machine solid points.now.items ≡ None) × (result.0.machine ≡ lamina session.machine solid points.now.items)) }
     ensures recorded { OnOk result.1 (IsRecorded session result.0) }
+    ensures record { OnOk result.1 (result.0.records ≡ recorded session (record_of (held session.machine) (lamina_operators (held session.machine) solid points.now.items))) }
     ensures refused { (refusal : Refusal) → ((result.1 ≡ Err (Failure.Refused refusal)) ↔ (lamina_refusal session.machine solid points.now.items ≡ Some refusal)) }
     ensures err { OnErr result.1 (result.0 ≡ session) }
 {

@@ -5,10 +5,10 @@
 //! # What is proved
 //!
 //! `lamina`, `block` and `sweep` are Ok only if all conditions hold; then they are one command of the machine with exactly the written
-//! model, and leave one record. They are refused exactly if a condition is false, with the first such condition and its value. On any
-//! failure the session is as it was, and the models ahead are kept. The models held before and after are sound. No operator inside is ever
-//! refused. `sweep_measures`, `block_measures`, `lamina_measures`: the six volumes of each solid of the session after a command, from those
-//! before.
+//! model, and leave one record, that of the operators that are written for them. In a draft they take these operators as steps. They are
+//! refused exactly if a condition is false, with the first such condition and its value. On any failure the session is as it was, and the
+//! models ahead are kept. The models held before and after are sound. No operator inside is ever refused. `sweep_measures`,
+//! `block_measures`, `lamina_measures`: the six volumes of each solid of the session after a command, from those before.
 
 mod blocks;
 mod corners;

@@ -3,8 +3,7 @@ ghost use Rattle.std.specs.Prelude.{◌≡◌, ◌≤◌, ◌<◌, ◌+◌, ◌-
 ghost use Rattle.euler_operators.specs.Common.{IsInRange, moved, code, has_half, items_of, content, face_of, first_false, is_lone};
 ghost use Rattle.euler_conditions.specs.Ready.{IsReady};
 ghost use Rattle.euler_conditions.specs.Store.{has_number};
-ghost use Rattle.euler_laws.specs.Laws.{effects};
-ghost use Rattle.undo_journal.specs.Journal.{after_step, IsFurther};
+ghost use Rattle.undo_journal.specs.Journal.{after_step, after_steps, IsFurther};
 ghost use Rattle.shapes.specs.Common.{start, prism_refusal, prism_model, taken_in};
 ghost use Rattle.shapes.specs.Prism as prism;
 ghost use Rattle.sweeps_laws.specs.prism.SweepOps as ops;
@@ -152,7 +151,7 @@ pub(crate) fn raise_items(
     shift: Point,
 ) -> Result<(), AllocError>
     requires { CanRise draft.old.model (taken_of taken.now) shift (map code items.now) }
-    ensures model { OnOk result (draft.new.model ≡ effects draft.old.model (ops.loop_ops draft.old.model (taken_of taken.now) shift (map code items.now))) }
+    ensures steps { OnOk result (draft.new ≡ after_steps draft.old (ops.loop_ops draft.old.model (taken_of taken.now) shift (map code items.now))) }
     ensures further { IsFurther draft.old draft.new }
 {
     let count = items.len() as u32;
@@ -182,7 +181,7 @@ fn raise_loop(
 ) -> Result<Counters, AllocError>
     requires { Ready draft.old.model (taken_of taken.now) (face_of draft.old.model l) l shift (items_of (content draft.old.model l)) }
     ensures counters { IfOk result (λ after. taken_of after ≡ ops.taken_after (taken_of taken.now) (length (items_of (content draft.old.model l)))) }
-    ensures model { OnOk result (draft.new.model ≡ effects draft.old.model (ops.loop_ops draft.old.model (taken_of taken.now) shift (items_of (content draft.old.model l)))) }
+    ensures steps { OnOk result (draft.new ≡ after_steps draft.old (ops.loop_ops draft.old.model (taken_of taken.now) shift (items_of (content draft.old.model l)))) }
     ensures further { IsFurther draft.old draft.new }
 {
     let items = loop_items(alloc, draft.arena(), l)?;
@@ -202,6 +201,7 @@ pub(crate) fn raise(
     requires taken { taken_of taken.now ≡ taken_in draft.old.model }
     requires accepted { prism_refusal draft.old.model f shift ≡ None }
     ensures model { OnOk result (draft.new.model ≡ prism_model draft.old.model f shift) }
+    ensures steps { OnOk result (draft.new ≡ after_steps draft.old (ops.sweep_ops draft.old.model f shift)) }
     ensures further { IsFurther draft.old draft.new }
 {
     let arena = draft.arena();

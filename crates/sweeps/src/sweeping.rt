@@ -5,9 +5,10 @@ ghost use Rattle.euler_operators.specs.declared.Refusal.{Refusal};
 ghost use Rattle.euler_conditions.specs.Ready.{IsReady};
 ghost use Rattle.shapes.specs.Common.{taken_in, prism_refusal, prism_model};
 ghost use Rattle.solid_walks.specs.Counters.{taken_of};
-ghost use Rattle.undo_journal.specs.Journal.{IsRecorded, IsFurther};
+ghost use Rattle.undo_journal.specs.Journal.{after_steps, record_of, recorded, IsRecorded, IsFurther};
 ghost use Rattle.undo_journal.specs.Machine.{held};
 ghost use Rattle.sweeps.specs.Machine.{sweep, sweep_refusal};
+ghost use Rattle.sweeps_laws.specs.prism.SweepOps.{sweep_ops};
 
 use crate::corners::face_tally;
 use crate::raising::raise;
@@ -60,6 +61,7 @@ fn check_sweep(arena: &Arena, taken: Counters, f: u32, shift: Point) -> Result<(
 pub fn sweep_in(alloc: Global, draft: &mut Draft, f: u32, shift: Point) -> Result<(), Failure>
     ensures ok { OnOk result ((prism_refusal draft.old.model f shift ≡ None) × (draft.new.model ≡ prism_model draft.old.model f shift)) }
     ensures refused { (refusal : Refusal) → ((result ≡ Err (Failure.Refused refusal)) ↔ (prism_refusal draft.old.model f shift ≡ Some refusal)) }
+    ensures steps { OnOk result (draft.new ≡ after_steps draft.old (sweep_ops draft.old.model f shift)) }
     ensures further { IsFurther draft.old draft.new }
     ensures err { OnErr result (draft.new ≡ draft.old) }
 {
@@ -95,6 +97,7 @@ pub fn sweep(
     ensures stays_sound { Sound (held result.0.machine) }
     ensures ok { OnOk result.1 ((sweep_refusal session.machine f shift ≡ None) × (result.0.machine ≡ sweep session.machine f shift)) }
     ensures recorded { OnOk result.1 (IsRecorded session result.0) }
+    ensures record { OnOk result.1 (result.0.records ≡ recorded session (record_of (held session.machine) (sweep_ops (held session.machine) f shift))) }
     ensures refused { (refusal : Refusal) → ((result.1 ≡ Err (Failure.Refused refusal)) ↔ (sweep_refusal session.machine f shift ≡ Some refusal)) }
     ensures err { OnErr result.1 (result.0 ≡ session) }
 {

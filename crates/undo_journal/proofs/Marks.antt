@@ -8,7 +8,7 @@ use Rattle.euler_laws.proofs.Common.{effects-append, AreAccepted-append, AreAcce
 use Rattle.undo_journal.specs.Sessions.{LeadsBothWays, opened, command_of}
 use Rattle.undo_journal.specs.Machine.{held}
 use Rattle.undo_journal.specs.declared.record.Record.{Record}
-use Rattle.undo_journal.specs.Journal.{Journal, DraftJournal, new_draft, after_step, after_steps, after_commit, recorded, each_inverse, IsMark, IsFurther, IsRecorded, back_at}
+use Rattle.undo_journal.specs.Journal.{Journal, DraftJournal, new_draft, after_step, after_steps, after_commit, record_of, recorded, each_inverse, IsMark, IsFurther, IsRecorded, back_at}
 
 -- ---- inverses in their order
 
@@ -89,7 +89,7 @@ pub further_steps : (d : DraftJournal) (ops : List Op) → AreAccepted d.model o
 unfolding IsFurther
 further_steps d ops goes = (ops, goes, refl)
 
-no_steps : (d : DraftJournal) → after_steps d [] ≡ d
+pub no_steps : (d : DraftJournal) → after_steps d [] ≡ d
 no_steps d i = record { session = d.session; model = d.model; forward = append-nil d.forward i; back = append-nil d.back i }
 
 pub further_none : (d : DraftJournal) → IsFurther d d
@@ -102,7 +102,7 @@ pub further_tried : {X Y : Type 0} (d e : DraftJournal) (o : Op) (r : Result X Y
 further_tried d e o (Ok x) goes ok err = subst (IsFurther d) (sym ok) (further_steps d (o ∷ []) (goes, tt))
 further_tried d e o (Err y) goes ok err = further_same d e err
 
-after_both : (d : DraftJournal) (ops more : List Op) → after_steps (after_steps d ops) more ≡ after_steps d (ops ++ more)
+pub after_both : (d : DraftJournal) (ops more : List Op) → after_steps (after_steps d ops) more ≡ after_steps d (ops ++ more)
 after_both d ops more =
     let back = append_assoc d.back (each_inverse d.model ops) (each_inverse (effects d.model ops) more) ∙ ap (λ (xs : List Op). d.back ++ xs) (sym (each-append d.model ops more)) in
     λ i. record { session = d.session; model = sym (effects-append d.model ops more) i; forward = append_assoc d.forward ops more i; back = back i }
@@ -125,6 +125,26 @@ further_recorded s t d e opened further is =
     let command : Record = record { forward = e.forward; back = reverse e.back } in
     let session = further_session d e further ∙ ap (λ (x : DraftJournal). x.session) opened in
     record { command = command; appended = ap (λ (j : Journal). j.records) is ∙ ap (λ (j : Journal). recorded j command) session }
+
+-- a draft that was opened, took some steps and was committed leaves the record of these steps
+pub steps_recorded : (s t : Journal) (d e : DraftJournal) (ops : Model → List Op) → d ≡ new_draft s → e ≡ after_steps d (ops d.model) → t ≡ after_commit e → t.records ≡ recorded s (record_of (held s.machine) (ops (held s.machine)))
+steps_recorded s t d e ops opened steps is = ap (λ (j : Journal). j.records) (is ∙ ap after_commit (steps ∙ ap (λ (x : DraftJournal). after_steps x (ops x.model)) opened))
+
+-- one step
+pub first_step : (d e : DraftJournal) (op : Op) → e ≡ after_step d op → e ≡ after_steps d (op ∷ [])
+first_step d e op is = is
+
+-- one step more
+pub step_after : (d e f : DraftJournal) (ops : List Op) (op : Op) → e ≡ after_steps d ops → f ≡ after_step e op → f ≡ after_steps d (ops ++ op ∷ [])
+step_after d e f ops op steps is = is ∙ ap (λ (x : DraftJournal). after_step x op) steps ∙ after_both d ops (op ∷ [])
+
+-- what steps make of the model
+pub steps_make : (d e : DraftJournal) (ops : List Op) → e ≡ after_steps d ops → e.model ≡ effects d.model ops
+steps_make d e ops steps = ap (λ (x : DraftJournal). x.model) steps
+
+-- some steps more
+pub steps_after : (d e f : DraftJournal) (ops more : List Op) → e ≡ after_steps d ops → f ≡ after_steps e more → f ≡ after_steps d (ops ++ more)
+steps_after d e f ops more steps is = is ∙ ap (λ (x : DraftJournal). after_steps x more) steps ∙ after_both d ops more
 
 -- going back to a mark gives the draft as it was there
 module _ (d e : DraftJournal) (n : ℕ) (mark : IsMark d n) (further : IsFurther d e) where

@@ -71,6 +71,10 @@ abbrev pub each_inverse : Model → List Op → List Op
 each_inverse M [] = []
 each_inverse M (o ∷ os) = inverse M o ∷ each_inverse (effect M o) os
 
+-- the record of a command that some operators make from M on: they lead forward, and their inverses, the last one first, lead back
+abbrev pub record_of : Model → List Op → Record
+record_of M ops = record { forward = ops; back = reverse (each_inverse M ops) }
+
 -- the draft after some further steps, each with its inverse
 abbrev pub after_steps : DraftJournal → List Op → DraftJournal
 after_steps d ops = record { session = d.session; model = effects d.model ops; forward = d.forward ++ ops; back = d.back ++ each_inverse d.model ops }

@@ -4,10 +4,10 @@ use Rattle.euler_operators.specs.Common.{Point, IsInRange, moved, IsIn, At, edge
 use Rattle.euler_operators.proofs.Common.{IsIn-get_or, get-put_other, in_use_within}
 use Rattle.euler_operators.specs.declared.Op.TheVariants.{Mev}
 use Rattle.euler_laws.specs.Laws.{AreAccepted, effects}
-use Rattle.euler_laws.proofs.Common.{effects-append, AreAccepted-back}
+use Rattle.euler_laws.proofs.Common.{AreAccepted-back}
 use Rattle.shapes.specs.Common.{start, Taken, riser}
 use Rattle.sweeps_laws.specs.prism.Part.{prism_part}
-use Rattle.sweeps_laws.specs.prism.SweepOps.{raise_item, raise, close, close_last, rounds, loop_ops}
+use Rattle.sweeps_laws.specs.prism.SweepOps.{raise_item, raise, close, close_last, rounds}
 use Rattle.sweeps_laws.proofs.prism.Sides.{has_free, half_there, old_edge, part_keeps}
 use Rattle.sweeps_laws.proofs.swept.Bounds.{tail_within}
 use Rattle.sweeps_laws.proofs.swept.Numbers.{riser_cases}
@@ -45,7 +45,7 @@ module _ (M : Model) (c : Taken) (f l : ℕ) (d : Point) (hs : List ℕ) (w : Re
     g_in = IsIn-get_or hs (suc i) 0 lt
 
     -- told from the model then, or from the one before
-    raises : raise_item (N i) c d (get_or hs (suc i) 0) (suc i) ≡ raise M c d hs (suc i)
+    pub raises : raise_item (N i) c d (get_or hs (suc i) 0) (suc i) ≡ raise M c d hs (suc i)
     raises = ap (λ p. Mev (At (half (get_or hs (suc i) 0))) (At (half (get_or hs (suc i) 0))) (half (plus (riser c.edge (suc i)))) (c.vertex + 1 + suc i) (moved p d)) (turn_start i (omega arith) (get_or hs (suc i) 0) g_in)
 
     both : AreAccepted (N i) (raise M c d hs (suc i) ∷ close c (length hs) i ∷ [])
@@ -57,12 +57,6 @@ module _ (M : Model) (c : Taken) (f l : ℕ) (d : Point) (hs : List ℕ) (w : Re
     pub close_accepted : first_false (effect (N i) (raise_item (N i) c d (get_or hs (suc i) 0) (suc i))) (close c (length hs) i) ≡ None
     close_accepted = ap (λ op. first_false (effect (N i) op) (close c (length hs) i)) raises ∙ both.1.0
 
-    pub turn_is : effect (effect (N i) (raise_item (N i) c d (get_or hs (suc i) 0) (suc i))) (close c (length hs) i) ≡ N (suc i)
-    turn_is = ap (λ op. effect (effect (N i) op) (close c (length hs) i)) raises ∙ sym (effects-append M (rounds M c d hs i) (raise M c d hs (suc i) ∷ close c (length hs) i ∷ []))
-
   -- and the last side
   pub last_accepted : first_false (N (length hs - 1)) (close_last c (length hs) (length hs - 1)) ≡ None
   last_accepted = (AreAccepted-back M (rounds M c d hs (length hs - 1)) (close_last c (length hs) (length hs - 1) ∷ []) (loop_swept M c f l d hs w).0).0
-
-  pub last_is : effect (N (length hs - 1)) (close_last c (length hs) (length hs - 1)) ≡ effects M (loop_ops M c d hs)
-  last_is = sym (effects-append M (rounds M c d hs (length hs - 1)) (close_last c (length hs) (length hs - 1) ∷ []))

@@ -97,11 +97,14 @@ module _ (M N : Model) (c : Taken) (f l : ℕ) (d : Point) (ls : List ℕ) (g : 
   raised_is = ap (λ q. raised_over f d (record { model = N; taken = c }) l (items_of q)) (content_row N l (record { face = f; content = cycle hs }) (g.rows l (IsIn_head l ls)))
 
   -- the same, told from the model then
-  same_items : items_of (content N l) ≡ hs
+  pub same_items : items_of (content N l) ≡ hs
   same_items = ap items_of (content_row N l (record { face = f; content = cycle hs }) (g.rows l (IsIn_head l ls)))
 
   pub turn_ready : Ready N c (face_of N l) l d (items_of (content N l))
   turn_ready = subst (λ k. Ready N c k l d (items_of (content N l))) (sym (face_row N l (record { face = f; content = cycle hs }) (g.rows l (IsIn_head l ls)))) (subst (Ready N c f l d) (sym same_items) ready)
+
+  pub turn_ops : loop_ops N c d (items_of (content N l)) ≡ loop_ops M c d hs
+  turn_ops = ap (loop_ops N c d) same_items ∙ sym ops_are
 
   module _ (X : Model) (x : X ≡ effects N (loop_ops N c d (items_of (content N l)))) where
     is_swept : X ≡ N'
@@ -109,9 +112,6 @@ module _ (M N : Model) (c : Taken) (f l : ℕ) (d : Point) (ls : List ℕ) (g : 
 
     pub turn_next : Going M X (taken_after c (length (items_of (content N l)))) f d ls
     turn_next = subst (λ Y. Going M Y (taken_after c (length (items_of (content N l)))) f d ls) (sym is_swept) (subst (λ ks. Going M N' (taken_after c (length ks)) f d ls) (sym same_items) next)
-
-    pub turn_model : (prism_from f d (record { model = X; taken = taken_after c (length (items_of (content N l))) }) ls).model ≡ (prism_from f d (record { model = N; taken = c }) (l ∷ ls)).model
-    turn_model = (λ j. (prism_from f d (record { model = is_swept j; taken = taken_after c (length (same_items j)) }) ls).model) ∙ ap (λ q. (prism_from f d q ls).model) (sym raised_is)
 
 -- the same, told from the model then
 module _ (M N : Model) (c : Taken) (f : ℕ) (d : Point) (ls : List ℕ) (g : Going M N c f d ls) where

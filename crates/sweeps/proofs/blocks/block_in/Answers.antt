@@ -1,6 +1,8 @@
 use Rattle.std.proofs.Common.{◌≡◌, None, Some, Err, OnOk, w64, ◌↔◌}
 use Rattle.std.proofs.lemmas.Int.{to_z-of_z}
 use Rattle.shapes.specs.Common.{block_refusal, block_model}
+use Rattle.sweeps_laws.specs.block.BlockOps.{block_operators}
+use Rattle.undo_journal.specs.Journal.{after_steps}
 use Rattle.undo_journal.specs.declared.session.Failure.TheVariants as failure
 use Rattle.sweeps.proofs.BlockSteps.{at_sizes}
 use Rattle.sweeps.proofs.blocks.block_in.Goals as goal
@@ -12,3 +14,7 @@ returns-clause-ok c = at_sizes (λ x y z. OnOk c.block_of_in.result ((block_refu
 pub returns-clause-refused : goal.returns-clause-refused
 returns-clause-refused c refusal = at_sizes (λ x y z. (c.block_of_in.result ≡ Err (failure.Refused refusal)) ↔ (block_refusal c.args.draft.now.model c.args.solid c.args.corner x y z ≡ Some refusal))
     _ _ _ _ _ _ (to_z-of_z w64 c.args.dx c.ranges.dx) (to_z-of_z w64 c.args.dy c.ranges.dy) (to_z-of_z w64 c.args.dz c.ranges.dz) (c.block_of_in.ensures.refused refusal)
+
+pub returns-clause-steps : goal.returns-clause-steps
+returns-clause-steps c = at_sizes (λ x y z. OnOk c.block_of_in.result (c.block_of_in.new.draft ≡ after_steps c.args.draft.now (block_operators c.args.draft.now.model c.args.solid c.args.corner x y z)))
+    _ _ _ _ _ _ (to_z-of_z w64 c.args.dx c.ranges.dx) (to_z-of_z w64 c.args.dy c.ranges.dy) (to_z-of_z w64 c.args.dz c.ranges.dz) c.block_of_in.ensures.steps

@@ -1,9 +1,10 @@
 use Rattle.std.proofs.Common.{rules, ap, sym, ◌∙◌}
 use Rattle.shapes.specs.Common.{taken_in, block_refusal, block_model}
+use Rattle.sweeps_laws.specs.block.BlockOps.{block_operators}
 use Rattle.undo_journal.specs.Journal.{Journal, DraftJournal}
 use Rattle.undo_journal.specs.Machine.{accepted}
 use Rattle.euler_laws.proofs.Common.{verdict_passed}
-use Rattle.undo_journal.proofs.Marks.{further_recorded, further_session}
+use Rattle.undo_journal.proofs.Marks.{further_recorded, further_session, steps_recorded}
 use Rattle.sweeps.proofs.blocks.block_of.Goals as goal
 
 pub returns-in-Ok-draw_block-clause-ok : goal.returns-in-Ok-draw_block-clause-ok
@@ -23,8 +24,14 @@ returns-in-Err-draw_block-clause-ok c = tt
 pub returns-in-Err-draw_block-clause-recorded : goal.returns-in-Err-draw_block-clause-recorded
 returns-in-Err-draw_block-clause-recorded c = tt
 
+pub returns-in-Err-draw_block-clause-record : goal.returns-in-Err-draw_block-clause-record
+returns-in-Err-draw_block-clause-record c = tt
+
 pub returns-in-Err-draw_block-clause-err : goal.returns-in-Err-draw_block-clause-err
 returns-in-Err-draw_block-clause-err c = let same = further_session _ _ c.in-Err-draw_block.ensures.further ∙ ap (λ (d : DraftJournal). d.session) c.in-Ok.ensures.ok in search rules
 
 pub returns-in-Ok-draw_block-clause-recorded : goal.returns-in-Ok-draw_block-clause-recorded
 returns-in-Ok-draw_block-clause-recorded c = further_recorded _ _ _ _ c.in-Ok.ensures.ok c.in-Ok-draw_block.ensures.further c.commit.ensures
+
+pub returns-in-Ok-draw_block-clause-record : goal.returns-in-Ok-draw_block-clause-record
+returns-in-Ok-draw_block-clause-record c = steps_recorded _ _ _ _ (λ M. block_operators M c.args.solid c.args.corner c.args.size.x c.args.size.y c.args.size.z) c.in-Ok.ensures.ok c.in-Ok-draw_block.ensures.steps c.commit.ensures

@@ -2,12 +2,14 @@ use Rattle.std.proofs.Common.{◌≡◌, ℕ, List, ap, arith, length, map, subs
 use Rattle.std.proofs.lemmas.Result.{on_ok_weaker}
 use Rattle.euler_operators.specs.Common.{Point, code, plus, Model}
 use Rattle.shapes.specs.Common.{AreLeft, Taken, numbers_after, taken_in, lamina_refusal, lamina_model}
-use Rattle.undo_journal.specs.Journal.{DraftJournal}
-use Rattle.undo_journal.proofs.Marks.{further_on, further_same}
+use Rattle.sweeps_laws.specs.lamina.Path.{lamina_operators}
+use Rattle.sweeps_laws.proofs.BlockOps.{operators_make_blocks}
+use Rattle.undo_journal.specs.Journal.{DraftJournal, after_steps}
+use Rattle.undo_journal.proofs.Marks.{further_on, further_same, steps_after, steps_make}
 use Rattle.solid_walks.specs.declared.numbers.Counters.{Counters}
 use Rattle.solid_walks.specs.Counters.{taken_of}
 use Rattle.sweeps.specs.Raising.{with_lamina}
-use Rattle.sweeps.proofs.BlockSteps.{corner_fits, base_left, base_goes, block_rises, block_risen}
+use Rattle.sweeps.proofs.BlockSteps.{corner_fits, base_left, base_goes, block_rises, block_ops}
 use Rattle.sweeps.proofs.blocks.draw_block.Goals as goal
 
 pub base-corners-requires-clause-second : goal.base-corners-requires-clause-second
@@ -45,17 +47,26 @@ counted_with_base-requires-clause-edges c = (left _ c.args.taken.now c.requires.
 pub counted_with_base-requires-clause-vertices : goal.counted_with_base-requires-clause-vertices
 counted_with_base-requires-clause-vertices c = (left _ c.args.taken.now c.requires.taken (base_left _ c.stays_consistent.ensures.model c.args.solid c.args.corner c.args.size.x c.args.size.y c.args.size.z c.requires.accepted)).vertices
 
--- what is made of a draft is made of an equal one
-drawn : {d e : DraftJournal} {N : Model} (s : ℕ) (ps : List Point) → e ≡ d → N ≡ lamina_model e.model s ps → N ≡ lamina_model d.model s ps
-drawn s ps same made = made ∙ ap (λ (d : DraftJournal). lamina_model d.model s ps) same
+-- what is made of a draft is made of an equal one, by the same steps
+lamina_made : {d e : DraftJournal} {N : Model} (s : ℕ) (ps : List Point) → e ≡ d → N ≡ lamina_model e.model s ps → N ≡ lamina_model d.model s ps
+lamina_made s ps same made = made ∙ ap (λ (x : DraftJournal). lamina_model x.model s ps) same
+
+drawn : {d e f : DraftJournal} (s : ℕ) (ps : List Point) → e ≡ d → f ≡ after_steps e (lamina_operators e.model s ps) → f ≡ after_steps d (lamina_operators d.model s ps)
+drawn s ps same steps = steps ∙ ap (λ (x : DraftJournal). after_steps x (lamina_operators x.model s ps)) same
 
 pub raise_items-requires : goal.raise_items-requires
-raise_items-requires c = block_rises _ c.stays_consistent.ensures.model c.args.solid c.args.corner c.args.size.x c.args.size.y c.args.size.z c.requires.accepted c.as_slice.result.now (c.as_slice.ensures ∙ c.base-corners.ensures) _ (drawn c.args.solid c.as_slice.result.now c.reserve.ensures c.in_ok-draw_lamina.ensures.ok) _ refl _
+raise_items-requires c = block_rises _ c.stays_consistent.ensures.model c.args.solid c.args.corner c.args.size.x c.args.size.y c.args.size.z c.requires.accepted c.as_slice.result.now (c.as_slice.ensures ∙ c.base-corners.ensures) _ (lamina_made c.args.solid c.as_slice.result.now c.reserve.ensures c.in_ok-draw_lamina.ensures.ok) _ refl _
     (ap (map code) c.as_slice-2.ensures ∙ c.base_items-items.ensures ∙ ap (λ (t : Taken). map plus (numbers_after t.edge 4)) c.requires.taken) _ (c.counted_with_base.ensures ∙ ap (λ t. with_lamina t 4) c.requires.taken)
 
+pub returns-clause-steps : goal.returns-clause-steps
+returns-clause-steps c = on_ok_weaker c.raise_items.result (λ steps.
+    steps_after _ _ _ _ _ (drawn c.args.solid c.as_slice.result.now c.reserve.ensures c.in_ok-draw_lamina.ensures.steps) steps
+    ∙ ap (after_steps c.args.draft.now) (block_ops _ c.stays_consistent.ensures.model c.args.solid c.args.corner c.args.size.x c.args.size.y c.args.size.z c.requires.accepted c.as_slice.result.now (c.as_slice.ensures ∙ c.base-corners.ensures) _ (lamina_made c.args.solid c.as_slice.result.now c.reserve.ensures c.in_ok-draw_lamina.ensures.ok) _ refl _
+    (ap (map code) c.as_slice-2.ensures ∙ c.base_items-items.ensures ∙ ap (λ (t : Taken). map plus (numbers_after t.edge 4)) c.requires.taken) _ (c.counted_with_base.ensures ∙ ap (λ t. with_lamina t 4) c.requires.taken))) c.raise_items.ensures.steps
+
 pub returns-clause-ok : goal.returns-clause-ok
-returns-clause-ok c = on_ok_weaker c.raise_items.result (λ step. block_risen _ c.stays_consistent.ensures.model c.args.solid c.args.corner c.args.size.x c.args.size.y c.args.size.z c.requires.accepted c.as_slice.result.now (c.as_slice.ensures ∙ c.base-corners.ensures) _ (drawn c.args.solid c.as_slice.result.now c.reserve.ensures c.in_ok-draw_lamina.ensures.ok) _ refl _
-    (ap (map code) c.as_slice-2.ensures ∙ c.base_items-items.ensures ∙ ap (λ (t : Taken). map plus (numbers_after t.edge 4)) c.requires.taken) _ (c.counted_with_base.ensures ∙ ap (λ t. with_lamina t 4) c.requires.taken) _ step) c.raise_items.ensures.model
+returns-clause-ok c = on_ok_weaker c.raise_items.result (λ steps.
+    steps_make _ _ _ steps ∙ operators_make_blocks _ c.args.solid c.args.corner c.args.size.x c.args.size.y c.args.size.z c.stays_consistent.ensures.model c.requires.accepted) (returns-clause-steps c)
 
 pub returns-in_err-reserve-clause-further : goal.returns-in_err-reserve-clause-further
 returns-in_err-reserve-clause-further c = further_same _ _ c.reserve.ensures

@@ -1,9 +1,10 @@
 use Rattle.std.proofs.Common.{rules, ap, sym, ◌∙◌}
 use Rattle.shapes.specs.Common.{taken_in, lamina_refusal, lamina_model}
-use Rattle.undo_journal.specs.Journal.{Journal, DraftJournal}
+use Rattle.sweeps_laws.specs.lamina.Path.{lamina_operators}
+use Rattle.undo_journal.specs.Journal.{Journal, DraftJournal, after_steps}
 use Rattle.undo_journal.specs.Machine.{accepted}
 use Rattle.euler_laws.proofs.Common.{verdict_passed}
-use Rattle.undo_journal.proofs.Marks.{further_recorded, further_session}
+use Rattle.undo_journal.proofs.Marks.{further_recorded, further_session, steps_recorded}
 use Rattle.sweeps.proofs.laminas.lamina.Goals as goal
 
 pub draw_lamina-requires-clause-accepted : goal.draw_lamina-requires-clause-accepted
@@ -24,6 +25,11 @@ draw_lamina-requires-clause-taken c = c.counters_of-taken.ensures.is ∙ ap take
 
 pub returns-in-Ok-draw_lamina-clause-recorded : goal.returns-in-Ok-draw_lamina-clause-recorded
 returns-in-Ok-draw_lamina-clause-recorded c = further_recorded _ _ _ _ c.in-Ok.ensures.ok c.in-Ok-draw_lamina.ensures.further c.commit.ensures
+
+pub returns-in-Ok-draw_lamina-clause-record : goal.returns-in-Ok-draw_lamina-clause-record
+returns-in-Ok-draw_lamina-clause-record c =
+    let steps = c.in-Ok-draw_lamina.ensures.steps ∙ ap (λ ps. after_steps c.in-Ok.draft (lamina_operators c.in-Ok.draft.model c.args.solid ps)) c.as_slice.ensures.value in
+    steps_recorded _ _ _ _ (λ M. lamina_operators M c.args.solid c.args.points.now.items) c.in-Ok.ensures.ok steps c.commit.ensures
 
 pub returns-in-Err-draw_lamina-clause-err : goal.returns-in-Err-draw_lamina-clause-err
 returns-in-Err-draw_lamina-clause-err c = let same = further_session _ _ c.in-Err-draw_lamina.ensures.further ∙ ap (λ (d : DraftJournal). d.session) c.in-Ok.ensures.ok in search rules

@@ -1,12 +1,12 @@
 use Rattle.std.proofs.Common.{◌≡◌, ◌∙◌, ap, refl, ℕ, ◌+◌, ◌-◌, ◌<◌, ◌≤◌, arith}
 use Rattle.std.proofs.lemmas.Result.{on_ok_weaker}
-use Rattle.euler_operators.specs.Common.{first_false, effect}
-use Rattle.undo_journal.specs.Journal.{DraftJournal}
+use Rattle.euler_operators.specs.Common.{first_false}
+use Rattle.undo_journal.specs.Journal.{DraftJournal, after_steps}
 use Rattle.sweeps_laws.specs.prism.SweepOps.{close, close_last}
 use Rattle.sweeps_laws.proofs.prism.Sides.{two_items}
 use Rattle.solid_walks.specs.Counters.{taken_of}
 use Rattle.sweeps.proofs.RaisedItems as raised
-use Rattle.undo_journal.proofs.Marks.{further_on}
+use Rattle.undo_journal.proofs.Marks.{further_on, step_after, steps_make}
 use Rattle.sweeps.proofs.raising.raise_items.Goals as goal
 
 pub item_at-requires : goal.item_at-requires
@@ -30,7 +30,7 @@ raise_item-requires-clause-accepted c = raised.accepted_first _ _ _ _ _ _ c.requ
 pub items-init : goal.items-init
 items-init c = record {
   inside = omega (arith, two_items _ _ _ _ _ _ c.requires.ready);
-  model = ap (λ (x : DraftJournal). x.model) c.in_ok-raise_item.ensures.ok ∙ raised.after_first _ _ _ _ _ _ c.requires.ready c.args.items.now refl c.item_at.result c.item_at.ensures;
+  steps = c.in_ok-raise_item.ensures.ok ∙ ap (after_steps c.args.draft.now) (raised.first_is _ _ _ _ _ _ c.requires.ready c.args.items.now refl c.item_at.result c.item_at.ensures);
   further = c.in_ok-raise_item.ensures.further;
 }
 
@@ -38,26 +38,24 @@ more : (n k : ℕ) → k ≡ n → (i : ℕ) → i + 1 < k → i + 1 < n
 more n k e i lt = omega arith
 
 pub raise_item-requires-in-items-clause-there : goal.raise_item-requires-in-items-clause-there
-raise_item-requires-in-items-clause-there c = raised.there_next _ _ _ _ _ _ c.requires.ready c.args.items.now refl c.items.done c.items.draft.model c.items.invariant.model (more _ _ (raised.how_many _ _ _ _ _ _ c.requires.ready c.args.items.now refl) c.items.done c.items-test.true) c.item_at-in-items.result c.item_at-in-items.ensures
+raise_item-requires-in-items-clause-there c = raised.there_next _ _ _ _ _ _ c.requires.ready c.args.items.now refl c.items.done c.items.draft.model (steps_make _ _ _ c.items.invariant.steps) (more _ _ (raised.how_many _ _ _ _ _ _ c.requires.ready c.args.items.now refl) c.items.done c.items-test.true) c.item_at-in-items.result c.item_at-in-items.ensures
 
 pub raise_item-requires-in-items-clause-range : goal.raise_item-requires-in-items-clause-range
-raise_item-requires-in-items-clause-range c = raised.range_next _ _ _ _ _ _ c.requires.ready c.args.items.now refl c.items.done c.items.draft.model c.items.invariant.model (more _ _ (raised.how_many _ _ _ _ _ _ c.requires.ready c.args.items.now refl) c.items.done c.items-test.true) c.item_at-in-items.result c.item_at-in-items.ensures
+raise_item-requires-in-items-clause-range c = raised.range_next _ _ _ _ _ _ c.requires.ready c.args.items.now refl c.items.done c.items.draft.model (steps_make _ _ _ c.items.invariant.steps) (more _ _ (raised.how_many _ _ _ _ _ _ c.requires.ready c.args.items.now refl) c.items.done c.items-test.true) c.item_at-in-items.result c.item_at-in-items.ensures
 
 pub raise_item-requires-in-items-clause-accepted : goal.raise_item-requires-in-items-clause-accepted
-raise_item-requires-in-items-clause-accepted c = raised.accepted_next _ _ _ _ _ _ c.requires.ready c.args.items.now refl c.items.done c.items.draft.model c.items.invariant.model (more _ _ (raised.how_many _ _ _ _ _ _ c.requires.ready c.args.items.now refl) c.items.done c.items-test.true) c.item_at-in-items.result c.item_at-in-items.ensures
+raise_item-requires-in-items-clause-accepted c = raised.accepted_next _ _ _ _ _ _ c.requires.ready c.args.items.now refl c.items.done c.items.draft.model (steps_make _ _ _ c.items.invariant.steps) (more _ _ (raised.how_many _ _ _ _ _ _ c.requires.ready c.args.items.now refl) c.items.done c.items-test.true) c.item_at-in-items.result c.item_at-in-items.ensures
 
 pub close_side-requires-clause-accepted : goal.close_side-requires-clause-accepted
 close_side-requires-clause-accepted c = ap (λ n. first_false c.raise_item-in-items.new.draft.model (close (taken_of c.args.taken.now) n c.items.done)) (raised.how_many _ _ _ _ _ _ c.requires.ready c.args.items.now refl)
-    ∙ raised.closes_next _ _ _ _ _ _ c.requires.ready c.args.items.now refl c.items.done c.items.draft.model c.items.invariant.model (more _ _ (raised.how_many _ _ _ _ _ _ c.requires.ready c.args.items.now refl) c.items.done c.items-test.true) c.item_at-in-items.result c.item_at-in-items.ensures
+    ∙ raised.closes_next _ _ _ _ _ _ c.requires.ready c.args.items.now refl c.items.done c.items.draft.model (steps_make _ _ _ c.items.invariant.steps) (more _ _ (raised.how_many _ _ _ _ _ _ c.requires.ready c.args.items.now refl) c.items.done c.items-test.true) c.item_at-in-items.result c.item_at-in-items.ensures
     c.raise_item-in-items.new.draft.model (ap (λ (x : DraftJournal). x.model) c.in_ok-raise_item-2.ensures.ok)
 
 pub items-preserved : goal.items-preserved
 items-preserved c = record {
   inside = more _ _ (raised.how_many _ _ _ _ _ _ c.requires.ready c.args.items.now refl) c.items.done c.items-test.true;
-  model = ap (λ (x : DraftJournal). x.model) c.in_ok-close_side.ensures.ok
-      ∙ ap (λ n. effect c.raise_item-in-items.new.draft.model (close (taken_of c.args.taken.now) n c.items.done)) (raised.how_many _ _ _ _ _ _ c.requires.ready c.args.items.now refl)
-      ∙ raised.after_next _ _ _ _ _ _ c.requires.ready c.args.items.now refl c.items.done c.items.draft.model c.items.invariant.model (more _ _ (raised.how_many _ _ _ _ _ _ c.requires.ready c.args.items.now refl) c.items.done c.items-test.true) c.item_at-in-items.result c.item_at-in-items.ensures
-      c.raise_item-in-items.new.draft.model (ap (λ (x : DraftJournal). x.model) c.in_ok-raise_item-2.ensures.ok);
+  steps = step_after _ _ _ _ _ (step_after _ _ _ _ _ c.items.invariant.steps c.in_ok-raise_item-2.ensures.ok) c.in_ok-close_side.ensures.ok
+      ∙ ap (after_steps c.args.draft.now) (raised.round_is _ _ _ _ _ _ c.requires.ready c.args.items.now refl c.items.done c.items.draft.model (steps_make _ _ _ c.items.invariant.steps) (more _ _ (raised.how_many _ _ _ _ _ _ c.requires.ready c.args.items.now refl) c.items.done c.items-test.true) c.item_at-in-items.result c.item_at-in-items.ensures);
   further = further_on _ _ _ (further_on _ _ _ c.items.invariant.further c.in_ok-raise_item-2.ensures.further) c.in_ok-close_side.ensures.further;
 }
 
@@ -69,10 +67,9 @@ ends n k e i h = omega arith
 
 pub close_last-requires-clause-accepted : goal.close_last-requires-clause-accepted
 close_last-requires-clause-accepted c = ap (λ n. first_false c.items.draft.model (close_last (taken_of c.args.taken.now) n (n - 1))) (raised.how_many _ _ _ _ _ _ c.requires.ready c.args.items.now refl)
-    ∙ raised.closes_last _ _ _ _ _ _ c.requires.ready c.args.items.now refl c.items.done c.items.draft.model c.items.invariant.model c.items.invariant.inside (ends _ _ (raised.how_many _ _ _ _ _ _ c.requires.ready c.args.items.now refl) c.items.done c.items-test.false)
+    ∙ raised.closes_last _ _ _ _ _ _ c.requires.ready c.args.items.now refl c.items.done c.items.draft.model (steps_make _ _ _ c.items.invariant.steps) c.items.invariant.inside (ends _ _ (raised.how_many _ _ _ _ _ _ c.requires.ready c.args.items.now refl) c.items.done c.items-test.false)
 
-pub returns-clause-model : goal.returns-clause-model
-returns-clause-model c = on_ok_weaker c.close_last.result (λ step.
-    ap (λ (x : DraftJournal). x.model) step
-    ∙ ap (λ n. effect c.items.draft.model (close_last (taken_of c.args.taken.now) n (n - 1))) (raised.how_many _ _ _ _ _ _ c.requires.ready c.args.items.now refl)
-    ∙ raised.after_last _ _ _ _ _ _ c.requires.ready c.args.items.now refl c.items.done c.items.draft.model c.items.invariant.model c.items.invariant.inside (ends _ _ (raised.how_many _ _ _ _ _ _ c.requires.ready c.args.items.now refl) c.items.done c.items-test.false)) c.close_last.ensures.ok
+pub returns-clause-steps : goal.returns-clause-steps
+returns-clause-steps c = on_ok_weaker c.close_last.result (λ step.
+    step_after _ _ _ _ _ c.items.invariant.steps step
+    ∙ ap (after_steps c.args.draft.now) (raised.all_is _ _ _ _ _ _ c.requires.ready c.args.items.now refl c.items.done c.items.draft.model (steps_make _ _ _ c.items.invariant.steps) c.items.invariant.inside (ends _ _ (raised.how_many _ _ _ _ _ _ c.requires.ready c.args.items.now refl) c.items.done c.items-test.false))) c.close_last.ensures.ok

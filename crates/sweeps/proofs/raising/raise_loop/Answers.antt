@@ -1,11 +1,11 @@
 use Rattle.std.proofs.Common.{◌∙◌, ap, sym, subst, map}
 use Rattle.euler_operators.specs.Common.{code, items_of, content, face_of, is_lone}
-use Rattle.euler_laws.specs.Laws.{effects}
 use Rattle.sweeps_laws.specs.prism.SweepOps.{loop_ops, taken_after}
 use Rattle.sweeps_laws.specs.prism.Ready.{Ready}
 use Rattle.sweeps_laws.proofs.prism.Sides.{content_is}
 use Rattle.solid_walks.specs.Counters.{taken_of}
 use Rattle.sweeps.proofs.RaisedItems as raised
+use Rattle.undo_journal.specs.Journal.{after_steps}
 use Rattle.undo_journal.proofs.Marks.{further_none}
 use Rattle.sweeps.proofs.raising.raise_loop.Goals as goal
 
@@ -33,11 +33,11 @@ counted_on-requires-clause-vertices_left c = (raised.has_room _ _ _ _ _ _ c.requ
 pub returns-clause-counters : goal.returns-clause-counters
 returns-clause-counters c = c.counted_on.ensures ∙ ap (taken_after (taken_of c.args.taken.now)) (c.len.ensures ∙ c.in_ok-items.items.ok.0 ∙ raised.how_many _ _ _ _ _ _ c.requires c.in_ok-items.items.items (c.in_ok-items.ensures ∙ ap (λ X. items_of (content X c.args.l)) c.arena.ensures.model))
 
-pub returns-clause-model : goal.returns-clause-model
-returns-clause-model c =
+pub returns-clause-steps : goal.returns-clause-steps
+returns-clause-steps c =
     let are = ap (map code) c.as_slice.ensures.value ∙ c.in_ok-items.ensures ∙ ap (λ X. items_of (content X c.args.l)) c.arena.ensures.model in
-    let M = c.args.draft.now.model in
-    c.in_ok-raise_items.ensures.model ∙ ap (λ hs. effects M (loop_ops M (taken_of c.args.taken.now) c.args.shift hs)) are
+    let D = c.args.draft.now in
+    c.in_ok-raise_items.ensures.steps ∙ ap (λ hs. after_steps D (loop_ops D.model (taken_of c.args.taken.now) c.args.shift hs)) are
 
 pub returns-in_err-items-clause-further : goal.returns-in_err-items-clause-further
 returns-in_err-items-clause-further c = further_none _

@@ -1,9 +1,10 @@
 use Rattle.std.proofs.Common.{rules, ap, sym, ◌∙◌}
 use Rattle.shapes.specs.Common.{taken_in, prism_refusal, prism_model}
+use Rattle.sweeps_laws.specs.prism.SweepOps.{sweep_ops}
 use Rattle.undo_journal.specs.Journal.{Journal, DraftJournal}
 use Rattle.undo_journal.specs.Machine.{accepted}
 use Rattle.euler_laws.proofs.Common.{verdict_passed}
-use Rattle.undo_journal.proofs.Marks.{further_recorded, further_session}
+use Rattle.undo_journal.proofs.Marks.{further_recorded, further_session, steps_recorded}
 use Rattle.sweeps.proofs.sweeping.sweep.Goals as goal
 
 pub returns-in-Ok-raise-clause-ok : goal.returns-in-Ok-raise-clause-ok
@@ -23,8 +24,14 @@ returns-in-Err-raise-clause-ok c = tt
 pub returns-in-Err-raise-clause-recorded : goal.returns-in-Err-raise-clause-recorded
 returns-in-Err-raise-clause-recorded c = tt
 
+pub returns-in-Err-raise-clause-record : goal.returns-in-Err-raise-clause-record
+returns-in-Err-raise-clause-record c = tt
+
 pub returns-in-Err-raise-clause-err : goal.returns-in-Err-raise-clause-err
 returns-in-Err-raise-clause-err c = let same = further_session _ _ c.in-Err-raise.ensures.further ∙ ap (λ (d : DraftJournal). d.session) c.in-Ok.ensures.ok in search rules
 
 pub returns-in-Ok-raise-clause-recorded : goal.returns-in-Ok-raise-clause-recorded
 returns-in-Ok-raise-clause-recorded c = further_recorded _ _ _ _ c.in-Ok.ensures.ok c.in-Ok-raise.ensures.further c.commit.ensures
+
+pub returns-in-Ok-raise-clause-record : goal.returns-in-Ok-raise-clause-record
+returns-in-Ok-raise-clause-record c = steps_recorded _ _ _ _ (λ M. sweep_ops M c.args.f c.args.shift) c.in-Ok.ensures.ok c.in-Ok-raise.ensures.steps c.commit.ensures
