@@ -1,17 +1,19 @@
 -- Two faces that are being glued: the items that are left, what stands beside the next one, and what its steps make.
 use Rattle.std.proofs.Common.{◌≡◌, ◌≢◌, ℕ, ◌+◌, ◌<◌, List, [], ◌∷◌, ◌++◌, length, None, refl, sym, ap, ◌∙◌, subst, arith, map, reverse, append_assoc, length-append}
 use Rattle.std.proofs.lemmas.List.{length-map, length-reverse}
-use Rattle.euler_operators.specs.Common.{IsIn, IsApart, head_or, last_or, canonical, tick, successor, predecessor, mate, half, Model, outer, cycle_of, Sound, HasHalf, first_false, effect}
+use Rattle.euler_operators.specs.Common.{IsIn, IsApart, head_or, last_or, canonical, tick, successor, predecessor, mate, half, Model, outer, cycle_of, Sound, HasHalf, first_false}
 use Rattle.euler_operators.proofs.Common.{count-append, tick_same, canonical-rotates, length-canonical, successor_head, successor_same, predecessor_head, predecessor_same, last_or_push, IsIn_last, reverse-cons, count-reverse}
 use Rattle.euler_operators.specs.Model as model
 use Rattle.euler_operators.specs.declared.Op.{Op}
 use Rattle.euler_operators.specs.declared.Op.TheVariants.{Kef}
 use Rattle.euler_laws.specs.Laws.{effects, AreAccepted}
 use Rattle.euler_laws.proofs.Common.{effects_keep_sound, Around, half_is, cycle_is, apart_xs}
-use Rattle.shapes.specs.Common.{rim, partner, glue_model, fresh_edge, closing, seam, glued_part}
+use Rattle.shapes.specs.Common.{rim, partner, glue_ops, fresh_edge, closing, closings, seam, glued_part}
+use Rattle.undo_journal.specs.Journal.{DraftJournal, after_step, after_steps}
+use Rattle.undo_journal.proofs.Marks.{step_after, steps_after, steps_make}
 use Rattle.gluing_laws.proofs.glue.Stages.{Stage, around_l}
 use Rattle.gluing_laws.proofs.glue.Turn.{turn_accepted, turn_is}
-use Rattle.gluing_laws.proofs.glue.Ending.{glued_all, ending_ok, ending_is, glued_along_is}
+use Rattle.gluing_laws.proofs.glue.Ending.{ending_ok}
 
 -- of a glue of face g to face f, a model in which the items from `item` on are left
 pub record Joining (M : Model) (f g : ℕ) (N : Model) (item : ℕ) : Type 0 where
@@ -19,6 +21,13 @@ pub record Joining (M : Model) (f g : ℕ) (N : Model) (item : ℕ) : Type 0 whe
   pub later : List ℕ
   pub stage : Stage M f g (partner M (rim M g)) (rim M f) (fresh_edge M) (last_or item later) done (item ∷ later)
   pub model : N ≡ glued_part M f g (partner M (rim M g)) (last_or item later) done (item ∷ later)
+
+-- a draft in which some items are glued: the steps that it has taken since the old one, and the operators that are left
+pub record Halfway (old new : DraftJournal) (f g : ℕ) (item : ℕ) : Type 0 where
+  pub joining : Joining old.model f g new.model item
+  pub taken : List Op
+  pub steps : new ≡ after_steps old taken
+  pub left : taken ++ closings (partner old.model (rim old.model g)) (fresh_edge old.model) g (outer old.model g) (item ∷ joining.later) ≡ glue_ops old.model f g
 
 -- ---- the seam
 
@@ -128,11 +137,6 @@ module _ (M : Model) (f g : ℕ) (N : Model) (item : ℕ) (w : Joining M f g N i
         pub last_goes : first_false N op ≡ None
         last_goes = (λ i. first_false (model_last i) (op_is i)) ∙ ending_ok M f g p hs x w.done item stage_last
 
-        -- and then the solids are glued
-        pub last_makes : effect N op ≡ glue_model M f g
-        unfolding glue_model
-        last_makes = (λ i. effect (model_last i) (op_is i)) ∙ ending_is M f g p hs x w.done item stage_last ∙ ap (glued_all M f g p) (sym stage_last.split) ∙ glued_along_is M f g (rim M g) hs
-
     -- ---- another item
 
     module _ (other : n ≢ q) where
@@ -194,3 +198,35 @@ closing_shortens M f g N item w q n previous next other e s l edge face ring K m
     let new : length (cycle_of K n) ≡ length (canonical (seam (partner M (rim M g)) (n ∷ ks M f g N item w q n previous next other))) =
     ap length (cycle_here M f g K n (closing_makes M f g N item w q n previous next other e s l edge face ring K made)) in
     subst (λ k. k < length (cycle_of N item)) (sym new) (fewer M f g N item w q n previous next other e s l edge face ring K made)
+
+-- ---- the same in a draft
+module _ (old new : DraftJournal) (f g item : ℕ) (w : Halfway old new f g item) (q n : ℕ) (previous : q ≡ model.before new.model item) (next : n ≡ model.after new.model item) where
+  abbrev partner_of : ℕ → ℕ
+  partner_of = partner old.model (rim old.model g)
+
+  -- the operators that are left where these are the later items
+  abbrev rest : List ℕ → List Op
+  rest later = closings partner_of (fresh_edge old.model) g (outer old.model g) (item ∷ later)
+
+  -- after the last item all steps are taken
+  pub all_steps : (same : n ≡ q) (op : Op) → op ≡ Kef (half (mate q)) → (K : DraftJournal) → K ≡ after_step new op → K ≡ after_steps old (glue_ops old.model f g)
+  all_steps same op is K made =
+      step_after old new K w.taken op w.steps made ∙ ap (after_steps old) (
+      ap (λ (o : Op). w.taken ++ o ∷ []) (op_is old.model f g new.model item w.joining q n previous next same op is)
+      ∙ ap (λ ls. w.taken ++ rest ls) (sym (none_later old.model f g new.model item w.joining q n previous next same))
+      ∙ w.left)
+
+  -- after another item the steps go on
+  pub closing_goes_on : (other : n ≢ q) (e s l : ℕ) (edge : e ≡ fresh_edge old.model) (face : s ≡ g) (ring : l ≡ outer old.model g) (K : DraftJournal) → K ≡ after_steps new (closing q n e s l) → Halfway old K f g n
+  unfolding closing_makes
+  closing_goes_on other e s l edge face ring K made =
+      let ops = closing (partner_of item) n (fresh_edge old.model) g (outer old.model g) in
+      let more = closings partner_of (fresh_edge old.model) g (outer old.model g) (n ∷ ks old.model f g new.model item w.joining q n previous next other) in
+      record {
+        joining = closing_makes old.model f g new.model item w.joining q n previous next other e s l edge face ring K.model (steps_make new K (closing q n e s l) made);
+        taken = w.taken ++ ops;
+        steps = steps_after old new K w.taken ops w.steps (made ∙ ap (after_steps new) (ops_are old.model f g new.model item w.joining q n previous next other e s l edge face ring));
+        left = append_assoc w.taken ops more
+            ∙ ap (λ ls. w.taken ++ rest ls) (sym (later_is old.model f g new.model item w.joining q n previous next other))
+            ∙ w.left;
+      }

@@ -6,13 +6,15 @@ use Rattle.euler_operators.proofs.Common.{last_or_push, IsIn_last, number_fits, 
 use Rattle.euler_operators.specs.declared.Op.{Op}
 use Rattle.euler_laws.specs.Laws.{effects, AreAccepted}
 use Rattle.euler_laws.proofs.Common.{effects_keep_sound}
-use Rattle.shapes.specs.Common.{start, finish, first_such, rim, partner, glue_refusal, fresh_edge, opening, glued_part}
+use Rattle.shapes.specs.Common.{start, finish, first_such, rim, partner, glue_refusal, fresh_edge, opening, closings, glue_ops, glued_part}
+use Rattle.undo_journal.specs.Journal.{DraftJournal, after_steps}
+use Rattle.undo_journal.proofs.Marks.{steps_make}
 use Rattle.shapes.proofs.glue.Facing as facing
 use Rattle.shapes.proofs.Common.{Facing, same_is}
 use Rattle.shapes.proofs.glue.Facts as facts
 use Rattle.gluing_laws.proofs.glue.Opening.{opening_accepted, opening_is}
 use Rattle.gluing.specs.Rims.{item_at}
-use Rattle.gluing.proofs.Joined.{Joining}
+use Rattle.gluing.proofs.Joined.{Joining, Halfway}
 
 -- a number that a search finds passes its test
 such_passes : (test : ℕ → Bool) (ns : List ℕ) → unwrap_or (first_such test ns) 0 ≢ 0 → test (unwrap_or (first_such test ns) 0) ≡ true
@@ -95,8 +97,8 @@ module _ (M : Model) (f g : ℕ) (sound : Sound M) (accepted : glue_refusal M f 
   made : effects M (first_ops shape.0 shape.2) ≡ glued_part M f g p (last_or shape.0 (shape.1 ++ shape.2 ∷ [])) [] all
   made = makes ∙ ap (λ n. glued_part M f g p n [] all) (sym (last_or_push shape.0 shape.2 shape.1))
 
-  begins : Joining M f g (effects M (first_ops shape.0 shape.2)) shape.0
-  begins = record {
+  begins : (N : Model) → N ≡ effects M (first_ops shape.0 shape.2) → Joining M f g N shape.0
+  begins N is = record {
     done = [];
     later = shape.1 ++ shape.2 ∷ [];
     stage = record {
@@ -105,8 +107,12 @@ module _ (M : Model) (f g : ℕ) (sound : Sound M) (accepted : glue_refusal M f 
       last_in = IsIn_last shape.0 (shape.1 ++ shape.2 ∷ []);
       sound = subst Sound made (effects_keep_sound M (first_ops shape.0 shape.2) sound goes);
     };
-    model = made;
+    model = is ∙ made;
   }
+
+  all_ops : first_ops shape.0 shape.2 ++ closings p (fresh_edge M) g (outer M g) all ≡ glue_ops M f g
+  unfolding glue_ops
+  all_ops = sym (λ i. opening M f g (head_or 0 (shape.3 i)) (p (last_is i)) (fresh_edge M) ++ closings p (fresh_edge M) g (outer M g) (shape.3 i))
 
   module _ (h k e : ℕ) (first : h ≡ head_or 0 hs) (across : k ≡ p last) (edge : e ≡ fresh_edge M) where
     h_is : h ≡ shape.0
@@ -119,6 +125,16 @@ module _ (M : Model) (f g : ℕ) (sound : Sound M) (accepted : glue_refusal M f 
     pub opening_goes : AreAccepted M (opening M f g h k e)
     opening_goes = subst (AreAccepted M) (sym ops_are) goes
 
-    -- and then all items are left
-    pub opening_makes : (K : Model) → K ≡ effects M (opening M f g h k e) → Joining M f g K h
-    opening_makes K is = subst (λ Y. Joining M f g Y h) (sym (is ∙ ap (effects M) ops_are)) (subst (Joining M f g (effects M (first_ops shape.0 shape.2))) (sym h_is) begins)
+-- and then all items are left
+pub opening_makes : (old : DraftJournal) (f g : ℕ) (sound : Sound old.model) (accepted : glue_refusal old.model f g ≡ None) (h k e : ℕ) (first : h ≡ head_or 0 (rim old.model f))
+    (across : k ≡ partner old.model (rim old.model g) (last_or 0 (rim old.model f))) (edge : e ≡ fresh_edge old.model) (new : DraftJournal) → new ≡ after_steps old (opening old.model f g h k e) → Halfway old new f g h
+unfolding begins
+opening_makes old f g sound accepted h k e first across edge new made =
+    let taken = first_ops old.model f g sound accepted (shape old.model f g sound accepted).0 (shape old.model f g sound accepted).2 in
+    let steps : new ≡ after_steps old taken = made ∙ ap (after_steps old) (ops_are old.model f g sound accepted h k e first across edge) in
+    subst (Halfway old new f g) (sym (h_is old.model f g sound accepted h k e first across edge)) (record {
+      joining = begins old.model f g sound accepted new.model (steps_make old new taken steps);
+      taken = taken;
+      steps = steps;
+      left = all_ops old.model f g sound accepted;
+    })

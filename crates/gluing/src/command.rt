@@ -5,8 +5,8 @@ ghost use Rattle.euler_operators.specs.declared.Refusal.{Refusal};
 ghost use Rattle.euler_conditions.specs.Ready.{IsReady};
 ghost use Rattle.euler_operators.specs.Common.{Sound};
 ghost use Rattle.shapes.specs.glue.Glue as spec;
-ghost use Rattle.shapes.specs.Common.{glue_model};
-ghost use Rattle.undo_journal.specs.Journal.{IsRecorded, IsFurther};
+ghost use Rattle.shapes.specs.Common.{glue_model, glue_ops};
+ghost use Rattle.undo_journal.specs.Journal.{after_steps, record_of, recorded, IsRecorded, IsFurther};
 ghost use Rattle.undo_journal.specs.Machine.{held};
 ghost use Rattle.gluing.specs.Flat.{IsClosedFlat};
 ghost use Rattle.gluing.specs.glue_checks.Conditions.{early_refusal};
@@ -39,6 +39,7 @@ pub fn glue_in(alloc: Global, draft: &mut Draft, f: u32, other: u32) -> Result<(
     ensures ok { OnOk result ((spec.glue_refusal draft.old.model f other ≡ None) × (draft.new.model ≡ glue_model draft.old.model f other)) }
     ensures refused { (refusal : Refusal) → (result ≡ Err (Failure.Refused refusal)) → (spec.glue_refusal draft.old.model f other ≡ Some refusal) }
     ensures memory { (error : AllocError) → (result ≡ Err (Failure.Memory error)) → (early_refusal draft.old.model f other ≡ None) }
+    ensures steps { OnOk result (draft.new ≡ after_steps draft.old (glue_ops draft.old.model f other)) }
     ensures further { IsFurther draft.old draft.new }
     ensures err { OnErr result (draft.new ≡ draft.old) }
 {
@@ -71,6 +72,7 @@ pub fn glue(alloc: Global, session: Session, f: u32, other: u32) -> (Session, Re
     ensures stays_sound { Sound (held result.0.machine) }
     ensures ok { OnOk result.1 ((glue_refusal session.machine f other ≡ None) × (result.0.machine ≡ glue session.machine f other)) }
     ensures recorded { OnOk result.1 (IsRecorded session result.0) }
+    ensures record { OnOk result.1 (result.0.records ≡ recorded session (record_of (held session.machine) (glue_ops (held session.machine) f other))) }
     ensures refused { (refusal : Refusal) → (result.1 ≡ Err (Failure.Refused refusal)) → (glue_refusal session.machine f other ≡ Some refusal) }
     ensures memory { (error : AllocError) → (result.1 ≡ Err (Failure.Memory error)) → (early_refusal (held session.machine) f other ≡ None) }
     ensures err { OnErr result.1 (result.0 ≡ session) }
@@ -92,6 +94,7 @@ pub fn glue_with_flat(
     ensures stays_sound { Sound (held result.0.machine) }
     ensures ok { OnOk result.1 ((glue_refusal session.machine f other ≡ None) × (result.0.machine ≡ glue session.machine f other)) }
     ensures recorded { OnOk result.1 (IsRecorded session result.0) }
+    ensures record { OnOk result.1 (result.0.records ≡ recorded session (record_of (held session.machine) (glue_ops (held session.machine) f other))) }
     ensures refused { (refusal : Refusal) → (result.1 ≡ Err (Failure.Refused refusal)) → (glue_refusal session.machine f other ≡ Some refusal) }
     ensures memory { (error : AllocError) → (result.1 ≡ Err (Failure.Memory error)) → (early_refusal (held session.machine) f other ≡ None) }
     ensures err { OnErr result.1 (result.0 ≡ session) }

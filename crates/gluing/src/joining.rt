@@ -2,10 +2,10 @@
 ghost use Rattle.std.specs.Prelude.{◌≡◌, ◌≤◌, true, None, OnOk, OnErr};
 ghost use Rattle.euler_operators.specs.Common.{code, after, before, has_half, outer, Has};
 ghost use Rattle.euler_conditions.specs.Ready.{IsReady};
-ghost use Rattle.euler_laws.specs.Laws.{AreAccepted, effects};
+ghost use Rattle.euler_laws.specs.Laws.{AreAccepted};
 ghost use Rattle.euler_conditions.specs.Store.{has_number};
-ghost use Rattle.shapes.specs.Common.{glue_model, glue_refusal, closing, fresh_edge, opening};
-ghost use Rattle.undo_journal.specs.Journal.{IsFurther};
+ghost use Rattle.shapes.specs.Common.{glue_model, glue_ops, glue_refusal, closing, fresh_edge, opening};
+ghost use Rattle.undo_journal.specs.Journal.{after_steps, IsFurther};
 
 use crate::rims::{first_item, item_at};
 use euler_conditions::Arena;
@@ -68,7 +68,7 @@ fn open_seam(
     requires first_there { Has draft.old.model.faces f }
     requires second_there { Has draft.old.model.faces other }
     requires accepted { AreAccepted draft.old.model (opening draft.old.model f other (code first) (code partner) edge) }
-    ensures model { OnOk result (draft.new.model ≡ effects draft.old.model (opening draft.old.model f other (code first) (code partner) edge)) }
+    ensures steps { OnOk result (draft.new ≡ after_steps draft.old (opening draft.old.model f other (code first) (code partner) edge)) }
     ensures further { IsFurther draft.old draft.new }
 {
     let solid = draft.arena().solid_of(f);
@@ -88,7 +88,7 @@ fn close_item(
     spare: Spare,
 ) -> Result<(), AllocError>
     requires { AreAccepted draft.old.model (closing (code partner) (code next) spare.edge spare.face spare.ring) }
-    ensures model { OnOk result (draft.new.model ≡ effects draft.old.model (closing (code partner) (code next) spare.edge spare.face spare.ring)) }
+    ensures steps { OnOk result (draft.new ≡ after_steps draft.old (closing (code partner) (code next) spare.edge spare.face spare.ring)) }
     ensures further { IsFurther draft.old draft.new }
 {
     draft.step_accepted(Op::Mef(
@@ -110,6 +110,7 @@ fn close_item(
 fn take_steps(draft: &mut Draft, f: u32, other: u32) -> Result<(), AllocError>
     requires { glue_refusal draft.old.model f other ≡ None }
     ensures model { OnOk result (draft.new.model ≡ glue_model draft.old.model f other) }
+    ensures steps { OnOk result (draft.new ≡ after_steps draft.old (glue_ops draft.old.model f other)) }
     ensures further { IsFurther draft.old draft.new }
 {
     let arena = draft.arena();
@@ -138,6 +139,7 @@ const USUAL_STEPS: usize = 14;
 pub(crate) fn try_join(draft: &mut Draft, f: u32, other: u32) -> Result<(), AllocError>
     requires { glue_refusal draft.old.model f other ≡ None }
     ensures model { OnOk result (draft.new.model ≡ glue_model draft.old.model f other) }
+    ensures steps { OnOk result (draft.new ≡ after_steps draft.old (glue_ops draft.old.model f other)) }
     ensures further { IsFurther draft.old draft.new }
     ensures err { OnErr result (draft.new ≡ draft.old) }
 {

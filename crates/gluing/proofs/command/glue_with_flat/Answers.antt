@@ -1,9 +1,9 @@
 use Rattle.std.proofs.Common.{rules, ap, sym, ◌∙◌}
 use Rattle.shapes.specs.glue.Glue as shapes
-use Rattle.shapes.specs.Common.{glue_model}
+use Rattle.shapes.specs.Common.{glue_model, glue_ops}
 use Rattle.undo_journal.specs.Journal.{Journal, DraftJournal}
 use Rattle.undo_journal.specs.Machine.{accepted}
-use Rattle.undo_journal.proofs.Marks.{further_recorded, further_session}
+use Rattle.undo_journal.proofs.Marks.{further_recorded, further_session, steps_recorded}
 use Rattle.gluing.specs.glue_checks.Conditions.{early_refusal}
 use Rattle.gluing.proofs.glue_checks_laws.Conditions.{none_early}
 use Rattle.gluing.proofs.command.glue_with_flat.Goals as goal
@@ -28,6 +28,9 @@ returns-in-Err-try_join-clause-ok c = tt
 pub returns-in-Err-try_join-clause-recorded : goal.returns-in-Err-try_join-clause-recorded
 returns-in-Err-try_join-clause-recorded c = tt
 
+pub returns-in-Err-try_join-clause-record : goal.returns-in-Err-try_join-clause-record
+returns-in-Err-try_join-clause-record c = tt
+
 pub returns-in-Err-try_join-clause-err : goal.returns-in-Err-try_join-clause-err
 returns-in-Err-try_join-clause-err c = search rules
 
@@ -41,3 +44,6 @@ returns-in-Err-try_join-clause-memory c = λ error is.
 
 pub returns-in-Ok-try_join-clause-recorded : goal.returns-in-Ok-try_join-clause-recorded
 returns-in-Ok-try_join-clause-recorded c = further_recorded _ _ _ _ c.in-Ok.ensures.ok c.in-Ok-try_join.ensures.further c.commit.ensures
+
+pub returns-in-Ok-try_join-clause-record : goal.returns-in-Ok-try_join-clause-record
+returns-in-Ok-try_join-clause-record c = steps_recorded _ _ _ _ (λ M. glue_ops M c.args.f c.args.other) c.in-Ok.ensures.ok c.in-Ok-try_join.ensures.steps c.commit.ensures

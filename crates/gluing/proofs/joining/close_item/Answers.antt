@@ -1,11 +1,12 @@
-use Rattle.std.proofs.Common.{refl, ap}
+use Rattle.std.proofs.Common.{refl, ap, ◌∙◌, [], ◌∷◌}
 use Rattle.std.proofs.lemmas.Result.{on_ok_weaker}
 use Rattle.euler_operators.specs.Common.{code, half, mate, minus}
 use Rattle.euler_operators.proofs.Common.{code-half}
-use Rattle.undo_journal.specs.Journal.{DraftJournal}
-use Rattle.euler_laws.proofs.Common.{next_goes, next_taken, all_taken}
-use Rattle.undo_journal.proofs.Marks.{further_on}
-use Rattle.gluing.proofs.Remaining.{closing_left}
+use Rattle.euler_operators.specs.declared.Op.TheVariants.{Mef, Kev, Kef}
+use Rattle.undo_journal.specs.Journal.{DraftJournal, after_steps}
+use Rattle.euler_laws.proofs.Common.{next_goes, next_taken}
+use Rattle.undo_journal.proofs.Marks.{further_on, first_step, step_after}
+use Rattle.gluing.proofs.Remaining.{closing_is, closing_left}
 use Rattle.gluing.proofs.joining.close_item.Goals as goal
 
 pub step_accepted-requires : goal.step_accepted-requires
@@ -25,13 +26,16 @@ step_accepted-requires-3 c =
     let one = next_taken ops (ap (λ (d : DraftJournal). d.model) c.in_ok-step_accepted.ensures.ok) in
     next_goes (next_taken one (ap (λ (d : DraftJournal). d.model) c.in_ok-step_accepted-2.ensures.ok))
 
-pub returns-clause-model : goal.returns-clause-model
-returns-clause-model c =
+pub returns-clause-steps : goal.returns-clause-steps
+returns-clause-steps c =
     let spare = c.args.spare in
-    let ops = closing_left c.args.draft.now.model c.args.partner c.args.next spare.edge spare.face spare.ring c.plus.result c.minus.result c.mate.result c.plus.ensures c.minus.ensures c.mate.ensures c.requires in
-    let one = next_taken ops (ap (λ (d : DraftJournal). d.model) c.in_ok-step_accepted.ensures.ok) in
-    let two = next_taken one (ap (λ (d : DraftJournal). d.model) c.in_ok-step_accepted-2.ensures.ok) in
-    on_ok_weaker c.step_accepted-3.result (λ step. all_taken (next_taken two (ap (λ (d : DraftJournal). d.model) step))) c.step_accepted-3.ensures.ok
+    let are = closing_is c.args.partner c.args.next spare.edge spare.face spare.ring c.plus.result c.minus.result c.mate.result c.plus.ensures c.minus.ensures c.mate.ensures in
+    let old = c.args.draft.now in let first = c.step_accepted.new.self in let second = c.step_accepted-2.new.self in
+    let split = Mef c.args.partner c.args.next c.plus.result spare.face spare.ring in
+    let joined = Kev c.minus.result in
+    let one = first_step old first split c.in_ok-step_accepted.ensures.ok in
+    let two = step_after old first second (split ∷ []) joined one c.in_ok-step_accepted-2.ensures.ok in
+    on_ok_weaker c.step_accepted-3.result (λ step. step_after old second c.step_accepted-3.new.self (split ∷ joined ∷ []) (Kef c.mate.result) two step ∙ ap (after_steps old) are) c.step_accepted-3.ensures.ok
 
 pub returns-clause-further : goal.returns-clause-further
 returns-clause-further c = further_on _ _ _ (further_on _ _ _ c.in_ok-step_accepted.ensures.further c.in_ok-step_accepted-2.ensures.further) c.step_accepted-3.ensures.further

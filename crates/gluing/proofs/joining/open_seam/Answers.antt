@@ -1,10 +1,11 @@
-use Rattle.std.proofs.Common.{refl, ap, ◌∙◌}
+use Rattle.std.proofs.Common.{refl, ap, ◌∙◌, [], ◌∷◌}
 use Rattle.std.proofs.lemmas.Result.{on_ok_weaker}
-use Rattle.euler_operators.specs.Common.{half, plus, solid_of}
-use Rattle.undo_journal.specs.Journal.{DraftJournal}
-use Rattle.euler_laws.proofs.Common.{next_goes, next_taken, all_taken}
-use Rattle.undo_journal.proofs.Marks.{further_on}
-use Rattle.gluing.proofs.Remaining.{opening_left}
+use Rattle.euler_operators.specs.Common.{At, half, plus, solid_of}
+use Rattle.euler_operators.specs.declared.Op.TheVariants.{Merge, Kfmrh, Mekr, Kev}
+use Rattle.undo_journal.specs.Journal.{DraftJournal, after_steps}
+use Rattle.euler_laws.proofs.Common.{next_goes, next_taken}
+use Rattle.undo_journal.proofs.Marks.{further_on, first_step, step_after}
+use Rattle.gluing.proofs.Remaining.{opening_is, opening_left}
 use Rattle.gluing.proofs.joining.open_seam.Goals as goal
 
 pub step_accepted-requires-3 : goal.step_accepted-requires-3
@@ -24,15 +25,19 @@ step_accepted-requires-4 c =
     let two = next_taken one (ap (λ (d : DraftJournal). d.model) c.in_ok-step_accepted-2.ensures.ok) in
     next_goes (next_taken two (ap (λ (d : DraftJournal). d.model) c.in_ok-step_accepted-3.ensures.ok))
 
-pub returns-clause-model : goal.returns-clause-model
-returns-clause-model c =
+pub returns-clause-steps : goal.returns-clause-steps
+returns-clause-steps c =
     let solid = c.solid_of-solid.ensures ∙ ap (λ X. solid_of X c.args.f) c.arena.ensures.model in
     let other = c.solid_of-other_solid.ensures ∙ ap (λ X. solid_of X c.args.other) c.arena-2.ensures.model in
-    let ops = opening_left c.args.draft.now.model c.args.f c.args.other c.args.edge c.args.first c.args.partner c.solid_of-solid.result c.solid_of-other_solid.result c.plus.result c.plus-2.result solid other c.plus.ensures c.plus-2.ensures c.requires.accepted in
-    let one = next_taken ops (ap (λ (d : DraftJournal). d.model) c.in_ok-step_accepted.ensures.ok) in
-    let two = next_taken one (ap (λ (d : DraftJournal). d.model) c.in_ok-step_accepted-2.ensures.ok) in
-    let three = next_taken two (ap (λ (d : DraftJournal). d.model) c.in_ok-step_accepted-3.ensures.ok) in
-    on_ok_weaker c.step_accepted-4.result (λ step. all_taken (next_taken three (ap (λ (d : DraftJournal). d.model) step))) c.step_accepted-4.ensures.ok
+    let are = opening_is c.args.draft.now.model c.args.f c.args.other c.args.edge c.args.first c.args.partner c.solid_of-solid.result c.solid_of-other_solid.result c.plus.result c.plus-2.result solid other c.plus.ensures c.plus-2.ensures in
+    let old = c.args.draft.now in let first = c.step_accepted.new.self in let second = c.step_accepted-2.new.self in let third = c.step_accepted-3.new.self in
+    let merged = Merge c.solid_of-solid.result c.solid_of-other_solid.result in
+    let ring = Kfmrh c.args.f c.args.other in
+    let bridge = Mekr (At c.args.first) (At c.args.partner) c.plus.result in
+    let one = first_step old first merged c.in_ok-step_accepted.ensures.ok in
+    let two = step_after old first second (merged ∷ []) ring one c.in_ok-step_accepted-2.ensures.ok in
+    let three = step_after old second third (merged ∷ ring ∷ []) bridge two c.in_ok-step_accepted-3.ensures.ok in
+    on_ok_weaker c.step_accepted-4.result (λ step. step_after old third c.step_accepted-4.new.self (merged ∷ ring ∷ bridge ∷ []) (Kev c.plus-2.result) three step ∙ ap (after_steps old) are) c.step_accepted-4.ensures.ok
 
 pub returns-clause-further : goal.returns-clause-further
 returns-clause-further c =

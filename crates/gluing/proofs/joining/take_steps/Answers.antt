@@ -3,10 +3,11 @@ use Rattle.std.proofs.lemmas.Result.{on_ok_weaker}
 use Rattle.euler_operators.specs.Common.{head_or, last_or, code, half, before, after, outer, point_of, Sound, Has, HasHalf}
 use Rattle.euler_operators.proofs.Common.{half-code}
 use Rattle.euler_operators.specs.declared.Op.TheVariants.{Kef}
-use Rattle.undo_journal.specs.Journal.{DraftJournal}
 use Rattle.shapes.specs.Common.{start, rim, partner, glue_refusal, fresh_edge}
 use Rattle.solid_walks.proofs.face_walks_laws.HalfCodes.{codes_same, codes_differ}
-use Rattle.undo_journal.proofs.Marks.{further_on}
+use Rattle.undo_journal.specs.Journal.{DraftJournal}
+use Rattle.undo_journal.proofs.Marks.{further_on, steps_make}
+use Rattle.gluing_laws.proofs.glue.Glued.{glue_is_glued}
 use Rattle.gluing.proofs.Opened as opened
 use Rattle.gluing.proofs.Joined as joined
 use Rattle.gluing.proofs.joining.take_steps.Goals as goal
@@ -68,12 +69,12 @@ items-init c =
     let w = goal.at.items-init c in
     let s = seam w.After-item_at-across in
     record {
-      joining = opened.opening_makes _ c.args.f c.args.other (subst Sound c.arena-arena.ensures.model c.arena-arena.ensures.ready.sound) c.requires _ _ _ s.0 s.1 (spare w.After-spare_of-spare).0 c.open_seam.new.draft.model c.in_ok-open_seam.ensures.model;
+      halfway = opened.opening_makes c.args.draft.now c.args.f c.args.other (subst Sound c.arena-arena.ensures.model c.arena-arena.ensures.ready.sound) c.requires _ _ _ s.0 s.1 (spare w.After-spare_of-spare).0 c.open_seam.new.draft c.in_ok-open_seam.ensures.steps;
       further = c.in_ok-open_seam.ensures.further;
     }
 
 pub neighbours-requires-clause-there : goal.neighbours-requires-clause-there
-neighbours-requires-clause-there c = subst (λ X. HasHalf X (code c.items.item)) (sym c.arena.ensures.model) (joined.item_there _ _ _ _ _ c.items.invariant.joining)
+neighbours-requires-clause-there c = subst (λ X. HasHalf X (code c.items.item)) (sym c.arena.ensures.model) (joined.item_there _ _ _ _ _ c.items.invariant.halfway.joining)
 
 -- what stands beside the item in the draft's model
 beside : (c : After-neighbours) → let N = c.items.draft.model in (code c.neighbours.result.0 ≡ before N (code c.items.item)) × (code c.neighbours.result.1 ≡ after N (code c.items.item))
@@ -83,14 +84,19 @@ pub step_accepted-requires : goal.step_accepted-requires
 step_accepted-requires c =
     let b = beside (goal.at.step_accepted-requires c).After-neighbours in
     let same = codes_same c.neighbours.result.1 c.neighbours.result.0 (sym c.eq.ensures ∙ c.if-eq.true) in
-    joined.last_goes _ _ _ _ _ c.items.invariant.joining _ _ b.0 b.1 same (Kef c.mate.result) (ap Kef (sym (half-code c.mate.result) ∙ ap half c.mate.ensures))
+    joined.last_goes _ _ _ _ _ c.items.invariant.halfway.joining _ _ b.0 b.1 same (Kef c.mate.result) (ap Kef (sym (half-code c.mate.result) ∙ ap half c.mate.ensures))
+
+pub returns-then-eq-clause-steps : goal.returns-then-eq-clause-steps
+returns-then-eq-clause-steps c =
+    let b = beside (goal.at.returns-then-eq-clause-steps c).After-neighbours in
+    let same = codes_same c.neighbours.result.1 c.neighbours.result.0 (sym c.eq.ensures ∙ c.if-eq.true) in
+    let all = joined.all_steps _ _ _ _ _ c.items.invariant.halfway _ _ b.0 b.1 same (Kef c.mate.result) (ap Kef (sym (half-code c.mate.result) ∙ ap half c.mate.ensures)) in
+    on_ok_weaker c.step_accepted.result (all _) c.step_accepted.ensures.ok
 
 pub returns-then-eq-clause-model : goal.returns-then-eq-clause-model
 returns-then-eq-clause-model c =
-    let b = beside (goal.at.returns-then-eq-clause-model c).After-neighbours in
-    let same = codes_same c.neighbours.result.1 c.neighbours.result.0 (sym c.eq.ensures ∙ c.if-eq.true) in
-    let makes = joined.last_makes _ _ _ _ _ c.items.invariant.joining _ _ b.0 b.1 same (Kef c.mate.result) (ap Kef (sym (half-code c.mate.result) ∙ ap half c.mate.ensures)) in
-    on_ok_weaker c.step_accepted.result (λ step. ap (λ (d : DraftJournal). d.model) step ∙ makes) c.step_accepted.ensures.ok
+    let sound = subst Sound c.arena-arena.ensures.model c.arena-arena.ensures.ready.sound in
+    on_ok_weaker c.step_accepted.result (λ steps. steps_make c.args.draft.now c.step_accepted.new.self _ steps ∙ glue_is_glued c.args.draft.now.model c.args.f c.args.other sound c.requires) (returns-then-eq-clause-steps c)
 
 pub returns-then-eq-clause-further : goal.returns-then-eq-clause-further
 returns-then-eq-clause-further c = further_on _ _ _ c.items.invariant.further c.step_accepted.ensures.further
@@ -101,7 +107,7 @@ close_item-requires c =
     let b = beside w.After-neighbours in
     let s = spare w.After-spare_of-spare in
     let other = codes_differ c.neighbours.result.1 c.neighbours.result.0 (sym c.eq.ensures ∙ c.if-eq.false) in
-    joined.closing_goes _ _ _ _ _ c.items.invariant.joining _ _ b.0 b.1 other _ _ _ s.0 c.spare_of-spare.ensures.face s.1
+    joined.closing_goes _ _ _ _ _ c.items.invariant.halfway.joining _ _ b.0 b.1 other _ _ _ s.0 c.spare_of-spare.ensures.face s.1
 
 pub items-smaller : goal.items-smaller
 items-smaller c =
@@ -109,7 +115,7 @@ items-smaller c =
     let b = beside w.After-neighbours in
     let s = spare w.After-spare_of-spare in
     let other = codes_differ c.neighbours.result.1 c.neighbours.result.0 (sym c.eq.ensures ∙ c.if-eq.false) in
-    joined.closing_shortens _ _ _ _ _ c.items.invariant.joining _ _ b.0 b.1 other _ _ _ s.0 c.spare_of-spare.ensures.face s.1 c.close_item.new.draft.model c.in_ok-close_item.ensures.model
+    joined.closing_shortens _ _ _ _ _ c.items.invariant.halfway.joining _ _ b.0 b.1 other _ _ _ s.0 c.spare_of-spare.ensures.face s.1 c.close_item.new.draft.model (ap (λ (x : DraftJournal). x.model) c.in_ok-close_item.ensures.steps)
 
 pub items-preserved : goal.items-preserved
 items-preserved c =
@@ -118,6 +124,6 @@ items-preserved c =
     let s = spare w.After-spare_of-spare in
     let other = codes_differ c.neighbours.result.1 c.neighbours.result.0 (sym c.eq.ensures ∙ c.if-eq.false) in
     record {
-      joining = joined.closing_makes _ _ _ _ _ c.items.invariant.joining _ _ b.0 b.1 other _ _ _ s.0 c.spare_of-spare.ensures.face s.1 c.close_item.new.draft.model c.in_ok-close_item.ensures.model;
+      halfway = joined.closing_goes_on _ _ _ _ _ c.items.invariant.halfway _ _ b.0 b.1 other _ _ _ s.0 c.spare_of-spare.ensures.face s.1 c.close_item.new.draft c.in_ok-close_item.ensures.steps;
       further = further_on _ _ _ c.items.invariant.further c.in_ok-close_item.ensures.further;
     }

@@ -1,12 +1,12 @@
 use Rattle.std.proofs.Common.{length}
 use Rattle.euler_operators.specs.Common.{code, cycle_of}
 use Rattle.undo_journal.specs.Journal.{IsFurther}
-use Rattle.gluing.proofs.Joined.{Joining}
+use Rattle.gluing.proofs.Joined.{Halfway}
 use Rattle.gluing.proofs.joining.take_steps.Given as goal
 
 abbrev pub invariant-items : goal.invariant-items
 invariant-items l = record {
-  joining : Joining l.fn.draft.model l.f l.other l.draft.model (code l.item);
+  halfway : Halfway l.fn.draft l.draft l.f l.other (code l.item);
   further : IsFurther l.fn.draft l.draft;
 }
 
