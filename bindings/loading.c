@@ -755,12 +755,24 @@ static bool has_vertices(const gwb *g, const struct table *table)
 
 static enum gwb_kind kind_of(int outcome) { return outcome == SOUND ? GWB_OK : outcome == UNSOUND ? GWB_NO_CALL : GWB_MEMORY; }
 
+/* The number above which spare ones are sought: the greatest of the listing and the model, or where too few are above that none. */
+static uint32_t last_used(const struct parts *p, const struct list *listed, uint32_t kind)
+{
+    uint32_t greatest = (uint32_t)gwb_greatest_number(p->g, kind), last = 0;
+    if (listed->count != 0)
+        memcpy(&last, (const char *)listed->items + (listed->count - 1) * listed->size, sizeof last);
+    greatest = last > greatest ? last : greatest;
+    return greatest + p->table->loops.count + p->table->edges.count < GREATEST_NUMBER ? greatest : 0;
+}
+
 /* Takes a table apart in arrays that lie in a block. */
 static void take_apart(struct parts *p)
 {
+    p->last_face = last_used(p, &p->table->faces, GWB_FACE);
+    p->last_loop = last_used(p, &p->table->loops, GWB_LOOP);
     p->face = spare_face(p);
     p->loop = spare_loop(p);
-    p->edge = spare_above(p, &p->table->edges, edge_found, 0);
+    p->edge = spare_above(p, &p->table->edges, edge_found, last_used(p, &p->table->edges, GWB_EDGE));
     add_edges(p);
     add_nodes(p);
     add_faces(p);

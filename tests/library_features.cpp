@@ -280,6 +280,23 @@ static void try_scripts()
     check(bench.run_lines("") == 0 && bench.attempt().run_lines("blok\n").error().problem == Problem::fault, "scripts of no line, and of none");
 }
 
+// Where few numbers are left above all in use, a copy takes those, and then lower ones.
+static void try_last_numbers()
+{
+    for (const Motion &motion : motions) {
+        Workbench bench;
+        const Solid holed = two_holes(bench);
+        const NewSolid last = bench.mvfs({40, 40, 40});
+        bench.mev(lone(last.loop), lone(last.loop), Edge(999'990), Vertex(999'991), {44, 40, 40});
+        bench.mef(plus(Edge(999'990)), minus(Edge(999'990)), Edge(999'992), Face(999'993), Loop(999'994));
+        const auto wanted = shape(bench, holed, motion);
+        const Copy copy = copy_solid(bench, holed, motion);
+        check(shape(bench, copy) == wanted, "a copy with the last numbers");
+        check(copy.of(*bench.faces(holed).begin()) == Face(999'994) && bench.greatest<Loop>() == Loop(1'000'000), "which it has");
+        check(copy.of(plus(Edge(1))).edge() == Edge(999'993) && copy.of(Vertex(1)) == Vertex(999'992), "from the first on");
+    }
+}
+
 // Numbers that are spent are low again, whatever has them.
 static void try_renumber()
 {
@@ -607,6 +624,7 @@ int main()
         try_loading("two parts", parts);
         try_loading("a lone ring", lone_ring);
         try_scripts();
+        try_last_numbers();
         try_renumber();
         try_renumber_crosswise();
         try_no_triangles();

@@ -127,6 +127,13 @@ private:
     }
 };
 
+/// A solid becomes what a model of all of it says.
+inline void make_anew(Bench &bench, const Model &model)
+{
+    take_away(bench, model.solid);
+    bench.load(model.listing());
+}
+
 /// Faces of a solid, what of them was there by places, and the rest of the solid as a region that lies at their open edges.
 class Held {
 public:
@@ -518,9 +525,8 @@ private:
                 halves.push_back(half_[at]);
                 at = sides_[at].after;
             } while (at != start);
-            std::rotate(halves.begin(), std::min_element(halves.begin(), halves.end()), halves.end());
             row.push_back(names_.loops.one(wanted));
-            made.model.loops[row.back()] = halves;
+            made.model.loops[row.back()] = from_least(halves);
         }
         std::sort(row.begin() + 1, row.end());
         made.of_regions.push_back(names_.faces.one(regions_[region].owners));

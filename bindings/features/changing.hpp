@@ -344,12 +344,6 @@ private:
         return outlines.size() == faces_;
     }
 
-    static std::vector<HalfEdge> from_least(std::vector<HalfEdge> cycle)
-    {
-        std::rotate(cycle.begin(), std::min_element(cycle.begin(), cycle.end()), cycle.end());
-        return cycle;
-    }
-
     /// Half-edges that lead from the roots to all inner vertices, each after the one that leads to its start: first ones where it can be helped.
     std::optional<std::vector<HalfEdge>> tree_from(const std::vector<Vertex> &roots, const std::vector<HalfEdge> &edges,
                                                    const std::set<Vertex> &vertices)

@@ -230,13 +230,6 @@ inline void give(Bench &bench, const std::vector<Operator> &operators)
     }
 }
 
-/// A solid goes, and another one comes.
-inline void give_anew(Bench &bench, Solid solid, const Model &model)
-{
-    take_away(bench, solid);
-    bench.load(model.listing());
-}
-
 /// Makes what comes of the faces of a solid near a box: by operators on those that differ, without the rings elsewhere, else with all rings; where
 /// that can't be, all of the solid is made anew. `combine` makes it of the part that it is given, and `before` gives what comes first.
 template <class Combine, class Before> Combined make_near(Bench &bench, Solid solid, const Box &box, Combine combine, Before before)
@@ -253,7 +246,7 @@ template <class Combine, class Before> Combined make_near(Bench &bench, Solid so
         const Model after = operators ? Model() : Model::whole(bench, solid).with(part.model, found.made.model);
         before();
         if (!operators) {
-            give_anew(bench, solid, after);
+            make_anew(bench, after);
             return found;
         }
         give(bench, *operators);

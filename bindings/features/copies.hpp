@@ -57,16 +57,16 @@ struct Numbering {
     {
         Numbering numbers;
         for (const auto &[face, row] : model.faces) {
-            numbers.faces.emplace(face, number(face));
+            numbers.faces.emplace_hint(numbers.faces.end(), face, number(face));
             for (Loop loop : row)
                 numbers.loops.emplace(loop, Loop());
         }
         for (auto &[loop, made] : numbers.loops)
             made = number(loop);
         for (const auto &[edge, ends] : model.edges)
-            numbers.edges.emplace(edge, number(edge));
+            numbers.edges.emplace_hint(numbers.edges.end(), edge, number(edge));
         for (const auto &[vertex, at] : model.vertices)
-            numbers.vertices.emplace(vertex, number(vertex));
+            numbers.vertices.emplace_hint(numbers.vertices.end(), vertex, number(vertex));
         return numbers;
     }
     [[nodiscard]] HalfEdge of(HalfEdge half) const
@@ -146,66 +146,58 @@ inline Model read(Bench &bench, Solid solid)
     return Model::whole(bench, solid);
 }
 
-/// The half-edges of a loop with other numbers; of its mirror image, which runs the other way, their mates.
-inline std::vector<HalfEdge> cycle_of(const std::vector<HalfEdge> &halves, const Numbering &numbers, bool is_mirror)
+/// The model elsewhere. Loops of a mirror image run the other way, by the mates of their half-edges. Refused: PointRange, with the least vertex.
+inline Model moved(Model model, const Placing &placing)
 {
-    std::vector<HalfEdge> cycle;
-    for (HalfEdge half : halves)
-        cycle.push_back(numbers.of(is_mirror ? half.twin() : half));
-    if (is_mirror)
-        std::reverse(cycle.begin(), cycle.end());
-    std::rotate(cycle.begin(), std::min_element(cycle.begin(), cycle.end()), cycle.end());
-    return cycle;
+    for (auto &[vertex, at] : model.vertices)
+        if (at = vector(placing(point(at))); !is_in_range(at))
+            throw refused(GWB_WHY_POINT_RANGE, vertex.number());
+    if (!placing.motion.is_mirror())
+        return model;
+    for (auto &[loop, halves] : model.loops) {
+        std::transform(halves.begin(), halves.end(), halves.begin(), [](HalfEdge half) { return half.twin(); });
+        halves = from_least(std::vector<HalfEdge>(halves.rbegin(), halves.rend()));
+    }
+    return model;
 }
 
-/// The model elsewhere, with other numbers. Each edge runs as it did.
-inline Model placed(const Model &model, const Placing &placing, const Numbering &numbers, Solid solid)
+/// The model with other numbers. Each edge runs as it did.
+inline Model numbered(const Model &model, const Numbering &numbers, Solid solid)
 {
     Model made{solid, {}, {}, {}, {}, {}};
-    for (const auto &[face, row] : model.faces)
-        std::transform(row.begin(), row.end(), std::back_inserter(made.faces[numbers.faces.at(face)]), [&](Loop loop) { return numbers.loops.at(loop); });
-    for (const auto &[loop, halves] : model.loops)
-        made.loops[numbers.loops.at(loop)] = cycle_of(halves, numbers, placing.motion.is_mirror());
+    for (const auto &[face, loops] : model.faces) {
+        std::vector<Loop> &row = made.faces[numbers.faces.at(face)] = loops;
+        std::transform(row.begin(), row.end(), row.begin(), [&](Loop loop) { return numbers.loops.at(loop); });
+        std::sort(row.begin() + 1, row.end());
+    }
+    for (const auto &[loop, halves] : model.loops) {
+        std::vector<HalfEdge> cycle = halves;
+        std::transform(cycle.begin(), cycle.end(), cycle.begin(), [&](HalfEdge half) { return numbers.of(half); });
+        made.loops[numbers.loops.at(loop)] = from_least(std::move(cycle));
+    }
     for (const auto &[loop, vertex] : model.lone)
         made.lone[numbers.loops.at(loop)] = numbers.vertices.at(vertex);
     for (const auto &[edge, ends] : model.edges)
         made.edges[numbers.edges.at(edge)] = {numbers.vertices.at(ends.first), numbers.vertices.at(ends.second)};
     for (const auto &[vertex, at] : model.vertices)
-        made.vertices[numbers.vertices.at(vertex)] = vector(placing(point(at)));
+        made.vertices[numbers.vertices.at(vertex)] = at;
     return made;
 }
 
-/// Refuses a place in which a point would lie out of range, with the least vertex.
-inline void require_in_range(const Model &model, const Placing &placing)
+/// A new solid as a model says; its numbers are above all in use, as long as there are any. Refused: NumbersSpent.
+inline Solid make(Bench &bench, const Model &model, Lists &lists)
 {
-    for (const auto &[vertex, at] : model.vertices)
-        if (!is_in_range(vector(placing(point(at)))))
-            throw refused(GWB_WHY_POINT_RANGE, vertex.number());
-}
-
-/// A new solid, that is a model elsewhere; its numbers are above all in use, as long as there are any. Refused: PointRange; NumbersSpent.
-inline Solid make(Bench &bench, const Model &model, const Placing &placing, Lists &lists)
-{
-    require_in_range(model, placing);
     AllFree free(bench, model);
     const Solid solid = free(model.solid);
     const Numbering numbers = Numbering::of(model, free);
     free.require_enough();
-    const Result<void> made = bench.attempt().load(placed(model, placing, numbers, solid).listing());
+    const Result<void> made = bench.attempt().load(numbered(model, numbers, solid).listing());
     if (made.error().is(GWB_WHY_NUMBER_RANGE))
         free.fail_on_the_way();
     if (!made)
         throw made.error();
     numbers.tell(lists);
     return solid;
-}
-
-/// A solid lies elsewhere, with the numbers that it has. Refused: PointRange.
-inline void replace(Bench &bench, const Model &model, const Placing &placing)
-{
-    require_in_range(model, placing);
-    take_away(bench, model.solid);
-    bench.load(placed(model, placing, Numbering::of(model, [](auto number) { return number; }), model.solid).listing());
 }
 
 // ---- features
@@ -216,7 +208,7 @@ template <class Place> std::vector<Solid> patterned(Bench &bench, Solid solid, s
     const Model model = read(bench, solid);
     std::vector<Solid> row;
     for (std::uint32_t at = 1; at < count; at++)
-        row.push_back(make(bench, model, {place(at)}, lists));
+        row.push_back(make(bench, moved(model, {place(at)}), lists));
     return row;
 }
 
@@ -242,7 +234,7 @@ inline std::vector<Model> all_read(const Bench &bench)
 inline void scale_all(Bench &bench, std::int64_t factor)
 {
     for (const Model &model : all_read(bench))
-        replace(bench, model, Placing::scaled(factor));
+        make_anew(bench, moved(model, Placing::scaled(factor)));
 }
 
 /// All numbers become as low as they can be, in their order.
@@ -256,7 +248,7 @@ inline void renumber(Bench &bench, Lists &lists)
     for (const Model &model : models)
         take_away(bench, model.solid);
     for (const Model &model : models)
-        bench.load(placed(model, Placing(), numbers, solids.at(model.solid)).listing());
+        bench.load(numbered(model, numbers, solids.at(model.solid)).listing());
 }
 
 } // namespace gwb_session::copies

@@ -216,7 +216,7 @@ inline Split cut_by_faces(Bench &bench, Solid solid, const Plane &plane, const P
     if (operators)
         give(bench, *operators);
     else
-        give_anew(bench, solid, lower.made.model);
+        make_anew(bench, lower.made.model);
     if (is_wanted)
         bench.load(upper.made.model.listing());
     Split made{above, caps_of(lower), {}};

@@ -65,6 +65,13 @@ constexpr Wide square_root(Wide number)
     return root;
 }
 
+/// A closed path from its least member on.
+template <class Path> Path from_least(Path path)
+{
+    std::rotate(path.begin(), std::min_element(path.begin(), path.end()), path.end());
+    return path;
+}
+
 // ---- vectors
 
 constexpr Vector vector(Point point) { return {point.x, point.y, point.z}; }

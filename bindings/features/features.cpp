@@ -331,7 +331,7 @@ gwb_kind gwb_copy_solid(gwb *g, std::uint32_t solid, const gwb_motion *motion, s
     if (!copies::is_motion(*motion))
         return no_call(g);
     return made(
-        g, why, [&](Bench &bench, Known &known) { return copies::make(bench, copies::read(bench, Solid(solid)), {Motion(*motion)}, known.lists); },
+        g, why, [&](Bench &bench, Known &known) { return copies::make(bench, copies::moved(copies::read(bench, Solid(solid)), {Motion(*motion)}), known.lists); },
         [&](Solid made) { *out = made.number(); });
 }
 
@@ -339,7 +339,7 @@ gwb_kind gwb_move_solid(gwb *g, std::uint32_t solid, const gwb_motion *motion, g
 {
     if (!copies::is_motion(*motion))
         return no_call(g);
-    return changed(g, why, [&](Bench &bench, Lists &) { copies::replace(bench, copies::read(bench, Solid(solid)), {Motion(*motion)}); });
+    return changed(g, why, [&](Bench &bench, Lists &) { sheets::make_anew(bench, copies::moved(copies::read(bench, Solid(solid)), {Motion(*motion)})); });
 }
 
 gwb_kind gwb_pattern(gwb *g, std::uint32_t solid, std::uint32_t count, const gwb_point *step, std::uint32_t *solids, gwb_refusal *why)

@@ -7,6 +7,7 @@ namespace gwb_session::gluing {
 
 using machining::impossible;
 using machining::Path;
+using exact::from_least;
 using exact::Vector;
 
 /// A face of a solid.
@@ -19,13 +20,6 @@ struct Side {
 struct Match {
     Side one, other;
 };
-
-/// A closed path from its least point on.
-inline Path from_least(Path path)
-{
-    std::rotate(path.begin(), std::min_element(path.begin(), path.end()), path.end());
-    return path;
-}
 
 /// The faces that match, in the order of the solids and their faces. Faces with rings match none.
 inline std::vector<Match> matches(const Bench &bench, Items<Solid> solids)

@@ -50,10 +50,9 @@ inline void put_face(Model &model, AllNames &names, Sides &sides, std::size_t pl
             model.edges[half->edge()] = {vertices[from], vertices[to]};
         halves.push_back(*half);
     }
-    std::rotate(halves.begin(), std::min_element(halves.begin(), halves.end()), halves.end());
     const Loop loop = names.loops.spare();
     model.faces[names.faces.spare()] = {loop};
-    model.loops[loop] = std::move(halves);
+    model.loops[loop] = from_least(std::move(halves));
 }
 
 /// Refuses a kind of which there aren't as many numbers.
