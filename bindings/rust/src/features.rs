@@ -65,10 +65,7 @@ impl Motion {
         let is_even = self.from[1] == (self.from[0] + 1) % 3;
         (self.sign.iter().product::<i64>() < 0) == is_even
     }
-}
 
-
-impl Motion {
     fn row(self) -> gwb_sys::Motion {
         let axes = [0, 1, 2].map(|at: usize| self.sign[at] as i32 * (self.from[at] as i32 + 1));
         gwb_sys::Motion { axes, by: self.by.into() }
@@ -269,10 +266,7 @@ impl Operators {
     }
 
     fn made(&self, list: u32) -> Vec<u32> {
-        let count = unsafe { gwb_sys::gwb_made(self.handle(), list, [].as_mut_ptr(), 0) };
-        let mut found = vec![0; count];
-        unsafe { gwb_sys::gwb_made(self.handle(), list, found.as_mut_ptr(), count) };
-        found
+        crate::readers::rows(|to, room| unsafe { gwb_sys::gwb_made(self.handle(), list, to, room) })
     }
 
     fn made_faces(&self, list: u32) -> Vec<Face> {
@@ -306,6 +300,11 @@ impl Operators {
     fn notched(&mut self, call: impl FnOnce(*mut Gwb, *mut gwb_sys::Refusal) -> u32) -> Result<Notch, Error> {
         self.feature(call)?;
         Ok(Notch { floor: self.made_faces(list::FLOOR), walls: self.made_faces(list::WALLS) })
+    }
+
+    fn parted(&mut self, above: Solid, call: impl FnOnce(*mut Gwb, *mut gwb_sys::Refusal) -> u32) -> Result<Split, Error> {
+        self.feature(call)?;
+        Ok(Split { above, lower_caps: self.made_faces(list::LOWER_CAPS), upper_caps: self.made_faces(list::UPPER_CAPS) })
     }
 
     /// A solid goes, with all its parts.
@@ -355,15 +354,13 @@ impl Operators {
     /// What [`split`](crate::Operators::split) does, with the faces that close both parts.
     pub fn split_solid(&mut self, solid: Solid, [a, b, c, d]: [i64; 4], above: impl Into<Option<Solid>>) -> Result<Split, Error> {
         let (above, plane) = (self.named(above), gwb_sys::CutPlane { a, b, c, d });
-        self.feature(|g, why| unsafe { gwb_sys::gwb_split_solid(g, solid.0, &plane, above.0, why) })?;
-        Ok(Split { above, lower_caps: self.made_faces(list::LOWER_CAPS), upper_caps: self.made_faces(list::UPPER_CAPS) })
+        self.parted(above, |g, why| unsafe { gwb_sys::gwb_split_solid(g, solid.0, &plane, above.0, why) })
     }
 
     /// The same, also where split refuses the plane for what it touches or how it runs through faces and holes.
     pub fn cut(&mut self, solid: Solid, [a, b, c, d]: [i64; 4], above: impl Into<Option<Solid>>) -> Result<Split, Error> {
         let (above, plane) = (self.named(above), gwb_sys::CutPlane { a, b, c, d });
-        self.feature(|g, why| unsafe { gwb_sys::gwb_cut(g, solid.0, &plane, above.0, why) })?;
-        Ok(Split { above, lower_caps: self.made_faces(list::LOWER_CAPS), upper_caps: self.made_faces(list::UPPER_CAPS) })
+        self.parted(above, |g, why| unsafe { gwb_sys::gwb_cut(g, solid.0, &plane, above.0, why) })
     }
 
     /// What lies above the plane goes: the faces that close what is left.

@@ -1,9 +1,9 @@
 //! What commands made, removed and split of a model, and values on faces and edges that follow it.
+use crate::readers::rows;
 use crate::{minus, plus, Edge, Error, Face, HalfEdge, HalfEdgeRow, Id, Point, Session, Solid, Vertex};
 use gwb_sys::Gwb;
 use std::collections::{BTreeMap, BTreeSet, HashMap};
 use std::ops::Range;
-use std::ptr::NonNull;
 
 /// A number that is new or gone.
 #[derive(Clone, Copy, Debug, PartialEq, Eq)]
@@ -90,9 +90,7 @@ impl<'session> Watching<'session> {
 
     /// A list of what was watched.
     fn listed<Row: Copy + Default>(&self, write: unsafe extern "C" fn(*const Gwb, *mut Row, usize) -> usize) -> Vec<Row> {
-        let mut rows = vec![Row::default(); unsafe { write(self.session.handle(), NonNull::dangling().as_ptr(), 0) }];
-        unsafe { write(self.session.handle(), rows.as_mut_ptr(), rows.len()) };
-        rows
+        rows(|rows, room| unsafe { write(self.session.handle(), rows, room) })
     }
 
     /// The solids that were touched, as they were.

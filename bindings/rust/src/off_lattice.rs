@@ -1,5 +1,6 @@
 //! What is to be said of a split that is refused since its points aren't whole: where the plane cuts edges, by how much the model would have to
 //! be scaled, and which planes nearby would do.
+use crate::readers::rows;
 use crate::{Edge, Error, Readers, Solid};
 use gwb_sys::kind;
 use std::fmt;
@@ -81,9 +82,7 @@ unsafe impl Sync for Advice {}
 // SAFETY, for all calls in this file: the pointer is one that gwb_off_lattice wrote, until it is dropped.
 impl Advice {
     fn rows<Row: Copy + Default, T: From<Row>>(&self, write: unsafe extern "C" fn(*const gwb_sys::Advice, *mut Row, usize) -> usize) -> Vec<T> {
-        let mut rows = vec![Row::default(); unsafe { write(self.0.as_ptr(), NonNull::dangling().as_ptr(), 0) }];
-        unsafe { write(self.0.as_ptr(), rows.as_mut_ptr(), rows.len()) };
-        rows.into_iter().map(T::from).collect()
+        rows(|rows, room| unsafe { write(self.0.as_ptr(), rows, room) }).into_iter().map(T::from).collect()
     }
 
     fn text(&self, above: Solid) -> String {

@@ -332,9 +332,7 @@ impl Readers {
     /// each step; gwb.h says which lines no script has.
     #[must_use]
     pub fn script_of(&self, commands: Range<usize>) -> String {
-        let write = |buf, room| unsafe { gwb_sys::gwb_script(self.handle(), commands.start, commands.len(), buf, room) };
-        let mut lines = vec![0; write(NonNull::dangling().as_ptr(), 0)];
-        write(lines.as_mut_ptr(), lines.len());
+        let lines = rows(|buf, room| unsafe { gwb_sys::gwb_script(self.handle(), commands.start, commands.len(), buf, room) });
         String::from_utf8_lossy(&lines).into_owned()
     }
 
@@ -409,7 +407,7 @@ fn triangle_rows(most: usize, write: impl Fn(*mut gwb_sys::TriangleRow, usize) -
 }
 
 /// All rows that a call writes, which is given room for them first.
-fn rows<T: Clone + Default>(write: impl Fn(*mut T, usize) -> usize) -> Vec<T> {
+pub(crate) fn rows<T: Clone + Default>(write: impl Fn(*mut T, usize) -> usize) -> Vec<T> {
     let mut rows = vec![T::default(); write(&mut T::default(), 0)];
     write(rows.as_mut_ptr(), rows.len());
     rows
