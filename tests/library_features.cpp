@@ -294,6 +294,9 @@ static void try_last_numbers()
         check(shape(bench, copy) == wanted, "a copy with the last numbers");
         check(copy.of(*bench.faces(holed).begin()) == Face(999'994) && bench.greatest<Loop>() == Loop(1'000'000), "which it has");
         check(copy.of(plus(Edge(1))).edge() == Edge(999'993) && copy.of(Vertex(1)) == Vertex(999'992), "from the first on");
+        const auto left = shape(bench, copy);
+        kill_solid(bench, holed);
+        check(bench.faces(holed).empty() && shape(bench, copy) == left, "what it is of is killed with the last numbers");
     }
 }
 

@@ -89,19 +89,15 @@ struct Numbering {
     }
 };
 
-/// Free numbers for a model.
+/// Free numbers of all kinds.
 class AllFree {
 public:
-    AllFree(const Bench &bench, const Model &model)
-        : solids_(bench, 1), faces_(bench, model.faces.size() + 1), loops_(bench, model.loops.size() + model.lone.size() + 1),
-          edges_(bench, model.edges.size() + 1), vertices_(bench, model.vertices.size())
-    {
-    }
-    Solid operator()(Solid) { return Solid(solids_.take()); }
-    Face operator()(Face) { return Face(faces_.take()); }
-    Loop operator()(Loop) { return Loop(loops_.take()); }
-    Edge operator()(Edge) { return Edge(edges_.take()); }
-    Vertex operator()(Vertex) { return Vertex(vertices_.take()); }
+    explicit AllFree(const Bench &bench) : solids_(bench), faces_(bench), loops_(bench), edges_(bench), vertices_(bench) {}
+    Solid operator()(Solid) { return solids_.take(); }
+    Face operator()(Face) { return faces_.take(); }
+    Loop operator()(Loop) { return loops_.take(); }
+    Edge operator()(Edge) { return edges_.take(); }
+    Vertex operator()(Vertex) { return vertices_.take(); }
 
     /// Refuses a kind of which no number was left.
     void require_enough() const
@@ -187,7 +183,7 @@ inline Model numbered(const Model &model, const Numbering &numbers, Solid solid)
 /// A new solid as a model says; its numbers are above all in use, as long as there are any. Refused: NumbersSpent.
 inline Solid make(Bench &bench, const Model &model, Lists &lists)
 {
-    AllFree free(bench, model);
+    AllFree free(bench);
     const Solid solid = free(model.solid);
     const Numbering numbers = Numbering::of(model, free);
     free.require_enough();

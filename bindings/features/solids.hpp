@@ -11,35 +11,30 @@ namespace gwb_session {
 /// Free numbers of a kind: those above all in use, and then those below that aren't.
 template <class Kind> class FreeNumbers {
 public:
-    /// So many of them at most.
-    FreeNumbers(const Bench &bench, std::size_t most) : next_(bench.greatest<Kind>().number() + 1)
-    {
-        const std::size_t above = greatest_number + 1 - next_;
-        std::uint32_t last = 0;
-        if (most <= above)
-            return;
-        for (Kind used : bench.numbers<Kind>()) {
-            for (std::uint32_t gap = last + 1; gap < used.number() && gaps_.size() < most - above; gap++)
-                gaps_.push_back(gap);
-            last = used.number();
-        }
-    }
+    explicit FreeNumbers(const Bench &bench) : bench_(bench), next_(bench.greatest<Kind>().number() + 1) {}
     /// The next one. Where none is left it is out of range, so that operators refuse it.
-    std::uint32_t take()
+    Kind take()
     {
         if (next_ <= greatest_number)
-            return next_++;
-        is_spent_ = taken_ == gaps_.size();
-        return is_spent_ ? greatest_number + 1 : gaps_[taken_++];
+            return Kind(next_++);
+        do
+            gap_++;
+        while (gap_ <= greatest_number && is_in_use(gap_));
+        return Kind(gap_);
     }
-    [[nodiscard]] bool is_spent() const { return is_spent_; }
+    [[nodiscard]] bool is_spent() const { return gap_ > greatest_number; }
 
 private:
     static constexpr std::uint32_t greatest_number = 1'000'000;
-    std::uint32_t next_;
-    std::vector<std::uint32_t> gaps_;
-    std::size_t taken_ = 0;
-    bool is_spent_ = false;
+
+    [[nodiscard]] bool is_in_use(std::uint32_t number) const
+    {
+        std::uint32_t found = 0;
+        return gwb_number_after(bench_.handle(), Kind::kind, number - 1, &found) == GWB_FOUND && found == number;
+    }
+
+    const Bench &bench_;
+    std::uint32_t next_, gap_ = 0;
 };
 
 /// Lists of what was made, by enum gwb_list.
@@ -49,8 +44,7 @@ using Lists = std::array<std::vector<std::uint32_t>, GWB_MADE_SOLIDS + 1>;
 class TakenApart {
 public:
     TakenApart(Bench &bench, Solid solid)
-        : bench_(bench), solid_(solid), edges_(edges_of(bench.half_edge_rows(solid))), spare_faces_(bench, edges_.size() + count_loops() + 1),
-          spare_loops_(bench, edges_.size() + 1)
+        : bench_(bench), solid_(solid), edges_(edges_of(bench.half_edge_rows(solid))), spare_faces_(bench), spare_loops_(bench)
     {
     }
 
@@ -78,13 +72,6 @@ private:
                 edges.push_back(HalfEdge(row.half_edge).edge());
         return edges;
     }
-    [[nodiscard]] std::size_t count_loops() const
-    {
-        std::size_t loops = 0;
-        for (Face face : bench_.faces(solid_))
-            loops += 1 + static_cast<std::size_t>(std::distance(bench_.rings(face).begin(), bench_.rings(face).end()));
-        return loops;
-    }
 
     /// Each ring becomes the outer loop of a face of its own.
     void rings_out()
@@ -99,7 +86,7 @@ private:
     void ring_out(Loop ring)
     {
         go_on();
-        bench_.mfkrh(ring, Face(spare_faces_.take()));
+        bench_.mfkrh(ring, spare_faces_.take());
     }
 
     /// Edges between two faces go, and one of the faces with each.
@@ -140,7 +127,7 @@ private:
     /// An edge that has one loop on both sides goes, and what lies behind it is the loop of a spare face.
     void handle_out()
     {
-        const Loop ring(spare_loops_.take());
+        const Loop ring = spare_loops_.take();
         bench_.kemr(plus(edges_.back()), ring);
         edges_.pop_back();
         ring_out(ring);
@@ -158,7 +145,7 @@ private:
     void part_out(Face first, Face face)
     {
         const Loop stays = bench_.face(first).outer_loop, loop = bench_.face(face).outer_loop;
-        const Edge edge(FreeNumbers<Edge>(bench_, 1).take());
+        const Edge edge = FreeNumbers<Edge>(bench_).take();
         bench_.kfmrh(first, face);
         bench_.mekr(lone(stays), lone(loop), edge);
         bench_.kev(plus(edge));
