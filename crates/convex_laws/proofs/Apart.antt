@@ -25,29 +25,29 @@ use Rattle.command_laws.proofs.splits_laws.Whole as whole
 
 -- ---- tests of corners
 
-all_fail : (f : ℕ → Bool) (vs : List ℕ) → list_any f vs ≡ false → list_all (λ v. not (f v)) vs ≡ true
+pub all_fail : (f : ℕ → Bool) (vs : List ℕ) → list_any f vs ≡ false → list_all (λ v. not (f v)) vs ≡ true
 all_fail f [] e = refl
 all_fail f (v ∷ vs) e = both (f v) (list_any f vs) e (all_fail f vs) where
   both : (a b : Bool) → (a || b) ≡ false → (b ≡ false → list_all (λ v. not (f v)) vs ≡ true) → (not a && list_all (λ v. not (f v)) vs) ≡ true
   both true b e rest = absurd (true≢false e)
   both false b e rest = rest e
 
-listed_passes : (f : ℕ → Bool) (vs : List ℕ) (v : ℕ) → list_all f vs ≡ true → lists vs v ≡ true → f v ≡ true
+pub listed_passes : (f : ℕ → Bool) (vs : List ℕ) (v : ℕ) → list_all f vs ≡ true → lists vs v ≡ true → f v ≡ true
 listed_passes f [] v all i = absurd (true≢false (sym i))
 listed_passes f (w ∷ vs) v all i = let a = and_parts (f w) (list_all f vs) all in elim (listed_cases w v vs i) [
   | inl e ↦ subst (λ x. f x ≡ true) (sym e) a.0
   | inr j ↦ listed_passes f vs v a.1 j
 ]
 
-not_back : (b : Bool) → not b ≡ true → b ≡ false
+pub not_back : (b : Bool) → not b ≡ true → b ≡ false
 not_back false e = refl
 not_back true e = absurd (true≢false (sym e))
 
-first_none : (a b : Bool) → (a || b) ≡ false → a ≡ false
+pub first_none : (a b : Bool) → (a || b) ≡ false → a ≡ false
 first_none true b e = absurd (true≢false e)
 first_none false b e = refl
 
-not_both : (a b c : Bool) → (a || (not b && c)) ≡ true → (a && b) ≡ false → b ≡ false
+pub not_both : (a b c : Bool) → (a || (not b && c)) ≡ true → (a && b) ≡ false → b ≡ false
 not_both true b c e f = f
 not_both false false c e f = refl
 not_both false true c e f = absurd (true≢false (sym e))
@@ -88,20 +88,20 @@ module _ (before after : Machine) (s : ℕ) (p : Plane) (t : ℕ) (sound : Sound
   N = part (holes_closed X.model X.caps) s t (upper_faces above X.caps)
 
   -- a cap that is there is one of an outer cycle's
-  record OuterCap (k : ℕ) : Type 0 where
-    index : ℕ
-    within : index < length (caps_of (held before) s p)
-    outer : (cap (held before) s p index).hole ≡ false
-    which : (k ≡ (cap (held before) s p index).lower) ⊎ (k ≡ (cap (held before) s p index).upper)
+  pub record OuterCap (k : ℕ) : Type 0 where
+    pub index : ℕ
+    pub within : index < length (caps_of (held before) s p)
+    pub outer : (cap (held before) s p index).hole ≡ false
+    pub which : (k ≡ (cap (held before) s p index).lower) ⊎ (k ≡ (cap (held before) s p index).upper)
 
-  outer_cap : (k : ℕ) → Has (held after).faces k → lists (cap_faces (caps_of (held before) s p)) k ≡ true → OuterCap k
+  pub outer_cap : (k : ℕ) → Has (held after).faces k → lists (cap_faces (caps_of (held before) s p)) k ≡ true → OuterCap k
   outer_cap k there l = let r = cap_at k (caps_of M s p) l in outer_or_hole r.0 r.1 r.2 (cap M s p r.0).hole refl where
     outer_or_hole : (i : ℕ) → i < length (caps_of M s p) → (k ≡ (cap M s p i).lower) ⊎ (k ≡ (cap M s p i).upper) → (b : Bool) → (cap M s p i).hole ≡ b → OuterCap k
     outer_or_hole i within which false outer = record { index = i; within = within; outer = outer; which = which }
     outer_or_hole i within (inl e) true hole = absurd (true≢false (sym there ∙ ap (table.has (held after).faces) e ∙ (holes_are_closed before after s p t i sound made within hole).0))
     outer_or_hole i within (inr e) true hole = absurd (true≢false (sym there ∙ ap (table.has (held after).faces) e ∙ (holes_are_closed before after s p t i sound made within hole).1))
 
-  is_cap : (k : ℕ) → Has (held after).faces k → lists (cap_faces (caps_of (held before) s p)) k ≡ true → IsCapOf (held after) p s k ⊎ IsCapOf (held after) p t k
+  pub is_cap : (k : ℕ) → Has (held after).faces k → lists (cap_faces (caps_of (held before) s p)) k ≡ true → IsCapOf (held after) p s k ⊎ IsCapOf (held after) p t k
   is_cap k there l = let c = outer_cap k there l in let w = caps_stand before after s p t c.index sound made c.within c.outer in elim c.which [
     | inl e ↦ inl (subst (IsCapOf (held after) p s) (sym e) w.0)
     | inr e ↦ inr (subst (IsCapOf (held after) p t) (sym e) w.1)
@@ -112,10 +112,10 @@ module _ (before after : Machine) (s : ℕ) (p : Plane) (t : ℕ) (sound : Sound
 
   -- a face of the drawn solid
   module _ (k : ℕ) (has : Has d.model.faces k) (of : solid_of d.model k ≡ s) where
-    turned : IsTurned d.model (held after) k
+    pub turned : IsTurned d.model (held after) k
     turned = subst (λ P. IsTurned d.model P k) (sym after_is) (part_turned M s p t sound made.0 k has of)
 
-    side : solid_of (held after) k ≡ cond (face_is_above d.model p k) t s
+    pub side : solid_of (held after) k ≡ cond (face_is_above d.model p k) t s
     side = ap (λ P. solid_of P k) after_is ∙ part_of M s p t sound made.0 k has of
 
     one_side : straddles d.model p k ≡ false
@@ -143,8 +143,11 @@ module _ (before after : Machine) (s : ℕ) (p : Plane) (t : ℕ) (sound : Sound
     now_of : IsOfEither N s t k
     now_of = subst (λ P. IsOfEither P s t k) after_is of
 
-    known_face : Has d.model.faces k ⊎ IsIn k (cap_faces X.caps)
+    pub known_face : Has d.model.faces k ⊎ IsIn k (cap_faces X.caps)
     known_face = known before after s p t sound made k now now_of
+
+    pub drawn_of : Has d.model.faces k → solid_of d.model k ≡ s
+    drawn_of has = was_of before after s p t sound made k now now_of has
 
     on_plane : IsIn k (cap_faces X.caps) → (v : ℕ) → lists (corners (held after) k) v ≡ true → is_on p (point_of (held after) v) ≡ true
     on_plane i v l = elim (is_cap k there (listed-from_in k (cap_faces X.caps) i)) [
@@ -154,13 +157,13 @@ module _ (before after : Machine) (s : ℕ) (p : Plane) (t : ℕ) (sound : Sound
 
     face_low : solid_of (held after) k ≡ s → (v : ℕ) → lists (corners (held after) k) v ≡ true → is_above p (point_of (held after) v) ≡ false
     face_low low v l = elim known_face [
-      | inl has ↦ drawn_low k has (was_of before after s p t sound made k now now_of has) low v l
+      | inl has ↦ drawn_low k has (drawn_of has) low v l
       | inr i ↦ on_both p (point_of (held after) v) (on_plane i v l) false
     ]
 
     face_high : solid_of (held after) k ≡ t → (v : ℕ) → lists (corners (held after) k) v ≡ true → is_below p (point_of (held after) v) ≡ false
     face_high high v l = elim known_face [
-      | inl has ↦ drawn_high k has (was_of before after s p t sound made k now now_of has) high v l
+      | inl has ↦ drawn_high k has (drawn_of has) high v l
       | inr i ↦ on_both p (point_of (held after) v) (on_plane i v l) true
     ]
 

@@ -11,7 +11,7 @@ use Rattle.shapes.specs.Common.{plane_through, scaled, towards}
 abbrev pub IsLow : ℤ → Type 0
 IsLow x = int_lt (pos 0) x ≡ false
 
-low_is : (x : ℤ) → IsLow x → (n : ℕ) × (x ≡ neg_ℤ (pos n))
+pub low_is : (x : ℤ) → IsLow x → (n : ℕ) × (x ≡ neg_ℤ (pos n))
 low_is (pos zero) e = (0, refl)
 low_is (pos (suc n)) e = absurd (grind (arith, ints))
 low_is (negsuc n) e = (suc n, refl)
@@ -19,10 +19,10 @@ low_is (negsuc n) e = (suc n, refl)
 pub is_low : (n : ℕ) → IsLow (neg_ℤ (pos n))
 is_low n = grind (arith, ints)
 
-low_sum : (x y : ℤ) → IsLow x → IsLow y → IsLow (x +ℤ y)
+pub low_sum : (x y : ℤ) → IsLow x → IsLow y → IsLow (x +ℤ y)
 low_sum x y a b = grind (arith, ints)
 
-product_part : (m n : ℕ) → pos m *ℤ neg_ℤ (pos n) ≡ neg_ℤ (pos (m * n))
+pub product_part : (m n : ℕ) → pos m *ℤ neg_ℤ (pos n) ≡ neg_ℤ (pos (m * n))
 product_part m n = product_back (pos m) (pos n) where
   product_back : (x w : ℤ) → x *ℤ neg_ℤ w ≡ neg_ℤ (x *ℤ w)
   product_back x w = rw (dif-parts x, dif-parts w) (simp (difs, neg-dif) (same_dif _ _ _ _ (omega arith)))
@@ -55,7 +55,7 @@ direction_part : (a b c d x y z u v w : ℤ) → a *ℤ (x -ℤ u) +ℤ b *ℤ (
 direction_part a b c d x y z u v w = rw (dif-parts a, dif-parts b, dif-parts c, dif-parts d, dif-parts x, dif-parts y, dif-parts z, dif-parts u, dif-parts v, dif-parts w) (simp difs (same_dif _ _ _ _ (omega arith)))
 
 -- what a plane's direction tells of a step
-step_told : (t : Plane) (r q : Point) → dot (direction t) (towards r q) ≡ height t q -ℤ height t r
+pub step_told : (t : Plane) (r q : Point) → dot (direction t) (towards r q) ≡ height t q -ℤ height t r
 step_told t r q = direction_part t.a t.b t.c t.d q.x q.y q.z r.x r.y r.z
 
 -- ---- a point that divides a step
@@ -63,7 +63,7 @@ step_told t r q = direction_part t.a t.b t.c t.d q.x q.y q.z r.x r.y r.z
 scaled_part : (k a b c x y z : ℤ) → a *ℤ (k *ℤ x) +ℤ b *ℤ (k *ℤ y) +ℤ c *ℤ (k *ℤ z) ≡ k *ℤ (a *ℤ x +ℤ b *ℤ y +ℤ c *ℤ z)
 scaled_part k a b c x y z = rw (dif-parts k, dif-parts a, dif-parts b, dif-parts c, dif-parts x, dif-parts y, dif-parts z) (simp difs (same_dif _ _ _ _ (omega arith)))
 
-dot_scaled : (k : ℤ) (n p : Point) → dot n (scaled k p) ≡ k *ℤ dot n p
+pub dot_scaled : (k : ℤ) (n p : Point) → dot n (scaled k p) ≡ k *ℤ dot n p
 dot_scaled k n p = scaled_part k n.x n.y n.z p.x p.y p.z
 
 shares_part : (m n : ℕ) (c p q : ℤ) → pos (m + n) *ℤ (c -ℤ p) ≡ pos m *ℤ (q -ℤ p) → pos (m + n) *ℤ c ≡ pos m *ℤ q +ℤ pos n *ℤ p

@@ -6,3 +6,16 @@ mod Apart
 mod Seen
 mod Others
 mod Volumes
+mod Turns
+mod Planes
+mod Links
+mod Together
+mod Drawn
+mod Beside
+mod Rounds
+mod Pieces
+mod Section
+mod Caps
+mod Parts
+mod Traces
+mod Strict

@@ -24,7 +24,7 @@ use Rattle.command_laws.proofs.splits_laws.Whole as whole
 use Rattle.command_laws.proofs.splits_laws.Whole.{split_keeps_edges, split_keeps_loops, split_keeps_shapes}
 
 -- where the corners have the points of others, each lies where one of those does
-same_corner : (M N : Model) (vs ws : List ℕ) (v : ℕ) → map (point_of N) vs ≡ map (point_of M) ws → lists vs v ≡ true → (w : ℕ) × (lists ws w ≡ true) × (point_of N v ≡ point_of M w)
+pub same_corner : (M N : Model) (vs ws : List ℕ) (v : ℕ) → map (point_of N) vs ≡ map (point_of M) ws → lists vs v ≡ true → (w : ℕ) × (lists ws w ≡ true) × (point_of N v ≡ point_of M w)
 same_corner M N [] ws v e l = absurd (true≢false (sym l))
 same_corner M N (x ∷ vs) [] v e l = absurd (omega (arith, ap length e))
 same_corner M N (x ∷ vs) (y ∷ ws) v e l = elim (listed_cases x v vs l) [

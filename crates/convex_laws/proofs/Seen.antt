@@ -19,7 +19,7 @@ none_part : (a b y z : ℤ) → pos 0 ≡ pos 0 +ℤ (a *ℤ (y -ℤ y) -ℤ b *
 none_part a b y z = sym (no_part a b (pos 0) y z)
 
 module _ (M : Model) (q : Point) where
-  abbrev seen : List ℕ → Point
+  abbrev pub seen : List ℕ → Point
   seen [] = origin
   seen (h ∷ hs) = moved (swept_from M q h) (seen hs)
 
@@ -31,7 +31,7 @@ module _ (M : Model) (q : Point) where
       ap (moved (cross s f)) (path_seen hs e leads.1 ∙ ap (λ b. moved r (cross q (towards b e))) (sym leads.0))
       ∙ same_vector _ _ (step_part s.y s.z f.y f.z q.y q.z e.y e.z r.x) (step_part s.z s.x f.z f.x q.z q.x e.z e.x r.y) (step_part s.x s.y f.x f.y q.x q.y e.x e.y r.z)
 
-  closed_seen : (hs : List ℕ) → IsClosed M hs → area M hs ≡ seen hs
+  pub closed_seen : (hs : List ℕ) → IsClosed M hs → area M hs ≡ seen hs
   closed_seen [] closed = refl
   closed_seen (h ∷ hs) closed =
       let s = start M h in let r = seen (h ∷ hs) in
@@ -60,7 +60,7 @@ module _ (M : Model) (q : Point) where
       ∙ (λ i. moved (content_seen (content M l) (loop_closed M sound l) i) (loops_seen sound ls i))
       ∙ sym (seen-append (items_of (content M l)) (items_in M ls))
 
-  face_seen : Sound M → (k : ℕ) → normal M k ≡ seen (boundary M k)
+  pub face_seen : Sound M → (k : ℕ) → normal M k ≡ seen (boundary M k)
   unfolding normal boundary
   face_seen sound k = loops_seen sound (loops_of M k)
 
@@ -70,7 +70,7 @@ module _ (M : Model) (q : Point) where
     more_part : (a b c x y z u v w : ℤ) → a *ℤ (x +ℤ u) +ℤ b *ℤ (y +ℤ v) +ℤ c *ℤ (z +ℤ w) ≡ (a *ℤ x +ℤ b *ℤ y +ℤ c *ℤ z) +ℤ (a *ℤ u +ℤ b *ℤ v +ℤ c *ℤ w)
     more_part a b c x y z u v w = rw (dif-parts a, dif-parts b, dif-parts c, dif-parts x, dif-parts y, dif-parts z, dif-parts u, dif-parts v, dif-parts w) (simp difs (same_dif _ _ _ _ (omega arith)))
 
-    dot_more : (p r : Point) → dot n (moved p r) ≡ dot n p +ℤ dot n r
+    pub dot_more : (p r : Point) → dot n (moved p r) ≡ dot n p +ℤ dot n r
     dot_more p r = more_part n.x n.y n.z p.x p.y p.z r.x r.y r.z
 
     none_dot : (z : ℤ) → z ≡ pos 0 → int_lt (n.x *ℤ z +ℤ n.y *ℤ z +ℤ n.z *ℤ z) (pos 0) ≡ false

@@ -23,14 +23,14 @@ depth_part a b c x y z u v w = rw (dif-parts a, dif-parts b, dif-parts c, dif-pa
 
 module _ (M : Model) (q : Point) where
   -- how deep q lies under a face, times the length of its normal
-  abbrev depth : ℕ → ℤ
+  abbrev pub depth : ℕ → ℤ
   depth k = dot (normal M k) (towards q (anchor M k))
 
   abbrev depths : List ℕ → ℤ
   depths [] = pos 0
   depths (k ∷ ks) = depth k +ℤ depths ks
 
-  height_is : (k : ℕ) → height (plane_of M k) q ≡ neg_ℤ (depth k)
+  pub height_is : (k : ℕ) → height (plane_of M k) q ≡ neg_ℤ (depth k)
   unfolding plane_of
   height_is k = let n = normal M k in let a = anchor M k in depth_part n.x n.y n.z a.x a.y a.z q.x q.y q.z
 
@@ -148,12 +148,12 @@ module _ (M : Model) (s : ℕ) (sound : Sound M) (convex : IsStrictlyConvex M s)
       (ap (int_lt (pos 0)) (sym (bend_part r.x r.y r.z w.x w.y w.z n.x n.y n.z m.x m.y m.z)) ∙ convex.bends h half of)
 
   -- so some corner of the face lies under that plane
-  record Under : Type 0 where
-    vertex : ℕ
-    corner : lists (corners M here) vertex ≡ true
-    depth : int_lt (pos 0) (depth M (point_of M vertex) beyond) ≡ true
+  pub record Under : Type 0 where
+    pub vertex : ℕ
+    pub corner : lists (corners M here) vertex ≡ true
+    pub depth : int_lt (pos 0) (depth M (point_of M vertex) beyond) ≡ true
 
-  under : Under
+  pub under : Under
   under = found (list_all (λ v. is_on far (point_of M v)) (corners M here)) refl where
     off : (d : ℤ) → int_eq (neg_ℤ d) (pos 0) ≡ false → d ≢ pos 0
     off d e is = true≢false (sym (ap (λ x. int_eq (neg_ℤ x) (pos 0)) is) ∙ e)
@@ -182,7 +182,7 @@ module _ (M : Model) (s : ℕ) (sound : Sound M) (convex : IsStrictlyConvex M s)
 -- ---- a flat face has a half-edge
 
 module _ (M : Model) (sound : Sound M) where
-  item_of_one : (ls : List ℕ) (x : ℕ) → IsIn x (items_in M ls) → (l : ℕ) × (lists ls l ≡ true) × IsIn x (items_of (content M l))
+  pub item_of_one : (ls : List ℕ) (x : ℕ) → IsIn x (items_in M ls) → (l : ℕ) × (lists ls l ≡ true) × IsIn x (items_of (content M l))
   item_of_one [] x i = absurd (omega (arith, i))
   item_of_one (l ∷ ls) x i = elim (IsIn_or_not x (items_of (content M l))) [
     | inl j ↦ (l, first_listed l ls, j)

@@ -53,7 +53,7 @@ module _ (M : Model) (sound : Sound M) (s v : ℕ) where
       let f = face_of_loop M sound w.face l.0 w.there (listed-from_in l.0 (loops_of M w.face) l.1) in
       record { loop = l.0; there = f.0; solid = ap (solid_of M) f.1 ∙ w.solid; on = l.2 }
 
-half_on : (M : Model) → Sound M → (s h : ℕ) → HasHalf M h → solid_of M (face_at M h) ≡ s → OnSolid M s (tail M h)
+pub half_on : (M : Model) → Sound M → (s h : ℕ) → HasHalf M h → solid_of M (face_at M h) ≡ s → OnSolid M s (tail M h)
 half_on M sound s h there of = record { loop = loop_of M h; there = loop_there M sound h there; solid = of; on = half_is_on M sound h there }
 
 -- a vertex that is there before, and of one of the solids that come, was of the solid
@@ -165,7 +165,7 @@ module _ (before after : Machine) (s : ℕ) (p : Plane) (t : ℕ) (sound : Sound
   unfolding with_crossings
   crossed_known = cuts_known M p sound (crossing_edges M p s) (growing M) [] (crossing_edges M p s) (cuts.begins M s p t sound begun) (λ e i. i) (λ v there. inl there)
 
-  drawn_under : IsUnder d.model
+  pub drawn_under : IsUnder d.model
   unfolding point_of
   drawn_under v w =
       let D_sound = drawn_sound M s p t sound made.0 in

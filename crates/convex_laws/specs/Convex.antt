@@ -82,3 +82,13 @@ BlockKeepsStrictlyConvex = (before after : Machine) (s : ℕ) (p : Point) (dx dy
 abbrev pub SplitLeavesStrictlyConvex : Type 0
 SplitLeavesStrictlyConvex = (before after : Machine) (s : ℕ) (p : Plane) (t u : ℕ) → Sound (held before) → IsSplit before after s p t → u ≢ s → u ≢ t →
     IsStrictlyConvex (held before) u → IsStrictlyConvex (held after) u
+
+-- both parts of a strictly convex solid are strictly convex
+abbrev pub SplitsKeepStrictlyConvex : Type 0
+SplitsKeepStrictlyConvex = (before after : Machine) (s : ℕ) (p : Plane) (t : ℕ) → Sound (held before) → IsSplit before after s p t → IsStrictlyConvex (held before) s →
+    IsStrictlyConvex (held after) s × IsStrictlyConvex (held after) t
+
+-- so both have a volume, greater than 0
+abbrev pub PartsOfConvexSolidsHaveVolume : Type 0
+PartsOfConvexSolidsHaveVolume = (before after : Machine) (s : ℕ) (p : Plane) (t : ℕ) → Sound (held before) → IsSplit before after s p t → IsStrictlyConvex (held before) s →
+    (int_lt (pos 0) (six_volume (held after) s) ≡ true) × (int_lt (pos 0) (six_volume (held after) t) ≡ true)

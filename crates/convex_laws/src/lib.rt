@@ -6,11 +6,10 @@
 //! A new block is strictly convex: its faces are flat, none of its vertices lies above the plane of one of its faces, and at each of its edges the
 //! two faces bend away from each other. Each other solid that was convex before a block or a split still is, and strictly so if it was. Each strictly
 //! convex solid of a sound model has a volume greater than 0. For any solid that is split, convex or not: each half-space that holds the solid holds
-//! both parts, and the parts lie on the two sides of the plane. If the half-edges of a face go round a vector, the face's normal points along it. Not
-//! proved: that both parts of a convex solid are convex. For this it would have to be shown that the pieces of the faces that were cut, and the caps,
-//! look outwards.
+//! both parts, and the parts lie on the two sides of the plane. If the half-edges of a face go round a vector, the face's normal points along it. Both
+//! parts of a strictly convex solid are strictly convex, and so have a volume.
 
-ghost use Rattle.convex_laws.specs.Convex.{BlockKeepsConvex, BlockKeepsStrictlyConvex, BlocksAreConvex, ConvexSolidsHaveVolume, RoundLooksAlong, SplitLeavesConvex, SplitLeavesStrictlyConvex, SplitPartsLieApart, SplitsStayBelow};
+ghost use Rattle.convex_laws.specs.Convex.{BlockKeepsConvex, BlockKeepsStrictlyConvex, BlocksAreConvex, ConvexSolidsHaveVolume, PartsOfConvexSolidsHaveVolume, RoundLooksAlong, SplitLeavesConvex, SplitLeavesStrictlyConvex, SplitPartsLieApart, SplitsKeepStrictlyConvex, SplitsStayBelow};
 
 /// A new block is strictly convex: each face is flat, no vertex of the solid lies above the plane of one of its faces, and at each edge the two
 /// faces bend away from each other, so each half-edge points along the product of its face's normal and that of its mate's face.
@@ -44,4 +43,10 @@ pub fn others_stay_convex()
 /// If the half-edges of a face go round a vector, seen from some point, the face's normal points along it.
 pub fn round_looks_along()
     ensures { RoundLooksAlong }
+{}
+
+/// Both parts of a strictly convex solid are strictly convex after a split, along whatever plane, and so both have a volume greater than 0.
+pub fn splits_keep_strictly_convex()
+    ensures parts { SplitsKeepStrictlyConvex }
+    ensures volumes { PartsOfConvexSolidsHaveVolume }
 {}
