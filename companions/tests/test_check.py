@@ -335,6 +335,16 @@ class PatchesOfFaces(unittest.TestCase):
         self.assertLess(len(set(patches(model, normals).patch_of.values())), 30)
         self.assertLess(len(near_pairs.near_pairs(model, normals).faces), len(model.faces) * 3 / 4)
 
+    def test_a_sheet_of_many_squares_is_of_one_patch(self):
+        size = 100
+        squares = [[(x * (size + 1) + y + 1, (x + 1) * (size + 1) + y + 1, (x + 1) * (size + 1) + y + 2, x * (size + 1) + y + 2)]
+                   for x in range(size) for y in range(size)]
+        rim = [*range(1, size + 2), *((x + 1) * (size + 1) for x in range(1, size + 1)), *range((size + 1) ** 2 - 1, size * (size + 1), -1),
+               *(x * (size + 1) + 1 for x in range(size - 1, 0, -1))]
+        model = model_in(listing([(x, y, 0) for x in range(size + 1) for y in range(size + 1)], [*squares, [tuple(rim)]]))
+        found = patches(model, {face: normal(model, face) for face in model.faces}).patch_of
+        self.assertEqual((len(model.faces), len(set(found.values()))), (size ** 2 + 1, 2))
+
     def test_simple_paths(self):
         square = [(0, 0), (4, 0), (4, 4), (0, 4)]
         for name, path, simple in (

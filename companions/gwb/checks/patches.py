@@ -14,7 +14,7 @@ from ..geometry.vectors import Vector
 from .simple_paths import is_simple
 
 # Outlines of more faces aren't tried; each that crosses itself makes those tried after it smaller.
-_MOST_FACES = 8192
+_MOST_FACES = 262_144
 
 
 class Patches(NamedTuple):
