@@ -328,8 +328,9 @@ private:
         const Pieces pieces = cut_pieces();
         std::vector<std::array<std::vector<std::size_t>, 2>> beside;
         for (const auto &[ends, parts] : pieces) {
-            beside.push_back({left_over(ends, parts, true), left_over(ends, parts, false)});
-            join(beside.back()[0], beside.back()[1]);
+            std::vector<std::size_t> left = left_over(ends, parts, true), right = left_over(ends, parts, false);
+            join(left, right);
+            beside.push_back({std::move(left), std::move(right)});
         }
         auto sides = beside.begin();
         for (const auto &[ends, parts] : pieces) {
