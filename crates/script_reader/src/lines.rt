@@ -5,6 +5,7 @@ ghost use Rattle.script_reader.specs.declared.lines.Ending.TheVariants.{Over};
 use super::buffer::{Buffer, LINE_LIMIT};
 use crate::streams::{Inlet, Outlet};
 use std::alloc::{AllocError, Global};
+use std::io::{Sink, sink};
 
 /// A script has at most so many bytes.
 const SCRIPT_LIMIT: u64 = 67_108_864;
@@ -153,15 +154,14 @@ impl<R> Lines<R> {
         }
     }
 
-    /// The next line, or what comes in its place. After the end, a failed read or a script that is too long it
-    /// answers the same again and reads nothing. It takes no memory. It reads only if no newline is in the buffer.
-    pub fn next_line<W: Outlet>(&mut self, writer: &W) -> NextLine<'_>
+    /// The next line, or what comes in its place, where nothing is written that a read would have to wait for. After the end, a failed read or a
+    /// script that is too long it answers the same again and reads nothing. It takes no memory. It reads only if no newline is in the buffer.
+    pub fn next_line(&mut self) -> NextLine<'_>
     where
-        R: Inlet<W>,
-        requires handed_on { has_newline (unread_of self.old) ≡ false → Reaches (W.reached writer.now) (W.contents writer.now) }
+        R: Inlet<Sink>,
         ensures* { sem 𝓛 (Rests (the_row R.row) self.entry (λ new. Gives R.remaining self.old new result)) }
     {
-        match self.advance(writer) {
+        match self.advance(&sink()) {
             Found::Line => NextLine::Line(self.buffer.line()),
             Found::Long => NextLine::Long,
             Found::End => NextLine::End,

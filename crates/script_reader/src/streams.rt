@@ -5,7 +5,7 @@ ghost use Rattle.std.specs.Io.Buffered.{writer_inner};
 ghost use Rattle.std.specs.Io.KnownBytes.{Keeps, ReadConsumes};
 ghost use Rattle.script_reader.specs.Reaching.{Reaches};
 
-use std::io::{self, BufWriter, Read, Write};
+use std::io::{self, BufWriter, Read, Sink, Write};
 
 /// A writer that may hold bytes back before it hands them on, and knows which it has handed on.
 pub trait Outlet: Write {
@@ -22,6 +22,13 @@ pub trait Outlet: Write {
 impl Outlet for Vec<u8> {
     ghost reached = { λ v. Some v.items };
 
+    fn hand_on(&mut self) -> io::Result<()> {
+        Ok(())
+    }
+}
+
+/// A sink keeps nothing back.
+impl Outlet for Sink {
     fn hand_on(&mut self) -> io::Result<()> {
         Ok(())
     }
