@@ -1,6 +1,6 @@
 -- A call of a session or a draft is one of a history.
 use Rattle.std.proofs.Common.{◌≡◌, inl, inr, Option, List, [], ◌∷◌, refl, sym, ap, subst, ◌∙◌}
-use Rattle.call_lists.specs.Common.{Call, Change, Command, Commit, DraftJournal, DraftState, Drafting, Give, IsCall, IsWhole, Machine, Mark, MayLack, Op, Open, Refusal, Session, Stage, Tells, TellsDraft, Told, accepted, commit, draft_step, held, made, open_draft, plain, refusal_of, tried, unless}
+use Rattle.call_lists.specs.Common.{Call, Change, Command, Commit, DraftJournal, DraftState, Drafting, Give, IsCall, IsWhole, Machine, Mark, MayLack, Op, Open, Refusal, Session, Stage, TakesSteps, Tells, TellsDraft, Told, accepted, commit, draft_step, held, made, open_draft, plain, refusal_of, tried, unless}
 use Rattle.euler_laws.specs.Laws.{AreAccepted, effects}
 use Rattle.undo_journal.specs.Histories as histories
 use Rattle.undo_journal.specs.Journal.{IsFurther}
@@ -13,8 +13,8 @@ use Rattle.call_lists.specs.Laws.{machine_of}
 
 -- whatever a draft is told, its session stays
 pub session_stays : (d e : DraftJournal) (c : Command) (a : Told) → TellsDraft d c a e → e.session ≡ d.session
-session_stays d e (Change c) a h = elim (ended (refusal_of d.model c) (MayLack d.model c) (e ≡ d) ((e.model ≡ made d.model c) × IsFurther d e) a h) [
-  | inl x ↦ further_session d e x.2.1
+session_stays d e (Change c) a h = elim (ended (refusal_of d.model c) (MayLack d.model c) (e ≡ d) ((e.model ≡ made d.model c) × TakesSteps d c e) a h) [
+  | inl x ↦ further_session d e x.2.1.0
   | inr (inl r) ↦ ap (λ (x : DraftJournal). x.session) r.3
   | inr (inr m) ↦ ap (λ (x : DraftJournal). x.session) m.1
 ]

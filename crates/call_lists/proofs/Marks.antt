@@ -5,7 +5,7 @@ use Rattle.euler_operators.specs.Common.{Model}
 use Rattle.euler_operators.specs.declared.Op.{Op}
 use Rattle.euler_laws.specs.Laws.{AreAccepted, effects}
 use Rattle.euler_laws.proofs.Common.{AreAccepted-front, effects-append}
-use Rattle.call_lists.specs.Common.{Back, Call, Change, Command, Done, DraftJournal, Drafting, Give, Mark, MayLack, NoDraft, Open, OpenDraft, Session, Stage, Tells, TellsDraft, Told, held, made, refusal_of}
+use Rattle.call_lists.specs.Common.{Back, Call, Change, Command, Done, DraftJournal, Drafting, Give, Mark, MayLack, NoDraft, Open, OpenDraft, Session, Stage, TakesSteps, Tells, TellsDraft, Told, held, made, refusal_of}
 use Rattle.undo_journal.specs.Journal.{IsFurther, IsMark, back_at, each_inverse, new_draft}
 use Rattle.undo_journal.proofs.Marks.{each-length, each-take, further_none, further_same, further_on, back_at_mark}
 use Rattle.commands.specs.declared.command.Told.TheVariants as told
@@ -44,8 +44,8 @@ further_in n m d e mark further le =
 
 -- whatever a draft is told, it goes further
 pub draft_goes : (d e : DraftJournal) (c : Command) (a : Told) → TellsDraft d c a e → IsFurther d e
-draft_goes d e (Change c) a h = elim (ended (refusal_of d.model c) (MayLack d.model c) (e ≡ d) ((e.model ≡ made d.model c) × IsFurther d e) a h) [
-  | inl x ↦ x.2.1
+draft_goes d e (Change c) a h = elim (ended (refusal_of d.model c) (MayLack d.model c) (e ≡ d) ((e.model ≡ made d.model c) × TakesSteps d c e) a h) [
+  | inl x ↦ x.2.1.0
   | inr (inl r) ↦ further_same d e r.3
   | inr (inr m) ↦ further_same d e m.1
 ]

@@ -1,7 +1,7 @@
 -- The words of the crates below that the files here and promises cite, passed on from one place. Declares nothing.
 pub use Rattle.commands.specs.Calls.{IsCall}
 pub use Rattle.commands.specs.Changes.{MayLack, made, refusal_of}
-pub use Rattle.commands.specs.Telling.{IsWhole, Settled, Tells, TellsDraft, TellsSession, asked, shown, steps_in}
+pub use Rattle.commands.specs.Telling.{IsWhole, Settled, TakesSteps, Tells, TellsDraft, TellsSession, asked, shown, steps_in}
 pub use Rattle.commands.specs.declared.command.Call.TheVariants.{Abandon, Back, Commit, Give, Mark, Open}
 pub use Rattle.commands.specs.declared.command.Call.{Call}
 pub use Rattle.commands.specs.declared.command.Command.TheVariants.{Ask, Change, Redo, Undo}

@@ -2,3 +2,4 @@ pub mod Settling
 pub mod Kept
 pub mod Calls
 mod Knowing
+mod Steps

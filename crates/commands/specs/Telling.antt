@@ -1,13 +1,13 @@
 -- How a call of a session, or of a draft of its next command, is answered, and to what it leads.
-use Rattle.std.specs.Prelude.{◌≡◌, ◌⊎◌, ℕ, length, Option, Some, None, Result, Ok, Err}
+use Rattle.std.specs.Prelude.{◌≡◌, ◌⊎◌, ℕ, length, Option, Some, None, IfSome, Result, Ok, Err}
 use Rattle.solid_measure.specs.Measure.{answer, face_refusal, solid_refusal, plane_of, is_flat, six_volume, counts}
-use Rattle.commands.specs.Common.{Call, Command, Done, DraftJournal, Drafting, Failure, InDraft, IsConsistent, IsFurther, IsMark, IsRecorded, Journal, Memory, Model, NoDraft, OpenDraft, Question, Refusal, Refused, Session, Sound, Stage, Told, accepted, after_commit, after_redo, after_undo, ahead, back_at, depth, held, new_draft, redo_refusal, undo_refusal}
+use Rattle.commands.specs.Common.{Call, Change, Command, Done, DraftJournal, Drafting, Failure, InDraft, IsConsistent, IsFurther, IsMark, IsRecorded, Journal, Memory, Model, NoDraft, OpenDraft, Question, Refusal, Refused, Session, Sound, Stage, Told, accepted, after_commit, after_redo, after_steps, after_undo, ahead, back_at, depth, held, new_draft, record_of, recorded, redo_refusal, undo_refusal}
 use Rattle.commands.specs.declared.command.Call.TheVariants as call
 use Rattle.commands.specs.declared.command.Command.TheVariants as command
 use Rattle.undo_journal.specs.declared.session.Failure.TheVariants as failure
 use Rattle.commands.specs.declared.command.Question.TheVariants as question
 use Rattle.commands.specs.declared.command.Told.TheVariants as told
-use Rattle.commands.specs.Changes.{refusal_of, made, MayLack}
+use Rattle.commands.specs.Changes.{refusal_of, made, operators_of, MayLack}
 
 -- the answer to a change that ended with this result
 abbrev pub told_of : Result (Unit {0}) Failure → Told
@@ -40,17 +40,25 @@ Settled o Lacks Stays Goes (Refused r) = (o ≡ Some r) × Stays
 Settled o Lacks Stays Goes Memory = Lacks × Stays
 Settled o Lacks Stays Goes a = ⊥
 
+-- an accepted change leaves one record: that of its operators, where they are told
+abbrev pub LeavesRecord : Journal → Change → Journal → Type 0
+LeavesRecord s c t = IsRecorded s t × IfSome (operators_of (held s.machine) c) (λ ops. t.records ≡ recorded s (record_of (held s.machine) ops))
+
+-- in a draft it takes further steps: its operators, where they are told
+abbrev pub TakesSteps : DraftJournal → Change → DraftJournal → Type 0
+TakesSteps d c e = IsFurther d e × IfSome (operators_of d.model c) (λ ops. e ≡ after_steps d ops)
+
 -- a session may give this answer to a command and become t; a command that isn't done leaves the session as it was, with its records
 abbrev pub TellsSession : Journal → Command → Told → Journal → Type 0
 TellsSession s (command.Change c) a t =
-    Settled (refusal_of (held s.machine) c) (MayLack (held s.machine) c) (t ≡ s) ((t.machine ≡ accepted s.machine (made (held s.machine) c)) × IsRecorded s t) a
+    Settled (refusal_of (held s.machine) c) (MayLack (held s.machine) c) (t ≡ s) ((t.machine ≡ accepted s.machine (made (held s.machine) c)) × LeavesRecord s c t) a
 TellsSession s (command.Ask q) a t = (a ≡ asked (held s.machine) q) × (t ≡ s)
 TellsSession s command.Undo a t = Settled (undo_refusal s.machine) ⊥ (t ≡ s) (t ≡ after_undo s) a
 TellsSession s command.Redo a t = Settled (redo_refusal s.machine) ⊥ (t ≡ s) (t ≡ after_redo s) a
 
 -- a draft may give this answer to a command and become e; a change is made as further steps; a draft has no undo and no redo
 abbrev pub TellsDraft : DraftJournal → Command → Told → DraftJournal → Type 0
-TellsDraft d (command.Change c) a e = Settled (refusal_of d.model c) (MayLack d.model c) (e ≡ d) ((e.model ≡ made d.model c) × IsFurther d e) a
+TellsDraft d (command.Change c) a e = Settled (refusal_of d.model c) (MayLack d.model c) (e ≡ d) ((e.model ≡ made d.model c) × TakesSteps d c e) a
 TellsDraft d (command.Ask q) a e = (a ≡ asked d.model q) × (e ≡ d)
 TellsDraft d command.Undo a e = (a ≡ InDraft) × (e ≡ d)
 TellsDraft d command.Redo a e = (a ≡ InDraft) × (e ≡ d)

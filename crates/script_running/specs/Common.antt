@@ -1,7 +1,7 @@
 -- The words of the crates below that the files here cite, passed on from one place. Declares nothing.
 pub use Rattle.commands.specs.Calls.{IsCall}
-pub use Rattle.commands.specs.Changes.{made, refusal_of}
-pub use Rattle.commands.specs.Telling.{Settled, TellsSession, asked, told_of, told_of_move, value_or_refusal}
+pub use Rattle.commands.specs.Changes.{made, operators_of, refusal_of}
+pub use Rattle.commands.specs.Telling.{LeavesRecord, Settled, TellsSession, asked, told_of, told_of_move, value_or_refusal}
 pub use Rattle.commands.specs.declared.command.Call.TheVariants.{Give}
 pub use Rattle.commands.specs.declared.command.Command.TheVariants.{Ask, Change, Redo, Undo}
 pub use Rattle.commands.specs.declared.command.Command.{Command}
@@ -33,5 +33,5 @@ unfoldable pub use Rattle.solid_listing.specs.Listing.{listing}
 unfoldable pub use Rattle.solid_listing.specs.Replies.{reply_text}
 pub use Rattle.solid_listing.specs.Writing.{Gathers, Outgoing, Puts, Stops, Tells, outgoing}
 pub use Rattle.undo_journal.specs.Histories.{Call, IsConsistent, after_call, after_calls, reached}
-pub use Rattle.undo_journal.specs.Journal.{IsRecorded, Journal, after_redo, after_undo, new_journal, recorded}
+pub use Rattle.undo_journal.specs.Journal.{IsRecorded, Journal, after_redo, after_undo, new_journal, record_of, recorded}
 pub use Rattle.undo_journal.specs.Machine.{Machine, accepted, held, redo, redo_refusal, start, undo, undo_refusal}

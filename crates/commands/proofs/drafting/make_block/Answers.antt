@@ -13,4 +13,4 @@ returns c =
     let r = c.block_in.result in let e = c.block_in.ensures in
     at_sizes (λ x y z. TellsDraft c.args.draft.now (command.Change (change.Block c.args.solid c.args.corner x y z)) (told_of r) c.block_in.new.draft)
     _ _ _ _ _ _ (to_z-of_z w64 c.args.dx c.ranges.dx) (to_z-of_z w64 c.args.dy c.ranges.dy) (to_z-of_z w64 c.args.dz c.ranges.dz)
-    (settled_exactly _ _ _ _ r e.ok (on_ok_weaker r (λ _. e.further) e.ok) e.refused e.err)
+    (settled_exactly _ _ _ _ r e.ok (on_ok_weaker r (λ steps. (e.further, steps)) e.steps) e.refused e.err)
