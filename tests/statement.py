@@ -28,16 +28,17 @@ LAWS = 'script_laws/src/lib.rt'
 # What a law over bytes speaks of by its name alone: the law holds of it as it is, and its page doesn't look into it.
 BY_NAME = frozenset({'Rattle.script_laws.specs.Scripts.answers', 'Rattle.script_running.specs.Outs.Outs', 'Rattle.undo_journal.specs.Journal.new_journal',
                      'Rattle.script_running.specs.Output.output_of', 'Rattle.script_running.specs.Output.summary_of'})
-# When a larger command is refused, and what it makes: the same for lists of calls and for scripts.
+# When a larger command is refused, what it makes, and by which operators: the same for lists of calls and for scripts.
 LARGER = ('shapes.specs.Lamina.lamina_conditions', 'shapes.specs.Lamina.lamina_model', 'shapes.specs.Block.block_conditions', 'shapes.specs.Block.block_model',
           'shapes.specs.Prism.prism_conditions', 'shapes.specs.Prism.prism_model', 'shapes.specs.glue.Glue.early_glue_conditions',
           'shapes.specs.glue.Glue.glue_conditions', 'shapes.specs.glue.Glue.glue_model', 'shapes.specs.split.Split.early_split_conditions',
-          'shapes.specs.split.Split.split_conditions', 'shapes.specs.split.Split.split_model')
+          'shapes.specs.split.Split.split_conditions', 'shapes.specs.split.Split.split_model', 'sweeps_laws.specs.lamina.Path.lamina_operators',
+          'sweeps_laws.specs.block.BlockOps.block_operators', 'sweeps_laws.specs.prism.SweepOps.sweep_ops', 'shapes.specs.glue.GlueOps.glue_ops')
 SHARED = frozenset(f'Rattle.{name}' for name in LARGER)
 SHARED_PAGE = 'larger_commands.md'
 SHARED_TITLE = 'Larger commands'
-SHARED_TEXT = """When a lamina, a block, a sweep, a glue and a split are refused, by which of these conditions before memory is asked for, and what models they
-make: the definitions that the contracts of `make_all` and `run` take by name."""
+SHARED_TEXT = """When a lamina, a block, a sweep, a glue and a split are refused, by which of these conditions before memory is asked for, what models they make, and
+by which operators (of a split these aren't told): the definitions that the contracts of `make_all` and `run` take by name."""
 WIDTH = 150
 # What the standard library says of bytes that are read and written, and the words of it that contracts of runs use.
 KNOWN_BYTES = 'rattle/std/specs/Io/KnownBytes.antt'
