@@ -5,7 +5,7 @@
 
 A quotation is a block whose fence says where it is from, as ```rust low_euler/src/applying.rt apply``` (a function's head with its whole
 contract, each `requires` too) or ```antt euler_laws/specs/Laws.antt InversesUndo``` (the clauses of definitions, without their types, and
-whole records); more names follow, and more files with names of theirs.
+whole records and data types); more names follow, and more files with names of theirs.
 A block with no such words is no quotation, and is counted as wrong: the page has none. The last line counts the quotations.
 """
 import re
@@ -38,7 +38,7 @@ def clauses_of(lines: List[str], name: str) -> List[str]:
     found: List[str] = []
     goes_on = False
     for line in (line for line in lines if not line.startswith('--')):
-        goes_on = line.startswith((f'{name} ', f'pub record {name} ')) or (goes_on and line.startswith(' '))
+        goes_on = line.startswith((f'{name} ', f'pub record {name} ', f'pub data {name} ')) or (goes_on and line.startswith(' '))
         if goes_on:
             found.append(line)
     if not found:
