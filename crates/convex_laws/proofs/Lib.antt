@@ -19,3 +19,4 @@ mod Caps
 mod Parts
 mod Traces
 mod Strict
+mod Built

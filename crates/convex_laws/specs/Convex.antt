@@ -1,8 +1,9 @@
 -- Solids that are convex: no vertex of the solid lies above the plane of one of its faces. Strictly convex: at each edge the two faces bend, too.
-use Rattle.std.specs.Prelude.{◌≡◌, ◌≢◌, ℕ, ℤ, pos, int_lt, true, false}
+use Rattle.std.specs.Prelude.{◌≡◌, ◌≢◌, ℕ, ℤ, pos, int_lt, true, false, None}
 use Rattle.euler_operators.specs.Common.{Plane, Point, IsIn, cross, dot, is_above, is_below, mate, Model, face_at, point_of, solid_of, Sound, Has, HasHalf, lists}
 use Rattle.shapes.specs.Common.{boundary, corners, finish, is_flat, normal, plane_of, six_volume, start, towards}
-use Rattle.undo_journal.specs.Machine.{Machine, held}
+use Rattle.undo_journal.specs.Machine as machine
+use Rattle.undo_journal.specs.Machine.{Machine, held, undo, undo_refusal, redo, redo_refusal}
 use Rattle.plane_split.specs.SplitModels.{IsSplit}
 use Rattle.command_laws.specs.Commands.{IsBlock}
 
@@ -92,3 +93,19 @@ SplitsKeepStrictlyConvex = (before after : Machine) (s : ℕ) (p : Plane) (t : �
 abbrev pub PartsOfConvexSolidsHaveVolume : Type 0
 PartsOfConvexSolidsHaveVolume = (before after : Machine) (s : ℕ) (p : Plane) (t : ℕ) → Sound (held before) → IsSplit before after s p t → IsStrictlyConvex (held before) s →
     (int_lt (pos 0) (six_volume (held after) s) ≡ true) × (int_lt (pos 0) (six_volume (held after) t) ≡ true)
+
+-- a machine to which accepted blocks, splits, undos and redos lead from the first machine, in any order and number
+pub data IsBuilt : Machine → Type 0 where
+  started : IsBuilt machine.start
+  block_made : (before after : Machine) (s : ℕ) (p : Point) (dx dy dz : ℤ) → IsBuilt before → IsBlock before after s p dx dy dz → IsBuilt after
+  solid_split : (before after : Machine) (s : ℕ) (p : Plane) (t : ℕ) → IsBuilt before → IsSplit before after s p t → IsBuilt after
+  undone : (before : Machine) → IsBuilt before → undo_refusal before ≡ None → IsBuilt (undo before)
+  redone : (before : Machine) → IsBuilt before → redo_refusal before ≡ None → IsBuilt (redo before)
+
+-- then each solid that it holds is strictly convex
+abbrev pub BuiltAreConvex : Type 0
+BuiltAreConvex = (m : Machine) → IsBuilt m → (s : ℕ) → Has (held m).solids s → IsStrictlyConvex (held m) s
+
+-- and has a volume, greater than 0
+abbrev pub BuiltHaveVolume : Type 0
+BuiltHaveVolume = (m : Machine) → IsBuilt m → (s : ℕ) → Has (held m).solids s → int_lt (pos 0) (six_volume (held m) s) ≡ true

@@ -7,9 +7,10 @@
 //! two faces bend away from each other. Each other solid that was convex before a block or a split still is, and strictly so if it was. Each strictly
 //! convex solid of a sound model has a volume greater than 0. For any solid that is split, convex or not: each half-space that holds the solid holds
 //! both parts, and the parts lie on the two sides of the plane. If the half-edges of a face go round a vector, the face's normal points along it. Both
-//! parts of a strictly convex solid are strictly convex, and so have a volume.
+//! parts of a strictly convex solid are strictly convex, and so have a volume. So whatever blocks, splits, undos and redos make, from the empty model on,
+//! has only strictly convex solids, each with a volume.
 
-ghost use Rattle.convex_laws.specs.Convex.{BlockKeepsConvex, BlockKeepsStrictlyConvex, BlocksAreConvex, ConvexSolidsHaveVolume, PartsOfConvexSolidsHaveVolume, RoundLooksAlong, SplitLeavesConvex, SplitLeavesStrictlyConvex, SplitPartsLieApart, SplitsKeepStrictlyConvex, SplitsStayBelow};
+ghost use Rattle.convex_laws.specs.Convex.{BlockKeepsConvex, BlockKeepsStrictlyConvex, BlocksAreConvex, BuiltAreConvex, BuiltHaveVolume, ConvexSolidsHaveVolume, PartsOfConvexSolidsHaveVolume, RoundLooksAlong, SplitLeavesConvex, SplitLeavesStrictlyConvex, SplitPartsLieApart, SplitsKeepStrictlyConvex, SplitsStayBelow};
 
 /// A new block is strictly convex: each face is flat, no vertex of the solid lies above the plane of one of its faces, and at each edge the two
 /// faces bend away from each other, so each half-edge points along the product of its face's normal and that of its mate's face.
@@ -49,4 +50,10 @@ pub fn round_looks_along()
 pub fn splits_keep_strictly_convex()
     ensures parts { SplitsKeepStrictlyConvex }
     ensures volumes { PartsOfConvexSolidsHaveVolume }
+{}
+
+/// Whatever accepted blocks, splits, undos and redos make, in any order and number, has only strictly convex solids, and each has a volume greater than 0.
+pub fn built_are_convex()
+    ensures solids { BuiltAreConvex }
+    ensures volumes { BuiltHaveVolume }
 {}
