@@ -22,6 +22,16 @@ is_low n = grind (arith, ints)
 pub low_sum : (x y : ℤ) → IsLow x → IsLow y → IsLow (x +ℤ y)
 low_sum x y a b = grind (arith, ints)
 
+-- a sum isn't negative where no part is, and is positive where a part is, besides
+pub no_less : (x y : ℤ) → int_lt x (pos 0) ≡ false → int_lt y (pos 0) ≡ false → int_lt (x +ℤ y) (pos 0) ≡ false
+no_less x y a b = grind (arith, ints)
+
+pub first_more : (x y : ℤ) → int_lt (pos 0) x ≡ true → int_lt y (pos 0) ≡ false → int_lt (pos 0) (x +ℤ y) ≡ true
+first_more x y a b = grind (arith, ints)
+
+pub rest_more : (x y : ℤ) → int_lt x (pos 0) ≡ false → int_lt (pos 0) y ≡ true → int_lt (pos 0) (x +ℤ y) ≡ true
+rest_more x y a b = grind (arith, ints)
+
 pub product_part : (m n : ℕ) → pos m *ℤ neg_ℤ (pos n) ≡ neg_ℤ (pos (m * n))
 product_part m n = product_back (pos m) (pos n) where
   product_back : (x w : ℤ) → x *ℤ neg_ℤ w ≡ neg_ℤ (x *ℤ w)

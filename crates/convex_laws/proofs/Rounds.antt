@@ -12,7 +12,7 @@ use Rattle.shapes.proofs.measures.FlatFaces.{loops_flat}
 use Rattle.shapes.proofs.measures.Products.{cross_across}
 use Rattle.split_drawing_laws.proofs.crossings.Premises.{item_in_face}
 use Rattle.convex_laws.specs.Convex.{swept_from}
-use Rattle.convex_laws.proofs.Levels.{IsLow, dot_scaled, low_sum, low_times}
+use Rattle.convex_laws.proofs.Levels.{IsLow, dot_scaled, first_more, low_sum, low_times, no_less, rest_more}
 use Rattle.convex_laws.proofs.Planes.{low_step}
 use Rattle.convex_laws.proofs.Seen.{closed_seen, dot_more, face_seen, seen}
 use Rattle.convex_laws.proofs.Turns.{IsHigh, either_sign, exchanged_product, has_length, low_factor, low_product, same_end, swept_over, weighed, high_factor, high_times}
@@ -30,15 +30,6 @@ pub in_boundary : (M : Model) → Sound M → (h : ℕ) → HasHalf M h → IsIn
 in_boundary M sound h there = item_in_face M h (loop_of M h) (loop_there M sound h there) (cycle_there M sound h there)
 
 -- ---- sums of what half-edges sweep over
-
-no_less : (a b : ℤ) → int_lt a (pos 0) ≡ false → int_lt b (pos 0) ≡ false → int_lt (a +ℤ b) (pos 0) ≡ false
-no_less a b e f = grind (arith, ints)
-
-first_more : (a b : ℤ) → IsHigh a → int_lt b (pos 0) ≡ false → IsHigh (a +ℤ b)
-first_more a b e f = grind (arith, ints)
-
-rest_more : (a b : ℤ) → int_lt a (pos 0) ≡ false → IsHigh b → IsHigh (a +ℤ b)
-rest_more a b e f = grind (arith, ints)
 
 weighed_sum : (a b x y u v : ℤ) → (a *ℤ x +ℤ b *ℤ y) +ℤ (a *ℤ u +ℤ b *ℤ v) ≡ a *ℤ (x +ℤ u) +ℤ b *ℤ (y +ℤ v)
 weighed_sum a b x y u v = rw (dif-parts a, dif-parts b, dif-parts x, dif-parts y, dif-parts u, dif-parts v) (simp difs (same_dif _ _ _ _ (omega arith)))

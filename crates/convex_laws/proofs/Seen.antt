@@ -7,6 +7,7 @@ use Rattle.euler_operators.proofs.Common.{IsIn_head, IsIn_rest, dif-parts, difs,
 use Rattle.shapes.specs.Common.{area, boundary, finish, items_in, loops_of, normal, start, towards}
 use Rattle.shapes.proofs.Common.{area-append, IsClosed, IsPathTo, begins, loop_closed}
 use Rattle.convex_laws.specs.Convex.{RoundLooksAlong, swept_from}
+use Rattle.convex_laws.proofs.Levels.{first_more, no_less, rest_more}
 
 step_part : (sy sz fy fz qy qz ey ez r : ℤ) → (sy *ℤ fz -ℤ sz *ℤ fy) +ℤ (r +ℤ (qy *ℤ (ez -ℤ fz) -ℤ qz *ℤ (ey -ℤ fy)))
     ≡ (((sy -ℤ qy) *ℤ (fz -ℤ qz) -ℤ (sz -ℤ qz) *ℤ (fy -ℤ qy)) +ℤ r) +ℤ (qy *ℤ (ez -ℤ sz) -ℤ qz *ℤ (ey -ℤ sy))
@@ -78,24 +79,15 @@ module _ (M : Model) (q : Point) where
       zero_part : (a b c z : ℤ) → z ≡ pos 0 → a *ℤ z +ℤ b *ℤ z +ℤ c *ℤ z ≡ pos 0
       zero_part a b c z e = rw (dif-parts a, dif-parts b, dif-parts c, e ∙ number 0, number 0) (simp difs (same_dif _ _ _ _ (omega arith)))
 
-    both_on : (a b : ℤ) → int_lt a (pos 0) ≡ false → int_lt b (pos 0) ≡ false → int_lt (a +ℤ b) (pos 0) ≡ false
-    both_on a b e f = grind (arith, ints)
-
-    first_on : (a b : ℤ) → int_lt (pos 0) a ≡ true → int_lt b (pos 0) ≡ false → int_lt (pos 0) (a +ℤ b) ≡ true
-    first_on a b e f = grind (arith, ints)
-
-    rest_on : (a b : ℤ) → int_lt a (pos 0) ≡ false → int_lt (pos 0) b ≡ true → int_lt (pos 0) (a +ℤ b) ≡ true
-    rest_on a b e f = grind (arith, ints)
-
     none_back : (hs : List ℕ) → ((h : ℕ) → IsIn h hs → int_lt (dot n (swept_from M q h)) (pos 0) ≡ false) → int_lt (dot n (seen hs)) (pos 0) ≡ false
     none_back [] each = none_dot (pos 0) refl
-    none_back (h ∷ hs) each = ap (λ x. int_lt x (pos 0)) (dot_more (swept_from M q h) (seen hs)) ∙ both_on (dot n (swept_from M q h)) (dot n (seen hs)) (each h (IsIn_head h hs)) (none_back hs (λ x i. each x (IsIn_rest x h hs i)))
+    none_back (h ∷ hs) each = ap (λ x. int_lt x (pos 0)) (dot_more (swept_from M q h) (seen hs)) ∙ no_less (dot n (swept_from M q h)) (dot n (seen hs)) (each h (IsIn_head h hs)) (none_back hs (λ x i. each x (IsIn_rest x h hs i)))
 
     goes_on : (hs : List ℕ) → ((h : ℕ) → IsIn h hs → int_lt (dot n (swept_from M q h)) (pos 0) ≡ false) → (x : ℕ) → IsIn x hs → int_lt (pos 0) (dot n (swept_from M q x)) ≡ true → int_lt (pos 0) (dot n (seen hs)) ≡ true
     goes_on [] each x i on = absurd (omega (arith, i))
     goes_on (h ∷ hs) each x i on = ap (int_lt (pos 0)) (dot_more (swept_from M q h) (seen hs)) ∙ elim (eqb_tells x h) [
-      | inl e ↦ first_on (dot n (swept_from M q h)) (dot n (seen hs)) (ap (λ y. int_lt (pos 0) (dot n (swept_from M q y))) (sym e.1) ∙ on) (none_back hs (λ y j. each y (IsIn_rest y h hs j)))
-      | inr e ↦ rest_on (dot n (swept_from M q h)) (dot n (seen hs)) (each h (IsIn_head h hs)) (goes_on hs (λ y j. each y (IsIn_rest y h hs j)) x (omega (arith, i, tick_other x h e.1)) on)
+      | inl e ↦ first_more (dot n (swept_from M q h)) (dot n (seen hs)) (ap (λ y. int_lt (pos 0) (dot n (swept_from M q y))) (sym e.1) ∙ on) (none_back hs (λ y j. each y (IsIn_rest y h hs j)))
+      | inr e ↦ rest_more (dot n (swept_from M q h)) (dot n (seen hs)) (each h (IsIn_head h hs)) (goes_on hs (λ y j. each y (IsIn_rest y h hs j)) x (omega (arith, i, tick_other x h e.1)) on)
     ]
 
 pub round_looks_along : RoundLooksAlong

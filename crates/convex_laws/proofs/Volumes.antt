@@ -12,6 +12,7 @@ use Rattle.shapes.proofs.Common.{anchor_on, face_listed, face_of_loop, face_told
 use Rattle.solid_measure_laws.specs.Models.{normals_in}
 use Rattle.solid_measure_laws.proofs.Moved.{normals_close}
 use Rattle.convex_laws.specs.Convex.{ConvexSolidsHaveVolume, IsStrictlyConvex, IsVertexOf}
+use Rattle.convex_laws.proofs.Levels.{first_more, no_less, rest_more}
 
 -- ---- the six volumes, seen from a point
 
@@ -59,15 +60,6 @@ module _ (M : Model) (q : Point) where
 
   not_low : (d : ℤ) → int_lt (pos 0) (neg_ℤ d) ≡ false → int_lt d (pos 0) ≡ false
   not_low d e = grind (arith, ints)
-
-  no_less : (a b : ℤ) → int_lt a (pos 0) ≡ false → int_lt b (pos 0) ≡ false → int_lt (a +ℤ b) (pos 0) ≡ false
-  no_less a b e f = grind (arith, ints)
-
-  first_more : (a b : ℤ) → int_lt (pos 0) a ≡ true → int_lt b (pos 0) ≡ false → int_lt (pos 0) (a +ℤ b) ≡ true
-  first_more a b e f = grind (arith, ints)
-
-  rest_more : (a b : ℤ) → int_lt a (pos 0) ≡ false → int_lt (pos 0) b ≡ true → int_lt (pos 0) (a +ℤ b) ≡ true
-  rest_more a b e f = grind (arith, ints)
 
   some_depth : (d : ℤ) → int_lt d (pos 0) ≡ false → d ≢ pos 0 → int_lt (pos 0) d ≡ true
   some_depth d e ne = grind (arith, ints)
