@@ -275,7 +275,8 @@ class Refused(Reads):
     def test_shapes_that_bound_no_solid(self):
         text = block()
         inside = text.replace(f"{SHAPE}('',(", f"{SHAPE}('',(#900,")
-        self.refuse('the shape has what is not understood: 1 SHELL_BASED_SURFACE_MODEL (#900)', with_lines(inside, "#900=SHELL_BASED_SURFACE_MODEL('',())"))
+        self.refuse('the shape has what is not understood: 1 FACE_BASED_SURFACE_MODEL (#900)', with_lines(inside, "#900=FACE_BASED_SURFACE_MODEL('',())"))
+        self.refuse('the SHELL_BASED_SURFACE_MODEL #900 has no shell', with_lines(inside, "#900=SHELL_BASED_SURFACE_MODEL('',())"))
         self.refuse('there is no solid in the STEP file', text.replace('MANIFOLD_SOLID_BREP(', 'SHELL_BASED_SURFACE_MODEL(').replace(SHAPE, 'X'))
         self.refuse('no closed shell but OPEN_SHELL', text.replace('=CLOSED_SHELL', '=OPEN_SHELL'))
 
@@ -286,6 +287,90 @@ class Refused(Reads):
 
     def test_what_is_named_and_is_not_there(self):
         self.refuse('has no #9999', re.sub(r"VERTEX_POINT\('vertex 1',#\d+\)", "VERTEX_POINT('',#9999)", block()))
+
+
+def as_surfaces(text):
+    """The text with its solids as surface models of one shell each."""
+    return re.sub(r"MANIFOLD_SOLID_BREP\('([^']*)',(#\d+)\)", r"SHELL_BASED_SURFACE_MODEL('\1',(\2))", text).replace(SHAPE, 'MANIFOLD_SURFACE_SHAPE_REPRESENTATION')
+
+
+def two_shells(low, high, text=None):
+    """A block of ten, and one surface model that has its shell and that of another block."""
+    first = as_surfaces(text or block((10, 10, 10)))
+    other = step_text(model_in(listing(*box(low, high)))).split('DATA;')[1].split('ENDSEC;')[0]
+    other = re.sub(r'#(\d+)', lambda found: f'#{int(found[1]) + 5000}', other)
+    held = (line.rstrip(';') for line in other.splitlines() if line and not any(word in line for word in ('REPRESENTATION', 'PRODUCT', 'SOLID_BREP')))
+    shells = f'{entity(first, "CLOSED_SHELL")},{entity(other, "CLOSED_SHELL")}'
+    return with_lines(re.sub(r"(SHELL_BASED_SURFACE_MODEL\('',\()#\d+", rf'\g<1>{shells}', first), *held)
+
+
+class SurfaceModels(Reads):
+    """Shells that bound solids, though the file holds them as surfaces."""
+
+    def volumes(self, text, **words):
+        model = self.read(text, **words).model
+        return [six_volume(model, model.faces_of(solid)) for solid in model.solids]
+
+    def test_a_closed_shell(self):
+        solid, text = self.read(block()), as_surfaces(block())
+        for held in (text, text.replace('=CLOSED_SHELL(', '=OPEN_SHELL(')):
+            found = self.read(held)
+            self.assertEqual((found.model, found.looks, found.wrong), (solid.model, {('solid', 1): Appearance('Lid')}, []))
+        self.assertEqual(self.read(text.replace("MODEL(''", "MODEL('Box'")).looks, {('solid', 1): Appearance('Box')})
+        self.assertEqual(self.boxes(as_surfaces(block((10, 20, 30))).replace(MILLIMETRE, INCH)), [((0, 0, 0), (254, 508, 762))])
+        self.assertEqual(self.boxes(as_surfaces(assembled([(0, 0, 0)], [(10, 20, 30)]))), [((0, 0, 0), (4, 5, 6)), ((10, 20, 30), (14, 25, 36))])
+
+    def test_colours(self):
+        text = as_surfaces(block())
+        for kind in ('SHELL_BASED_SURFACE_MODEL', 'CLOSED_SHELL'):
+            found = self.read(Looks.styled(self, entity(text, kind), text)).looks
+            self.assertEqual(found, {('solid', 1): Appearance('Lid', (255, 128, 0))}, kind)
+
+    def test_a_shell_that_is_turned(self):
+        text = as_surfaces(block())
+        shell = entity(text, 'CLOSED_SHELL')
+        for kind in ('ORIENTED_CLOSED_SHELL', 'ORIENTED_OPEN_SHELL'):
+            turned = with_lines(text.replace(f"MODEL('',({shell})", "MODEL('',(#900)"), f"#900={kind}('',*,{shell},.F.)")
+            self.assertEqual(self.volumes(turned), [6 * 4 * 5 * 6], kind)
+
+    def test_shells_of_one_model(self):
+        for low, high, wanted in (((20, 0, 0), (25, 5, 5), [6000, 750]), ((2, 2, 2), (5, 5, 5), [6000 - 162]), ((10, 0, 0), (12, 10, 10), [6000, 1200]),
+                                  ((10, 10, 0), (12, 12, 10), [6000, 240])):
+            with self.subTest(low=low):
+                text = two_shells(low, high)
+                if len(wanted) == 1:  # (a hollow looks inwards)
+                    inner = text.split('SURFACE_MODEL(')[1].split(',')[2].rstrip(');\n').split(')')[0]
+                    text = with_lines(text.replace(f',{inner}))', ',#900))'), f"#900=ORIENTED_CLOSED_SHELL('',*,{inner},.F.)")
+                self.assertEqual(sorted(self.volumes(text)), sorted(wanted))
+
+    def test_an_open_shell(self):
+        text = as_surfaces(block())
+        shell, face, model = entity(text, 'CLOSED_SHELL'), entity(text, 'ADVANCED_FACE'), entity(text, 'SHELL_BASED_SURFACE_MODEL')
+        for kind in ('CLOSED_SHELL', 'OPEN_SHELL'):
+            opened = text.replace(f'({face},', '(', 1).replace('=CLOSED_SHELL(', f'={kind}(')
+            self.refuse(f'shell {shell} of {model} is open: 4 edges are not used by two faces, once each way: --flat takes', opened)
+            self.refuse(f'there is no flat solid in the STEP file: shell {shell} of {model} (Lid) is left out: it is open: 4 edges', opened, flat=True)
+
+    def test_an_open_shell_beside_a_closed_one(self):
+        text = two_shells((20, 0, 0), (25, 5, 5))
+        opened = text.replace(f'({entity(text, "ADVANCED_FACE")},', '(', 1)
+        shell, model = entity(text, 'CLOSED_SHELL'), entity(text, 'SHELL_BASED_SURFACE_MODEL')
+        self.refuse(f'shell {shell} of {model} is open: 4 edges are not used by two faces, once each way: --flat takes', opened)
+        found = self.read(opened, flat=True)
+        self.assertEqual(self.boxes(opened, flat=True), [((20, 0, 0), (25, 5, 5))])
+        self.assertEqual(found.wrong, [f'shell {shell} of {model} (Lid) is left out: it is open: 4 edges are not used by two faces, once each way'])
+
+    def test_a_face_that_runs_against_the_others(self):
+        text = as_surfaces(block())
+        first = next(line for line in text.splitlines() if '=FACE_OUTER_BOUND(' in line)
+        self.refuse('is open: 4 edges are not used by two faces, once each way', text.replace(first, first.replace('.T.', '.F.')))
+
+    def test_a_curved_shell(self):
+        self.refuse('6 faces are curved: ', as_surfaces(block()).replace('=PLANE(', '=CONICAL_SURFACE('))
+
+    def test_what_is_no_shell(self):
+        text = as_surfaces(block())
+        self.refuse('is no shell but CONNECTED_FACE_SET', text.replace('=CLOSED_SHELL(', '=CONNECTED_FACE_SET('))
 
 
 class HeldAsSplines(Reads):

@@ -11,7 +11,7 @@ from ..parts import NotAMesh
 from ..placement import IN_PLACE, Placement, frame
 from .lexer import StepFile
 from .points import StepPoints
-from .shapes import SOLIDS
+from .shapes import BODIES, SOLIDS
 from .units import MILLIMETRE, StepUnits, Unit
 
 _SUFFIX, _PLACING = 'SHAPE_REPRESENTATION', 'CONTEXT_DEPENDENT_SHAPE_REPRESENTATION'
@@ -89,7 +89,7 @@ class StepAssembly:
         strange: Dict[str, List[str]] = {}
         for item in (item for items in self._items.values() for item in items):
             kind = self._file.kind(item)
-            if kind not in SOLIDS and kind not in _SILENT and kind != 'MAPPED_ITEM':
+            if kind not in BODIES and kind not in _SILENT and kind != 'MAPPED_ITEM':
                 strange.setdefault(kind or 'what is several things at once', []).append(item)
         return [f'{len(held)} {kind} ({held[0]})' for kind, held in strange.items()]
 
@@ -113,7 +113,7 @@ class StepAssembly:
 
     def _solids_of(self, representations: Sequence[str], placement: Placement) -> Iterator[Instance]:
         return (Instance(item, representation, placement, self._unit[representation])
-                for representation in representations for item in self._items[representation] if self._file.kind(item) in SOLIDS)
+                for representation in representations for item in self._items[representation] if self._file.kind(item) in BODIES)
 
     def _relations(self) -> Iterator[Use]:
         """Parts of assemblies: a relationship places its first representation in its second, or the other way round where the assembly

@@ -26,7 +26,8 @@ class StepLooks:
         """The look of a solid: its own name, else that of the product whose shape it is."""
         items = self._file.at(solid).items
         product = self._products.get(self._group(representation), '') if representation else ''
-        return Appearance(text_of(items[0]) or product, self._colours.get(solid) or self._colours.get(items[1]))
+        shells = {self._colours.get(shell) for shell in (items[1] if isinstance(items[1], list) else items[1:2])}
+        return Appearance(text_of(items[0]) or product, self._colours.get(solid) or (shells.pop() if len(shells) == 1 else None))
 
     def of_face(self, face: str) -> Appearance:
         """The look of a face."""

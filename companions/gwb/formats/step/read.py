@@ -10,7 +10,7 @@ from ..units import told_scaled
 from .assembly import Instance, StepAssembly, in_millimetres
 from .lexer import StepFile, text_of
 from .looks import StepLooks
-from .shapes import Brep, StepShapes, told_curved
+from .shapes import SURFACE_MODEL, Brep, StepShapes, told_curved
 
 _NAMED = 3
 # What is to be done about what isn't flat.
@@ -46,25 +46,27 @@ class _Solids:
     def __init__(self, shapes: StepShapes, names: Dict[str, str]) -> None:
         """`names` are the solids' names, '' where they have none."""
         self.breps: Dict[str, Brep] = {}
-        self._names = names
         self._curved: Dict[str, str] = {}
         self._strange: List[str] = []
         self._reasons: Dict[str, str] = {}
-        for solid in names:
-            self._read(solid, shapes)
+        for solid, name in names.items():
+            self._read(solid, f' ({name})' if name else '', shapes)
 
-    def _read(self, solid: str, shapes: StepShapes) -> None:
+    def _read(self, solid: str, name: str, shapes: StepShapes) -> None:
         try:
             brep = shapes.brep(solid)
         except Unfit as error:
             self._strange.append(str(error))
-            self._reasons[solid] = str(error)
+            self._reasons[f'solid {solid}{name}'] = str(error)
             return
         if brep.curved:
             self._curved.update(brep.curved)
-            self._reasons[solid] = told_curved(brep.curved)
-        else:
+            self._reasons[f'solid {solid}{name}'] = told_curved(brep.curved)
+            return
+        if brep.polygons:
             self.breps[solid] = brep
+        self._strange += (f'shell {shell} of {solid} is open: {why}' for shell, why in brep.open_shells.items())
+        self._reasons.update((f'shell {shell} of {solid}{name}', f'it is open: {why}') for shell, why in brep.open_shells.items())
 
     def require_flat(self, strangers: Sequence[str]) -> None:
         """Raises Unfit, with all reasons, where a solid is curved or isn't understood, or shapes have what is no solid."""
@@ -75,14 +77,13 @@ class _Solids:
             raise Unfit('; '.join(reasons) + _HINT)
 
     def left_out(self) -> List[str]:
-        """What is said of each solid that isn't read."""
-        named = ((solid, f' ({self._names[solid]})' if self._names[solid] else '', reason) for solid, reason in self._reasons.items())
-        return [f'solid {solid}{name} is left out: {reason}' for solid, name, reason in named]
+        """What is said of each solid or shell that isn't read."""
+        return [f'{what} is left out: {reason}' for what, reason in self._reasons.items()]
 
 
 def _part(file: StepFile, instance: Instance, brep: Brep, looks: StepLooks, is_ours: bool) -> Part:
     look = looks.of_solid(instance.solid, instance.representation)
-    return Part(in_millimetres(instance, brep.points), brep.polygons, whole=True,
+    return Part(in_millimetres(instance, brep.points), brep.polygons, whole=True, parted=file.kind(instance.solid) == SURFACE_MODEL,
                 solid=text_of(file.at(instance.solid).items[0]) if is_ours else '',
                 look=look, face_looks=_face_looks(brep, looks),
                 accuracy=instance.unit.accuracy, scaled=told_scaled(instance.unit.name, instance.unit.millimetres))

@@ -1,6 +1,7 @@
 """The flat boundary representations of a STEP file as polygons, in the file's own coordinates."""
 
-from typing import Any, Dict, Iterator, List, Mapping, NamedTuple, Tuple
+from collections import Counter
+from typing import Any, Dict, Iterator, List, Mapping, NamedTuple, Sequence, Tuple
 
 from ...errors import Unfit
 from ...geometry.flat_face import ExactVector
@@ -12,7 +13,11 @@ from .lexer import StepFile
 from .points import StepPoints
 
 SOLIDS = ('MANIFOLD_SOLID_BREP', 'BREP_WITH_VOIDS', 'FACETED_BREP', 'FACETED_BREP_AND_BREP_WITH_VOIDS')
+SURFACE_MODEL = 'SHELL_BASED_SURFACE_MODEL'
+# What bounds solids.
+BODIES = (*SOLIDS, SURFACE_MODEL)
 _WITH_VOIDS = ('BREP_WITH_VOIDS', 'FACETED_BREP_AND_BREP_WITH_VOIDS')
+_ORIENTED_SHELLS = ('ORIENTED_CLOSED_SHELL', 'ORIENTED_OPEN_SHELL')
 _FACES = ('ADVANCED_FACE', 'FACE_SURFACE', 'FACE')
 _NAMED = 12
 
@@ -20,13 +25,15 @@ _NAMED = 12
 class Brep(NamedTuple):
     """A boundary representation: its points, its polygons, and for each polygon the reference of its face.
 
-    `curved` are the faces and edges that are curved, each with what it is; a solid that has one can't be read.
+    `curved` are the faces and edges that are curved, each with what it is; a solid that has one can't be read. `open_shells` are the shells of
+    a surface model that bound nothing, each with the reason; their polygons are left out.
     """
 
     points: List[ExactVector]
     polygons: List[Polygon]
     faces: List[str]
     curved: Dict[str, str]
+    open_shells: Dict[str, str]
 
 
 class _Edge(NamedTuple):
@@ -50,28 +57,40 @@ class StepShapes:
         """One solid. Raises Unfit where something in it isn't understood."""
         places: Dict[ExactVector, int] = {}
         self._curved = {}
-        found = Brep([], [], [], self._curved)
-        faces = ((face, turned) for shell, turned in self._shells(reference) for face in self._file.at(shell).items[1])
-        for face, turned in faces:
+        found = Brep([], [], [], self._curved, {})
+        for shell, turned in self._shells(reference):
+            first = len(found.polygons)
+            self._put(found, places, shell, turned)
+            unpaired = _unpaired(found.polygons[first:]) if self._file.kind(reference) == SURFACE_MODEL else 0
+            if unpaired:
+                found.open_shells[shell] = f'{unpaired} edge{" is" if unpaired == 1 else "s are"} not used by two faces, once each way'
+                del found.polygons[first:], found.faces[first:]
+        return found._replace(points=list(places))
+
+    def _put(self, found: Brep, places: Dict[ExactVector, int], shell: str, turned: bool) -> None:
+        """Adds the faces of a shell, over the places of points."""
+        for face in self._file.at(shell).items[1]:
             loops = self._face(face, turned)
             require_few(len(found.polygons) + 1)
             found.polygons.append([[places.setdefault(point, len(places)) for point in loop] for loop in loops])
             found.faces.append(face)
-        return found._replace(points=list(places))
 
     def _shells(self, solid: str) -> Iterator[Tuple[str, bool]]:
         """The shells of a solid, and whether they are turned."""
         entity = self._file.at(solid)
-        yield self._shell(entity.items[1], False)
-        for void in entity.items[2] if entity.kind in _WITH_VOIDS else []:
-            yield self._shell(void, False)
+        if entity.kind == SURFACE_MODEL and not entity.items[1]:
+            raise Unfit(f'the {SURFACE_MODEL} {solid} has no shell')
+        if entity.kind == SURFACE_MODEL:
+            return (self._shell(shell, ('CLOSED_SHELL', 'OPEN_SHELL')) for shell in entity.items[1])
+        return (self._shell(shell, ('CLOSED_SHELL',)) for shell in (entity.items[1], *(entity.items[2] if entity.kind in _WITH_VOIDS else ())))
 
-    def _shell(self, reference: str, turned: bool) -> Tuple[str, bool]:
-        entity = self._file.at(reference)
-        if entity.kind == 'ORIENTED_CLOSED_SHELL':
-            reference, turned = entity.items[2], turned != (entity.items[3] == '.F.')
-        if self._file.kind(reference) != 'CLOSED_SHELL':
-            raise Unfit(f'{reference} is no closed shell but {self._file.kind(reference) or "several things at once"}')
+    def _shell(self, reference: str, kinds: Sequence[str]) -> Tuple[str, bool]:
+        entity, turned = self._file.at(reference), False
+        if entity.kind in _ORIENTED_SHELLS:
+            reference, turned = entity.items[2], entity.items[3] == '.F.'
+        if self._file.kind(reference) not in kinds:
+            what = 'closed shell' if len(kinds) == 1 else 'shell'
+            raise Unfit(f'{reference} is no {what} but {self._file.kind(reference) or "several things at once"}')
         return reference, turned
 
     def _face(self, reference: str, turned: bool) -> List[List[ExactVector]]:
@@ -122,6 +141,12 @@ class StepShapes:
     def _vertex(self, reference: str) -> str:
         point: Any = self._file.at(reference).items[1]
         return str(point)
+
+
+def _unpaired(polygons: Sequence[Polygon]) -> int:
+    """How many edges aren't used as often one way as the other."""
+    uses = Counter((loop[place - 1], corner) for polygon in polygons for loop in polygon for place, corner in enumerate(loop))
+    return len({frozenset(side) for side, times in uses.items() if uses[side[::-1]] != times})
 
 
 def told_curved(curved: Mapping[str, str]) -> str:
