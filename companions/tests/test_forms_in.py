@@ -16,6 +16,7 @@ from gwb.formats.appearance import Appearance
 from gwb.formats.exact_numbers import told
 from gwb.formats.grid import Grid
 from gwb.formats.importing import read_file
+from gwb.formats.parts import NotAMesh
 from gwb.formats.polygon_files import form_of
 from gwb.formats.text_lines import READ_AS_LATIN_1
 
@@ -158,7 +159,7 @@ class Off(InFiles):
     def test_other_dimensions(self):
         for header in ('4OFF', 'nOFF', 'C4OFF', '4nOFF'):
             self.refuse(f'{header} is not read: its points are not in three dimensions', f'{header}\n4 4 0\n')
-        self.refuse('BINARY is not read', 'OFF BINARY\n4 4 0\n')
+        self.refuse('OFF BINARY is not read: write OFF as text there, or STL', 'OFF BINARY\n4 4 0\n')
 
     def test_colours_behind_faces(self):
         lines = off(TETRAHEDRON, SIDES).splitlines()
@@ -371,6 +372,14 @@ class Kinds(unittest.TestCase):
                                  (b'PK', 'a.amf', 'amf'), (b'PK', '', '3mf'), (b'# by\nv 0 0 0\n', '', 'obj'), (b'3 1 0\n', 'a.OFF', 'off'),
                                  (b'\xef\xbb\xbfISO-10303-21;', '', 'step'), (b'x', 'a.stp', 'step'), (b'x', 'a.p21', 'step')):
             self.assertEqual(form_of(data, name), form)
+
+    def test_forms_that_are_not_read(self):
+        for name, told in (('a.gltf', 'it looks like glTF as text, which is not read: write GLB, its form in one file'), ('a.IGS', 'it looks like IGES, which is not read: write STEP there'),
+                           ('a.dxf', 'it looks like DXF, which is not read: write STL or 3MF there')):
+            with self.assertRaises(NotAMesh) as caught:
+                form_of(b'{"asset":{"version":"2.0"}}', name)
+            self.assertEqual(str(caught.exception), told)
+        self.assertEqual(form_of(b'OFF\n', 'a.dxf'), 'off')
 
     def test_no_form(self):
         for words in (['/dev/null'], ):

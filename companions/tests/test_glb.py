@@ -160,7 +160,7 @@ class Read(InFiles):
         whole = glb(described, buffer)
         self.refuse('its buffer is cut short', whole[:-4])
         self.refuse('its JSON is cut short', whole[:40])
-        self.refuse('no GLB of version 2', whole[:4] + struct.pack('<I', 1) + whole[8:])
+        self.refuse('it is GLB of version 1, which is not read: write version 2, as glTF 2.0 has it, or STL', whole[:4] + struct.pack('<I', 1) + whole[8:])
 
     def test_many_uses_of_many_points(self):
         """As many as three for each face that a model may have, whose number is made small here."""

@@ -140,8 +140,11 @@ def glb_parts(data: bytes) -> Iterator[Part]:
 
 def _chunks(data: bytes) -> Tuple[Dict[str, Any], bytes]:
     """What the JSON of a file says, and its buffer."""
-    if len(data) < 20 or struct.unpack('<I', data[4:8])[0] != _VERSION:
-        raise NotAMesh('it is no GLB of version 2, or it is cut short')
+    if not data.startswith(MAGIC) or len(data) < 20:
+        raise NotAMesh('it is no GLB, or it is cut short')
+    version = struct.unpack('<I', data[4:8])[0]
+    if version != _VERSION:
+        raise NotAMesh(f'it is GLB of version {version}, which is not read: write version {_VERSION}, as glTF 2.0 has it, or STL')
     length, kind = struct.unpack('<II', data[12:20])
     if kind != _JSON or length > min(len(data) - 20, _MOST_JSON):
         raise NotAMesh(f'its JSON is cut short, or has more than {_MOST_JSON:,} bytes')

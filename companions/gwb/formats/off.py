@@ -40,7 +40,7 @@ def _counts(rows: Iterator[List[str]]) -> Tuple[int, int]:
             raise NotAMesh(f'{words[0]} is not read: its points are not in three dimensions')
         words = words[1:]
         if words[:1] == ['BINARY']:
-            raise NotAMesh('OFF BINARY is not read: only OFF as text is')
+            raise NotAMesh('OFF BINARY is not read: write OFF as text there, or STL')
     words = words or next(rows, [''])
     if not header and not all(word.isdigit() for word in words):
         raise NotAMesh('it does not begin with OFF')

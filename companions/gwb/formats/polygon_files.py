@@ -20,6 +20,12 @@ from .three_mf.read import three_mf_parts
 
 FORMS = ('off', 'obj', 'stl', '3mf', 'ply', 'amf', 'step', 'glb')
 _ENDINGS = {**{form: form for form in FORMS}, 'stp': 'step', 'p21': 'step'}
+# Forms that aren't read, by the ends of their names, and what to do.
+_MESH = 'write STL or 3MF there'
+_UNREAD = {'gltf': ('glTF as text', 'write GLB, its form in one file'), 'dxf': ('DXF', _MESH), 'dwg': ('DWG', _MESH), 'igs': ('IGES', 'write STEP there'),
+           'iges': ('IGES', 'write STEP there'), 'brep': ('BREP', 'write STEP there'), 'brp': ('BREP', 'write STEP there'), 'fcstd': ('a document of FreeCAD', 'write STEP there'),
+           'blend': ('a document of Blender', _MESH), 'scad': ('a script of OpenSCAD', _MESH), 'dae': ('COLLADA', _MESH), 'fbx': ('FBX', _MESH),
+           '3ds': ('3DS', _MESH), 'wrl': ('VRML', _MESH), 'x3d': ('X3D', _MESH)}
 # The forms that are text; STL may be.
 _TEXTS = ('off', 'obj', 'stl', 'step')
 # What the modules raise that unpack, where a file ends before it should or is packed in an unknown way.
@@ -64,7 +70,8 @@ def form_of(data: bytes, name: str) -> str:
     """The form of a file, by its first bytes, else by the end of its name. Raises NotAMesh where neither says it."""
     begin = data[:_READ_AHEAD].lstrip(b'\xef\xbb\xbf \t\r\n')
     words = begin.split()[:1] or [b'']
-    ending = _ENDINGS.get(name.lower().rpartition('.')[2], '')
+    last = name.lower().rpartition('.')[2]
+    ending = _ENDINGS.get(last, '')
     if begin.startswith(b'PK'):
         return ending if ending in ('3mf', 'amf') else '3mf'
     if data.startswith(MAGIC):
@@ -82,8 +89,15 @@ def form_of(data: bytes, name: str) -> str:
     if not ending and any(line.split()[:1] and line.split()[0] in _OBJ_WORDS for line in data[:_MOST_BYTES].splitlines()):
         return 'obj'
     if not ending:
-        raise NotAMesh(f'it is of no form that is known: {", ".join(FORMS).upper()}; --form says which, and most programs write one of them')
+        raise _unknown(last)
     return ending
+
+
+def _unknown(ending: str) -> NotAMesh:
+    """What is wrong with a file of no form that is read, by the end of its name."""
+    if ending in _UNREAD:
+        return NotAMesh('it looks like {}, which is not read: {}'.format(*_UNREAD[ending]))
+    return NotAMesh(f'it is of no form that is known: {", ".join(FORMS).upper()}; --form says which, and most programs write one of them')
 
 
 def files_beside(path: Optional[str]) -> Beside:
