@@ -105,6 +105,15 @@ class Imports(unittest.TestCase):
         self.assertEqual(self.bench.listing(), before)
         self.assertTrue(self.bench.import_file(twisted, rounded=True, repair=True))
 
+    def test_flat_solids_alone(self):
+        text = (STORED / 'programs' / 'freecad_two.step').read_text()
+        curved = self.written('curved.step', text.replace('=PLANE(', '=CONICAL_SURFACE(', 1).replace(' = PLANE(', ' = CONICAL_SURFACE(', 1))
+        self.assertRaisesRegex(Unfit, '1 face is curved: ', self.bench.import_file, curved)
+        with self.assertWarnsRegex(UserWarning, 'curved.step: solid #.* is left out: 1 face is curved: '):
+            made = self.bench.import_file(curved, flat=True)
+        self.assertEqual(self.bench.volume(made.one()), 125)
+        self.assertRaisesRegex(TypeError, '^flat: ', self.bench.import_file, curved, flat=1)
+
     def test_what_is_wrong_is_warned_of(self):
         bent = self.written('bent.off', 'OFF\n5 5 0\n0 0 0\n6 0 0\n6 6 1\n0 6 0\n3 3 9\n4 3 2 1 0\n3 0 1 4\n3 1 2 4\n3 2 3 4\n3 3 0 4\n')
         with self.assertWarnsRegex(UserWarning, 'bent.off: face 1 .*flat') as caught:

@@ -81,18 +81,20 @@ class Exporting(Methods):
         file.write_bytes(data)
 
     def import_file(self, path: arguments.Path, *, form: str = '', scale: Exact = 1, rounded: bool = False, keep_triangles: bool = False,
-                    repair: bool = False, within: Exact = 0) -> 'Selection[SolidPart]':
+                    repair: bool = False, within: Exact = 0, flat: bool = False) -> 'Selection[SolidPart]':
         """The solids of a file, as `gwb-import` reads it, beside what is held, with numbers that are free: these, with the names and colours that
         the file has as labels.
 
-        `form` is 'step', 'stl', 'obj', 'off', 'ply', 'amf' or '3mf' where the file doesn't look like it. Coordinates, in millimetres where the file says a
+        `form` is 'step', 'stl', 'obj', 'off', 'ply', 'amf', '3mf' or 'glb' where the file doesn't look like it. Coordinates, in millimetres where the file says a
         unit, are multiplied by `scale`, a whole number or a fraction, and must then be whole in `unit`; `rounded` rounds them, and `within` only
         those of a point that lies no farther than so many units beside a whole place. Faces of one plane become one but with `keep_triangles`;
-        `repair` mends what can be. Warns of what is wrong with the solids. Raises OSError; NotAMesh where it is no such file; Unfit where its
-        surfaces aren't closed, or a point isn't whole or past the range. Refused: NumbersSpent."""
+        `repair` mends what can be; `flat` takes of STEP the flat solids alone. Warns of what is wrong with the solids, and of what is left out.
+        Raises OSError; NotAMesh where it is no such file; Unfit where its surfaces aren't closed, or a point isn't whole or past the range.
+        Refused: NumbersSpent."""
         options = files_in.Options(
             files_in.known_form(arguments.text('form', form)), arguments.factor('scale', scale), arguments.flag('rounded', rounded),
-            arguments.flag('keep_triangles', keep_triangles), arguments.flag('repair', repair), arguments.distance('within', within))
+            arguments.flag('keep_triangles', keep_triangles), arguments.flag('repair', repair), arguments.flag('flat', flat),
+            arguments.distance('within', within))
         solids = files_in.take_in(self._bench, arguments.path('path', path), options)
         return Selection('solid', '', [SolidPart(self._bench.kernel, solid) for solid in solids])
 

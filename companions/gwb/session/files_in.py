@@ -15,13 +15,14 @@ from .telling import warn
 
 class Options(NamedTuple):
     """How a file is read: its form, '' for what it looks like; by what coordinates are multiplied; whether points are rounded, triangles kept as
-    they are, and faults mended; how far beside a whole place a point may lie, to be rounded all the same."""
+    they are, faults mended, and of STEP the flat solids taken alone; how far beside a whole place a point may lie, to be rounded all the same."""
 
     form: str
     scale: Exact
     rounded: bool
     keep_triangles: bool
     repair: bool
+    flat: bool
     within: Exact
 
 
@@ -39,7 +40,7 @@ def take_in(bench: Bench, path: str, options: Options) -> List[int]:
     Raises OSError, NotAMesh or Unfit, with the place, where the file can't be read or has no closed surfaces. Refused: NumbersSpent."""
     scale = Fraction(options.scale) / bench.kernel.notes.unit
     found = read_file(os.path.abspath(path), form=options.form or None, scale=scale.numerator if scale.denominator == 1 else scale,
-                      rounded=options.rounded, keep_triangles=options.keep_triangles, repair=options.repair, within=options.within)
+                      rounded=options.rounded, keep_triangles=options.keep_triangles, repair=options.repair, flat=options.flat, within=options.within)
     for wrong in found.wrong:
         warn(f'{path}: {wrong}')
     new = bench.numbers.instead_of(found.model)

@@ -106,7 +106,7 @@ def find_path() -> str:
     path = named if is_library(named) else next(built, '') or find_library('gwb')
     if path is None:
         raise ProgramMissing('libgwb.so was not found: the environment variable GWB may name it; in a copy of the sources '
-                             '`make try` builds it in a minute, unproved, for GWB=out/unproved/libgwb.so')
+                             '`make try` builds it in two minutes, unproved, for GWB=out/unproved/libgwb.so')
     return path
 
 
