@@ -1,11 +1,11 @@
 """Looks for slips that gwb doesn't: where the geometry of a sound model isn't that of solids."""
 
-from typing import Dict, Iterator, List, NamedTuple, Optional
+from typing import AbstractSet, Dict, Iterator, List, Mapping, NamedTuple, Optional
 
 from ..geometry.measures import normal
 from ..geometry.model import Model
-from ..geometry.vectors import ZERO
-from .face_checks import face_findings
+from ..geometry.vectors import Vector, ZERO
+from .face_checks import bent_finding, is_flat, ring_findings
 from .findings import Finding
 from .overlap_checks import overlap_findings, unfit_solids
 from .sliver_checks import sliver_findings
@@ -35,12 +35,22 @@ def check(model: Model, between: bool = False, slivers: Optional[int] = None) ->
     """Looks at each face, and at each solid by itself; with `between` for solids that share room too, with `slivers` for faces and solids that
     are more than so many times as long as they are wide or thick."""
     normals = {face: normal(model, face) for face in model.faces}
-    findings = [finding for face, across in normals.items() if across != ZERO for finding in face_findings(model, face, across)]
+    flat = {face for face, across in normals.items() if is_flat(model, face, across)}
+    findings = list(_face_findings(model, normals, flat))
     findings += [finding for solid in model.solids if not is_star(model, solid, normals)
-                 for finding in SolidCheck(model, solid, normals=normals).findings()]
+                 for finding in SolidCheck(model, solid, normals, flat).findings()]
     if slivers is not None:
         findings += sliver_findings(model, slivers)
     if between:
         findings += overlap_findings(model)
     without_area = [face for face, across in normals.items() if across == ZERO]
     return Report(findings, without_area, unfit_solids(model) if between and len(model.solids) > 1 else {})
+
+
+def _face_findings(model: Model, normals: Mapping[int, Vector], flat: AbstractSet[int]) -> Iterator[Finding]:
+    """The slips of the faces that have an area, of which those that are flat are given."""
+    for face, across in normals.items():
+        if face in flat:
+            yield from ring_findings(model, face, across)
+        elif across != ZERO:
+            yield bent_finding(model, face, across)

@@ -24,14 +24,14 @@ def _is_triangle(model: Model, face: int) -> bool:
     return not row.rings and len(model.loops[row.outer].halves) == 3
 
 
-def face_findings(model: Model, face: int, across: Vector) -> Iterator[Finding]:
-    """The slips of a face that has an area; its normal is given."""
-    if _is_triangle(model, face):
-        return
-    vertex = off_plane(model, face, across)
-    if vertex is not None:
-        yield Finding(BENT, f'vertex {vertex} lies off the plane of face {face}')
-    elif model.faces[face].rings:
+def bent_finding(model: Model, face: int, across: Vector) -> Finding:
+    """What is said of a face that has an area and isn't flat; its normal is given."""
+    return Finding(BENT, f'vertex {off_plane(model, face, across)} lies off the plane of face {face}')
+
+
+def ring_findings(model: Model, face: int, across: Vector) -> Iterator[Finding]:
+    """The slips of a flat face's rings; its normal is given."""
+    if model.faces[face].rings:
         yield from _directions(model, face)
         yield from _places(model, face, across)
 

@@ -52,12 +52,13 @@ def near_pairs(model: Model, normals: Mapping[int, Vector]) -> NearPairs:
 def _beside_others(boxes: Mapping[int, Box], patch_of: Mapping[int, int]) -> List[int]:
     """The faces that lie in a cell with one of another patch."""
     steps = _cell_sizes(list(boxes.values()))
+    cells = {face: tuple(_cells(box, steps)) for face, box in boxes.items()}
     owners: Dict[_Cell, int] = {}
     shared: Set[_Cell] = set()
-    for face, box in boxes.items():
+    for face, held in cells.items():
         patch = patch_of[face]
-        shared.update(cell for cell in _cells(box, steps) if owners.setdefault(cell, patch) != patch)
-    return [face for face, box in boxes.items() if not shared.isdisjoint(_cells(box, steps))]
+        shared.update([cell for cell in held if owners.setdefault(cell, patch) != patch])
+    return [face for face, held in cells.items() if not shared.isdisjoint(held)]
 
 
 def _cell_sizes(boxes: Sequence[Box]) -> List[int]:

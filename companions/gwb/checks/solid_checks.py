@@ -26,14 +26,15 @@ from .shell_checks import shell_findings
 class SolidCheck:
     """One solid of a model, made ready for its parts to be compared."""
 
-    def __init__(self, model: Model, solid: int, normals: Optional[Mapping[int, Vector]] = None) -> None:
-        """`normals` are those of its faces, where they are known."""
+    def __init__(self, model: Model, solid: int, normals: Optional[Mapping[int, Vector]] = None, flat: Optional[AbstractSet[int]] = None) -> None:
+        """`normals` are those of its faces, where they are known, and `flat` the faces that are flat and have an area."""
         self._model = model.only(solid)
         self._solid = solid
         self._normals = {face: normal(self._model, face) for face in self._model.faces} if normals is None else normals
         self._shells = self._model.shells(solid)
         self._flat_shells = {face: shell[0] for shell in self._shells if self._is_in_one_plane(shell) for face in shell}
-        self._flat = {face: self._normals[face] for face in self._model.faces if is_flat(self._model, face, self._normals[face])}
+        known = (face in flat if flat is not None else is_flat(self._model, face, self._normals[face]) for face in self._model.faces)
+        self._flat = {face: self._normals[face] for face, is_known in zip(self._model.faces, known) if is_known}
         self._known_shapes: Dict[int, FlatFace] = {}
         self._inner: Dict[int, Optional[ExactVector]] = {}
         self._pairs = near_pairs(self._model, self._flat)
@@ -146,10 +147,10 @@ class SolidCheck:
 
     def _equal_edges(self) -> Iterator[Finding]:
         first: Dict[Tuple[int, int], int] = {}
-        for edge in self._model.edges:
-            start, end = map(self._first_there.__getitem__, self._model.edges[edge])
-            ends = (start, end) if start < end else (end, start)
-            beside = first.setdefault(ends, edge)
+        there = self._first_there
+        for edge, (one, other) in self._model.edges.items():
+            start, end = there[one], there[other]
+            beside = first.setdefault((start, end) if start < end else (end, start), edge)
             if beside != edge and not self._are_back_to_back(self._faces_beside(edge), self._faces_beside(beside)):
                 yield Finding(TOUCHING, f'edges {beside} and {edge} of solid {self._solid} lie on each other')
 

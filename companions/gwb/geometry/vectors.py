@@ -65,6 +65,7 @@ def flat_axes(normal: Vector) -> Tuple[int, int]:
 
     A loop that runs counterclockwise as seen from where the normal points runs counterclockwise in these two coordinates.
     """
-    widest = max(range(3), key=lambda axis: abs(normal[axis]))
+    x, y, z = abs(normal[0]), abs(normal[1]), abs(normal[2])
+    widest = 0 if x >= y and x >= z else 1 if y >= z else 2
     first, second = (widest + 1) % 3, (widest + 2) % 3
     return (first, second) if normal[widest] > 0 else (second, first)

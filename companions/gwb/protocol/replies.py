@@ -13,10 +13,10 @@ _ONE_LINE = re.compile(
     rf'ok|empty|memory|refused {_NUMBER} {_NUMBER}|fault [1-6]|volume {_WHOLE}'
     rf'|plane {_WHOLE} {_WHOLE} {_WHOLE} {_WHOLE} (?:flat|bent)'
     rf'|count {_NUMBER} {_NUMBER} {_NUMBER} {_NUMBER} {_WHOLE}')
-_LISTED = re.compile(
-    rf'solid {_NUMBER}|face {_NUMBER} {_NUMBER}(?: {_NUMBER})+'
-    rf'|loop {_NUMBER} at {_NUMBER}|loop {_NUMBER}(?: [+-]{_NUMBER})+'
+_BEHIND_SOLIDS = (
+    rf'face {_NUMBER} {_NUMBER}(?: {_NUMBER})+|loop {_NUMBER} at {_NUMBER}|loop {_NUMBER}(?: [+-]{_NUMBER})+'
     rf'|edge {_NUMBER} {_NUMBER} {_NUMBER}|vertex {_NUMBER} {_WHOLE} {_WHOLE} {_WHOLE}')
+_LISTED, _GOES_ON = re.compile(rf'solid {_NUMBER}|{_BEHIND_SOLIDS}'), re.compile(_BEHIND_SOLIDS)
 
 
 class Reply(NamedTuple):
@@ -102,6 +102,9 @@ class _Search:
             self._cutting.pass_over(len(block))
             self._later += block.count('ok')
             return
+        if self._cutting.listing and all(map(_GOES_ON.fullmatch, block)):
+            self._cutting.go_on(block)
+            return
         for line in block:
             begins, was_listing = self._cutting.take(line)
             if was_listing:
@@ -173,6 +176,11 @@ class _Cutting:
             return False
         self.ended, self.listing = self.listing, lines
         return bool(self.ended)
+
+    def go_on(self, lines: List[str]) -> None:
+        """Goes on with lines of the listing to which the last line belongs."""
+        self._number += len(lines)
+        self.listing += lines
 
     def pass_over(self, count: int) -> None:
         """Leaves out so many lines, each of them a reply, and none a listing."""
