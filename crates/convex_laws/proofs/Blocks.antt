@@ -15,7 +15,7 @@ use Rattle.command_laws.proofs.BlockFaces.{block_has_top_and_bottom, block_has_f
 use Rattle.command_laws.proofs.BlockFlat as flat
 use Rattle.command_laws.proofs.BlockFlat.{IsOneOf, blocks_lie_flat, no_older, one_of}
 use Rattle.command_laws.proofs.LyingFlat as lying
-use Rattle.convex_laws.proofs.Levels.{IsLow, height_at, is_low, low_times}
+use Rattle.convex_laws.proofs.Levels.{IsLow, height_at, is_low, low_times, twice_back}
 
 -- ---- a box
 
@@ -160,9 +160,6 @@ y_z_part d e a b c = y_z_none (pos 0) d e a b c refl
 
 both_back : (d e c : ℤ) → (neg_ℤ d *ℤ e) *ℤ c ≡ (d *ℤ e) *ℤ neg_ℤ c
 both_back d e c = rw (dif-parts d, dif-parts e, dif-parts c) (simp (difs, neg-dif) (same_dif _ _ _ _ (omega arith)))
-
-twice_back : (c : ℤ) → neg_ℤ (neg_ℤ c) ≡ c
-twice_back c = omega (arith, ints)
 
 sized : (d e w : ℤ) → IsSize d → IsSize e → (n : ℕ) → w ≡ neg_ℤ (pos n) → IsLow ((d *ℤ e) *ℤ w)
 sized d e w x y n is = subst IsLow (λ i. (sym x.is i *ℤ sym y.is i) *ℤ sym is i) (low_times (x.size * y.size) (neg_ℤ (pos n)) (is_low n))

@@ -21,13 +21,13 @@ use Rattle.command_laws.proofs.splits_laws.Whole as whole
 use Rattle.convex_laws.specs.Convex.{IsStrictlyConvex, IsVertexOf}
 use Rattle.convex_laws.proofs.Drawn as drawn
 use Rattle.convex_laws.proofs.Drawn.{beyond_of, ends_in, starts_in}
-use Rattle.convex_laws.proofs.Levels.{IsLow, low_times}
+use Rattle.convex_laws.proofs.Levels.{IsLow, low_times, twice_back}
 use Rattle.convex_laws.proofs.Pieces.{balanced, first_down, not_less, one_weight, some_weight, turned_low}
 use Rattle.convex_laws.proofs.Planes.{IsBent, above_facing, below_facing, level_step, on_facing, step_from, turned_over}
 use Rattle.convex_laws.proofs.Rounds.{path_looks, weighed_low}
 use Rattle.convex_laws.proofs.Section as section
 use Rattle.convex_laws.proofs.Section.{between}
-use Rattle.convex_laws.proofs.Turns.{Edge, IsHigh, either_sign, leads_on, never_back, nothing, swept_over, turn_over, weighed}
+use Rattle.convex_laws.proofs.Turns.{Edge, IsHigh, either_sign, leads_on, never_back, not_under, nothing, swept_over, turn_over, weighed}
 use Rattle.convex_laws.proofs.Volumes.{depth, height_is, under}
 
 -- ---- paths
@@ -146,9 +146,7 @@ module _ (before after_it : Machine) (s : ℕ) (p : Plane) (t : ℕ) (sound : So
               ∙ deeper (height (plane_of M (face_at M (mate (mate g)))) (point_of M u.vertex)) (depth M (point_of M u.vertex) (face_at M (mate (mate g)))) (height_is M (point_of M u.vertex) (face_at M (mate (mate g)))) u.depth;
         } where
           deeper : (h d : ℤ) → h ≡ neg_ℤ d → int_lt (pos 0) d ≡ true → IsHigh (neg_ℤ h)
-          deeper h d e high = ap (λ x. int_lt (pos 0) (neg_ℤ x)) e ∙ ap (int_lt (pos 0)) (twice d) ∙ high where
-            twice : (x : ℤ) → neg_ℤ (neg_ℤ x) ≡ x
-            twice x = omega (arith, ints)
+          deeper h d e high = ap (λ x. int_lt (pos 0) (neg_ℤ x)) e ∙ ap (int_lt (pos 0)) (twice_back d) ∙ high
 
   -- ---- the section, seen from a point on the plane between u and w
 
@@ -241,9 +239,7 @@ module _ (before after_it : Machine) (s : ℕ) (p : Plane) (t : ℕ) (sound : So
 
   no_hole : (bs : List ℕ) → IsSectionCycle D above s bs → is_hole D p bs ≡ false
   unfolding is_hole
-  no_hole bs cycle = not_low (dot (area_below D bs) (direction p)) (ap (int_lt (pos 0)) (dot_turned (area_below D bs) (direction p)) ∙ cycle_high bs cycle) where
-    not_low : (x : ℤ) → IsHigh x → int_lt x (pos 0) ≡ false
-    not_low x e = grind (arith, ints)
+  no_hole bs cycle = not_under (dot (area_below D bs) (direction p)) (ap (int_lt (pos 0)) (dot_turned (area_below D bs) (direction p)) ∙ cycle_high bs cycle)
 
   pub none_of : (cs : List (List ℕ)) → AreSectionCycles D above s cs → holes_in D p cs ≡ []
   none_of [] each = refl

@@ -32,10 +32,14 @@ first_more x y a b = grind (arith, ints)
 pub rest_more : (x y : ℤ) → int_lt x (pos 0) ≡ false → int_lt (pos 0) y ≡ true → int_lt (pos 0) (x +ℤ y) ≡ true
 rest_more x y a b = grind (arith, ints)
 
+pub product_back : (x y : ℤ) → x *ℤ neg_ℤ y ≡ neg_ℤ (x *ℤ y)
+product_back x y = rw (dif-parts x, dif-parts y) (simp (difs, neg-dif) (same_dif _ _ _ _ (omega arith)))
+
+pub twice_back : (x : ℤ) → neg_ℤ (neg_ℤ x) ≡ x
+twice_back x = omega (arith, ints)
+
 pub product_part : (m n : ℕ) → pos m *ℤ neg_ℤ (pos n) ≡ neg_ℤ (pos (m * n))
-product_part m n = product_back (pos m) (pos n) where
-  product_back : (x w : ℤ) → x *ℤ neg_ℤ w ≡ neg_ℤ (x *ℤ w)
-  product_back x w = rw (dif-parts x, dif-parts w) (simp (difs, neg-dif) (same_dif _ _ _ _ (omega arith)))
+product_part m n = product_back (pos m) (pos n)
 
 pub low_times : (m : ℕ) (x : ℤ) → IsLow x → IsLow (pos m *ℤ x)
 low_times m x low = let w = low_is x low in subst IsLow (sym (ap (λ y. pos m *ℤ y) w.1 ∙ product_part m w.0)) (is_low (m * w.0))

@@ -16,11 +16,11 @@ use Rattle.convex_laws.specs.Convex.{IsStrictlyConvex}
 use Rattle.convex_laws.proofs.Beside as next
 use Rattle.convex_laws.proofs.Drawn as drawn
 use Rattle.convex_laws.proofs.Drawn.{corner_on}
-use Rattle.convex_laws.proofs.Levels.{IsLow, low_times}
+use Rattle.convex_laws.proofs.Levels.{IsLow, low_times, product_back}
 use Rattle.convex_laws.proofs.Planes.{IsBent, below_facing, facing, level_step, step_from}
 use Rattle.convex_laws.proofs.Rounds.{boundary_half, face_looks, in_boundary, weighed_low, weighed_none}
 use Rattle.convex_laws.proofs.Together.{whole_stays}
-use Rattle.convex_laws.proofs.Turns.{Edge, IsHigh, exchanged_product, has_length, high_times, leads_on, never_back, product_back, swept_over, weighed}
+use Rattle.convex_laws.proofs.Turns.{Edge, IsHigh, exchanged_product, has_length, high_times, leads_on, never_back, swept_over, weighed}
 
 -- ---- two heights that weigh each other up
 

@@ -6,7 +6,7 @@ use Rattle.euler_operators.proofs.Common.{dif-parts, difs, neg-dif, same_dif, do
 use Rattle.shapes.specs.Common.{finish, scaled, start, towards}
 use Rattle.shapes.proofs.Common.{no_product}
 use Rattle.convex_laws.proofs.Levels.{IsLow, dot_scaled, step_told}
-use Rattle.convex_laws.proofs.Turns.{IsHigh, high_factor, high_times, turn}
+use Rattle.convex_laws.proofs.Turns.{IsHigh, exchanged_product, high_at, high_factor, high_times, turn}
 
 -- ---- a plane turned over
 
@@ -68,13 +68,10 @@ not_none w ne e = ne (grind (arith, ints))
 
 pub on_line : (t : Plane) (w k : ℕ) (a b r q : Point) → w ≢ 0 → scaled (pos w) (towards r q) ≡ scaled (pos k) (towards a b) → is_on t a ≡ true → is_on t b ≡ true → is_on t r ≡ true → is_on t q ≡ true
 on_line t w k a b r q some leads on_a on_b on_r = level_on (height t q) (no_product (pos w) (height t q)
-    (exchanged (height t q) (pos w) ∙ ap (λ h. pos w *ℤ h) (sym (step_from t r q on_r)) ∙ sym (dot_scaled (pos w) (direction t) (towards r q)) ∙ ap (dot (direction t)) leads
+    (exchanged_product (height t q) (pos w) ∙ ap (λ h. pos w *ℤ h) (sym (step_from t r q on_r)) ∙ sym (dot_scaled (pos w) (direction t) (towards r q)) ∙ ap (dot (direction t)) leads
     ∙ dot_scaled (pos k) (direction t) (towards a b) ∙ ap (λ h. pos k *ℤ h) (level_step t a b on_a on_b) ∙ times_none (pos k)) (not_none w some)) where
-      exchanged : (x y : ℤ) → x *ℤ y ≡ y *ℤ x
-      exchanged x y = rw (dif-parts x, dif-parts y) (simp difs (same_dif _ _ _ _ (omega arith)))
-
       times_none : (x : ℤ) → x *ℤ pos 0 ≡ pos 0
-      times_none x = exchanged x (pos 0) ∙ omega (arith, ints)
+      times_none x = exchanged_product x (pos 0) ∙ omega (arith, ints)
 
 -- a step that leads the same way as another turns where that does
 pub turns_too : (n m d e : Point) (w k : ℕ) → w ≢ 0 → k ≢ 0 → scaled (pos w) e ≡ scaled (pos k) d → IsHigh (turn n d m) → IsHigh (turn n e m)
@@ -82,9 +79,7 @@ turns_too n m d e zero k some_w some_k leads high = absurd (some_w refl)
 turns_too n m d e (suc w) zero some_w some_k leads high = absurd (some_k refl)
 turns_too n m d e (suc w) (suc k) some_w some_k leads high =
     let c = cross n m in
-    high_factor (pos (suc w)) (dot e c) (over w) (subst IsHigh (ap (λ x. pos (suc k) *ℤ x) (dot_turned d c) ∙ sym (dot_scaled (pos (suc k)) c d) ∙ ap (dot c) (sym leads) ∙ dot_scaled (pos (suc w)) c e ∙ ap (λ x. pos (suc w) *ℤ x) (dot_turned c e)) (high_times (pos (suc k)) (dot d c) (over k) high)) where
-      over : (k : ℕ) → IsHigh (pos (suc k))
-      over k = grind (arith, ints)
+    high_factor (pos (suc w)) (dot e c) (high_at w) (subst IsHigh (ap (λ x. pos (suc k) *ℤ x) (dot_turned d c) ∙ sym (dot_scaled (pos (suc k)) c d) ∙ ap (dot c) (sym leads) ∙ dot_scaled (pos (suc w)) c e ∙ ap (λ x. pos (suc w) *ℤ x) (dot_turned c e)) (high_times (pos (suc k)) (dot d c) (high_at k) high))
 
 -- ---- half-edges
 

@@ -5,17 +5,17 @@ use Rattle.std.proofs.lemmas.Bool.Decides.{eqb_tells}
 use Rattle.std.proofs.lemmas.Bool.{and_parts, false_from_ne_true}
 use Rattle.std.proofs.lemmas.Int.{ints}
 use Rattle.euler_operators.specs.Common.{Plane, Point, IsIn, cross, direction, dot, height, is_above, is_on, origin, same_point, Model, face_at, face_of, loop_of, point_of, Sound, Has, HasHalf}
-use Rattle.euler_operators.proofs.Common.{cycle_there, dif-parts, difs, dot_origin, dot_turned, IsIn_head, IsIn_rest, item_loop, loop_there, neg-dif, same_dif, tick_other}
+use Rattle.euler_operators.proofs.Common.{cycle_there, dif-parts, difs, dot_origin, dot_turned, IsIn_head, IsIn_rest, item_loop, loop_there, same_dif, tick_other}
 use Rattle.shapes.specs.Common.{anchor, area, boundary, corners, finish, is_flat, loops_of, normal, plane_of, scaled, start, towards}
 use Rattle.shapes.proofs.Common.{IsClosed, anchor_on, are_on, cross_nothing, face_of_loop, items_there, same_is, told_alike}
 use Rattle.shapes.proofs.measures.FlatFaces.{loops_flat}
 use Rattle.shapes.proofs.measures.Products.{cross_across}
 use Rattle.split_drawing_laws.proofs.crossings.Premises.{item_in_face}
 use Rattle.convex_laws.specs.Convex.{swept_from}
-use Rattle.convex_laws.proofs.Levels.{IsLow, dot_scaled, first_more, low_sum, low_times, no_less, rest_more}
+use Rattle.convex_laws.proofs.Levels.{IsLow, dot_scaled, first_more, height_at, low_sum, low_times, no_less, rest_more}
 use Rattle.convex_laws.proofs.Planes.{low_step}
 use Rattle.convex_laws.proofs.Seen.{closed_seen, dot_more, face_seen, seen}
-use Rattle.convex_laws.proofs.Turns.{IsHigh, either_sign, exchanged_product, has_length, low_factor, low_product, same_end, swept_over, weighed, high_factor, high_times}
+use Rattle.convex_laws.proofs.Turns.{IsHigh, either_sign, exchanged_product, has_length, low_factor, low_product, no_times, same_end, swept_over, weighed, high_factor, high_times}
 use Rattle.convex_laws.proofs.Volumes.{item_of_one}
 
 -- ---- the half-edges of a face
@@ -36,9 +36,6 @@ weighed_sum a b x y u v = rw (dif-parts a, dif-parts b, dif-parts x, dif-parts y
 
 pub weighed_none : (a b z : ℤ) → z ≡ pos 0 → a *ℤ z +ℤ b *ℤ z ≡ pos 0
 weighed_none a b z e = both (a *ℤ z) (b *ℤ z) (ap (λ x. a *ℤ x) e ∙ exchanged_product a (pos 0) ∙ no_times a) (ap (λ x. b *ℤ x) e ∙ exchanged_product b (pos 0) ∙ no_times b) where
-  no_times : (x : ℤ) → pos 0 *ℤ x ≡ pos 0
-  no_times x = omega (arith, ints)
-
   both : (x y : ℤ) → x ≡ pos 0 → y ≡ pos 0 → x +ℤ y ≡ pos 0
   both x y e f = omega (arith, ints)
 
@@ -118,12 +115,9 @@ module _ (G : Model) (sound : Sound G) (k : ℕ) (there : Has G.faces k) (n : Pl
   anchored : is_on n (anchor G k) ≡ true
   anchored = anchor_on G n k sound there on
 
-  depth_part : (a b c x y z u v w : ℤ) → (a *ℤ x +ℤ b *ℤ y +ℤ c *ℤ z) +ℤ neg_ℤ (a *ℤ u +ℤ b *ℤ v +ℤ c *ℤ w) ≡ a *ℤ (x -ℤ u) +ℤ b *ℤ (y -ℤ v) +ℤ c *ℤ (z -ℤ w)
-  depth_part a b c x y z u v w = rw (dif-parts a, dif-parts b, dif-parts c, dif-parts x, dif-parts y, dif-parts z, dif-parts u, dif-parts v, dif-parts w) (simp (difs, neg-dif) (same_dif _ _ _ _ (omega arith)))
-
   height_is : (q : Point) → height (plane_of G k) q ≡ dot K (towards (anchor G k) q)
   unfolding plane_of
-  height_is q = let a = anchor G k in depth_part K.x K.y K.z q.x q.y q.z a.x a.y a.z
+  height_is q = height_at K (anchor G k) q
 
   -- what isn't above the plane isn't above the face
   pub under_face : (q : Point) → is_above n q ≡ false → is_above (plane_of G k) q ≡ false

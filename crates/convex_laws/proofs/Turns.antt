@@ -6,7 +6,7 @@ use Rattle.euler_operators.proofs.Common.{dif-parts, difs, neg-dif, same_dif, sa
 use Rattle.shapes.specs.Common.{negated, scaled, towards}
 use Rattle.shapes.proofs.Common.{cross_nothing}
 use Rattle.shapes.proofs.measures.Products.{cross_across}
-use Rattle.convex_laws.proofs.Levels.{IsLow, dot_scaled, is_low, low_is, product_part}
+use Rattle.convex_laws.proofs.Levels.{IsLow, dot_scaled, is_low, low_is, product_back, product_part, twice_back}
 
 -- ---- signs
 
@@ -19,7 +19,7 @@ high_is (pos zero) e = absurd (grind (arith, ints))
 high_is (pos (suc n)) e = (n, refl)
 high_is (negsuc n) e = absurd (grind (arith, ints))
 
-high_at : (n : ℕ) → IsHigh (pos (suc n))
+pub high_at : (n : ℕ) → IsHigh (pos (suc n))
 high_at n = grind (arith, ints)
 
 high_product : (m n : ℕ) → IsHigh (pos (suc m) *ℤ pos (suc n))
@@ -52,14 +52,13 @@ high_factor x y a e = elim (either_sign y) [
   | inl low ↦ absurd (true≢false (sym e ∙ low_product x y a low))
 ]
 
+pub not_under : (x : ℤ) → IsHigh x → int_lt x (pos 0) ≡ false
+not_under x e = grind (arith, ints)
+
 square_part : (x : ℤ) → int_lt (x *ℤ x) (pos 0) ≡ false
 square_part (pos zero) = refl
-square_part (pos (suc n)) = not_under (pos (suc n) *ℤ pos (suc n)) (high_product n n) where
-  not_under : (y : ℤ) → IsHigh y → int_lt y (pos 0) ≡ false
-  not_under y e = grind (arith, ints)
-square_part (negsuc n) = not_under (pos (suc n) *ℤ pos (suc n)) (high_product n n) where
-  not_under : (y : ℤ) → IsHigh y → int_lt y (pos 0) ≡ false
-  not_under y e = grind (arith, ints)
+square_part (pos (suc n)) = not_under (pos (suc n) *ℤ pos (suc n)) (high_product n n)
+square_part (negsuc n) = not_under (pos (suc n) *ℤ pos (suc n)) (high_product n n)
 
 -- ---- products
 
@@ -69,7 +68,7 @@ triple_part a b c d e f g h k = rw (dif-parts a, dif-parts b, dif-parts c, dif-p
 triple : (a b c : Point) → dot (cross a b) c ≡ dot a (cross b c)
 triple a b c = triple_part a.x a.y a.z b.x b.y b.z c.x c.y c.z
 
-no_times : (x : ℤ) → pos 0 *ℤ x ≡ pos 0
+pub no_times : (x : ℤ) → pos 0 *ℤ x ≡ pos 0
 no_times x = omega (arith, ints)
 
 none_left : (x y : ℤ) → pos 0 *ℤ x -ℤ pos 0 *ℤ y ≡ pos 0
@@ -162,9 +161,6 @@ up_length n d m high = has_length n (λ e. true≢false (sym high ∙ ap (λ v. 
 pub exchanged_product : (x y : ℤ) → x *ℤ y ≡ y *ℤ x
 exchanged_product x y = rw (dif-parts x, dif-parts y) (simp difs (same_dif _ _ _ _ (omega arith)))
 
-pub product_back : (x y : ℤ) → x *ℤ neg_ℤ y ≡ neg_ℤ (x *ℤ y)
-product_back x y = rw (dif-parts x, dif-parts y) (simp (difs, neg-dif) (same_dif _ _ _ _ (omega arith)))
-
 -- ---- a point between two, by weights
 
 abbrev pub weighed : ℕ → ℕ → ℤ → ℤ → ℤ
@@ -179,11 +175,11 @@ more_part a b c x y z u v w = rw (dif-parts a, dif-parts b, dif-parts c, dif-par
 dot_mixed : (a b : ℕ) (n p q : Point) → dot n (mixed a b p q) ≡ weighed a b (dot n p) (dot n q)
 dot_mixed a b n p q = more_part n.x n.y n.z (pos a *ℤ p.x) (pos a *ℤ p.y) (pos a *ℤ p.z) (pos b *ℤ q.x) (pos b *ℤ q.y) (pos b *ℤ q.z) ∙ (λ i. dot_scaled (pos a) n p i +ℤ dot_scaled (pos b) n q i)
 
-turn_as_dot : (n d e : Point) → turn n d e ≡ dot (cross d n) e
-turn_as_dot n d e = sym (triple d n e)
+pub turn_second : (n d m : Point) → turn n d m ≡ dot (cross d n) m
+turn_second n d m = sym (triple d n m)
 
 turn_mixed : (a b : ℕ) (n d p q : Point) → turn n d (mixed a b p q) ≡ weighed a b (turn n d p) (turn n d q)
-turn_mixed a b n d p q = turn_as_dot n d (mixed a b p q) ∙ dot_mixed a b (cross d n) p q ∙ (λ i. weighed a b (triple d n p i) (triple d n q i))
+turn_mixed a b n d p q = turn_second n d (mixed a b p q) ∙ dot_mixed a b (cross d n) p q ∙ (λ i. weighed a b (triple d n p i) (triple d n q i))
 
 pub weighed_back : (a b : ℕ) (x y : ℤ) → weighed a b (neg_ℤ x) (neg_ℤ y) ≡ neg_ℤ (weighed a b x y)
 weighed_back a b x y = part (pos a) (pos b) x y where
@@ -247,11 +243,11 @@ first_high x z high e = elim (either_sign z) [
   | inl low ↦ absurd (true≢false (sym high ∙ ap (int_lt (pos 0)) (ap (λ y. x *ℤ y) (nothing z low e) ∙ exchanged_product x (pos 0) ∙ no_times x)))
 ]
 
+no_factor : (x y : ℤ) → IsHigh x → x *ℤ y ≡ pos 0 → y ≡ pos 0
+no_factor x y high e = nothing y (low_factor x y high (ap (int_lt (pos 0)) e)) (low_factor x (neg_ℤ y) high (ap (int_lt (pos 0)) (product_back x y ∙ ap neg_ℤ e)))
+
 low_both : (x : ℤ) → IsLow x → x ≡ neg_ℤ (neg_ℤ x)
 low_both x e = omega (arith, ints)
-
-twice_back : (x : ℤ) → neg_ℤ (neg_ℤ x) ≡ x
-twice_back x = omega (arith, ints)
 
 -- a vector m in the face's plane or beside it, across step d; and what that tells of another step e in the plane
 module _ (n d m e : Point) (level : dot n d ≡ pos 0) (beside : dot m d ≡ pos 0) (across : dot n e ≡ pos 0) where
@@ -272,10 +268,8 @@ module _ (n d m e : Point) (level : dot n d ≡ pos 0) (beside : dot m d ≡ pos
 
   -- straight on leads along the face beyond
   pub straight : IsHigh (turn n d m) → turn n d e ≡ pos 0 → dot m e ≡ pos 0
-  straight bends none = no_part (dot n n) (dot m e) (up_length n d m bends) (no_part (dot d d) (dot n n *ℤ dot m e) (step_length n d m bends)
-      (ap (λ x. dot d d *ℤ x) (exchanged_product (dot n n) (dot m e)) ∙ sym key ∙ ap (λ x. turn n d m *ℤ x) none ∙ exchanged_product (turn n d m) (pos 0) ∙ no_times (turn n d m))) where
-        no_part : (x y : ℤ) → IsHigh x → x *ℤ y ≡ pos 0 → y ≡ pos 0
-        no_part x y high e = nothing y (low_factor x y high (ap (int_lt (pos 0)) e)) (low_factor x (neg_ℤ y) high (ap (int_lt (pos 0)) (product_back x y ∙ ap neg_ℤ e)))
+  straight bends none = no_factor (dot n n) (dot m e) (up_length n d m bends) (no_factor (dot d d) (dot n n *ℤ dot m e) (step_length n d m bends)
+      (ap (λ x. dot d d *ℤ x) (exchanged_product (dot n n) (dot m e)) ∙ sym key ∙ ap (λ x. turn n d m *ℤ x) none ∙ exchanged_product (turn n d m) (pos 0) ∙ no_times (turn n d m)))
 
   -- the other way round: where e lies on the left and under m, the step bends to m
   pub bends_to : IsHigh (dot d d) → IsHigh (dot n n) → IsLow (turn n d e) → IsHigh (neg_ℤ (dot m e)) → IsHigh (turn n d m)
@@ -353,11 +347,8 @@ module _ (n d p e u w : Point) (level : dot n d ≡ pos 0) (beside : dot p d ≡
   no_turn_here : turn n d p ≡ pos 0
   no_turn_here = none_of_product (turn n d p) (turn n d e) left (key n d p e level beside across ∙ ap (λ x. dot d d *ℤ (x *ℤ dot n n)) on ∙ zero_times (dot d d) (dot n n))
 
-  high_none : (x y : ℤ) → IsHigh x → x *ℤ y ≡ pos 0 → y ≡ pos 0
-  high_none x y high is = nothing y (low_factor x y high (ap (int_lt (pos 0)) is)) (low_factor x (neg_ℤ y) high (ap (int_lt (pos 0)) (product_back x y ∙ ap neg_ℤ is)))
-
   gone : (x y : ℤ) → dot d d *ℤ x ≡ turn n d p *ℤ y → x ≡ pos 0
-  gone x y is = high_none (dot d d) x some (is ∙ ap (λ z. z *ℤ y) no_turn_here ∙ no_times y)
+  gone x y is = no_factor (dot d d) x some (is ∙ ap (λ z. z *ℤ y) no_turn_here ∙ no_times y)
 
   no_cross : cross n p ≡ origin
   no_cross = let same = sym (parallel n d p (dot_turned d n ∙ level) (dot_turned d p ∙ beside)) in let v = cross n p in
@@ -380,9 +371,6 @@ module _ (n d p e u w : Point) (level : dot n d ≡ pos 0) (beside : dot p d ≡
         both_back x y = sym (product_back (neg_ℤ x) y ∙ ap neg_ℤ (exchanged_product (neg_ℤ x) y ∙ product_back y x ∙ ap neg_ℤ (exchanged_product y x)) ∙ twice_back (x *ℤ y))
 
 -- ---- the same, told along each of the two faces, and from the mate
-
-pub turn_second : (n d m : Point) → turn n d m ≡ dot (cross d n) m
-turn_second n d m = sym (triple d n m)
 
 pub turn_first : (n d m : Point) → turn n d m ≡ dot (cross m d) n
 turn_first n d m = turn_second n d m ∙ dot_turned (cross d n) m ∙ sym (triple m d n)
