@@ -1,19 +1,18 @@
 -- Each half-edge of a face of the drawn solid bends away from a plane beyond: one of the solid's, or the plane of the split.
-use Rattle.std.proofs.Common.{◌≡◌, ◌⊎◌, ℕ, Bool, true, false, not, [], refl, sym, ap, subst, ◌∙◌, true≢false, inl, inr}
-use Rattle.euler_operators.specs.Common.{Plane, Point, IsIn, direction, is_above, is_below, is_on, mate, Model, after, face_at, point_of, solid_of, tail, Sound, Has, HasHalf}
+use Rattle.std.proofs.Common.{◌≡◌, ◌⊎◌, ℕ, Bool, true, false, not, ◌&&◌, ◌||◌, [], refl, sym, ap, subst, ◌∙◌, arith, true≢false, inl, inr}
+use Rattle.euler_operators.specs.Common.{Plane, Point, IsIn, are_opposite, direction, is_above, is_below, is_on, mate, Model, after, face_at, point_of, solid_of, tail, Sound, Has, HasHalf}
 use Rattle.euler_operators.proofs.Common.{mate_there}
-use Rattle.euler_laws.proofs.Common.{half_face}
-use Rattle.shapes.specs.Common.{corners, face_is_above, finish, plane_of, start, towards, with_crossings, with_drawings}
+use Rattle.euler_laws.proofs.Common.{back_of, half_face}
+use Rattle.shapes.specs.Common.{corners, face_is_above, finish, plane_of, start, straddling_faces, towards, with_crossings, with_drawings}
 use Rattle.split_drawing_laws.specs.crossings.Laws.{CanBegin}
 use Rattle.split_drawing_laws.specs.half_sides.HalfSides.{side_of}
-use Rattle.split_drawing_laws.proofs.half_sides.PlaceEnds.{place_of_end, place_on}
-use Rattle.undo_journal.specs.Machine.{Machine, held}
-use Rattle.plane_split.specs.SplitModels.{IsSplit}
-use Rattle.command_laws.proofs.splits_laws.Lines as lines
-use Rattle.command_laws.proofs.splits_laws.Lower.{leads_above, leads_below}
+use Rattle.split_drawing_laws.proofs.crossings.Whole.{crossings_sound}
+use Rattle.split_drawing_laws.proofs.half_sides.PlaceEnds.{place_of_end, place_on, side_within}
+use Rattle.split_drawing_laws.proofs.half_sides.Starts.{turn_at}
+use Rattle.split_drawing_laws.proofs.loop_sides.Parting.{on_both}
 use Rattle.convex_laws.specs.Convex.{IsStrictlyConvex}
 use Rattle.convex_laws.proofs.Drawn as drawn
-use Rattle.convex_laws.proofs.Drawn.{Strict, ends_in, next_face, next_starts, starts_in}
+use Rattle.convex_laws.proofs.Drawn.{ends_in, IsInside, next_face, next_starts, starts_in, Strict}
 use Rattle.convex_laws.proofs.Links.{IsEnd, IsLink}
 use Rattle.convex_laws.proofs.Planes.{IsBent, above_facing, below_facing, down_step, facing, high_step, level_step, low_step, on_facing}
 use Rattle.convex_laws.proofs.Together.{drawn_shared}
@@ -25,46 +24,60 @@ same_or_not true false = inr refl
 same_or_not false true = inr refl
 same_or_not false false = inl refl
 
+other_side : (a b c d : Bool) → ((a && b) || (c && d)) ≡ true → d ≡ false → b ≡ true
+other_side a b c d e f = grind arith
+
 -- what is below the plane seen from one side is above it seen from the other
 across : (b : Bool) (p : Plane) (q : Point) → is_below (facing (not b) p) q ≡ true → is_above (facing b p) q ≡ true
 across true p q e = above_facing true p q ∙ e
 across false p q e = sym (below_facing true p q) ∙ e
 
-module _ (before after_it : Machine) (s : ℕ) (p : Plane) (t : ℕ) (sound : Sound (held before)) (made : IsSplit before after_it s p t) (convex : IsStrictlyConvex (held before) s) where
-  abbrev M : Model
-  M = held before
-
+module _ (M : Model) (s : ℕ) (p : Plane) (t : ℕ) (sound : Sound M) (begun : CanBegin M s p t) (unstuck : (with_drawings M s p).stuck ≡ 0) (convex : IsStrictlyConvex M s) where
   abbrev C : Model
   C = (with_crossings M s p).model
 
   abbrev D : Model
   D = (with_drawings M s p).model
 
-  abbrev begun : CanBegin M s p t
-  begun = lines.begun before after_it s p t sound made
-
   D_sound : Sound D
-  D_sound = drawn.D_sound before after_it s p t sound made convex
+  D_sound = drawn.D_sound M s p t sound begun unstuck convex
 
   -- ---- a place of a face that straddles
 
+  -- with its edges cut, its half-edge starts on the plane, and leads off to its side
+  module _ (y : ℕ) (was : HasHalf C y) (end : IsEnd M C s p y) where
+    inside : IsIn (face_at C y) (straddling_faces M p s)
+    inside = subst (λ f. IsIn f (straddling_faces M p s)) (sym end.at) end.straddling
+
+    starts_level : is_on p (start C y) ≡ true
+    starts_level =
+        let place = place_of_end M s p t sound begun end.face end.straddling y end.listed in
+        ap (λ x. is_on p (start C x)) place.2 ∙ place_on M s p t sound begun end.face end.straddling place.0 place.1
+
+    side_is : is_above p (finish C y) ≡ side_of M s p y
+    side_is = sym (side_within M s p t sound begun y inside ∙ ap (λ b. b || is_above p (finish C y)) (on_both p (start C y) starts_level false))
+
+    leads_below : side_of M s p y ≡ false → is_below p (finish C y) ≡ true
+    leads_below down =
+        let b = back_of C (crossings_sound M s p t sound begun) y was in
+        let turn = turn_at M s p t sound begun b.0 b.1 (ap (λ x. is_on p (start C x)) b.2 ∙ starts_level) (subst (λ x. IsIn (face_at C x) (straddling_faces M p s)) (sym b.2) inside) in
+        other_side (is_above p (start C b.0)) (is_below p (finish C y)) (is_below p (start C b.0)) (is_above p (finish C y)) (ap (λ x. are_opposite p (start C b.0) (finish C x)) (sym b.2) ∙ turn.across) (side_is ∙ down)
+
   module _ (y : ℕ) (was : HasHalf C y) (of : solid_of D (face_at D y) ≡ s) (end : IsEnd M C s p y) where
     place_level : is_on p (start D y) ≡ true
-    place_level =
-        let place = place_of_end M s p t sound begun end.face end.straddling y end.listed in
-        ap (is_on p) (drawn.same_start before after_it s p t sound made convex y was of ∙ ap (start C) place.2) ∙ place_on M s p t sound begun end.face end.straddling place.0 place.1
+    place_level = ap (is_on p) (drawn.same_start M s p t sound begun unstuck convex y was of) ∙ starts_level y was end
 
     place_leads : (b : Bool) → side_of M s p y ≡ b → is_below (facing b p) (finish D y) ≡ true
-    place_leads true e = below_facing true p (finish D y) ∙ ap (is_above p) (drawn.same_finish before after_it s p t sound made convex y was of) ∙ leads_above M s p t sound made.0 end.face end.straddling y end.listed end.at e
-    place_leads false e = ap (is_below p) (drawn.same_finish before after_it s p t sound made convex y was of) ∙ leads_below M s p t sound made.0 end.face end.straddling y end.listed was end.at e
+    place_leads true e = below_facing true p (finish D y) ∙ ap (is_above p) (drawn.same_finish M s p t sound begun unstuck convex y was of) ∙ (side_is y was end ∙ e)
+    place_leads false e = ap (is_below p) (drawn.same_finish M s p t sound begun unstuck convex y was of) ∙ leads_below y was end e
 
     -- in a face on one side it leads to that side
     pub place_side : (b : Bool) → face_is_above D p (face_at D y) ≡ b → side_of M s p y ≡ b
     place_side b side = elim (same_or_not (side_of M s p y) b) [
       | inl e ↦ e
       | inr e ↦
-          let there = (drawn.stays before after_it s p t sound made convex).halves y was in
-          absurd (true≢false (sym (across b p (finish D y) (place_leads (not b) e)) ∙ drawn.corner_low before after_it s p t sound made convex b (face_at D y) (half_face D D_sound y there) of side (tail D (mate y)) (ends_in D D_sound y there)))
+          let there = (drawn.stays M s p t sound begun unstuck convex).halves y was in
+          absurd (true≢false (sym (across b p (finish D y) (place_leads (not b) e)) ∙ drawn.corner_low M s p t sound begun unstuck convex b (face_at D y) (half_face D D_sound y there) of side (tail D (mate y)) (ends_in D D_sound y there)))
     ]
 
   -- ---- a face, on one side of the plane, with a half-edge that was there
@@ -77,7 +90,7 @@ module _ (before after_it : Machine) (s : ℕ) (p : Plane) (t : ℕ) (sound : So
     same_origin x was at = drawn_shared M s p t sound begun x y was y_was (at ∙ sym y_at)
 
     pub corner_level : (v : ℕ) → IsIn v (corners D k) → is_on (plane_of M (face_at C y)) (point_of D v) ≡ true
-    corner_level v i = drawn.face_level before after_it s p t sound made convex y y_was (ap (solid_of D) y_at ∙ of) v (subst (λ f. IsIn v (corners D f)) (sym y_at) i)
+    corner_level v i = drawn.face_level M s p t sound begun unstuck convex y y_was (ap (solid_of D) y_at ∙ of) v (subst (λ f. IsIn v (corners D f)) (sym y_at) i)
 
     -- the plane beyond half-edge x
     pub record IsBeside (x : ℕ) : Type 0 where
@@ -86,11 +99,11 @@ module _ (before after_it : Machine) (s : ℕ) (p : Plane) (t : ℕ) (sound : So
       pub kind : ((j : ℕ) × Has M.faces j × (solid_of M j ≡ s) × (beyond ≡ plane_of M j)) ⊎ (beyond ≡ facing b p)
 
     old_bent : (x : ℕ) → HasHalf C x → face_at D x ≡ k → IsBent (plane_of M (face_at C y)) (plane_of M (face_at C (mate x))) D x
-    old_bent x was at = subst (λ f. IsBent (plane_of M f) (plane_of M (face_at C (mate x))) D x) (same_origin x was at) (drawn.old_bent before after_it s p t sound made convex x was (ap (solid_of D) at ∙ of))
+    old_bent x was at = subst (λ f. IsBent (plane_of M f) (plane_of M (face_at C (mate x))) D x) (same_origin x was at) (drawn.old_bent M s p t sound begun unstuck convex x was (ap (solid_of D) at ∙ of))
 
     old_beside : (x : ℕ) → HasHalf C x → face_at D x ≡ k → IsBeside x
     old_beside x was at =
-        let far = drawn.came_beyond before after_it s p t sound made convex x was (ap (solid_of D) at ∙ of) in
+        let far = drawn.came_beyond M s p t sound begun unstuck convex x was (ap (solid_of D) at ∙ of) in
         record { beyond = plane_of M (face_at C (mate x)); bent = old_bent x was at; kind = inl (face_at C (mate x), far.0, far.1, refl) }
 
     -- ---- one that was drawn
@@ -115,7 +128,7 @@ module _ (before after_it : Machine) (s : ℕ) (p : Plane) (t : ℕ) (sound : So
       c_face = ap (face_at D) (sym l.back) ∙ next_face D D_sound (mate x) (mate_there D x there)
 
       pub c_of : solid_of D (face_at D c) ≡ s
-      c_of = ap (solid_of D) c_face ∙ drawn.mate_of before after_it s p t sound made convex x there x_of
+      c_of = ap (solid_of D) c_face ∙ drawn.mate_of M s p t sound begun unstuck convex x there x_of
 
       z_side : side_of M s p z ≡ b
       z_side = place_side z l.pair.d_there z_of l.pair.d_place b (ap (face_is_above D p) z_at ∙ side)
@@ -124,7 +137,7 @@ module _ (before after_it : Machine) (s : ℕ) (p : Plane) (t : ℕ) (sound : So
       c_side = l.pair.sides ∙ ap not z_side
 
       starts : start D x ≡ start D c
-      starts = ap (point_of D) (l.starts ∙ sym ((drawn.stays before after_it s p t sound made convex).tails c l.pair.c_there))
+      starts = ap (point_of D) (l.starts ∙ sym ((drawn.stays M s p t sound begun unstuck convex).tails c l.pair.c_there))
 
       ends : finish D x ≡ start D z
       ends = sym (next_starts D D_sound x there)
@@ -148,26 +161,26 @@ module _ (before after_it : Machine) (s : ℕ) (p : Plane) (t : ℕ) (sound : So
       z_far = plane_of M (face_at C (mate z))
 
       c_bent : IsBent n c_far D c
-      c_bent = subst (λ f. IsBent (plane_of M f) c_far D c) (l.pair.face ∙ same_origin z l.pair.d_there z_at) (drawn.old_bent before after_it s p t sound made convex c l.pair.c_there c_of)
+      c_bent = subst (λ f. IsBent (plane_of M f) c_far D c) (l.pair.face ∙ same_origin z l.pair.d_there z_at) (drawn.old_bent M s p t sound begun unstuck convex c l.pair.c_there c_of)
 
       z_bent : IsBent n z_far D z
       z_bent = old_bent z l.pair.d_there z_at
 
-      under_c : (q : Point) → ((j : ℕ) → Has M.faces j → solid_of M j ≡ s → is_above (plane_of M j) q ≡ false) → is_above c_far q ≡ false
-      under_c q inside = let f = drawn.came_beyond before after_it s p t sound made convex c l.pair.c_there c_of in inside (face_at C (mate c)) f.0 f.1
+      under_c : (q : Point) → IsInside M s q → is_above c_far q ≡ false
+      under_c q inside = let f = drawn.came_beyond M s p t sound begun unstuck convex c l.pair.c_there c_of in inside (face_at C (mate c)) f.0 f.1
 
-      under_z : (q : Point) → ((j : ℕ) → Has M.faces j → solid_of M j ≡ s → is_above (plane_of M j) q ≡ false) → is_above z_far q ≡ false
-      under_z q inside = let f = drawn.came_beyond before after_it s p t sound made convex z l.pair.d_there z_of in inside (face_at C (mate z)) f.0 f.1
+      under_z : (q : Point) → IsInside M s q → is_above z_far q ≡ false
+      under_z q inside = let f = drawn.came_beyond M s p t sound begun unstuck convex z l.pair.d_there z_of in inside (face_at C (mate z)) f.0 f.1
 
       z_there : HasHalf D z
-      z_there = (drawn.stays before after_it s p t sound made convex).halves z l.pair.d_there
+      z_there = (drawn.stays M s p t sound begun unstuck convex).halves z l.pair.d_there
 
       c_there : HasHalf D c
-      c_there = (drawn.stays before after_it s p t sound made convex).halves c l.pair.c_there
+      c_there = (drawn.stays M s p t sound begun unstuck convex).halves c l.pair.c_there
 
       never_met : start D z ≡ start D c → ⊥
       never_met same =
-          let w = drawn.strict before after_it s p t sound made convex c l.pair.c_there c_of in
+          let w = drawn.strict M s p t sound begun unstuck convex c l.pair.c_there c_of in
           let v = point_of M w.vertex in
           let v_on : is_on n v ≡ true = subst (λ f. is_on (plane_of M f) v ≡ true) (l.pair.face ∙ same_origin z l.pair.d_there z_at) w.on in
           never_one_point (direction n) (direction (facing b p)) (towards (start D c) (finish D c)) (towards (start D z) (finish D z)) (towards (start D c) v) (direction c_far) (direction z_far)
@@ -177,10 +190,10 @@ module _ (before after_it : Machine) (s : ℕ) (p : Plane) (t : ℕ) (sound : So
           (level_step c_far (start D c) (finish D c) c_bent.start_beyond c_bent.finish_beyond)
           (level_step z_far (start D z) (finish D z) z_bent.start_beyond z_bent.finish_beyond)
           c_bent.bends z_bent.bends
-          (low_step c_far (start D z) (finish D z) (ap (is_on c_far) same ∙ c_bent.start_beyond) (under_c (finish D z) (drawn.finish_inside before after_it s p t sound made convex z z_there z_of)))
-          (low_step z_far (start D c) (finish D c) (ap (is_on z_far) (sym same) ∙ z_bent.start_beyond) (under_z (finish D c) (drawn.finish_inside before after_it s p t sound made convex c c_there c_of)))
+          (low_step c_far (start D z) (finish D z) (ap (is_on c_far) same ∙ c_bent.start_beyond) (under_c (finish D z) (drawn.finish_inside M s p t sound begun unstuck convex z z_there z_of)))
+          (low_step z_far (start D c) (finish D c) (ap (is_on z_far) (sym same) ∙ z_bent.start_beyond) (under_z (finish D c) (drawn.finish_inside M s p t sound begun unstuck convex c c_there c_of)))
           (down_step c_far (start D c) v c_bent.start_beyond w.below)
-          (low_step z_far (start D c) v (ap (is_on z_far) (sym same) ∙ z_bent.start_beyond) (under_z v (drawn.vertex_inside before after_it s p t sound made convex w.vertex w.corner)))
+          (low_step z_far (start D c) v (ap (is_on z_far) (sym same) ∙ z_bent.start_beyond) (under_z v (drawn.vertex_inside M s p t sound begun unstuck convex w.vertex w.corner)))
           (high_step (facing b p) (start D c) (finish D c) c_on c_up)
           (down_step (facing b p) (start D z) (finish D z) z_on z_down)
 
@@ -208,13 +221,13 @@ module _ (before after_it : Machine) (s : ℕ) (p : Plane) (t : ℕ) (sound : So
             (level_step n (start D z) (finish D z) z_bent.start_here z_bent.finish_here)
             (level_step z_far (start D z) (finish D z) z_bent.start_beyond z_bent.finish_beyond)
             z_bent.bends
-            (low_step z_far (finish D x) (start D x) (ap (is_on z_far) ends ∙ z_bent.start_beyond) (under_z (start D x) (drawn.start_inside before after_it s p t sound made convex x there x_of)))
+            (low_step z_far (finish D x) (start D x) (ap (is_on z_far) ends ∙ z_bent.start_beyond) (under_z (start D x) (drawn.start_inside M s p t sound begun unstuck convex x there x_of)))
             (down_step (facing b p) (start D z) (finish D z) z_on z_down)
             (λ e. never_met (sym ends ∙ same_end (start D x) (finish D x) e ∙ starts));
       }
 
     pub beside : (x : ℕ) → HasHalf D x → face_at D x ≡ k → IsBeside x
-    beside x there at = elim ((drawn.linked before after_it s p t sound made convex).news x there) [
+    beside x there at = elim ((drawn.linked M s p t sound begun unstuck convex).news x there) [
       | inl was ↦ old_beside x was at
       | inr l ↦ record { beyond = facing b p; bent = drawn_bent x there at l; kind = inr refl }
     ]

@@ -1,26 +1,20 @@
--- The caps of a strictly convex solid look along the plane, and its section has no holes.
-use Rattle.std.proofs.Common.{◌≡◌, ℕ, zero, suc, ◌<◌, ℤ, pos, ◌+ℤ◌, ◌*ℤ◌, neg_ℤ, unsigned_abs, int_lt, Bool, true, false, cond, List, [], ◌∷◌, map, length, get_or, refl, sym, ap, subst, ◌∙◌, arith, true≢false, inl, inr}
+-- The area round each cycle of the section of a strictly convex solid points along the plane; so the section has no holes.
+use Rattle.std.proofs.Common.{◌≡◌, ℕ, suc, ◌<◌, ℤ, pos, ◌+ℤ◌, ◌*ℤ◌, neg_ℤ, unsigned_abs, int_lt, Bool, true, false, cond, List, [], ◌∷◌, length, get_or, refl, sym, ap, subst, ◌∙◌, arith, true≢false, inl, inr}
 use Rattle.std.proofs.lemmas.Int.{ints}
-use Rattle.std.proofs.lemmas.List.{length-map}
-use Rattle.euler_operators.specs.Common.{Plane, Point, IsIn, direction, dot, height, is_above, is_on, mate, moved, Model, face_at, faces_of, point_of, solid_of, tail, Sound, Has, HasHalf, lists}
-use Rattle.euler_operators.proofs.Common.{IsIn-filter, IsIn_head, dif-parts, difs, dot_turned, filter_passes, mate-mate, mate_there, neg-dif, none_moved, same_dif}
+use Rattle.euler_operators.specs.Common.{Plane, Point, IsIn, direction, dot, height, is_on, mate, Model, face_at, faces_of, point_of, solid_of, tail, Sound, Has, HasHalf, lists}
+use Rattle.euler_operators.proofs.Common.{IsIn-filter, IsIn_head, dif-parts, difs, dot_turned, filter_passes, mate-mate, mate_there, neg-dif, same_dif}
 use Rattle.euler_laws.proofs.Common.{IsIn-from_listed, half_face, listed-from_in}
-use Rattle.shapes.specs.Common.{area, corners, face_is_above, faces_above, finish, holes_in, is_hole, negated, next_place, normal, plane_of, start, towards, with_crossings, with_drawings}
+use Rattle.shapes.specs.Common.{area, corners, face_is_above, faces_above, finish, holes_in, is_hole, next_place, plane_of, start, towards, with_crossings, with_drawings}
 use Rattle.shapes.proofs.Common.{IsClosed, IsPathTo, area_mates}
+use Rattle.split_drawing_laws.specs.crossings.Laws.{CanBegin}
 use Rattle.split_drawing_laws.proofs.crossings.Premises.{in_solid}
 use Rattle.split_opening_laws.specs.cycles.SectionCycles.{AreSectionCycles, IsBelowHalf, IsSectionCycle}
 use Rattle.split_opening_laws.proofs.strips.Cycle.{next_cases}
-use Rattle.split_laws.proofs.Flags.{flags_are}
-use Rattle.undo_journal.specs.Machine.{Machine, held}
-use Rattle.plane_split.specs.SplitModels.{IsSplit}
-use Rattle.command_laws.specs.Capped.{area_below, cap, caps_of, cycles_of, sum_of}
-use Rattle.command_laws.proofs.caps_laws.Whole.{caps_have_normals}
+use Rattle.command_laws.specs.Capped.{area_below}
 use Rattle.command_laws.proofs.splits_laws.Along.{half_comes}
-use Rattle.command_laws.proofs.splits_laws.Lines as lines
-use Rattle.command_laws.proofs.splits_laws.Whole as whole
 use Rattle.convex_laws.specs.Convex.{IsStrictlyConvex, IsVertexOf}
 use Rattle.convex_laws.proofs.Drawn as drawn
-use Rattle.convex_laws.proofs.Drawn.{beyond_of, ends_in, starts_in}
+use Rattle.convex_laws.proofs.Drawn.{beyond_of, ends_in, IsInside, starts_in}
 use Rattle.convex_laws.proofs.Levels.{IsLow, low_times, twice_back}
 use Rattle.convex_laws.proofs.Pieces.{balanced, first_down, not_less, one_weight, some_weight, turned_low}
 use Rattle.convex_laws.proofs.Planes.{IsBent, above_facing, below_facing, level_step, on_facing, step_from, turned_over}
@@ -60,10 +54,7 @@ high_weight x e = grind (arith, ints)
 over_part : (a b c x y z : ℤ) → neg_ℤ a *ℤ x +ℤ neg_ℤ b *ℤ y +ℤ neg_ℤ c *ℤ z ≡ a *ℤ neg_ℤ x +ℤ b *ℤ neg_ℤ y +ℤ c *ℤ neg_ℤ z
 over_part a b c x y z = rw (dif-parts a, dif-parts b, dif-parts c, dif-parts x, dif-parts y, dif-parts z) (simp (difs, neg-dif) (same_dif _ _ _ _ (omega arith)))
 
-module _ (before after_it : Machine) (s : ℕ) (p : Plane) (t : ℕ) (sound : Sound (held before)) (made : IsSplit before after_it s p t) (convex : IsStrictlyConvex (held before) s) where
-  abbrev M : Model
-  M = held before
-
+module _ (M : Model) (s : ℕ) (p : Plane) (t : ℕ) (sound : Sound M) (begun : CanBegin M s p t) (unstuck : (with_drawings M s p).stuck ≡ 0) (convex : IsStrictlyConvex M s) where
   abbrev C : Model
   C = (with_crossings M s p).model
 
@@ -74,13 +65,10 @@ module _ (before after_it : Machine) (s : ℕ) (p : Plane) (t : ℕ) (sound : So
   above = faces_above D p s
 
   D_sound : Sound D
-  D_sound = drawn.D_sound before after_it s p t sound made convex
+  D_sound = drawn.D_sound M s p t sound begun unstuck convex
 
   abbrev over : Plane
   over = turned_over p
-
-  abbrev Inside : Point → Type 0
-  Inside q = (j : ℕ) → Has M.faces j → solid_of M j ≡ s → is_above (plane_of M j) q ≡ false
 
   -- ---- a half-edge of the section
 
@@ -98,7 +86,7 @@ module _ (before after_it : Machine) (s : ℕ) (p : Plane) (t : ℕ) (sound : So
     back_there = mate_there D b w.there
 
     back_of : solid_of D (face_at D (mate b)) ≡ s
-    back_of = drawn.mate_of before after_it s p t sound made convex b w.there w.of_solid
+    back_of = drawn.mate_of M s p t sound begun unstuck convex b w.there w.of_solid
 
     pub below_side : face_is_above D p (face_at D b) ≡ false
     below_side = not_above (face_at D b) (half_face D D_sound b w.there) w.of_solid w.below
@@ -108,8 +96,8 @@ module _ (before after_it : Machine) (s : ℕ) (p : Plane) (t : ℕ) (sound : So
 
     on_both_faces : (v : ℕ) → IsIn v (corners D (face_at D b)) → IsIn v (corners D (face_at D (mate b))) → is_on p (point_of D v) ≡ true
     on_both_faces v i j = between (height p (point_of D v))
-        (drawn.corner_low before after_it s p t sound made convex false (face_at D b) (half_face D D_sound b w.there) w.of_solid below_side v i)
-        (sym (above_facing true p (point_of D v)) ∙ drawn.corner_low before after_it s p t sound made convex true (face_at D (mate b)) (half_face D D_sound (mate b) back_there) back_of above_side v j)
+        (drawn.corner_low M s p t sound begun unstuck convex false (face_at D b) (half_face D D_sound b w.there) w.of_solid below_side v i)
+        (sym (above_facing true p (point_of D v)) ∙ drawn.corner_low M s p t sound begun unstuck convex true (face_at D (mate b)) (half_face D D_sound (mate b) back_there) back_of above_side v j)
 
     pub starts_on : is_on p (start D b) ≡ true
     starts_on = on_both_faces (tail D b) (starts_in D D_sound b w.there) (subst (λ x. IsIn (tail D x) (corners D (face_at D (mate b)))) (mate-mate b) (ends_in D D_sound (mate b) back_there))
@@ -117,14 +105,14 @@ module _ (before after_it : Machine) (s : ℕ) (p : Plane) (t : ℕ) (sound : So
     pub ends_on : is_on p (finish D b) ≡ true
     ends_on = on_both_faces (tail D (mate b)) (ends_in D D_sound b w.there) (starts_in D D_sound (mate b) back_there)
 
-    pub edge : section.IsSectionEdge before after_it s p t sound made convex false b w.there w.of_solid below_side starts_on ends_on
-    edge = section.section_edge before after_it s p t sound made convex false b w.there w.of_solid below_side starts_on ends_on
+    pub edge : section.IsSectionEdge M s p t sound begun unstuck convex false b w.there w.of_solid below_side starts_on ends_on
+    edge = section.section_edge M s p t sound begun unstuck convex false b w.there w.of_solid below_side starts_on ends_on
 
     old_of : solid_of D (face_at D edge.old) ≡ s
     old_of = ap (solid_of D) edge.now ∙ w.of_solid
 
     face_facts : Has M.faces (face_at C edge.old) × (solid_of M (face_at C edge.old) ≡ s)
-    face_facts = drawn.came_face before after_it s p t sound made convex edge.old edge.was old_of
+    face_facts = drawn.came_face M s p t sound begun unstuck convex edge.old edge.was old_of
 
     -- a vertex of the solid under the face
     record IsDeep : Type 0 where
@@ -134,9 +122,9 @@ module _ (before after_it : Machine) (s : ℕ) (p : Plane) (t : ℕ) (sound : So
 
     deep : IsDeep
     deep =
-        let comes = half_comes M s p t sound (lines.begun before after_it s p t sound made) edge.old edge.was in
+        let comes = half_comes M s p t sound begun edge.old edge.was in
         let g = comes.half in
-        let g_of = drawn.came_of before after_it s p t sound made convex edge.old edge.was old_of in
+        let g_of = drawn.came_of M s p t sound begun unstuck convex edge.old edge.was old_of in
         let back = beyond_of M s sound convex g comes.there g_of in
         let u = under M s sound convex (mate g) (mate_there M g comes.there) back in
         record {
@@ -150,7 +138,7 @@ module _ (before after_it : Machine) (s : ℕ) (p : Plane) (t : ℕ) (sound : So
 
   -- ---- the section, seen from a point on the plane between u and w
 
-  module _ (u w : Point) (a c : ℕ) (u_in : Inside u) (w_in : Inside w) (level : weighed a c (height (turned_over p) u) (height (turned_over p) w) ≡ pos 0) where
+  module _ (u w : Point) (a c : ℕ) (u_in : IsInside M s u) (w_in : IsInside M s w) (level : weighed a c (height (turned_over p) u) (height (turned_over p) w) ≡ pos 0) where
     module _ (b : ℕ) (h : IsBelowHalf D above s b) where
       abbrev n : Plane
       n = plane_of M (face_at C (edge b h).old)
@@ -192,10 +180,10 @@ module _ (before after_it : Machine) (s : ℕ) (p : Plane) (t : ℕ) (sound : So
     abbrev v : Point
     v = point_of M (deep b h).vertex
 
-    v_in : Inside v
-    v_in = drawn.vertex_inside before after_it s p t sound made convex (deep b h).vertex (deep b h).corner
+    v_in : IsInside M s v
+    v_in = drawn.vertex_inside M s p t sound begun unstuck convex (deep b h).vertex (deep b h).corner
 
-    under_it : (q : Point) → Inside q → IsLow (height face_plane q)
+    under_it : (q : Point) → IsInside M s q → IsLow (height face_plane q)
     under_it q inside = let f = face_facts b h in inside (face_at C (edge b h).old) f.0 f.1
 
     alone : height over v ≡ pos 0 → IsHigh (dot (direction over) (area D bs))
@@ -206,7 +194,7 @@ module _ (before after_it : Machine) (s : ℕ) (p : Plane) (t : ℕ) (sound : So
         IsHigh (dot (direction over) (area D bs))
     with_other o corner some level =
         let r = point_of M o in
-        let r_in : Inside r = drawn.vertex_inside before after_it s p t sound made convex o corner in
+        let r_in : IsInside M s r = drawn.vertex_inside M s p t sound begun unstuck convex o corner in
         cycle_from v r (unsigned_abs (height over r)) (unsigned_abs (height over v)) v_in r_in level bs cycle b i h
         (first_down (pos (unsigned_abs (height over r))) (pos (unsigned_abs (height over v))) (height face_plane v) (height face_plane r) some (not_less (unsigned_abs (height over v))) (deep b h).down
         (low_times (unsigned_abs (height over v)) (height face_plane r) (under_it r r_in)))
@@ -214,13 +202,13 @@ module _ (before after_it : Machine) (s : ℕ) (p : Plane) (t : ℕ) (sound : So
     turned_round : IsHigh (dot (direction over) (area D bs))
     turned_round = elim (either_sign (height over v)) [
       | inr high ↦
-          let o = section.reaches before after_it s p t sound made convex false in
+          let o = section.reaches M s p t sound begun unstuck convex false in
           let down : IsHigh (neg_ℤ (height over (point_of M o.vertex))) = turned_low (height over (point_of M o.vertex)) (below_facing true p (point_of M o.vertex) ∙ o.above) in
           with_other o.vertex o.corner (some_weight (height over (point_of M o.vertex)) down) (balanced (height over v) (height over (point_of M o.vertex)) high down)
       | inl low ↦ elim (either_sign (neg_ℤ (height over v))) [
         | inl none ↦ alone (nothing (height over v) low none)
         | inr down ↦
-            let o = section.reaches before after_it s p t sound made convex true in
+            let o = section.reaches M s p t sound begun unstuck convex true in
             let ho = height over (point_of M o.vertex) in
             with_other o.vertex o.corner (high_weight ho o.above) (exchanged_sum (pos (unsigned_abs ho) *ℤ height over v) (pos (unsigned_abs (height over v)) *ℤ ho) ∙ balanced ho (height over v) o.above down)
       ]
@@ -234,7 +222,7 @@ module _ (before after_it : Machine) (s : ℕ) (p : Plane) (t : ℕ) (sound : So
   first_half [] cycle = absurd (omega (arith, cycle.two_halves))
   first_half (b ∷ bs) cycle = (b, IsIn_head b bs)
 
-  cycle_high : (bs : List ℕ) → IsSectionCycle D above s bs → IsHigh (dot (direction p) (area_below D bs))
+  pub cycle_high : (bs : List ℕ) → IsSectionCycle D above s bs → IsHigh (dot (direction p) (area_below D bs))
   cycle_high bs cycle = let b = first_half bs cycle in cycle_looks bs cycle b.0 b.1
 
   no_hole : (bs : List ℕ) → IsSectionCycle D above s bs → is_hole D p bs ≡ false
@@ -244,29 +232,3 @@ module _ (before after_it : Machine) (s : ℕ) (p : Plane) (t : ℕ) (sound : So
   pub none_of : (cs : List (List ℕ)) → AreSectionCycles D above s cs → holes_in D p cs ≡ []
   none_of [] each = refl
   none_of (bs ∷ cs) each = ap (λ b. cond b (bs ∷ holes_in D p cs) (holes_in D p cs)) (no_hole bs each.0) ∙ none_of cs each.1
-
-  cycle_at : (cs : List (List ℕ)) → AreSectionCycles D above s cs → (i : ℕ) → i < length cs → IsSectionCycle D above s (get_or cs i [])
-  cycle_at [] each i l = absurd (omega (arith, l))
-  cycle_at (bs ∷ cs) each zero l = each.0
-  cycle_at (bs ∷ cs) each (suc i) l = cycle_at cs each.1 i (omega (arith, l))
-
-  pub cycles : AreSectionCycles D above s (cycles_of M s p)
-  cycles = (whole.can before after_it s p t sound made).opens.cycles.cycles
-
-  as_many : length (caps_of M s p) ≡ length (cycles_of M s p)
-  as_many = sym (length-map (caps_of M s p) (λ k. k.hole)) ∙ ap length (flags_are above s p (record { model = D; taken = (with_drawings M s p).taken; caps = [] }) (cycles_of M s p) (whole.can before after_it s p t sound made).opens) ∙ length-map (cycles_of M s p) (is_hole D p)
-
-  -- the cap below looks along the plane's direction, and the one above against it
-  pub cap_looks : (i : ℕ) → i < length (caps_of (held before) s p) → (cap (held before) s p i).hole ≡ false →
-      IsHigh (dot (direction p) (normal (held after_it) (cap (held before) s p i).lower)) × IsHigh (dot (direction (turned_over p)) (normal (held after_it) (cap (held before) s p i).upper))
-  cap_looks i l outer =
-      let told = caps_have_normals before after_it s p t i sound made l outer in
-      let bs = get_or (cycles_of M s p) i [] in
-      let low : normal (held after_it) (cap M s p i).lower ≡ area_below D bs = told.1 ∙ ap (λ hs. moved (sum_of (map (area_below D) hs)) (area_below D bs)) (none_of (cycles_of M s p) cycles) ∙ none_moved (area_below D bs) in
-      let high : IsHigh (dot (direction p) (area_below D bs)) = cycle_high bs (cycle_at (cycles_of M s p) cycles i (subst (λ k. i < k) as_many l)) in
-      let a = area_below D bs in (
-        ap (λ v. int_lt (pos 0) (dot (direction p) v)) low ∙ high,
-        ap (λ v. int_lt (pos 0) (dot (direction over) v)) (told.2 ∙ ap negated low) ∙ ap (int_lt (pos 0)) (twice_over p.a p.b p.c a.x a.y a.z) ∙ high,
-      ) where
-        twice_over : (a b c x y z : ℤ) → neg_ℤ a *ℤ neg_ℤ x +ℤ neg_ℤ b *ℤ neg_ℤ y +ℤ neg_ℤ c *ℤ neg_ℤ z ≡ a *ℤ x +ℤ b *ℤ y +ℤ c *ℤ z
-        twice_over a b c x y z = rw (dif-parts a, dif-parts b, dif-parts c, dif-parts x, dif-parts y, dif-parts z) (simp (difs, neg-dif) (same_dif _ _ _ _ (omega arith)))

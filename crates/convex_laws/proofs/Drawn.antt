@@ -1,34 +1,35 @@
 -- A strictly convex solid once it is drawn: each half-edge of a face lies on the plane of the face from which that comes, and of one beyond, from which
 -- it bends away. That is the plane of another face of the solid, or the one of the split.
-use Rattle.std.specs.List.{list_any}
-use Rattle.std.proofs.Common.{◌≡◌, ◌≢◌, ℕ, ◌+◌, pos, int_lt, Bool, true, false, not, ◌&&◌, List, [], neg_ℤ, ℤ, refl, sym, ap, subst, ◌∙◌, arith}
+use Rattle.std.proofs.Common.{◌≡◌, ◌≢◌, ℕ, ◌+◌, pos, int_lt, Bool, true, false, not, ◌&&◌, [], neg_ℤ, ℤ, refl, sym, ap, subst, ◌∙◌, arith}
 use Rattle.std.proofs.lemmas.Bool.{and_parts}
 use Rattle.std.proofs.lemmas.Int.{ints}
 use Rattle.euler_operators.specs.Common.{Plane, Point, IsIn, cross, direction, dot, is_above, is_below, is_on, mate, Model, after, content, face_at, face_of, items_of, loop_of, point_of, solid_of, tail, Sound, Has, HasHalf, lists}
 use Rattle.euler_operators.proofs.Common.{cycle_there, loop_there, mate-mate, mate_there}
 use Rattle.euler_laws.proofs.Common.{IsIn-from_listed, half_after, half_face, listed-from_in, loop_after}
-use Rattle.shapes.specs.Common.{corners, face_is_above, finish, is_flat, normal, plane_of, reaches_above, reaches_below, start, straddles, towards, with_crossings, with_drawings}
+use Rattle.shapes.specs.Common.{corners, face_is_above, finish, is_flat, normal, plane_of, reaches_above, reaches_below, start, straddles, straddling_pairs, towards, with_crossings, with_drawings}
 use Rattle.shapes.proofs.Common.{face_listed}
 use Rattle.split_drawing_laws.specs.crossings.Laws.{CanBegin}
 use Rattle.split_drawing_laws.specs.drawings.DrawnIn.{Stays}
+use Rattle.split_drawing_laws.specs.drawings.Laws.{CanBeDrawn}
 use Rattle.split_drawing_laws.specs.half_sides.HalfSides.{side_of}
 use Rattle.split_drawing_laws.proofs.crossings.Premises.{tail_in_face}
 use Rattle.split_drawing_laws.proofs.crossings.Whole.{crossings_sound}
 use Rattle.split_drawing_laws.proofs.cut_volumes.CutWhole.{crossings_measured}
 use Rattle.split_drawing_laws.proofs.cut_volumes.Told.{solid_stays}
 use Rattle.split_drawing_laws.proofs.drawings.Stays.{start_stays}
+use Rattle.split_drawing_laws.proofs.drawings.Whole.{drawing_stays}
 use Rattle.split_drawing_laws.proofs.drawn_volumes.Bounds.{face_on}
 use Rattle.split_drawing_laws.proofs.drawn_volumes.DrawWhole.{lies_flat}
 use Rattle.split_drawing_laws.proofs.face_sides.Begun.{none_straddles}
-use Rattle.split_laws.proofs.drawn.Drawn.{drawn_sound, drawn_stays, never_stuck}
-use Rattle.undo_journal.specs.Machine.{Machine, held}
-use Rattle.plane_split.specs.SplitModels.{IsSplit}
+use Rattle.split_drawing_laws.proofs.pairs.LoopPlaces.{none_passes}
+use Rattle.split_drawing_laws.proofs.pairs.Whole.{can_be_drawn, rewritings_sound}
+use Rattle.split_laws.specs.drawn.Kept.{KeepsSolids}
+use Rattle.split_laws.proofs.drawn.Solids.{drawing_keeps}
 use Rattle.command_laws.specs.SplitEdges.{LeadsAlong}
 use Rattle.command_laws.proofs.splits_laws.Along.{ComesOf, half_comes}
 use Rattle.command_laws.proofs.splits_laws.DrawnFaces.{spread}
-use Rattle.command_laws.proofs.splits_laws.Lines as lines
 use Rattle.convex_laws.specs.Convex.{IsStrictlyConvex, IsVertexOf}
-use Rattle.convex_laws.proofs.Apart.{all_fail, first_none, listed_passes, not_back, not_both}
+use Rattle.convex_laws.proofs.Apart.{first_none, listed_passes, not_both}
 use Rattle.convex_laws.proofs.Links.{AreLinked, IsEnd, drawings_linked}
 use Rattle.convex_laws.proofs.Planes.{IsBent, above_facing, facing, on_line, turns_too}
 use Rattle.convex_laws.proofs.Volumes.{depth, height_is, under}
@@ -50,10 +51,7 @@ module _ (G : Model) (sound : Sound G) (h : ℕ) (half : HasHalf G h) where
   pub next_face : face_at G (after G h) ≡ face_at G h
   next_face = ap (face_of G) (loop_after G sound h half)
 
-none_passes : (f : ℕ → Bool) (vs : List ℕ) → list_any f vs ≡ false → (v : ℕ) → IsIn v vs → f v ≡ false
-none_passes f vs none v i = not_back (f v) (listed_passes (λ x. not (f x)) vs v (all_fail f vs none) (listed-from_in v vs i))
-
-turned_sign : (d : ℤ) → int_lt (pos 0) d ≡ true → int_lt (neg_ℤ d) (pos 0) ≡ true
+pub turned_sign : (d : ℤ) → int_lt (pos 0) d ≡ true → int_lt (neg_ℤ d) (pos 0) ≡ true
 turned_sign d e = grind (arith, ints)
 
 -- ---- a half-edge of the solid
@@ -108,57 +106,59 @@ bent_still n m G H x starts ends b = record {
   across : Plane → Plane → Point
   across n m = cross (direction n) (direction m)
 
+-- point q isn't above the plane of any face of solid s
+abbrev pub IsInside : Model → ℕ → Point → Type 0
+IsInside M s q = (j : ℕ) → Has M.faces j → solid_of M j ≡ s → is_above (plane_of M j) q ≡ false
+
 -- ---- the drawn solid
 
-module _ (before after_it : Machine) (s : ℕ) (p : Plane) (t : ℕ) (sound : Sound (held before)) (made : IsSplit before after_it s p t) (convex : IsStrictlyConvex (held before) s) where
-  abbrev M : Model
-  M = held before
-
+module _ (M : Model) (s : ℕ) (p : Plane) (t : ℕ) (sound : Sound M) (begun : CanBegin M s p t) (unstuck : (with_drawings M s p).stuck ≡ 0) (convex : IsStrictlyConvex M s) where
   abbrev C : Model
   C = (with_crossings M s p).model
 
   abbrev D : Model
   D = (with_drawings M s p).model
 
-  abbrev begun : CanBegin M s p t
-  begun = lines.begun before after_it s p t sound made
-
   pub C_sound : Sound C
   C_sound = crossings_sound M s p t sound begun
 
   pub D_sound : Sound D
-  D_sound = drawn_sound M s p t sound made.0
+  D_sound = rewritings_sound M s p t sound begun
+
+  can : CanBeDrawn (with_crossings M s p) (straddling_pairs M s p)
+  can = can_be_drawn M s p t sound begun
 
   pub stays : Stays C D
-  stays = drawn_stays M s p t sound made.0
+  unfolding with_drawings
+  stays = drawing_stays p (with_crossings M s p) (straddling_pairs M s p) can
+
+  keeps : KeepsSolids C D
+  unfolding with_drawings
+  keeps = drawing_keeps p (with_crossings M s p) (straddling_pairs M s p) can
 
   pub linked : AreLinked C D (side_of M s p) (IsEnd M C s p) []
   linked = drawings_linked M s p t sound begun
 
-  -- point q isn't above any face of the solid
-  abbrev Inside : Point → Type 0
-  Inside q = (j : ℕ) → Has M.faces j → solid_of M j ≡ s → is_above (plane_of M j) q ≡ false
-
-  pub vertex_inside : (v : ℕ) → IsVertexOf M s v → Inside (point_of M v)
+  pub vertex_inside : (v : ℕ) → IsVertexOf M s v → IsInside M s (point_of M v)
   vertex_inside v w j there of = convex.convex.below j there of v w
 
-  pub start_inside : (x : ℕ) → HasHalf D x → solid_of D (face_at D x) ≡ s → Inside (start D x)
-  start_inside x there of j has at = drawn_under before after_it s p t sound made (plane_of M j) (convex.convex.below j has at) (tail D x) (half_on D D_sound s x there of)
+  pub start_inside : (x : ℕ) → HasHalf D x → solid_of D (face_at D x) ≡ s → IsInside M s (start D x)
+  start_inside x there of j has at = drawn_under M s p t sound begun (plane_of M j) (convex.convex.below j has at) (tail D x) (half_on D D_sound s x there of)
 
   pub mate_of : (x : ℕ) → HasHalf D x → solid_of D (face_at D x) ≡ s → solid_of D (face_at D (mate x)) ≡ s
   mate_of x there of = sym (D_sound.one_solid x there) ∙ of
 
-  pub finish_inside : (x : ℕ) → HasHalf D x → solid_of D (face_at D x) ≡ s → Inside (finish D x)
+  pub finish_inside : (x : ℕ) → HasHalf D x → solid_of D (face_at D x) ≡ s → IsInside M s (finish D x)
   finish_inside x there of = start_inside (mate x) (mate_there D x there) (mate_of x there of)
 
   one_side : (k : ℕ) → Has D.faces k → solid_of D k ≡ s → straddles D p k ≡ false
-  one_side k has of = none_straddles M D s p t sound begun (never_stuck M s p t sound made.0, refl) k (face_listed D D_sound s k has of)
+  one_side k has of = none_straddles M D s p t sound begun (unstuck, refl) k (face_listed D D_sound s k has of)
 
   -- no corner of a face lies beyond the plane
   pub corner_low : (b : Bool) (k : ℕ) → Has D.faces k → solid_of D k ≡ s → face_is_above D p k ≡ b → (v : ℕ) → IsIn v (corners D k) → is_above (facing b p) (point_of D v) ≡ false
   unfolding face_is_above straddles
-  corner_low false k has of e v i = none_passes (λ x. is_above p (point_of D x)) (corners D k) (first_none (reaches_above D p k) (not (reaches_below D p k) && not (int_lt (pos 0) (dot (normal D k) (direction p)))) e) v i
-  corner_low true k has of e v i = above_facing true p (point_of D v) ∙ none_passes (λ x. is_below p (point_of D x)) (corners D k) (not_both (reaches_above D p k) (reaches_below D p k) (not (int_lt (pos 0) (dot (normal D k) (direction p)))) e (one_side k has of)) v i
+  corner_low false k has of e v i = none_passes (λ x. is_above p (point_of D x)) v (corners D k) (first_none (reaches_above D p k) (not (reaches_below D p k) && not (int_lt (pos 0) (dot (normal D k) (direction p)))) e) i
+  corner_low true k has of e v i = above_facing true p (point_of D v) ∙ none_passes (λ x. is_below p (point_of D x)) v (corners D k) (not_both (reaches_above D p k) (reaches_below D p k) (not (int_lt (pos 0) (dot (normal D k) (direction p)))) e (one_side k has of)) i
 
   -- ---- a half-edge that was there
 
@@ -167,7 +167,7 @@ module _ (before after_it : Machine) (s : ℕ) (p : Plane) (t : ℕ) (sound : So
     comes = half_comes M s p t sound begun x was
 
     pub came_of : solid_of M (face_at M (half_comes M s p t sound begun x was).half) ≡ s
-    came_of = lines.came_of before after_it s p t sound made x was of
+    came_of = ap (solid_of M) (sym comes.face) ∙ sym (solid_stays M C (crossings_measured M s p t sound begun).faces (face_at C x)) ∙ sym (keeps.halves x was) ∙ of
 
     pub came_face : Has M.faces (face_at C x) × (solid_of M (face_at C x) ≡ s)
     came_face = (subst (λ k. Has M.faces k) (sym comes.face) (half_face M sound comes.half comes.there), ap (solid_of M) comes.face ∙ came_of)

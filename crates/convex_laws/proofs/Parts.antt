@@ -5,6 +5,7 @@ use Rattle.euler_operators.proofs.Common.{IsIn_head, in-holds, item_loop}
 use Rattle.euler_laws.proofs.Common.{IsIn-from_listed, first_listed, listed-from_in, rest_listed}
 use Rattle.shapes.specs.Common.{corners, face_is_above, is_flat, normal, plane_of, with_crossings, with_drawings}
 use Rattle.shapes.proofs.Common.{are_on}
+use Rattle.split_drawing_laws.specs.crossings.Laws.{CanBegin}
 use Rattle.split_drawing_laws.proofs.face_sides.Begun.{none_lone}
 use Rattle.split_opening_laws.specs.sections.Capped.{cap_faces}
 use Rattle.split_laws.proofs.drawn.Drawn.{never_stuck}
@@ -20,7 +21,7 @@ use Rattle.convex_laws.specs.Convex.{IsConvex, IsStrictlyConvex, LiesAbove, Lies
 use Rattle.convex_laws.proofs.Apart as apart
 use Rattle.convex_laws.proofs.Apart.{OuterCap, split_parts_lie_apart}
 use Rattle.convex_laws.proofs.Beside as next
-use Rattle.convex_laws.proofs.Caps.{cap_looks}
+use Rattle.convex_laws.proofs.CapNormals.{cap_looks}
 use Rattle.convex_laws.proofs.Drawn as drawn
 use Rattle.convex_laws.proofs.Drawn.{next_face}
 use Rattle.convex_laws.proofs.Pieces.{piece_looks}
@@ -37,6 +38,12 @@ module _ (before after_it : Machine) (s : ℕ) (p : Plane) (t : ℕ) (sound : So
   abbrev M : Model
   M = held before
 
+  abbrev begun : CanBegin M s p t
+  begun = lines.begun before after_it s p t sound made
+
+  abbrev unstuck : (with_drawings M s p).stuck ≡ 0
+  unstuck = never_stuck M s p t sound made.0
+
   abbrev C : Model
   C = (with_crossings M s p).model
 
@@ -47,7 +54,7 @@ module _ (before after_it : Machine) (s : ℕ) (p : Plane) (t : ℕ) (sound : So
   N = held after_it
 
   D_sound : Sound D
-  D_sound = drawn.D_sound before after_it s p t sound made convex
+  D_sound = drawn.D_sound M s p t sound begun unstuck convex
 
   pub N_sound : Sound N
   N_sound = subst Sound (sym (whole.after_is before after_it s p t sound made)) (whole.after_sound before after_it s p t sound made)
@@ -60,7 +67,7 @@ module _ (before after_it : Machine) (s : ℕ) (p : Plane) (t : ℕ) (sound : So
     own = (D_sound.outers_there k has).1
 
     from_content : (c : LoopContent) → content D (outer D k) ≡ c → (x : ℕ) × HasHalf D x × (face_at D x ≡ k)
-    from_content (lone v) e = absurd (none_lone M D s p t sound (lines.begun before after_it s p t sound made) (never_stuck M s p t sound made.0, refl) (outer D k) v e (ap (solid_of D) own ∙ of))
+    from_content (lone v) e = absurd (none_lone M D s p t sound begun (unstuck, refl) (outer D k) v e (ap (solid_of D) own ∙ of))
     from_content (cycle []) e = absurd ((D_sound.cycles (outer D k) [] (D_sound.outers_there k has).0 e).some_item refl)
     from_content (cycle (x ∷ xs)) e =
         let i : IsIn x (items_of (content D (outer D k))) = subst (λ c. IsIn x (items_of c)) (sym e) (IsIn_head x xs) in
@@ -73,7 +80,7 @@ module _ (before after_it : Machine) (s : ℕ) (p : Plane) (t : ℕ) (sound : So
 
   pub some_old : (k : ℕ) → Has D.faces k → solid_of D k ≡ s → HasOld k
   some_old k has of =
-      let h = some_half k has of in elim ((drawn.linked before after_it s p t sound made convex).news h.0 h.1) [
+      let h = some_half k has of in elim ((drawn.linked M s p t sound begun unstuck convex).news h.0 h.1) [
         | inl was ↦ record { old = h.0; was = was; at = h.2 }
         | inr l ↦ record { old = after D h.0; was = l.pair.d_there; at = next_face D D_sound h.0 h.1 ∙ h.2 }
       ]
@@ -86,7 +93,7 @@ module _ (before after_it : Machine) (s : ℕ) (p : Plane) (t : ℕ) (sound : So
 
     pub face_on : are_on N (plane_of M (face_at C y)) (corners N k) ≡ true
     face_on = turned_lies D N k (plane_of M (face_at C y)) turned (all_level D (plane_of M (face_at C y)) (corners D k)
-        (λ v l. next.corner_level before after_it s p t sound made convex (face_is_above D p k) k has of refl y y_was y_at v (IsIn-from_listed v (corners D k) l)))
+        (λ v l. next.corner_level M s p t sound begun unstuck convex (face_is_above D p k) k has of refl y y_was y_at v (IsIn-from_listed v (corners D k) l)))
 
     pub face_looks : IsHigh (dot (direction (plane_of M (face_at C y))) (normal N k))
     face_looks = ap (λ v. int_lt (pos 0) (dot (direction (plane_of M (face_at C y))) v)) turned.normal ∙ piece_looks before after_it s p t sound made convex (face_is_above D p k) k has of refl y y_was y_at
@@ -95,7 +102,7 @@ module _ (before after_it : Machine) (s : ℕ) (p : Plane) (t : ℕ) (sound : So
     face_flat = lies_flat N N_sound k turned.there (plane_of M (face_at C y)) face_on face_looks
 
     both_below : LiesBelow N (plane_of M (face_at C y)) s × LiesBelow N (plane_of M (face_at C y)) t
-    both_below = let f = drawn.came_face before after_it s p t sound made convex y y_was (ap (solid_of D) y_at ∙ of) in
+    both_below = let f = drawn.came_face M s p t sound begun unstuck convex y y_was (ap (solid_of D) y_at ∙ of) in
         splits_stay_below before after_it s p t (plane_of M (face_at C y)) sound made (convex.convex.below (face_at C y) f.0 f.1)
 
     face_below : (q : Point) → is_above (plane_of M (face_at C y)) q ≡ false → is_above (plane_of N k) q ≡ false

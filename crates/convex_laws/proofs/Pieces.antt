@@ -1,13 +1,13 @@
 -- The faces of a strictly convex solid once it is drawn look as those do from which they come.
-use Rattle.std.specs.List.{list_any}
-use Rattle.std.proofs.Common.{◌≡◌, ℕ, zero, suc, ℤ, pos, negsuc, ◌+ℤ◌, ◌*ℤ◌, neg_ℤ, unsigned_abs, int_lt, Bool, true, false, not, ◌||◌, List, [], ◌∷◌, refl, sym, ap, subst, ◌∙◌, arith, true≢false, inl, inr}
+use Rattle.std.proofs.Common.{◌≡◌, ℕ, zero, suc, ℤ, pos, negsuc, ◌+ℤ◌, ◌*ℤ◌, neg_ℤ, unsigned_abs, int_lt, Bool, true, false, not, refl, sym, ap, subst, ◌∙◌, arith, inl, inr}
 use Rattle.std.proofs.lemmas.Bool.{and_parts}
 use Rattle.std.proofs.lemmas.Int.{ints}
-use Rattle.euler_operators.specs.Common.{Plane, Point, IsIn, direction, dot, height, is_above, is_below, is_on, mate, origin, Model, face_at, point_of, same_point, solid_of, Sound, Has, HasHalf, lists}
-use Rattle.euler_laws.proofs.Common.{IsIn-from_listed, first_listed, rest_listed}
-use Rattle.shapes.specs.Common.{boundary, corners, face_is_above, finish, is_flat, normal, plane_of, reaches_above, reaches_below, start, straddles, towards, with_crossings, with_drawings}
+use Rattle.euler_operators.specs.Common.{Plane, Point, IsIn, direction, dot, height, is_above, is_on, mate, origin, Model, face_at, point_of, same_point, solid_of, Sound, Has, HasHalf}
+use Rattle.euler_laws.proofs.Common.{listed-from_in}
+use Rattle.shapes.specs.Common.{boundary, corners, face_is_above, finish, is_flat, normal, plane_of, start, straddles, towards, with_crossings, with_drawings}
 use Rattle.shapes.proofs.Common.{some_direction}
 use Rattle.split_drawing_laws.specs.crossings.Laws.{CanBegin}
+use Rattle.split_laws.proofs.drawn.Drawn.{never_stuck}
 use Rattle.undo_journal.specs.Machine.{Machine, held}
 use Rattle.plane_split.specs.SplitModels.{IsSplit}
 use Rattle.command_laws.proofs.splits_laws.Lines as lines
@@ -15,21 +15,15 @@ use Rattle.command_laws.proofs.splits_laws.Uncut.{uncut_turned}
 use Rattle.convex_laws.specs.Convex.{IsStrictlyConvex}
 use Rattle.convex_laws.proofs.Beside as next
 use Rattle.convex_laws.proofs.Drawn as drawn
-use Rattle.convex_laws.proofs.Drawn.{corner_on}
+use Rattle.convex_laws.proofs.Drawn.{corner_on, IsInside}
 use Rattle.convex_laws.proofs.Levels.{IsLow, low_times, product_back}
-use Rattle.convex_laws.proofs.Planes.{IsBent, below_facing, facing, level_step, step_from}
+use Rattle.convex_laws.proofs.Planes.{IsBent, facing, level_step, step_from}
 use Rattle.convex_laws.proofs.Rounds.{boundary_half, face_looks, in_boundary, weighed_low, weighed_none}
 use Rattle.convex_laws.proofs.Together.{whole_stays}
+use Rattle.convex_laws.proofs.Touched.{far_corner}
 use Rattle.convex_laws.proofs.Turns.{Edge, IsHigh, exchanged_product, has_length, high_times, leads_on, never_back, swept_over, weighed}
 
 -- ---- two heights that weigh each other up
-
-pub any_found : (f : ℕ → Bool) (vs : List ℕ) → list_any f vs ≡ true → (v : ℕ) × (lists vs v ≡ true) × (f v ≡ true)
-any_found f [] e = absurd (true≢false (sym e))
-any_found f (v ∷ vs) e = found (f v) refl (λ n. any_found f vs (ap (λ b. b || list_any f vs) (sym n) ∙ e)) where
-  found : (b : Bool) → f v ≡ b → (f v ≡ false → (w : ℕ) × (lists vs w ≡ true) × (f w ≡ true)) → (w : ℕ) × (lists (v ∷ vs) w ≡ true) × (f w ≡ true)
-  found true h later = (v, first_listed v vs, h)
-  found false h later = let r = later h in (r.0, rest_listed v r.0 vs r.1, r.2)
 
 pub one_weight : (x y : ℤ) → weighed 1 0 x y ≡ x
 one_weight x y = omega (arith, ints)
@@ -73,17 +67,11 @@ module _ (before after_it : Machine) (s : ℕ) (p : Plane) (t : ℕ) (sound : So
   abbrev begun : CanBegin M s p t
   begun = lines.begun before after_it s p t sound made
 
+  abbrev unstuck : (with_drawings M s p).stuck ≡ 0
+  unstuck = never_stuck M s p t sound made.0
+
   D_sound : Sound D
-  D_sound = drawn.D_sound before after_it s p t sound made convex
-
-  abbrev Inside : Point → Type 0
-  Inside q = (j : ℕ) → Has M.faces j → solid_of M j ≡ s → is_above (plane_of M j) q ≡ false
-
-  -- a corner of a face that straddles, strictly on one side
-  pub far_corner : (b : Bool) (f : ℕ) → straddles M p f ≡ true → (v : ℕ) × (lists (corners M f) v ≡ true) × (is_below (facing b p) (point_of M v) ≡ true)
-  unfolding straddles
-  far_corner false f e = any_found (λ v. is_below p (point_of M v)) (corners M f) (and_parts (reaches_above M p f) (reaches_below M p f) e).1
-  far_corner true f e = let r = any_found (λ v. is_above p (point_of M v)) (corners M f) (and_parts (reaches_above M p f) (reaches_below M p f) e).0 in (r.0, r.1, below_facing true p (point_of M r.0) ∙ r.2)
+  D_sound = drawn.D_sound M s p t sound begun unstuck convex
 
   module _ (b : Bool) (k : ℕ) (has : Has D.faces k) (of : solid_of D k ≡ s) (side : face_is_above D p k ≡ b) (y : ℕ) (y_was : HasHalf C y) (y_at : face_at D y ≡ k) where
     abbrev f : ℕ
@@ -99,15 +87,15 @@ module _ (before after_it : Machine) (s : ℕ) (p : Plane) (t : ℕ) (sound : So
     y_of = ap (solid_of D) y_at ∙ of
 
     abbrev Beside : ℕ → Type 0
-    Beside x = next.IsBeside before after_it s p t sound made convex b k has of side y y_was y_at x
+    Beside x = next.IsBeside M s p t sound begun unstuck convex b k has of side y y_was y_at x
 
     y_bent : IsBent n far D y
-    y_bent = drawn.old_bent before after_it s p t sound made convex y y_was y_of
+    y_bent = drawn.old_bent M s p t sound begun unstuck convex y y_was y_of
 
     -- the face can be seen from between u and w
     record IsView (u w : Point) (a c : ℕ) : Type 0 where
-      u_in : Inside u
-      w_in : Inside w
+      u_in : IsInside M s u
+      w_in : IsInside M s w
       u_on : is_on (plane_of M (face_at C y)) u ≡ true
       w_on : is_on (plane_of M (face_at C y)) w ≡ true
       level : IsLow (weighed a c (height (facing b p) u) (height (facing b p) w))
@@ -134,21 +122,21 @@ module _ (before after_it : Machine) (s : ℕ) (p : Plane) (t : ℕ) (sound : So
       not_back : (x : ℕ) → IsIn x (boundary D k) → int_lt (swept_over (direction n) u w (start D x) (finish D x) a c) (pos 0) ≡ false
       not_back x i =
           let h = boundary_half D D_sound k x has i in
-          let g : Beside x = next.beside before after_it s p t sound made convex b k has of side y y_was y_at x h.0 h.1 in
+          let g : Beside x = next.beside M s p t sound begun unstuck convex b k has of side y y_was y_at x h.0 h.1 in
           never_back (direction n) (direction g.beyond) u w (start D x) (finish D x) a c (edge_of x g.beyond g.bent) (ap (int_lt (pos 0)) (heights g.beyond (start D x) g.bent.start_beyond) ∙ seen_low x g)
 
       looks_from : IsHigh (dot (direction (plane_of M (face_at C y))) (normal D k))
-      looks_from = face_looks D (direction n) u w a c D_sound k not_back y (subst (λ j. IsIn y (boundary D j)) y_at (in_boundary D D_sound y ((drawn.stays before after_it s p t sound made convex).halves y y_was)))
+      looks_from = face_looks D (direction n) u w a c D_sound k not_back y (subst (λ j. IsIn y (boundary D j)) y_at (in_boundary D D_sound y ((drawn.stays M s p t sound begun unstuck convex).halves y y_was)))
           (leads_on (direction n) (direction far) u w (start D y) (finish D y) a c (edge_of y far y_bent) (ap (λ x. int_lt (pos 0) (neg_ℤ x)) (heights far (start D y) y_bent.start_beyond) ∙ view.strict))
 
-    abbrev w : drawn.Strict before after_it s p t sound made convex y y_was y_of
-    w = drawn.strict before after_it s p t sound made convex y y_was y_of
+    abbrev w : drawn.Strict M s p t sound begun unstuck convex y y_was y_of
+    w = drawn.strict M s p t sound begun unstuck convex y y_was y_of
 
     q_down : IsHigh (neg_ℤ (height far (point_of M w.vertex)))
     q_down = turned_low (height far (point_of M w.vertex)) w.below
 
-    q_in : Inside (point_of M w.vertex)
-    q_in = drawn.vertex_inside before after_it s p t sound made convex w.vertex w.corner
+    q_in : IsInside M s (point_of M w.vertex)
+    q_in = drawn.vertex_inside M s p t sound begun unstuck convex w.vertex w.corner
 
     alone : is_above (facing b p) (point_of M w.vertex) ≡ false → IsHigh (dot (direction n) (normal D k))
     alone low = let q = point_of M w.vertex in looks_from q q 1 0 (record {
@@ -161,26 +149,26 @@ module _ (before after_it : Machine) (s : ℕ) (p : Plane) (t : ℕ) (sound : So
     })
 
     face_facts : Has M.faces (face_at C y) × (solid_of M (face_at C y) ≡ s)
-    face_facts = drawn.came_face before after_it s p t sound made convex y y_was y_of
+    face_facts = drawn.came_face M s p t sound begun unstuck convex y y_was y_of
 
     with_other : is_above (facing b p) (point_of M w.vertex) ≡ true → straddles M p (face_at C y) ≡ true → IsHigh (dot (direction n) (normal D k))
     with_other high straddling =
         let q = point_of M w.vertex in
-        let o = far_corner b (face_at C y) straddling in
+        let o = far_corner M p b (face_at C y) straddling in
         let r = point_of M o.0 in
-        let r_in : Inside r = drawn.vertex_inside before after_it s p t sound made convex o.0 (record { face = face_at C y; there = face_facts.0; solid = face_facts.1; corner = o.1 }) in
+        let r_in : IsInside M s r = drawn.vertex_inside M s p t sound begun unstuck convex o.0 (record { face = face_at C y; there = face_facts.0; solid = face_facts.1; corner = listed-from_in o.0 (corners M (face_at C y)) o.1 }) in
         let hq = height (facing b p) q in let hr = height (facing b p) r in
         let r_down : IsHigh (neg_ℤ hr) = turned_low hr o.2 in
         looks_from q r (unsigned_abs hr) (unsigned_abs hq) (record {
           u_in = q_in;
           w_in = r_in;
           u_on = w.on;
-          w_on = corner_on M s sound convex (face_at C y) face_facts.0 face_facts.1 o.0 (IsIn-from_listed o.0 (corners M (face_at C y)) o.1);
+          w_on = corner_on M s sound convex (face_at C y) face_facts.0 face_facts.1 o.0 o.1;
           level = ap (int_lt (pos 0)) (balanced hq hr high r_down);
           strict = first_down (pos (unsigned_abs hr)) (pos (unsigned_abs hq)) (height far q) (height far r) (some_weight hr r_down) (not_less (unsigned_abs hq)) q_down (far_low r r_in);
         }) where
-          far_low : (r : Point) → Inside r → IsLow (pos (unsigned_abs (height (facing b p) (point_of M w.vertex))) *ℤ height far r)
-          far_low r inside = let j = drawn.came_beyond before after_it s p t sound made convex y y_was y_of in low_times (unsigned_abs (height (facing b p) (point_of M w.vertex))) (height far r) (inside (face_at C (mate y)) j.0 j.1)
+          far_low : (r : Point) → IsInside M s r → IsLow (pos (unsigned_abs (height (facing b p) (point_of M w.vertex))) *ℤ height far r)
+          far_low r inside = let j = drawn.came_beyond M s p t sound begun unstuck convex y y_was y_of in low_times (unsigned_abs (height (facing b p) (point_of M w.vertex))) (height far r) (inside (face_at C (mate y)) j.0 j.1)
 
     -- a face that the plane doesn't straddle stays as it is
     whole_looks : straddles M p (face_at C y) ≡ false → IsHigh (dot (direction (plane_of M (face_at C y))) (normal D k))

@@ -5,23 +5,20 @@ use Rattle.std.proofs.Common.{◌≡◌, ◌≢◌, ℕ, ℤ, pos, neg_ℤ, int_
 use Rattle.std.proofs.lemmas.Int.{ints}
 use Rattle.euler_operators.specs.Common.{Plane, Point, IsIn, direction, dot, height, is_above, is_below, is_on, mate, origin, Model, after, face_at, faces_of, point_of, same_point, solid_of, Sound, Has, HasHalf}
 use Rattle.euler_operators.proofs.Common.{level_on}
-use Rattle.euler_laws.proofs.Common.{IsIn-from_listed, half_face}
+use Rattle.euler_laws.proofs.Common.{IsIn-from_listed, half_face, listed-from_in}
 use Rattle.shapes.specs.Common.{corners, face_is_above, finish, plane_of, start, straddles, towards, with_crossings, with_drawings}
-use Rattle.shapes.proofs.Common.{listed_face}
 use Rattle.shapes.proofs.split.Facts.{split_begins}
 use Rattle.split_drawing_laws.specs.crossings.Laws.{CanBegin}
-use Rattle.undo_journal.specs.Machine.{Machine, held}
-use Rattle.plane_split.specs.SplitModels.{IsSplit}
-use Rattle.command_laws.proofs.splits_laws.Lines as lines
-use Rattle.command_laws.proofs.splits_laws.Uncut.{uncut_stands}
+use Rattle.split_drawing_laws.proofs.crossings.Premises.{solid_facts}
+use Rattle.split_drawing_laws.proofs.face_sides.Shared.{any_from}
 use Rattle.convex_laws.specs.Convex.{IsStrictlyConvex, IsVertexOf}
 use Rattle.convex_laws.proofs.Beside as next
 use Rattle.convex_laws.proofs.Drawn as drawn
-use Rattle.convex_laws.proofs.Drawn.{corner_on, ends_in, next_face, starts_in}
+use Rattle.convex_laws.proofs.Drawn.{corner_on, ends_in, IsInside, next_face, starts_in}
 use Rattle.convex_laws.proofs.Levels.{IsLow}
-use Rattle.convex_laws.proofs.Others.{same_corner}
-use Rattle.convex_laws.proofs.Pieces.{any_found, far_corner}
+use Rattle.convex_laws.proofs.Touched.{far_corner}
 use Rattle.convex_laws.proofs.Planes.{IsBent, above_facing, below_facing, down_step, facing, high_step, level_step, low_step, on_facing}
+use Rattle.convex_laws.proofs.Standing.{corner_stays}
 use Rattle.convex_laws.proofs.Together.{whole_stays}
 use Rattle.convex_laws.proofs.Turns.{IsHigh, bends_to, has_length, lies_left, never_flat, step_length, strictly_left, turn, up_length}
 
@@ -30,24 +27,15 @@ between h e f = level_on h (none h e f) where
   none : (h : ℤ) → int_lt (pos 0) h ≡ false → int_lt h (pos 0) ≡ false → h ≡ pos 0
   none h e f = grind (arith, ints)
 
-module _ (before after_it : Machine) (s : ℕ) (p : Plane) (t : ℕ) (sound : Sound (held before)) (made : IsSplit before after_it s p t) (convex : IsStrictlyConvex (held before) s) where
-  abbrev M : Model
-  M = held before
-
+module _ (M : Model) (s : ℕ) (p : Plane) (t : ℕ) (sound : Sound M) (begun : CanBegin M s p t) (unstuck : (with_drawings M s p).stuck ≡ 0) (convex : IsStrictlyConvex M s) where
   abbrev C : Model
   C = (with_crossings M s p).model
 
   abbrev D : Model
   D = (with_drawings M s p).model
 
-  abbrev begun : CanBegin M s p t
-  begun = lines.begun before after_it s p t sound made
-
   D_sound : Sound D
-  D_sound = drawn.D_sound before after_it s p t sound made convex
-
-  abbrev Inside : Point → Type 0
-  Inside q = (j : ℕ) → Has M.faces j → solid_of M j ≡ s → is_above (plane_of M j) q ≡ false
+  D_sound = drawn.D_sound M s p t sound begun unstuck convex
 
   -- ---- the solid has a vertex on each side
 
@@ -58,10 +46,10 @@ module _ (before after_it : Machine) (s : ℕ) (p : Plane) (t : ℕ) (sound : So
 
   vertex_found : (test : ℕ → Bool) → list_any (λ f. list_any test (corners M f)) (faces_of M s) ≡ true → (v : ℕ) × IsVertexOf M s v × (test v ≡ true)
   vertex_found test e =
-      let f = any_found (λ f. list_any test (corners M f)) (faces_of M s) e in
-      let v = any_found test (corners M f.0) f.2 in
-      let has = listed_face M sound s f.0 f.1 in
-      (v.0, record { face = f.0; there = has.0; solid = has.1; corner = v.1 }, v.2)
+      let f = any_from (λ f. list_any test (corners M f)) (faces_of M s) e in
+      let v = any_from test (corners M f.0) f.2 in
+      let has = solid_facts M s f.0 f.1 in
+      (v.0, record { face = f.0; there = has.0; solid = has.1; corner = listed-from_in v.0 (corners M f.0) v.1 }, v.2)
 
   pub reaches : (b : Bool) → Beyond b
   reaches false = let v = vertex_found (λ v. is_above p (point_of M v)) (split_begins M s p t begun).meets.0 in record { vertex = v.0; corner = v.1; above = v.2 }
@@ -107,13 +95,13 @@ module _ (before after_it : Machine) (s : ℕ) (p : Plane) (t : ℕ) (sound : So
       d = towards (start D x) (finish D x)
 
       bent : IsBent n far D x
-      bent = drawn.old_bent before after_it s p t sound made convex x was of
+      bent = drawn.old_bent M s p t sound begun unstuck convex x was of
 
       f_facts : Has M.faces (face_at C x) × (solid_of M (face_at C x) ≡ s)
-      f_facts = drawn.came_face before after_it s p t sound made convex x was of
+      f_facts = drawn.came_face M s p t sound begun unstuck convex x was of
 
-      far_low : (q : Point) → Inside q → is_above far q ≡ false
-      far_low q inside = let j = drawn.came_beyond before after_it s p t sound made convex x was of in inside (face_at C (mate x)) j.0 j.1
+      far_low : (q : Point) → IsInside M s q → is_above far q ≡ false
+      far_low q inside = let j = drawn.came_beyond M s p t sound begun unstuck convex x was of in inside (face_at C (mate x)) j.0 j.1
 
       on_here : is_on here (start D x) ≡ true
       on_here = on_facing b p (start D x) starts
@@ -128,29 +116,29 @@ module _ (before after_it : Machine) (s : ℕ) (p : Plane) (t : ℕ) (sound : So
       d_on = level_step here (start D x) (finish D x) on_here (on_facing b p (finish D x) ends)
 
       -- where some point of the face lies strictly on its side
-      by_point : (q : Point) → Inside q → is_on n q ≡ true → is_below here q ≡ true → IsHigh (turn (direction n) d (direction here))
+      by_point : (q : Point) → IsInside M s q → is_on n q ≡ true → is_below here q ≡ true → IsHigh (turn (direction n) d (direction here))
       by_point q inside on low = let e = towards (start D x) q in let across = level_step n (start D x) q bent.start_here on in
           bends_to (direction n) d (direction here) e d_level d_on across (step_length (direction n) d (direction far) bent.bends) (up_length (direction n) d (direction far) bent.bends)
           (lies_left (direction n) d (direction far) e d_level d_far across bent.bends (low_step far (start D x) q bent.start_beyond (far_low q inside))) (down_step here (start D x) q on_here low)
 
-      abbrev w : drawn.Strict before after_it s p t sound made convex x was of
-      w = drawn.strict before after_it s p t sound made convex x was of
+      abbrev w : drawn.Strict M s p t sound begun unstuck convex x was of
+      w = drawn.strict M s p t sound begun unstuck convex x was of
 
       abbrev q : Point
       q = point_of M w.vertex
 
-      q_in : Inside q
-      q_in = drawn.vertex_inside before after_it s p t sound made convex w.vertex w.corner
+      q_in : IsInside M s q
+      q_in = drawn.vertex_inside M s p t sound begun unstuck convex w.vertex w.corner
 
       -- or the face stays as it was, and none of its corners lies beyond
       q_low : straddles M p (face_at C x) ≡ false → is_above here q ≡ false
       q_low whole =
+          let same = corner_stays M s p t sound begun (face_at C x) f_facts.0 f_facts.1 whole w.vertex (IsIn-from_listed w.vertex (corners M (face_at C x)) w.listed) in
           let at : face_at D x ≡ face_at C x = whole_stays M s p t sound begun x was whole in
-          let same = same_corner D M (corners M (face_at C x)) (corners D (face_at C x)) w.vertex (sym (uncut_stands M s p t sound made.0 (face_at C x) f_facts.0 whole).points) w.listed in
-          ap (is_above here) same.2 ∙ drawn.corner_low before after_it s p t sound made convex b (face_at D x) k_there of side same.0 (subst (λ k. IsIn same.0 (corners D k)) (sym at) (IsIn-from_listed same.0 (corners D (face_at C x)) same.1))
+          ap (is_above here) (sym same.1) ∙ drawn.corner_low M s p t sound begun unstuck convex b (face_at D x) k_there of side w.vertex (subst (λ k. IsIn w.vertex (corners D k)) (sym at) same.0)
 
       low_from : (v : ℕ) → IsVertexOf M s v → IsLow (dot (direction n) (towards (start D x) (point_of M v)))
-      low_from v corner = low_step n (start D x) (point_of M v) bent.start_here (drawn.vertex_inside before after_it s p t sound made convex v corner (face_at C x) f_facts.0 f_facts.1)
+      low_from v corner = low_step n (start D x) (point_of M v) bent.start_here (drawn.vertex_inside M s p t sound begun unstuck convex v corner (face_at C x) f_facts.0 f_facts.1)
 
       not_on : is_on here q ≡ true → ⊥
       not_on on =
@@ -172,9 +160,9 @@ module _ (before after_it : Machine) (s : ℕ) (p : Plane) (t : ℕ) (sound : So
         by_face : (c : Bool) → straddles M p (face_at C x) ≡ c → IsHigh (turn (direction n) d (direction here))
         by_face false whole = not_above whole (is_below here q) refl
         by_face true straddling =
-            let o = far_corner before after_it s p t sound made convex b (face_at C x) straddling in
-            by_point (point_of M o.0) (drawn.vertex_inside before after_it s p t sound made convex o.0 (record { face = face_at C x; there = f_facts.0; solid = f_facts.1; corner = o.1 }))
-            (corner_on M s sound convex (face_at C x) f_facts.0 f_facts.1 o.0 (IsIn-from_listed o.0 (corners M (face_at C x)) o.1)) o.2
+            let o = far_corner M p b (face_at C x) straddling in
+            by_point (point_of M o.0) (drawn.vertex_inside M s p t sound begun unstuck convex o.0 (record { face = face_at C x; there = f_facts.0; solid = f_facts.1; corner = listed-from_in o.0 (corners M (face_at C x)) o.1 }))
+            (corner_on M s sound convex (face_at C x) f_facts.0 f_facts.1 o.0 o.1) o.2
 
       old_edge : IsBent (plane_of M (face_at C x)) (facing b p) D x
       old_edge = record {
@@ -193,12 +181,12 @@ module _ (before after_it : Machine) (s : ℕ) (p : Plane) (t : ℕ) (sound : So
       pub bends_here : IsBent (plane_of M (face_at C old)) (facing b p) D x
 
     pub section_edge : IsSectionEdge
-    section_edge = elim ((drawn.linked before after_it s p t sound made convex).news x there) [
+    section_edge = elim ((drawn.linked M s p t sound begun unstuck convex).news x there) [
       | inl was ↦ record { old = x; was = was; now = refl; bends_here = old_edge was }
       | inr l ↦ record {
         old = after D x;
         was = l.pair.d_there;
         now = next_face D D_sound x there;
-        bends_here = next.drawn_bent before after_it s p t sound made convex b (face_at D x) k_there of side (after D x) l.pair.d_there (next_face D D_sound x there) x there refl l;
+        bends_here = next.drawn_bent M s p t sound begun unstuck convex b (face_at D x) k_there of side (after D x) l.pair.d_there (next_face D D_sound x there) x there refl l;
       }
     ]

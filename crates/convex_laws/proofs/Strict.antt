@@ -8,7 +8,9 @@ use Rattle.shapes.proofs.Common.{are_on}
 use Rattle.split_opening_laws.specs.cycles.SectionCycles.{IsBelowHalf}
 use Rattle.split_opening_laws.specs.sections.Capped.{cap_faces}
 use Rattle.split_opening_laws.specs.sections.InTurn.{upper_faces}
+use Rattle.split_drawing_laws.specs.crossings.Laws.{CanBegin}
 use Rattle.split_drawing_laws.specs.half_sides.HalfSides.{side_of}
+use Rattle.split_laws.proofs.drawn.Drawn.{never_stuck}
 use Rattle.split_laws.proofs.measures.Parts.{parts_there}
 use Rattle.split_laws.proofs.volumes.Split as split
 use Rattle.undo_journal.specs.Machine.{Machine, held}
@@ -16,11 +18,13 @@ use Rattle.plane_split.specs.SplitModels.{IsSplit}
 use Rattle.command_laws.specs.Capped.{caps_of, cycles_of}
 use Rattle.command_laws.specs.Splits.{IsOfEither}
 use Rattle.command_laws.proofs.caps_laws.OpenedCaps.{told_filtered}
+use Rattle.command_laws.proofs.splits_laws.Lines as lines
 use Rattle.command_laws.proofs.splits_laws.Whole as whole
 use Rattle.convex_laws.specs.Convex.{BendsAway, IsStrictlyConvex, PartsOfConvexSolidsHaveVolume, SplitsKeepStrictlyConvex}
 use Rattle.convex_laws.proofs.Apart as apart
 use Rattle.convex_laws.proofs.Apart.{OuterCap}
 use Rattle.convex_laws.proofs.Beside as next
+use Rattle.convex_laws.proofs.CapNormals.{cycles}
 use Rattle.convex_laws.proofs.Caps as caps
 use Rattle.convex_laws.proofs.Drawn as drawn
 use Rattle.convex_laws.proofs.Drawn.{next_face}
@@ -69,6 +73,12 @@ module _ (before after_it : Machine) (s : ℕ) (p : Plane) (t : ℕ) (sound : So
   abbrev M : Model
   M = held before
 
+  abbrev begun : CanBegin M s p t
+  begun = lines.begun before after_it s p t sound made
+
+  abbrev unstuck : (with_drawings M s p).stuck ≡ 0
+  unstuck = never_stuck M s p t sound made.0
+
   abbrev C : Model
   C = (with_crossings M s p).model
 
@@ -88,7 +98,7 @@ module _ (before after_it : Machine) (s : ℕ) (p : Plane) (t : ℕ) (sound : So
   N = held after_it
 
   D_sound : Sound D
-  D_sound = drawn.D_sound before after_it s p t sound made convex
+  D_sound = drawn.D_sound M s p t sound begun unstuck convex
 
   N_sound : Sound N
   N_sound = parts.N_sound before after_it s p t sound made convex
@@ -98,7 +108,7 @@ module _ (before after_it : Machine) (s : ℕ) (p : Plane) (t : ℕ) (sound : So
   no_holes : filter (λ k. k.hole) X.caps ≡ []
   no_holes = let same = split.flags d above s p t (whole.can before after_it s p t sound made) in
       none_mapped (λ k. k.hole) (filter (λ k. k.hole) X.caps)
-      (told_filtered (λ k. k.hole) (is_hole D p) (is_hole D p) X.caps (cycles_of M s p) same same ∙ ap (map (is_hole D p)) (caps.none_of before after_it s p t sound made convex (cycles_of M s p) (caps.cycles before after_it s p t sound made convex)))
+      (told_filtered (λ k. k.hole) (is_hole D p) (is_hole D p) X.caps (cycles_of M s p) same same ∙ ap (map (is_hole D p)) (caps.none_of M s p t sound begun unstuck convex (cycles_of M s p) (cycles before after_it s p t sound made convex)))
 
   abbrev P : Model
   P = part X.model s t (upper_faces above X.caps)
@@ -183,29 +193,29 @@ module _ (before after_it : Machine) (s : ℕ) (p : Plane) (t : ℕ) (sound : So
       beyond = (same (mate h)).face ∙ far
 
       mate_of : solid_of D (face_at D (mate x)) ≡ s
-      mate_of = drawn.mate_of before after_it s p t sound made convex x w.there k_of
+      mate_of = drawn.mate_of M s p t sound begun unstuck convex x w.there k_of
 
       old_bends : HasHalf C x → BendsAway N h
       old_bends was = bends_by (plane_of M (face_at C x)) (plane_of M (face_at C (mate x))) (piece_along k k_has k_of x was refl)
           (subst (λ f. IsAlong f (plane_of M (face_at C (mate x)))) (sym beyond) (piece_along (face_at D (mate x)) (half_face D D_sound (mate x) (mate_there D x w.there)) mate_of (mate x) (mate_there C x was) refl))
-          (drawn.old_bent before after_it s p t sound made convex x was k_of).bends
+          (drawn.old_bent M s p t sound begun unstuck convex x was k_of).bends
 
       -- one that was drawn has the two parts on its sides
       never_new : IsLink C D (side_of M s p) (IsEnd M C s p) [] x → ⊥
       never_new l =
           let b = face_is_above D p k in
           let z_at = next_face D D_sound x w.there in
-          let c_side = next.c_side before after_it s p t sound made convex b k k_has k_of refl (after D x) l.pair.d_there z_at x w.there refl l in
-          let c_face = next.c_face before after_it s p t sound made convex b k k_has k_of refl (after D x) l.pair.d_there z_at x w.there refl l in
-          let c_of = next.c_of before after_it s p t sound made convex b k k_has k_of refl (after D x) l.pair.d_there z_at x w.there refl l in
-          let other : face_is_above D p (face_at D (mate x)) ≡ not b = ap (face_is_above D p) (sym c_face) ∙ sym (next.place_side before after_it s p t sound made convex l.from l.pair.c_there c_of l.pair.c_place (face_is_above D p (face_at D l.from)) refl) ∙ c_side in
+          let c_side = next.c_side M s p t sound begun unstuck convex b k k_has k_of refl (after D x) l.pair.d_there z_at x w.there refl l in
+          let c_face = next.c_face M s p t sound begun unstuck convex b k k_has k_of refl (after D x) l.pair.d_there z_at x w.there refl l in
+          let c_of = next.c_of M s p t sound begun unstuck convex b k k_has k_of refl (after D x) l.pair.d_there z_at x w.there refl l in
+          let other : face_is_above D p (face_at D (mate x)) ≡ not b = ap (face_is_above D p) (sym c_face) ∙ sym (next.place_side M s p t sound begun unstuck convex l.from l.pair.c_there c_of l.pair.c_place (face_is_above D p (face_at D l.from)) refl) ∙ c_side in
           two_sides b (sym (apart.side before after_it s p t sound made (face_at D (mate x)) (half_face D D_sound (mate x) (mate_there D x w.there)) mate_of ∙ ap (λ c. cond c t s) other) ∙ ap (solid_of N) (sym beyond) ∙ beyond_of ∙ k_side) where
             two_sides : (b : Bool) → cond (not b) t s ≡ cond b t s → ⊥
             two_sides true e = whole.apart before after_it s p t sound made e
             two_sides false e = whole.apart before after_it s p t sound made (sym e)
 
       whole_bends : BendsAway N h
-      whole_bends = elim ((drawn.linked before after_it s p t sound made convex).news x w.there) [
+      whole_bends = elim ((drawn.linked M s p t sound begun unstuck convex).news x w.there) [
         | inl was ↦ old_bends was
         | inr l ↦ absurd (never_new l)
       ]
@@ -218,7 +228,7 @@ module _ (before after_it : Machine) (s : ℕ) (p : Plane) (t : ℕ) (sound : So
     lower_bends : IsBelowHalf D above s x → IsIn (face_at X.model (mate h)) (map (λ c. c.lower) X.caps) → BendsAway N h
     lower_bends b i =
         let c = outer (lower_in (face_at X.model (mate h)) X.caps i) in
-        let e = caps.edge before after_it s p t sound made convex x b in
+        let e = caps.edge M s p t sound begun unstuck convex x b in
         let a = piece_along k k_has k_of e.old e.was e.now in
         let stand = parts.stand before after_it s p t sound made convex (face_at N (mate h)) beyond_there c in
         elim c.which [
@@ -227,15 +237,15 @@ module _ (before after_it : Machine) (s : ℕ) (p : Plane) (t : ℕ) (sound : So
             on = parts.lower_on before after_it s p t sound made convex (face_at N (mate h)) beyond_there c;
             looks = (parts.looks before after_it s p t sound made convex (face_at N (mate h)) beyond_there c).0;
           })) e.bends_here.bends
-          | inr is ↦ absurd (whole.apart before after_it s p t sound made (sym (ap (λ c. cond c t s) (caps.below_side before after_it s p t sound made convex x b)) ∙ sym k_side ∙ sym beyond_of ∙ ap (solid_of N) is ∙ stand.1.solid))
+          | inr is ↦ absurd (whole.apart before after_it s p t sound made (sym (ap (λ c. cond c t s) (caps.below_side M s p t sound begun unstuck convex x b)) ∙ sym k_side ∙ sym beyond_of ∙ ap (solid_of N) is ∙ stand.1.solid))
         ]
 
     upper_bends : IsBelowHalf D above s (mate x) → IsIn (face_at X.model (mate h)) (map (λ c. c.upper) X.caps) → BendsAway N h
     upper_bends b i =
         let c = outer (upper_in (face_at X.model (mate h)) X.caps i) in
-        let side : face_is_above D p k ≡ true = subst (λ y. face_is_above D p (face_at D y) ≡ true) (mate-mate x) (caps.above_side before after_it s p t sound made convex (mate x) b) in
-        let e = section.section_edge before after_it s p t sound made convex true x w.there k_of side
-        (subst (λ y. is_on p (start D y) ≡ true) (mate-mate x) (caps.ends_on before after_it s p t sound made convex (mate x) b)) (caps.starts_on before after_it s p t sound made convex (mate x) b) in
+        let side : face_is_above D p k ≡ true = subst (λ y. face_is_above D p (face_at D y) ≡ true) (mate-mate x) (caps.above_side M s p t sound begun unstuck convex (mate x) b) in
+        let e = section.section_edge M s p t sound begun unstuck convex true x w.there k_of side
+        (subst (λ y. is_on p (start D y) ≡ true) (mate-mate x) (caps.ends_on M s p t sound begun unstuck convex (mate x) b)) (caps.starts_on M s p t sound begun unstuck convex (mate x) b) in
         let a = piece_along k k_has k_of e.old e.was e.now in
         let stand = parts.stand before after_it s p t sound made convex (face_at N (mate h)) beyond_there c in
         elim c.which [

@@ -161,6 +161,12 @@ up_length n d m high = has_length n (λ e. true≢false (sym high ∙ ap (λ v. 
 pub exchanged_product : (x y : ℤ) → x *ℤ y ≡ y *ℤ x
 exchanged_product x y = rw (dif-parts x, dif-parts y) (simp difs (same_dif _ _ _ _ (omega arith)))
 
+pub front_back : (x y : ℤ) → neg_ℤ x *ℤ y ≡ neg_ℤ (x *ℤ y)
+front_back x y = exchanged_product (neg_ℤ x) y ∙ product_back y x ∙ ap neg_ℤ (exchanged_product y x)
+
+pub both_back : (x y : ℤ) → x *ℤ y ≡ neg_ℤ x *ℤ neg_ℤ y
+both_back x y = sym (product_back (neg_ℤ x) y ∙ ap neg_ℤ (front_back x y) ∙ twice_back (x *ℤ y))
+
 -- ---- a point between two, by weights
 
 abbrev pub weighed : ℕ → ℕ → ℤ → ℤ → ℤ
@@ -243,7 +249,7 @@ first_high x z high e = elim (either_sign z) [
   | inl low ↦ absurd (true≢false (sym high ∙ ap (int_lt (pos 0)) (ap (λ y. x *ℤ y) (nothing z low e) ∙ exchanged_product x (pos 0) ∙ no_times x)))
 ]
 
-no_factor : (x y : ℤ) → IsHigh x → x *ℤ y ≡ pos 0 → y ≡ pos 0
+pub no_factor : (x y : ℤ) → IsHigh x → x *ℤ y ≡ pos 0 → y ≡ pos 0
 no_factor x y high e = nothing y (low_factor x y high (ap (int_lt (pos 0)) e)) (low_factor x (neg_ℤ y) high (ap (int_lt (pos 0)) (product_back x y ∙ ap neg_ℤ e)))
 
 low_both : (x : ℤ) → IsLow x → x ≡ neg_ℤ (neg_ℤ x)
@@ -265,6 +271,11 @@ module _ (n d m e : Point) (level : dot n d ≡ pos 0) (beside : dot m d ≡ pos
   pub strictly_left : IsHigh (turn n d m) → IsHigh (neg_ℤ (dot m e)) → IsHigh (neg_ℤ (turn n d e))
   strictly_left bends high = high_factor (turn n d m) (neg_ℤ (turn n d e)) bends (subst IsHigh (sym key_back)
       (high_times (dot d d) (dot n n *ℤ neg_ℤ (dot m e)) (step_length n d m bends) (high_times (dot n n) (neg_ℤ (dot m e)) (up_length n d m bends) high)))
+
+  -- and what lies on the left of a step that bends to m lies under m
+  pub left_under : IsHigh (turn n d m) → IsLow (turn n d e) → IsLow (dot m e)
+  left_under bends left = low_factor (dot n n) (dot m e) (up_length n d m bends) (low_factor (dot d d) (dot n n *ℤ dot m e) (step_length n d m bends)
+      (subst IsLow (key ∙ ap (λ x. dot d d *ℤ x) (exchanged_product (dot m e) (dot n n))) (low_product (turn n d m) (turn n d e) bends left)))
 
   -- straight on leads along the face beyond
   pub straight : IsHigh (turn n d m) → turn n d e ≡ pos 0 → dot m e ≡ pos 0
@@ -301,7 +312,7 @@ module _ (n p a b e m k : Point) (a_level : dot n a ≡ pos 0) (b_level : dot n 
         never x a b = absurd (grind (arith, ints))
 
 -- step d is followed by one down from the plane across p, on whose left d starts: then d bends to p
-towards_back : (s f : Point) → towards f s ≡ negated (towards s f)
+pub towards_back : (s f : Point) → towards f s ≡ negated (towards s f)
 towards_back s f = same_vector _ _ (back f.x s.x) (back f.y s.y) (back f.z s.z) where
   back : (x y : ℤ) → y -ℤ x ≡ neg_ℤ (x -ℤ y)
   back x y = omega (arith, ints)
@@ -309,7 +320,7 @@ towards_back s f = same_vector _ _ (back f.x s.x) (back f.y s.y) (back f.z s.z) 
 dot_back_part : (a b c x y z : ℤ) → neg_ℤ a *ℤ x +ℤ neg_ℤ b *ℤ y +ℤ neg_ℤ c *ℤ z ≡ neg_ℤ (a *ℤ x +ℤ b *ℤ y +ℤ c *ℤ z)
 dot_back_part a b c x y z = rw (dif-parts a, dif-parts b, dif-parts c, dif-parts x, dif-parts y, dif-parts z) (simp (difs, neg-dif) (same_dif _ _ _ _ (omega arith)))
 
-dot_negated : (p q : Point) → dot (negated p) q ≡ neg_ℤ (dot p q)
+pub dot_negated : (p q : Point) → dot (negated p) q ≡ neg_ℤ (dot p q)
 dot_negated p q = dot_back_part p.x p.y p.z q.x q.y q.z
 
 module _ (n p s f e m : Point) (d_level : dot n (towards s f) ≡ pos 0) (d_on : dot p (towards s f) ≡ pos 0) (e_level : dot n e ≡ pos 0) (e_beside : dot m e ≡ pos 0) (e_bends : IsHigh (turn n e m)) (under : IsLow (dot m (towards f s))) (down : IsHigh (neg_ℤ (dot p e))) (apart : towards s f ≢ origin) where
@@ -366,9 +377,7 @@ module _ (n d p e u w : Point) (level : dot n d ≡ pos 0) (beside : dot p d ≡
       let high : IsLow (neg_ℤ (dot p n)) = low_factor (neg_ℤ (dot p w)) (neg_ℤ (dot p n)) w_below
       (subst IsLow (told_by w ∙ exchanged_product (dot p n) (dot p w) ∙ both_back (dot p w) (dot p n)) (low_product (dot p p) (dot n w) way w_under)) in
       let none : dot p n ≡ pos 0 = nothing (dot p n) low high in
-      true≢false (sym (high_times (dot p p) (dot n n) way up) ∙ ap (int_lt (pos 0)) (told_by n ∙ ap (λ x. x *ℤ dot p n) none ∙ no_times (dot p n))) where
-        both_back : (x y : ℤ) → x *ℤ y ≡ neg_ℤ x *ℤ neg_ℤ y
-        both_back x y = sym (product_back (neg_ℤ x) y ∙ ap neg_ℤ (exchanged_product (neg_ℤ x) y ∙ product_back y x ∙ ap neg_ℤ (exchanged_product y x)) ∙ twice_back (x *ℤ y))
+      true≢false (sym (high_times (dot p p) (dot n n) way up) ∙ ap (int_lt (pos 0)) (told_by n ∙ ap (λ x. x *ℤ dot p n) none ∙ no_times (dot p n)))
 
 -- ---- the same, told along each of the two faces, and from the mate
 

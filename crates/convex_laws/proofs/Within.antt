@@ -6,7 +6,7 @@ use Rattle.euler_operators.specs.Common.{Plane, Point, height, opposite, is_abov
 use Rattle.euler_operators.specs.Table as table
 use Rattle.euler_operators.proofs.Common.{from_map, IsIn_head, IsIn_rest, loop_there, mate_there, plus_there, point_row, row_some}
 use Rattle.euler_laws.proofs.Common.{IsIn-from_listed, listed-from_in}
-use Rattle.shapes.specs.Common.{start, finish, corners, loops_of, Growing, growing, crossing_edges, all_cut, next_cut, with_crossings, faces_above, Drawing, with_drawings, below_halves, section_cycles, Opening, both_lists, holes_closed, opened_along, numbers_after, opened_at, outer_caps}
+use Rattle.shapes.specs.Common.{start, finish, corners, loops_of, Growing, growing, crossing_edges, all_cut, next_cut, with_crossings, faces_above, Drawing, straddling_pairs, with_drawings, below_halves, section_cycles, Opening, both_lists, holes_closed, opened_along, numbers_after, opened_at, outer_caps}
 use Rattle.shapes.proofs.Common.{face_of_loop, get-put_cases, on_one, on_some}
 use Rattle.solid_measure_laws.proofs.Cuts.{cut_divides}
 use Rattle.split_drawing_laws.specs.crossings.Laws.{CanBegin}
@@ -15,11 +15,14 @@ use Rattle.split_drawing_laws.proofs.crossings.Premises.{edge_facts}
 use Rattle.split_drawing_laws.proofs.crossings.Runs.{Going, cut_at, crossing_now, goes_now, going_on, kept_point, next_model, same_finish, same_start, uncut_now}
 use Rattle.split_drawing_laws.proofs.crossings.Steps.{cut_keeps, point_new}
 use Rattle.split_drawing_laws.proofs.crossings.Whole as cuts
+use Rattle.split_drawing_laws.specs.drawings.DrawnIn.{Stays}
+use Rattle.split_drawing_laws.proofs.drawings.Whole.{drawing_stays}
+use Rattle.split_drawing_laws.proofs.pairs.Whole.{can_be_drawn, rewritings_sound}
 use Rattle.split_opening_laws.specs.sections.InTurn.{CanBeOpenedInTurn, upper_faces}
 use Rattle.split_opening_laws.proofs.opening.Whole.{opened_sound}
 use Rattle.split_opening_laws.proofs.sections.InTurn.{can_open, openings_carry}
 use Rattle.split_opening_laws.proofs.sections.OpenedRows.{vertices_are}
-use Rattle.split_laws.proofs.drawn.Drawn.{begins, drawn_sound, drawn_stays}
+use Rattle.split_laws.proofs.drawn.Drawn.{begins}
 use Rattle.split_laws.proofs.volumes.Split as split
 use Rattle.euler_laws.proofs.Common.{listed_front}
 use Rattle.undo_journal.specs.Machine.{Machine, held}
@@ -117,14 +120,56 @@ module _ (M : Model) (q : Plane) where
     ]
   ]
 
+-- ---- the drawn solid
+
+-- no vertex of solid s of G lies above q
+abbrev IsUnder : ℕ → Plane → Model → Type 0
+IsUnder s q G = (v : ℕ) → OnSolid G s v → is_above q (point_of G v) ≡ false
+
+module _ (M : Model) (s : ℕ) (p : Plane) (t : ℕ) (sound : Sound M) (begun : CanBegin M s p t) (q : Plane) (below : LiesBelow M q s) where
+  abbrev C : Model
+  C = (with_crossings M s p).model
+
+  abbrev D : Model
+  D = (with_drawings M s p).model
+
+  first_under : IsUnder s q M
+  first_under v w = below v (vertex_is M sound s v w)
+
+  cut_under : (e : ℕ) → IsIn e (crossing_edges M p s) → is_above q (cut_at M p e) ≡ false
+  cut_under e i =
+      let f = edge_facts M sound s p e i in
+      let h = plus_there M e f.0 in
+      let a = start M (plus e) in let b = finish M (plus e) in
+      divided_low q (unsigned_abs (height p a)) (unsigned_abs (height p b)) a (cut_between p a b) b (some_gap (height p a) (height p b) f.2)
+      (cut_divides p a b f.2 ((cuts.can_cut M s p t sound begun).whole e i))
+      (first_under (tail M (plus e)) (half_on M sound s (plus e) h f.1))
+      (first_under (tail M (mate (plus e))) (half_on M sound s (mate (plus e)) (mate_there M (plus e) h) (sym (sound.one_solid (plus e) h) ∙ f.1)))
+
+  crossed_known : (v : ℕ) → Has C.vertices v → Known M p sound (crossing_edges M p s) C v
+  unfolding with_crossings
+  crossed_known = cuts_known M p sound (crossing_edges M p s) (growing M) [] (crossing_edges M p s) (cuts.begins M s p t sound begun) (λ e i. i) (λ v there. inl there)
+
+  stays : Stays C D
+  unfolding with_drawings
+  stays = drawing_stays p (with_crossings M s p) (straddling_pairs M s p) (can_be_drawn M s p t sound begun)
+
+  pub drawn_under : IsUnder s q (with_drawings M s p).model
+  unfolding point_of
+  drawn_under v w =
+      let D_sound = rewritings_sound M s p t sound begun in
+      let same = stays.vertices in
+      let there : Has C.vertices v = subst (λ u. Has u v) same (vertex_there D D_sound w.loop v w.on) in
+      elim (crossed_known v there) [
+        | inl old ↦ ap (is_above q) (ap (λ o. unwrap_or o no_point) (ap (λ u. table.get u v) same ∙ (cuts.crossings_keep M s p t sound begun).points v old)) ∙ first_under v (old_vertex M D s (is_of s) (drawings_within M s p t sound begun) v s old w (eq-eqb s s refl))
+        | inr c ↦ ap (is_above q) (ap (λ u. unwrap_or (table.get u v) no_point) same ∙ c.2) ∙ cut_under c.0 c.1
+      ]
+
 -- ---- a whole split
 
 module _ (before after : Machine) (s : ℕ) (p : Plane) (t : ℕ) (sound : Sound (held before)) (made : IsSplit before after s p t) (q : Plane) (below : LiesBelow (held before) q s) where
   abbrev M : Model
   M = held before
-
-  abbrev C : Model
-  C = (with_crossings M s p).model
 
   abbrev d : Drawing
   d = with_drawings M s p
@@ -144,40 +189,8 @@ module _ (before after : Machine) (s : ℕ) (p : Plane) (t : ℕ) (sound : Sound
   begun : CanBegin M s p t
   begun = begins M s p t sound made.0
 
-  -- no vertex of solid s of G lies above q
-  abbrev IsUnder : Model → Type 0
-  IsUnder G = (v : ℕ) → OnSolid G s v → is_above q (point_of G v) ≡ false
-
-  first_under : IsUnder M
-  first_under v w = below v (vertex_is M sound s v w)
-
-  cut_under : (e : ℕ) → IsIn e (crossing_edges M p s) → is_above q (cut_at M p e) ≡ false
-  cut_under e i =
-      let f = edge_facts M sound s p e i in
-      let h = plus_there M e f.0 in
-      let a = start M (plus e) in let b = finish M (plus e) in
-      divided_low q (unsigned_abs (height p a)) (unsigned_abs (height p b)) a (cut_between p a b) b (some_gap (height p a) (height p b) f.2)
-      (cut_divides p a b f.2 ((cuts.can_cut M s p t sound begun).whole e i))
-      (first_under (tail M (plus e)) (half_on M sound s (plus e) h f.1))
-      (first_under (tail M (mate (plus e))) (half_on M sound s (mate (plus e)) (mate_there M (plus e) h) (sym (sound.one_solid (plus e) h) ∙ f.1)))
-
-  crossed_known : (v : ℕ) → Has C.vertices v → Known M p sound (crossing_edges M p s) C v
-  unfolding with_crossings
-  crossed_known = cuts_known M p sound (crossing_edges M p s) (growing M) [] (crossing_edges M p s) (cuts.begins M s p t sound begun) (λ e i. i) (λ v there. inl there)
-
-  pub drawn_under : IsUnder d.model
-  unfolding point_of
-  drawn_under v w =
-      let D_sound = drawn_sound M s p t sound made.0 in
-      let same = (drawn_stays M s p t sound made.0).vertices in
-      let there : Has C.vertices v = subst (λ u. Has u v) same (vertex_there d.model D_sound w.loop v w.on) in
-      elim (crossed_known v there) [
-        | inl old ↦ ap (is_above q) (ap (λ o. unwrap_or o no_point) (whole.drawn_point before after s p t sound made v old)) ∙ first_under v (old_vertex M d.model s (is_of s) (drawings_within M s p t sound begun) v s old w (eq-eqb s s refl))
-        | inr c ↦ ap (is_above q) (ap (λ u. unwrap_or (table.get u v) no_point) same ∙ c.2) ∙ cut_under c.0 c.1
-      ]
-
   -- one opening more
-  module _ (x : Opening) (bs : List ℕ) (cs : List (List ℕ)) (w : CanBeOpenedInTurn above s x (bs ∷ cs)) (under : IsUnder x.model) where
+  module _ (x : Opening) (bs : List ℕ) (cs : List (List ℕ)) (w : CanBeOpenedInTurn above s x (bs ∷ cs)) (under : IsUnder s q x.model) where
     abbrev Y : Model
     Y = opened_along x.model above s x.taken bs
 
@@ -195,7 +208,7 @@ module _ (before after : Machine) (s : ℕ) (p : Plane) (t : ℕ) (sound : Sound
         let b = can.cycle.halves r.0 r.1 in
         under v (subst (OnSolid x.model s) (sym r.2) (half_on x.model can.sound s r.0 b.there b.of_solid))
 
-    next_under : IsUnder (opened_along x.model above s x.taken bs)
+    next_under : IsUnder s q (opened_along x.model above s x.taken bs)
     next_under v of =
         let r = row_some (table.get Y.vertices v) (vertex_there Y opened.after of.loop v of.on) in
         let at : point_of Y v ≡ r.0 = point_row Y v r.0 r.1 in
@@ -204,9 +217,9 @@ module _ (before after : Machine) (s : ℕ) (p : Plane) (t : ℕ) (sound : Sound
           | inr low ↦ ap (is_above q) at ∙ low
         ]
 
-  opened_under : IsUnder X.model
-  opened_under = openings_carry above s p (λ x ds. IsUnder x.model) next_under (record { model = d.model; taken = d.taken; caps = [] })
-      (section_cycles d.model (below_halves d.model above s)) (whole.can before after s p t sound made).opens drawn_under
+  opened_under : IsUnder s q X.model
+  opened_under = openings_carry above s p (λ x ds. IsUnder s q x.model) next_under (record { model = d.model; taken = d.taken; caps = [] })
+      (section_cycles d.model (below_halves d.model above s)) (whole.can before after s p t sound made).opens (drawn_under M s p t sound begun q below)
 
   -- no vertex comes or moves then
   abbrev N : Model

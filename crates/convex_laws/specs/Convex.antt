@@ -1,9 +1,13 @@
 -- Solids that are convex: no vertex of the solid lies above the plane of one of its faces. Strictly convex: at each edge the two faces bend, too.
-use Rattle.std.specs.Prelude.{◌≡◌, ◌≢◌, ℕ, ℤ, pos, int_lt, true, false, None}
+use Rattle.std.specs.Prelude.{◌≡◌, ◌≢◌, ℕ, ℤ, pos, int_lt, true, false, None, Some}
 use Rattle.euler_operators.specs.Common.{Plane, Point, IsIn, cross, dot, is_above, is_below, mate, Model, face_at, point_of, solid_of, Sound, Has, HasHalf, lists}
+use Rattle.euler_operators.specs.declared.Refusal.{Refusal}
+use Rattle.euler_operators.specs.declared.Why.{Why}
+use Rattle.euler_operators.specs.declared.Why.TheVariants.{BranchedVertex, CutCrossed, LoneLoop, NoSolid, NotLattice, NumberRange, NumbersSpent, PlaneMisses, PlaneRange, SolidTaken}
 use Rattle.shapes.specs.Common.{boundary, corners, finish, is_flat, normal, plane_of, six_volume, start, towards}
 use Rattle.undo_journal.specs.Machine as machine
 use Rattle.undo_journal.specs.Machine.{Machine, held, undo, undo_refusal, redo, redo_refusal}
+use Rattle.plane_split.specs.Machine.{split_refusal}
 use Rattle.plane_split.specs.SplitModels.{IsSplit}
 use Rattle.command_laws.specs.Commands.{IsBlock}
 
@@ -93,6 +97,23 @@ SplitsKeepStrictlyConvex = (before after : Machine) (s : ℕ) (p : Plane) (t : �
 abbrev pub PartsOfConvexSolidsHaveVolume : Type 0
 PartsOfConvexSolidsHaveVolume = (before after : Machine) (s : ℕ) (p : Plane) (t : ℕ) → Sound (held before) → IsSplit before after s p t → IsStrictlyConvex (held before) s →
     (int_lt (pos 0) (six_volume (held after) s) ≡ true) × (int_lt (pos 0) (six_volume (held after) t) ≡ true)
+
+-- the reasons for which a split of a strictly convex solid can be refused
+pub data MayRefuseConvexSplit : Why → Type 0 where
+  number_out_of_range : MayRefuseConvexSplit NumberRange
+  no_such_solid : MayRefuseConvexSplit NoSolid
+  solid_there_already : MayRefuseConvexSplit SolidTaken
+  plane_out_of_range : MayRefuseConvexSplit PlaneRange
+  lone_loop : MayRefuseConvexSplit LoneLoop
+  all_on_one_side : MayRefuseConvexSplit PlaneMisses
+  cut_off_the_lattice : MayRefuseConvexSplit NotLattice
+  places_crossed : MayRefuseConvexSplit CutCrossed
+  vertex_branched : MayRefuseConvexSplit BranchedVertex
+  numbers_spent : MayRefuseConvexSplit NumbersSpent
+
+-- it is refused for no other reason
+abbrev pub ConvexSplitsAreRefusedFor : Type 0
+ConvexSplitsAreRefusedFor = (m : Machine) (s : ℕ) (p : Plane) (t : ℕ) (r : Refusal) → Sound (held m) → IsStrictlyConvex (held m) s → split_refusal m s p t ≡ Some r → MayRefuseConvexSplit r.why
 
 -- a machine to which accepted blocks, splits, undos and redos lead from the first machine, in any order and number
 pub data IsBuilt : Machine → Type 0 where

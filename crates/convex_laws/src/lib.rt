@@ -8,9 +8,10 @@
 //! convex solid of a sound model has a volume greater than 0. For any solid that is split, convex or not: each half-space that holds the solid holds
 //! both parts, and the parts lie on the two sides of the plane. If the half-edges of a face go round a vector, the face's normal points along it. Both
 //! parts of a strictly convex solid are strictly convex, and so have a volume. So whatever blocks, splits, undos and redos make, from the empty model on,
-//! has only strictly convex solids, each with a volume.
+//! has only strictly convex solids, each with a volume. A split of a strictly convex solid is refused for few reasons: its faces are flat, none that
+//! straddles the plane is touched, each loop of these is cut, and the section has no hole.
 
-ghost use Rattle.convex_laws.specs.Convex.{BlockKeepsConvex, BlockKeepsStrictlyConvex, BlocksAreConvex, BuiltAreConvex, BuiltHaveVolume, ConvexSolidsHaveVolume, PartsOfConvexSolidsHaveVolume, RoundLooksAlong, SplitLeavesConvex, SplitLeavesStrictlyConvex, SplitPartsLieApart, SplitsKeepStrictlyConvex, SplitsStayBelow};
+ghost use Rattle.convex_laws.specs.Convex.{BlockKeepsConvex, BlockKeepsStrictlyConvex, BlocksAreConvex, BuiltAreConvex, BuiltHaveVolume, ConvexSolidsHaveVolume, ConvexSplitsAreRefusedFor, PartsOfConvexSolidsHaveVolume, RoundLooksAlong, SplitLeavesConvex, SplitLeavesStrictlyConvex, SplitPartsLieApart, SplitsKeepStrictlyConvex, SplitsStayBelow};
 
 /// A new block is strictly convex: each face is flat, no vertex of the solid lies above the plane of one of its faces, and at each edge the two
 /// faces bend away from each other, so each half-edge points along the product of its face's normal and that of its mate's face.
@@ -50,6 +51,12 @@ pub fn round_looks_along()
 pub fn splits_keep_strictly_convex()
     ensures parts { SplitsKeepStrictlyConvex }
     ensures volumes { PartsOfConvexSolidsHaveVolume }
+{}
+
+/// A split of a strictly convex solid is refused only because of its numbers or its plane, because a face has a lone loop, because the plane misses the
+/// solid or meets an edge off the lattice, or because cut places or section edges meet at one point, as on a solid that is wound twice.
+pub fn convex_splits_are_refused_for()
+    ensures { ConvexSplitsAreRefusedFor }
 {}
 
 /// Whatever accepted blocks, splits, undos and redos make, in any order and number, has only strictly convex solids, and each has a volume greater than 0.
