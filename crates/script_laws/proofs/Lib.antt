@@ -14,3 +14,5 @@ mod Back
 mod Worked
 mod Written
 mod Measured
+mod Built
+mod Positive

@@ -106,7 +106,7 @@ same_text s t (told.Counts n) = refl
 same_text s t a = refl
 
 -- a question about a model that is held is answered so
-asks : (script ask : List ℕ) (q : Question) (text : List ℕ) → EndsLine script → Spells ask (command.Ask q) → answer_text (reached script) (answer_when (asked (held (reached script)) q)) ≡ text → Adds script (ended ask) text
+pub asks : (script ask : List ℕ) (q : Question) (text : List ℕ) → EndsLine script → Spells ask (command.Ask q) → answer_text (reached script) (answer_when (asked (held (reached script)) q)) ≡ text → Adds script (ended ask) text
 asks script ask q text h spells is =
     let s = reached script in
     adds_from script (ended ask) text h (one_answer s ask spells.0 ∙ ap (answer_text (machine_after s ask)) (answered_so ask (command.Ask q) spells s) ∙ same_text (machine_after s ask) s (asked (held s) q) ∙ is)
@@ -117,7 +117,7 @@ was_asked script ask q text h spells before =
     same_text s (machine_after s ask) (asked (held s) q) ∙ ap (answer_text (machine_after s ask)) (sym (answered_so ask (command.Ask q) spells s)) ∙ sym (one_answer s ask spells.0) ∙ from_adds script (ended ask) text h before
 
 -- what the volume of a solid that is there is answered
-volume_adds : (script ask : List ℕ) (n : ℕ) (z : ℤ) → EndsLine script → Spells ask (command.Ask (question.Volume n)) → solid_refusal (held (reached script)) n ≡ None → six_volume (held (reached script)) n ≡ z → Adds script (ended ask) (volume_answer z)
+pub volume_adds : (script ask : List ℕ) (n : ℕ) (z : ℤ) → EndsLine script → Spells ask (command.Ask (question.Volume n)) → solid_refusal (held (reached script)) n ≡ None → six_volume (held (reached script)) n ≡ z → Adds script (ended ask) (volume_answer z)
 volume_adds script ask n z h spells there is =
     asks script ask (question.Volume n) (volume_answer z) h spells (ap (answer_text (reached script)) (volume_told (reached script) n there) ∙ ap (λ (v : ℤ). reply_text (reply.Volume v)) is ∙ volume_text z)
 

@@ -30,7 +30,7 @@ clean_signed : (z : ℤ) → is_clean (signed_decimal z) ≡ true
 clean_signed (pos n) = clean_decimal n
 clean_signed (negsuc n) = clean_decimal (suc n)
 
-no_minus : (xs ds : List ℕ) → AreDigits xs → xs ≡ 45 ∷ ds → ⊥
+pub no_minus : (xs ds : List ℕ) → AreDigits xs → xs ≡ 45 ∷ ds → ⊥
 no_minus [] ds h e = absurd (cc e)
 no_minus (x ∷ xs) ds h e = let same : x ≡ 45 = cc e in let low = h.0 in omega (arith, same, low)
 
@@ -75,12 +75,12 @@ words_parsed (reply.Plane p flat) = one_good _ (and_from (is_clean (signed_decim
 words_parsed (reply.Volume n) = one_good _ (and_from (is_clean (signed_decimal n)) true (clean_signed n) refl)
 words_parsed (reply.Count ns) = counts_parsed ns
 
-words_told : (r q : Reply) → line_text (reply_words r) ≡ line_text (reply_words q) → reply_words r ≡ reply_words q
+pub words_told : (r q : Reply) → line_text (reply_words r) ≡ line_text (reply_words q) → reply_words r ≡ reply_words q
 words_told r q e = cc (sym (words_parsed r) ∙ ap (λ (t : List ℕ). parsed (t ++ [])) e ∙ words_parsed q)
 
 -- ---- a reply from its words
 
-first_byte : List (List ℕ) → ℕ
+unfoldable pub first_byte : List (List ℕ) → ℕ
 first_byte ((b ∷ w) ∷ ws) = b
 first_byte l = 0
 

@@ -84,7 +84,7 @@ lacks_spaced (w ∷ ws) h = (λ e. omega (arith, e), Lacks-append w (spaced ws) 
 -- ---- a line of words
 
 -- the line isn't `ok`: its first byte is another one
-abbrev IsOther : List (List ℕ) → Type 0
+abbrev pub IsOther : List (List ℕ) → Type 0
 IsOther ((b ∷ w) ∷ ws) = (nat_eq b 111 ≡ false) × Lacks (b ∷ w) × AreWords ws
 IsOther l = ⊥
 
@@ -111,14 +111,6 @@ line_ends l h = absurd h
 abbrev AreOthers : List (List (List ℕ)) → Type 0
 AreOthers ls = AllByRecursion IsOther ls
 
-others_append : (ls ms : List (List (List ℕ))) → AreOthers ls → AreOthers ms → AreOthers (ls ++ ms)
-others_append [] ms h k = k
-others_append (l ∷ ls) ms h k = (h.0, others_append ls ms h.1 k)
-
-are_others : (f : ℕ → List (List ℕ)) → ((n : ℕ) → IsOther (f n)) → (ns : List ℕ) → AreOthers (map f ns)
-are_others f h [] = tt
-are_others f h (n ∷ ns) = (h n, are_others f h ns)
-
 no_oks : (ls : List (List (List ℕ))) → AreOthers ls → oks (text_of ls) ≡ 0
 no_oks [] h = refl
 no_oks (l ∷ ls) h = other_oks l (text_of ls) h.0 ∙ no_oks ls h.1
@@ -140,17 +132,31 @@ line_other M Loop l = (refl, lacks_if (codes "loop") refl, (lacks_decimal l, con
 line_other M Edge e = (refl, lacks_if (codes "edge") refl, (lacks_decimal e, (lacks_decimal _, (lacks_decimal _, tt))))
 line_other M Vertex v = (refl, lacks_if (codes "vertex") refl, (lacks_decimal v, (lacks_signed _, (lacks_signed _, (lacks_signed _, tt)))))
 
-kinds_others : (M : Model) (ks : List Kind) → AreOthers (flat_map (kind_lines M) ks)
-kinds_others M [] = tt
-kinds_others M (k ∷ ks) = others_append (kind_lines M k) (flat_map (kind_lines M) ks) (are_others (line M k) (line_other M k) (numbers_of M k)) (kinds_others M ks)
+-- what holds of the line of each thing, and of `empty`, holds of each line of a listing
+module _ (P : List (List ℕ) → Type 0) where
+  all_append : (ls ms : List (List (List ℕ))) → AllByRecursion P ls → AllByRecursion P ms → AllByRecursion P (ls ++ ms)
+  all_append [] ms h k = k
+  all_append (l ∷ ls) ms h k = (h.0, all_append ls ms h.1 k)
 
-or_empty_others : (ls : List (List (List ℕ))) → AreOthers ls → AreOthers (or_empty ls)
-or_empty_others [] h = ((refl, lacks_if (codes "empty") refl, tt), tt)
-or_empty_others (l ∷ ls) h = h
+  all_mapped : (f : ℕ → List (List ℕ)) → ((n : ℕ) → P (f n)) → (ns : List ℕ) → AllByRecursion P (map f ns)
+  all_mapped f h [] = tt
+  all_mapped f h (n ∷ ns) = (h n, all_mapped f h ns)
 
-listing_others : (M : Model) → AreOthers (or_empty (lines M))
-unfolding lines
-listing_others M = or_empty_others (lines M) (kinds_others M kinds)
+  all_or_empty : P (codes "empty" ∷ []) → (ls : List (List (List ℕ))) → AllByRecursion P ls → AllByRecursion P (or_empty ls)
+  all_or_empty none [] h = (none, tt)
+  all_or_empty none (l ∷ ls) h = h
+
+  module _ (each : (M : Model) (kind : Kind) (n : ℕ) → P (line M kind n)) where
+    all_kinds : (M : Model) (ks : List Kind) → AllByRecursion P (flat_map (kind_lines M) ks)
+    all_kinds M [] = tt
+    all_kinds M (k ∷ ks) = all_append (kind_lines M k) (flat_map (kind_lines M) ks) (all_mapped (line M k) (each M k) (numbers_of M k)) (all_kinds M ks)
+
+    pub all_listed : P (codes "empty" ∷ []) → (M : Model) → AllByRecursion P (or_empty (lines M))
+    unfolding lines
+    all_listed none M = all_or_empty none (lines M) (all_kinds M kinds)
+
+pub listing_others : (M : Model) → AreOthers (or_empty (lines M))
+listing_others M = all_listed IsOther line_other (refl, lacks_if (codes "empty") refl, tt) M
 
 listing_oks : (M : Model) → oks (listing M) ≡ 0
 unfolding listing
@@ -222,7 +228,7 @@ pub record IsLine (text : List ℕ) : Type 0 where
   pub whole : text ≡ line ++ 10 ∷ []
   pub first : (rest : List ℕ) → lines_of (text ++ rest) ≡ line ∷ lines_of rest
 
-is_line : (l : List (List ℕ)) → IsOther l → IsLine (line_text l)
+pub is_line : (l : List (List ℕ)) → IsOther l → IsLine (line_text l)
 is_line ((b ∷ w) ∷ ws) h = record { line = (b ∷ w) ++ spaced ws; whole = sym (append-nil (line_text ((b ∷ w) ∷ ws))) ∙ text_is (b ∷ w) ws []; first = λ rest. other_lines b w ws rest h }
 is_line l h = absurd h
 

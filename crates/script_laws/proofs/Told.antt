@@ -100,13 +100,13 @@ memory_or : (a : Answer) → (a ≡ Says reply.Memory) ⊎ ((one_line a).memory 
 memory_or (Says reply.Memory) = inl refl
 memory_or a = inr refl
 
-memory_text : reply_text reply.Memory ≡ codes "memory\n"
+pub memory_text : reply_text reply.Memory ≡ codes "memory\n"
 unfolding reply_text
 memory_text = refl
 
 -- ---- lines
 
-abbrev AllLack : List (List ℕ) → Type 0
+abbrev pub AllLack : List (List ℕ) → Type 0
 AllLack lines = AllByRecursion Lacks lines
 
 lined_lack : (lines : List (List ℕ)) (text : List ℕ) → IsLined lines text → AllLack lines
@@ -119,12 +119,12 @@ lined_lack (line ∷ lines) text p = (
   ],
 )
 
-lines_lack : (text : List ℕ) → AllLack (lines_of text)
+pub lines_lack : (text : List ℕ) → AllLack (lines_of text)
 lines_lack text = lined_lack (lines_of text) text (lines_are_lined (lines_of text) text refl)
 
-front_lacks : (xs ys : List (List ℕ)) → AllLack (xs ++ ys) → AllLack xs
-front_lacks [] ys h = tt
-front_lacks (x ∷ xs) ys h = (h.0, front_lacks xs ys h.1)
+pub all_front : (P : List ℕ → Type 0) (xs ys : List (List ℕ)) → AllByRecursion P (xs ++ ys) → AllByRecursion P xs
+all_front P [] ys h = tt
+all_front P (x ∷ xs) ys h = (h.0, all_front P xs ys h.1)
 
 -- ---- all lines
 
@@ -167,7 +167,7 @@ runs_tell reader old new summary run =
 
 pub broken_runs_tell : BrokenRunsTell
 broken_runs_tell reader old new run =
-    start_tells run.judged run.moves.out run.counts (front_lacks run.judged (lines_of run.unfinished) (subst AllLack run.lines (lines_lack (within_limit 0 run.moves.given)))) run.outs
+    start_tells run.judged run.moves.out run.counts (all_front Lacks run.judged (lines_of run.unfinished) (subst AllLack run.lines (lines_lack (within_limit 0 run.moves.given)))) run.outs
 
 pub failed_runs_tell : FailedRunsTell
 failed_runs_tell reader old new run =

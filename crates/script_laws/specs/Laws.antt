@@ -1,5 +1,5 @@
 -- What scripts are answered, where only their bytes are spoken of.
-use Rattle.std.specs.Prelude.{◌≡◌, ◌≢◌, ◌<◌, ◌^◌, ℕ, Bool, false, List, [], ◌∷◌, ◌++◌, codes, map, Option, ℤ, pos, ◌+ℤ◌, ◌*ℤ◌, decimal}
+use Rattle.std.specs.Prelude.{◌≡◌, ◌≢◌, ◌⊎◌, ◌<◌, ◌^◌, ℕ, Bool, true, false, List, [], ◌∷◌, ◌++◌, codes, map, Option, ℤ, pos, ◌+ℤ◌, ◌*ℤ◌, int_lt, decimal}
 use Rattle.std.specs.Fmt.{signed_decimal}
 use Rattle.std.specs.Int.Signed.{mag}
 use Rattle.std.specs.List.{AllByRecursion}
@@ -23,7 +23,7 @@ use Rattle.script_reader.specs.Words.{words}
 use Rattle.script_running.specs.Laws.{AsksFor}
 use Rattle.script_running.specs.Runs.{Served, BreaksOff, WriteFails}
 use Rattle.script_running.specs.declared.script_judging.judging.Summary.{Summary}
-use Rattle.script_laws.specs.Scripts.{answers, EndsLine, ended, HasNo, oks, Adds, Tells, SameBehind, IsTakenBack}
+use Rattle.script_laws.specs.Scripts.{answers, EndsLine, ended, HasNo, OnlyBlocksAndSplits, oks, Adds, Tells, SameBehind, IsTakenBack}
 
 abbrev pub Anything : List ℕ → Type 0
 Anything more = Unit {0}
@@ -141,6 +141,24 @@ pub record VolumesJoin (script line : List ℕ) : Type 0 where
 
 abbrev pub GluesMeasure : Type 0
 GluesMeasure = (script line : List ℕ) (f g : ℕ) → EndsLine script → Spells line (Change (change.Glue f g)) → Adds script (ended line) (codes "ok\n") → VolumesJoin script line
+
+-- after a script of blocks and splits, a question for a volume is answered a number greater than 0, or it is refused
+abbrev pub BlocksAndSplitsHaveVolume : Type 0
+BlocksAndSplitsHaveVolume = (script ask : List ℕ) (n : ℕ) → EndsLine script → OnlyBlocksAndSplits script → Spells ask (Ask (question.Volume n))
+    → ((z : ℤ) × (int_lt (pos 0) z ≡ true) × Adds script (ended ask) (volume_answer z)) ⊎ ((w : Why) × Adds script (ended ask) (reply_text (reply.Refused (why.code_of w) n)))
+
+-- other changes may make a solid whose volume is 0, or less: an example, computed
+abbrev pub OthersMayHaveNone : Type 0
+OthersMayHaveNone = answers (codes "lamina 1 0 0 0 1 0 0 0 1 0\nvolume 1\nsweep 1 0 0 -1\nvolume 1\n") ≡ codes "ok\nvolume 0\nok\nvolume -3\n"
+
+-- each line of the text that answers a volume answers one greater than 0
+abbrev pub VolumesArePositive : List ℕ → Type 0
+VolumesArePositive text = AllByRecursion (λ line. (z : ℤ) → ended line ≡ volume_answer z → int_lt (pos 0) z ≡ true) (lines_of text)
+
+-- whatever memory is refused, a text that answers the first lines of such a script, or all, has no volume of 0 or less
+abbrev pub WrittenVolumesArePositive : Type 0
+WrittenVolumesArePositive = (script text : List ℕ) (lines others : List (List ℕ)) → lines_of script ≡ lines ++ others → OnlyBlocksAndSplits script → Tells [] lines text
+    → VolumesArePositive text
 
 -- ---- replies
 

@@ -5,6 +5,7 @@ use Rattle.std.specs.List.{AllByRecursion}
 use Rattle.script_reader.specs.Lines.{lines_of}
 use Rattle.script_reader.specs.Words.{words}
 use Rattle.commands.specs.declared.command.Change.{Change}
+use Rattle.commands.specs.declared.command.Change.TheVariants as change
 use Rattle.commands.specs.declared.command.Command.TheVariants as command
 use Rattle.script_running.specs.Laws.{AsksFor}
 use Rattle.script_running.specs.Output.{output_of}
@@ -47,6 +48,16 @@ Adds script more reply = answers (script ++ more) ≡ answers script ++ reply
 -- the line asks for a change of the model: an operator or a larger command
 abbrev pub AsksForChange : List ℕ → Type 0
 AsksForChange line = (c : Change) × AsksFor line (command.Change c)
+
+-- the change is a block or a split
+abbrev pub IsBlockOrSplit : Change → Type 0
+IsBlockOrSplit (change.Block n p dx dy dz) = Unit {0}
+IsBlockOrSplit (change.Split n a b c d m) = Unit {0}
+IsBlockOrSplit c = ⊥
+
+-- no line of the script asks for another change: the other lines are undos, redos, questions, `list`, comments, or have a fault
+abbrev pub OnlyBlocksAndSplits : List ℕ → Type 0
+OnlyBlocksAndSplits script = AllByRecursion (λ line. (c : Change) → AsksFor line (command.Change c) → IsBlockOrSplit c) (lines_of script)
 
 -- The text has an answer to each line in turn, after the script: the answer that follows the script and the lines before this one. But a line that
 -- asks for a change may be answered `memory`, and then counts as if it hadn't been there.

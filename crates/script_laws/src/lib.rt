@@ -16,14 +16,16 @@
 //! (`equal_listings_go_on_alike`). After a block that was answered `ok`, `volume` is answered six times the product of its sizes (`blocks_measure`).
 //! After a split the volumes of both parts are answered, and their sum is what was answered before (`parts_share_volumes`). After a sweep one volume
 //! has grown by an amount that the plane of the face tells (`sweeps_measure`). After a glue one volume is the sum of two (`glues_measure`). These
-//! laws speak of any line that spells such a command (`Spells`); `lines_spell` names the plainest. A text begins with at most one reply, whose
+//! laws speak of any line that spells such a command (`Spells`); `lines_spell` names the plainest. If the only changes that a script asks for are
+//! blocks and splits, no volume of 0 or less is answered (`blocks_and_splits_have_volume`). A text begins with at most one reply, whose
 //! numbers tell why (`replies_tell`).
 
 ghost use Rattle.std.specs.Prelude.{IfOk};
-ghost use Rattle.script_laws.specs.Laws.{RunsAnswer, RunsTell, BrokenRunsTell, FailedRunsTell, AnsweredSo, AnswersStay, OthersCanBeLeftOut, UndoAndRedoCanBeLeftOut, UndoneLinesCanBeLeftOut, UndosLeadBack, SomeUndosLeadBack, EqualListingsGoOnAlike, BlockLinesSpell, SplitLinesSpell, VolumeLinesSpell, BlocksMeasure, PartsShareVolumes, SweepsMeasure, GluesMeasure, RepliesTell, RefusalsTell, FaultsTell};
+ghost use Rattle.script_laws.specs.Laws.{RunsAnswer, RunsTell, BrokenRunsTell, FailedRunsTell, AnsweredSo, AnswersStay, OthersCanBeLeftOut, UndoAndRedoCanBeLeftOut, UndoneLinesCanBeLeftOut, UndosLeadBack, SomeUndosLeadBack, EqualListingsGoOnAlike, BlockLinesSpell, SplitLinesSpell, VolumeLinesSpell, BlocksMeasure, PartsShareVolumes, SweepsMeasure, GluesMeasure, BlocksAndSplitsHaveVolume, OthersMayHaveNone, WrittenVolumesArePositive, RepliesTell, RefusalsTell, FaultsTell};
 ghost use Rattle.script_laws.specs.Scripts.{Answered};
 
 use command_laws::{glues_keep_and_join, solids_are_there};
+use convex_laws::built_are_convex;
 use gluing::glue_measures;
 use plane_split::splits_are_held;
 use script_running::{Inlet, Outlet, RunFault, Summary, lines_are_calls, run};
@@ -137,6 +139,17 @@ pub fn glues_measure()
     lines_are_calls();
     glue_measures();
     glues_keep_and_join();
+}
+
+/// If the only changes that a script asks for are blocks and splits, a question for a volume behind it is answered a number greater than 0, or it is
+/// refused. (Other changes may make a solid whose volume is 0, or less.) And whatever memory is refused, no answer to such a script is a volume of 0
+/// or less.
+pub fn blocks_and_splits_have_volume()
+    ensures asked { BlocksAndSplitsHaveVolume }
+    ensures otherwise { OthersMayHaveNone }
+    ensures written { WrittenVolumesArePositive }
+{
+    built_are_convex();
 }
 
 /// A text begins with at most one reply, so answers without listings can be cut into replies in only one way. The number of a refusal tells why the
