@@ -1,6 +1,6 @@
 -- Calls of C are a list of calls.
 use Rattle.std.proofs.Common.{◌≡◌, ◌∙◌, ap, refl, List, [], ◌∷◌, Some}
-use Rattle.call_lists.specs.Common.{Call, IsWhole, Stage, Told}
+use Rattle.call_lists.specs.Common.{Call, Stage, Told}
 use Rattle.call_lists.specs.Making.{MakesAll}
 use Rattle.call_lists.specs.Laws.{ListsKeepWhole}
 use Rattle.session_slots.specs.declared.slot.Slot.{Slot}

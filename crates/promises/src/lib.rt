@@ -10,7 +10,8 @@
 //! - nodes linked by `next` and `prev`, a splice of them, and what a drop frees: `raw_ring/src/rings.rt`, `raw_ring/src/nodes.rt`;
 //! - normals, planes, flat faces and counts: `solid_measure/src/measures.rt`, `solid_measure/src/solid_counts/solids.rt`;
 //! - points, sides of a plane and cut points: `lattice/src`;
-//! - the faces of new solids, and what larger commands leave unchanged: `command_laws/src`; which solids are convex: `convex_laws/src`;
+//! - the faces of new solids, and what larger commands leave unchanged: `command_laws/src`;
+//! - which half-spaces hold the parts of a split, and which convex solids stay convex: `convex_laws/src`;
 //! - what the volumes are after a sweep and after a glue, in terms of bytes: `script_laws/src`;
 //! - the grammar, the command line and the exit status: `script_reader/src/line.rt`, `command_line/src`;
 //! - what each call of the library for C does, and what its readers answer: `session_slots/src`, `gwb_c/src`.
@@ -20,18 +21,21 @@
 //! Nothing of its own: each function calls the laws of the crates below, or makes a call, and has what they say as its contract. They stand in this
 //! order: lists of calls, marks and handles of C, one call of each kind, records and volumes (`every_list_of_calls_is_answered` and those after it);
 //! conditions, operators and their inverses (from `refusals_name_the_first_false`); splices of rings (from `splices_cut_and_join`); the plain machine
-//! and its histories (from `sessions_are_copies_and_a_place`); what larger commands make and measure, and what a session holds after them (from
-//! `laminas_are_made`); listings, lines and scripts (from `listings_tell_models`); and scripts, where only bytes are spoken of (from
+//! and its histories (from `sessions_are_copies_and_a_place`); what larger commands make and measure, what a session holds after them, and which solids
+//! are convex (from `laminas_are_made`); listings, lines and scripts (from `listings_tell_models`); and scripts, where only bytes are spoken of (from
 //! `every_script_is_answered`).
 
 ghost use Rattle.std.specs.Prelude.{◌≡◌, ◌↔◌, ◌+◌, ◌<◌, OnOk, OnErr, IfOk, IfErr, None, Some, Err, slice_index_or};
 ghost use Rattle.call_lists.specs.Common.{IsConsistent, IsWhole, Tells, act_refusal, after_act, after_commit, after_redo, after_step, after_undo, ahead, answer, depth, first_false, held, model_at, new_draft, new_journal, redo_refusal, six_volume, solid_refusal, undo_refusal, verdict};
 ghost use Rattle.call_lists.specs.Laws.{ListsAreHistories, ListsKeepWhole, EachIsWhole, PlacesAreCounted, UndosLeadToTheFirst, RedosLeadToTheLast, CommandsAreTakenBack, ListsHaveOneAnswer, OnlyDoneChanges, IdleListsStay, MemoryCanBeLeftOut, StepsAreMarks, MarksLeadBack};
 ghost use Rattle.call_lists.specs.Making.{AreTold};
+ghost use Rattle.commands.specs.Steps.{LaminasTakeSteps, BlocksTakeSteps, SweepsTakeSteps, GluesTakeSteps};
+ghost use Rattle.convex_laws.specs.Convex.{BlocksAreConvex, BuiltAreConvex, BuiltHaveVolume, ConvexSolidsHaveVolume, PartsOfConvexSolidsHaveVolume, SplitsKeepStrictlyConvex};
 ghost use Rattle.pool_rings.specs.Laws.{EachCodeHasItsRing, RingsAreRotations, CodesShareOrHaveTwo, SplicedPoolsCut, SplicedPoolsJoin, SplicedPoolsKeepOthers, SplicedPoolsStay, PoolsLeadBack};
 ghost use Rattle.promises.specs.Slots.{SlotsMakeAll};
 ghost use Rattle.promises.specs.Splices.{SplicesCut, SplicesJoin, SplicesKeepOthers};
-ghost use Rattle.script_laws.specs.Laws.{RunsTell, BrokenRunsTell, FailedRunsTell, AnsweredSo, AnswersStay, OthersCanBeLeftOut, UndoAndRedoCanBeLeftOut, UndoneLinesCanBeLeftOut, UndosLeadBack, SomeUndosLeadBack, EqualListingsGoOnAlike, BlocksMeasure, PartsShareVolumes, RepliesTell, RefusalsTell, FaultsTell};
+ghost use Rattle.reached_models.specs.Laws.{BuildersSuffice, SoundIsLinked, SoundIsReached};
+ghost use Rattle.script_laws.specs.Laws.{RunsTell, BrokenRunsTell, FailedRunsTell, AnsweredSo, AnswersStay, OthersCanBeLeftOut, UndoAndRedoCanBeLeftOut, UndoneLinesCanBeLeftOut, UndosLeadBack, SomeUndosLeadBack, EqualListingsGoOnAlike, BlocksMeasure, PartsShareVolumes, BlocksAndSplitsHaveVolume, OthersMayHaveNone, WrittenVolumesArePositive, RepliesTell, RefusalsTell, FaultsTell};
 ghost use Rattle.script_laws.specs.Scripts.{Answered};
 ghost use Rattle.script_running.specs.Histories.{LinesAreCalls, LinesLeadOn, HistoriesMakeConsistent, RunsTellHistories};
 ghost use Rattle.script_running.specs.Laws.{LinesAreTold, OneOutput, HasNoMemory};
@@ -44,11 +48,16 @@ use call_lists::{
     lists_are_histories, lists_have_one_answer, make, make_all, marks_lead_back, six_volume,
     undos_and_redos_lead_to_the_ends,
 };
+use commands::larger_commands_take_steps;
+use convex_laws::{
+    blocks_are_convex, built_are_convex, convex_solids_have_volume, splits_keep_strictly_convex,
+};
 use pool_rings::{codes_have_one_ring, splices_of_pools};
+use reached_models::sound_models_are_reached;
 use script_laws::{
-    answer_script, answered_so, answers_stay, blocks_measure, equal_listings_go_on_alike,
-    others_can_be_left_out, parts_share_volumes, replies_tell, runs_tell,
-    undo_and_redo_can_be_left_out, undone_lines_can_be_left_out, undos_lead_back,
+    answer_script, answered_so, answers_stay, blocks_and_splits_have_volume, blocks_measure,
+    equal_listings_go_on_alike, others_can_be_left_out, parts_share_volumes, replies_tell,
+    runs_tell, undo_and_redo_can_be_left_out, undone_lines_can_be_left_out, undos_lead_back,
 };
 use script_running::{
     Inlet, Outlet, RunFault, Summary, laws_below, lines_are_calls, lines_are_told, one_output, run,
@@ -270,6 +279,16 @@ pub fn inverses_take_runs_back()
     laws_below::runs_are_undone();
 }
 
+/// A model is sound exactly if operators, each accepted in its turn, make it from the empty model. They lead from each sound model to each other, and
+/// six of them are enough to make each.
+pub fn operators_make_each_sound_model()
+    ensures reached { SoundIsReached }
+    ensures linked { SoundIsLinked }
+    ensures builders { BuildersSuffice }
+{
+    sound_models_are_reached();
+}
+
 /// Exchanging what follows two items of rings cuts a ring in two if both items stand in it, and joins two rings if each has one of the items. All
 /// other rings stay.
 pub fn splices_cut_and_join()
@@ -339,6 +358,18 @@ pub fn larger_commands_are_one_call()
     laws_below::larger_commands_are_calls();
     laws_below::glues_are_calls();
     laws_below::splits_are_calls();
+}
+
+/// A lamina that isn't refused takes an operator for each point, and one more. A block takes thirteen, and a sweep two for each corner of its face. A
+/// glue takes three for each half-edge of the first face's outer loop, and two more. `Tells` says that these are the operators of the record that the
+/// command leaves in a session, and its steps in a draft.
+pub fn larger_commands_take_so_many_operators()
+    ensures lamina { LaminasTakeSteps }
+    ensures block { BlocksTakeSteps }
+    ensures sweep { SweepsTakeSteps }
+    ensures glue { GluesTakeSteps }
+{
+    larger_commands_take_steps();
 }
 
 /// If a lamina isn't refused, none of its operators is refused, they make its model, and this model is sound.
@@ -455,6 +486,33 @@ pub fn split_solids_are_held()
     laws_below::splits_are_held();
 }
 
+/// A new block is strictly convex: its faces are flat, none of its vertices lies above the plane of one of them, and at each of its edges the two
+/// faces bend away from each other. Each strictly convex solid of a sound model has a volume greater than 0.
+pub fn new_blocks_are_convex()
+    ensures block { BlocksAreConvex }
+    ensures volume { ConvexSolidsHaveVolume }
+{
+    blocks_are_convex();
+    convex_solids_have_volume();
+}
+
+/// Both parts of a strictly convex solid are strictly convex after a split, along whatever plane, and so both have a volume greater than 0.
+pub fn parts_of_convex_solids_are_convex()
+    ensures parts { SplitsKeepStrictlyConvex }
+    ensures volumes { PartsOfConvexSolidsHaveVolume }
+{
+    splits_keep_strictly_convex();
+}
+
+/// Whatever accepted blocks, splits, undos and redos make from the empty model on, in any order and number, has only strictly convex solids, and each
+/// has a volume greater than 0.
+pub fn blocks_and_splits_make_convex_solids()
+    ensures solids { BuiltAreConvex }
+    ensures volumes { BuiltHaveVolume }
+{
+    built_are_convex();
+}
+
 /// A listing tells all of a sound model: two sound models have equal listings exactly if they are equal.
 pub fn listings_tell_models()
     ensures { ListingTells }
@@ -568,6 +626,17 @@ pub fn volumes_are_told_of_bytes()
 {
     blocks_measure();
     parts_share_volumes();
+}
+
+/// If the only changes that a script asks for are blocks and splits, a question for a volume behind it is answered a number greater than 0, or it is
+/// refused. (Other changes may make a solid whose volume is 0, or less.) And whatever memory is refused, no answer to such a script is a volume of 0
+/// or less.
+pub fn scripts_of_blocks_and_splits_have_volume()
+    ensures asked { BlocksAndSplitsHaveVolume }
+    ensures otherwise { OthersMayHaveNone }
+    ensures written { WrittenVolumesArePositive }
+{
+    blocks_and_splits_have_volume();
 }
 
 /// A text begins with at most one reply. The numbers of this reply tell why a command was refused, or what is wrong with a line.
