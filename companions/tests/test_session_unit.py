@@ -227,9 +227,9 @@ class Unit(unittest.TestCase):
 
     def test_other_forms_are_read_again(self):
         self.bench.split(self.block, PLANE, scale=True)
-        for ending in ('.obj', '.off', '.stl', '.3mf', '.step'):
+        for ending in ('.obj', '.off', '.stl', '.3mf', '.step', '.glb'):
             with self.subTest(ending), Workbench(library()) as again:
-                made = again.import_file(self.exported(f'part{ending}'), scale=6 if ending in ('.3mf', '.step') else 1)
+                made = again.import_file(self.exported(f'part{ending}'), scale=6 if ending in ('.3mf', '.step', '.glb') else 1)
                 self.assertEqual(sum(map(again.volume, made)), 216 * (105 + 8))
                 self.assertEqual(again.labels, {})
 

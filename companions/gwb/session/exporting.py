@@ -8,6 +8,7 @@ from typing import Callable, Dict, NamedTuple, Optional, Tuple, Union
 from ..drawing.page import page_of
 from ..errors import Unfit
 from ..formats.appearance import LONGEST_NAME, Appearance, Appearances, Colour, colour_of
+from ..formats.glb import glb_bytes
 from ..formats.mesh import mesh_of
 from ..formats.obj import mtl_text, obj_text
 from ..formats.off import off_text
@@ -64,10 +65,10 @@ class Exporting(Methods):
         return _page(self._bench.kernel.listing(), self._bench.labels, self.unit)
 
     def export(self, path: arguments.Path) -> None:
-        """Writes what is held to a file, by the ending of its name: .step or .stp, .3mf, .obj (colours in a .mtl beside it), .off, .stl, .html. Names and
-        colours go where the form has them. STEP and 3MF have the size in millimetres, by `unit`; the other forms say it in a comment. Raises
-        ValueError for another ending, Unfit where a face isn't flat and plain, or nothing is held, OSError where the file can't be written, or a .mtl
-        is there that the .obj doesn't name. Warns where solids touch and the form doesn't keep them apart."""
+        """Writes what is held to a file, by the ending of its name: .step or .stp, .3mf, .glb, .obj (colours in a .mtl beside it), .off, .stl, .html.
+        Names and colours go where the form has them. STEP, 3MF and GLB have the size, by `unit`; the other forms say it in a comment. Raises
+        ValueError for another ending, Unfit where a face isn't flat and plain, nothing is held, or a coordinate is past what GLB holds, OSError where
+        the file can't be written, or a .mtl is there that the .obj doesn't name. Warns where solids touch and the form doesn't keep them apart."""
         file = Path(arguments.path('path', path))
         write = _WRITERS.get(file.suffix.lower())
         if write is None:
@@ -85,9 +86,9 @@ class Exporting(Methods):
         """The solids of a file, as `gwb-import` reads it, beside what is held, with numbers that are free: these, with the names and colours that
         the file has as labels.
 
-        `form` is 'step', 'stl', 'obj', 'off', 'ply', 'amf', '3mf' or 'glb' where the file doesn't look like it. Coordinates, in millimetres where the file says a
-        unit, are multiplied by `scale`, a whole number or a fraction, and must then be whole in `unit`; `rounded` rounds them, and `within` only
-        those of a point that lies no farther than so many units beside a whole place. Faces of one plane become one but with `keep_triangles`;
+        `form` is 'step', 'stl', 'obj', 'off', 'ply', 'amf', '3mf' or 'glb' where the file doesn't look like it. Coordinates, in millimetres where the
+        file says a unit, are multiplied by `scale`, a whole number or a fraction, and must then be whole in `unit`; `rounded` rounds them, and
+        `within` only those of a point that lies no farther than so many units beside a whole place. Faces of one plane become one but with `keep_triangles`;
         `repair` mends what can be; `flat` takes of STEP the flat solids alone. Warns of what is wrong with the solids, and of what is left out.
         Raises OSError; NotAMesh where it is no such file; Unfit where its surfaces aren't closed, or a point isn't whole or past the range.
         Refused: NumbersSpent."""
@@ -141,6 +142,7 @@ _Writer = Callable[[_Held, Path], bytes]
 _WRITERS: Dict[str, _Writer] = {
     **dict.fromkeys(('.step', '.stp'), lambda held, _: step_text(*held).encode()),
     '.3mf': lambda held, _: three_mf_bytes(mesh_of(held.model), held.labels, held.unit),
+    '.glb': lambda held, _: glb_bytes(mesh_of(held.model), held.labels, held.unit),
     '.obj': _obj,
     '.off': lambda held, _: off_text(mesh_of(held.model), held.unit).encode(),
     '.stl': lambda held, _: stl_text(mesh_of(held.model), held.unit).encode(),
