@@ -3,6 +3,7 @@
 
     make -C bindings bench          # builds bench/library and runs this
 """
+import argparse
 import subprocess
 import sys
 from pathlib import Path
@@ -41,6 +42,7 @@ def table(cells, counts, ways):
 
 
 def main():
+    argparse.ArgumentParser(description=__doc__, formatter_class=argparse.RawDescriptionHelpFormatter).parse_args()
     if not Path(PROGRAM).is_file():
         raise SystemExit('bench/library.py: there is no bench/library: make -C bindings bench builds it, and runs this')
     cells = measured()

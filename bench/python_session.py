@@ -4,6 +4,7 @@ and 200 notches in one face, and a pocket, a slot, a copy, a union and the end o
 
     bench/python_session.py [LIBRARY ..]
 """
+import argparse
 import sys
 from pathlib import Path
 from time import perf_counter
@@ -86,7 +87,9 @@ def tenths(bench, make, count):
 
 
 def main():
-    for library in sys.argv[1:] or [None]:
+    parser = argparse.ArgumentParser(description=__doc__, formatter_class=argparse.RawDescriptionHelpFormatter)
+    parser.add_argument('libraries', metavar='LIBRARY', nargs='*')
+    for library in parser.parse_args().libraries or [None]:
         for name, make, count in LOOPS:
             with Workbench(library) as bench:
                 times = tenths(bench, make, count)
