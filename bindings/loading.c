@@ -285,7 +285,7 @@ static struct node *loop_at(struct parts *p, uint32_t half_edge)
     return (struct node *)p->nodes.items + (p->loops != NULL ? node_at_root(p, half_edge) : united_node(p, half_edge));
 }
 
-/* The least number above one that neither the listing nor the model has. */
+/* The least number above this one that is free both in the listing and in the model. */
 static uint32_t spare_above(const struct parts *p, const struct list *listed, uint32_t (*reader)(const gwb *, uint32_t), uint32_t number)
 {
     do
@@ -542,7 +542,7 @@ static void edges_out(struct parts *p)
         handles_out(p, count);
 }
 
-/* The faces of one vertex that a solid has from a place of `roots` on go, but for the first, and then the solid: where the next solid begins. */
+/* A solid has faces of one vertex each, from this place of `roots` on. All but the first of them go, then the solid. Returns where the next begins. */
 static size_t solid_out(struct parts *p, size_t first)
 {
     const struct root *roots = p->roots.items, stays = roots[first];

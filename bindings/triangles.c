@@ -1,6 +1,6 @@
 /* Flat faces cut into triangles, by exact tests, in time n log n (K. Hertel, K. Mehlhorn: Fast triangulation of simple polygons, 1983). A line
  * sweeps over the face from left to right. A span is a stretch of that line within the face, from an edge below it, its floor, to one above it,
- * its ceiling. What lies left of the line is cut already, but for chains of corners that a later one will be cut off with. Edges that come to
+ * its ceiling. What lies left of the line is cut already, except chains of corners, which triangles with later corners will cut off. Edges that come to
  * lie next to each other on the line are tested, so no two that cross are missed (M. Shamos, D. Hoey: Geometric intersection problems, 1976).
  * Coordinates lie within 1,000,000,000, so that each test fits in 64 bits. */
 #include "lists.h"
@@ -57,7 +57,7 @@ struct cutting {
     struct list tree; /* the spans from below, at their places */
     uint32_t root;
     int x, y;     /* the coordinates that are its x and y as it is seen from its front */
-    size_t loops; /* of the face, but for those of one vertex */
+    size_t loops; /* of the face, without those of one vertex */
     gwb_triangle_row *rows;
     size_t room, count;
     uint32_t face;

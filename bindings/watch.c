@@ -1,5 +1,5 @@
 /* The solids that commands touch stand one after another: those of the commands that are held, then of those that are undone, then those of the draft's
- * steps. Solid 0 stands for all. What a solid was before is written down when it is touched first, while that is asked for. */
+ * steps. Solid 0 stands for all. When a solid is first touched, what it was before is written down, if that is asked for. */
 #include "watch.h"
 #include "beside.h"
 #include "lists.h"

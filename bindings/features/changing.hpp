@@ -1,8 +1,9 @@
 /// @file changing.hpp A part of a solid turned into another one that shares faces and edges with it, by operators on the faces that differ.
 ///
-/// The faces that differ are taken apart as they are and as they are to be, until each part of them that edges join, but for those that both
-/// have, is one face for each of its outlines; where these are the same in both, what took the first apart, and what puts the second together, are
-/// the operators. A part that has no outline, such as the walls and the floor of a pocket, comes down to one vertex.
+/// The faces that differ are taken apart twice: as they are, and as they are to be. Edges that both models have stay. In the end each part that
+/// other edges join is one face for each of its outlines. If these outlines are the same in both models, the operators are those that take the
+/// first apart, and then those that put the second together. A part without an outline, such as the walls and the floor of a pocket, comes down
+/// to one vertex.
 #ifndef GWB_FEATURES_CHANGING_HPP
 #define GWB_FEATURES_CHANGING_HPP
 #include "assembly.hpp"
@@ -164,7 +165,7 @@ struct Pair {
     }
 };
 
-/// The faces of a model that differ, and the edges between them but for those that both have.
+/// The faces of a model that differ, and the edges between them that the other model doesn't have.
 struct Differing {
     const Model &model;
     std::vector<Face> faces;
@@ -365,7 +366,7 @@ private:
         return std::includes(seen.begin(), seen.end(), vertices.begin(), vertices.end()) ? std::optional(tree) : std::nullopt;
     }
 
-    /// Edges go, but for those of the tree: first those between two faces, until there is one face, then those that lead from one outline to another.
+    /// All edges go except those of the tree: first those between two faces, until there is one face, then those that lead from one outline to another.
     bool faces_out(const std::vector<HalfEdge> &edges, const std::vector<HalfEdge> &tree)
     {
         std::set<Edge> kept;

@@ -211,7 +211,7 @@ template <class Place> std::vector<Solid> patterned(Bench &bench, Solid solid, s
 /// By so many times a vector.
 inline Motion steps(const gwb_point &step, std::uint32_t times) { return Motion::move(Placing::scaled(times)(step)); }
 
-/// By so many quarters about the axis through a point. (A point far out of range leaves nothing in range, nor does one beside it.)
+/// By so many quarters about the axis through a point. (If the point is far out of range, nothing stays in range.)
 inline Motion turn(std::uint32_t axis, std::uint32_t quarters, const gwb_point &about)
 {
     const Point way = Placing()(about);

@@ -23,7 +23,8 @@ struct Ratios {
     }
 };
 
-/// The whole number nearest to another one: of two, the one farther from 0. (So both are seen where a product is a half but for its last digits.)
+/// The nearest whole number; of two that are equally near, the one farther from 0. (A product that should be a half may differ in its last digits:
+/// it counts as a half.)
 constexpr std::int64_t nearest(long double number)
 {
     constexpr long double half = 0.5L + 1e-9L;

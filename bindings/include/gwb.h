@@ -7,9 +7,9 @@
  * What a caller owes, which nothing checks:
  * - A `gwb` begins as {0}. Never read, write or copy its fields: two copies would free one session twice.
  * - No pointer is null, not even that of a line of no bytes or of a buffer without room, and each is aligned for its type.
- * - What a call writes to does not overlap the handle, nor another argument of that call.
+ * - What a call writes to does not overlap the handle or another argument of that call.
  * - `n` items can be read at `line`, `points` and `faces`, and `room` items be written at `buf` and `rows`.
- * - No call from a signal handler, nor from the forked child of a process with threads.
+ * - A signal handler makes no call, and neither does the forked child of a process with threads.
  *
  * Threads:
  * - Two handles share nothing, so any two threads may work at once, each with its own.
@@ -636,10 +636,10 @@ typedef struct gwb_triangle_row {
 } gwb_triangle_row;
 
 /** Cuts the faces of a solid, of all for solid 0, into triangles, by exact tests, and writes these as far as there is room in `rows`, faces
- * rising. Their corners are vertices of the face alone, so faces that share an edge have triangles that share it. A face that is bent has none,
- * nor one whose loops cross or touch, or don't bound one part of its plane as an outline and the holes in it do. A loop may come to a vertex
- * twice where the face lies between, as at an edge that it runs along both ways. Loops of one vertex leave nothing out. A face of n edges takes
- * time n log n. A reader.
+ * rising. Their corners are vertices of the face alone, so faces that share an edge have triangles that share it. Two kinds of faces have none:
+ * bent ones, and those whose loops cross, touch, or aren't one outline with the holes in it. A loop may come to a vertex twice where the face
+ * lies between, as at an edge that it runs along both ways. Loops of one vertex leave nothing out. A face of n edges takes time n log n. A
+ * reader.
  * @return how many there are: of a face, its half-edges and twice its rings, those of one vertex left out, less 2. Room for as many rows as the
  * solid has half-edges, and twice as many as it has rings, is enough for one call. SIZE_MAX where memory is refused or the handle is closed; then
  * some rows may be written. */

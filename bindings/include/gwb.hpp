@@ -1062,7 +1062,7 @@ struct Lamina {
 };
 
 /// The calls of a workbench. Where the Policy is Throwing they give their value, and throw RefusedBy where a condition is false,
-/// std::bad_alloc where memory is refused; where it is Results they give a Result and throw nothing, but for std::bad_alloc of a
+/// std::bad_alloc where memory is refused. Where it is Results they give a Result, and throw only std::bad_alloc, if memory is refused for a
 /// std::vector or a std::string that they make. Where a call is not accepted the model is as it was.
 ///
 /// A call that makes something takes the numbers of what it makes, or none: then it takes the least that are above all in use, and returns
@@ -1545,7 +1545,7 @@ public:
     /// The text of the last answer, its newline included.
     [[nodiscard]] Returned<std::string> reply() const { return text("reply", gwb_reply); }
 
-    /// Whether it was neither moved from nor closed.
+    /// Whether it is open: not moved from, and not closed.
     [[nodiscard]] bool is_open() const { return gwb_is_open(seen()); }
 
     /// The same workbench, whose calls give a Result and throw nothing: `if (auto cut = bench.attempt().split(..); !cut) ..cut.error()..`.

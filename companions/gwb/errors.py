@@ -11,7 +11,7 @@ class CompanionError(Exception):
 
 
 def _again(kind: Type[CompanionError], args: Tuple[Any, ...]) -> CompanionError:
-    """An error of the kind as it was made, but for what its attributes are."""
+    """An error of the kind as it was made; its attributes are set after it."""
     return kind.__new__(kind, *args)
 
 

@@ -6,7 +6,7 @@ use std::path::{Path, PathBuf};
 use std::process::{Command, Stdio};
 use std::{env, fmt, fs};
 
-/// Why nothing was exported: a file that was there is as before, but for `NoFile`.
+/// Why nothing was exported. A file that was there is as before, except perhaps with `NoFile`.
 #[derive(Debug)]
 #[non_exhaustive]
 pub enum ExportError {

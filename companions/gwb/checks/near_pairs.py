@@ -1,8 +1,8 @@
 """Which vertices and edges of a solid come so near to a face or an edge that they may touch or cross it: all others are left out.
 
-What is of one patch doesn't meet. So space is divided into cells, and those in which one patch lies alone are passed over. For each face in the
-others the vertices in its plane and the edges that lie in it or pass through it are looked for within its box. Whatever lies on an edge, or
-crosses it between its ends, lies in the plane of each face beside it, or passes through it.
+Faces of one patch don't meet. So space is divided into cells, and a cell with one patch alone is passed over. For each face in the other cells,
+the box of the face is searched for the vertices in its plane, and for the edges that lie in that plane or pass through it. Whatever lies on an
+edge, or crosses it between its ends, is found at the faces beside that edge: it lies in their planes, or passes through them.
 """
 
 from itertools import chain, combinations, product
@@ -15,7 +15,7 @@ from ..geometry.model import Model
 from ..geometry.vectors import Vector, dot
 from .patches import patches
 
-# Of a face of more corners not all pairs of edges are taken, but those whose boxes meet.
+# If a face has more corners, only those pairs of its edges are taken whose boxes meet.
 _MANY_CORNERS = 8
 # About so many faces of a surface lie in a cell.
 _IN_CELL = 12

@@ -18,8 +18,8 @@ _MOST_FACES = 262_144
 
 
 class Patches(NamedTuple):
-    """For each face the number of its patch, and whether it is a convex triangle or quadrilateral. What is of one patch meets only where the model
-    says so, by its edges and corners."""
+    """For each face the number of its patch, and whether it is a convex triangle or quadrilateral. Faces of one patch meet only where the model
+    says so: in edges and corners that they share."""
 
     patch_of: Dict[int, int]
     convex: Dict[int, bool]

@@ -116,7 +116,7 @@ class SolidCheck:
         return frozenset((self._model.face_of(edge), self._model.face_of(-edge)))
 
     def _is_in_one_plane(self, shell: List[int]) -> bool:
-        """Whether the normals of a shell's faces, but for those that are zero, lie in one line."""
+        """Whether the normals of a shell's faces that aren't zero lie in one line."""
         normals = [across for across in map(self._normals.__getitem__, shell) if across != ZERO]
         return all(cross(normals[0], across) == ZERO for across in normals)
 

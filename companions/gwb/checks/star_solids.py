@@ -22,7 +22,7 @@ _FINEST = 64
 
 
 def is_star(model: Model, solid: int, normals: Mapping[int, Vector]) -> bool:
-    """Whether a solid, the normals of whose faces are given, is one body whose faces meet as the model says and no otherwise, and look out."""
+    """Whether a solid is one body whose faces look out, and meet only where the model says so; `normals` are those of its faces."""
     faces = model.faces_of(solid)
     if any(model.faces[face].rings for face in faces):
         return False

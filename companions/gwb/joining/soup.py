@@ -21,8 +21,8 @@ class Soup(NamedTuple):
 
 
 def soup_of(points: Sequence[Vector], polygons: Sequence[Cycles]) -> Soup:
-    """The polygons with points at one place joined. Sides and rings that come to nothing go, and so do polygons of fewer than three
-    corners, which leaves what was closed closed."""
+    """The polygons with points at one place joined. Sides and rings that come to nothing are left out, and so are polygons of fewer
+    than three corners; a surface that was closed stays closed."""
     places: Dict[Vector, int] = {}
     name = [places.setdefault(point, len(places)) for point in points]
     soup = Soup(list(places), [], [])

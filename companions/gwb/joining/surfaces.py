@@ -80,7 +80,7 @@ def _join_arealess(surface: Surface, regions: JoinedSets) -> None:
 
 
 def arealess(surface: Surface) -> List[int]:
-    """The faces all of whose corners lie on a line, but for rings."""
+    """The faces without rings, all of whose corners lie on a line."""
     return [place for place, face in enumerate(surface.faces) if len(face) == 1 and _on_a_line(surface.cycle_points(face[0]))]
 
 

@@ -98,7 +98,7 @@ class TakenApart:
         return self._loops.name(self._loop_of[half])
 
     def _merge_faces(self, kept: Set[int]) -> List[int]:
-        """Edges between two faces go, but for those that are kept: the edges left over."""
+        """All edges between two faces go except the kept ones. Returns the edges that then have one face on both sides."""
         handles = []
         for edge in self._model.edges:
             if edge not in kept:

@@ -51,8 +51,8 @@ def whole(name: str, value: object) -> int:
 def number(name: str, value: object, kind: str = '', kernel: object = None) -> int:
     """The number of a thing, as the language reads it: 0 to 4,294,967,295. Those past 1,000,000 are for the kernel to refuse.
 
-    Of the kind, which is what the argument is named after where none is given, and of the bench a thing may be given too, and for a solid what
-    a command that makes one returned."""
+    A thing may be given too, if it is of the kind and of the bench; without `kind` the argument's name says it. For a solid it may be what the
+    command that made it returned."""
     wanted = kind or (name if name in KINDS else '')
     if isinstance(value, Part):
         return _part(name, value, wanted, kernel).number

@@ -22,7 +22,7 @@ class LabelledFaces:
         self._faces: Dict[int, FlatFace] = {face: FlatFace(model, face) for face in labelled if why_unfit(model, face) is None}
 
     def label_parts(self, solids: Iterable[int], but: Sequence[int]) -> None:
-        """Faces of these solids that weren't there, but for some, get the labels of the faces in which they lie."""
+        """New faces of these solids, except those in `but`, get the labels of the faces in which they lie."""
         if not self._faces:
             return
         new = [face for solid in solids for face in self._kernel.lines.faces_of(solid) if face not in self.held and face not in but]

@@ -17,7 +17,7 @@ class Selecting(Methods):
     """Parts of the model by their numbers, and by where they lie."""
 
     def solid(self, solid: arguments.Solid) -> SolidPart:
-        """The solid of this number. Where there is none, what is asked of it raises Refused; so do the next ones."""
+        """The solid of this number. If there is none, what is asked of it raises Refused; the same holds for the four kinds below."""
         return SolidPart(self._bench.kernel, self._bench.number('solid', solid))
 
     def face(self, face: arguments.Face) -> FacePart:
