@@ -15,13 +15,14 @@ _FEW_SIDES = 16
 
 
 def is_flat(model: Model, face: int, across: Vector) -> bool:
-    """Whether a face, whose normal is given, has an area, and all its vertices lie on its plane."""
-    return across != ZERO and (_is_triangle(model, face) or off_plane(model, face, across) is None)
-
-
-def _is_triangle(model: Model, face: int) -> bool:
-    row = model.faces[face]
-    return not row.rings and len(model.loops[row.outer].halves) == 3
+    """Whether a face, whose normal is given, has an area, and all its vertices lie on its plane. The normal of a quadrilateral is at right angles
+    to both diagonals, so all its corners lie on its plane where two that follow one another do."""
+    if across == ZERO:
+        return False
+    row, corners = model.faces[face], model.face_points(face)
+    if row.rings or len(corners) > 4:
+        return off_plane(model, face, across) is None
+    return len(corners) == 3 or dot(across, corners[0]) == dot(across, corners[1])
 
 
 def bent_finding(model: Model, face: int, across: Vector) -> Finding:

@@ -19,6 +19,8 @@ from .patches import patches
 _MANY_CORNERS = 8
 # About so many faces of a surface lie in a cell.
 _IN_CELL = 12
+# The mean is taken of about so many faces.
+_LOOKED_AT = 1000
 
 _Cell = Tuple[int, ...]
 
@@ -39,8 +41,7 @@ class NearPairs(NamedTuple):
 def near_pairs(model: Model, normals: Mapping[int, Vector]) -> NearPairs:
     """The pairs of a solid; `normals` are those of its flat faces with an area."""
     near = _NearFaces(model, normals)
-    open_edges = {edge for edge in model.edges if model.face_of(edge) not in normals and model.face_of(-edge) not in normals}
-    found = NearPairs(near.faces, near.patch_of, {}, {}, {}, {}, open_edges)
+    found = NearPairs(near.faces, near.patch_of, {}, {}, {}, {}, _open_edges(model, normals))
     for face in normals:
         if not near.convex[face]:
             _put_own(found, model, face)
@@ -49,29 +50,40 @@ def near_pairs(model: Model, normals: Mapping[int, Vector]) -> NearPairs:
     return found
 
 
-def _beside_others(boxes: Mapping[int, Box], patch_of: Mapping[int, int]) -> List[int]:
+def _open_edges(model: Model, normals: Mapping[int, Vector]) -> Set[int]:
+    """The edges that have no face beside them whose normal is given."""
+    if len(normals) == len(model.faces):
+        return set()
+    return {edge for edge in model.edges if model.face_of(edge) not in normals and model.face_of(-edge) not in normals}
+
+
+def _beside_others(model: Model, patch_of: Mapping[int, int]) -> List[int]:
     """The faces that lie in a cell with one of another patch."""
-    steps = _cell_sizes(list(boxes.values()))
-    cells = {face: tuple(_cells(box, steps)) for face, box in boxes.items()}
+    width, depth, height = _cell_sizes(model)
+    cell_of = {vertex: (x // width, y // depth, z // height) for vertex, (x, y, z) in model.vertices.items()}
+    cells = {face: _cells([cell_of[vertex] for vertex in model.face_vertices(face)]) for face in model.faces}
     owners: Dict[_Cell, int] = {}
     shared: Set[_Cell] = set()
-    for face, held in cells.items():
-        patch = patch_of[face]
+    for held, patch in {(held, patch_of[face]) for face, held in cells.items()}:
         shared.update([cell for cell in held if owners.setdefault(cell, patch) != patch])
-    return [face for face, held in cells.items() if not shared.isdisjoint(held)]
+    beside = {held for held in set(cells.values()) if not shared.isdisjoint(held)}
+    return [face for face, held in cells.items() if held in beside]
 
 
-def _cell_sizes(boxes: Sequence[Box]) -> List[int]:
+def _cell_sizes(model: Model) -> List[int]:
     """The sizes of a cell along the axes: those that leave so many faces of a surface in each, but no less than faces have in the mean."""
-    per_axis = max(1, isqrt(len(boxes) // (6 * _IN_CELL)))
-    around = box_of(corner for box in boxes for corner in zip(*box))
+    some = list(model.faces)[::1 + len(model.faces) // _LOOKED_AT]
+    boxes = [box_of(model.face_points(face)) for face in some]
+    per_axis = max(1, isqrt(len(model.faces) // (6 * _IN_CELL)))
     means = [sum(high - low for low, high in axis) // len(boxes) for axis in zip(*boxes)]
-    return [int(max((high - low) // per_axis, mean)) + 1 for (low, high), mean in zip(around, means)]
+    return [int(max((high - low) // per_axis, mean)) + 1 for (low, high), mean in zip(box_of(model.vertices.values()), means)]
 
 
-def _cells(box: Box, steps: Sequence[int]) -> Iterator[_Cell]:
-    """The cells that meet a box."""
-    return product(*[range(int(low // step), int(high // step) + 1) for (low, high), step in zip(box, steps)])
+def _cells(corners: Sequence[_Cell]) -> Tuple[_Cell, ...]:
+    """The cells of the least box around cells."""
+    if corners.count(corners[0]) == len(corners):
+        return (corners[0],)
+    return tuple(product(*[range(min(axis), max(axis) + 1) for axis in zip(*corners)]))
 
 
 class _NearFaces:
@@ -83,21 +95,25 @@ class _NearFaces:
         self.convex = known.convex
         self.patch_of = patch_of = {**{face: -face for face in model.faces}, **known.patch_of}
         self._lone = [loop.vertex for loop in model.loops.values() if loop.vertex is not None]
-        self._face_boxes = {face: box_of(model.face_points(face)) for face in model.faces}
-        near = list(model.faces) if self._lone else _beside_others(self._face_boxes, patch_of)
+        near = list(model.faces) if self._lone else _beside_others(model, patch_of)
         self.faces = [face for face in near if face in normals]
+        self._face_boxes = {face: box_of(model.face_points(face)) for face in self.faces}
         edges = {abs(half) for face in near for half in model.face_halves(face)}
         self._patches = {edge: (patch_of[model.face_of(edge)], patch_of[model.face_of(-edge)]) for edge in edges}
-        self._boxes = {edge: box_of((model.point(edge), model.point(-edge))) for edge in edges}
+        points, ends = model.vertices, model.edges
+        self._boxes = {edge: box_of((points[ends[edge][0]], points[ends[edge][1]])) for edge in edges}
         self._index = BoxIndex(self._boxes, isqrt(len(edges)) // 3)
 
     def at(self, face: int, across: Vector) -> Tuple[List[int], List[int]]:
         """The vertices of other patches in the plane of a face, and the edges of other patches that lie in it or pass through it, within its box."""
-        points, corners = self._model.vertices, set(self._model.face_vertices(face))
-        box, patch, level = self._face_boxes[face], self.patch_of[face], dot(across, anchor(self._model, face))
-        patches_of, ends = self._patches, self._model.edges
+        box, patch, patches_of = self._face_boxes[face], self.patch_of[face], self._patches
         near = [edge for edge in self._index.near(box) if patch not in patches_of[edge]]
-        heights = {vertex: dot(across, points[vertex]) - level for vertex in {*self._lone, *chain.from_iterable(map(ends.__getitem__, near))}}
+        if not near and not self._lone:
+            return [], []
+        points, ends, corners = self._model.vertices, self._model.edges, set(self._model.face_vertices(face))
+        (a, b, c), level = across, dot(across, anchor(self._model, face))
+        beside = {*self._lone, *chain.from_iterable(map(ends.__getitem__, near))}
+        heights = {vertex: a * x + b * y + c * z - level for vertex in beside for x, y, z in [points[vertex]]}
         through = []
         for edge in near:
             start, end = ends[edge]

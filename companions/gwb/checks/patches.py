@@ -69,8 +69,8 @@ class _Growing:
 
     def _outline(self, faces: Sequence[int], way: Vector) -> List[Flat]:
         """The corners of the outline of a disc in their order, as seen from far away on this way."""
-        model, held = self._model, set(faces)
-        after = {model.tail(half): half for face in faces for half in model.face_halves(face) if model.face_of(-half) not in held}
+        model = self._model
+        after = {model.tail(half): half for half in model.rim(faces)}
         start = next(iter(after))
         vertices, vertex = [start], model.tail(-after[start])
         while vertex != start:
@@ -87,26 +87,23 @@ class _Disc:
         self.faces: Dict[int, None] = {}
         self.beside: List[int] = []
         self._corners: Set[int] = set()
-        self._put(seed, model.face_vertices(seed), self._beyond(seed))
+        loop = model.faces[seed].outer
+        self._put(seed, model.loop_vertices(loop), model.faces_beyond(loop))
 
     def add(self, face: int) -> bool:
         """Adds a face that isn't of the disc; False where it stays no disc."""
-        corners, beyond = self._model.face_vertices(face), self._beyond(face)
-        faces, held = self.faces, self._corners
-        if len([vertex for vertex in corners if vertex in held]) != 1 + len([other for other in beyond if other in faces]):
+        loop = self._model.faces[face].outer
+        corners, beyond = self._model.loop_vertices(loop), self._model.faces_beyond(loop)
+        new = [other for other in beyond if other not in self.faces]
+        if sum(map(self._corners.__contains__, corners)) != 1 + len(beyond) - len(new):
             return False
-        self._put(face, corners, beyond)
+        self._put(face, corners, new)
         return True
 
-    def _beyond(self, face: int) -> List[int]:
-        """The faces beyond each edge of a face."""
-        model = self._model
-        return [model.face_of(-half) for half in model.loops[model.faces[face].outer].halves]
-
-    def _put(self, face: int, corners: Sequence[int], beyond: Sequence[int]) -> None:
+    def _put(self, face: int, corners: Sequence[int], new: Sequence[int]) -> None:
         self.faces[face] = None
         self._corners.update(corners)
-        self.beside += beyond
+        self.beside += new
 
 
 def _signs(vector: Vector) -> Vector:

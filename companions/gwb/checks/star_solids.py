@@ -6,6 +6,8 @@ have a corner or an edge in common. So all convex bodies are found, and many oth
 """
 
 from fractions import Fraction
+from itertools import chain
+from operator import itemgetter
 from typing import Mapping, Sequence
 
 from ..geometry.convexity import is_convex
@@ -35,9 +37,9 @@ class _Sky:
 
     def __init__(self, model: Model, faces: Sequence[int], normals: Mapping[int, Vector]) -> None:
         self._model, self._faces, self._normals = model, faces, normals
-        corners = [point for face in faces for point in model.face_points(face)]
+        corners = [model.vertices[vertex] for vertex in chain.from_iterable(map(model.face_vertices, faces))]
         self._scale = min(_FINEST, len(corners))
-        x, y, z = (self._scale * sum(axis) // len(corners) for axis in zip(*corners))
+        x, y, z = (self._scale * sum(map(itemgetter(axis), corners)) // len(corners) for axis in range(3))
         self._eye = (x, y, z)
 
     def is_seen_from_behind(self, face: int) -> bool:

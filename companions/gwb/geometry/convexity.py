@@ -3,7 +3,6 @@
 from typing import Sequence
 
 from .model import Model
-from .plane_figures import turn
 from .vectors import Vector, flat_axes
 
 
@@ -17,5 +16,7 @@ def is_convex(model: Model, face: int, across: Vector) -> bool:
 def _turns_left(points: Sequence[Vector], across: Vector) -> bool:
     """Whether four points in a plane with this normal turn left at each."""
     first, second = flat_axes(across)
-    a, b, c, d = [(point[first], point[second]) for point in points]
-    return turn(a, b, c) > 0 and turn(b, c, d) > 0 and turn(c, d, a) > 0 and turn(d, a, b) > 0
+    a, b, c, d = points
+    x, y, u, v = b[first] - a[first], b[second] - a[second], c[first] - b[first], c[second] - b[second]
+    z, w, s, t = d[first] - c[first], d[second] - c[second], a[first] - d[first], a[second] - d[second]
+    return x * v > y * u and u * w > v * z and z * t > w * s and s * y > t * x

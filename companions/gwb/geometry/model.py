@@ -2,7 +2,7 @@
 
 from dataclasses import dataclass, field
 from functools import cached_property
-from typing import Dict, Iterator, List, NamedTuple, Optional, Set, Tuple
+from typing import Collection, Dict, Iterator, List, NamedTuple, Optional, Set, Tuple
 
 from .vectors import Vector
 
@@ -32,6 +32,19 @@ class Face(NamedTuple):
         return (self.outer, *self.rings)
 
 
+class _Outlines(Dict[int, Tuple[int, ...]]):
+    """The vertices of loops in their order. Those of a loop are found when they are first asked for."""
+
+    def __init__(self, loops: Dict[int, Loop], edges: Dict[int, Tuple[int, int]]) -> None:
+        super().__init__()
+        self._loops, self._edges = loops, edges
+
+    def __missing__(self, loop: int) -> Tuple[int, ...]:
+        (halves, lone), edges = self._loops[loop], self._edges
+        self[loop] = found = tuple([edges[half][0] if half > 0 else edges[-half][1] for half in halves]) if lone is None else (lone,)
+        return found
+
+
 @dataclass(frozen=True)
 class Model:
     """All things of a listing by their numbers, each kind in rising order."""
@@ -42,12 +55,14 @@ class Model:
     edges: Dict[int, Tuple[int, int]]
     vertices: Dict[int, Vector]
     _sides: Dict[int, int] = field(init=False, repr=False, compare=False)
+    _outlines: _Outlines = field(init=False, repr=False, compare=False)
 
     def __post_init__(self) -> None:
         sides = {half: number for number, face in self.faces.items()
                  for loop in face.loops if loop in self.loops
                  for half in self.loops[loop].halves}
         object.__setattr__(self, '_sides', sides)
+        object.__setattr__(self, '_outlines', _Outlines(self.loops, self.edges))
 
     def _repr_svg_(self) -> Optional[str]:
         """A notebook draws the model, where there is something of it."""
@@ -66,18 +81,24 @@ class Model:
         """The point at which the half-edge starts."""
         return self.vertices[self.tail(half)]
 
+    def faces_beyond(self, loop: int) -> List[int]:
+        """The faces on the other side of the loop's half-edges, in its order."""
+        sides = self._sides
+        return [sides[-half] for half in self.loops[loop].halves]
+
+    def rim(self, faces: Collection[int]) -> List[int]:
+        """The half-edges of some faces across which there is none of these faces, in the order of the faces."""
+        held, rows, loops, sides = set(faces), self.faces, self.loops, self._sides
+        return [half for face in faces for loop in rows[face].loops for half in loops[loop].halves if sides[-half] not in held]
+
     def loop_vertices(self, loop: int) -> List[int]:
         """The vertices of the loop in its order."""
-        content = self.loops[loop]
-        if content.vertex is not None:
-            return [content.vertex]
-        edges = self.edges
-        return [edges[half][0] if half > 0 else edges[-half][1] for half in content.halves]
+        return list(self._outlines[loop])
 
     def loop_points(self, loop: int) -> List[Vector]:
         """The points of the loop in its order."""
         vertices = self.vertices
-        return [vertices[vertex] for vertex in self.loop_vertices(loop)]
+        return [vertices[vertex] for vertex in self._outlines[loop]]
 
     def face_halves(self, face: int) -> Iterator[int]:
         """The half-edges of all loops of the face."""
@@ -87,12 +108,13 @@ class Model:
     def face_vertices(self, face: int) -> List[int]:
         """The vertices of all loops of the face, the outer loop first; one may come more than once."""
         row = self.faces[face]
-        return [vertex for loop in row.loops for vertex in self.loop_vertices(loop)] if row.rings else self.loop_vertices(row.outer)
+        return [vertex for loop in row.loops for vertex in self._outlines[loop]] if row.rings else list(self._outlines[row.outer])
 
     def face_points(self, face: int) -> List[Vector]:
         """The points of all loops of the face."""
         vertices = self.vertices
-        return [vertices[vertex] for vertex in self.face_vertices(face)]
+        row, outlines = self.faces[face], self._outlines
+        return [vertices[vertex] for loop in (row.loops if row.rings else (row.outer,)) for vertex in outlines[loop]]
 
     def faces_of(self, solid: int) -> List[int]:
         """The faces of the solid, rising."""

@@ -1,6 +1,7 @@
 """How the shells of a solid lie in each other, by exact tests."""
 
 from fractions import Fraction
+from functools import cached_property
 from itertools import count
 from typing import Dict, List, NamedTuple, Optional, Sequence
 
@@ -27,14 +28,19 @@ class Enclosures:
 
     def __init__(self, model: Model, shells: Sequence[Shell]) -> None:
         self._model, self._shells = model, shells
-        self._boxes = [_box(model, shell) for shell in shells]
-        self._index = BoxIndex(dict(enumerate(self._boxes))) if shells else None
         self._walls: Dict[int, _ShellWalls] = {}
+
+    @cached_property
+    def _boxes(self) -> List[Box]:
+        return [_box(self._model, shell) for shell in self._shells]
+
+    @cached_property
+    def _index(self) -> BoxIndex[int]:
+        return BoxIndex(dict(enumerate(self._boxes)))
 
     def around(self, inner: int) -> List[int]:
         """The places of the shells in which a shell lies, rising. Shells must have flat faces with an area."""
-        box = self._boxes[inner]
-        return [place for place in self._beside(inner) if _holds(self._boxes[place], box) and self._lies_in(inner, place)]
+        return [place for place in self._beside(inner) if _holds(self._boxes[place], self._boxes[inner]) and self._lies_in(inner, place)]
 
     def entered(self, inner: int) -> List[int]:
         """As around, for shells that may cross each other: those in which the first corner of a shell lies that isn't on them."""
@@ -42,7 +48,7 @@ class Enclosures:
 
     def _beside(self, inner: int) -> List[int]:
         """The places of the other shells whose boxes meet that of a shell, rising."""
-        if self._index is None or len(self._shells) == 1:
+        if len(self._shells) == 1:
             return []
         return sorted(place for place in self._index.meeting(self._boxes[inner]) if place != inner)
 

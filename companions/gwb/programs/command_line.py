@@ -13,7 +13,7 @@ from ..version import VERSION
 
 OK, FOUND, REFUSED, INTERRUPTED = 0, 1, 3, 130
 # A large model is made of millions of things of which none holds itself: the search for those that do is made seldom.
-_SELDOM = 200_000
+_SELDOM = 1_000_000
 
 
 def run(program: str, work: Callable[[Optional[Sequence[str]]], int], words: Optional[Sequence[str]] = None) -> int:

@@ -7,7 +7,7 @@ from ..errors import NotReplies
 from .language import COMMANDS
 
 _COMPLAINTS = ('refused', 'fault', 'memory')
-_BLOCK = 1_000_000
+_BLOCK = 65_536
 _NUMBER, _WHOLE = r'(?:0|[1-9][0-9]{0,9})', r'(?:0|-?[1-9][0-9]{0,39})'
 _ONE_LINE = re.compile(
     rf'ok|empty|memory|refused {_NUMBER} {_NUMBER}|fault [1-6]|volume {_WHOLE}'
@@ -16,7 +16,7 @@ _ONE_LINE = re.compile(
 _BEHIND_SOLIDS = (
     rf'face {_NUMBER} {_NUMBER}(?: {_NUMBER})+|loop {_NUMBER} at {_NUMBER}|loop {_NUMBER}(?: [+-]{_NUMBER})+'
     rf'|edge {_NUMBER} {_NUMBER} {_NUMBER}|vertex {_NUMBER} {_WHOLE} {_WHOLE} {_WHOLE}')
-_LISTED, _GOES_ON = re.compile(rf'solid {_NUMBER}|{_BEHIND_SOLIDS}'), re.compile(_BEHIND_SOLIDS)
+_LISTED, _GOES_ON = re.compile(rf'solid {_NUMBER}|{_BEHIND_SOLIDS}'), re.compile(rf'(?:(?:{_BEHIND_SOLIDS})\n)+')
 
 
 class Reply(NamedTuple):
@@ -102,7 +102,7 @@ class _Search:
             self._cutting.pass_over(len(block))
             self._later += block.count('ok')
             return
-        if self._cutting.listing and all(map(_GOES_ON.fullmatch, block)):
+        if self._cutting.listing and _GOES_ON.fullmatch('\n'.join([*block, ''])):
             self._cutting.go_on(block)
             return
         for line in block:

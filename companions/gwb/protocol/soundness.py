@@ -80,9 +80,9 @@ def _require_cycles(model: Model) -> None:
 def _require_cycle(model: Model, number: int, halves: Sequence[int]) -> None:
     starts, edges, first = model.loop_vertices(number), model.edges, halves[0]
     ends = [edges[half][1] if half > 0 else edges[-half][0] for half in halves]
-    if ends[:-1] != starts[1:] or ends[-1] != starts[0]:
+    if ends != starts[1:] + starts[:1]:
         _refuse(f'loop {number} breaks off after {half:+d}' for half, end, start in zip(halves, ends, starts[1:] + starts[:1]) if end != start)
-    if abs(first) != min([abs(half) for half in halves]) or first < 0 and -first in halves:
+    if abs(first) != abs(min(halves, key=abs)) or first < 0 and -first in halves:
         raise NotAListing(f"loop {number} doesn't begin with its least half-edge")
 
 
@@ -100,7 +100,7 @@ def _require_vertices(model: Model) -> None:
     _refuse(f'vertex {vertex} is of no loop, or of a lone one and of an edge' for vertex in model.vertices
             if (vertex in alone) == (vertex in leaving))
     around = _next_around(model)
-    some_half = {end: half for edge, (start, last) in model.edges.items() for end, half in ((start, edge), (last, -edge))}
+    some_half = {**{end: -edge for edge, (_, end) in model.edges.items()}, **{start: edge for edge, (start, _) in model.edges.items()}}
     _refuse(f'the edges at vertex {vertex} form more than one fan' for vertex, count in leaving.items()
             if _cycle_length(around, some_half[vertex]) != count)
 
