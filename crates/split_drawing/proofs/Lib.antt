@@ -1,3 +1,4 @@
+pub mod StepsLeft
 pub mod edge_cutting_laws
 pub mod face_drawing_laws
 mod solid_drawing_laws

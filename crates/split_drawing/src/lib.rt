@@ -11,8 +11,9 @@
 //! that can't be drawn, otherwise `AllocError`. `ring_free` comes between these two, and `move_rings`, whose operators have to be accepted,
 //! after them. `draw_solid` takes a draft in whose model the first conditions of a split hold, and what the plane cuts there of the solid.
 //! It is Ok only with exactly the model of the first two rewritings, with the numbers taken and the first face that can't be drawn,
-//! otherwise `AllocError`. After `cut_edges` and `draw_solid` the session from which the draft came is kept either way. No operator inside
-//! is ever refused.
+//! otherwise `AllocError`. Each of these takes as steps exactly the operators that are written for it, for `draw_solid` those of both
+//! rewritings (`rewriting_ops`). After `cut_edges` and `draw_solid` the session from which the draft came is kept either way. No operator
+//! inside is ever refused.
 
 mod edge_cutting;
 mod face_drawing;

@@ -3,8 +3,9 @@ use Rattle.std.proofs.Common.{◌≡◌, ℕ, ◌+◌, ◌≤◌, List, [], ◌�
 use Rattle.euler_operators.specs.Common.{Point, Plane, At, IsCutPlane, are_opposite, cut_between, count, half, plus, minus, Model, after, no_point, Sound, first_false, effect}
 use Rattle.euler_operators.specs.declared.Op.TheVariants.{Mev}
 use Rattle.euler_operators.proofs.Common.{tick_same, mate_plus, plus_there, minus_there}
-use Rattle.shapes.specs.Common.{start, finish, Taken, taken_in, Growing, growing, crossing_edges, next_cut, all_cut, with_crossings, cut_edge}
+use Rattle.shapes.specs.Common.{start, finish, Taken, taken_in, Growing, growing, crossing_edges, next_cut, cut_edge}
 use Rattle.shapes.proofs.split.Facts.{split_begins}
+use Rattle.split_drawing_laws.specs.crossings.CrossingOps.{ops_from, crossing_ops}
 use Rattle.split_drawing_laws.proofs.crossings.Steps.{CutGoes, cut_accepted}
 use Rattle.split_drawing_laws.proofs.crossings.Runs.{cut_at, Crossing, Going, kept_start, goes_now, next_model, going_on}
 use Rattle.split_drawing_laws.proofs.crossings.Whole as whole
@@ -16,30 +17,28 @@ use Rattle.split_checks.specs.cut_places.Crossings.{IsCrossing}
 use Rattle.split_checks.proofs.cut_places_laws.Lists.{others, parts}
 use Rattle.split_drawing.specs.edge_cutting.Begins.{CanBeCut}
 
--- N is M with some of its edges cut, and those of rs are still to be cut: that makes the first rewriting
-pub record Cutting (M : Model) (s : ℕ) (p : Plane) (N : Model) (rs : List ℕ) : Type 0 where
+-- N is M with some of its edges cut, and those of rs are still to be cut
+pub record Cutting (M : Model) (p : Plane) (N : Model) (rs : List ℕ) : Type 0 where
   pub sound : Sound M
   pub done : List ℕ
   pub going : Going M p (growing N) done rs
-  pub made : (all_cut p (growing N) rs).model ≡ (with_crossings M s p).model
 
 -- a plane that can begin a split is in range
 pub cut_plane : (M : Model) (s : ℕ) (p : Plane) → CanBeCut M s p → IsCutPlane p
 cut_plane M s p can = (split_begins M s p can.0 can.1).in_range
 
 -- all crossing edges are to be cut
-pub begins : (M : Model) (s : ℕ) (p : Plane) → Sound M → CanBeCut M s p → Cutting M s p M (crossing_edges M p s)
-unfolding with_crossings
+pub begins : (M : Model) (s : ℕ) (p : Plane) → Sound M → CanBeCut M s p → Cutting M p M (crossing_edges M p s)
 begins M s p sound can = record {
   sound = sound;
   done = [];
   going = whole.begins M s p can.0 sound can.1;
-  made = refl;
 }
 
--- once all are cut the rewriting is made
-pub all_taken : (M : Model) (s : ℕ) (p : Plane) (N : Model) → Cutting M s p N [] → N ≡ (with_crossings M s p).model
-all_taken M s p N c = c.made
+-- and these are the operators that cut them
+pub crossings_are : (M : Model) (s : ℕ) (p : Plane) → ops_from p (growing M) (crossing_edges M p s) ≡ crossing_ops M s p
+unfolding crossing_ops
+crossings_are M s p = refl
 
 -- the edges to be cut, and each with the point at which it meets the plane
 abbrev pub edges_in : List CutEdge → List ℕ
@@ -61,13 +60,13 @@ abbrev pub no_cut : CutEdge
 no_cut = record { edge = 0; point = no_point }
 
 -- the next one, of a list as the code opens it
-pub opened : (M : Model) (s : ℕ) (p : Plane) (N : Model) (cs : List CutEdge) (d : CutEdge) → 1 ≤ length cs → Cutting M s p N (edges_in cs) → Cutting M s p N ((slice_index_or cs 0 d).edge ∷ edges_in (others cs))
-opened M s p N cs d l c = subst (λ xs. Cutting M s p N (edges_in xs)) (parts cs d l) c
+pub opened : (M : Model) (p : Plane) (N : Model) (cs : List CutEdge) (d : CutEdge) → 1 ≤ length cs → Cutting M p N (edges_in cs) → Cutting M p N ((slice_index_or cs 0 d).edge ∷ edges_in (others cs))
+opened M p N cs d l c = subst (λ xs. Cutting M p N (edges_in xs)) (parts cs d l) c
 
 pub opened_at : (M : Model) (p : Plane) (cs : List CutEdge) (d : CutEdge) → 1 ≤ length cs → AreAt M p cs → ((slice_index_or cs 0 d).point ≡ cut_at M p (slice_index_or cs 0 d).edge) × AreAt M p (others cs)
 opened_at M p cs d l a = subst (AreAt M p) (parts cs d l) a
 
-module _ (M : Model) (s : ℕ) (p : Plane) (N : Model) (e : ℕ) (rs : List ℕ) (c : Cutting M s p N (e ∷ rs)) where
+module _ (M : Model) (p : Plane) (N : Model) (e : ℕ) (rs : List ℕ) (c : Cutting M p N (e ∷ rs)) where
   goes : CutGoes N e ((taken_in N).edge + 1) ((taken_in N).vertex + 1) (cut_at N p e)
   goes = goes_now M p c.sound (growing N) c.done e rs c.going
 
@@ -111,8 +110,11 @@ module _ (M : Model) (s : ℕ) (p : Plane) (N : Model) (e : ℕ) (rs : List ℕ)
         let model = next_model M p c.sound (growing N) c.done e rs c.going ∙ sym is in
         λ i. record { model = model i; taken = (still_going.counted ∙ ap taken_in model) i }
 
-    pub next_taken : Cutting M s p K rs
-    next_taken = grind (arith, grown, still_going)
+    pub next_taken : Cutting M p K rs
+    next_taken = record { sound = c.sound; done = e ∷ c.done; going = subst (λ g. Going M p g (e ∷ c.done) rs) grown still_going }
+
+    pub ops_left : (es : List ℕ) → es ≡ e ∷ rs → cut_edge p (growing N) e ∷ ops_from p (growing K) rs ≡ ops_from p (growing N) es
+    ops_left es are = ap (λ (g : Growing). cut_edge p (growing N) e ∷ ops_from p g rs) (sym grown) ∙ ap (ops_from p (growing N)) (sym are)
 
     pub next_counted : (t : Counters) → taken_of t ≡ taken_in N → (u : Counters) → u ≡ record t { edges = t.edges + 1; vertices = t.vertices + 1 } → taken_of u ≡ taken_in K
     unfolding next_cut

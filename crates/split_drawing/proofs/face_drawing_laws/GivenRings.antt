@@ -1,10 +1,10 @@
 -- Rings of a face: whether they stop its drawing, and rings given one after the other.
-use Rattle.std.proofs.Common.{◌≡◌, ℕ, ◌≤◌, ◌<◌, true, false, ◌&&◌, List, [], ◌∷◌, length, slice_index_or, None, not, nat_lt, sym, ap, ◌∙◌, subst, arith}
+use Rattle.std.proofs.Common.{◌≡◌, ℕ, ◌≤◌, ◌<◌, true, false, ◌&&◌, List, [], ◌∷◌, length, slice_index_or, None, not, nat_lt, sym, ap, subst, arith}
 use Rattle.std.proofs.lemmas.Bool.Decides.{nat_tests}
 use Rattle.euler_operators.specs.Common.{Model, rings_of, first_false, has_rings, is_empty, effect}
 use Rattle.euler_operators.specs.declared.Op.TheVariants.{RingIn}
 use Rattle.euler_operators.proofs.Common.{and_false}
-use Rattle.euler_laws.specs.Laws.{AreAccepted, effects}
+use Rattle.euler_laws.specs.Laws.{AreAccepted}
 use Rattle.split_drawing_laws.specs.drawings.DrawingOps.{ring_ops}
 use Rattle.split_checks.proofs.cut_places_laws.Lists.{others, parts}
 
@@ -36,9 +36,11 @@ module _ (N : Model) (k : ℕ) (ls : List ℕ) (d : ℕ) (l : 1 ≤ length ls) (
   pub ring_goes : first_false N (RingIn (slice_index_or ls 0 d) k) ≡ None
   ring_goes = opened.0
 
+  -- once the first is given, the others can be given
   module _ (K : Model) (is : K ≡ effect N (RingIn (slice_index_or ls 0 d) k)) where
     pub rings_go : AreAccepted K (ring_ops (others ls) k)
     rings_go = subst (λ X. AreAccepted X (ring_ops (others ls) k)) (sym is) opened.1
 
-    pub rings_made : effects K (ring_ops (others ls) k) ≡ effects N (ring_ops ls k)
-    rings_made = ap (λ X. effects X (ring_ops (others ls) k)) is ∙ ap (λ (xs : List ℕ). effects N (ring_ops xs k)) (sym (parts ls d l))
+-- the first is given, and then the others
+pub ring_and_others : (ls : List ℕ) (k d : ℕ) → 1 ≤ length ls → RingIn (slice_index_or ls 0 d) k ∷ ring_ops (others ls) k ≡ ring_ops ls k
+ring_and_others ls k d l = ap (λ (xs : List ℕ). ring_ops xs k) (sym (parts ls d l))

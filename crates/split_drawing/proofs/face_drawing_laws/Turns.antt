@@ -1,5 +1,5 @@
 -- One pair more in each of the two passes, the next of a list as the code opens it.
-use Rattle.std.proofs.Common.{◌≡◌, ℕ, ◌+◌, ◌≤◌, Bool, true, false, List, [], ◌∷◌, ◌++◌, length, map, slice_index_or, None, sym, ap, ◌∙◌, subst, fold}
+use Rattle.std.proofs.Common.{◌≡◌, ℕ, ◌+◌, ◌≤◌, Bool, true, false, cond, List, [], ◌∷◌, ◌++◌, length, map, slice_index_or, None, sym, ap, ◌∙◌, subst, fold}
 use Rattle.euler_operators.specs.Common.{Model, first_false, effect}
 use Rattle.shapes.specs.Common.{Drawing, in_one_loop, join_next, draw_next, join_pair, draw_pair}
 use Rattle.split_checks.proofs.cut_places_laws.Lists.{others, parts}
@@ -11,6 +11,7 @@ use Rattle.split_drawing.specs.face_drawing.Stuck.{stuck_at}
 use Rattle.solid_walks.specs.Counters.{taken_of}
 use Rattle.split_checks.specs.Progress.{drawing_of}
 use Rattle.split_drawing.specs.face_drawing.Passes.{CanJoin, CanDraw}
+use Rattle.split_drawing_laws.specs.drawings.DrawingOps.{join_ops, draw_ops}
 use Rattle.split_drawing_laws.specs.drawings.Passing.{Joining, Going}
 use Rattle.split_drawing_laws.proofs.drawings.Drawn.{draw_accepted as can_accepted}
 use Rattle.split_drawing_laws.proofs.drawings.Pairs.{pair_leads}
@@ -43,11 +44,13 @@ module _ (f : ℕ) (c : Progress) (N : Model) (L : List (ℕ × ℕ)) (rest : Li
     can_join : CanJoin f d (q ∷ qs)
     can_join = subst (CanJoin f d) (opened_codes rest l) w
 
-    -- whatever becomes of the pair, the others can be joined then
-    join_on : (X : Drawing) → join_next d q ≡ X → CanJoin f X qs × (fold join_next X qs ≡ fold join_next d (map codes rest))
-    join_on X is = (
+    -- whatever becomes of the pair, the others can be joined then, and take the operators that are left
+    join_on : (X : Drawing) (b : Bool) → in_one_loop N q ≡ b → join_next d q ≡ X → CanJoin f X qs × (fold join_next X qs ≡ fold join_next d (map codes rest))
+        × (cond b [] (join_pair N q (c.taken.edges + 1) ∷ []) ++ join_ops X qs ≡ join_ops d (map codes rest))
+    join_on X b e is = (
       record { before = can_join.before; fit = can_join.fit.1; joining = subst (λ x. Joining can_join.before f x qs 0) is (join_one can_join.before f d q qs 0 can_join.fit.0 can_join.joining).1 },
       ap (λ x. fold join_next x qs) (sym is) ∙ ap (fold join_next d) (sym (opened_codes rest l)),
+      (λ i. cond (sym e i) [] (join_pair N q (c.taken.edges + 1) ∷ []) ++ join_ops (sym is i) qs) ∙ ap (join_ops d) (sym (opened_codes rest l)),
     )
 
     pub join_accepted : in_one_loop N (codes (first_pair rest)) ≡ false → first_false N (join_pair N (codes (first_pair rest)) (c.taken.edges + 1)) ≡ None
@@ -56,11 +59,13 @@ module _ (f : ℕ) (c : Progress) (N : Model) (L : List (ℕ × ℕ)) (rest : Li
 
     pub joined : in_one_loop N (codes (first_pair rest)) ≡ false → (K : Model) → K ≡ effect N (join_pair N (codes (first_pair rest)) (c.taken.edges + 1)) → (t : Counters) → t ≡ record c.taken { edges = c.taken.edges + 1 }
         → CanJoin f (drawing_of (record c { taken = t }) K L) (map codes (others rest)) × (fold join_next (drawing_of (record c { taken = t }) K L) (map codes (others rest)) ≡ fold join_next (drawing_of c N L) (map codes rest))
-    joined e K is t counted = join_on (drawing_of (record c { taken = t }) K L) (join_next_two d q e ∙ (λ i. drawing_of (record c { taken = sym counted i }) (sym is i) L))
+        × (join_pair N (codes (first_pair rest)) (c.taken.edges + 1) ∷ join_ops (drawing_of (record c { taken = t }) K L) (map codes (others rest)) ≡ join_ops (drawing_of c N L) (map codes rest))
+    joined e K is t counted = join_on (drawing_of (record c { taken = t }) K L) false e (join_next_two d q e ∙ (λ i. drawing_of (record c { taken = sym counted i }) (sym is i) L))
 
     pub left_over : in_one_loop N (codes (first_pair rest)) ≡ true → (P : List (ℕ × ℕ)) → P ≡ L ++ codes (first_pair rest) ∷ []
         → CanJoin f (drawing_of c N P) (map codes (others rest)) × (fold join_next (drawing_of c N P) (map codes (others rest)) ≡ fold join_next (drawing_of c N L) (map codes rest))
-    left_over e P is = join_on (drawing_of c N P) (join_next_one d q e ∙ (λ i. drawing_of c N (sym is i)))
+        × (join_ops (drawing_of c N P) (map codes (others rest)) ≡ join_ops (drawing_of c N L) (map codes rest))
+    left_over e P is = join_on (drawing_of c N P) true e (join_next_one d q e ∙ (λ i. drawing_of c N (sym is i)))
 
   -- ---- the second pass
 
@@ -68,9 +73,10 @@ module _ (f : ℕ) (c : Progress) (N : Model) (L : List (ℕ × ℕ)) (rest : Li
     can_draw : CanDraw f d (q ∷ qs)
     can_draw = subst (CanDraw f d) (opened_codes rest l) w
 
-    -- and then the others can be drawn
-    draw_on : (X : Drawing) → draw_next f d q ≡ X → CanDraw f X qs × (fold (draw_next f) X qs ≡ fold (draw_next f) d (map codes rest))
-    draw_on X is = (
+    -- and then the others can be drawn, and take the operators that are left
+    draw_on : (X : Drawing) (b : Bool) → in_one_loop N q ≡ b → draw_next f d q ≡ X → CanDraw f X qs × (fold (draw_next f) X qs ≡ fold (draw_next f) d (map codes rest))
+        × (cond b (draw_pair (taken_of c.taken) q ∷ []) [] ++ draw_ops f X qs ≡ draw_ops f d (map codes rest))
+    draw_on X b e is = (
       record {
         before = can_draw.before;
         sound = can_draw.sound;
@@ -78,6 +84,7 @@ module _ (f : ℕ) (c : Progress) (N : Model) (L : List (ℕ × ℕ)) (rest : Li
         going = subst (λ x. Going can_draw.before f x qs 0) is (draw_one can_draw.before f can_draw.sound d q qs 0 can_draw.fit.0 can_draw.going).1;
       },
       ap (λ x. fold (draw_next f) x qs) (sym is) ∙ ap (fold (draw_next f) d) (sym (opened_codes rest l)),
+      (λ i. cond (sym e i) (draw_pair (taken_of c.taken) q ∷ []) [] ++ draw_ops f (sym is i) qs) ∙ ap (draw_ops f d) (sym (opened_codes rest l)),
     )
 
     pub draw_accepted : in_one_loop N (codes (first_pair rest)) ≡ true → first_false N (draw_pair (taken_of c.taken) (codes (first_pair rest))) ≡ None
@@ -86,8 +93,10 @@ module _ (f : ℕ) (c : Progress) (N : Model) (L : List (ℕ × ℕ)) (rest : Li
     pub drew : in_one_loop N (codes (first_pair rest)) ≡ true → (K : Model) → K ≡ effect N (draw_pair (taken_of c.taken) (codes (first_pair rest)))
         → (t : Counters) → t ≡ record c.taken { faces = c.taken.faces + 1; loops = c.taken.loops + 1; edges = c.taken.edges + 1 }
         → CanDraw f (drawing_of (record c { taken = t }) K L) (map codes (others rest)) × (fold (draw_next f) (drawing_of (record c { taken = t }) K L) (map codes (others rest)) ≡ fold (draw_next f) (drawing_of c N L) (map codes rest))
-    drew e K is t counted = draw_on (drawing_of (record c { taken = t }) K L) (draw_next_one f d q e ∙ (λ i. drawing_of (record c { taken = sym counted i }) (sym is i) L))
+        × (draw_pair (taken_of c.taken) (codes (first_pair rest)) ∷ draw_ops f (drawing_of (record c { taken = t }) K L) (map codes (others rest)) ≡ draw_ops f (drawing_of c N L) (map codes rest))
+    drew e K is t counted = draw_on (drawing_of (record c { taken = t }) K L) true e (draw_next_one f d q e ∙ (λ i. drawing_of (record c { taken = sym counted i }) (sym is i) L))
 
     pub got_stuck : in_one_loop N (codes (first_pair rest)) ≡ false → (t : Progress) → t ≡ stuck_at c f
         → CanDraw f (drawing_of t N L) (map codes (others rest)) × (fold (draw_next f) (drawing_of t N L) (map codes (others rest)) ≡ fold (draw_next f) (drawing_of c N L) (map codes rest))
-    got_stuck e t is = draw_on (drawing_of t N L) (draw_next_two f d q e ∙ (λ i. drawing_of (sym is i) N L))
+        × (draw_ops f (drawing_of t N L) (map codes (others rest)) ≡ draw_ops f (drawing_of c N L) (map codes rest))
+    got_stuck e t is = draw_on (drawing_of t N L) false e (draw_next_two f d q e ∙ (λ i. drawing_of (sym is i) N L))

@@ -1,15 +1,17 @@
 -- The next of some faces as the code opens it.
-use Rattle.std.proofs.Common.{◌≡◌, ◌≤◌, ◌+◌, List, ◌∷◌, length, map, sym, ap, ◌∙◌, [], subst, arith, take, drop, length-drop}
+use Rattle.std.proofs.Common.{◌≡◌, ◌≤◌, ◌+◌, List, ◌∷◌, ◌++◌, length, map, sym, ap, ◌∙◌, [], subst, arith, take, drop, length-drop}
 use Rattle.std.proofs.lemmas.List.{take-map, drop-map}
 use Rattle.euler_operators.specs.Common.{Plane, Model}
+use Rattle.euler_operators.specs.declared.Op.{Op}
 use Rattle.shapes.specs.Common.{drawn_between, next_drawn, faces_drawn}
+use Rattle.split_drawing_laws.specs.drawings.DrawingOps.{face_ops, ops_from}
 use Rattle.split_checks.specs.declared.cuts.Pair.{Pair}
 use Rattle.split_checks.specs.declared.cuts.PairedFace.{PairedFace}
 use Rattle.split_checks.specs.declared.progress.Progress.{Progress}
 use Rattle.split_checks.specs.Cuts.{codes, how_many_pairs, paired}
 use Rattle.split_checks.specs.Progress.{drawing_of}
 use Rattle.split_drawing.specs.solid_drawing.Drawn.{put_aside, CanDrawFace, CanDrawFaces}
-use Rattle.split_drawing.proofs.solid_drawing_laws.Faces.{aside, opened}
+use Rattle.split_drawing.proofs.solid_drawing_laws.Faces.{aside, ops_aside, opened}
 
 -- what a slice has past its end
 abbrev pub no_pairs : PairedFace
@@ -45,3 +47,11 @@ module _ (p : Plane) (c : Progress) (N : Model) (rest : List PairedFace) (later 
     pub made_on : put_aside (faces_drawn p (drawing_of t K []) (paired others (map codes more))) ≡ put_aside (faces_drawn p (drawing_of c N []) (paired rest (map codes later)))
     unfolding next_drawn
     made_on = grind (arith, aside, opened_rest)
+
+    -- its operators, and then those of the others
+    pub ops_on : face_ops p q.face (map codes ps) (drawing_of c N []) ++ ops_from p (drawing_of t K []) (paired others (map codes more)) ≡ ops_from p (drawing_of c N []) (paired rest (map codes later))
+    unfolding next_drawn
+    ops_on =
+        ap (λ (xs : List Op). face_ops p q.face (map codes ps) (drawing_of c N []) ++ xs)
+        (ap (λ d. ops_from p d (paired others (map codes more))) is ∙ ops_aside p (drawn_between p q.face (map codes ps) (drawing_of c N [])) (paired others (map codes more)))
+        ∙ ap (ops_from p (drawing_of c N [])) (sym opened_rest)

@@ -2,6 +2,7 @@
 use Rattle.std.proofs.Common.{◌≡◌, ℕ, List, [], ◌∷◌, map, refl, subst, arith}
 use Rattle.euler_operators.specs.Common.{Plane, Table, Has}
 use Rattle.shapes.specs.Common.{Drawing, FacePairs, drawn_between, next_drawn, faces_drawn}
+use Rattle.split_drawing_laws.specs.drawings.DrawingOps.{ops_from}
 use Rattle.split_drawing_laws.specs.drawings.Passing.{Ready, Drawable}
 use Rattle.split_drawing_laws.proofs.drawings.Faces.{face_goes}
 use Rattle.split_drawing_laws.proofs.drawings.Whole.{next_is, ready, drawable_on}
@@ -13,6 +14,12 @@ pub aside : (p : Plane) (fs : List FacePairs) (d : Drawing) → put_aside (faces
 unfolding next_drawn
 aside p [] d = refl
 aside p (f ∷ fs) d = refl
+
+-- nor the operators that draw what comes then
+pub ops_aside : (p : Plane) (d : Drawing) (fs : List FacePairs) → ops_from p (put_aside d) fs ≡ ops_from p d fs
+unfolding next_drawn
+ops_aside p d [] = refl
+ops_aside p d (f ∷ fs) = refl
 
 drawable_aside : (d : Drawing) (fs : List FacePairs) (n : ℕ) → Drawable d fs n → Drawable (put_aside d) fs n
 drawable_aside d fs n w = record { sound = w.sound; fresh = w.fresh; room = w.room; fit = w.fit; apart = w.apart }

@@ -1,12 +1,13 @@
 -- One face drawn between its pairs, step by step as the code does it.
-use Rattle.std.proofs.Common.{◌≡◌, ℕ, Bool, true, false, cond, ◌&&◌, nat_eq, nat_lt, List, [], length, map, ◌≢◌, refl, sym, ap, ◌∙◌, subst, ne_eqb, eq-eqb, fold, arith}
+use Rattle.std.proofs.Common.{◌≡◌, ℕ, Bool, true, false, cond, ◌&&◌, nat_eq, nat_lt, List, [], ◌++◌, length, map, ◌≢◌, refl, sym, ap, ◌∙◌, subst, ne_eqb, eq-eqb, fold, arith, append_assoc, append-nil}
 use Rattle.std.proofs.lemmas.List.{length-map}
 use Rattle.euler_operators.specs.Common.{Plane, Model, content, Has, has_rings}
 use Rattle.euler_operators.specs.Table as table
+use Rattle.euler_operators.specs.declared.Op.{Op}
 use Rattle.euler_laws.specs.Laws.{AreAccepted}
 use Rattle.shapes.specs.Common.{vertices_on, some_above, Drawing, join_next, draw_next, all_joined, ring_free, all_drawn, rings_above, with_rings, rings_shared, drawn_between}
 use Rattle.shapes.specs.split.Drawing as drawing
-use Rattle.split_drawing_laws.specs.drawings.DrawingOps.{ring_ops}
+use Rattle.split_drawing_laws.specs.drawings.DrawingOps.{join_ops, draw_ops, ring_ops, share_ops, face_ops}
 use Rattle.split_drawing_laws.proofs.drawings.Faces.{begun_joining, joins, going, going_on, fitting_on, last, newer_face}
 use Rattle.split_drawing_laws.proofs.drawings.Rings.{Moved, rings_move, rings_are, rings_apart}
 use Rattle.split_checks.specs.cut_places.Noted.{AreNoted}
@@ -122,3 +123,26 @@ module _ (p : Plane) (f : ℕ) (pairs : List Pair) (from : Progress) (M : Model)
 
       pub with_none : length pairs ≢ 1 → drawing_of u K [] ≡ put_aside (drawn_between p f (map codes pairs) (drawing_of from M []))
       with_none more = unshared p f ps begun w (ne_eqb (length ps) 1 (λ e. more (sym (length-map pairs codes) ∙ e))) (drawing_of u K (map codes now)) last_is
+
+      -- the steps of both passes, and with one pair those that give the rings above
+      abbrev second : List Op
+      second = draw_ops f (drawing_of t N (map codes now)) (map codes now)
+
+      abbrev given : List Op
+      given = ring_ops (rings_above K p f) u.taken.faces
+
+      second_is : draw_ops f (drawing_of t N (map codes now)) (map codes now) ≡ draw_ops f (ring_free f ps (all_joined ps begun)) (ring_free f ps (all_joined ps begun)).left
+      second_is = ap (λ (x : Drawing). draw_ops f x x.left) looked_is
+
+      pub steps_with_shared : length pairs ≡ 1 → (join_ops (drawing_of from M []) (map codes pairs) ++ draw_ops f (drawing_of t N (map codes now)) (map codes now)) ++ ring_ops (rings_above K p f) u.taken.faces
+          ≡ face_ops p f (map codes pairs) (drawing_of from M [])
+      steps_with_shared one =
+          let last : given ≡ share_ops p f ps (all_drawn f (ring_free f ps (all_joined ps begun))) =
+          sym (ap (λ b. cond b given []) (eq-eqb (length ps) 1 (length-map pairs codes ∙ one))) ∙ ap (share_ops p f ps) last_is in
+          append_assoc (join_ops begun ps) second given ∙ (λ i. join_ops begun ps ++ (second_is i ++ last i))
+
+      pub steps_with_none : length pairs ≢ 1 → join_ops (drawing_of from M []) (map codes pairs) ++ draw_ops f (drawing_of t N (map codes now)) (map codes now) ≡ face_ops p f (map codes pairs) (drawing_of from M [])
+      steps_with_none more =
+          let none : [] ≡ share_ops p f ps (all_drawn f (ring_free f ps (all_joined ps begun))) =
+          sym (ap (λ b. cond b given []) (ne_eqb (length ps) 1 (λ e. more (sym (length-map pairs codes) ∙ e)))) ∙ ap (share_ops p f ps) last_is in
+          ap (λ (xs : List Op). join_ops begun ps ++ xs) (sym (append-nil second) ∙ (λ i. second_is i ++ none i))

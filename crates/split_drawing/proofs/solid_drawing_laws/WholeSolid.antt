@@ -4,6 +4,7 @@ use Rattle.std.proofs.lemmas.List.{length-map}
 use Rattle.euler_operators.specs.Common.{Plane, IsIn, Model, faces_of, Sound, Has}
 use Rattle.shapes.specs.Common.{taken_in, straddles, straddling_faces, with_crossings, Drawing, faces_drawn, undrawn, straddling_pairs, with_drawings}
 use Rattle.split_drawing_laws.specs.crossings.Kept.{Kept}
+use Rattle.split_drawing_laws.specs.drawings.DrawingOps.{drawing_ops, ops_from}
 use Rattle.euler_laws.proofs.Common.{all_where_has, IsIn-from_listed}
 use Rattle.split_drawing_laws.proofs.crossings.Whole.{crossings_keep, crossings_counted}
 use Rattle.split_drawing_laws.proofs.drawings.Counted.{faces_are as faces_same}
@@ -76,3 +77,7 @@ module _ (M : Model) (s : ℕ) (p : Plane) (sound : Sound M) (can : CanBeCut M s
 
     pub made : put_aside (faces_drawn p (drawing_of (record { taken = c; stuck = 0 }) X []) (paired fs (map codes qs))) ≡ put_aside (with_drawings M s p)
     made = (λ i. put_aside (faces_drawn p (drawing_is i) (faces_are i))) ∙ ap put_aside made_of_begun
+
+    pub ops_are : ops_from p (drawing_of (record { taken = c; stuck = 0 }) X []) (paired fs (map codes qs)) ≡ drawing_ops p (with_crossings M s p) (straddling_pairs M s p)
+    unfolding drawing_ops
+    ops_are = λ i. ops_from p (drawing_is i) (faces_are i)

@@ -2,9 +2,10 @@
 ghost use Rattle.std.specs.Prelude.{◌≡◌, ◌≤◌, ◌+◌, None, IfOk, OnOk, OnErr, map};
 ghost use Rattle.euler_operators.specs.Common.{first_false, Has, Sound};
 ghost use Rattle.shapes.specs.Common.{taken_in, with_crossings, crossing_edges};
-ghost use Rattle.undo_journal.specs.Journal.{after_step, IsFurther};
+ghost use Rattle.undo_journal.specs.Journal.{after_step, after_steps, IsFurther};
 ghost use Rattle.solid_walks.specs.Counters.{taken_of};
 ghost use Rattle.split_checks.specs.Cuts.{cut_at};
+ghost use Rattle.split_drawing_laws.specs.crossings.CrossingOps.{crossing_ops};
 ghost use Rattle.split_drawing.specs.edge_cutting.Begins.{CanBeCut, cut_op};
 
 use euler_conditions::next;
@@ -61,6 +62,7 @@ pub(crate) fn cut_edges(
     requires begins { CanBeCut draft.old.model s plane.now }
     requires edges { edges.now ≡ map (cut_at draft.old.model plane.now) (crossing_edges draft.old.model plane.now s) }
     ensures model { OnOk result (draft.new.model ≡ (with_crossings draft.old.model s plane.now).model) }
+    ensures steps { OnOk result (draft.new ≡ after_steps draft.old (crossing_ops draft.old.model s plane.now)) }
     ensures counted { IfOk result (λ taken. taken_of taken ≡ taken_in draft.new.model) }
     ensures further { IsFurther draft.old draft.new }
 {

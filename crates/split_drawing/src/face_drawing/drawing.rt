@@ -1,10 +1,11 @@
 //! The second pass over the pairs of a face: each pair that is left cuts off a new face.
 ghost use Rattle.std.specs.Prelude.{◌≡◌, ◌≤◌, ◌+◌, None, OnOk, OnErr, IfOk, fold, map};
 ghost use Rattle.euler_operators.specs.Common.{first_false};
-ghost use Rattle.undo_journal.specs.Journal.{after_step, IsFurther};
+ghost use Rattle.undo_journal.specs.Journal.{after_step, after_steps, IsFurther};
 ghost use Rattle.shapes.specs.Common.{draw_next};
 ghost use Rattle.shapes.specs.Common as ops;
 ghost use Rattle.split_checks.specs.Cuts.{codes};
+ghost use Rattle.split_drawing_laws.specs.drawings.DrawingOps.{draw_ops};
 ghost use Rattle.split_drawing.specs.face_drawing.Stuck.{stuck_at};
 ghost use Rattle.split_checks.specs.Progress.{drawing_of};
 ghost use Rattle.solid_walks.specs.Counters.{taken_of};
@@ -66,6 +67,7 @@ pub(crate) fn draw_pairs(
 ) -> Result<Progress, AllocError>
     requires { CanDraw f (drawing_of from draft.old.model (map codes pairs.now)) (map codes pairs.now) }
     ensures drawn { IfOk result (λ next. drawing_of next draft.new.model (map codes pairs.now) ≡ fold (draw_next f) (drawing_of from draft.old.model (map codes pairs.now)) (map codes pairs.now)) }
+    ensures steps { OnOk result (draft.new ≡ after_steps draft.old (draw_ops f (drawing_of from draft.old.model (map codes pairs.now)) (map codes pairs.now))) }
     ensures further { IsFurther draft.old draft.new }
 {
     let mut progress = from;

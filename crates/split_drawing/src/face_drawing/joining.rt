@@ -1,11 +1,12 @@
 //! The first pass over the pairs of a face: pairs in different loops are joined.
 ghost use Rattle.std.specs.Prelude.{◌≡◌, ◌≤◌, ◌+◌, true, [], None, OnOk, OnErr, IfOk, fold, map};
 ghost use Rattle.euler_operators.specs.Common.{code, has_half, first_false};
-ghost use Rattle.undo_journal.specs.Journal.{after_step, IsFurther};
+ghost use Rattle.undo_journal.specs.Journal.{after_step, after_steps, IsFurther};
 ghost use Rattle.shapes.specs.Common.{join_next};
 ghost use Rattle.shapes.specs.Common as ops;
 ghost use Rattle.split_checks.specs.Cuts.{codes};
 ghost use Rattle.split_checks.specs.Progress.{drawing_of};
+ghost use Rattle.split_drawing_laws.specs.drawings.DrawingOps.{join_ops};
 ghost use Rattle.split_drawing.specs.face_drawing.Passes.{CanJoin};
 
 use crate::face_drawing::pairs::{in_one_loop, join_op};
@@ -44,6 +45,7 @@ pub(crate) fn join_pairs(
 ) -> Result<Progress, AllocError>
     requires { CanJoin f (drawing_of from draft.old.model []) (map codes pairs.now) }
     ensures joined { IfOk result (λ joined. drawing_of joined draft.new.model (map codes left.new.items) ≡ fold join_next (drawing_of from draft.old.model []) (map codes pairs.now)) }
+    ensures steps { OnOk result (draft.new ≡ after_steps draft.old (join_ops (drawing_of from draft.old.model []) (map codes pairs.now))) }
     ensures further { IsFurther draft.old draft.new }
 {
     left.clear();

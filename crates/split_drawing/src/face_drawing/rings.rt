@@ -1,11 +1,11 @@
 //! Rings of a face while it is drawn.
 ghost use Rattle.std.specs.Prelude.{◌≡◌, ◌&&◌, true, cond, nat_lt, OnOk};
-ghost use Rattle.euler_laws.specs.Laws.{AreAccepted, effects};
+ghost use Rattle.euler_laws.specs.Laws.{AreAccepted};
 ghost use Rattle.euler_operators.specs.Common.{has_rings};
 ghost use Rattle.euler_conditions.specs.Store.{has_number};
 ghost use Rattle.split_drawing_laws.specs.drawings.DrawingOps.{ring_ops};
 ghost use Rattle.split_drawing.specs.face_drawing.Stuck.{stuck_at};
-ghost use Rattle.undo_journal.specs.Journal.{IsFurther};
+ghost use Rattle.undo_journal.specs.Journal.{after_steps, IsFurther};
 
 use crate::face_drawing::drawing::stuck_at;
 use euler_conditions::Arena;
@@ -31,7 +31,7 @@ pub(crate) fn ring_free(arena: &Arena, progress: Progress, f: u32, count: usize)
 #[tactic(auto, using(undo_journal::proofs::Marks::further_none))]
 pub(crate) fn move_rings(draft: &mut Draft, rings: &[u32], to: u32) -> Result<(), AllocError>
     requires { AreAccepted draft.old.model (ring_ops rings.now to) }
-    ensures model { OnOk result (draft.new.model ≡ effects draft.old.model (ring_ops rings.now to)) }
+    ensures steps { OnOk result (draft.new ≡ after_steps draft.old (ring_ops rings.now to)) }
     ensures further { IsFurther draft.old draft.new }
 {
     let mut rest = rings;

@@ -5,8 +5,9 @@ ghost use Rattle.shapes.specs.Common.{drawn_between};
 ghost use Rattle.split_checks.specs.Cuts.{codes};
 ghost use Rattle.split_checks.specs.cut_places.Noted.{AreSides};
 ghost use Rattle.split_checks.specs.Progress.{drawing_of};
+ghost use Rattle.split_drawing_laws.specs.drawings.DrawingOps.{face_ops};
 ghost use Rattle.split_drawing.specs.solid_drawing.Drawn.{CanDrawFace, put_aside};
-ghost use Rattle.undo_journal.specs.Journal.{IsFurther};
+ghost use Rattle.undo_journal.specs.Journal.{after_steps, IsFurther};
 
 use crate::face_drawing::{draw_pairs, join_pairs, ring_free};
 use crate::solid_drawing::rings::share_rings;
@@ -33,6 +34,7 @@ pub(crate) fn draw_face(
     requires sides { AreSides draft.old.model plane sides.old }
     requires can { CanDrawFace plane f (map codes pairs.now) (drawing_of from draft.old.model []) }
     ensures drawn { IfOk result (λ drawn. drawing_of drawn draft.new.model [] ≡ put_aside (drawn_between plane f (map codes pairs.now) (drawing_of from draft.old.model []))) }
+    ensures steps { OnOk result (draft.new ≡ after_steps draft.old (face_ops plane f (map codes pairs.now) (drawing_of from draft.old.model []))) }
     ensures sides { OnOk result (AreSides draft.new.model plane sides.new) }
     ensures further { IsFurther draft.old draft.new }
 {

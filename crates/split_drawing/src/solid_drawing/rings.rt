@@ -5,10 +5,10 @@ ghost use Rattle.euler_conditions.specs.Ready.{IsReady};
 ghost use Rattle.euler_laws.specs.Laws.{AreAccepted};
 ghost use Rattle.euler_conditions.specs.Store.{has_number};
 ghost use Rattle.euler_operators.specs.Common.{IsCutPlane};
-ghost use Rattle.shapes.specs.Common.{rings_above, with_rings};
+ghost use Rattle.shapes.specs.Common.{rings_above};
 ghost use Rattle.split_checks.specs.cut_places.Noted.{AreSides};
 ghost use Rattle.split_drawing_laws.specs.drawings.DrawingOps.{ring_ops};
-ghost use Rattle.undo_journal.specs.Journal.{IsFurther};
+ghost use Rattle.undo_journal.specs.Journal.{after_steps, IsFurther};
 
 use crate::face_drawing::move_rings;
 use euler_conditions::Arena;
@@ -58,7 +58,7 @@ pub(crate) fn share_rings(
     requires sides { AreSides draft.old.model plane sides.old }
     requires there { table.has draft.old.model.faces f ≡ true }
     requires accepted { AreAccepted draft.old.model (ring_ops (rings_above draft.old.model plane f) to) }
-    ensures model { OnOk result (draft.new.model ≡ with_rings draft.old.model (rings_above draft.old.model plane f) to) }
+    ensures steps { OnOk result (draft.new ≡ after_steps draft.old (ring_ops (rings_above draft.old.model plane f) to)) }
     ensures sides { OnOk result (AreSides draft.new.model plane sides.new) }
     ensures further { IsFurther draft.old draft.new }
 {

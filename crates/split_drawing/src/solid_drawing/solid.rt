@@ -6,8 +6,10 @@ ghost use Rattle.split_drawing.specs.edge_cutting.Begins.{CanBeCut};
 ghost use Rattle.split_checks.specs.Progress.{drawing_of};
 ghost use Rattle.split_checks.specs.Cuts.{AreCuts, codes, how_many_pairs, paired};
 ghost use Rattle.split_checks.specs.cut_places.Noted.{AreSides};
+ghost use Rattle.split_drawing_laws.specs.drawings.DrawingOps.{ops_from};
+ghost use Rattle.split_drawing_laws.specs.pairs.Laws.{rewriting_ops};
 ghost use Rattle.split_drawing.specs.solid_drawing.Drawn.{CanDrawFaces, put_aside};
-ghost use Rattle.undo_journal.specs.Journal.{IsFurther};
+ghost use Rattle.undo_journal.specs.Journal.{after_steps, IsFurther};
 
 use crate::edge_cutting::cut_edges;
 use crate::solid_drawing::face::draw_face;
@@ -34,6 +36,7 @@ fn draw_faces(
     requires enough { how_many_pairs faces.now ≤ length pairs.now }
     requires can { CanDrawFaces (paired faces.now (map codes pairs.now)) (drawing_of from draft.old.model []) }
     ensures drawn { IfOk result (λ drawn. drawing_of drawn draft.new.model [] ≡ put_aside (faces_drawn plane (drawing_of from draft.old.model []) (paired faces.now (map codes pairs.now)))) }
+    ensures steps { OnOk result (draft.new ≡ after_steps draft.old (ops_from plane (drawing_of from draft.old.model []) (paired faces.now (map codes pairs.now)))) }
     ensures sides { OnOk result (AreSides draft.new.model plane sides.new) }
     ensures further { IsFurther draft.old draft.new }
 {
@@ -70,6 +73,7 @@ pub fn draw_solid(
     requires cuts { AreCuts draft.old.model plane.now s cuts.now }
     requires sides { AreSides draft.old.model plane.now sides.old }
     ensures drawn { IfOk result (λ drawn. drawing_of drawn draft.new.model [] ≡ put_aside (with_drawings draft.old.model s plane.now)) }
+    ensures steps { OnOk result (draft.new ≡ after_steps draft.old (rewriting_ops draft.old.model s plane.now)) }
     ensures sides { OnOk result (AreSides draft.new.model plane.now sides.new) }
     ensures further { IsFurther draft.old draft.new }
 {

@@ -1,15 +1,17 @@
 use Rattle.std.proofs.Common.{◌≡◌, length}
-use Rattle.shapes.specs.Common.{taken_in}
+use Rattle.shapes.specs.Common.{taken_in, growing}
 use Rattle.solid_walks.specs.Counters.{taken_of}
 use Rattle.split_drawing.proofs.edge_cutting_laws.Remaining.{Cutting, AreAt, edges_in}
-use Rattle.undo_journal.specs.Journal.{IsFurther}
+use Rattle.split_drawing_laws.specs.crossings.CrossingOps.{crossing_ops, ops_from}
+use Rattle.undo_journal.specs.Journal.{after_steps, IsFurther}
 use Rattle.split_drawing.proofs.edge_cutting.cutting.cut_edges.Given as goal
 
 abbrev pub invariant-edges : goal.invariant-edges
 invariant-edges l = record {
-  cutting : Cutting l.fn.draft.model l.s l.plane l.draft.model (edges_in l.rest);
+  cutting : Cutting l.fn.draft.model l.plane l.draft.model (edges_in l.rest);
   points : AreAt l.fn.draft.model l.plane l.rest;
   counted : taken_of l.taken ≡ taken_in l.draft.model;
+  steps : after_steps l.draft (ops_from l.plane (growing l.draft.model) (edges_in l.rest)) ≡ after_steps l.fn.draft (crossing_ops l.fn.draft.model l.s l.plane);
   further : IsFurther l.fn.draft l.draft;
 }
 

@@ -1,5 +1,10 @@
-use Rattle.std.proofs.Common.{◌∙◌, true, false, map, ap}
-use Rattle.undo_journal.specs.Journal.{DraftJournal}
+use Rattle.std.proofs.Common.{◌∙◌, true, false, [], ◌∷◌, map, refl, ap}
+use Rattle.undo_journal.specs.Journal.{DraftJournal, after_steps}
+use Rattle.shapes.specs.Common.{draw_pair}
+use Rattle.solid_walks.specs.Counters.{taken_of}
+use Rattle.split_drawing_laws.specs.drawings.DrawingOps.{draw_ops}
+use Rattle.split_checks.specs.Progress.{drawing_of}
+use Rattle.split_drawing.proofs.StepsLeft.{others_lead, none_left}
 use Rattle.split_checks.specs.Cuts.{codes}
 use Rattle.split_drawing.proofs.face_drawing_laws.Turns.{first_pair, told, draw_accepted, drew, got_stuck}
 use Rattle.undo_journal.proofs.Marks.{further_on}
@@ -17,6 +22,8 @@ pairs-preserved-in_ok-taken c =
     record {
       can = next.0;
       made = next.1 ∙ c.pairs.invariant.made;
+      steps = others_lead c.pairs.draft c.draw_pair.new.draft (draw_pair (taken_of c.pairs.progress.taken) (codes (first_pair c.pairs.rest.now)) ∷ []) _ c.in_ok-taken.ensures.ok
+          ∙ ap (after_steps c.pairs.draft) next.2 ∙ c.pairs.invariant.steps;
       further = further_on _ _ _ c.pairs.invariant.further c.in_ok-taken.ensures.further;
     }
 
@@ -25,4 +32,12 @@ pairs-preserved c =
     let next = got_stuck c.args.f c.pairs.progress c.pairs.draft.model (map codes c.args.pairs.now) c.pairs.rest.now c.in-len1-up.len_at_least c.pairs.invariant.can
     (told c.arena.result.now.model c.pairs.draft.model (codes (first_pair c.pairs.rest.now)) c.in_one_loop.result false c.in_one_loop.ensures c.arena.ensures.model c.if-in_one_loop.false)
     c.stuck_at-progress.result c.stuck_at-progress.ensures in
-    record { can = next.0; made = next.1 ∙ c.pairs.invariant.made; further = c.pairs.invariant.further }
+    record {
+      can = next.0;
+      made = next.1 ∙ c.pairs.invariant.made;
+      steps = ap (after_steps c.pairs.draft) next.2 ∙ c.pairs.invariant.steps;
+      further = c.pairs.invariant.further;
+    }
+
+pub returns-clause-steps : goal.returns-clause-steps
+returns-clause-steps c = none_left c.pairs.rest.now (λ qs. draw_ops c.args.f (drawing_of c.pairs.progress c.pairs.draft.model (map codes c.args.pairs.now)) (map codes qs)) c.args.draft.now c.pairs.draft _ c.in_default.len_below refl c.pairs.invariant.steps

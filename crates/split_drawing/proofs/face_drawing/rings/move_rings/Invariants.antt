@@ -1,13 +1,13 @@
 use Rattle.std.proofs.Common.{◌≡◌, length}
-use Rattle.euler_laws.specs.Laws.{AreAccepted, effects}
+use Rattle.euler_laws.specs.Laws.{AreAccepted}
 use Rattle.split_drawing_laws.specs.drawings.DrawingOps.{ring_ops}
-use Rattle.undo_journal.specs.Journal.{IsFurther}
+use Rattle.undo_journal.specs.Journal.{after_steps, IsFurther}
 use Rattle.split_drawing.proofs.face_drawing.rings.move_rings.Given as goal
 
 abbrev pub invariant-rings : goal.invariant-rings
 invariant-rings l = record {
   accepted : AreAccepted l.draft.model (ring_ops l.rest l.to);
-  made : effects l.draft.model (ring_ops l.rest l.to) ≡ effects l.fn.draft.model (ring_ops l.rings l.to);
+  steps : after_steps l.draft (ring_ops l.rest l.to) ≡ after_steps l.fn.draft (ring_ops l.rings l.to);
   further : IsFurther l.fn.draft l.draft;
 }
 

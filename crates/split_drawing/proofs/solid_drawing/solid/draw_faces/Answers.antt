@@ -1,6 +1,11 @@
-use Rattle.std.proofs.Common.{◌∙◌, slice_index_or}
+use Rattle.std.proofs.Common.{◌∙◌, [], map, refl, ap, slice_index_or}
+use Rattle.undo_journal.specs.Journal.{after_steps}
+use Rattle.split_checks.specs.Cuts.{codes, paired}
+use Rattle.split_checks.specs.Progress.{drawing_of}
+use Rattle.split_drawing_laws.specs.drawings.DrawingOps.{ops_from}
 use Rattle.split_checks.proofs.cut_places_laws.Lists.{others, parts}
-use Rattle.split_drawing.proofs.solid_drawing_laws.FaceTurns.{no_pairs, enough_here, enough_later, can_draw, can_go_on, made_on}
+use Rattle.split_drawing.proofs.solid_drawing_laws.FaceTurns.{no_pairs, enough_here, enough_later, can_draw, can_go_on, made_on, ops_on}
+use Rattle.split_drawing.proofs.StepsLeft.{others_lead, none_left}
 use Rattle.undo_journal.proofs.Marks.{further_on}
 use Rattle.split_drawing.proofs.solid_drawing.solid.draw_faces.Goals as goal
 
@@ -27,5 +32,11 @@ faces-preserved c =
           c.split_at.ensures.front c.split_at.ensures.back c.in_ok-progress.progress c.draw_face.new.draft.model c.in_ok-progress.ensures.drawn;
       made = made_on c.args.plane c.faces.progress c.faces.draft.model rest later c.faces.invariant.can (slice_index_or rest 0 no_pairs) (others rest) opened c.split_at.result.0.now c.split_at.result.1.now
           c.split_at.ensures.front c.split_at.ensures.back c.in_ok-progress.progress c.draw_face.new.draft.model c.in_ok-progress.ensures.drawn ∙ c.faces.invariant.made;
+      steps = others_lead c.faces.draft c.draw_face.new.draft _ (ops_from c.args.plane (drawing_of c.in_ok-progress.progress c.draw_face.new.draft.model []) (paired (others rest) (map codes c.split_at.result.1.now))) c.in_ok-progress.ensures.steps
+          ∙ ap (after_steps c.faces.draft) (ops_on c.args.plane c.faces.progress c.faces.draft.model rest later c.faces.invariant.can (slice_index_or rest 0 no_pairs) (others rest) opened c.split_at.result.0.now c.split_at.result.1.now
+          c.split_at.ensures.front c.split_at.ensures.back c.in_ok-progress.progress c.draw_face.new.draft.model c.in_ok-progress.ensures.drawn) ∙ c.faces.invariant.steps;
       further = further_on _ _ _ c.faces.invariant.further c.in_ok-progress.ensures.further;
     }
+
+pub returns-clause-steps : goal.returns-clause-steps
+returns-clause-steps c = none_left c.faces.rest.now (λ fs. ops_from c.args.plane (drawing_of c.faces.progress c.faces.draft.model []) (paired fs (map codes c.faces.later.now))) c.args.draft.now c.faces.draft _ c.in_default.len_below refl c.faces.invariant.steps

@@ -4,7 +4,8 @@ use Rattle.split_checks.specs.Progress.{drawing_of}
 use Rattle.split_checks.specs.Cuts.{codes, how_many_pairs, paired}
 use Rattle.split_checks.specs.cut_places.Noted.{AreSides}
 use Rattle.split_drawing.specs.solid_drawing.Drawn.{CanDrawFaces, put_aside}
-use Rattle.undo_journal.specs.Journal.{IsFurther}
+use Rattle.split_drawing_laws.specs.drawings.DrawingOps.{ops_from}
+use Rattle.undo_journal.specs.Journal.{after_steps, IsFurther}
 use Rattle.split_drawing.proofs.solid_drawing.solid.draw_faces.Given as goal
 
 abbrev pub invariant-faces : goal.invariant-faces
@@ -13,6 +14,7 @@ invariant-faces l = record {
   enough : how_many_pairs l.rest ≤ length l.later;
   can : CanDrawFaces (paired l.rest (map codes l.later)) (drawing_of l.progress l.draft.model []);
   made : put_aside (faces_drawn l.plane (drawing_of l.progress l.draft.model []) (paired l.rest (map codes l.later))) ≡ put_aside (faces_drawn l.plane (drawing_of l.fn.from l.fn.draft.model []) (paired l.faces (map codes l.fn.pairs)));
+  steps : after_steps l.draft (ops_from l.plane (drawing_of l.progress l.draft.model []) (paired l.rest (map codes l.later))) ≡ after_steps l.fn.draft (ops_from l.plane (drawing_of l.fn.from l.fn.draft.model []) (paired l.faces (map codes l.fn.pairs)));
   further : IsFurther l.fn.draft l.draft;
 }
 

@@ -1,12 +1,16 @@
-use Rattle.std.proofs.Common.{◌≡◌, ◌∙◌, [], map, IfOk, ap, sym, subst}
+use Rattle.std.proofs.Common.{◌≡◌, ◌∙◌, [], ◌++◌, map, IfOk, ap, sym, subst}
+use Rattle.std.proofs.lemmas.Result.{on_ok_weaker}
 use Rattle.euler_operators.specs.Common.{Model}
 use Rattle.shapes.specs.Common.{with_crossings, Drawing}
+use Rattle.split_drawing_laws.specs.crossings.CrossingOps.{crossing_ops}
+use Rattle.undo_journal.specs.Journal.{after_steps}
+use Rattle.undo_journal.proofs.Marks.{steps_after}
 use Rattle.split_drawing.proofs.edge_cutting_laws.Remaining.{cut_plane}
 use Rattle.split_checks.specs.Progress.{drawing_of}
 use Rattle.split_checks.specs.Cuts.{codes}
 use Rattle.split_checks.specs.cut_places.Noted.{AreSides}
 use Rattle.split_drawing.specs.solid_drawing.Starts.{PairsThere, pairs_started}
-use Rattle.split_drawing.proofs.solid_drawing_laws.WholeSolid.{pairs_there, still_noted, enough, can_draw, made}
+use Rattle.split_drawing.proofs.solid_drawing_laws.WholeSolid.{pairs_there, still_noted, enough, can_draw, made, ops_are}
 use Rattle.split_drawing.proofs.solid_drawing.solid.draw_solid.Goals as goal
 
 pub pairs_started-requires-clause-there : goal.pairs_started-requires-clause-there
@@ -52,3 +56,11 @@ returns-clause-drawn c =
     c.in_ok-taken.ensures.counted c.args.cuts.now c.requires.cuts c.as_slice-faces.result.now c.as_slice-faces.ensures.value c.as_slice-3.result.now
     (ap (map codes) c.as_slice-3.ensures.value ∙ c.in_ok-started.ensures.are ∙ (λ i. pairs_started (c.arena.ensures.model i) p (map codes (c.as_slice-2.ensures.value i)))) in
     subst (λ (D : Drawing). IfOk c.draw_faces.result (λ drawn. drawing_of drawn c.draw_faces.new.draft.model [] ≡ D)) same c.draw_faces.ensures.drawn
+
+pub returns-clause-steps : goal.returns-clause-steps
+returns-clause-steps c =
+    let M = c.args.draft.now.model in let s = c.args.s in let p = c.args.plane.now in
+    let all = ops_are M s p c.stays_consistent.ensures.model c.requires.begins c.in_ok-taken.taken c.cut_edges.new.draft.model c.in_ok-taken.ensures.model
+    c.in_ok-taken.ensures.counted c.args.cuts.now c.requires.cuts c.as_slice-faces.result.now c.as_slice-faces.ensures.value c.as_slice-3.result.now
+    (ap (map codes) c.as_slice-3.ensures.value ∙ c.in_ok-started.ensures.are ∙ (λ i. pairs_started (c.arena.ensures.model i) p (map codes (c.as_slice-2.ensures.value i)))) in
+    on_ok_weaker c.draw_faces.result (λ steps. steps_after _ _ _ _ _ c.in_ok-taken.ensures.steps steps ∙ ap (λ ops. after_steps c.args.draft.now (crossing_ops M s p ++ ops)) all) c.draw_faces.ensures.steps
