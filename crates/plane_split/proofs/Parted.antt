@@ -1,11 +1,11 @@
 -- A solid opened along its section and parted, once its faces are drawn.
-use Rattle.std.proofs.Common.{◌≡◌, ℕ, List, [], ◌∷◌, ◌++◌, None, refl, sym, ap, ◌∙◌, subst}
+use Rattle.std.proofs.Common.{◌≡◌, ℕ, List, [], ◌∷◌, ◌++◌, None, sym, ap, ◌∙◌, subst}
 use Rattle.euler_operators.specs.Common.{Plane, Model, Sound}
 use Rattle.euler_operators.specs.declared.Op.{Op}
 use Rattle.euler_operators.specs.declared.Op.TheVariants.{Part}
 use Rattle.euler_laws.specs.Laws.{AreAccepted, effects}
 use Rattle.euler_laws.proofs.Common.{effects-append, AreAccepted-back, Leads}
-use Rattle.shapes.specs.Common.{faces_above, below_halves, section_cycles, Drawing, with_drawings, Caps, all_opened, opened_at, upper_left, split_refusal, split_model}
+use Rattle.shapes.specs.Common.{faces_above, below_halves, section_cycles, Drawing, with_drawings, Caps, Opening, all_opened, opened_at, upper_left, split_refusal, split_model}
 use Rattle.split_drawing_laws.specs.pairs.Laws.{rewriting_ops}
 use Rattle.split_drawing_laws.proofs.pairs.Whole.{rewritings_made}
 use Rattle.split_opening_laws.specs.sections.InTurn.{CanBeOpenedInTurn}
@@ -50,10 +50,10 @@ module _ (M : Model) (s : ℕ) (p : Plane) (t : ℕ) (sound : Sound M) (accepted
 
 -- ---- from a drawing
 
--- the pairs left aren't read
-pub split_is : (M : Model) (s : ℕ) (p : Plane) (t : ℕ) → split_above (put_aside (with_drawings M s p)) s p t ≡ split_model M s p t
-unfolding split_model
-split_is M s p t = refl
+-- with those that draw it, these are all operators; the pairs left aren't read
+pub split_ops_are : (M : Model) (s : ℕ) (p : Plane) (t : ℕ) (d : Drawing) → d ≡ put_aside (with_drawings M s p) → rewriting_ops M s p ++ ops_above d s p t ≡ split_ops M s p t
+unfolding split_ops
+split_ops_are M s p t d is = ap (λ x. rewriting_ops M s p ++ ops_above x s p t) is
 
 -- the solid can be opened along its section
 abbrev Opens : Drawing → ℕ → Plane → Type 0
@@ -91,3 +91,11 @@ module _ (N : Model) (c : Progress) (s : ℕ) (p : Plane) (t : ℕ) (q : Section
       subst (λ X. Leads X (split_above (drawing_of c N []) s p t) (hole_ops ks ++ Part s t (upper_left above ks) ∷ [])) (sym is_model)
       (subst (λ a. Leads (opened_section N c.taken s p q).model (split_above (drawing_of c N []) s p t) (hole_ops ks ++ Part s t (upper_left a ks) ∷ [])) (sym is_above)
       (subst (λ x. Leads (opened_section N c.taken s p q).model (split_above (drawing_of c N []) s p t) (hole_ops x ++ Part s t (upper_left q.above.items x) ∷ [])) (sym is_caps) upper_is))
+
+  -- they follow those of the opening
+  pub later_ops_are : (above : List ℕ) (ks : List Caps) → above ≡ q.above.items → ks ≡ (opened_section N c.taken s p q).caps →
+      openings_ops q.above.items s p (unopened N c.taken) (cycles_of q) ++ (hole_ops ks ++ Part s t (upper_left above ks) ∷ []) ≡ ops_above (drawing_of c N []) s p t
+  later_ops_are fs ks is_above is_caps =
+      let faces = is_above ∙ is.above in
+      let caps = is_caps ∙ ap (λ (o : Opening). o.caps) opened_is in
+      λ i. openings_ops (is.above i) s p (unopened N c.taken) (is.cycles i) ++ (hole_ops (caps i) ++ Part s t (upper_left (faces i) (caps i)) ∷ [])

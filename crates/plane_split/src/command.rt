@@ -5,13 +5,14 @@ ghost use Rattle.euler_operators.specs.declared.Refusal.{Refusal};
 ghost use Rattle.euler_conditions.specs.Ready.{IsReady};
 ghost use Rattle.euler_operators.specs.Common.{Sound};
 ghost use Rattle.undo_journal.specs.Machine.{held};
-ghost use Rattle.undo_journal.specs.Journal.{IsRecorded, IsFurther};
+ghost use Rattle.undo_journal.specs.Journal.{after_steps, record_of, recorded, IsRecorded, IsFurther};
 ghost use Rattle.shapes.specs.split.Split as spec;
 ghost use Rattle.shapes.specs.Common.{split_model};
 ghost use Rattle.plane_split.specs.Machine.{plane_with, split, split_refusal};
 ghost use Rattle.split_checks.specs.begin_checks.Conditions.{early_refusal};
 ghost use Rattle.split_drawing.specs.Cuts.{AreCuts};
 ghost use Rattle.split_drawing.specs.Noted.{AreSides};
+ghost use Rattle.split_laws.specs.SplitOps.{split_ops};
 ghost use Rattle.split_drawing_laws.specs.crossings.Laws.{CanBegin};
 
 use crate::steps::try_split;
@@ -72,6 +73,7 @@ pub fn split_in(
     ensures ok { OnOk result ((spec.split_refusal draft.old.model s (plane_with a b c d) upper ≡ None) × (draft.new.model ≡ split_model draft.old.model s (plane_with a b c d) upper)) }
     ensures refused { (refusal : Refusal) → (result ≡ Err (Failure.Refused refusal)) → (spec.split_refusal draft.old.model s (plane_with a b c d) upper ≡ Some refusal) }
     ensures memory { (error : AllocError) → (result ≡ Err (Failure.Memory error)) → (early_refusal draft.old.model s (plane_with a b c d) upper ≡ None) }
+    ensures steps { OnOk result (draft.new ≡ after_steps draft.old (split_ops draft.old.model s (plane_with a b c d) upper)) }
     ensures further { IsFurther draft.old draft.new }
     ensures err { OnErr result (draft.new ≡ draft.old) }
 {
@@ -122,6 +124,7 @@ pub fn split(
     ensures sound { Sound (held session.machine) }
     ensures ok { OnOk result.1 ((split_refusal session.machine s (plane_with a b c d) upper ≡ None) × (result.0.machine ≡ split session.machine s (plane_with a b c d) upper)) }
     ensures recorded { OnOk result.1 (IsRecorded session result.0) }
+    ensures record { OnOk result.1 (result.0.records ≡ recorded session (record_of (held session.machine) (split_ops (held session.machine) s (plane_with a b c d) upper))) }
     ensures refused { (refusal : Refusal) → (result.1 ≡ Err (Failure.Refused refusal)) → (split_refusal session.machine s (plane_with a b c d) upper ≡ Some refusal) }
     ensures memory { (error : AllocError) → (result.1 ≡ Err (Failure.Memory error)) → (early_refusal (held session.machine) s (plane_with a b c d) upper ≡ None) }
     ensures err { OnErr result.1 (result.0 ≡ session) }

@@ -8,16 +8,17 @@
 //! # What is proved
 //!
 //! `open_section` takes a draft in whose model a solid can be opened along the cycles of a section in turn, and is told which of these are
-//! holes. It is Ok only with exactly the third rewriting along all of them, and their caps, otherwise `AllocError`. `part_upper`: if the
-//! operators that close the holes and part what is above are accepted in turn, it is Ok only with exactly their effects. The session from
-//! which the draft came is kept either way, and no operator inside is ever refused. `split` is Ok only if all conditions hold, both those
-//! before anything is changed and those after the faces are drawn; then it is one command of the machine with exactly the written model,
-//! and leaves one record. It is refused only with the first false condition and its value. Otherwise the answer is `Memory`. It may come in
-//! place of a refusal, but only of one by a condition that is tested after memory is asked for (`early_refusal`). On any failure the
-//! session is as it was, and the models ahead are kept, even if the split is refused after the faces are drawn. No operator inside is ever
-//! refused. `splits_are_held`: after the answer Ok, a caller of `split` holds a sound model in which both parts are solids and share the
-//! six volumes of the one, and every other solid keeps its own. No vertex of the part that keeps the number lies above the plane, and none
-//! of the other part lies below it.
+//! holes. It is Ok only with exactly the third rewriting along all of them, by its operators as steps, and with their caps, otherwise
+//! `AllocError`. `part_upper`: if the operators that close the holes and part what is above are accepted in turn, it is Ok only with
+//! exactly these steps. The session from which the draft came is kept either way, and no operator inside is ever refused. `split` is Ok
+//! only if all conditions hold, both those before anything is changed and those after the faces are drawn; then it is one command of the
+//! machine with exactly the written model, and leaves one record, that of the operators that are written for it (`split_ops`). In a draft
+//! it takes these operators as steps. It is refused only with the first false condition and its value. Otherwise the answer is `Memory`. It
+//! may come in place of a refusal, but only of one by a condition that is tested after memory is asked for (`early_refusal`). On any
+//! failure the session is as it was, and the models ahead are kept, even if the split is refused after the faces are drawn. No operator
+//! inside is ever refused. `splits_are_held`: after the answer Ok, a caller of `split` holds a sound model in which both parts are solids
+//! and share the six volumes of the one, and every other solid keeps its own. No vertex of the part that keeps the number lies above the
+//! plane, and none of the other part lies below it.
 
 mod command;
 mod laws;

@@ -4,13 +4,13 @@ ghost use Rattle.euler_operators.specs.Common.{Sound, verdict};
 ghost use Rattle.euler_operators.specs.declared.Refusal.{Refusal};
 ghost use Rattle.shapes.specs.Common.{split_model, split_refusal};
 ghost use Rattle.split_drawing_laws.specs.crossings.Laws.{CanBegin};
-ghost use Rattle.split_laws.specs.SplitOps.{split_above};
+ghost use Rattle.split_laws.specs.SplitOps.{ops_above, split_ops};
 ghost use Rattle.split_drawing.specs.Cuts.{AreCuts};
 ghost use Rattle.split_drawing.specs.Noted.{AreSides};
 ghost use Rattle.split_drawing.specs.Progress.{drawing_of};
 ghost use Rattle.split_sections.specs.section_checks.Sections.{IsSection};
 ghost use Rattle.plane_split.specs.Drawn.{IsDrawn};
-ghost use Rattle.undo_journal.specs.Journal.{IsFurther};
+ghost use Rattle.undo_journal.specs.Journal.{after_steps, IsFurther};
 
 use crate::solid_opening::{open_section, part_upper};
 use euler_operators::{NUMBER_LIMIT, Plane, Refusal};
@@ -33,7 +33,7 @@ fn part_drawn(
 ) -> Result<(), AllocError>
     requires drawn { IsDrawn (drawing_of drawn.now draft.old.model []) s plane.now upper }
     requires section { IsSection draft.old.model s plane.now section.now }
-    ensures model { OnOk result (draft.new.model ≡ split_above (drawing_of drawn.now draft.old.model []) s plane.now upper) }
+    ensures steps { OnOk result (draft.new ≡ after_steps draft.old (ops_above (drawing_of drawn.now draft.old.model []) s plane.now upper)) }
     ensures further { IsFurther draft.old draft.new }
 {
     let caps = open_section(alloc, draft, s, plane, &drawn.taken, section)?;
@@ -60,6 +60,7 @@ fn take_steps(
     requires sides { AreSides draft.old.model plane.now sides.old }
     ensures carried { IfOk result (λ carried. carried ≡ verdict (split_refusal draft.old.model s plane.now upper)) }
     ensures model { (result ≡ Ok (Ok tt)) → (draft.new.model ≡ split_model draft.old.model s plane.now upper) }
+    ensures steps { (result ≡ Ok (Ok tt)) → (draft.new ≡ after_steps draft.old (split_ops draft.old.model s plane.now upper)) }
     ensures further { IsFurther draft.old draft.new }
 {
     let drawn = draw_solid(alloc, draft, s, plane, cuts, sides)?;
@@ -97,6 +98,7 @@ pub(crate) fn try_split(
     requires sides { AreSides draft.old.model plane.now sides.old }
     ensures ok { OnOk result ((split_refusal draft.old.model s plane.now upper ≡ None) × (draft.new.model ≡ split_model draft.old.model s plane.now upper)) }
     ensures refused { (refusal : Refusal) → (result ≡ Err (Failure.Refused refusal)) → (split_refusal draft.old.model s plane.now upper ≡ Some refusal) }
+    ensures steps { OnOk result (draft.new ≡ after_steps draft.old (split_ops draft.old.model s plane.now upper)) }
     ensures further { IsFurther draft.old draft.new }
     ensures err { OnErr result (draft.new ≡ draft.old) }
 {

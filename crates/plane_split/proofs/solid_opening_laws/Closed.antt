@@ -1,11 +1,13 @@
 -- The part that is left once the holes are closed.
-use Rattle.std.proofs.Common.{◌≡◌, ℕ, List, [], ◌∷◌, ◌++◌, refl, sym, ap, ◌∙◌, subst}
+use Rattle.std.proofs.Common.{◌≡◌, ℕ, ◌≤◌, Bool, true, cond, List, [], ◌∷◌, ◌++◌, length, filter, slice_index_or, refl, sym, ap, ◌∙◌, subst}
 use Rattle.euler_operators.specs.Common.{Model}
-use Rattle.euler_operators.specs.declared.Op.TheVariants.{Part}
+use Rattle.euler_operators.specs.declared.Op.{Op}
+use Rattle.euler_operators.specs.declared.Op.TheVariants.{Kfmrh, Part}
 use Rattle.euler_laws.specs.Laws.{AreAccepted, effects}
 use Rattle.shapes.specs.split.Opening as shape
 use Rattle.shapes.specs.Common.{outer_caps, upper_left}
-use Rattle.split_laws.specs.SplitOps.{hole_ops}
+use Rattle.split_laws.specs.SplitOps.{closing_ops, hole_ops}
+use Rattle.split_drawing.proofs.CutPlaces.{others, parts}
 use Rattle.plane_split.specs.declared.solid_opening.caps.Caps.{Caps}
 use Rattle.plane_split.specs.solid_opening.Capped.{caps_of, all_caps}
 use Rattle.plane_split.specs.solid_opening.Closing.{holes_ops, outer_uppers}
@@ -22,3 +24,21 @@ module _ (M : Model) (s t : ℕ) (above : List ℕ) (caps : List Caps) (outer : 
   part_left K e faces are = subst (λ fs. Leads K (effects M (hole_ops (all_caps caps) ++ Part s t (upper_left above (all_caps caps)) ∷ [])) (Part s t fs ∷ [])) (sym are)
       (some_taken M (hole_ops (all_caps caps)) (Part s t (upper_left above (all_caps caps)) ∷ []) _ K accepted refl
       (e ∙ ap (λ (o : shape.Caps). effects M (holes_ops o caps)) is))
+
+-- all operators of the upper part
+pub upper_ops_are : (s t : ℕ) (above : List ℕ) (caps : List Caps) (outer : Caps) → caps_of outer ≡ outer_caps (all_caps caps) → (faces : List ℕ) → faces ≡ above ++ outer_uppers caps
+    → holes_ops (caps_of outer) caps ++ Part s t faces ∷ [] ≡ hole_ops (all_caps caps) ++ Part s t (upper_left above (all_caps caps)) ∷ []
+upper_ops_are s t above caps outer is faces are = λ i. holes_ops (is i) caps ++ Part s t (are i) ∷ []
+
+-- ---- the first of some caps, as the code opens them
+
+module _ (o : shape.Caps) (ks : List Caps) (d : Caps) (l : 1 ≤ length ks) where
+  abbrev first : Caps
+  first = slice_index_or ks 0 d
+
+  abbrev here : Bool → List Op
+  here b = closing_ops o (cond b (caps_of first ∷ filter (λ k. k.hole) (all_caps (others ks))) (filter (λ k. k.hole) (all_caps (others ks))))
+
+  -- if it is a hole, it is closed before the others
+  pub hole_and_others : (slice_index_or ks 0 d).hole ≡ true → Kfmrh o.lower (slice_index_or ks 0 d).lower ∷ Kfmrh o.upper (slice_index_or ks 0 d).upper ∷ holes_ops o (others ks) ≡ holes_ops o ks
+  hole_and_others e = ap here (sym e) ∙ ap (holes_ops o) (sym (parts ks d l))

@@ -1,8 +1,7 @@
 -- The strips of a cycle cut off one after the other.
-use Rattle.std.proofs.Common.{◌≡◌, ℕ, ◌+◌, ◌≤◌, ◌<◌, List, [], ◌∷◌, length, None, sym, ap, ◌∙◌, subst, arith, get_or}
-use Rattle.euler_operators.specs.Common.{mate, Model, HasHalf, first_false, effect}
+use Rattle.std.proofs.Common.{◌≡◌, ℕ, ◌+◌, ◌≤◌, ◌<◌, List, [], ◌∷◌, ◌++◌, length, None, sym, ap, ◌∙◌, subst, arith, get_or}
+use Rattle.euler_operators.specs.Common.{mate, Model, HasHalf, first_false}
 use Rattle.euler_laws.specs.Laws.{effects}
-use Rattle.euler_laws.proofs.Common.{effects-append}
 use Rattle.shapes.specs.Common.{Taken}
 use Rattle.split_opening_laws.specs.strips.Strips.{strips_cut}
 use Rattle.split_opening_laws.specs.strips.StripOps.{cut_strip, strip_ops}
@@ -30,8 +29,5 @@ module _ (M : Model) (s : ℕ) (c : Taken) (bs : List ℕ) (can : CanOpen M s c 
     strip_goes = (λ j. first_false (is_cut j) (cut_strip (is_cut j) c bs i)) ∙ strip_accepted M can.0 s c bs can.1 i lt (part_sound M can.0 s c bs can.1 i (omega (arith, lt)))
 
     -- and then one more is
-    pub one_more : (K : Model) → K ≡ effect X (cut_strip X c bs i) → K ≡ effects M (strip_ops M s c bs (i + 1))
-    one_more K k = k
-        ∙ (λ j. effect (x j) (cut_strip (is_cut j) c bs i))
-        ∙ sym (effects-append M (strip_ops M s c bs i) (cut_strip (strips_cut M s c bs i) c bs i ∷ []))
-        ∙ ap (λ n. effects M (strip_ops M s c bs n)) (one_on i)
+    pub one_more : strip_ops M s c bs i ++ cut_strip X c bs i ∷ [] ≡ strip_ops M s c bs (i + 1)
+    one_more = (λ j. strip_ops M s c bs i ++ cut_strip (is_cut j) c bs i ∷ []) ∙ ap (strip_ops M s c bs) (one_on i)

@@ -2,6 +2,7 @@
 use Rattle.std.proofs.Common.{◌≡◌, ℕ, ◌+◌, ◌*◌, ◌≤◌, ◌<◌, List, ◌++◌, length, map, sym, ap, ◌∙◌, subst, arith}
 use Rattle.std.proofs.lemmas.List.{length-map}
 use Rattle.euler_operators.specs.Common.{HalfEdge, code, Model}
+use Rattle.euler_operators.specs.declared.Op.{Op}
 use Rattle.euler_laws.specs.Laws.{AreAccepted, effects}
 use Rattle.euler_laws.proofs.Common.{effects-append, AreAccepted-back}
 use Rattle.shapes.specs.Common.{Taken}
@@ -65,10 +66,9 @@ module _ (M : Model) (s : ℕ) (c : Taken) (halves : List HalfEdge) (can : CanOp
       caps_go = subst (λ k. AreAccepted N (cap_ops c k)) size (subst (λ Y. AreAccepted Y (cap_ops c (length bs))) (sym raised_all)
           (AreAccepted-back M (strip_ops M s c bs (length bs) ++ copy_ops M c bs (length bs)) (cap_ops c (length bs)) (opening_accepted M can.0 s c bs can.1)))
 
-      -- the caps are made
-      pub opened_whole : (K : Model) → K ≡ effects N (cap_ops c n) → K ≡ effects M (opening_ops M s c bs)
-      unfolding opening_ops
-      opened_whole K k = k
-          ∙ ap (λ i. effects N (cap_ops c i)) (sym size)
-          ∙ ap (λ Y. effects Y (cap_ops c (length bs))) raised_all
-          ∙ sym (effects-append M (strip_ops M s c bs (length bs) ++ copy_ops M c bs (length bs)) (cap_ops c (length bs)))
+    -- with those that make the caps, these are all operators
+    pub all_ops : (strip_ops M s c (map code halves) (length halves) ++ copy_ops A c (map code halves) (length halves)) ++ cap_ops c (length halves) ≡ opening_ops M s c (map code halves)
+    unfolding opening_ops stripped
+    all_ops =
+        (λ j. (strip_ops M s c bs (sym size j) ++ copy_ops A c bs (sym size j)) ++ cap_ops c (sym size j))
+        ∙ ap (λ (os : List Op). (strip_ops M s c bs (length bs) ++ os) ++ cap_ops c (length bs)) (read_before A s c bs stripped (length bs) (omega arith))

@@ -1,5 +1,5 @@
 -- The risers killed one after the other, and what is left then of the operators that make caps.
-use Rattle.std.proofs.Common.{◌≡◌, ℕ, suc, ◌+◌, ◌-◌, ◌*◌, ◌≤◌, ◌<◌, List, [], ◌∷◌, map, None, refl, sym, ap, ◌∙◌, subst, arith}
+use Rattle.std.proofs.Common.{◌≡◌, ℕ, suc, ◌+◌, ◌-◌, ◌*◌, ◌≤◌, ◌<◌, List, [], ◌∷◌, ◌++◌, map, None, refl, sym, ap, ◌∙◌, subst, append_assoc, arith}
 use Rattle.euler_operators.specs.Common.{HalfEdge, half, plus, minus, Model, first_false, effect}
 use Rattle.euler_operators.specs.declared.Op.{Op}
 use Rattle.euler_operators.specs.declared.Op.TheVariants.{Kef, Kemr, Mfkrh}
@@ -39,8 +39,9 @@ module _ (N : Model) (k last : ℕ) (lt : k < last) (accepted : AreAccepted N (k
     pub kills_go : AreAccepted K (kills (k + 1) last)
     kills_go = subst (λ Y. AreAccepted Y (kills (k + 1) last)) (sym gone) next_first.1
 
-    pub kills_made : effects K (kills (k + 1) last) ≡ effects N (kills k last)
-    kills_made = ap (λ Y. effects Y (kills (k + 1) last)) gone ∙ ap (effects N) (sym (kills_next k last lt))
+-- the next one goes, and then the others
+pub kill_and_others : (k last : ℕ) → k < last → (h : HalfEdge) → h ≡ half (minus (k + 1)) → Kef h ∷ kills (k + 1) last ≡ kills k last
+kill_and_others k last lt h is = ap (λ g. Kef g ∷ kills (k + 1) last) is ∙ sym (kills_next k last lt)
 
 -- ---- the caps
 
@@ -55,3 +56,10 @@ module _ (N : Model) (c : Taken) (m : ℕ) (accepted : AreAccepted N (cap_ops c 
   unfolding cap_ops
   partings_left K e h is = subst (λ g. Leads K (effects N (cap_ops c m)) (Kemr g (c.loop + m + 1) ∷ Mfkrh (c.loop + m + 1) (c.face + m + 1) ∷ [])) (sym is)
       (some_taken N (joinings c m (m - 1)) (partings c m) (effects N (cap_ops c m)) K accepted refl e)
+
+-- all of them, as the code writes them
+pub caps_are : (c : Taken) (m : ℕ) (h : HalfEdge) → h ≡ half (plus (c.edge + m + 1)) → (joinings c m (m - 1) ++ Kemr h (c.loop + m + 1) ∷ []) ++ Mfkrh (c.loop + m + 1) (c.face + m + 1) ∷ [] ≡ cap_ops c m
+unfolding cap_ops
+caps_are c m h is =
+    append_assoc (joinings c m (m - 1)) (Kemr h (c.loop + m + 1) ∷ []) (Mfkrh (c.loop + m + 1) (c.face + m + 1) ∷ [])
+    ∙ ap (λ g. joinings c m (m - 1) ++ Kemr g (c.loop + m + 1) ∷ Mfkrh (c.loop + m + 1) (c.face + m + 1) ∷ []) is

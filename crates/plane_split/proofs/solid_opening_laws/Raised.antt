@@ -1,12 +1,11 @@
 -- The copies of a cycle's vertices raised one after the other, once its strips are cut off.
 use Rattle.std.proofs.Common.{◌≡◌, ℕ, zero, suc, ◌+◌, ◌≤◌, ◌<◌, cond, not, ◌&&◌, List, [], ◌∷◌, ◌++◌, length, map, None, unwrap_or, refl, sym, ap, ◌∙◌, subst, arith, inl, inr, get_or}
-use Rattle.euler_operators.specs.Common.{Point, count, At, mate, half, plus, minus, Model, tail, point_of, no_point, Sound, HasHalf, first_false, lists, effect}
+use Rattle.euler_operators.specs.Common.{Point, count, At, mate, half, plus, minus, Model, tail, point_of, no_point, Sound, HasHalf, first_false, lists}
 use Rattle.euler_operators.proofs.Common.{IsIn_or_not}
 use Rattle.euler_operators.specs.Table as table
 use Rattle.euler_operators.specs.declared.Op.{Op}
 use Rattle.euler_operators.specs.declared.Op.TheVariants.{Mev}
 use Rattle.euler_laws.specs.Laws.{effects}
-use Rattle.euler_laws.proofs.Common.{effects-append}
 use Rattle.shapes.specs.Common.{Taken, numbers_after, renamed}
 use Rattle.split_opening_laws.proofs.sections.Numbered.{in_numbers}
 use Rattle.split_opening_laws.proofs.sections.StillFree.{copied_other}
@@ -120,8 +119,7 @@ module _ (N : Model) (s : ℕ) (c : Taken) (bs : List ℕ) (r : AreStripped N s 
     copy_goes = (λ j. first_false (is_raised j) (op_is j)) ∙ copy_accepted M r.above s c bs r.can i lt (part_sound M r.above s c bs r.can i within_length)
 
     -- and then one more is
-    pub one_raised : (K : Model) → K ≡ effect X (raise_copy X c bs i) → K ≡ effects N (copy_ops N c bs (i + 1))
-    one_raised K k = k
-        ∙ (λ j. effect (x j) ((op_is ∙ sym (cut_copy M r.above s c bs r.can i lt) ∙ ap (λ Y. raise_copy Y c bs i) (sym r.model)) j))
-        ∙ sym (effects-append N (copy_ops N c bs i) (raise_copy N c bs i ∷ []))
-        ∙ ap (λ n. effects N (copy_ops N c bs n)) (one_on i)
+    pub one_raised : copy_ops N c bs i ++ raise_copy X c bs i ∷ [] ≡ copy_ops N c bs (i + 1)
+    one_raised =
+        ap (λ (o : Op). copy_ops N c bs i ++ o ∷ []) (op_is ∙ sym (cut_copy M r.above s c bs r.can i lt) ∙ ap (λ Y. raise_copy Y c bs i) (sym r.model))
+        ∙ ap (copy_ops N c bs) (one_on i)

@@ -8,6 +8,7 @@ use Rattle.split_opening_laws.specs.sections.InTurn.{CanBeOpenedInTurn}
 use Rattle.split_opening_laws.proofs.sections.InTurn.{can_open, others_on}
 use Rattle.split_opening_laws.specs.opening.OpeningOps.{opening_ops}
 use Rattle.split_opening_laws.proofs.opening.Whole.{opening_made}
+use Rattle.split_laws.specs.SplitOps.{openings_ops}
 use Rattle.split_laws.proofs.Flags.{flags_are, next_flags}
 use Rattle.split_drawing.proofs.CutPlaces.{others, parts}
 use Rattle.split_drawing.specs.Counters.{taken_of}
@@ -101,6 +102,10 @@ module _ (above : List ℕ) (s : ℕ) (p : Plane) (M : Model) (c : Counters) (ca
     made_next : all_opened p above s (opening_of K d more) (map halves_of ks) ≡ all_opened p above s (opening_of M c caps) (halves_of k ∷ map halves_of ks)
     made_next = ap (λ x. all_opened p above s x cs) opened
 
+    -- its operators come first, and then those of the others
+    ops_next : opening_ops M s (taken_of c) (halves_of k) ++ openings_ops above s p (opening_of K d more) (map halves_of ks) ≡ openings_ops above s p (opening_of M c caps) (halves_of k ∷ map halves_of ks)
+    ops_next = ap (λ x. opening_ops M s (taken_of c) bs ++ openings_ops above s p x cs) opened
+
 -- ---- the next cycle of a list, as the code opens it
 
 module _ (above : List ℕ) (s : ℕ) (p : Plane) (M : Model) (c : Counters) (caps : List Caps) (rest : List Cycle) (k : Cycle) (l : 1 ≤ length rest) (is : k ≡ slice_index_or rest 0 k)
@@ -131,12 +136,15 @@ module _ (above : List ℕ) (s : ℕ) (p : Plane) (M : Model) (c : Counters) (ca
     pushed_on : more ≡ caps ++ record { lower = c.faces + 1; upper = c.faces + length k.halves.items + 1; hole = k.hole } ∷ []
     pushed_on = pushed ∙ ap (λ (x : Caps). caps ++ x ∷ []) (cap_is ∙ ap (λ n. record { lower = c.faces + 1; upper = c.faces + n + 1; hole = k.hole }) (ap length value))
 
-    -- it can be opened along the others, these are the holes that they were, and what all make stays the same
+    -- it can be opened along the others, these are the holes that they were, what all make stays the same, and so do their operators
     pub others_left : CanBeOpenedInTurn above s (opening_of K d more) (map halves_of (others rest))
         × (map (λ q. q.hole) (others rest) ≡ map (is_hole K p) (map halves_of (others rest)))
         × (all_opened p above s (opening_of K d more) (map halves_of (others rest)) ≡ all_opened p above s (opening_of M c caps) (map halves_of rest))
+        × (opening_ops M s (taken_of c) (map code hs) ++ openings_ops above s p (opening_of K d more) (map halves_of (others rest)) ≡ openings_ops above s p (opening_of M c caps) (map halves_of rest))
     others_left = (
       opens_next above s p M c caps k (others rest) w_next flags_next K made_of d counted_by more pushed_on,
       holes_next above s p M c caps k (others rest) w_next flags_next K made_of d counted_by more pushed_on,
       made_next above s p M c caps k (others rest) w_next flags_next K made_of d counted_by more pushed_on ∙ ap (λ (r : List Cycle). all_opened p above s (opening_of M c caps) (map halves_of r)) (sym whole),
+      ap (λ (gs : List HalfEdge). opening_ops M s (taken_of c) (map code gs) ++ openings_ops above s p (opening_of K d more) (map halves_of (others rest))) value
+          ∙ ops_next above s p M c caps k (others rest) w_next flags_next K made_of d counted_by more pushed_on ∙ ap (λ (r : List Cycle). openings_ops above s p (opening_of M c caps) (map halves_of r)) (sym whole),
     )

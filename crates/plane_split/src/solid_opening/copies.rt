@@ -1,8 +1,7 @@
 //! Copies of the vertices of a cycle, which are raised after its strips are cut off.
 ghost use Rattle.std.specs.Prelude.{◌≡◌, ◌≤◌, ◌<◌, ◌+◌, ◌*◌, true, None, OnOk, OnErr, length, map, get_or};
 ghost use Rattle.euler_operators.specs.Common.{code, has_half, first_false};
-ghost use Rattle.euler_laws.specs.Laws.{effects};
-ghost use Rattle.undo_journal.specs.Journal.{after_step, IsFurther};
+ghost use Rattle.undo_journal.specs.Journal.{after_step, after_steps, IsFurther};
 ghost use Rattle.split_drawing.specs.Counters.{taken_of};
 ghost use Rattle.split_opening_laws.specs.strips.StripOps as ops;
 ghost use Rattle.plane_split.specs.solid_opening.Stages.{AreStripped};
@@ -62,7 +61,7 @@ pub(crate) fn raise_copies(
     halves: &[HalfEdge],
 ) -> Result<(), AllocError>
     requires { AreStripped draft.old.model s (taken_of from.now) (map code halves.now) }
-    ensures model { OnOk result (draft.new.model ≡ effects draft.old.model (ops.copy_ops draft.old.model (taken_of from.now) (map code halves.now) (length halves.now))) }
+    ensures steps { OnOk result (draft.new ≡ after_steps draft.old (ops.copy_ops draft.old.model (taken_of from.now) (map code halves.now) (length halves.now))) }
     ensures further { IsFurther draft.old draft.new }
 {
     let count = halves.len() as u32;

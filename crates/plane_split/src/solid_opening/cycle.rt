@@ -1,11 +1,10 @@
 //! A solid that is opened along one cycle, and the numbers that this takes.
 ghost use Rattle.std.specs.Prelude.{◌≡◌, ◌≤◌, ◌+◌, ◌*◌, OnOk, map};
 ghost use Rattle.euler_operators.specs.Common.{code};
-ghost use Rattle.euler_laws.specs.Laws.{effects};
 ghost use Rattle.split_drawing.specs.Counters.{taken_of};
 ghost use Rattle.split_opening_laws.specs.opening.OpeningOps.{opening_ops};
 ghost use Rattle.plane_split.specs.solid_opening.Stages.{CanOpen};
-ghost use Rattle.undo_journal.specs.Journal.{IsFurther};
+ghost use Rattle.undo_journal.specs.Journal.{after_steps, IsFurther};
 
 use crate::solid_opening::caps::Caps;
 use crate::solid_opening::copies::raise_copies;
@@ -26,7 +25,7 @@ pub(crate) fn open_cycle(
     halves: &[HalfEdge],
 ) -> Result<(), AllocError>
     requires { CanOpen draft.old.model s (taken_of from.now) (map code halves.now) }
-    ensures model { OnOk result (draft.new.model ≡ effects draft.old.model (opening_ops draft.old.model s (taken_of from.now) (map code halves.now))) }
+    ensures steps { OnOk result (draft.new ≡ after_steps draft.old (opening_ops draft.old.model s (taken_of from.now) (map code halves.now))) }
     ensures further { IsFurther draft.old draft.new }
 {
     cut_strips(draft, s, from, halves)?;

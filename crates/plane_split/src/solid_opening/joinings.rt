@@ -1,9 +1,9 @@
 //! Strips that are joined into one, which is then parted into the two caps.
 ghost use Rattle.std.specs.Prelude.{◌≡◌, ◌≤◌, ◌+◌, ◌-◌, ◌*◌, OnOk};
-ghost use Rattle.euler_laws.specs.Laws.{AreAccepted, effects};
+ghost use Rattle.euler_laws.specs.Laws.{AreAccepted};
 ghost use Rattle.split_drawing.specs.Counters.{taken_of};
 ghost use Rattle.split_opening_laws.specs.caps.CapOps.{cap_ops, joinings};
-ghost use Rattle.undo_journal.specs.Journal.{IsFurther};
+ghost use Rattle.undo_journal.specs.Journal.{after_steps, IsFurther};
 
 use euler_operators::{HalfEdge, Op};
 use split_drawing::Counters;
@@ -16,7 +16,7 @@ fn join_strips(draft: &mut Draft, from: &Counters, count: u32) -> Result<(), All
     requires some { 1 ≤ count }
     requires edges_left { from.now.edges + 2 * count ≤ 1000000 }
     requires accepted { AreAccepted draft.old.model (joinings (taken_of from.now) count (count - 1)) }
-    ensures model { OnOk result (draft.new.model ≡ effects draft.old.model (joinings (taken_of from.now) count (count - 1))) }
+    ensures steps { OnOk result (draft.new ≡ after_steps draft.old (joinings (taken_of from.now) count (count - 1))) }
     ensures further { IsFurther draft.old draft.new }
 {
     let last = from.edges + 2 * count;
@@ -37,7 +37,7 @@ pub(crate) fn make_caps(draft: &mut Draft, from: &Counters, count: u32) -> Resul
     requires loops_left { from.now.loops + count + 1 ≤ 1000000 }
     requires edges_left { from.now.edges + 2 * count ≤ 1000000 }
     requires accepted { AreAccepted draft.old.model (cap_ops (taken_of from.now) count) }
-    ensures model { OnOk result (draft.new.model ≡ effects draft.old.model (cap_ops (taken_of from.now) count)) }
+    ensures steps { OnOk result (draft.new ≡ after_steps draft.old (cap_ops (taken_of from.now) count)) }
     ensures further { IsFurther draft.old draft.new }
 {
     join_strips(draft, from, count)?;

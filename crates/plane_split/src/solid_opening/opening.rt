@@ -1,10 +1,11 @@
 //! A solid opened along the cycles of its section.
-ghost use Rattle.std.specs.Prelude.{◌≡◌, map, IfOk};
+ghost use Rattle.std.specs.Prelude.{◌≡◌, map, IfOk, OnOk};
 ghost use Rattle.shapes.specs.Common.{is_hole};
 ghost use Rattle.split_opening_laws.specs.sections.InTurn.{CanBeOpenedInTurn};
+ghost use Rattle.split_laws.specs.SplitOps.{openings_ops};
 ghost use Rattle.split_sections.specs.section_checks.Sections.{cycles_of, hole_flags};
 ghost use Rattle.plane_split.specs.solid_opening.Capped.{all_caps, opened_section, unopened};
-ghost use Rattle.undo_journal.specs.Journal.{IsFurther};
+ghost use Rattle.undo_journal.specs.Journal.{after_steps, IsFurther};
 
 use crate::solid_opening::caps::Caps;
 use crate::solid_opening::cycle::{caps_after, counted_on, open_cycle};
@@ -31,6 +32,7 @@ pub(crate) fn open_section(
     requires holes { hole_flags section.now ≡ map (is_hole draft.old.model plane.now) (cycles_of section.now) }
     ensures opened { IfOk result (λ caps. (draft.new.model ≡ (opened_section draft.old.model from.now s plane.now section.now).model)
         × (all_caps caps.items ≡ (opened_section draft.old.model from.now s plane.now section.now).caps)) }
+    ensures steps { OnOk result (draft.new ≡ after_steps draft.old (openings_ops section.now.above.items s plane.now (unopened draft.old.model from.now) (cycles_of section.now))) }
     ensures further { IsFurther draft.old draft.new }
 {
     let mut taken = *from;

@@ -1,12 +1,12 @@
 //! The holes of a section are closed, and what is above the plane is parted.
 ghost use Rattle.std.specs.Prelude.{◌≡◌, ◌∷◌, ◌++◌, [], OnOk, IfOk};
-ghost use Rattle.euler_laws.specs.Laws.{AreAccepted, effects};
+ghost use Rattle.euler_laws.specs.Laws.{AreAccepted};
 ghost use Rattle.euler_operators.specs.declared.Op.TheVariants.{Kfmrh, Part};
 ghost use Rattle.shapes.specs.Common.{outer_caps, upper_left};
 ghost use Rattle.split_laws.specs.SplitOps.{hole_ops};
 ghost use Rattle.plane_split.specs.solid_opening.Capped.{all_caps, caps_of};
 ghost use Rattle.plane_split.specs.solid_opening.Closing.{holes_ops, outer_uppers};
-ghost use Rattle.undo_journal.specs.Journal.{IsFurther};
+ghost use Rattle.undo_journal.specs.Journal.{after_steps, IsFurther};
 
 use crate::solid_opening::caps::Caps;
 use euler_operators::{FaceList, Op};
@@ -35,7 +35,7 @@ fn outer_caps(caps: &[Caps]) -> Caps
 #[tactic(auto, using(undo_journal::proofs::Marks::further_on))]
 fn close_hole(draft: &mut Draft, outer: Caps, hole: Caps) -> Result<(), AllocError>
     requires { AreAccepted draft.old.model (Kfmrh outer.lower hole.lower ∷ Kfmrh outer.upper hole.upper ∷ []) }
-    ensures model { OnOk result (draft.new.model ≡ effects draft.old.model (Kfmrh outer.lower hole.lower ∷ Kfmrh outer.upper hole.upper ∷ [])) }
+    ensures steps { OnOk result (draft.new ≡ after_steps draft.old (Kfmrh outer.lower hole.lower ∷ Kfmrh outer.upper hole.upper ∷ [])) }
     ensures further { IsFurther draft.old draft.new }
 {
     draft.step_accepted(Op::Kfmrh(outer.lower, hole.lower))?;
@@ -47,7 +47,7 @@ fn close_hole(draft: &mut Draft, outer: Caps, hole: Caps) -> Result<(), AllocErr
 #[tactic(auto, using(undo_journal::proofs::Marks::further_none, undo_journal::proofs::Marks::further_on))]
 fn close_holes(draft: &mut Draft, outer: Caps, caps: &[Caps]) -> Result<(), AllocError>
     requires { AreAccepted draft.old.model (holes_ops (caps_of outer) caps.now) }
-    ensures model { OnOk result (draft.new.model ≡ effects draft.old.model (holes_ops (caps_of outer) caps.now)) }
+    ensures steps { OnOk result (draft.new ≡ after_steps draft.old (holes_ops (caps_of outer) caps.now)) }
     ensures further { IsFurther draft.old draft.new }
 {
     let mut rest = caps;
@@ -100,7 +100,7 @@ pub(crate) fn part_upper(
     caps: &[Caps],
 ) -> Result<(), AllocError>
     requires { AreAccepted draft.old.model (hole_ops (all_caps caps.now) ++ Part s upper (upper_left above.now (all_caps caps.now)) ∷ []) }
-    ensures model { OnOk result (draft.new.model ≡ effects draft.old.model (hole_ops (all_caps caps.now) ++ Part s upper (upper_left above.now (all_caps caps.now)) ∷ [])) }
+    ensures steps { OnOk result (draft.new ≡ after_steps draft.old (hole_ops (all_caps caps.now) ++ Part s upper (upper_left above.now (all_caps caps.now)) ∷ [])) }
     ensures further { IsFurther draft.old draft.new }
 {
     close_holes(draft, outer_caps(caps), caps)?;

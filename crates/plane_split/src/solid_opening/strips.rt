@@ -1,8 +1,7 @@
 //! Strips, which are faces of two edges, cut off above the edges of a cycle.
 ghost use Rattle.std.specs.Prelude.{◌≡◌, ◌≤◌, ◌<◌, ◌+◌, true, None, OnOk, OnErr, length, map, get_or};
 ghost use Rattle.euler_operators.specs.Common.{code, mate, has_half, first_false};
-ghost use Rattle.euler_laws.specs.Laws.{effects};
-ghost use Rattle.undo_journal.specs.Journal.{after_step, IsFurther};
+ghost use Rattle.undo_journal.specs.Journal.{after_step, after_steps, IsFurther};
 ghost use Rattle.split_drawing.specs.Counters.{taken_of};
 ghost use Rattle.split_opening_laws.specs.strips.StripOps as ops;
 ghost use Rattle.plane_split.specs.solid_opening.Stages.{CanOpen};
@@ -46,7 +45,7 @@ pub(crate) fn cut_strips(
     halves: &[HalfEdge],
 ) -> Result<(), AllocError>
     requires { CanOpen draft.old.model s (taken_of from.now) (map code halves.now) }
-    ensures model { OnOk result (draft.new.model ≡ effects draft.old.model (ops.strip_ops draft.old.model s (taken_of from.now) (map code halves.now) (length halves.now))) }
+    ensures steps { OnOk result (draft.new ≡ after_steps draft.old (ops.strip_ops draft.old.model s (taken_of from.now) (map code halves.now) (length halves.now))) }
     ensures further { IsFurther draft.old draft.new }
 {
     let count = halves.len() as u32;

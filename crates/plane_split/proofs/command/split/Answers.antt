@@ -1,11 +1,12 @@
 use Rattle.std.proofs.Common.{◌≡◌, sym, ap, ◌∙◌}
 use Rattle.undo_journal.specs.declared.session.Failure.TheVariants as failure
 use Rattle.undo_journal.specs.Machine.{accepted}
-use Rattle.undo_journal.specs.Journal.{Journal, DraftJournal}
+use Rattle.undo_journal.specs.Journal.{Journal, after_steps}
+use Rattle.split_laws.specs.SplitOps.{split_ops}
 use Rattle.shapes.specs.Common.{split_refusal, split_model}
 use Rattle.split_checks.specs.begin_checks.Conditions.{early_refusal}
 use Rattle.split_checks.proofs.begin_checks_laws.Stages.{none_early}
-use Rattle.undo_journal.proofs.Marks.{further_recorded, further_session}
+use Rattle.undo_journal.proofs.Marks.{further_recorded, further_session, steps_recorded}
 use Rattle.plane_split.proofs.Conditions.{same_failure}
 use Rattle.plane_split.proofs.Planes.{plane_is}
 use Rattle.plane_split.proofs.command.split.Goals as goal
@@ -51,3 +52,10 @@ returns-clause-memory c = λ error is.
 
 pub returns-in-Ok-try_split-clause-recorded : goal.returns-in-Ok-try_split-clause-recorded
 returns-in-Ok-try_split-clause-recorded c = further_recorded _ _ _ _ c.in-Ok-open.ensures.ok c.in-Ok-try_split.ensures.further c.commit.ensures
+
+pub returns-in-Ok-try_split-clause-record : goal.returns-in-Ok-try_split-clause-record
+returns-in-Ok-try_split-clause-record c =
+    let plane : c.plane_of-plane.result ≡ record { a = c.args.a; b = c.args.b; c = c.args.c; d = c.args.d } =
+    c.plane_of-plane.ensures ∙ plane_is c.args.a c.args.b c.args.c c.args.d c.ranges.a c.ranges.b c.ranges.c c.ranges.d in
+    let steps = c.in-Ok-try_split.ensures.steps ∙ ap (λ p. after_steps c.in-Ok-open.draft (split_ops c.in-Ok-open.draft.model c.args.s p c.args.upper)) plane in
+    steps_recorded _ _ _ _ (λ M. split_ops M c.args.s (record { a = c.args.a; b = c.args.b; c = c.args.c; d = c.args.d }) c.args.upper) c.in-Ok-open.ensures.ok steps c.commit.ensures

@@ -1,6 +1,6 @@
 use Rattle.std.proofs.Common.{◌≡◌, sym, ◌∙◌}
 use Rattle.undo_journal.specs.declared.session.Failure.TheVariants as failure
-use Rattle.shapes.specs.Common.{split_refusal, split_model}
+use Rattle.shapes.specs.Common.{split_refusal}
 use Rattle.split_checks.specs.begin_checks.Conditions.{early_refusal}
 use Rattle.split_checks.proofs.begin_checks_laws.Stages.{none_early}
 use Rattle.plane_split.proofs.Conditions.{same_failure}

@@ -1,7 +1,9 @@
 use Rattle.std.proofs.Common.{◌∙◌, ap}
 use Rattle.std.proofs.lemmas.Result.{on_ok_weaker}
+use Rattle.undo_journal.specs.Journal.{after_steps}
+use Rattle.undo_journal.proofs.Marks.{steps_after}
 use Rattle.plane_split.specs.solid_opening.Capped.{all_caps}
-use Rattle.plane_split.proofs.Parted.{section_opens, upper_leads}
+use Rattle.plane_split.proofs.Parted.{section_opens, upper_leads, later_ops_are}
 use Rattle.plane_split.proofs.steps.part_drawn.Goals as goal
 
 pub open_section-requires-clause-opens : goal.open_section-requires-clause-opens
@@ -13,9 +15,8 @@ part_upper-requires c =
     (upper_leads c.args.draft.now.model c.args.drawn.now c.args.s c.args.plane.now c.args.upper c.args.section.now c.requires.drawn c.requires.section
     c.open_section.new.draft.model c.as_slice-above.result.now (all_caps c.as_slice.result.now) opened.0 c.as_slice-above.ensures.value (ap all_caps c.as_slice.ensures.value ∙ opened.1)).accepted
 
-pub returns-clause-model : goal.returns-clause-model
-returns-clause-model c =
-    let opened = c.in_ok-caps.ensures.opened in
-    let made = (upper_leads c.args.draft.now.model c.args.drawn.now c.args.s c.args.plane.now c.args.upper c.args.section.now c.requires.drawn c.requires.section
-    c.open_section.new.draft.model c.as_slice-above.result.now (all_caps c.as_slice.result.now) opened.0 c.as_slice-above.ensures.value (ap all_caps c.as_slice.ensures.value ∙ opened.1)).made in
-    on_ok_weaker c.part_upper.result (λ h. h ∙ made) c.part_upper.ensures.model
+pub returns-clause-steps : goal.returns-clause-steps
+returns-clause-steps c =
+    let all = later_ops_are c.args.draft.now.model c.args.drawn.now c.args.s c.args.plane.now c.args.upper c.args.section.now c.requires.drawn c.requires.section
+    c.as_slice-above.result.now (all_caps c.as_slice.result.now) c.as_slice-above.ensures.value (ap all_caps c.as_slice.ensures.value ∙ c.in_ok-caps.ensures.opened.1) in
+    on_ok_weaker c.part_upper.result (λ steps. steps_after _ _ _ _ _ c.in_ok-caps.ensures.steps steps ∙ ap (after_steps c.args.draft.now) all) c.part_upper.ensures.steps

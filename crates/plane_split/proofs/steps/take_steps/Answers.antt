@@ -1,12 +1,14 @@
 use Rattle.std.proofs.Common.{[], Ok, sym, ap, subst, ◌∙◌}
 use Rattle.euler_operators.specs.Common.{verdict}
 use Rattle.shapes.proofs.split.Facts.{split_begins}
-use Rattle.split_laws.specs.SplitOps.{split_above}
+use Rattle.split_laws.proofs.Whole.{split_made}
+use Rattle.undo_journal.specs.Journal.{after_steps}
+use Rattle.undo_journal.proofs.Marks.{steps_after, steps_make}
 use Rattle.split_drawing.specs.Noted.{AreSides}
 use Rattle.split_drawing.specs.Progress.{drawing_of}
 use Rattle.split_sections.specs.section_checks.Sections.{IsSection}
 use Rattle.plane_split.proofs.Conditions.{still_there, later_decide}
-use Rattle.plane_split.proofs.Parted.{split_is}
+use Rattle.plane_split.proofs.Parted.{split_ops_are}
 use Rattle.plane_split.proofs.steps.take_steps.Goals as goal
 
 pub check_later-requires-clause-plane : goal.check_later-requires-clause-plane
@@ -49,6 +51,14 @@ returns-clause-carried c =
     ap verdict (sym found.0 ∙ later_decide c.args.draft.now.model c.args.s c.args.plane.now c.args.upper c.requires.begins (drawing_of c.in_ok-drawn.drawn c.arena.result.now.model [])
     (ap (λ X. drawing_of c.in_ok-drawn.drawn X []) c.arena.ensures.model ∙ c.in_ok-drawn.ensures.drawn))
 
+pub returns-clause-steps : goal.returns-clause-steps
+returns-clause-steps c = λ is.
+    steps_after _ _ _ _ _ c.in_ok-drawn.ensures.steps c.in_ok-part_drawn.ensures.steps
+    ∙ ap (after_steps c.args.draft.now) (split_ops_are c.args.draft.now.model c.args.s c.args.plane.now c.args.upper (drawing_of c.in_ok-drawn.drawn c.draw_solid.new.draft.model []) c.in_ok-drawn.ensures.drawn)
+
 pub returns-clause-model : goal.returns-clause-model
 returns-clause-model c = λ is.
-    c.in_ok-part_drawn.ensures.model ∙ ap (λ x. split_above x c.args.s c.args.plane.now c.args.upper) c.in_ok-drawn.ensures.drawn ∙ split_is c.args.draft.now.model c.args.s c.args.plane.now c.args.upper
+    let found = c.in_ok-section.ensures.open c.in-Ok.section (ap Ok c.in-Ok.is) in
+    let accepted = sym (later_decide c.args.draft.now.model c.args.s c.args.plane.now c.args.upper c.requires.begins (drawing_of c.in_ok-drawn.drawn c.arena.result.now.model [])
+    (ap (λ X. drawing_of c.in_ok-drawn.drawn X []) c.arena.ensures.model ∙ c.in_ok-drawn.ensures.drawn)) ∙ found.0 in
+    steps_make _ _ _ (returns-clause-steps c is) ∙ split_made c.args.draft.now.model c.args.s c.args.plane.now c.args.upper c.requires.sound accepted

@@ -1,7 +1,8 @@
 use Rattle.std.proofs.Common.{Ok, Err, sym, ap, ◌∙◌}
 use Rattle.euler_operators.specs.Common.{verdict}
 use Rattle.shapes.specs.Common.{split_refusal, split_model}
-use Rattle.undo_journal.specs.Journal.{DraftJournal}
+use Rattle.undo_journal.specs.Journal.{DraftJournal, after_steps}
+use Rattle.split_laws.specs.SplitOps.{split_ops}
 use Rattle.euler_laws.proofs.Common.{verdict_passed, verdict_failed}
 use Rattle.plane_split.proofs.Conditions.{same_refusal}
 use Rattle.plane_split.proofs.steps.try_split.Goals as goal
@@ -17,3 +18,7 @@ pub returns-in-Ok-Err-clause-refused : goal.returns-in-Ok-Err-clause-refused
 returns-in-Ok-Err-clause-refused c = λ refusal is.
     verdict_failed (split_refusal c.args.draft.now.model c.args.s c.args.plane.now c.args.upper) refusal
     (ap Err (sym (same_refusal c.in-Ok-Err.refusal refusal is)) ∙ sym c.in-Ok-Err.field-0-is ∙ c.in-Ok-Err.ensures.carried ∙ ap (λ (d : DraftJournal). verdict (split_refusal d.model c.args.s c.args.plane.now c.args.upper)) c.reserve.ensures)
+
+pub returns-in-Ok-Ok-clause-steps : goal.returns-in-Ok-Ok-clause-steps
+returns-in-Ok-Ok-clause-steps c =
+    c.in-Ok-Ok.ensures.steps (ap Ok c.in-Ok-Ok.field-0-is) ∙ ap (λ (d : DraftJournal). after_steps d (split_ops d.model c.args.s c.args.plane.now c.args.upper)) c.reserve.ensures

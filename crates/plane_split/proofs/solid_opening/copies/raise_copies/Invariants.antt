@@ -1,15 +1,14 @@
 use Rattle.std.proofs.Common.{◌≡◌, ◌≤◌, ◌-◌, length, map}
 use Rattle.euler_operators.specs.Common.{code}
-use Rattle.euler_laws.specs.Laws.{effects}
 use Rattle.split_drawing.specs.Counters.{taken_of}
 use Rattle.split_opening_laws.specs.strips.StripOps.{copy_ops}
-use Rattle.undo_journal.specs.Journal.{IsFurther}
+use Rattle.undo_journal.specs.Journal.{after_steps, IsFurther}
 use Rattle.plane_split.proofs.solid_opening.copies.raise_copies.Given as goal
 
 abbrev pub invariant-copies : goal.invariant-copies
 invariant-copies l = record {
   inside : l.i ≤ length l.halves;
-  model : l.draft.model ≡ effects l.fn.draft.model (copy_ops l.fn.draft.model (taken_of l.from) (map code l.halves) l.i);
+  steps : l.draft ≡ after_steps l.fn.draft (copy_ops l.fn.draft.model (taken_of l.from) (map code l.halves) l.i);
   further : IsFurther l.fn.draft l.draft;
 }
 

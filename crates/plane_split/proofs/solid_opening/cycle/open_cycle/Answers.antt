@@ -1,11 +1,13 @@
-use Rattle.std.proofs.Common.{arith}
+use Rattle.std.proofs.Common.{ap, ◌∙◌, arith}
 use Rattle.std.proofs.lemmas.Result.{on_ok_weaker}
+use Rattle.undo_journal.specs.Journal.{after_steps}
+use Rattle.undo_journal.proofs.Marks.{steps_after, steps_make}
 use Rattle.split_drawing.specs.Counters.{taken_of}
-use Rattle.plane_split.proofs.solid_opening_laws.Cycles.{some_half, faces_left, loops_left, edges_left, stripped, caps_go, opened_whole}
+use Rattle.plane_split.proofs.solid_opening_laws.Cycles.{some_half, faces_left, loops_left, edges_left, stripped, caps_go, all_ops}
 use Rattle.plane_split.proofs.solid_opening.cycle.open_cycle.Goals as goal
 
 pub raise_copies-requires : goal.raise_copies-requires
-raise_copies-requires c = stripped c.args.draft.now.model c.args.s (taken_of c.args.from.now) c.args.halves.now c.requires c.cut_strips.new.draft.model c.in_ok-cut_strips.ensures.model
+raise_copies-requires c = stripped c.args.draft.now.model c.args.s (taken_of c.args.from.now) c.args.halves.now c.requires c.cut_strips.new.draft.model (steps_make _ _ _ c.in_ok-cut_strips.ensures.steps)
 
 pub make_caps-requires-clause-some : goal.make_caps-requires-clause-some
 make_caps-requires-clause-some c = omega (arith, some_half c.args.draft.now.model c.args.s (taken_of c.args.from.now) c.args.halves.now c.requires)
@@ -20,10 +22,11 @@ pub make_caps-requires-clause-edges_left : goal.make_caps-requires-clause-edges_
 make_caps-requires-clause-edges_left c = edges_left c.args.draft.now.model c.args.s (taken_of c.args.from.now) c.args.halves.now c.requires
 
 pub make_caps-requires-clause-accepted : goal.make_caps-requires-clause-accepted
-make_caps-requires-clause-accepted c = caps_go c.args.draft.now.model c.args.s (taken_of c.args.from.now) c.args.halves.now c.requires c.cut_strips.new.draft.model c.in_ok-cut_strips.ensures.model
-    c.raise_copies.new.draft.model c.in_ok-raise_copies.ensures.model
+make_caps-requires-clause-accepted c = caps_go c.args.draft.now.model c.args.s (taken_of c.args.from.now) c.args.halves.now c.requires c.cut_strips.new.draft.model (steps_make _ _ _ c.in_ok-cut_strips.ensures.steps)
+    c.raise_copies.new.draft.model (steps_make _ _ _ c.in_ok-raise_copies.ensures.steps)
 
-pub returns-clause-model : goal.returns-clause-model
-returns-clause-model c =
-    on_ok_weaker c.make_caps.result (λ step. opened_whole c.args.draft.now.model c.args.s (taken_of c.args.from.now) c.args.halves.now c.requires c.cut_strips.new.draft.model c.in_ok-cut_strips.ensures.model
-    c.raise_copies.new.draft.model c.in_ok-raise_copies.ensures.model _ step) c.make_caps.ensures.model
+pub returns-clause-steps : goal.returns-clause-steps
+returns-clause-steps c =
+    on_ok_weaker c.make_caps.result (λ steps.
+    steps_after _ _ _ _ _ (steps_after _ _ _ _ _ c.in_ok-cut_strips.ensures.steps c.in_ok-raise_copies.ensures.steps) steps
+    ∙ ap (after_steps c.args.draft.now) (all_ops c.args.draft.now.model c.args.s (taken_of c.args.from.now) c.args.halves.now c.requires c.cut_strips.new.draft.model (steps_make _ _ _ c.in_ok-cut_strips.ensures.steps))) c.make_caps.ensures.steps

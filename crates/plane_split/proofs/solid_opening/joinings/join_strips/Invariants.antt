@@ -1,16 +1,16 @@
 use Rattle.std.proofs.Common.{◌≡◌, ◌+◌, ◌-◌, ◌*◌, ◌≤◌}
-use Rattle.euler_laws.specs.Laws.{AreAccepted, effects}
+use Rattle.euler_laws.specs.Laws.{AreAccepted}
 use Rattle.split_drawing.specs.Counters.{taken_of}
 use Rattle.split_opening_laws.specs.caps.CapOps.{joinings}
 use Rattle.plane_split.proofs.solid_opening_laws.Killed.{kills}
-use Rattle.undo_journal.specs.Journal.{IsFurther}
+use Rattle.undo_journal.specs.Journal.{after_steps, IsFurther}
 use Rattle.plane_split.proofs.solid_opening.joinings.join_strips.Given as goal
 
 abbrev pub invariant-risers : goal.invariant-risers
 invariant-risers l = record {
   inside : l.riser ≤ l.from.edges + 2 * l.count;
   accepted : AreAccepted l.draft.model (kills l.riser (l.from.edges + 2 * l.count));
-  made : effects l.draft.model (kills l.riser (l.from.edges + 2 * l.count)) ≡ effects l.fn.draft.model (joinings (taken_of l.from) l.count (l.count - 1));
+  steps : after_steps l.draft (kills l.riser (l.from.edges + 2 * l.count)) ≡ after_steps l.fn.draft (joinings (taken_of l.from) l.count (l.count - 1));
   further : IsFurther l.fn.draft l.draft;
 }
 

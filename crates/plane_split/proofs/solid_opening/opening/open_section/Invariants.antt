@@ -1,9 +1,11 @@
 use Rattle.std.proofs.Common.{◌≡◌, length, map}
 use Rattle.shapes.specs.Common.{is_hole, all_opened}
 use Rattle.split_opening_laws.specs.sections.InTurn.{CanBeOpenedInTurn}
+use Rattle.split_laws.specs.SplitOps.{openings_ops}
+use Rattle.split_sections.specs.section_checks.Sections.{cycles_of}
 use Rattle.split_sections.specs.section_cycles.Halves.{halves_of}
-use Rattle.plane_split.specs.solid_opening.Capped.{opening_of, opened_section}
-use Rattle.undo_journal.specs.Journal.{IsFurther}
+use Rattle.plane_split.specs.solid_opening.Capped.{opening_of, unopened, opened_section}
+use Rattle.undo_journal.specs.Journal.{after_steps, IsFurther}
 use Rattle.plane_split.proofs.solid_opening.opening.open_section.Given as goal
 
 abbrev pub invariant-cycles : goal.invariant-cycles
@@ -11,6 +13,8 @@ invariant-cycles l = record {
   opens : CanBeOpenedInTurn l.section.above.items l.s (opening_of l.draft.model l.taken l.caps.items) (map halves_of l.rest);
   holes : map (λ q. q.hole) l.rest ≡ map (is_hole l.draft.model l.plane) (map halves_of l.rest);
   made : all_opened l.plane l.section.above.items l.s (opening_of l.draft.model l.taken l.caps.items) (map halves_of l.rest) ≡ opened_section l.fn.draft.model l.fn.from l.s l.plane l.section;
+  steps : after_steps l.draft (openings_ops l.section.above.items l.s l.plane (opening_of l.draft.model l.taken l.caps.items) (map halves_of l.rest))
+      ≡ after_steps l.fn.draft (openings_ops l.section.above.items l.s l.plane (unopened l.fn.draft.model l.fn.from) (cycles_of l.section));
   further : IsFurther l.fn.draft l.draft;
 }
 

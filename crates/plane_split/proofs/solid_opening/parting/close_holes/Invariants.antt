@@ -1,14 +1,14 @@
 use Rattle.std.proofs.Common.{◌≡◌, length}
-use Rattle.euler_laws.specs.Laws.{AreAccepted, effects}
+use Rattle.euler_laws.specs.Laws.{AreAccepted}
 use Rattle.plane_split.specs.solid_opening.Capped.{caps_of}
 use Rattle.plane_split.specs.solid_opening.Closing.{holes_ops}
-use Rattle.undo_journal.specs.Journal.{IsFurther}
+use Rattle.undo_journal.specs.Journal.{after_steps, IsFurther}
 use Rattle.plane_split.proofs.solid_opening.parting.close_holes.Given as goal
 
 abbrev pub invariant-caps : goal.invariant-caps
 invariant-caps l = record {
   accepted : AreAccepted l.draft.model (holes_ops (caps_of l.outer) l.rest);
-  made : effects l.draft.model (holes_ops (caps_of l.outer) l.rest) ≡ effects l.fn.draft.model (holes_ops (caps_of l.outer) l.caps);
+  steps : after_steps l.draft (holes_ops (caps_of l.outer) l.rest) ≡ after_steps l.fn.draft (holes_ops (caps_of l.outer) l.caps);
   further : IsFurther l.fn.draft l.draft;
 }
 

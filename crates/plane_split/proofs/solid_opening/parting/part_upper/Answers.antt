@@ -1,9 +1,10 @@
 use Rattle.std.proofs.Common.{◌∙◌, ◌++◌, ap}
 use Rattle.std.proofs.lemmas.Result.{on_ok_weaker}
-use Rattle.undo_journal.specs.Journal.{DraftJournal}
+use Rattle.undo_journal.specs.Journal.{after_steps}
+use Rattle.undo_journal.proofs.Marks.{step_after, steps_make}
 use Rattle.plane_split.specs.solid_opening.Closing.{outer_uppers}
-use Rattle.euler_laws.proofs.Common.{next_goes, next_taken, all_taken}
-use Rattle.plane_split.proofs.solid_opening_laws.Closed.{closings_go, part_left}
+use Rattle.euler_laws.proofs.Common.{next_goes}
+use Rattle.plane_split.proofs.solid_opening_laws.Closed.{closings_go, part_left, upper_ops_are}
 use Rattle.plane_split.proofs.solid_opening.parting.part_upper.Goals as goal
 
 pub close_holes-requires : goal.close_holes-requires
@@ -12,10 +13,11 @@ close_holes-requires c = closings_go c.args.draft.now.model c.args.s c.args.uppe
 pub step_accepted-requires : goal.step_accepted-requires
 step_accepted-requires c =
     let faces = c.in_ok-push_outer.ensures ∙ ap (λ fs. fs ++ outer_uppers c.args.caps.now) c.in_ok-faces.ensures in
-    next_goes (part_left c.args.draft.now.model c.args.s c.args.upper c.args.above.now c.args.caps.now c.outer_caps.result c.outer_caps.ensures c.requires c.close_holes.new.draft.model c.in_ok-close_holes.ensures.model c.push_outer.new.list faces)
+    next_goes (part_left c.args.draft.now.model c.args.s c.args.upper c.args.above.now c.args.caps.now c.outer_caps.result c.outer_caps.ensures c.requires c.close_holes.new.draft.model (steps_make _ _ _ c.in_ok-close_holes.ensures.steps) c.push_outer.new.list faces)
 
-pub returns-clause-model : goal.returns-clause-model
-returns-clause-model c =
+pub returns-clause-steps : goal.returns-clause-steps
+returns-clause-steps c =
     let faces = c.in_ok-push_outer.ensures ∙ ap (λ fs. fs ++ outer_uppers c.args.caps.now) c.in_ok-faces.ensures in
-    let one = part_left c.args.draft.now.model c.args.s c.args.upper c.args.above.now c.args.caps.now c.outer_caps.result c.outer_caps.ensures c.requires c.close_holes.new.draft.model c.in_ok-close_holes.ensures.model c.push_outer.new.list faces in
-    on_ok_weaker c.step_accepted.result (λ step. all_taken (next_taken one (ap (λ (d : DraftJournal). d.model) step))) c.step_accepted.ensures.ok
+    on_ok_weaker c.step_accepted.result (λ step.
+    step_after _ _ _ _ _ c.in_ok-close_holes.ensures.steps step
+    ∙ ap (after_steps c.args.draft.now) (upper_ops_are c.args.s c.args.upper c.args.above.now c.args.caps.now c.outer_caps.result c.outer_caps.ensures c.push_outer.new.list faces)) c.step_accepted.ensures.ok
