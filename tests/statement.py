@@ -33,12 +33,13 @@ LARGER = ('shapes.specs.Lamina.lamina_conditions', 'shapes.specs.Lamina.lamina_m
           'shapes.specs.Prism.prism_conditions', 'shapes.specs.Prism.prism_model', 'shapes.specs.glue.Glue.early_glue_conditions',
           'shapes.specs.glue.Glue.glue_conditions', 'shapes.specs.glue.Glue.glue_model', 'shapes.specs.split.Split.early_split_conditions',
           'shapes.specs.split.Split.split_conditions', 'shapes.specs.split.Split.split_model', 'sweeps_laws.specs.lamina.Path.lamina_operators',
-          'sweeps_laws.specs.block.BlockOps.block_operators', 'sweeps_laws.specs.prism.SweepOps.sweep_ops', 'shapes.specs.glue.GlueOps.glue_ops')
+          'sweeps_laws.specs.block.BlockOps.block_operators', 'sweeps_laws.specs.prism.SweepOps.sweep_ops', 'shapes.specs.glue.GlueOps.glue_ops',
+          'split_laws.specs.SplitOps.split_ops')
 SHARED = frozenset(f'Rattle.{name}' for name in LARGER)
 SHARED_PAGE = 'larger_commands.md'
 SHARED_TITLE = 'Larger commands'
 SHARED_TEXT = """When a lamina, a block, a sweep, a glue and a split are refused, by which of these conditions before memory is asked for, what models they make, and
-by which operators (of a split these aren't told): the definitions that the contracts of `make_all` and `run` take by name."""
+by which operators: the definitions that the contracts of `make_all` and `run` take by name."""
 WIDTH = 150
 # What the standard library says of bytes that are read and written, and the words of it that contracts of runs use.
 KNOWN_BYTES = 'rattle/std/specs/Io/KnownBytes.antt'

@@ -25,7 +25,7 @@ same : (s : Journal) (h g : Stage) → h ≡ g → journal_of g ≡ s → AddsOn
 same s h g is x = inl (ap journal_of is ∙ x)
 
 done_adds : (g h : Stage) (c : Call) → IsOnward c → Tells g c Done h → AddsOne (journal_of g) (journal_of h)
-done_adds (Session s) h (Give (Change c)) on x = subst (λ (k : Stage). AddsOne s (journal_of k)) (sym x.1) (inr (made (held s.machine) c, x.2.1.0, x.2.1.1.0))
+done_adds (Session s) h (Give (Change c)) on x = subst (λ (k : Stage). AddsOne s (journal_of k)) (sym x.1) (inr (made (held s.machine) c, x.2.1.0, record { command = _; appended = x.2.1.1 }))
 done_adds (Session s) h (Give (Ask q)) on x = same s h (Session x.0) x.1 x.2.1
 done_adds (Session s) h (Give Undo) on x = absurd on
 done_adds (Session s) h (Give Redo) on x = absurd on

@@ -3,3 +3,4 @@ pub mod Kept
 pub mod Calls
 mod Knowing
 mod Steps
+mod SplitSteps

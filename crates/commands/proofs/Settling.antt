@@ -2,8 +2,7 @@
 use Rattle.std.proofs.Common.{◌≡◌, inl, inr, Option, Some, None, Ok, Err, refl, sym, subst, ◌∙◌, OnOk, OnErr, ◌≢◌, ◌⊎◌, ◌↔◌, Result}
 use Rattle.std.specs.declared.alloc.AllocError.{AllocError}
 use Rattle.euler_operators.specs.Common.{verdict}
-use Rattle.undo_journal.specs.declared.record.Record.{Record}
-use Rattle.commands.specs.Common.{Done, Failure, IsRecorded, Journal, Memory, Refusal, Refused, Told, recorded}
+use Rattle.commands.specs.Common.{Done, Failure, Memory, Refusal, Refused, Told}
 use Rattle.undo_journal.specs.declared.session.Failure.TheVariants as failure
 use Rattle.commands.specs.Telling.{Settled, told_of, told_of_move}
 
@@ -32,10 +31,6 @@ goes o S G a is h = elim (ended o ⊥ S G a h) [
   | inr (inl r) ↦ absurd (cc (sym r.2 ∙ is))
   | inr (inr m) ↦ absurd (subst (Settled o ⊥ S G) m.0 h).0
 ]
-
--- a change that leaves this record leaves one
-pub leaves_one : (s t : Journal) (r : Record) → t.records ≡ recorded s r → IsRecorded s t × (t.records ≡ recorded s r)
-leaves_one s t r is = (record { command = r; appended = is }, is)
 
 -- a change that ended so is settled, where its refusal is named, and memory lacks only where L says so
 pub settled : (o : Option Refusal) (L S G N : Type 0) (r : Result (Unit {0}) Failure) → OnOk r ((o ≡ None) × G) → OnOk r N → ((q : Refusal) → r ≡ Err (failure.Refused q) → o ≡ Some q)

@@ -1,7 +1,7 @@
 -- How a call of a session, or of a draft of its next command, is answered, and to what it leads.
-use Rattle.std.specs.Prelude.{◌≡◌, ◌⊎◌, ℕ, length, Option, Some, None, IfSome, Result, Ok, Err}
+use Rattle.std.specs.Prelude.{◌≡◌, ◌⊎◌, ℕ, length, Option, Some, None, Result, Ok, Err}
 use Rattle.solid_measure.specs.Measure.{answer, face_refusal, solid_refusal, plane_of, is_flat, six_volume, counts}
-use Rattle.commands.specs.Common.{Call, Change, Command, Done, DraftJournal, Drafting, Failure, InDraft, IsConsistent, IsFurther, IsMark, IsRecorded, Journal, Memory, Model, NoDraft, OpenDraft, Question, Refusal, Refused, Session, Sound, Stage, Told, accepted, after_commit, after_redo, after_steps, after_undo, ahead, back_at, depth, held, new_draft, record_of, recorded, redo_refusal, undo_refusal}
+use Rattle.commands.specs.Common.{Call, Change, Command, Done, DraftJournal, Drafting, Failure, InDraft, IsConsistent, IsFurther, IsMark, Journal, Memory, Model, NoDraft, OpenDraft, Question, Refusal, Refused, Session, Sound, Stage, Told, accepted, after_commit, after_redo, after_steps, after_undo, ahead, back_at, depth, held, new_draft, record_of, recorded, redo_refusal, undo_refusal}
 use Rattle.commands.specs.declared.command.Call.TheVariants as call
 use Rattle.commands.specs.declared.command.Command.TheVariants as command
 use Rattle.undo_journal.specs.declared.session.Failure.TheVariants as failure
@@ -40,13 +40,13 @@ Settled o Lacks Stays Goes (Refused r) = (o ≡ Some r) × Stays
 Settled o Lacks Stays Goes Memory = Lacks × Stays
 Settled o Lacks Stays Goes a = ⊥
 
--- an accepted change leaves one record: that of its operators, where they are told
+-- an accepted change leaves one record: that of its operators
 abbrev pub LeavesRecord : Journal → Change → Journal → Type 0
-LeavesRecord s c t = IsRecorded s t × IfSome (operators_of (held s.machine) c) (λ ops. t.records ≡ recorded s (record_of (held s.machine) ops))
+LeavesRecord s c t = t.records ≡ recorded s (record_of (held s.machine) (operators_of (held s.machine) c))
 
--- in a draft it takes further steps: its operators, where they are told
+-- in a draft it takes further steps: its operators
 abbrev pub TakesSteps : DraftJournal → Change → DraftJournal → Type 0
-TakesSteps d c e = IsFurther d e × IfSome (operators_of d.model c) (λ ops. e ≡ after_steps d ops)
+TakesSteps d c e = IsFurther d e × (e ≡ after_steps d (operators_of d.model c))
 
 -- a session may give this answer to a command and become t; a command that isn't done leaves the session as it was, with its records
 abbrev pub TellsSession : Journal → Command → Told → Journal → Type 0

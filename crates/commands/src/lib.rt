@@ -12,9 +12,9 @@
 //! model, if nothing refuses the change; they name its first false condition; or they answer that memory was refused, which happens only
 //! if the conditions hold that are tested before memory is asked for (`MayLack`). On any failure session and draft are as they were, with
 //! their records and steps. `make`: one relation, `Tells`, says how a call on a session or a draft is answered, and to which session or
-//! draft it leads; each session and draft on the way is whole. It says which operators an accepted lamina, block, sweep or glue takes as
-//! steps, and leaves in its record; `larger_commands_take_steps` says how many they are. `commands_are_calls`: a command to a session is
-//! one call of a history.
+//! draft it leads; each session and draft on the way is whole. It says which operators an accepted change takes as steps, and leaves in its
+//! record (`operators_of`); `larger_commands_take_steps` says how many a larger command takes. `commands_are_calls`: a command to a session
+//! is one call of a history.
 
 mod asking;
 mod changing;

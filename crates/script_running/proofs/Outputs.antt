@@ -1,9 +1,7 @@
 -- Lines that are answered without `memory` are answered by their output.
-use Rattle.std.proofs.Common.{◌≡◌, inl, inr, ℕ, Bool, true, false, List, [], ◌∷◌, ◌++◌, refl, sym, ap, subst, ◌∙◌, arith, Option, Some, None, Ok, Err, ◌⊎◌, Result, if◌then◌else◌, append-nil, unwrap_or, IfSome}
+use Rattle.std.proofs.Common.{◌≡◌, inl, inr, ℕ, Bool, true, false, List, [], ◌∷◌, ◌++◌, refl, sym, ap, subst, ◌∙◌, arith, Option, Some, None, Ok, Err, ◌⊎◌, Result, if◌then◌else◌, append-nil}
 use Rattle.std.proofs.lemmas.Bool.{false≢true}
-use Rattle.script_running.specs.Common.{Answer, Ask, Change, Command, Fault, IsRecorded, Journal, LeavesRecord, Machine, Model, Question, Redo, Refusal, Says, Request, Settled, Summary, TellsSession, Told, Undo, accepted, after_redo, after_undo, asked, over, request_of, held, made, operators_of, record_of, recorded, value_or_refusal}
-use Rattle.euler_operators.specs.declared.Op.{Op}
-use Rattle.undo_journal.specs.declared.record.Record.{Record}
+use Rattle.script_running.specs.Common.{Answer, Ask, Change, Command, Fault, Journal, LeavesRecord, Machine, Model, Question, Redo, Refusal, Says, Request, Settled, Summary, TellsSession, Told, Undo, accepted, after_redo, after_undo, asked, over, request_of, held, made, operators_of, record_of, recorded, value_or_refusal}
 use Rattle.undo_journal.proofs.Journals.{same_machine}
 use Rattle.commands.specs.declared.command.Question.TheVariants as question
 use Rattle.commands.specs.declared.command.Told.TheVariants as told
@@ -74,18 +72,10 @@ settled_to : (o : Option Refusal) (L : Type 0) (s u : Journal) (G : Journal → 
 settled_to None L s u G g = (u, (told.Done, refl, (refl, g)), refl, refl)
 settled_to (Some r) L s u G g = (s, (told.Refused r, refl, (refl, refl)), refl, refl)
 
--- the record of some operators, or of none
-abbrev of_some : Model → Option (List Op) → Record
-of_some M o = record_of M (unwrap_or o [])
-
-leaves_to : (s : Journal) (t : Machine) (M : Model) (o : Option (List Op)) → let r = of_some M o in IsRecorded s (record { machine = t; records = recorded s r }) × IfSome o (λ ops. recorded s r ≡ recorded s (record_of M ops))
-leaves_to s t M None = (record { command = of_some M None; appended = refl }, tt)
-leaves_to s t M (Some ops) = (record { command = record_of M ops; appended = refl }, refl)
-
 gives_to : (s : Journal) (c : Command) → LeadsOn (Gives s c) (given s.machine c)
 gives_to s (Change c) =
     let M = held s.machine in let next = accepted s.machine (made M c) in
-    settled_to _ _ s (record { machine = next; records = recorded s (of_some M (operators_of M c)) }) (λ (t : Journal). (t.machine ≡ next) × LeavesRecord s c t) (refl, leaves_to s next M (operators_of M c))
+    settled_to _ _ s (record { machine = next; records = recorded s (record_of M (operators_of M c)) }) (λ (t : Journal). (t.machine ≡ next) × LeavesRecord s c t) (refl, refl)
 gives_to s (Ask q) = (s, (asked (held s.machine) q, refl, (refl, refl)), refl, asked_quiet (held s.machine) q)
 gives_to s Undo = settled_to _ _ s (after_undo s) (λ (t : Journal). t ≡ after_undo s) refl
 gives_to s Redo = settled_to _ _ s (after_redo s) (λ (t : Journal). t ≡ after_redo s) refl

@@ -33,5 +33,5 @@ unfoldable pub use Rattle.solid_listing.specs.Listing.{listing}
 unfoldable pub use Rattle.solid_listing.specs.Replies.{reply_text}
 pub use Rattle.solid_listing.specs.Writing.{Gathers, Outgoing, Puts, Stops, Tells, outgoing}
 pub use Rattle.undo_journal.specs.Histories.{Call, IsConsistent, after_call, after_calls, reached}
-pub use Rattle.undo_journal.specs.Journal.{IsRecorded, Journal, after_redo, after_undo, new_journal, record_of, recorded}
+pub use Rattle.undo_journal.specs.Journal.{Journal, after_redo, after_undo, new_journal, record_of, recorded}
 pub use Rattle.undo_journal.specs.Machine.{Machine, accepted, held, redo, redo_refusal, start, undo, undo_refusal}

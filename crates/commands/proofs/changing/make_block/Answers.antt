@@ -1,15 +1,14 @@
 use Rattle.std.proofs.Common.{w64}
 use Rattle.std.proofs.lemmas.Int.{to_z-of_z}
-use Rattle.std.proofs.lemmas.Result.{on_ok_weaker}
 use Rattle.sweeps.proofs.BlockSteps.{at_sizes}
 use Rattle.commands.specs.declared.command.Change.TheVariants as change
 use Rattle.commands.specs.declared.command.Command.TheVariants as command
 use Rattle.commands.specs.Telling.{TellsSession, told_of}
-use Rattle.commands.proofs.Settling.{leaves_one, settled_exactly}
+use Rattle.commands.proofs.Settling.{settled_exactly}
 use Rattle.commands.proofs.changing.make_block.Goals as goal
 
 pub returns : goal.returns
 returns c =
     at_sizes (λ x y z. TellsSession c.args.session (command.Change (change.Block c.args.solid c.args.corner x y z)) (told_of c.block.result.1) c.block.result.0)
     _ _ _ _ _ _ (to_z-of_z w64 c.args.dx c.ranges.dx) (to_z-of_z w64 c.args.dy c.ranges.dy) (to_z-of_z w64 c.args.dz c.ranges.dz)
-    (settled_exactly _ _ _ _ c.block.result.1 c.block.ensures.ok (on_ok_weaker c.block.result.1 (leaves_one _ _ _) c.block.ensures.record) c.block.ensures.refused c.block.ensures.err)
+    (settled_exactly _ _ _ _ c.block.result.1 c.block.ensures.ok c.block.ensures.record c.block.ensures.refused c.block.ensures.err)

@@ -1,6 +1,5 @@
 use Rattle.std.proofs.Common.{w64}
 use Rattle.std.proofs.lemmas.Int.{to_z-of_z}
-use Rattle.std.proofs.lemmas.Result.{on_ok_weaker}
 use Rattle.sweeps.proofs.BlockSteps.{at_coefficients}
 use Rattle.commands.specs.declared.command.Change.TheVariants as change
 use Rattle.commands.specs.declared.command.Command.TheVariants as command
@@ -12,4 +11,4 @@ pub returns : goal.returns
 returns c =
     at_coefficients (λ x y z w. TellsSession c.args.session (command.Change (change.Split c.args.solid x y z w c.args.above)) (told_of c.split.result.1) c.split.result.0)
     _ _ _ _ _ _ _ _ (to_z-of_z w64 c.args.a c.ranges.a) (to_z-of_z w64 c.args.b c.ranges.b) (to_z-of_z w64 c.args.c c.ranges.c) (to_z-of_z w64 c.args.d c.ranges.d)
-    (settled _ _ _ _ _ c.split.result.1 c.split.ensures.ok (on_ok_weaker c.split.result.1 (λ one. (one, tt)) c.split.ensures.recorded) c.split.ensures.refused c.split.ensures.memory c.split.ensures.err)
+    (settled _ _ _ _ _ c.split.result.1 c.split.ensures.ok c.split.ensures.record c.split.ensures.refused c.split.ensures.memory c.split.ensures.err)
