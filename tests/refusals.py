@@ -83,53 +83,14 @@ static inline const char *gwb_why_text(uint32_t number)
 
 def rust_text(names: Names) -> str:
     """bindings/rust/src/refusal.rs."""
-    rows = ''.join(f'    /// {condition_text(number)}\n    {name} = {number},\n' for number, name in names.items())
-    from_number = ''.join(f'            {number} => Some(Self::{name}),\n' for number, name in names.items())
-    name_of = ''.join(f'            Self::{name} => "{name}",\n' for name in names.values())
-    text_of_each = ''.join(f'            Self::{name} => "{condition_text(number)}",\n' for number, name in names.items())
+    rows = ''.join(f'    {name} = {number}: "{condition_text(number)}",\n' for number, name in names.items())
     return f"""//! The names of refusals. {MADE}
+use crate::named::named;
 
+named! {{
 /// Which condition of a command is false. In the texts X is the value that goes with it; some commands give it a meaning of their own.
-#[derive(Clone, Copy, Debug, PartialEq, Eq, Hash)]
-#[non_exhaustive]
-#[repr(u32)]
-pub enum Refusal {{
+Refusal {{
 {rows}}}
-
-impl Refusal {{
-    /// The refusal with a number, or `None` where there is none.
-    #[must_use]
-    pub const fn from_number(number: u32) -> Option<Self> {{
-        match number {{
-{from_number}            _ => None,
-        }}
-    }}
-
-    /// Its number.
-    #[must_use]
-    pub const fn number(self) -> u32 {{
-        self as u32
-    }}
-
-    /// Its name, as the documents have it.
-    #[must_use]
-    pub const fn name(self) -> &'static str {{
-        match self {{
-{name_of}        }}
-    }}
-
-    /// What it says; X stands for the value that goes with it.
-    #[must_use]
-    pub const fn text(self) -> &'static str {{
-        match self {{
-{text_of_each}        }}
-    }}
-}}
-
-impl std::fmt::Display for Refusal {{
-    fn fmt(&self, f: &mut std::fmt::Formatter<'_>) -> std::fmt::Result {{
-        f.pad(self.name())
-    }}
 }}
 """
 

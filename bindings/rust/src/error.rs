@@ -1,3 +1,4 @@
+use crate::named::named;
 use crate::Refusal;
 use std::fmt;
 
@@ -39,59 +40,38 @@ pub enum Error {
     Unknown(u32),
 }
 
+named! {
 /// Why a feature isn't possible, where it is no condition of a command. X is the value that goes with it.
-#[derive(Clone, Copy, Debug, PartialEq, Eq, Hash)]
-#[non_exhaustive]
-pub enum Misfit {
-    /// The outline has no area, or crosses itself.
-    NoArea,
-    /// Point X of the outline lies off the plane of the others, or of the face.
-    NotInPlane,
-    /// Side X of the outline crosses or touches another one.
-    OutlineCrossed,
-    /// The vector lies in the plane of the points.
-    AlongPlane,
-    /// The outline crosses or touches the boundary of face X, or doesn't lie inside.
-    OutlineOutside,
-    /// A ring of face X lies inside the outline.
-    OutlineAroundRing,
-    /// A point or a vector at face X would not be whole.
-    OffLattice,
-    /// What is made at face X would meet or touch the solid elsewhere.
-    Meets,
-    /// There is no face behind the outline in face X.
-    NoOpposite,
-    /// Face X, behind the outline, isn't parallel.
-    NotParallel,
-    /// Edge X is none of the face.
-    NotOfFace,
-    /// The faces of edge X lie in one plane.
-    FlatEdge,
-    /// Nothing of solid X would be left.
-    NothingLeft,
-    /// No face of solid X matches one of those that are joined.
-    NoMatch,
-    /// Face X matches another one besides, which it would touch after the gluing.
-    GluedTwice,
-    /// Face X doesn't lie across an axis.
-    NotAcross,
-    /// Solid X touches the others in no face.
-    NoContact,
-    /// Solid X has room in common with another one, or their union would touch itself.
-    Overlap,
-    /// The slopes of edges that end at vertex X don't meet in one point, or more than three edges end there.
-    NoCorner,
-    /// Edge X is of another solid than the first, or bends the other way.
-    NotAlike,
-    /// A side of the X-th face hasn't one side, of one face, that runs the other way.
-    NotClosed,
+Misfit {
+    NoArea = 1: "the outline has no area, or crosses itself",
+    NotInPlane = 2: "point X of the outline lies off the plane of the others, or of the face",
+    OutlineCrossed = 3: "side X of the outline crosses or touches another one",
+    AlongPlane = 4: "the vector lies in the plane of the points",
+    OutlineOutside = 5: "the outline crosses or touches the boundary of face X, or doesn't lie inside",
+    OutlineAroundRing = 6: "a ring of face X lies inside the outline",
+    OffLattice = 7: "a point or a vector at face X would not be whole",
+    Meets = 8: "what is made at face X would meet or touch the solid elsewhere",
+    NoOpposite = 9: "there is no face behind the outline in face X",
+    NotParallel = 10: "face X, behind the outline, isn't parallel",
+    NotOfFace = 11: "edge X is none of the face",
+    FlatEdge = 12: "the faces of edge X lie in one plane",
+    NothingLeft = 13: "nothing of solid X would be left",
+    NoMatch = 14: "no face of solid X matches one of those that are joined",
+    GluedTwice = 15: "face X matches another one besides, which it would touch after the gluing",
+    NotAcross = 16: "face X doesn't lie across an axis",
+    NoContact = 17: "solid X touches the others in no face",
+    Overlap = 18: "solid X has room in common with another one, or their union would touch itself",
+    NoCorner = 19: "the slopes of edges that end at vertex X don't meet in one point, or more than three edges end there",
+    NotAlike = 20: "edge X is of another solid than the first, or bends the other way",
+    NotClosed = 21: "a side of the X-th face hasn't one side, of one face, that runs the other way",
+}
 }
 
 impl fmt::Display for Error {
     fn fmt(&self, f: &mut fmt::Formatter<'_>) -> fmt::Result {
         match self {
             Self::Refused { refusal, value } => write!(f, "{refusal} {value}"),
-            Self::Impossible { misfit, value } => write!(f, "{misfit:?} {value}"),
+            Self::Impossible { misfit, value } => write!(f, "{misfit} {value}"),
             Self::Fault(number) => write!(f, "fault {number}"),
             Self::Memory => f.write_str("memory was refused"),
             Self::NoCall => f.write_str("the arguments make no command"),

@@ -237,12 +237,6 @@ mod list {
     pub const SOLIDS: u32 = 10;
 }
 
-const MISFITS: [Misfit; 21] = [
-    Misfit::NoArea, Misfit::NotInPlane, Misfit::OutlineCrossed, Misfit::AlongPlane, Misfit::OutlineOutside, Misfit::OutlineAroundRing,
-    Misfit::OffLattice, Misfit::Meets, Misfit::NoOpposite, Misfit::NotParallel, Misfit::NotOfFace, Misfit::FlatEdge, Misfit::NothingLeft,
-    Misfit::NoMatch, Misfit::GluedTwice, Misfit::NotAcross, Misfit::NoContact, Misfit::Overlap, Misfit::NoCorner, Misfit::NotAlike, Misfit::NotClosed,
-];
-
 fn rows(points: &[impl Copy + Into<Point>]) -> Vec<gwb_sys::Point> {
     points.iter().map(|&at| at.into().into()).collect()
 }
@@ -257,8 +251,8 @@ impl Operators {
             kind::OK => self.told_all(before),
             kind::REFUSED => return Err(crate::operators::named(why)),
             kind::IMPOSSIBLE => {
-                let misfit = (why.number as usize).checked_sub(1).and_then(|at| MISFITS.get(at));
-                return Err(misfit.map_or(Error::Unknown(why.number), |&misfit| Error::Impossible { misfit, value: why.value }));
+                let misfit = Misfit::from_number(why.number);
+                return Err(misfit.map_or(Error::Unknown(why.number), |misfit| Error::Impossible { misfit, value: why.value }));
             }
             other => return self.answered(other),
         }

@@ -34,6 +34,7 @@ mod exporting;
 mod features;
 mod history;
 mod ids;
+mod named;
 mod off_lattice;
 mod operators;
 mod readers;
