@@ -2,24 +2,26 @@
  * steps. Solid 0 stands for all. When a solid is first touched, what it was before is written down, if that is asked for. */
 #include "watch.h"
 #include "beside.h"
-#include "lists.h"
+#include "history.h"
 #include "walks.h"
 
 struct watch {
-    struct list touched;    /* of uint32_t: solids */
-    struct list commands;   /* of size_t: of each where its solids begin */
-    size_t held;            /* how many commands are: those after them are undone */
-    size_t undone_before;   /* how many are undone that were given before any was watched */
-    size_t draft;           /* where the solids of the draft's steps begin */
-    size_t call;            /* and those of the call that is being made */
+    struct list touched;       /* of uint32_t: solids */
+    struct list commands;      /* of size_t: of each where its solids begin */
+    size_t held;               /* how many commands are: those after them are undone */
+    size_t undone_before;      /* how many are undone that were given before any was watched */
+    size_t draft;              /* where the solids of the draft's steps begin */
+    size_t call;               /* and those of the call that is being made */
     bool is_drafting;
-    bool is_asked;          /* whether what solids were before is asked for: */
-    bool are_all;           /* whether all were touched, also those that were made */
-    struct list solids;     /* of uint32_t: those that were touched, rising */
-    struct list half_edges; /* of gwb_half_edge_row: theirs */
-    struct list vertices;   /* of gwb_vertex_row: at which those start */
-    struct list faces;      /* of uint32_t */
+    bool is_asked;             /* whether what solids were before is asked for: */
+    bool are_all;              /* whether all were touched, also those that were made */
+    struct list solids;        /* of uint32_t: those that were touched, rising */
+    struct solids before;      /* what they were */
+    struct list changes[2][2]; /* of gwb_change: what was found of them (history.h) */
 };
+
+#define NO_SOLIDS {{.size = sizeof(gwb_half_edge_row)}, {.size = sizeof(gwb_vertex_row)}, {.size = sizeof(uint32_t)}}
+#define NO_CHANGES {.size = sizeof(gwb_change)}
 
 struct watch *watch_new(bool is_drafting)
 {
@@ -28,22 +30,29 @@ struct watch *watch_new(bool is_drafting)
     if (!block.ok)
         return NULL;
     struct watch *w = block.at;
-    *w = (struct watch){.touched.size = sizeof(uint32_t), .commands.size = sizeof(size_t), .solids.size = sizeof(uint32_t),
-                        .half_edges.size = sizeof(gwb_half_edge_row), .vertices.size = sizeof(gwb_vertex_row), .faces.size = sizeof(uint32_t),
-                        .is_drafting = is_drafting};
+    *w = (struct watch){.touched.size = sizeof(uint32_t), .commands.size = sizeof(size_t), .solids.size = sizeof(uint32_t), .before = NO_SOLIDS,
+                        .changes = {{NO_CHANGES, NO_CHANGES}, {NO_CHANGES, NO_CHANGES}}, .is_drafting = is_drafting};
     if (!is_drafting || (list_add(&w->touched, &all) && watch_reserve_draft(w)))
         return w;
     watch_free(w);
     return NULL;
 }
 
+static void free_solids(struct solids *solids)
+{
+    list_free(&solids->half_edges);
+    list_free(&solids->vertices);
+    list_free(&solids->faces);
+}
+
 void watch_free(struct watch *w)
 {
     if (w == NULL)
         return;
-    struct list *lists[] = {&w->touched, &w->commands, &w->solids, &w->half_edges, &w->vertices, &w->faces};
+    struct list *lists[] = {&w->touched, &w->commands, &w->solids, &w->changes[0][0], &w->changes[0][1], &w->changes[1][0], &w->changes[1][1]};
     for (size_t i = 0; i < sizeof lists / sizeof *lists; i++)
         list_free(lists[i]);
+    free_solids(&w->before);
     rattle_dealloc(w);
 }
 
@@ -63,40 +72,48 @@ static size_t place_of(const struct watch *w, uint32_t solid)
     return least;
 }
 
-static bool write_faces(struct watch *w, const gwb *g, uint32_t solid)
+static bool write_faces(struct solids *to, const gwb *g, uint32_t solid)
 {
     for (uint32_t face = 0; gwb_face_after(g, solid, face, &face) == GWB_FOUND;)
-        if (!list_add(&w->faces, &face))
+        if (!list_add(&to->faces, &face))
             return false;
     return true;
 }
 
-static bool write_half_edges(struct watch *w, const gwb *g, uint32_t solid)
+static bool write_half_edges(struct solids *to, const gwb *g, uint32_t solid)
 {
-    const size_t count = gwb_read_half_edges(g, solid, w->half_edges.items, 0), first = w->half_edges.count;
-    if (!list_reserve(&w->half_edges, first + count) || !list_reserve(&w->vertices, w->vertices.count + count))
+    const size_t first = to->half_edges.count, count = gwb_read_half_edges(g, solid, to->half_edges.items, 0);
+    if (!list_reserve(&to->half_edges, first + count) || !list_reserve(&to->vertices, first + count))
         return false;
-    gwb_half_edge_row *rows = (gwb_half_edge_row *)w->half_edges.items + first;
+    gwb_half_edge_row *rows = (gwb_half_edge_row *)to->half_edges.items + first;
     gwb_read_half_edges(g, solid, rows, count);
-    w->half_edges.count += count;
+    to->half_edges.count += count;
     for (size_t i = 0; i < count; i++) {
         gwb_vertex_row row = {rows[i].start, {0, 0, 0}};
         gwb_vertex(g, row.vertex, &row.point);
-        list_add(&w->vertices, &row);
+        list_add(&to->vertices, &row);
     }
     return true;
+}
+
+/* Writes down what a solid is: nothing where memory is refused. */
+static bool write_rows(struct solids *to, const gwb *g, uint32_t solid)
+{
+    const size_t half_edges = to->half_edges.count, faces = to->faces.count;
+    if (write_faces(to, g, solid) && write_half_edges(to, g, solid))
+        return true;
+    to->half_edges.count = to->vertices.count = half_edges, to->faces.count = faces;
+    return false;
 }
 
 /* Writes down what a solid is, if that is asked for and it isn't written down yet. Where all were, it has been made since. */
 static bool write_solid(struct watch *w, const gwb *g, uint32_t solid)
 {
-    const size_t place = w->is_asked ? place_of(w, solid) : 0, half_edges = w->half_edges.count, vertices = w->vertices.count, faces = w->faces.count;
+    const size_t place = w->is_asked ? place_of(w, solid) : 0;
     if (!w->is_asked || w->are_all || (place < w->solids.count && ((uint32_t *)w->solids.items)[place] == solid))
         return true;
-    if (!list_reserve(&w->solids, w->solids.count + 1) || !write_faces(w, g, solid) || !write_half_edges(w, g, solid)) {
-        w->half_edges.count = half_edges, w->vertices.count = vertices, w->faces.count = faces;
+    if (!list_reserve(&w->solids, w->solids.count + 1) || !write_rows(&w->before, g, solid))
         return false;
-    }
     uint32_t *at = (uint32_t *)w->solids.items + place;
     memmove(at + 1, at, (w->solids.count++ - place) * sizeof *at);
     *at = solid;
@@ -226,6 +243,12 @@ void watch_redo(struct watch *w) { w->undone_before > 0 ? w->undone_before-- : w
 
 /* ---- what is asked of it */
 
+static void forget_changes(struct watch *w)
+{
+    for (size_t of = OF_FACES; of <= OF_EDGES; of++)
+        w->changes[of][MADE].count = w->changes[of][REMOVED].count = 0;
+}
+
 enum gwb_kind gwb_watch(gwb *g, bool is_asked)
 {
     if (!gwb_is_open(g))
@@ -242,24 +265,10 @@ enum gwb_kind gwb_watch(gwb *g, bool is_asked)
     struct watch *w = of->watch;
     w->is_asked = is_asked;
     w->are_all = false;
-    w->solids.count = w->half_edges.count = w->vertices.count = w->faces.count = 0;
+    w->solids.count = w->before.half_edges.count = w->before.vertices.count = w->before.faces.count = 0;
+    forget_changes(w);
     return GWB_OK;
 }
-
-/* Writes a list as far as there is room. */
-static size_t written(const gwb *g, const struct list *(*list_of)(const struct watch *w), void *to, size_t room)
-{
-    const struct watch *w = gwb_is_open(g) ? beside_of(g)->watch : NULL;
-    const struct list *list = w != NULL ? list_of(w) : NULL;
-    const size_t count = list != NULL ? list->count : 0, fit = count < room ? count : room;
-    if (fit > 0)
-        memcpy(to, list->items, fit * list->size);
-    return count;
-}
-
-static const struct list *the_half_edges(const struct watch *w) { return &w->half_edges; }
-static const struct list *the_vertices(const struct watch *w) { return &w->vertices; }
-static const struct list *the_faces(const struct watch *w) { return &w->faces; }
 
 /* The least solid above one that was touched, or is there where all were: 0 where there is none. */
 static uint32_t touched_after(const gwb *g, const struct watch *w, uint32_t solid)
@@ -272,15 +281,43 @@ static uint32_t touched_after(const gwb *g, const struct watch *w, uint32_t soli
     return found == 0 || (touched != 0 && touched < found) ? touched : found;
 }
 
-size_t gwb_watched_solids(const gwb *g, uint32_t *solids, size_t room)
+/* Compares what was touched with what it is now. */
+static bool compare(struct watch *w, const gwb *g)
+{
+    struct solids after = NO_SOLIDS;
+    bool is_well = true;
+    forget_changes(w);
+    for (uint32_t solid = 0; is_well && (solid = touched_after(g, w, solid)) != 0;)
+        is_well = write_rows(&after, g, solid);
+    is_well = is_well && history_find(&w->before, &after, w->changes);
+    free_solids(&after);
+    if (!is_well)
+        forget_changes(w);
+    return is_well;
+}
+
+enum gwb_kind gwb_compare(gwb *g)
+{
+    if (!gwb_is_open(g))
+        return GWB_CLOSED;
+    const struct beside *of = beside_of(g);
+    if (of->watch == NULL)
+        return GWB_OK;
+    struct used before = gwb_used;
+    gwb_used = (struct used){of->heap, of->pages};
+    const bool is_well = compare(of->watch, g);
+    gwb_used = before;
+    return is_well ? GWB_OK : GWB_MEMORY;
+}
+
+size_t gwb_compared(const gwb *g, uint32_t entity, bool is_made, gwb_change *rows, size_t room)
 {
     const struct watch *w = gwb_is_open(g) ? beside_of(g)->watch : NULL;
-    size_t count = 0;
-    for (uint32_t solid = 0; w != NULL && (solid = touched_after(g, w, solid)) != 0; count++)
-        if (count < room)
-            solids[count] = solid;
-    return count;
+    if (w == NULL || (entity != GWB_FACE && entity != GWB_EDGE))
+        return 0;
+    const struct list *list = &w->changes[entity == GWB_FACE ? OF_FACES : OF_EDGES][is_made ? MADE : REMOVED];
+    const size_t fit = list->count < room ? list->count : room;
+    if (fit > 0)
+        memcpy(rows, list->items, fit * list->size);
+    return list->count;
 }
-size_t gwb_watched_half_edges(const gwb *g, gwb_half_edge_row *rows, size_t room) { return written(g, the_half_edges, rows, room); }
-size_t gwb_watched_vertices(const gwb *g, gwb_vertex_row *rows, size_t room) { return written(g, the_vertices, rows, room); }
-size_t gwb_watched_faces(const gwb *g, uint32_t *faces, size_t room) { return written(g, the_faces, faces, room); }

@@ -23,8 +23,8 @@ CRATES = ('gwb_c', 'session_slots')
 # Calls that hand on to no export of their own: they are of what lies beside the kernel, or put together of other calls.
 BESIDE = {'gwb_succeeded', 'gwb_kind_text', 'gwb_is_open', 'gwb_use_heap', 'gwb_open_in', 'gwb_last_block', 'gwb_last_lamina', 'gwb_plus', 'gwb_minus',
           'gwb_lone', 'gwb_read_half_edges', 'gwb_read_vertices', 'gwb_read_triangles', 'gwb_face_triangles', 'gwb_load', 'gwb_lines', 'gwb_changes',
-          'gwb_record', 'gwb_recorded', 'gwb_script', 'gwb_watch', 'gwb_watched_solids', 'gwb_watched_half_edges', 'gwb_watched_vertices',
-          'gwb_watched_faces', 'gwb_stop_by', 'gwb_greatest_number'}
+          'gwb_record', 'gwb_recorded', 'gwb_script', 'gwb_watch', 'gwb_compare', 'gwb_compared',
+          'gwb_stop_by', 'gwb_greatest_number'}
 # C's name of each struct, and the names by which C and the crate call the same argument or field where they differ.
 STRUCTS = {'Refused': 'gwb_refusal', 'Counts': 'gwb_counts', 'Wide': 'gwb_wide', 'PlaneRow': 'gwb_plane', 'HalfEdgeRow': 'gwb_half_edge_row',
            'FaceRow': 'gwb_face_row', 'EdgeRow': 'gwb_edge_row', 'Place': 'gwb_point', 'Range': 'gwb_range'}
@@ -184,7 +184,7 @@ def complaints(text: str, folder: Path) -> List[str]:
     """What the stubs tell that is wrong."""
     (folder / 'stubs.h').write_text(text)
     program = str(folder / 'tried')
-    sources = [TOP / 'tests' / 'handed_on.c', *(BINDINGS / name for name in ('calls.c', 'record.c', 'watch.c', 'bulk.c', 'heap.c'))]
+    sources = [TOP / 'tests' / 'handed_on.c', *(BINDINGS / name for name in ('calls.c', 'record.c', 'watch.c', 'history.c', 'bulk.c', 'heap.c'))]
     build = ['cc', '-std=c11', '-O1', '-Werror=incompatible-pointer-types', '-DGWB_BLOCKS_ALONE', '-o', program,
              *(f'-I{at}' for at in (folder, BINDINGS, BINDINGS / 'include')), *map(str, sources)]
     for words in (build, [program]):

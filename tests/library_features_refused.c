@@ -151,6 +151,15 @@ static enum gwb_kind advice(gwb *g)
     return kind;
 }
 
+/* What was watched compared: nothing is told of it where memory is refused. */
+static enum gwb_kind compare(gwb *g)
+{
+    const enum gwb_kind kind = gwb_compare(g);
+    gwb_change none;
+    const bool is_told = gwb_compared(g, GWB_FACE, true, &none, 0) + gwb_compared(g, GWB_EDGE, true, &none, 0) != 0;
+    return kind == GWB_MEMORY && is_told ? GWB_NO_CALL : kind;
+}
+
 static const struct feature {
     const char *name;
     enum gwb_kind (*make)(gwb *g);
@@ -160,7 +169,8 @@ static const struct feature {
                  {"polyhedron", polyhedron},
                  {"scale", scale},       {"split", split}, {"advice", advice},     {"image", image},     {"glue_all", glue_all},
                  {"drill", drill},       {"find_faces", find_faces}, {"find_edges", find_edges}, {"cut", cut},         {"trim", trim},
-                 {"trim by split", trim_by_split}, {"union", unite}, {"renumber", renumber}, {"undo", undo}, {"redo", redo}, {"line", line}};
+                 {"trim by split", trim_by_split}, {"union", unite}, {"renumber", renumber}, {"undo", undo}, {"redo", redo}, {"line", line},
+                 {"compare", compare}};
 
 /* ---- what must be as it was */
 

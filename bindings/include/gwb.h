@@ -690,14 +690,23 @@ size_t gwb_script(const gwb *g, size_t first, size_t n, char *buf, size_t room);
  * @return GWB_OK; GWB_MEMORY; GWB_CLOSED. But for GWB_OK nothing has changed. */
 enum gwb_kind gwb_watch(gwb *g, bool is_asked);
 
-/** Writes the numbers of the solids that were touched, rising, as far as there is room: some may be new since, and some be gone. Of a closed handle none.
- * A reader.
+/** A face or an edge that is new or gone, and the one that it was split from, or joined to: 0 where there is none. */
+typedef struct gwb_change {
+    uint32_t number, other;
+} gwb_change;
+
+/** Compares the solids that were touched since gwb_watch asked, as they were, with what they are, for gwb_compared. It takes about as long as reading both.
+ * @return GWB_OK; GWB_MEMORY, and then there are no changes; GWB_CLOSED */
+enum gwb_kind gwb_compare(gwb *g);
+
+/** Writes what was found by that, rising, as far as there is room: the faces (GWB_FACE) or edges (GWB_EDGE) that were made, or those that are gone. Of a closed
+ * handle none. A reader.
+ *
+ * A new face was split from the one that had a half-edge of it, or else an edge along one of its own from the same vertex, if it lies in that face's plane
+ * and looks the same way. A new edge was split from the one that ran along it from the same vertex. A face that is gone was joined to the one that has a
+ * half-edge of it, and an edge to the one that runs along it.
  * @return how many there are */
-size_t gwb_watched_solids(const gwb *g, uint32_t *solids, size_t room);
-/** The half-edges that they had, alike, those of one solid as gwb_read_half_edges has them; where these start, one row each; and their faces. */
-size_t gwb_watched_half_edges(const gwb *g, gwb_half_edge_row *rows, size_t room);
-size_t gwb_watched_vertices(const gwb *g, gwb_vertex_row *rows, size_t room);
-size_t gwb_watched_faces(const gwb *g, uint32_t *faces, size_t room);
+size_t gwb_compared(const gwb *g, uint32_t entity, bool is_made, gwb_change *rows, size_t room);
 
 /** Whether work is to end. It is asked often while it is done, by the thread that does it, and gives no call for that handle. */
 typedef bool (*gwb_stop)(void *user) GWB_NOEXCEPT;

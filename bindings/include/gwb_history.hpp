@@ -8,7 +8,7 @@
 ///     follow_undo(bench, colours);
 ///
 /// After the split both parts of face 2 are red, and after the undo the whole of it is. All is found by comparing the solids that the commands touched,
-/// as they were before, with what they are after (gwb_watch), so a `follow` costs as much as reading these, whatever else there is.
+/// as they were before, with what they are after (gwb_compare), so a `follow` costs as much as reading these, whatever else there is.
 #ifndef GWB_HISTORY_HPP
 #define GWB_HISTORY_HPP
 #include "gwb.hpp"
@@ -54,239 +54,43 @@ struct Changes {
 /// What comes is watched until the end of the scope (gwb_watch).
 class Watching {
 public:
-    explicit Watching(gwb *g) : g_(g), began_(gwb_changes(g)), from_(gwb_depth(g))
+    explicit Watching(gwb *g) : g_(g), began_(gwb_changes(g)), from_(gwb_depth(g)) { require(gwb_watch(g, true)); }
+    Watching(const Watching &) = delete;
+    Watching &operator=(const Watching &) = delete;
+    ~Watching() { (void)gwb_watch(g_, false); }
+
+    /// What happened since.
+    [[nodiscard]] Changes changes(Turn turn) const
     {
-        if (gwb_watch(g, true) == GWB_MEMORY)
+        require(gwb_compare(g_));
+        return {changes_of<Face>(), changes_of<Edge>(), turn, from_, gwb_depth(g_), began_, gwb_changes(g_)};
+    }
+
+private:
+    static void require(gwb_kind answer)
+    {
+        if (answer == GWB_MEMORY)
 #if defined(__cpp_exceptions)
             throw std::bad_alloc();
 #else
             std::abort();
 #endif
     }
-    Watching(const Watching &) = delete;
-    Watching &operator=(const Watching &) = delete;
-    ~Watching() { (void)gwb_watch(g_, false); }
-    [[nodiscard]] const gwb *handle() const { return g_; }
-    [[nodiscard]] std::uint64_t began() const { return began_; }
-    [[nodiscard]] std::size_t from() const { return from_; }
+    template <class Kind> [[nodiscard]] ChangesOf<Kind> changes_of() const { return {listed<Kind>(true), listed<Kind>(false)}; }
+    template <class Kind> [[nodiscard]] std::vector<Change<Kind>> listed(bool are_made) const
+    {
+        gwb_change none{};
+        std::vector<gwb_change> rows(gwb_compared(g_, Kind::kind, are_made, &none, 0) + 1); // (so that it has an address)
+        rows.resize(gwb_compared(g_, Kind::kind, are_made, rows.data(), rows.size()));
+        std::vector<Change<Kind>> found;
+        for (const gwb_change &row : rows)
+            found.push_back({Kind(row.number), Kind(row.other)});
+        return found;
+    }
 
-private:
     gwb *g_;
     std::uint64_t began_;
     std::size_t from_;
-};
-
-/// Solids at one time, so far as they tell what becomes of faces and edges. For the functions below.
-class Reading {
-public:
-    /// Those that were touched, as they were.
-    static Reading before(const gwb *g)
-    {
-        Reading reading;
-        reading.points_ = listed<gwb_vertex_row>(g, gwb_watched_vertices);
-        for (std::uint32_t face : listed<std::uint32_t>(g, gwb_watched_faces))
-            reading.faces_.emplace_back(face);
-        reading.sides_ = listed<gwb_half_edge_row>(g, gwb_watched_half_edges);
-        reading.sort();
-        return reading;
-    }
-    /// The same as they are.
-    template <class Policy> static Reading after(const Commands<Policy> &bench)
-    {
-        Reading reading;
-        for (std::uint32_t solid : listed<std::uint32_t>(bench.handle(), gwb_watched_solids)) {
-            for (Face face : bench.faces(Solid(solid)))
-                reading.faces_.push_back(face);
-            const auto more = bench.half_edge_rows(Solid(solid));
-            reading.sides_.insert(reading.sides_.end(), more.begin(), more.end());
-        }
-        for (const gwb_half_edge_row &row : reading.sides_) {
-            reading.points_.push_back({row.start, {}});
-            gwb_vertex(bench.handle(), row.start, &reading.points_.back().point);
-        }
-        reading.sort();
-        return reading;
-    }
-
-    /// What happened between two readings.
-    ///
-    /// A new face was split from the one that had a half-edge of it, or else an edge along one of its own from the same vertex, if it lies in that
-    /// face's plane and looks the same way. A new edge was split from the one that ran along it from the same vertex. A face that is gone was
-    /// joined to the one that has a half-edge of it.
-    friend Changes between(const Reading &before, const Reading &after)
-    {
-        Changes changes;
-        for (Face face : missing(after.faces_, before.faces_))
-            changes.faces.made.push_back({face, after.face_before(face, before)});
-        for (Face face : missing(before.faces_, after.faces_))
-            changes.faces.removed.push_back({face, before.face_of_survivor(face, after)});
-        for (Edge edge : missing(after.edges_, before.edges_))
-            changes.edges.made.push_back({edge, after.edge_before(edge, before)});
-        for (Edge edge : missing(before.edges_, after.edges_))
-            changes.edges.removed.push_back({edge, before.edge_before(edge, after)});
-        return changes;
-    }
-
-private:
-    Reading() = default;
-
-    /// A list that the session has.
-    template <class Row> static std::vector<Row> listed(const gwb *g, std::size_t (*write)(const gwb *, Row *, std::size_t))
-    {
-        Row none{};
-        std::vector<Row> found(write(g, &none, 0));
-        if (!found.empty())
-            write(g, found.data(), found.size());
-        return found;
-    }
-    /// Numbers of half-edges with what they are of: those of one lie together, in the order of the rows.
-    using Pairs = std::vector<std::pair<std::uint32_t, std::uint32_t>>;
-    void sort()
-    {
-        for (const gwb_half_edge_row &row : sides_) {
-            starts_.emplace_back(row.start, row.half_edge);
-            borders_.emplace_back(row.face, row.half_edge);
-            if (row.half_edge % 2 == 0)
-                edges_.push_back(HalfEdge(row.half_edge).edge());
-        }
-        const auto by_first = [](const auto &one, const auto &other) { return one.first < other.first; };
-        std::stable_sort(starts_.begin(), starts_.end(), by_first);
-        std::stable_sort(borders_.begin(), borders_.end(), by_first);
-        std::sort(faces_.begin(), faces_.end());
-        std::sort(edges_.begin(), edges_.end());
-        std::sort(sides_.begin(), sides_.end(), [](const auto &one, const auto &other) { return one.half_edge < other.half_edge; });
-        std::sort(points_.begin(), points_.end(), [](const auto &one, const auto &other) { return one.vertex < other.vertex; });
-    }
-    /// Those of one.
-    static std::pair<Pairs::const_iterator, Pairs::const_iterator> those(const Pairs &pairs, std::uint32_t number)
-    {
-        const auto first = std::lower_bound(pairs.begin(), pairs.end(), std::pair(number, std::uint32_t{0}),
-                                            [](const auto &one, const auto &other) { return one.first < other.first; });
-        return {first, std::find_if(first, pairs.end(), [&](const auto &pair) { return pair.first != number; })};
-    }
-    /// The row of a half-edge: nullptr where it is not there.
-    [[nodiscard]] const gwb_half_edge_row *side(std::uint32_t half_edge) const
-    {
-        const auto found =
-            std::lower_bound(sides_.begin(), sides_.end(), half_edge, [](const auto &row, std::uint32_t number) { return row.half_edge < number; });
-        return found != sides_.end() && found->half_edge == half_edge ? &*found : nullptr;
-    }
-    /// Where a vertex lies that is there.
-    [[nodiscard]] const Point &point(std::uint32_t vertex) const
-    {
-        return std::lower_bound(points_.begin(), points_.end(), vertex, [](const auto &row, std::uint32_t number) { return row.vertex < number; })->point;
-    }
-
-    /// The numbers of the first list that the second one has not; both rise.
-    template <class Kind> static std::vector<Kind> missing(const std::vector<Kind> &these, const std::vector<Kind> &those)
-    {
-        std::vector<Kind> found;
-        std::set_difference(these.begin(), these.end(), those.begin(), those.end(), std::back_inserter(found));
-        return found;
-    }
-
-    /// The face in another reading of a half-edge that both have and that is of the face here.
-    [[nodiscard]] Face face_of_survivor(Face face, const Reading &other) const
-    {
-        const auto [first, last] = those(borders_, face.number());
-        for (auto at = first; at != last; ++at)
-            if (const gwb_half_edge_row *row = other.side(at->second); row != nullptr)
-                return Face(row->face);
-        return Face();
-    }
-
-    [[nodiscard]] Face face_before(Face face, const Reading &before) const
-    {
-        if (Face survivor = face_of_survivor(face, before); survivor != Face())
-            return is_part(face, before, survivor) ? survivor : Face();
-        const auto [first, last] = those(borders_, face.number());
-        for (auto at = first; at != last; ++at)
-            if (const gwb_half_edge_row *along = along_in(before, at->second); along != nullptr && is_part(face, before, Face(along->face)))
-                return Face(along->face);
-        return Face();
-    }
-
-    __extension__ typedef __int128 Wide;
-    using Vector = std::array<Wide, 3>;
-    static Vector minus_of(Point a, Point b) { return {Wide{a.x} - b.x, Wide{a.y} - b.y, Wide{a.z} - b.z}; }
-
-    /// A point of a face, and a vector across it, as long as twice its area: zero where that is.
-    [[nodiscard]] std::pair<Point, Vector> plane(Face face) const
-    {
-        const auto [first, last] = those(borders_, face.number());
-        const Point origin = first != last ? start_of(first->second) : Point{};
-        Vector across{};
-        for (auto at = first; at != last; ++at) {
-            const Vector a = minus_of(start_of(at->second), origin), b = minus_of(start_of(at->second ^ 1u), origin);
-            for (std::size_t axis = 0; axis < 3; axis++)
-                across[axis] += a[(axis + 1) % 3] * b[(axis + 2) % 3] - a[(axis + 2) % 3] * b[(axis + 1) % 3];
-        }
-        return {origin, across};
-    }
-
-    /// Whether a face lies in the plane of one of another reading, and doesn't look the other way.
-    [[nodiscard]] bool is_part(Face face, const Reading &other, Face of) const
-    {
-        const auto [origin, across] = other.plane(of);
-        const auto [first, last] = those(borders_, face.number());
-        for (auto at = first; at != last; ++at) {
-            const Vector way = minus_of(start_of(at->second), origin);
-            if (across[0] * way[0] + across[1] * way[1] + across[2] * way[2] != 0)
-                return false;
-        }
-        const Vector own = plane(face).second;
-        for (std::size_t axis = 0; axis < 3; axis++)
-            if ((across[axis] > 0 && own[axis] < 0) || (across[axis] < 0 && own[axis] > 0))
-                return false;
-        return true;
-    }
-
-    /// The edge in another reading that runs along an edge of this one from the same vertex, and that this reading or the other has still.
-    [[nodiscard]] Edge edge_before(Edge edge, const Reading &other) const
-    {
-        for (HalfEdge half_edge : {plus(edge), minus(edge)})
-            if (const gwb_half_edge_row *along = along_in(other, half_edge.code()))
-                return HalfEdge(along->half_edge).edge();
-        return Edge();
-    }
-
-    /// The half-edge in another reading that starts where one of this one does and goes the same way.
-    [[nodiscard]] const gwb_half_edge_row *along_in(const Reading &other, std::uint32_t half_edge) const
-    {
-        const std::uint32_t start = side(half_edge)->start;
-        const auto [first, last] = those(other.starts_, start);
-        if (first == last || !same(point(start), other.point(start)))
-            return nullptr;
-        for (auto at = first; at != last; ++at)
-            if (is_one_way(way(half_edge), other.way(at->second)))
-                return other.side(at->second);
-        return nullptr;
-    }
-
-    [[nodiscard]] Point start_of(std::uint32_t half_edge) const { return point(side(half_edge)->start); }
-
-    /// From where a half-edge starts to where it ends.
-    [[nodiscard]] Point way(std::uint32_t half_edge) const
-    {
-        const Point from = start_of(half_edge), to = start_of(half_edge ^ 1u);
-        return {to.x - from.x, to.y - from.y, to.z - from.z};
-    }
-
-    static bool same(Point a, Point b) { return a.x == b.x && a.y == b.y && a.z == b.z; }
-
-    /// Whether two vectors have one direction. Each part is within 2,000,000,000 either way, so what is compared fits in 64 bits.
-    static bool is_one_way(Point a, Point b)
-    {
-        const bool are_parallel = a.x * b.y == a.y * b.x && a.y * b.z == a.z * b.y && a.z * b.x == a.x * b.z;
-        return are_parallel && (a.x > 0) == (b.x > 0) && (a.y > 0) == (b.y > 0) && (a.z > 0) == (b.z > 0) && (a.x < 0) == (b.x < 0)
-            && (a.y < 0) == (b.y < 0) && (a.z < 0) == (b.z < 0);
-    }
-
-    std::vector<Face> faces_;
-    std::vector<Edge> edges_;
-    std::vector<gwb_vertex_row> points_;
-    std::vector<gwb_half_edge_row> sides_;
-    Pairs borders_, starts_;
 };
 
 /// Values on faces or on edges, which follow what becomes of them: a part that was split off has a copy of the value; what is gone has none, and has
@@ -396,13 +200,9 @@ private:
 };
 
 /// What happened since it is watched, which notes follow.
-template <class Policy, class... AllNotes>
-Changes followed(const Commands<Policy> &bench, const Watching &watching, Turn turn, AllNotes &...notes)
+template <class... AllNotes> Changes followed(const Watching &watching, Turn turn, AllNotes &...notes)
 {
-    Changes changes = between(Reading::before(watching.handle()), Reading::after(bench));
-    changes.turn = turn;
-    changes.from = watching.from(), changes.to = gwb_depth(watching.handle());
-    changes.began = watching.began(), changes.ended = gwb_changes(watching.handle());
+    Changes changes = watching.changes(turn);
     (notes.follow(changes), ...);
     return changes;
 }
@@ -415,13 +215,13 @@ template <class Policy, class Call, class... AllNotes> Changes follow(Commands<P
     try {
         std::forward<Call>(call)();
     } catch (...) {
-        followed(bench, watching, Turn::commands, notes...);
+        followed(watching, Turn::commands, notes...);
         throw;
     }
 #else
     std::forward<Call>(call)();
 #endif
-    return followed(bench, watching, Turn::commands, notes...);
+    return followed(watching, Turn::commands, notes...);
 }
 
 /// Takes the last command back, and lets notes follow it.
@@ -431,7 +231,7 @@ template <class Policy, class... AllNotes> typename Policy::template Returned<Ch
     const Result<void> done = bench.attempt().undo();
     if (!done)
         return Policy::template failed<Changes>("undo", done.error());
-    return followed(bench, watching, Turn::undo, notes...);
+    return followed(watching, Turn::undo, notes...);
 }
 
 /// Does the command again that was taken back last, and lets notes follow it.
@@ -441,7 +241,7 @@ template <class Policy, class... AllNotes> typename Policy::template Returned<Ch
     const Result<void> done = bench.attempt().redo();
     if (!done)
         return Policy::template failed<Changes>("redo", done.error());
-    return followed(bench, watching, Turn::redo, notes...);
+    return followed(watching, Turn::redo, notes...);
 }
 
 } // namespace gwb_session

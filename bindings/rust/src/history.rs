@@ -1,8 +1,7 @@
 //! What commands made, removed and split of a model, and values on faces and edges that follow it.
 use crate::readers::rows;
-use crate::{minus, plus, Edge, Error, Face, HalfEdge, HalfEdgeRow, Id, Point, Session, Solid, Vertex};
-use gwb_sys::Gwb;
-use std::collections::{BTreeMap, BTreeSet, HashMap};
+use crate::{Edge, Error, Face, Id, Session};
+use std::collections::BTreeMap;
 use std::ops::Range;
 
 /// A number that is new or gone.
@@ -88,30 +87,21 @@ impl<'session> Watching<'session> {
         Ok(Self { session, depth, count })
     }
 
-    /// A list of what was watched.
-    fn listed<Row: Copy + Default>(&self, write: unsafe extern "C" fn(*const Gwb, *mut Row, usize) -> usize) -> Vec<Row> {
-        rows(|rows, room| unsafe { write(self.session.handle(), rows, room) })
+    fn changes(&self, turn: Turn) -> Result<Changes, Error> {
+        let answer = unsafe { gwb_sys::gwb_compare(self.session.handle()) };
+        self.session.answered(answer)?;
+        let (depths, counts) = ([self.depth, self.session.depth()], [self.count, self.session.changes()]);
+        Ok(Changes { faces: self.changes_of(), edges: self.changes_of(), turn, depths, counts })
     }
 
-    /// The solids that were touched, as they were.
-    fn before(&self) -> Reading {
-        let points = self.listed(gwb_sys::gwb_watched_vertices).into_iter().map(|row| (Vertex(row.vertex), row.point.into())).collect();
-        let faces = self.listed(gwb_sys::gwb_watched_faces).into_iter().map(Face).collect();
-        Reading::new(faces, points, self.listed(gwb_sys::gwb_watched_half_edges).into_iter().map(HalfEdgeRow::from).collect())
+    fn changes_of<N: Noted>(&self) -> ChangesOf<N> {
+        ChangesOf { made: self.listed(true), removed: self.listed(false) }
     }
 
-    /// The same as they are.
-    fn after(&self) -> Reading {
-        let solids: Vec<Solid> = self.listed(gwb_sys::gwb_watched_solids).into_iter().map(Solid).collect();
-        let rows: Vec<_> = solids.iter().flat_map(|&solid| self.session.half_edge_rows(Some(solid))).collect();
-        let points = rows.iter().filter_map(|row| Some((row.start, self.session.vertex(row.start)?))).collect();
-        Reading::new(solids.iter().flat_map(|&solid| self.session.faces(solid)).collect(), points, rows)
-    }
-
-    fn changes(&self, turn: Turn) -> Changes {
-        let (before, after) = (self.before(), self.after());
-        let (faces, edges) = after.since(&before);
-        Changes { faces, edges, turn, depths: [self.depth, self.session.depth()], counts: [self.count, self.session.changes()] }
+    fn listed<N: Noted>(&self, are_made: bool) -> Vec<Change<N>> {
+        let found = rows(|rows, room| unsafe { gwb_sys::gwb_compared(self.session.handle(), N::KIND, are_made, rows, room) });
+        let number = |number: u32| Some(number).filter(|&number| number != 0).map(N::from_number);
+        found.into_iter().map(|row: gwb_sys::Change| Change { id: N::from_number(row.number), other: number(row.other) }).collect()
     }
 }
 
@@ -119,118 +109,6 @@ impl Drop for Watching<'_> {
     fn drop(&mut self) {
         unsafe { gwb_sys::gwb_watch(self.session.handle(), false) };
     }
-}
-
-/// Solids at one time, so far as they tell what becomes of faces and edges.
-struct Reading {
-    faces: BTreeSet<Face>,
-    edges: BTreeSet<Edge>,
-    points: HashMap<Vertex, Point>,
-    sides: HashMap<HalfEdge, HalfEdgeRow>,
-    borders: HashMap<Face, Vec<HalfEdge>>,
-    leaving: HashMap<Vertex, Vec<HalfEdge>>,
-}
-
-impl Reading {
-    fn new(faces: BTreeSet<Face>, points: HashMap<Vertex, Point>, rows: Vec<HalfEdgeRow>) -> Self {
-        let (mut borders, mut leaving) = (HashMap::<_, Vec<_>>::new(), HashMap::<_, Vec<_>>::new());
-        for row in &rows {
-            borders.entry(row.face).or_default().push(row.half_edge);
-            leaving.entry(row.start).or_default().push(row.half_edge);
-        }
-        let edges = rows.iter().map(|row| row.half_edge.edge()).collect();
-        Self { faces, edges, points, sides: rows.into_iter().map(|row| (row.half_edge, row)).collect(), borders, leaving }
-    }
-
-    /// What happened since an earlier reading.
-    ///
-    /// A new face was split from the one that had a half-edge of it, or else an edge along one of its own from the same vertex, if it lies in that
-    /// face's plane and looks the same way. A new edge was split from the one that ran along it from the same vertex. A face that is gone was
-    /// joined to the one that has a half-edge of it.
-    fn since(&self, before: &Self) -> (ChangesOf<Face>, ChangesOf<Edge>) {
-        let faces = ChangesOf {
-            made: missing(&self.faces, &before.faces, |face| self.face_before(face, before)),
-            removed: missing(&before.faces, &self.faces, |face| before.survivor(face, self)),
-        };
-        let edges = ChangesOf {
-            made: missing(&self.edges, &before.edges, |edge| self.edge_in(edge, before)),
-            removed: missing(&before.edges, &self.edges, |edge| before.edge_in(edge, self)),
-        };
-        (faces, edges)
-    }
-
-    fn border(&self, face: Face) -> &[HalfEdge] {
-        self.borders.get(&face).map_or(&[], Vec::as_slice)
-    }
-
-    /// The face in another reading of a half-edge that both have and that is of the face here.
-    fn survivor(&self, face: Face, other: &Self) -> Option<Face> {
-        self.border(face).iter().find_map(|at| other.sides.get(at)).map(|row| row.face)
-    }
-
-    fn face_before(&self, face: Face, before: &Self) -> Option<Face> {
-        let is_part = |&of: &Face| self.is_part(face, before, of);
-        if let Some(survivor) = self.survivor(face, before) {
-            return Some(survivor).filter(is_part);
-        }
-        self.border(face).iter().filter_map(|&at| self.along(at, before)).map(|row| row.face).find(is_part)
-    }
-
-    fn start(&self, at: HalfEdge) -> [i128; 3] {
-        let Point { x, y, z } = self.points[&self.sides[&at].start];
-        [x, y, z].map(i128::from)
-    }
-
-    /// A point of a face, and a vector across it, as long as twice its area: zero where that is.
-    fn plane(&self, face: Face) -> ([i128; 3], [i128; 3]) {
-        let origin = self.border(face).first().map_or([0; 3], |&at| self.start(at));
-        let across = self.border(face).iter().fold([0; 3], |sum, &at| {
-            let (a, b) = (minus_of(self.start(at), origin), minus_of(self.start(at.twin()), origin));
-            let part = |axis: usize| a[(axis + 1) % 3] * b[(axis + 2) % 3] - a[(axis + 2) % 3] * b[(axis + 1) % 3];
-            [sum[0] + part(0), sum[1] + part(1), sum[2] + part(2)]
-        });
-        (origin, across)
-    }
-
-    /// Whether a face lies in the plane of one of another reading, and doesn't look the other way.
-    fn is_part(&self, face: Face, other: &Self, of: Face) -> bool {
-        let (origin, across) = other.plane(of);
-        let height = |at: HalfEdge| -> i128 { minus_of(self.start(at), origin).iter().zip(across).map(|(way, across)| way * across).sum() };
-        let is_against = |(a, b): (&i128, i128)| a.signum() * b.signum() < 0;
-        self.border(face).iter().all(|&at| height(at) == 0) && !self.plane(face).1.iter().zip(across).any(is_against)
-    }
-
-    /// The edge in another reading that runs along an edge of this one from the same vertex.
-    fn edge_in(&self, edge: Edge, other: &Self) -> Option<Edge> {
-        [plus(edge), minus(edge)].into_iter().find_map(|at| self.along(at, other)).map(|row| row.half_edge.edge())
-    }
-
-    /// The half-edge in another reading that starts where one of this one does and goes the same way.
-    fn along<'other>(&self, at: HalfEdge, other: &'other Self) -> Option<&'other HalfEdgeRow> {
-        let start = self.sides[&at].start;
-        let all = other.leaving.get(&start).filter(|_| self.points.get(&start) == other.points.get(&start))?;
-        all.iter().find(|&&old| is_one_way(self.way(at), other.way(old))).map(|old| &other.sides[old])
-    }
-
-    /// From where a half-edge starts to where it ends.
-    fn way(&self, at: HalfEdge) -> Point {
-        self.points[&self.sides[&at.twin()].start] - self.points[&self.sides[&at].start]
-    }
-}
-
-/// The numbers that others have not, each with what it was found from.
-fn missing<N: Id>(ids: &BTreeSet<N>, others: &BTreeSet<N>, from: impl Fn(N) -> Option<N>) -> Vec<Change<N>> {
-    ids.difference(others).map(|&id| Change { id, other: from(id) }).collect()
-}
-
-fn minus_of(a: [i128; 3], b: [i128; 3]) -> [i128; 3] {
-    [a[0] - b[0], a[1] - b[1], a[2] - b[2]]
-}
-
-/// Whether two vectors have one direction. Each part is within 2,000,000,000 either way, so what is compared fits in 64 bits.
-fn is_one_way(a: Point, b: Point) -> bool {
-    let are_parallel = a.x * b.y == a.y * b.x && a.y * b.z == a.z * b.y && a.z * b.x == a.x * b.z;
-    are_parallel && [a.x, a.y, a.z].map(i64::signum) == [b.x, b.y, b.z].map(i64::signum)
 }
 
 impl Session {
@@ -251,35 +129,35 @@ impl Session {
     /// ```
     ///
     /// # Errors
-    /// That of the commands, with what those before it did.
+    /// That of the commands, with what those before it did; [`Error::Memory`] also where it is refused for what accepted ones did.
     pub fn followed<T>(&mut self, give: impl FnOnce(&mut Self) -> Result<T, Error>) -> Result<(T, Changes), (Error, Box<Changes>)> {
         let watching = Watching::new(self).map_err(|error| (error, Box::default()))?;
         let given = give(&mut *watching.session);
-        let changes = watching.changes(Turn::Commands);
-        match given {
-            Ok(value) => Ok((value, changes)),
-            Err(error) => Err((error, Box::new(changes))),
+        match (given, watching.changes(Turn::Commands)) {
+            (Ok(value), Ok(changes)) => Ok((value, changes)),
+            (Err(error), changes) => Err((error, Box::new(changes.unwrap_or_default()))),
+            (Ok(_), Err(error)) => Err((error, Box::default())),
         }
     }
 
     /// Takes the last command back, and says what that did.
     ///
     /// # Errors
-    /// As [`undo`](Self::undo).
+    /// As [`undo`](Self::undo); [`Error::Memory`] also where it is refused for what that did.
     pub fn followed_undo(&mut self) -> Result<Changes, Error> {
         let watching = Watching::new(self)?;
         watching.session.undo()?;
-        Ok(watching.changes(Turn::Undo))
+        watching.changes(Turn::Undo)
     }
 
     /// Does the command again that was taken back last, and says what that did.
     ///
     /// # Errors
-    /// As [`redo`](Self::redo).
+    /// As [`redo`](Self::redo); [`Error::Memory`] also where it is refused for what that did.
     pub fn followed_redo(&mut self) -> Result<Changes, Error> {
         let watching = Watching::new(self)?;
         watching.session.redo()?;
-        Ok(watching.changes(Turn::Redo))
+        watching.changes(Turn::Redo)
     }
 }
 

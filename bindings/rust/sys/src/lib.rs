@@ -137,6 +137,7 @@ macro_rules! rows {
             $(#[$doc])*
             #[repr(C)]
             #[derive(Clone, Copy, Debug, Default, PartialEq, Eq, Hash)]
+            #[allow(missing_docs)]
             pub struct $name {
                 $($(#[$field_doc])* pub $field: $of),+
             }
@@ -161,44 +162,26 @@ rows! {
     }
     /// How many parts a solid has.
     Counts {
-        #[allow(missing_docs)]
         vertices: i64,
-        #[allow(missing_docs)]
         edges: i64,
-        #[allow(missing_docs)]
         faces: i64,
-        #[allow(missing_docs)]
         rings: i64,
         /// vertices - edges + faces - rings
         sum: i64
     }
     /// On the plane a x + b y + c z + d is 0.
     Plane {
-        #[allow(missing_docs)]
         a: Wide,
-        #[allow(missing_docs)]
         b: Wide,
-        #[allow(missing_docs)]
         c: Wide,
-        #[allow(missing_docs)]
         d: Wide,
         /// 1 where the face is flat, 0 where it is bent.
         flat: u32
     }
     /// The numbers from the first to the last.
-    Range {
-        #[allow(missing_docs)]
-        first: u32,
-        #[allow(missing_docs)]
-        last: u32
-    }
+    Range { first: u32, last: u32 }
     /// A face.
-    FaceRow {
-        #[allow(missing_docs)]
-        solid: u32,
-        #[allow(missing_docs)]
-        outer_loop: u32
-    }
+    FaceRow { solid: u32, outer_loop: u32 }
     /// An edge, by its vertices.
     EdgeRow {
         /// Where its first half-edge starts.
@@ -207,17 +190,9 @@ rows! {
         to: u32
     }
     /// A point, or a vector.
-    Point {
-        #[allow(missing_docs)]
-        x: i64,
-        #[allow(missing_docs)]
-        y: i64,
-        #[allow(missing_docs)]
-        z: i64
-    }
+    Point { x: i64, y: i64, z: i64 }
     /// A half-edge, and where it stands.
     HalfEdgeRow {
-        #[allow(missing_docs)]
         half_edge: u32,
         /// The vertex at which it starts.
         start: u32,
@@ -229,70 +204,25 @@ rows! {
         face: u32
     }
     /// Where points go.
-    Motion {
-        #[allow(missing_docs)]
-        axes: [i32; 3],
-        #[allow(missing_docs)]
-        by: Point
-    }
+    Motion { axes: [i32; 3], by: Point }
     /// What gwb_profile makes.
-    ProfileMade {
-        #[allow(missing_docs)]
-        far: u32,
-        #[allow(missing_docs)]
-        base: u32
-    }
+    ProfileMade { far: u32, base: u32 }
     /// What gwb_polyhedron makes.
-    PolyhedronMade {
-        #[allow(missing_docs)]
-        first_vertex: u32,
-        #[allow(missing_docs)]
-        first_face: u32
-    }
+    PolyhedronMade { first_vertex: u32, first_face: u32 }
     /// The numerator divided by the denominator.
-    Ratio {
-        #[allow(missing_docs)]
-        numerator: u64,
-        #[allow(missing_docs)]
-        denominator: u64
-    }
+    Ratio { numerator: u64, denominator: u64 }
     /// The plane a x + b y + c z + d = 0.
-    CutPlane {
-        #[allow(missing_docs)]
-        a: i64,
-        #[allow(missing_docs)]
-        b: i64,
-        #[allow(missing_docs)]
-        c: i64,
-        #[allow(missing_docs)]
-        d: i64
-    }
+    CutPlane { a: i64, b: i64, c: i64, d: i64 }
     /// An edge that a plane cuts, and where: three fractions.
-    EdgeCut {
-        #[allow(missing_docs)]
-        edge: u32,
-        #[allow(missing_docs)]
-        numerators: [Wide; 3],
-        #[allow(missing_docs)]
-        denominators: [Wide; 3]
-    }
+    EdgeCut { edge: u32, numerators: [Wide; 3], denominators: [Wide; 3] }
     /// What a feature of an outline makes.
-    OutlineMade {
-        #[allow(missing_docs)]
-        face: u32,
-        #[allow(missing_docs)]
-        of_loop: u32
-    }
+    OutlineMade { face: u32, of_loop: u32 }
     /// A vertex, and where it lies.
-    VertexRow {
-        #[allow(missing_docs)]
-        vertex: u32,
-        #[allow(missing_docs)]
-        point: Point
-    }
+    VertexRow { vertex: u32, point: Point }
+    /// A face or an edge that is new or gone, and the one that it was split from, or joined to.
+    Change { number: u32, other: u32 }
     /// A triangle of a face.
     TriangleRow {
-        #[allow(missing_docs)]
         face: u32,
         /// Vertices, counterclockwise as seen from outside.
         corners: [u32; 3]
@@ -388,10 +318,8 @@ extern "C" {
     pub fn gwb_recorded(g: *const Gwb) -> usize;
     pub fn gwb_script(g: *const Gwb, first: usize, n: usize, buf: *mut u8, room: usize) -> usize;
     pub fn gwb_watch(g: *mut Gwb, is_asked: bool) -> u32;
-    pub fn gwb_watched_solids(g: *const Gwb, solids: *mut u32, room: usize) -> usize;
-    pub fn gwb_watched_half_edges(g: *const Gwb, rows: *mut HalfEdgeRow, room: usize) -> usize;
-    pub fn gwb_watched_vertices(g: *const Gwb, rows: *mut VertexRow, room: usize) -> usize;
-    pub fn gwb_watched_faces(g: *const Gwb, faces: *mut u32, room: usize) -> usize;
+    pub fn gwb_compare(g: *mut Gwb) -> u32;
+    pub fn gwb_compared(g: *const Gwb, entity: u32, is_made: bool, rows: *mut Change, room: usize) -> usize;
     pub fn gwb_stop_by(g: *mut Gwb, stop: Option<Stop>, user: *mut c_void);
 
     pub fn gwb_pattern(g: *mut Gwb, solid: u32, count: u32, step: *const Point, solids: *mut u32, why: *mut Refusal) -> u32;
