@@ -5,6 +5,7 @@ import gc
 import tempfile
 import threading
 import unittest
+from contextlib import ExitStack
 from pathlib import Path
 
 from support import library
@@ -49,6 +50,26 @@ class Contexts(unittest.TestCase):
     def is_free(self):
         """Another thread can give a call."""
         self.assertIsNone(self.in_thread(lambda: self.bench.undo() or self.bench.redo()))
+
+    def forgets(self):
+        """Begins a draft in a way that nobody ends it."""
+        stack = ExitStack()
+        stack.enter_context(self.bench.draft())
+        self.bench.block((10, 0, 0), (1, 1, 1))
+
+    def test_a_draft_ends_that_a_function_forgot(self):
+        for forget in (self.forgets, lambda: self.in_thread(self.forgets)):
+            forget()
+            self.assertEqual(self.bench.solids().numbers, (1,))
+            self.is_free()
+
+    def test_a_draft_goes_on_that_is_kept_when_its_function_has_ended(self):
+        draft = self.bench.draft()
+        (lambda: draft.__enter__())()
+        self.bench.block((10, 0, 0), (1, 1, 1))
+        draft.__exit__(None, None, None)
+        self.bench.undo()
+        self.assertEqual(self.bench.solids().numbers, (1,))
 
     def test_a_task_has_no_part_in_the_draft_of_another(self):
         async def first(is_open, is_over):

@@ -7,7 +7,7 @@ import sys
 from contextlib import contextmanager
 from contextvars import ContextVar
 from functools import wraps
-from inspect import isfunction
+from inspect import CO_ASYNC_GENERATOR, CO_COROUTINE, CO_GENERATOR, isfunction
 from operator import attrgetter
 from threading import Condition, RLock, current_thread
 from types import FrameType
@@ -18,6 +18,8 @@ from ..errors import OutOfStep
 Method = TypeVar('Method', bound=Callable[..., Any])
 Taker = TypeVar('Taker')
 _PATIENCE = 1.0
+# Functions that may wait half-way, and go on elsewhere.
+_CAN_WAIT = CO_GENERATOR | CO_COROUTINE | CO_ASYNC_GENERATOR
 _PACKAGE = __name__.rsplit('.', 1)[0]
 
 
@@ -34,6 +36,15 @@ class Holder:
         """It holds nothing any more."""
         self._frame = None
         self._held.set(tuple(holder for holder in self._held.get() if holder is not self))
+
+    def leave_ended(self) -> None:
+        """Where its function has ended, what that has left behind goes, such as a draft that it forgot to end and nothing else refers to."""
+        if self._frame and not self._frame.f_code.co_flags & _CAN_WAIT:
+            try:
+                self._frame.clear()
+            except RuntimeError:
+                return  # (it goes on)
+            self._frame = None
 
     @property
     def is_here(self) -> bool:
@@ -75,6 +86,8 @@ class Turns:
     def taken(self, is_holder: bool = False) -> Iterator[None]:
         """It is the turn of what is given in it; of a holder, wherever that goes on, at once."""
         with self._free:
+            if self.holder and not (is_holder or self.is_inside):
+                self.holder.leave_ended()
             while self.holder and not (is_holder or self.is_inside or self.holder.is_here):
                 self.holder.require_end()
                 self._free.wait(_PATIENCE)
