@@ -3,6 +3,7 @@
 #ifndef GWB_FEATURES_ASSEMBLY_HPP
 #define GWB_FEATURES_ASSEMBLY_HPP
 #include "sheets.hpp"
+#include <charconv>
 #include <unordered_map>
 
 namespace gwb_session::sheets {
@@ -22,7 +23,7 @@ struct Model {
     Solid solid;
     std::map<Face, std::vector<Loop>> faces; ///< their loops, the outer one first
     std::map<Loop, std::vector<HalfEdge>> loops;
-    std::map<Loop, Vertex> lone;
+    std::map<Loop, Vertex> lone; ///< of loops without half-edges
     std::map<Edge, std::pair<Vertex, Vertex>> edges;
     std::map<Vertex, Vector> vertices;
 
@@ -32,9 +33,8 @@ struct Model {
         HeldFace found{face, {}};
         for (Loop loop : faces.at(face)) {
             Cycle &cycle = found.cycles.emplace_back();
-            if (const auto halves = loops.find(loop); halves != loops.end())
-                for (HalfEdge half : halves->second)
-                    cycle.push_back({at(half), at(half.twin()), half});
+            for (HalfEdge half : loops.at(loop))
+                cycle.push_back({at(half), at(half.twin()), half});
         }
         return found;
     }
@@ -52,14 +52,15 @@ struct Model {
         faces[face].push_back(loop);
         if (const std::optional<Vertex> vertex = bench.lone_vertex(loop)) {
             lone[loop] = *vertex;
-            vertices[*vertex] = vector(bench.vertex(*vertex));
-            return;
+            read(bench, *vertex);
         }
         for (HalfEdge half : loops[loop] = bench.half_edges(loop)) {
-            const auto [from, to] = bench.edge(half.edge());
-            edges[half.edge()] = {from, to};
-            for (Vertex vertex : {from, to})
-                vertices.try_emplace(vertex, vector(bench.vertex(vertex)));
+            const auto [edge, is_new] = edges.try_emplace(half.edge());
+            if (is_new) {
+                const auto [from, to] = bench.edge(half.edge());
+                edge->second = {from, to};
+            }
+            read(bench, half.is_second() ? edge->second.second : edge->second.first);
         }
     }
     /// All of a solid.
@@ -88,42 +89,49 @@ struct Model {
     }
     [[nodiscard]] std::string listing() const
     {
-        std::string text = "solid " + std::to_string(solid.number()) + "\n";
+        std::string text;
+        put(text, "solid", solid);
         for (const auto &[face, row] : faces) {
-            text += "face " + std::to_string(face.number()) + " " + std::to_string(solid.number());
+            put(text, "\nface", face, solid);
             for (Loop loop : row)
-                text += " " + std::to_string(loop.number());
-            text += "\n";
+                put(text, "", loop);
         }
-        return text + loop_lines() + vertex_lines();
+        for (const auto &[loop, halves] : loops) {
+            put(text, "\nloop", loop);
+            if (halves.empty())
+                put(text, " at", lone.at(loop));
+            for (HalfEdge half : halves) {
+                text += half.is_second() ? " -" : " +";
+                put_digits(text, half.edge());
+            }
+        }
+        for (const auto &[edge, ends] : edges)
+            put(text, "\nedge", edge, ends.first, ends.second);
+        for (const auto &[vertex, at] : vertices) {
+            const Point place = point(at);
+            put(text, "\nvertex", vertex, place.x, place.y, place.z);
+        }
+        return text + '\n';
     }
 
 private:
-    [[nodiscard]] std::string loop_lines() const
+    void read(const Bench &bench, Vertex vertex)
     {
-        std::map<Loop, std::string> lines;
-        for (const auto &[loop, halves] : loops)
-            for (HalfEdge half : halves)
-                lines[loop] += (half.is_second() ? " -" : " +") + std::to_string(half.edge().number());
-        for (const auto &[loop, vertex] : lone)
-            lines[loop] = " at " + std::to_string(vertex.number());
-        std::string text;
-        for (const auto &[loop, line] : lines)
-            text += "loop " + std::to_string(loop.number()) + line + "\n";
-        return text;
+        if (const auto [place, is_new] = vertices.try_emplace(vertex); is_new)
+            place->second = vector(bench.vertex(vertex));
     }
-    [[nodiscard]] std::string vertex_lines() const
+
+    static void put_digits(std::string &text, std::int64_t number)
     {
-        std::string text;
-        for (const auto &[edge, ends] : edges)
-            text += "edge " + std::to_string(edge.number()) + " " + std::to_string(ends.first.number()) + " " + std::to_string(ends.second.number()) +
-                    "\n";
-        for (const auto &[vertex, at] : vertices) {
-            const Point place = point(at);
-            text += "vertex " + std::to_string(vertex.number()) + " " + std::to_string(place.x) + " " + std::to_string(place.y) + " " +
-                    std::to_string(place.z) + "\n";
-        }
-        return text;
+        std::array<char, 24> digits{};
+        text.append(digits.data(), std::to_chars(digits.data(), digits.data() + digits.size(), number).ptr);
+    }
+    template <class Kind> static void put_digits(std::string &text, Kind thing) { put_digits(text, std::int64_t{thing.number()}); }
+    /// Writes a word, and numbers after it.
+    template <class... All> static void put(std::string &text, std::string_view word, All... numbers)
+    {
+        text += word;
+        ((text += ' ', put_digits(text, numbers)), ...);
     }
 };
 

@@ -72,23 +72,27 @@ struct Combined {
     std::vector<Region> regions;
     Made made;
 
-    /// The faces that an added sheet went into, by its place among the added ones.
-    [[nodiscard]] std::set<Face> marked(std::size_t mark) const
+    /// The faces of the regions for which the function says true.
+    template <class Fits> [[nodiscard]] std::vector<Face> faces_where(Fits fits) const
     {
-        std::set<Face> found;
+        std::vector<Face> found;
         for (std::size_t at = 0; at < regions.size(); at++)
-            if (std::find(regions[at].marks.begin(), regions[at].marks.end(), mark) != regions[at].marks.end())
-                found.insert(made.of_regions[at]);
+            if (fits(regions[at]))
+                found.push_back(made.of_regions[at]);
+        return found;
+    }
+    /// The faces that added sheets went into, rising, by the places of these among the added ones: so many from one on.
+    [[nodiscard]] std::vector<Face> marked(std::size_t from, std::size_t count) const
+    {
+        const auto is_marked = [&](std::size_t mark) { return from <= mark && mark - from < count; };
+        std::vector<Face> found = faces_where([&](const Region &region) { return std::any_of(region.marks.begin(), region.marks.end(), is_marked); });
+        std::sort(found.begin(), found.end());
         return found;
     }
     /// The faces that a face went into.
     [[nodiscard]] std::vector<Face> became(Face face) const
     {
-        std::vector<Face> found;
-        for (std::size_t at = 0; at < regions.size(); at++)
-            if (std::find(regions[at].owners.begin(), regions[at].owners.end(), face) != regions[at].owners.end())
-                found.push_back(made.of_regions[at]);
-        return found;
+        return faces_where([&](const Region &region) { return std::find(region.owners.begin(), region.owners.end(), face) != region.owners.end(); });
     }
 };
 

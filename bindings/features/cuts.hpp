@@ -15,11 +15,8 @@ using sheets::Region;
 /// Where a side goes through the plane: at a whole point, which split has seen to.
 inline Vector crossing(const Side &side, const Plane &plane)
 {
-    const Wide start = plane.height(side.start), whole = start - plane.height(side.end);
-    Vector at = side.start;
-    for (std::size_t axis = 0; axis < 3; axis++)
-        at[axis] += start * side.way()[axis] / whole;
-    return at;
+    const Wide start = plane.height(side.start);
+    return *on_way(side.start, side.way(), start, start - plane.height(side.end));
 }
 
 /// The parts of a face's sides below the plane; those in it where the face beside them lies below.
@@ -107,15 +104,6 @@ inline Combined part_below(const Held &held, const std::vector<Sheet> &sheets, c
     if (!made)
         throw meets;
     return Combined{std::move(*laid), std::move(*made)};
-}
-
-inline std::vector<Face> caps_of(const Combined &part)
-{
-    std::set<Face> caps;
-    for (std::size_t at = 0; at < part.regions.size(); at++)
-        if (!part.regions[at].marks.empty())
-            caps.insert(part.made.of_regions[at]);
-    return {caps.begin(), caps.end()};
 }
 
 // ---- what is cut
@@ -219,8 +207,8 @@ inline Split cut_by_faces(Bench &bench, Solid solid, const Plane &plane, const P
         make_anew(bench, lower.made.model);
     if (is_wanted)
         bench.load(upper.made.model.listing());
-    Split made{above, caps_of(lower), {}};
-    made.upper_caps = caps_of(upper);
+    Split made{above, lower.marked(0, no_mark), {}};
+    made.upper_caps = upper.marked(0, no_mark);
     return made;
 }
 

@@ -104,6 +104,15 @@ constexpr Vector reduced(const Vector &a)
     return {a[0] / divisor, a[1] / divisor, a[2] / divisor};
 }
 
+/// The point that lies so far along a way as a fraction says, where that is whole.
+inline std::optional<Vector> on_way(const Vector &start, const Vector &way, Wide numerator, Wide denominator)
+{
+    const Vector scaled = times(way, numerator);
+    if (std::any_of(scaled.begin(), scaled.end(), [&](Wide part) { return part % denominator != 0; }))
+        return std::nullopt;
+    return add(start, {scaled[0] / denominator, scaled[1] / denominator, scaled[2] / denominator});
+}
+
 /// The plane of the points whose height is 0; above it heights are greater.
 struct Plane {
     Vector across;

@@ -133,10 +133,10 @@ inline Tool groove_tool(const Bench &bench, Face face, const Path &ends, std::in
 /// The point that lies so far from a corner along a way as the fraction says.
 inline Vector part_of_way(Face face, const Vector &corner, const Vector &way, Wide numerator, Wide denominator)
 {
-    const Vector scaled = times(way, numerator);
-    if (std::any_of(scaled.begin(), scaled.end(), [&](Wide part) { return part % denominator != 0; }))
+    const std::optional<Vector> found = on_way(corner, way, numerator, denominator);
+    if (!found)
         throw impossible(Misfit::off_lattice, face.number());
-    return add(corner, {scaled[0] / denominator, scaled[1] / denominator, scaled[2] / denominator});
+    return *found;
 }
 
 /// The point on the way from a corner to the end of the side there, as far in as the step is; where the side runs the other way, square.
@@ -342,9 +342,8 @@ inline Combined change(Bench &bench, Face face, const Tool &tool, bool is_cut)
     const auto combine = [&](const Part &part, AllNames &names) {
         const std::vector<Sheet> sheets = combining::sheets_of(part.model);
         Combined found = combined(bench, solid, Held(bench, part.model), sheets, *added, names, meets);
-        for (std::size_t lid = 0; lid < tool.lids.size(); lid++)
-            if (!found.marked(lid).empty())
-                throw impossible(Misfit::outline_outside, face.number());
+        if (!found.marked(0, tool.lids.size()).empty())
+            throw impossible(Misfit::outline_outside, face.number());
         if (has_contact({&part.model}, found.made.model, sheets, *added))
             throw meets;
         return found;
@@ -356,15 +355,8 @@ inline Combined change(Bench &bench, Face face, const Tool &tool, bool is_cut)
 inline Notch cut_out(Bench &bench, Face face, const Tool &tool)
 {
     const Combined made = change(bench, face, tool, true);
-    const auto marked = [&](std::size_t from, std::size_t count) {
-        std::set<Face> found;
-        for (std::size_t mark = from; mark < from + count; mark++)
-            found.merge(made.marked(mark));
-        return std::vector<Face>(found.begin(), found.end());
-    };
-    const std::size_t first_wall = tool.lids.size() + tool.floors.size();
-    Notch notch{marked(tool.lids.size(), tool.floors.size()), {}};
-    notch.walls = marked(first_wall, tool.walls.size());
+    Notch notch{made.marked(tool.lids.size(), tool.floors.size()), {}};
+    notch.walls = made.marked(tool.lids.size() + tool.floors.size(), tool.walls.size());
     return notch;
 }
 
@@ -424,7 +416,7 @@ inline std::vector<Face> make_chamfers(Bench &bench, const std::vector<Edge> &ed
     const Combined made = change(bench, face, tool, are_outer);
     std::vector<Face> slopes;
     for (std::size_t at = 0; at < edges.size(); at++)
-        slopes.push_back(*made.marked(edges.size() + at).begin());
+        slopes.push_back(made.marked(edges.size() + at, 1).front());
     return slopes;
 }
 

@@ -471,15 +471,10 @@ private:
     static Vector crossing(const Side &side, const Segment &own, const Segment &across)
     {
         const auto turn = [&](const Spot &at) { return across.x * (at.y - across.start.y) - across.y * (at.x - across.start.x); };
-        const Wide before = turn(own.start), whole = before - turn(own.end);
-        Vector at = side.start;
-        for (std::size_t axis = 0; axis < 3; axis++) {
-            const Wide along = before * side.way()[axis];
-            if (along % whole != 0)
-                throw impossible(Misfit::off_lattice, side.half.edge().number());
-            at[axis] += along / whole;
-        }
-        return at;
+        const std::optional<Vector> at = on_way(side.start, side.way(), turn(own.start), turn(own.start) - turn(own.end));
+        if (!at)
+            throw impossible(Misfit::off_lattice, side.half.edge().number());
+        return *at;
     }
 
     std::vector<Sheet> sheets_;
