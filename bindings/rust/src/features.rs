@@ -8,16 +8,15 @@ use std::ops::Deref;
 /// Where points go: each axis to an axis, either way round, and then by a vector.
 #[derive(Clone, Copy, Debug, PartialEq, Eq)]
 pub struct Motion {
-    /// For each axis the one that goes there.
-    from: [usize; 3],
-    sign: [i64; 3],
+    /// For each axis the one that goes there, from 1 on, with a sign.
+    axes: [i32; 3],
     by: Point,
 }
 
 impl Default for Motion {
     /// All points stay.
     fn default() -> Self {
-        Self { from: [0, 1, 2], sign: [1; 3], by: Point::default() }
+        Self { axes: [1, 2, 3], by: Point::default() }
     }
 }
 
@@ -32,7 +31,8 @@ impl Motion {
     pub fn quarter_turns(axis: usize, times: usize) -> Self {
         let (first, second) = ((axis + 1) % 3, (axis + 2) % 3);
         let mut quarter = Self::default();
-        (quarter.from[first], quarter.sign[first], quarter.from[second]) = (second, -1, first);
+        quarter.axes.swap(first, second);
+        quarter.axes[first] *= -1;
         (0..times % 4).fold(Self::default(), |turned, _| turned.then(quarter))
     }
 
@@ -40,36 +40,38 @@ impl Motion {
     #[must_use]
     pub fn mirror(axis: usize) -> Self {
         let mut motion = Self::default();
-        motion.sign[axis % 3] = -1;
+        motion.axes[axis % 3] *= -1;
         motion
     }
 
     /// This motion, and then another.
     #[must_use]
     pub fn then(self, next: Self) -> Self {
-        let from = next.from.map(|axis| self.from[axis]);
-        let sign = [0, 1, 2].map(|axis: usize| next.sign[axis] * self.sign[next.from[axis]]);
-        Self { from, sign, by: next.moved(self.by) }
+        Self { axes: next.axes.map(|axis| axis.signum() * self.axes[place(axis)]), by: next.moved(self.by) }
     }
 
     /// Where a point goes.
     #[must_use]
     pub fn moved(self, point: Point) -> Point {
         let parts: [i64; 3] = point.into();
-        Point::from([0, 1, 2].map(|axis: usize| self.sign[axis] * parts[self.from[axis]])) + self.by
+        Point::from(self.axes.map(|axis| i64::from(axis.signum()) * parts[place(axis)])) + self.by
     }
 
     /// Whether left becomes right.
     #[must_use]
     pub fn is_mirror(self) -> bool {
-        let is_even = self.from[1] == (self.from[0] + 1) % 3;
-        (self.sign.iter().product::<i64>() < 0) == is_even
+        let is_even = place(self.axes[1]) == (place(self.axes[0]) + 1) % 3;
+        (self.axes.iter().product::<i32>() < 0) == is_even
     }
 
     fn row(self) -> gwb_sys::Motion {
-        let axes = [0, 1, 2].map(|at: usize| self.sign[at] as i32 * (self.from[at] as i32 + 1));
-        gwb_sys::Motion { axes, by: self.by.into() }
+        gwb_sys::Motion { axes: self.axes, by: self.by.into() }
     }
+}
+
+/// The place of an axis among the three.
+fn place(axis: i32) -> usize {
+    axis.unsigned_abs() as usize - 1
 }
 
 /// What [`profile`](Operators::profile) makes: the face that was moved, the one that stayed, and for each point the side from it to the next.
