@@ -205,6 +205,19 @@ class Interrupted(unittest.TestCase):
                 bench.undo()
                 self.assertEqual(bench.listing(), held)
 
+    def test_a_draft_left_before_it_is_noted(self):
+        class Leaving(list):
+            def append(self, _):
+                raise Left
+        with Workbench(library()) as bench:
+            bench._bench.kernel.blocks = Leaving()
+            for begin in (bench.draft, bench.group):
+                with self.assertRaises(Left), begin():
+                    self.fail('it has begun')
+            bench._bench.kernel.blocks = []
+            bench.block((0, 0, 0), (2, 2, 2))
+            bench.undo()
+
     def test_a_handler_that_gives_a_call_in_a_call(self):
         with Workbench(library()) as bench:
             bench.block((0, 0, 0), (2, 2, 2))

@@ -179,8 +179,8 @@ class Block:
                 kernel.begin_turn()
             kernel.lines.require_open()
             self._work = (_PartOfDraft if kernel.lines.is_drafting else _Group if self._is_group else _Draft)(kernel)
+            kernel.blocks.append(self._work)
             try:
-                kernel.blocks.append(self._work)
                 self._work.begin()
                 if not kernel.is_inside:
                     kernel.hold()
