@@ -6,6 +6,7 @@ from typing import Dict, List, NamedTuple, Optional, Sequence, Tuple
 from ..geometry.vectors import negative
 from .bench import Bench
 from .commands import Commands
+from .feature_calls import INTO, words
 from .labelling import LabelledFaces
 from .results import Split
 from .telling import warn
@@ -76,8 +77,9 @@ def opposite(plane: Plane) -> Plane:
 def united(bench: Bench, solids: Sequence[int]) -> int:
     """Makes one solid of several that touch, as one command: the number of the first one."""
     with bench.step():
+        bench.features.give('union', words(solids), len(solids), frees=True)
         merged: Dict[int, List[int]] = {}
-        for face, part in bench.features.union(solids):
+        for face, part in bench.features.pairs(INTO):
             merged.setdefault(part, []).append(face)
         for part, faces in merged.items():
             first = part if part in faces else faces[0]

@@ -101,6 +101,20 @@ class Outlined(NamedTuple):
     vertices: Tuple[int, ...]
 
 
+# What is given by its address.
+_IN_MEMORY = (ctypes.Structure, ctypes.Array, WORD)
+
+
+def rows(points: Sequence[Vector]) -> Any:
+    """Points as the library takes them."""
+    return (_LENGTH * (3 * len(points)))(*[part for point in points for part in point])
+
+
+def words(numbers: Sequence[int]) -> Any:
+    """Numbers alike."""
+    return (WORD * len(numbers))(*numbers)
+
+
 def ratio(value: Fraction) -> Optional[Ratio]:
     """A fraction above zero, if its terms fit: those of lengths and areas do."""
     return Ratio(value.numerator, value.denominator) if max(value.numerator, value.denominator) <= _MOST_TERM else None
@@ -123,26 +137,30 @@ class FeatureCalls:
         self._library, self._handle = library, ctypes.addressof(kernel.lines.handle)
 
     def give(self, word: str, *values: Any, frees: bool = False) -> None:
-        """Gives a feature; `frees` where numbers may be free after it that were in use."""
+        """Gives a feature of numbers, and of what lies in memory, by its address; `frees` where numbers may be free after it that were in use."""
         why = Refusal()
         call: Callable[..., int] = getattr(self._library, word)
-        said = self._kernel.giving(lambda: call(self._handle, *values, ctypes.addressof(why)), frees)
+        given = [ctypes.addressof(value) if isinstance(value, _IN_MEMORY) else value for value in (*values, why)]
+        said = self._kernel.giving(lambda: call(self._handle, *given), frees)
         if said != OK:
             raise self._complaint(word, said, why)
 
+    def written(self, word: str, room: int, *values: Any, frees: bool = False) -> Tuple[int, ...]:
+        """Gives a feature that writes so many numbers behind what it takes: these."""
+        made = (WORD * room)()
+        self.give(word, *values, made, frees=frees)
+        return tuple(made)
+
     def outline(self, word: str, number: int, points: Sequence[Vector], *more: Any, of_vertices: bool = False) -> Outlined:
         """Gives a feature of an outline in a face, or of a solid to be."""
-        count = len(points)
-        rows = (_LENGTH * (3 * count))(*[part for point in points for part in point])
-        made, along, vertices = Pair(), (WORD * (count + 1))(), (WORD * (count + 1))()
-        behind = [ctypes.addressof(vertices)] if of_vertices else []
-        self.give(word, number, ctypes.addressof(rows), count, *more, ctypes.addressof(made), ctypes.addressof(along), *behind)
-        return Outlined(made.first, made.second, tuple(along[:count]), tuple(vertices[:count]))
+        made, along, vertices = Pair(), (WORD * len(points))(), (WORD * len(points))()
+        self.give(word, number, rows(points), len(points), *more, made, along, *([vertices] if of_vertices else []))
+        return Outlined(made.first, made.second, tuple(along), tuple(vertices))
 
     def drill(self, face: int, center: Vector, radius: int, sides: int, depth: int) -> Tuple[Outlined, Tuple[Vector, ...]]:
         """A hole with a polygon, through where the depth is 0; and the corners of the polygon."""
-        middle, made, along, points = Point(*center), Pair(), (WORD * sides)(), (Point * sides)()
-        self.give('drill', face, ctypes.addressof(middle), radius, sides, depth, *map(ctypes.addressof, (made, along, points)))
+        made, along, points = Pair(), (WORD * sides)(), (Point * sides)()
+        self.give('drill', face, Point(*center), radius, sides, depth, made, along, points)
         return Outlined(made.first, made.second, tuple(along), ()), tuple((at.x, at.y, at.z) for at in points)
 
     def find(self, kind: str, query: ctypes.Structure) -> List[int]:
@@ -158,35 +176,10 @@ class FeatureCalls:
                 return found[:count.value]
             room = count.value
 
-    def notch(self, face: int, points: Sequence[Vector], depth: int) -> None:
-        """A pocket up to the edges of a face."""
-        rows = (_LENGTH * (3 * len(points)))(*[part for point in points for part in point])
-        self.give('notch', face, ctypes.addressof(rows), len(points), depth, frees=True)
-
-    def strip(self, word: str, face: int, ends: Tuple[Vector, Vector], width: int, depth: int) -> None:
-        """A slot or a groove."""
-        start, end = (Point(*point) for point in ends)
-        self.give(word, face, ctypes.addressof(start), ctypes.addressof(end), width, depth, frees=True)
-
-    def chamfer(self, edge: int, width: int, other: int) -> int:
-        """A chamfer: its face."""
-        made = WORD()
-        self.give('chamfer', edge, width, other, ctypes.addressof(made), frees=True)
-        return made.value
-
-    def chamfer_edges(self, edges: Sequence[int], width: int) -> Tuple[int, ...]:
-        """Chamfers at once: the face of each."""
-        numbers, made = (WORD * len(edges))(*edges), (WORD * len(edges))()
-        self.give('chamfer_edges', ctypes.addressof(numbers), len(edges), width, ctypes.addressof(made), frees=True)
-        return tuple(made)
-
     def polyhedron(self, solid: int, points: Sequence[Vector], faces: Sequence[Sequence[int]]) -> Pair:
         """A solid of points, and of faces by their corners: its first vertex and its first face."""
-        made, count = Pair(), len(points)
-        rows = (_LENGTH * (3 * count))(*[part for point in points for part in point])
-        corners, sizes = [corner for face in faces for corner in face], [len(face) for face in faces]
-        lists = (WORD * (len(corners) or 1))(*corners), (WORD * len(sizes))(*sizes)
-        self.give('polyhedron', solid, ctypes.addressof(rows), count, *map(ctypes.addressof, lists), len(sizes), ctypes.addressof(made))
+        made, corners = Pair(), words([corner for face in faces for corner in face])
+        self.give('polyhedron', solid, rows(points), len(points), corners, words([len(face) for face in faces]), len(faces), made)
         return made
 
     def load(self, model: Model) -> None:
@@ -196,7 +189,7 @@ class FeatureCalls:
 
     def whole_factor(self, solid: int, plane: Sequence[int]) -> int:
         """The least number by which the model must be multiplied for all points of a cut to be whole."""
-        advice, row, why = ADDRESS(), (_LENGTH * 4)(*plane), Refusal()
+        advice, row, why = ADDRESS(), CutPlane(*plane), Refusal()
         said = self._library.off_lattice(self._handle, solid, ctypes.addressof(row), 0, ctypes.addressof(advice), ctypes.addressof(why))
         if said != OK:
             raise self._complaint('off_lattice', said, why)
@@ -219,38 +212,13 @@ class FeatureCalls:
 
     def _cut(self, word: str, solid: int, plane: Sequence[int], more: Sequence[int], above: int) -> None:
         """Cuts a solid; what is refused has the advice that a split with this number above has."""
-        row = (_LENGTH * 4)(*plane)
         try:
-            self.give(word, solid, ctypes.addressof(row), *more, frees=True)
+            self.give(word, solid, CutPlane(*plane), *more, frees=True)
         except Refused as error:
             if error.number:
                 line = ' '.join(map(str, ('split', solid, *plane, above)))
                 self._kernel.advise(error, line, Reply((f'refused {error.number} {error.value}',)))
             raise
-
-    def union(self, solids: Sequence[int]) -> List[Tuple[int, int]]:
-        """One solid of several: faces that became one with others, or several, each with one that it went into."""
-        numbers = (WORD * len(solids))(*solids)
-        self.give('union', ctypes.addressof(numbers), len(solids), frees=True)
-        found = self.made(INTO)
-        return list(zip(found[::2], found[1::2]))
-
-    def copy(self, solid: int, motion: Motion) -> int:
-        """A copy of a solid: its number."""
-        made = WORD()
-        self.give('copy_solid', solid, ctypes.addressof(motion), ctypes.addressof(made))
-        return made.value
-
-    def row(self, word: str, solid: int, count: int, *way: Any) -> Tuple[int, ...]:
-        """So many solids, each one's place by that of the one before it: those that are new."""
-        made = (WORD * count)()
-        self.give(word, solid, count, *way, ctypes.addressof(made))
-        return tuple(made[:count - 1])
-
-    def glue_all(self, solids: Sequence[int]) -> None:
-        """Solids become the first along the faces that match."""
-        numbers = (WORD * len(solids))(*solids)
-        self.give('glue_all', ctypes.addressof(numbers), len(solids), frees=True)
 
     def made(self, which: int) -> Tuple[int, ...]:
         """A list of what the last feature made."""

@@ -1,11 +1,11 @@
 """The methods of a workbench that make features of outlines."""
 
-from ctypes import addressof
 from typing import List, Optional, Sequence, Tuple
 
 from ..geometry.vectors import Vector
 from . import arguments
 from .bench import Methods
+from .feature_calls import words
 from .library import Point
 from .results import Hole, Pocket, Polyhedron, Profile, Ring
 from .sketches import Sketch, sketch_on
@@ -23,7 +23,7 @@ class FeatureMethods(Methods):
         OutlineCrossed: the outline crosses or touches itself; AlongPlane: the vector lies in the plane of the points."""
         outline, way = arguments.points('points', points), Point(*arguments.point('along', along))
         number = self._bench.new('solid', solid)
-        made = self._bench.features.outline('profile', number, outline, addressof(way))
+        made = self._bench.features.outline('profile', number, outline, way)
         return Profile(number, made.first, made.second, made.along)
 
     def polyhedron(self, points: arguments.Points, faces: Sequence[Sequence[int]], *, solid: Optional[int] = None) -> Polyhedron:
@@ -115,5 +115,5 @@ class FeatureMethods(Methods):
         numbers = self._bench.several('solids', solids, 'solid')
         if not numbers or len(set(numbers)) < len(numbers):
             raise ValueError('solids: different numbers are wanted, at least one')
-        self._bench.features.glue_all(numbers)
+        self._bench.features.give('glue_all', words(numbers), len(numbers), frees=True)
         return numbers[0]

@@ -5,7 +5,7 @@ import os
 import re
 from ctypes.util import find_library
 from pathlib import Path
-from typing import Any, Dict, Iterator, List, Optional, Sequence, Tuple, Type
+from typing import Any, Callable, Dict, Iterator, List, Optional, Sequence, Tuple, Type
 
 from ..errors import CompanionError, Ended, InDraft, NoDraft, ProgramMissing
 from ..geometry.free_numbers import KINDS, from_least
@@ -281,27 +281,17 @@ class Library:
     def script(self, first: int, count: int) -> str:
         """The lines of so many commands that are held, from a place on; those of the draft that is open come last."""
         self.require_open()
-        room = _ROOM
-        while True:
-            buffer = ctypes.create_string_buffer(room)
-            length = self.library.script(self.handle, first, count, buffer, room)
-            if length <= room:
-                return buffer.raw[:length].decode('utf-8', 'surrogateescape')
-            room = length
+        lines: bytes = self._filled(ctypes.c_char, _ROOM, lambda buffer, room: int(self.library.script(self.handle, first, count, buffer, room)))
+        return lines.decode('utf-8', 'surrogateescape')
 
     # The model
 
     def half_edges(self, loop: int) -> Tuple[int, ...]:
         """The half-edges of a loop, from the least on: none of a lone loop, or of one that is not there."""
-        room = _FEW
-        while True:
-            codes = (WORD * room)()
-            count = self.library.half_edges(self.handle, loop, codes, room)
-            self.require_open()
-            if count <= room:
-                halves = [-(code // 2) if code % 2 else code // 2 for code in codes[:count]]
-                return from_least(halves) if halves else ()
-            room = count
+        self.require_open()
+        codes = self._filled(WORD, _FEW, lambda buffer, room: int(self.library.half_edges(self.handle, loop, buffer, room)))
+        halves = [-(code // 2) if code % 2 else code // 2 for code in codes]
+        return from_least(halves) if halves else ()
 
     def in_use(self, kind: str, number: int) -> bool:
         """Whether the number of the kind is in use."""
@@ -400,12 +390,17 @@ class Library:
 
     def _text(self) -> bytes:
         """The text of the last answer, its newlines included."""
-        room = _ROOM
+        text: bytes = self._filled(ctypes.c_char, _ROOM, lambda buffer, room: int(self.library.reply(self.handle, buffer, room)))
+        return text
+
+    @staticmethod
+    def _filled(kind: Any, room: int, write: Callable[[Any, int], int]) -> Any:
+        """All that a call writes, which is given more room where there is more."""
         while True:
-            buffer = ctypes.create_string_buffer(room)
-            length = self.library.reply(self.handle, buffer, room)
+            buffer = (kind * room)()
+            length = write(buffer, room)
             if length == _NO_TEXT:
                 raise TextRefused('memory for the text of the reply was refused')
             if length <= room:
-                return buffer.raw[:length]
+                return buffer[:length]
             room = length

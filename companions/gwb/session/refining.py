@@ -3,8 +3,7 @@
 So a plane whose cut has points between whole coordinates can cut after all.
 """
 
-from contextlib import contextmanager
-from typing import Callable, Iterator, TypeVar
+from typing import Callable, TypeVar
 
 from ..errors import Refused
 from ..geometry.crossings import Plane, without_common_factor
@@ -13,9 +12,9 @@ from .bench import Bench
 Made = TypeVar('Made')
 
 
-def with_finer_unit(bench: Bench, solid: int, plane: Plane, cut: Callable[[Plane], Made]) -> Made:
-    """Cuts a solid by a plane, and where points of the cut aren't whole, once the unit is the least finer one in which they are; both as one
-    command.
+def cut_by(bench: Bench, solid: int, plane: Plane, may_scale: bool, cut: Callable[[Plane], Made]) -> Made:
+    """Cuts a solid by a plane. Where points of the cut aren't whole, that is refused with the least factor by which they are, or it is done once the
+    unit is the least finer one in which they are; both as one command.
 
     Refused: what the cut is refused for, with all as before; PointRange: in the finer unit a point would leave the range."""
     try:
@@ -23,7 +22,10 @@ def with_finer_unit(bench: Bench, solid: int, plane: Plane, cut: Callable[[Plane
     except Refused as refused:
         if refused.name != 'NotLattice':
             raise
-    factor = bench.features.whole_factor(solid, plane)
+        factor = bench.features.whole_factor(solid, plane)
+        if not may_scale:
+            refused.args = (f'{refused.args[0]}; times {factor} all its points are whole, as scale=True makes them; off_lattice() names planes near by',)
+            raise
     with bench.step():
         try:
             bench.features.give('scale', factor)
@@ -33,15 +35,3 @@ def with_finer_unit(bench: Bench, solid: int, plane: Plane, cut: Callable[[Plane
         bench.kernel.notes.unit = bench.kernel.notes.unit / factor
         # (its offset stays in range, since it meets edges whose ends do)
         return cut(without_common_factor((*plane[:3], plane[3] * factor)))
-
-
-@contextmanager
-def telling_what_helps(bench: Bench, solid: int, plane: Plane) -> Iterator[None]:
-    """A cut that is refused NotLattice says the least factor by which its points are whole, and where to turn."""
-    try:
-        yield
-    except Refused as refused:
-        if refused.name == 'NotLattice':
-            factor = bench.features.whole_factor(solid, plane)
-            refused.args = (f'{refused.args[0]}; times {factor} all its points are whole, as scale=True makes them; off_lattice() names planes near by',)
-        raise

@@ -1,6 +1,6 @@
 """The methods of a workbench that take solids as wholes (solids.py), cut and unite them (cutting.py), and shape them up to the edges of their faces."""
 
-from typing import Callable, Optional, Sequence, Tuple
+from typing import Any, Optional, Sequence, Tuple
 
 from ..geometry.free_numbers import LARGEST
 from ..geometry.moved import Change, mirroring, moving
@@ -9,8 +9,9 @@ from ..geometry.vectors import ZERO
 from . import arguments, cutting, refining, solids
 from .bench import Bench, Methods
 from .cutting import Cut, Keep, Plane
-from .feature_calls import FLOOR, WALLS, FeatureCalls
+from .feature_calls import FLOOR, WALLS, rows, words
 from .labelling import LabelledFaces
+from .library import Point
 from .reading import EdgePart
 from .results import Notch, Renumbered, Split
 from .solids import Copy
@@ -21,7 +22,7 @@ class SolidMethods(Methods):
 
     def delete(self, solid: arguments.Solid) -> None:
         """The solid goes, with all that it has. Refused: NoSolid."""
-        solids.delete(self._bench, self._bench.number('solid', solid))
+        self._bench.features.give('kill_solid', self._bench.number('solid', solid), frees=True)
 
     def copy(self, solid: arguments.Solid, *, move: arguments.Point = ZERO, mirror: Optional[arguments.Point] = None) -> Copy:
         """A copy of the solid, mirrored in a plane where one is given, and then moved by the vector: the numbers of its things by those of
@@ -45,21 +46,23 @@ class SolidMethods(Methods):
         if many > LARGEST:
             raise Impossible('NumbersSpent', 1, f'there are {LARGEST:,} numbers for solids, not {many:,}')
         with self._bench.step():
-            return tuple(_labelled(self._bench, made) for made in solids.in_a_row(self._bench, number, many, way))
+            made = solids.in_a_row(self._bench, 'pattern', number, many - 1, many, Point(*way))
+            return tuple(_labelled(self._bench, copy) for copy in made)
 
     def pattern_around(self, solid: arguments.Solid, count: int, axis: str, times: int = 1, *, about: arguments.Point = ZERO) -> Tuple[Copy, ...]:
         """Copies of the solid around the axis 'x', 'y' or 'z' through a point, each so many quarter turns on from the one before it, counterclockwise as
         seen from where the axis points, so that there are `count` of it with itself: at most 4, or 2 by half turns. Refused as copy is."""
         number, many = self._bench.number('solid', solid), arguments.positive('count', count)
-        turn = solids.axis_of(axis), arguments.coordinate('times', times) % 4
-        middle = arguments.point('about', about)
-        most = (1, 4, 2, 4)[turn[1]]
+        about_axis, quarters = solids.AXES.index(solids.axis_of(axis)), arguments.coordinate('times', times) % 4
+        middle = Point(*arguments.point('about', about))
+        most = (1, 4, 2, 4)[quarters]
         if most == 1:
             raise ValueError(f'times: {times} quarter turns lead back')
         if not 2 <= many <= most:
             raise ValueError(f'count: {many} is outside 2 to {most}')
         with self._bench.step():
-            return tuple(_labelled(self._bench, made) for made in solids.around(self._bench, number, many, turn, middle))
+            made = solids.in_a_row(self._bench, 'pattern_around', number, many - 1, many, about_axis, quarters, middle)
+            return tuple(_labelled(self._bench, copy) for copy in made)
 
     def move(self, solid: arguments.Solid, vector: arguments.Point) -> int:
         """The solid moves by the vector: its number, which stays, as all of its numbers do. Refused: NoSolid; PointRange: a point would
@@ -95,10 +98,8 @@ class SolidMethods(Methods):
         point would then lie past 1,000,000,000."""
         number, level = self._bench.number('solid', solid), arguments.plane('plane', plane)
         new = None if above is None else arguments.number('above', above)
-        if not arguments.flag('scale', scale):
-            with refining.telling_what_helps(self._bench, number, level):
-                return cutting.split(self._bench, number, level, new)
-        return refining.with_finer_unit(self._bench, number, level, lambda plane: cutting.split(self._bench, number, plane, new))
+        may_scale = arguments.flag('scale', scale)
+        return refining.cut_by(self._bench, number, level, may_scale, lambda plane: cutting.split(self._bench, number, plane, new))
 
     def cut(self, solid: arguments.Solid, plane: arguments.Point, *, keep: str = 'both', above: Optional[int] = None, scale: bool = False) -> Cut:
         """The solid is cut by the plane a x + b y + c z + d = 0. What lies below it stays the solid, and what lies above it becomes a new one,
@@ -112,10 +113,8 @@ class SolidMethods(Methods):
         new = None if above is None else arguments.number('above', above)
         if new is not None and wanted is not Keep.BOTH:
             raise ValueError(f'above: the part above the plane gets no number of its own where {keep!r} alone is kept')
-        if not arguments.flag('scale', scale):
-            with refining.telling_what_helps(self._bench, number, level):
-                return _cut(self._bench, number, level, wanted, new)
-        return refining.with_finer_unit(self._bench, number, level, lambda plane: _cut(self._bench, number, plane, wanted, new))
+        may_scale = arguments.flag('scale', scale)
+        return refining.cut_by(self._bench, number, level, may_scale, lambda plane: _cut(self._bench, number, plane, wanted, new))
 
     def trim(self, solid: arguments.Solid, plane: arguments.Point, *, scale: bool = False) -> Tuple[int, ...]:
         """What lies above the plane is cut off and thrown away: the faces that close what is left. With scale=True it is cut in a finer unit
@@ -140,28 +139,30 @@ class SolidMethods(Methods):
         would touch itself."""
         number, outline = self._bench.number('face', face), arguments.points('points', points)
         deep = arguments.positive('depth', depth)
-        return _shaped(self._bench, number, lambda features: features.notch(number, outline, deep))
+        return _shaped(self._bench, number, 'notch', rows(outline), len(outline), deep)
 
     def slot(self, face: arguments.Face, start: arguments.Point, end: arguments.Point, width: int, depth: int) -> Notch:
         """A slot with a flat floor, so wide and deep, whose middle line runs in the face from one point to another. Refused as notch is;
         OffLattice: half of the width isn't whole across the line."""
-        number, ends = self._bench.number('face', face), (arguments.point('start', start), arguments.point('end', end))
+        number = self._bench.number('face', face)
+        ends = Point(*arguments.point('start', start)), Point(*arguments.point('end', end))
         wide, deep = arguments.positive('width', width), arguments.positive('depth', depth)
-        return _shaped(self._bench, number, lambda features: features.strip('slot', number, ends, wide, deep))
+        return _shaped(self._bench, number, 'slot', *ends, wide, deep)
 
     def groove(self, face: arguments.Face, start: arguments.Point, end: arguments.Point, width: int, depth: int) -> Notch:
         """A groove like a V, so wide at the face and so deep under its middle line, which runs from one point to another; it has no floor.
         Refused as notch is; OffLattice: half of the width isn't whole across the line."""
-        number, ends = self._bench.number('face', face), (arguments.point('start', start), arguments.point('end', end))
+        number = self._bench.number('face', face)
+        ends = Point(*arguments.point('start', start)), Point(*arguments.point('end', end))
         wide, deep = arguments.positive('width', width), arguments.positive('depth', depth)
-        return _shaped(self._bench, number, lambda features: features.strip('groove', number, ends, wide, deep))
+        return _shaped(self._bench, number, 'groove', *ends, wide, deep)
 
     def shoulder(self, face: arguments.Face, edge: arguments.Edge, width: int, depth: int) -> Notch:
         """A step along an edge of the face: so wide in the face, from the edge on, and so deep behind it. Refused as notch is; NoEdge,
         NotOfFace: the edge isn't one of the face."""
         number, along = self._bench.number('face', face), self._bench.number('edge', edge)
         wide, deep = arguments.positive('width', width), arguments.positive('depth', depth)
-        return _shaped(self._bench, number, lambda features: features.give('shoulder', number, along, wide, deep, frees=True))
+        return _shaped(self._bench, number, 'shoulder', along, wide, deep)
 
     def chamfer(self, edge: arguments.Edge, width: int, other: Optional[int] = None) -> int:
         """The edge becomes a sloping face, which begins so far from it in the face of its half-edge `+e`, and in the other one as far, or so
@@ -171,7 +172,7 @@ class SolidMethods(Methods):
         corner wouldn't be whole; OutlineOutside, Meets: there is no room for it."""
         number, wide = self._bench.number('edge', edge), arguments.positive('width', width)
         far = wide if other is None else arguments.positive('other', other)
-        return _sloped(self._bench, [number], lambda features: [features.chamfer(number, wide, far)])[0]
+        return _sloped(self._bench, 'chamfer', [number], number, wide, far)[0]
 
     def chamfer_edges(self, edges: Sequence[arguments.Edge], width: int) -> Tuple[int, ...]:
         """Different edges become sloping faces at once, which begin so far from them in the faces on both sides: the face of each. Where two or three
@@ -182,17 +183,17 @@ class SolidMethods(Methods):
         numbers, wide = self._bench.several('edges', edges, 'edge'), arguments.positive('width', width)
         if not numbers or len(set(numbers)) < len(numbers):
             raise ValueError('edges: different numbers are wanted, at least one')
-        return tuple(_sloped(self._bench, numbers, lambda features: features.chamfer_edges(numbers, wide)))
+        return _sloped(self._bench, 'chamfer_edges', numbers, words(numbers), len(numbers), wide)
 
 
-def _sloped(bench: Bench, edges: Sequence[int], give: Callable[[FeatureCalls], Sequence[int]]) -> Sequence[int]:
-    """Gives a feature that makes slopes of edges, which it returns; the parts of faces get the labels of these."""
+def _sloped(bench: Bench, word: str, edges: Sequence[int], *values: Any) -> Tuple[int, ...]:
+    """Gives a feature that makes slopes of edges, which are returned; the parts of faces get the labels of these."""
     lines = bench.kernel.lines
     for edge in edges:
         EdgePart(bench.kernel, edge).vertices
     labelled = LabelledFaces(bench.kernel, bench.solid_of(lines.face_of_loop(lines.loop_of(edges[0]))))
     with bench.step():
-        made = give(bench.features)
+        made = bench.features.written(word, len(edges), *values, frees=True)
         labelled.label_parts([bench.solid_of(made[0])], made)
     return made
 
@@ -212,12 +213,12 @@ def _cut(bench: Bench, solid: int, plane: Plane, wanted: Keep, above: Optional[i
     return Cut(None, solid, (), cutting.trimmed(bench, solid, cutting.opposite(plane)))
 
 
-def _shaped(bench: Bench, face: int, give: Callable[[FeatureCalls], None]) -> Notch:
-    """Gives a feature that leaves a floor and walls in the solid of a face, whose labels the parts of its faces get. Refused: NoFace."""
+def _shaped(bench: Bench, face: int, word: str, *values: Any) -> Notch:
+    """Gives a feature in a face that leaves a floor and walls in its solid, whose labels the parts of its faces get. Refused: NoFace."""
     solid = bench.solid_of(face)
     labelled = LabelledFaces(bench.kernel, solid)
     with bench.step():
-        give(bench.features)
+        bench.features.give(word, face, *values, frees=True)
         made = Notch(bench.features.made(FLOOR), bench.features.made(WALLS))
         labelled.label_parts([solid], (*made.floor, *made.walls))
     return made

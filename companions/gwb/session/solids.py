@@ -7,7 +7,7 @@ import ctypes
 from dataclasses import dataclass, field
 from fractions import Fraction
 from functools import reduce
-from typing import Dict, List, Mapping, Optional, Sequence, Tuple
+from typing import Any, Dict, List, Mapping, Optional, Sequence, Tuple
 
 from ..geometry.flat_face import ExactVector
 from ..geometry.free_numbers import renumbered
@@ -68,32 +68,20 @@ class Copy:
         return type(part)(part._kernel, numbers[part.kind][self._bench.number('part', part, part.kind)])
 
 
-def delete(bench: Bench, solid: int) -> None:
-    """Takes a solid away. Refused: NoSolid."""
-    bench.features.give('kill_solid', solid, frees=True)
-
-
 def copied(bench: Bench, solid: int, way: Sequence[Change]) -> Copy:
     """A copy of the solid after changes of place, by the library where these are of its kind. Refused: NoSolid, PointRange, OffLattice,
     NumbersSpent."""
     motion = _motion(way)
     if motion is None:
         return _copied_anew(bench, solid, way)
-    number = bench.features.copy(solid, motion)
-    return _told(bench, solid, [number])[0]
+    return in_a_row(bench, 'copy_solid', solid, 1, motion)[0]
 
 
-def in_a_row(bench: Bench, solid: int, count: int, step: Vector) -> Tuple[Copy, ...]:
-    """Copies of the solid, each a step farther than the one before, so that there are so many of it with itself."""
-    way = Point(*step)
-    return tuple(_told(bench, solid, bench.features.row('pattern', solid, count, ctypes.addressof(way))))
-
-
-def around(bench: Bench, solid: int, count: int, turn: Tuple[str, int], about: Vector) -> Tuple[Copy, ...]:
-    """Copies of the solid, each so many quarter turns about an axis farther than the one before."""
-    axis, quarters = turn
-    middle = Point(*about)
-    return tuple(_told(bench, solid, bench.features.row('pattern_around', solid, count, AXES.index(axis), quarters, ctypes.addressof(middle))))
+def in_a_row(bench: Bench, word: str, solid: int, count: int, *way: Any) -> Tuple[Copy, ...]:
+    """So many copies of the solid, which a feature makes of where each lies."""
+    made = bench.features.written(word, count, solid, *way)
+    faces, loops, edges, vertices = (_shares(bench.features.pairs(which), count) for which in (FACES, LOOPS, EDGES, VERTICES))
+    return tuple(Copy(number, faces[place], loops[place], edges[place], vertices[place], solid, bench) for place, number in enumerate(made))
 
 
 def _motion(way: Sequence[Change]) -> Optional[Motion]:
@@ -116,12 +104,6 @@ def _motion(way: Sequence[Change]) -> Optional[Motion]:
     return Motion((ctypes.c_int32 * 3)(*axes), Point(*map(int, start)))
 
 
-def _told(bench: Bench, solid: int, made: Sequence[int]) -> List[Copy]:
-    """The copies of a solid that the library made last, in their order."""
-    faces, loops, edges, vertices = (_shares(bench.features.pairs(which), len(made)) for which in (FACES, LOOPS, EDGES, VERTICES))
-    return [Copy(number, faces[place], loops[place], edges[place], vertices[place], solid, bench) for place, number in enumerate(made)]
-
-
 def _shares(pairs: Sequence[Tuple[int, int]], count: int) -> List[Dict[int, int]]:
     """A list in so many parts of one length."""
     share = len(pairs) // count
@@ -140,11 +122,11 @@ def place(bench: Bench, solid: int, change: Change) -> None:
     """A solid comes to another place, and all its numbers stay. Refused: NoSolid, PointRange, OffLattice."""
     motion = _motion([change])
     if motion is not None:
-        bench.features.give('move_solid', solid, ctypes.addressof(motion))
+        bench.features.give('move_solid', solid, motion)
         return
     after = placed(bench.solid_model(solid), change)
     with bench.step():
-        delete(bench, solid)
+        bench.features.give('kill_solid', solid, frees=True)
         bench.features.load(after)
 
 
