@@ -161,22 +161,24 @@ inline Model moved(Model model, const Placing &placing)
 inline Model numbered(const Model &model, const Numbering &numbers, Solid solid)
 {
     Model made{solid, {}, {}, {}, {}, {}};
+    const auto put = [](auto &all, auto number, auto row) { all.emplace_hint(all.end(), number, std::move(row)); }; // (they rise, but in gaps)
     for (const auto &[face, loops] : model.faces) {
-        std::vector<Loop> &row = made.faces[numbers.faces.at(face)] = loops;
+        std::vector<Loop> row = loops;
         std::transform(row.begin(), row.end(), row.begin(), [&](Loop loop) { return numbers.loops.at(loop); });
         std::sort(row.begin() + 1, row.end());
+        put(made.faces, numbers.faces.at(face), std::move(row));
     }
     for (const auto &[loop, halves] : model.loops) {
         std::vector<HalfEdge> cycle = halves;
         std::transform(cycle.begin(), cycle.end(), cycle.begin(), [&](HalfEdge half) { return numbers.of(half); });
-        made.loops[numbers.loops.at(loop)] = from_least(std::move(cycle));
+        put(made.loops, numbers.loops.at(loop), from_least(std::move(cycle)));
     }
     for (const auto &[loop, vertex] : model.lone)
-        made.lone[numbers.loops.at(loop)] = numbers.vertices.at(vertex);
+        put(made.lone, numbers.loops.at(loop), numbers.vertices.at(vertex));
     for (const auto &[edge, ends] : model.edges)
-        made.edges[numbers.edges.at(edge)] = {numbers.vertices.at(ends.first), numbers.vertices.at(ends.second)};
+        put(made.edges, numbers.edges.at(edge), std::pair(numbers.vertices.at(ends.first), numbers.vertices.at(ends.second)));
     for (const auto &[vertex, at] : model.vertices)
-        made.vertices[numbers.vertices.at(vertex)] = at;
+        put(made.vertices, numbers.vertices.at(vertex), at);
     return made;
 }
 

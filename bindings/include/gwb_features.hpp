@@ -88,10 +88,10 @@ private:
 
 namespace features {
 
-/// Room for what belongs to the points of an outline, of which none needs memory once a feature was made.
-template <class Kind> class ByPoints {
+/// Room for so many numbers that a feature writes, of which none needs memory once it was made.
+template <class Kind> class Room {
 public:
-    explicit ByPoints(Items<Point> points) : numbers_(points.size() + 1), made_(points.size()) {} // (so that it has an address)
+    explicit Room(std::size_t count) : numbers_(count + 1), made_(count) {} // (so that it has an address)
     [[nodiscard]] std::uint32_t *to() { return numbers_.data(); }
     /// What was written.
     [[nodiscard]] std::vector<Kind> take()
@@ -105,14 +105,20 @@ private:
     std::vector<Kind> made_;
 };
 
+/// The rows that a call writes.
+template <class Row, class Write> std::vector<Row> rows(Write write)
+{
+    Row nothing{};
+    std::vector<Row> found(write(&nothing, 0));
+    if (!found.empty())
+        write(found.data(), found.size());
+    return found;
+}
+
 /// A list of what the last feature made.
 inline std::vector<std::uint32_t> listed(const gwb *g, gwb_list which)
 {
-    std::uint32_t none = 0;
-    std::vector<std::uint32_t> found(gwb_made(g, which, &none, 0));
-    if (!found.empty())
-        gwb_made(g, which, found.data(), found.size());
-    return found;
+    return rows<std::uint32_t>([&](std::uint32_t *to, std::size_t room) { return gwb_made(g, which, to, room); });
 }
 inline std::vector<Face> faces(const gwb *g, gwb_list which)
 {
@@ -122,16 +128,6 @@ inline std::vector<Face> faces(const gwb *g, gwb_list which)
     for (std::uint32_t face : found)
         made.emplace_back(face);
     return made;
-}
-
-/// The rows that a call writes.
-template <class Of, class Row> std::vector<Row> rows(std::size_t (*write)(const Of *, Row *, std::size_t), const Of *of)
-{
-    Row nothing{};
-    std::vector<Row> found(write(of, &nothing, 0));
-    if (!found.empty())
-        write(of, found.data(), found.size());
-    return found;
 }
 
 /// The numbers of things, and room for one more, so that they have an address.
@@ -146,13 +142,8 @@ template <class Kind> std::vector<std::uint32_t> numbers(Items<Kind> things)
 template <class Policy, class Call>
 typename Policy::template Returned<std::vector<Solid>> row(Commands<Policy> &bench, const char *command, std::uint32_t count, Call call)
 {
-    std::vector<std::uint32_t> numbers(count + std::size_t{1}); // (so that it has an address)
-    std::vector<Solid> made(count > 0 ? count - 1 : 0);
-    return bench.feature(command, [&](gwb *g, gwb_refusal *why) { return call(g, numbers.data(), why); }, [&] {
-        std::transform(numbers.begin(), numbers.begin() + static_cast<std::ptrdiff_t>(made.size()), made.begin(),
-                       [](std::uint32_t number) { return Solid(number); });
-        return std::move(made);
-    });
+    Room<Solid> made(count > 0 ? count - 1 : 0);
+    return bench.feature(command, [&](gwb *g, gwb_refusal *why) { return call(g, made.to(), why); }, [&] { return made.take(); });
 }
 
 /// A feature of an outline: its face and loop, and a number for each point.
@@ -160,7 +151,7 @@ template <class Made, class Policy, class Call>
 typename Policy::template Returned<Made> outlined(Commands<Policy> &bench, const char *command, Items<Point> points, Call call)
 {
     gwb_outline_made made{};
-    ByPoints<Face> sides(points);
+    Room<Face> sides(points.size());
     return bench.feature(command, [&](gwb *g, gwb_refusal *why) { return call(g, &made, sides.to(), why); }, [&] {
         return Made{Face(made.face), Loop(made.loop), sides.take()};
     });
@@ -306,7 +297,7 @@ template <class Policy>
 typename Policy::template Returned<Profile> profile(Commands<Policy> &bench, Solid solid, Items<Point> points, Point along)
 {
     gwb_profile_made made{};
-    features::ByPoints<Face> sides(points);
+    features::Room<Face> sides(points.size());
     return bench.feature(
         "profile",
         [&](gwb *g, gwb_refusal *why) {
@@ -346,8 +337,8 @@ typename Policy::template Returned<Polyhedron> polyhedron(Commands<Policy> &benc
 template <class Policy> typename Policy::template Returned<Ring> ring(Commands<Policy> &bench, Face face, Items<Point> points)
 {
     gwb_outline_made made{};
-    features::ByPoints<Edge> edges(points);
-    features::ByPoints<Vertex> vertices(points);
+    features::Room<Edge> edges(points.size());
+    features::Room<Vertex> vertices(points.size());
     return bench.feature(
         "ring",
         [&](gwb *g, gwb_refusal *why) {
@@ -378,7 +369,7 @@ typename Policy::template Returned<Pocket> boss(Commands<Policy> &bench, Face fa
 template <class Policy> typename Policy::template Returned<Hole> hole(Commands<Policy> &bench, Face face, Items<Point> points)
 {
     gwb_outline_made made{};
-    features::ByPoints<Face> sides(points);
+    features::Room<Face> sides(points.size());
     std::vector<Point> corners(points.begin(), points.end());
     return bench.feature(
         "hole",
@@ -394,7 +385,7 @@ typename Policy::template Returned<Hole> drill(Commands<Policy> &bench, Face fac
     constexpr std::uint32_t most_sides = 1'000'000;
     gwb_outline_made made{};
     std::vector<Point> points(sides <= most_sides ? sides + 1 : 1); // (so that it has an address)
-    features::ByPoints<Face> walls(Items<Point>(points.data(), points.size() - 1));
+    features::Room<Face> walls(points.size() - 1);
     return bench.feature(
         "drill",
         [&](gwb *g, gwb_refusal *why) {
@@ -454,14 +445,10 @@ template <class Policy>
 typename Policy::template Returned<std::vector<Face>> chamfer_edges(Commands<Policy> &bench, Items<Edge> edges, std::int64_t width)
 {
     const std::vector<std::uint32_t> numbers = features::numbers(edges);
-    std::vector<std::uint32_t> made(numbers.size());
-    std::vector<Face> slopes(edges.size());
+    features::Room<Face> slopes(edges.size());
     return bench.feature(
-        "chamfer_edges", [&](gwb *g, gwb_refusal *why) { return gwb_chamfer_edges(g, numbers.data(), edges.size(), width, made.data(), why); },
-        [&] {
-            std::transform(made.begin(), made.end() - 1, slopes.begin(), [](std::uint32_t face) { return Face(face); });
-            return std::move(slopes);
-        });
+        "chamfer_edges", [&](gwb *g, gwb_refusal *why) { return gwb_chamfer_edges(g, numbers.data(), edges.size(), width, slopes.to(), why); },
+        [&] { return slopes.take(); });
 }
 
 using CutPlane = gwb_cut_plane;
@@ -536,9 +523,9 @@ public:
     /// Whether the model times that number stays in range.
     [[nodiscard]] bool fits() const { return gwb_advice_fits(advice_.get()); }
     /// The edges that the plane cuts between whole points, rising.
-    [[nodiscard]] std::vector<gwb_edge_cut> cuts() const { return features::rows(gwb_advice_cuts, advice_.get()); }
+    [[nodiscard]] std::vector<gwb_edge_cut> cuts() const { return rows<gwb_edge_cut>(gwb_advice_cuts); }
     /// The planes beside it that would do, parallel ones first.
-    [[nodiscard]] std::vector<gwb_near_plane> planes() const { return features::rows(gwb_advice_planes, advice_.get()); }
+    [[nodiscard]] std::vector<gwb_near_plane> planes() const { return rows<gwb_near_plane>(gwb_advice_planes); }
     /// All of it as lines of a script, with this number for the solid above the plane. Empty where memory is refused.
     [[nodiscard]] std::string advice(Solid above) const
     {
@@ -550,6 +537,10 @@ public:
     }
 
 private:
+    template <class Row> [[nodiscard]] std::vector<Row> rows(std::size_t (*write)(const gwb_advice *, Row *, std::size_t)) const
+    {
+        return features::rows<Row>([&](Row *to, std::size_t room) { return write(advice_.get(), to, room); });
+    }
     std::shared_ptr<gwb_advice> advice_;
 };
 
