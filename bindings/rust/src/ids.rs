@@ -73,7 +73,7 @@ ids! {
 /// ```
 #[derive(Clone, Copy, Debug, Default, PartialEq, Eq, PartialOrd, Ord, Hash)]
 #[repr(transparent)]
-pub struct HalfEdge(u32);
+pub struct HalfEdge(pub(crate) u32);
 
 impl HalfEdge {
     /// As the calls of gwb.h have it: the edge's number times 2, and 1 more for the edge's second.

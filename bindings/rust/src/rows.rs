@@ -79,32 +79,44 @@ impl Sub for Point {
     }
 }
 
-/// A face: its solid and its outer loop.
-#[derive(Clone, Copy, Debug, Default, PartialEq, Eq, Hash)]
-#[allow(missing_docs)]
-pub struct FaceRow {
-    pub solid: Solid,
-    pub outer_loop: Loop,
+macro_rules! rows {
+    ($($(#[$doc:meta])* $name:ident { $($(#[$field_doc:meta])* $field:ident: $of:ident),+ })+) => {
+        $(
+            $(#[$doc])*
+            #[derive(Clone, Copy, Debug, Default, PartialEq, Eq, Hash)]
+            #[allow(missing_docs)]
+            pub struct $name {
+                $($(#[$field_doc])* pub $field: $of),+
+            }
+
+            impl From<gwb_sys::$name> for $name {
+                fn from(row: gwb_sys::$name) -> Self {
+                    Self { $($field: $of(row.$field)),+ }
+                }
+            }
+        )+
+    };
 }
 
-impl From<gwb_sys::FaceRow> for FaceRow {
-    fn from(row: gwb_sys::FaceRow) -> Self {
-        Self { solid: Solid(row.solid), outer_loop: Loop(row.outer_loop) }
+rows! {
+    /// A face: its solid and its outer loop.
+    FaceRow { solid: Solid, outer_loop: Loop }
+    /// An edge, by its vertices.
+    EdgeRow {
+        /// Where its first half-edge starts.
+        from: Vertex,
+        /// Where its second half-edge starts.
+        to: Vertex
     }
-}
-
-/// An edge, by its vertices.
-#[derive(Clone, Copy, Debug, Default, PartialEq, Eq, Hash)]
-pub struct EdgeRow {
-    /// Where its first half-edge starts.
-    pub from: Vertex,
-    /// Where its second half-edge starts.
-    pub to: Vertex,
-}
-
-impl From<gwb_sys::EdgeRow> for EdgeRow {
-    fn from(row: gwb_sys::EdgeRow) -> Self {
-        Self { from: Vertex(row.from), to: Vertex(row.to) }
+    /// A half-edge, and where it stands.
+    HalfEdgeRow {
+        half_edge: HalfEdge,
+        /// The vertex at which it starts.
+        start: Vertex,
+        /// The half-edge after it in its loop.
+        next: HalfEdge,
+        of_loop: Loop,
+        face: Face
     }
 }
 
@@ -124,31 +136,6 @@ pub struct Plane {
 impl From<gwb_sys::Plane> for Plane {
     fn from(wide: gwb_sys::Plane) -> Self {
         Self { a: wide.a.into(), b: wide.b.into(), c: wide.c.into(), d: wide.d.into(), flat: wide.flat != 0 }
-    }
-}
-
-/// A half-edge, and where it stands.
-#[derive(Clone, Copy, Debug, Default, PartialEq, Eq, Hash)]
-#[allow(missing_docs)]
-pub struct HalfEdgeRow {
-    pub half_edge: HalfEdge,
-    /// The vertex at which it starts.
-    pub start: Vertex,
-    /// The half-edge after it in its loop.
-    pub next: HalfEdge,
-    pub of_loop: Loop,
-    pub face: Face,
-}
-
-impl From<gwb_sys::HalfEdgeRow> for HalfEdgeRow {
-    fn from(row: gwb_sys::HalfEdgeRow) -> Self {
-        Self {
-            half_edge: HalfEdge::from_code(row.half_edge),
-            start: Vertex(row.start),
-            next: HalfEdge::from_code(row.next),
-            of_loop: Loop(row.of_loop),
-            face: Face(row.face),
-        }
     }
 }
 
