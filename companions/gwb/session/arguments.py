@@ -8,7 +8,7 @@ from os import PathLike, fspath
 from typing import Iterable, List, Optional, Protocol, Sequence, Tuple, Union
 
 from ..geometry.free_numbers import KINDS, LARGEST
-from ..geometry.vectors import Vector
+from ..geometry.vectors import Vector, ZERO
 from ..protocol.word_advice import FINER_UNIT
 from .reading import EdgePart, FacePart, LoopPart, Part, SolidPart, VertexPart
 from .results import Lone, Plane
@@ -114,6 +114,14 @@ def plane(name: str, value: object) -> Tuple[int, int, int, int]:
     """The four coefficients of a plane, or a plane as `plane` returns it, whose coefficients are made as small as they can be."""
     a, b, c, d = _coordinates(name, _reduced(value[:4]) if isinstance(value, Plane) else value, 4)
     return (a, b, c, d)
+
+
+def plane_across(name: str, value: object) -> Tuple[int, int, int, int]:
+    """The same of a plane that has a normal."""
+    found = plane(name, value)
+    if found[:3] == ZERO:
+        raise ValueError(f'{name}: a, b and c are all zero')
+    return found
 
 
 def _reduced(coefficients: Sequence[int]) -> Tuple[int, ...]:

@@ -1,16 +1,14 @@
 """Models of some faces alone, read part by part."""
 
-from typing import Container, Sequence
+from typing import Sequence
 
 from ..geometry.model import Model
 from .reading import Reader
 
 
-def model_of_faces(reader: Reader, faces: Sequence[int], but: Container[int] = ()) -> Model:
-    """The model of these faces alone, which are there, without the rest, and without some rings: of an edge the other side may be missing."""
+def model_of_faces(reader: Reader, faces: Sequence[int]) -> Model:
+    """The model of these faces alone, which are there, without the rest: of an edge the other side may be missing."""
     rows = {face: row for face in faces for row in [reader.face(face)] if row is not None}
-    if but:
-        rows = {face: row._replace(rings=tuple([ring for ring in row.rings if ring not in but])) for face, row in rows.items()}
     loops = {loop: content for row in rows.values() for loop in row.loops for content in [reader.loop(loop)] if content is not None}
     edges = {abs(half): ends for loop in loops.values() for half in loop.halves
              for ends in [reader.edge(abs(half))] if ends is not None}

@@ -3,7 +3,6 @@
 from ctypes import pointer
 from typing import Optional, Tuple
 
-from ..geometry.crossings import Plane
 from ..geometry.plane_figures import Exact
 from ..geometry.vectors import Vector, ZERO
 from . import arguments
@@ -47,7 +46,7 @@ class Selecting(Methods):
         they look; flat, and looking the way of the normal; flat, with the point inside or on the outline; flat, and so large, exactly."""
         query = FaceQuery(solid=0 if solid is None else self._bench.number('solid', solid))
         if plane is not None:
-            query.plane = pointer(CutPlane(*_across('plane', arguments.plane('plane', plane))))
+            query.plane = pointer(CutPlane(*arguments.plane_across('plane', plane)))
         if normal is not None:
             query.normal = pointer(Point(*_direction('normal', normal)))
         if containing is not None:
@@ -80,13 +79,6 @@ class Selecting(Methods):
         parts = ([VertexPart(self._bench.kernel, number) for number in self._bench.kernel.lines.numbers('vertex')] if solid is None
                  else list(self.solid(solid).vertices))
         return Selection('vertex', _wanted(solid=solid, at=at), [part for part in parts if place is None or part.point == place])
-
-
-def _across(name: str, plane: Plane) -> Plane:
-    """A plane that has a normal."""
-    if plane[:3] == ZERO:
-        raise ValueError(f'{name}: a, b and c are all zero')
-    return plane
 
 
 def _direction(name: str, value: arguments.Point) -> Vector:

@@ -30,7 +30,7 @@ class SolidMethods(Methods):
 
         Refused: NoSolid; PointRange: a point would leave the range; OffLattice: one would be mirrored between whole coordinates;
         NumbersSpent: there are no free numbers."""
-        changes = [] if mirror is None else [mirroring(solids.mirror_plane('mirror', mirror))]
+        changes = [] if mirror is None else [mirroring(arguments.plane_across('mirror', mirror))]
         changes.append(moving(arguments.point('move', move)))
         number = self._bench.number('solid', solid)
         with self._bench.step():
@@ -78,7 +78,7 @@ class SolidMethods(Methods):
         """The solid becomes its image in the plane a x + b y + c z + d = 0: its number. Each loop runs the other way, by the mates of its
         half-edges. Refused as move is; OffLattice: a point would come between whole coordinates, as none does in planes across an axis or a
         diagonal of two axes that lie well."""
-        return _placed(self._bench, solid, mirroring(solids.mirror_plane('plane', plane)))
+        return _placed(self._bench, solid, mirroring(arguments.plane_across('plane', plane)))
 
     def scale(self, factor: int) -> None:
         """All coordinates of all solids are multiplied by a whole number from 1 on. Refused: PointRange."""

@@ -149,14 +149,6 @@ def renumber(bench: Bench) -> Renumbered:
     return made
 
 
-def mirror_plane(name: str, value: object) -> Tuple[int, int, int, int]:
-    """The numbers of a plane to mirror in. A ValueError says where the first three are all zero."""
-    found = arguments.plane(name, value)
-    if found[:3] == ZERO:
-        raise ValueError(f'{name}: a, b and c are all zero')
-    return found
-
-
 def axis_of(value: object) -> str:
     """The name of an axis."""
     if value not in AXES:
