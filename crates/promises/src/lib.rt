@@ -29,7 +29,7 @@ ghost use Rattle.std.specs.Prelude.{◌≡◌, ◌↔◌, ◌+◌, ◌<◌, OnOk
 ghost use Rattle.call_lists.specs.Common.{IsConsistent, IsWhole, Tells, act_refusal, after_act, after_commit, after_redo, after_step, after_undo, ahead, answer, depth, first_false, held, model_at, new_draft, new_journal, redo_refusal, six_volume, solid_refusal, undo_refusal, verdict};
 ghost use Rattle.call_lists.specs.Laws.{ListsAreHistories, ListsKeepWhole, EachIsWhole, PlacesAreCounted, UndosLeadToTheFirst, RedosLeadToTheLast, CommandsAreTakenBack, ListsHaveOneAnswer, OnlyDoneChanges, IdleListsStay, MemoryCanBeLeftOut, StepsAreMarks, MarksLeadBack};
 ghost use Rattle.call_lists.specs.Making.{AreTold};
-ghost use Rattle.commands.specs.Steps.{LaminasTakeSteps, BlocksTakeSteps, SweepsTakeSteps, GluesTakeSteps};
+ghost use Rattle.commands.specs.Steps.{LaminasTakeSteps, BlocksTakeSteps, SweepsTakeSteps, GluesTakeSteps, SplitsTakeSteps};
 ghost use Rattle.convex_laws.specs.Convex.{BlocksAreConvex, BuiltAreConvex, BuiltHaveVolume, ConvexSolidsHaveVolume, PartsOfConvexSolidsHaveVolume, SplitsKeepStrictlyConvex};
 ghost use Rattle.pool_rings.specs.Laws.{EachCodeHasItsRing, RingsAreRotations, CodesShareOrHaveTwo, SplicedPoolsCut, SplicedPoolsJoin, SplicedPoolsKeepOthers, SplicedPoolsStay, PoolsLeadBack};
 ghost use Rattle.promises.specs.Slots.{SlotsMakeAll};
@@ -361,13 +361,15 @@ pub fn larger_commands_are_one_call()
 }
 
 /// A lamina that isn't refused takes an operator for each point, and one more. A block takes thirteen, and a sweep two for each corner of its face. A
-/// glue takes three for each half-edge of the first face's outer loop, and two more. `Tells` says that these are the operators of the record that the
-/// command leaves in a session, and its steps in a draft.
+/// glue takes three for each half-edge of the first face's outer loop, and two more. A split takes one for each edge that crosses the plane, for each
+/// pair of cut places and for each ring that goes to a new face, three for each edge of the section and one more for each of its cycles, two for each
+/// hole, and a last one. `Tells` says that these are the operators of the record that the command leaves in a session, and its steps in a draft.
 pub fn larger_commands_take_so_many_operators()
     ensures lamina { LaminasTakeSteps }
     ensures block { BlocksTakeSteps }
     ensures sweep { SweepsTakeSteps }
     ensures glue { GluesTakeSteps }
+    ensures split { SplitsTakeSteps }
 {
     larger_commands_take_steps();
 }
