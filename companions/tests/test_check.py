@@ -167,7 +167,7 @@ def random_boxes(random):
     return listing(points, faces)
 
 
-def alone(model, normals):
+def alone(_model, normals, _convex):
     """Patches of one face each, none of which is taken for convex."""
     return Patches({face: face for face in normals}, dict.fromkeys(normals, False))
 

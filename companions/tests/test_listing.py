@@ -57,6 +57,36 @@ class Reading(unittest.TestCase):
                     outcomes.add(len(listings))
         self.assertLessEqual({'refused', 0, 1, 2}, outcomes)
 
+    def test_what_is_found_at_once_is_found_rule_by_rule(self):
+        chance, outcomes = random.Random(2), set()
+        one_edge = 'solid 1\nface 1 1 1\nface 2 1 2\nloop 1 +1\nloop 2 -1\nedge 1 1 1\nvertex 1 0 0 0\n'
+        pinched = listing([(0, 0, 0), (4, 0, 0), (4, 4, 0), (-4, 0, 0), (-4, -4, 0)], [[(1, 2, 3)], [(3, 2, 1)], [(1, 4, 5)], [(5, 4, 1)]])
+        for place in range(2_000):
+            lines = (SQUARE, pinched, listing(*box((0, 0, 0), (4, 4, 4))), WIRE, one_edge)[place % 5].splitlines()
+            for _ in range(chance.choice((0, 1, 1, 2))):
+                line = chance.randrange(1, len(lines))
+                words = lines[line].split(' ')
+                if chance.random() < .7:
+                    word = chance.randrange(1, len(words))
+                    words[word] = chance.choice(('+1', '-1', '-5', '+12') if words[word][0] in '+-' else ('1', '2', '9'))
+                else:
+                    words[2:] = chance.choice((words[3:] + words[2:3], words[2:] * 2))
+                lines[line] = ' '.join(words)
+            outcomes.add(found := self.outcome(lines))
+            with self.subTest(lines), mock.patch('gwb.protocol.soundness.is_sound_at_once', lambda _: False):
+                self.assertEqual(self.outcome(lines), found)
+        told = {re.sub('[0-9]+', 'N', outcome) for outcome in outcomes}
+        self.assertLessEqual({'sound', 'the edges at vertex N form more than one fan', "loop N doesn't begin with its least half-edge", 'loop N breaks off after -N',
+                              'edge N starts and ends at one vertex', 'edge N is missing', 'vertex N is missing', 'half-edge N stands in N places'}, told)
+
+    def outcome(self, lines):
+        """What is said of a listing."""
+        try:
+            model_in(''.join(line + '\n' for line in lines))
+        except CompanionError as error:
+            return str(error)
+        return 'sound'
+
     def test_one_solid_of_a_model(self):
         points, faces = box((0, 0, 0), (1, 1, 1))
         more, others = box((5, 0, 0), (6, 1, 1), 9)

@@ -1,11 +1,10 @@
 """Looks for slips that gwb doesn't: where the geometry of a sound model isn't that of solids."""
 
-from typing import AbstractSet, Dict, Iterator, List, Mapping, NamedTuple, Optional
+from typing import Dict, Iterator, List, Mapping, NamedTuple, Optional
 
-from ..geometry.measures import normal
 from ..geometry.model import Model
 from ..geometry.vectors import Vector, ZERO
-from .face_checks import bent_finding, is_flat, ring_findings
+from .face_checks import bent_finding, flat_faces, ring_findings
 from .findings import Finding
 from .overlap_checks import overlap_findings, unfit_solids
 from .sliver_checks import sliver_findings
@@ -34,11 +33,11 @@ class Report(NamedTuple):
 def check(model: Model, between: bool = False, slivers: Optional[int] = None) -> Report:
     """Looks at each face, and at each solid by itself; with `between` for solids that share room too, with `slivers` for faces and solids that
     are more than so many times as long as they are wide or thick."""
-    normals = {face: normal(model, face) for face in model.faces}
-    flat = {face for face, across in normals.items() if is_flat(model, face, across)}
+    known = flat_faces(model)
+    normals, flat = known
     findings = list(_face_findings(model, normals, flat))
     findings += [finding for solid in model.solids if not is_star(model, solid, normals)
-                 for finding in SolidCheck(model, solid, normals, flat).findings()]
+                 for finding in SolidCheck(model, solid, known).findings()]
     if slivers is not None:
         findings += sliver_findings(model, slivers)
     if between:
@@ -47,7 +46,7 @@ def check(model: Model, between: bool = False, slivers: Optional[int] = None) ->
     return Report(findings, without_area, unfit_solids(model) if between and len(model.solids) > 1 else {})
 
 
-def _face_findings(model: Model, normals: Mapping[int, Vector], flat: AbstractSet[int]) -> Iterator[Finding]:
+def _face_findings(model: Model, normals: Mapping[int, Vector], flat: Mapping[int, bool]) -> Iterator[Finding]:
     """The slips of the faces that have an area, of which those that are flat are given."""
     for face, across in normals.items():
         if face in flat:

@@ -1,10 +1,11 @@
 """Slips within one face: bent faces, and rings that run the wrong way, lie outside, or lie in each other."""
 
 from functools import cached_property
-from typing import Iterator, List, Optional
+from typing import Dict, Iterator, List, NamedTuple, Optional
 
 from ..geometry.box_index import BoxIndex, box_of
-from ..geometry.measures import loop_normal, off_plane
+from ..geometry.convexity import is_convex, is_parallelogram
+from ..geometry.measures import area_vector, loop_normal, normal, off_plane
 from ..geometry.model import Model
 from ..geometry.plane_figures import Flat, Place, Segment, locate, segments
 from ..geometry.vectors import Vector, ZERO, dot, flat_axes
@@ -14,15 +15,40 @@ from .findings import BENT, OUTSIDE, WRONG_WAY, Finding
 _FEW_SIDES = 16
 
 
+class FlatFaces(NamedTuple):
+    """The normals of all faces of a model; and the faces that are flat and have an area, each with whether it is a convex triangle or quadrilateral."""
+
+    normals: Dict[int, Vector]
+    convex: Dict[int, bool]
+
+
+def flat_faces(model: Model) -> FlatFaces:
+    """What is known of the faces of a model. Triangles and parallelograms with an area are flat and convex."""
+    normals: Dict[int, Vector] = {}
+    convex: Dict[int, bool] = {}
+    model.outlines.find_all()
+    for face, (_, outer, rings) in model.faces.items():
+        points = model.loop_points(outer)
+        normals[face] = across = normal(model, face) if rings else area_vector(points)
+        if across == ZERO:
+            continue
+        if not rings and (len(points) == 3 or len(points) == 4 and is_parallelogram(*points)):
+            convex[face] = True
+        elif is_flat(model, face, across):
+            convex[face] = is_convex(model, face, across)
+    return FlatFaces(normals, convex)
+
+
 def is_flat(model: Model, face: int, across: Vector) -> bool:
     """Whether a face, whose normal is given, has an area, and all its vertices lie on its plane. The normal of a quadrilateral is at right angles
     to both diagonals, so all its corners lie on its plane where two that follow one another do."""
     if across == ZERO:
         return False
-    row, corners = model.faces[face], model.face_points(face)
-    if row.rings or len(corners) > 4:
+    _, outer, rings = model.faces[face]
+    outline = model.outlines[outer]
+    if rings or len(outline) > 4:
         return off_plane(model, face, across) is None
-    return len(corners) == 3 or dot(across, corners[0]) == dot(across, corners[1])
+    return len(outline) == 3 or dot(across, model.vertices[outline[0]]) == dot(across, model.vertices[outline[1]])
 
 
 def bent_finding(model: Model, face: int, across: Vector) -> Finding:

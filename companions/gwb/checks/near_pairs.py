@@ -7,7 +7,7 @@ edge, or crosses it between its ends, is found at the faces beside that edge: it
 
 from itertools import chain, combinations, product
 from math import isqrt
-from typing import Dict, Iterator, List, Mapping, NamedTuple, Sequence, Set, Tuple
+from typing import Dict, Iterator, List, Mapping, NamedTuple, Optional, Sequence, Set, Tuple
 
 from ..geometry.box_index import Box, BoxIndex, box_of, boxes_meet
 from ..geometry.measures import anchor
@@ -38,9 +38,9 @@ class NearPairs(NamedTuple):
     open_edges: Set[int]
 
 
-def near_pairs(model: Model, normals: Mapping[int, Vector]) -> NearPairs:
-    """The pairs of a solid; `normals` are those of its flat faces with an area."""
-    near = _NearFaces(model, normals)
+def near_pairs(model: Model, normals: Mapping[int, Vector], convex: Optional[Mapping[int, bool]] = None) -> NearPairs:
+    """The pairs of a solid; `normals` are those of its flat faces with an area, and `convex` says which are convex, where that is known."""
+    near = _NearFaces(model, normals, convex)
     found = NearPairs(near.faces, near.patch_of, {}, {}, {}, {}, _open_edges(model, normals))
     for face in normals:
         if not near.convex[face]:
@@ -60,14 +60,18 @@ def _open_edges(model: Model, normals: Mapping[int, Vector]) -> Set[int]:
 def _beside_others(model: Model, patch_of: Mapping[int, int]) -> List[int]:
     """The faces that lie in a cell with one of another patch."""
     width, depth, height = _cell_sizes(model)
-    cell_of = {vertex: (x // width, y // depth, z // height) for vertex, (x, y, z) in model.vertices.items()}
-    cells = {face: _cells([cell_of[vertex] for vertex in model.face_vertices(face)]) for face in model.faces}
+    numbers: Dict[_Cell, int] = {}
+    number_of = {vertex: numbers.setdefault((x // width, y // depth, z // height), len(numbers)) for vertex, (x, y, z) in model.vertices.items()}
+    cells, cell_number = list(numbers), number_of.__getitem__
+    # For each face the numbers of its corners' cells: many faces have the same ones.
+    places = [frozenset(map(cell_number, model.face_vertices(face) if row.rings else model.outlines[row.outer])) for face, row in model.faces.items()]
+    held = {place: _cells([cells[number] for number in place]) for place in set(places)}
     owners: Dict[_Cell, int] = {}
     shared: Set[_Cell] = set()
-    for held, patch in {(held, patch_of[face]) for face, held in cells.items()}:
-        shared.update([cell for cell in held if owners.setdefault(cell, patch) != patch])
-    beside = {held for held in set(cells.values()) if not shared.isdisjoint(held)}
-    return [face for face, held in cells.items() if held in beside]
+    for place, patch in set(zip(places, map(patch_of.__getitem__, model.faces))):
+        shared.update([cell for cell in held[place] if owners.setdefault(cell, patch) != patch])
+    beside = {place for place, around in held.items() if not shared.isdisjoint(around)}
+    return [face for face, place in zip(model.faces, places) if place in beside]
 
 
 def _cell_sizes(model: Model) -> List[int]:
@@ -81,17 +85,15 @@ def _cell_sizes(model: Model) -> List[int]:
 
 def _cells(corners: Sequence[_Cell]) -> Tuple[_Cell, ...]:
     """The cells of the least box around cells."""
-    if corners.count(corners[0]) == len(corners):
-        return (corners[0],)
     return tuple(product(*[range(min(axis), max(axis) + 1) for axis in zip(*corners)]))
 
 
 class _NearFaces:
     """The flat faces of a solid that may meet others, and the edges that may meet them."""
 
-    def __init__(self, model: Model, normals: Mapping[int, Vector]) -> None:
+    def __init__(self, model: Model, normals: Mapping[int, Vector], convex: Optional[Mapping[int, bool]]) -> None:
         self._model = model
-        known = patches(model, normals)
+        known = patches(model, normals, convex)
         self.convex = known.convex
         self.patch_of = patch_of = {**{face: -face for face in model.faces}, **known.patch_of}
         self._lone = [loop.vertex for loop in model.loops.values() if loop.vertex is not None]

@@ -5,9 +5,11 @@ A patch grows from a face across edges, and stays a disc: each face that is adde
 all run counterclockwise as the viewer sees them, so each point is covered as often as the outline goes round it, which is once.
 """
 
+from operator import neg
 from typing import Dict, List, Mapping, NamedTuple, Optional, Sequence, Set, Tuple
 
 from ..geometry.convexity import is_convex
+from ..geometry.joined_sets import JoinedSets
 from ..geometry.model import Model
 from ..geometry.plane_figures import Flat
 from ..geometry.vectors import Vector
@@ -22,12 +24,13 @@ class Patches(NamedTuple):
     says so: in edges and corners that they share."""
 
     patch_of: Dict[int, int]
-    convex: Dict[int, bool]
+    convex: Mapping[int, bool]
 
 
-def patches(model: Model, normals: Mapping[int, Vector]) -> Patches:
-    """The patches of the faces whose normals are given, which are flat and have an area."""
-    convex = {face: is_convex(model, face, across) for face, across in normals.items()}
+def patches(model: Model, normals: Mapping[int, Vector], convex: Optional[Mapping[int, bool]] = None) -> Patches:
+    """The patches of the faces whose normals are given, which are flat and have an area; `convex` says which are, where that is known."""
+    if convex is None:
+        convex = {face: is_convex(model, face, across) for face, across in normals.items()}
     growing = _Growing(model, normals, convex)
     for face in normals:
         if face not in growing.patch_of:
@@ -35,75 +38,74 @@ def patches(model: Model, normals: Mapping[int, Vector]) -> Patches:
     return Patches(growing.patch_of, convex)
 
 
+def shells_of_patches(model: Model, patch_of: Mapping[int, int]) -> List[List[int]]:
+    """The faces in connected parts, by their least faces. A patch is connected, so those with an edge between them are joined."""
+    patch, joined = patch_of.__getitem__, JoinedSets()
+    for one, other in set(zip(map(patch, model.faces_at(model.edges)), map(patch, model.faces_at(map(neg, model.edges))))):
+        joined.join(one, other)
+    name_of = {number: joined.name(number) for number in set(patch_of.values())}
+    shells: Dict[int, List[int]] = {}
+    for face in model.faces:
+        shells.setdefault(name_of[patch_of[face]], []).append(face)
+    return list(shells.values())
+
+
 class _Growing:
     """Faces that are put into patches."""
 
     def __init__(self, model: Model, normals: Mapping[int, Vector], convex: Mapping[int, bool]) -> None:
-        self._model, self._normals, self._convex = model, normals, convex
+        self._model, self._normals = model, normals
+        # The convex faces that are in no patch yet.
+        self._free = {face for face in normals if convex[face]}
         self._most = _MOST_FACES
         self._count = 0
         self.patch_of: Dict[int, int] = {}
 
     def grow(self, seed: int) -> None:
         """Makes one more patch, from a face that is in none."""
-        faces, way = self._disc(seed)
+        faces, way = self._disc(seed) if seed in self._free else ([seed], _signs(self._normals[seed]))
         while len(faces) > 1 and not is_simple(self._outline(faces, way)):
+            self._free.update(faces[len(faces) // 2:])
             del faces[len(faces) // 2:]
             self._most = 2 * len(faces)
         self._count += 1
         self.patch_of.update(dict.fromkeys(faces, self._count))
 
     def _disc(self, seed: int) -> Tuple[List[int], Vector]:
-        """Faces of a disc, in an order in which any first ones are a disc too, and the signs of the parts of their normals, 0 where all are 0."""
-        way = _signs(self._normals[seed])
-        if not self._convex[seed]:
-            return [seed], way
-        disc = _Disc(self._model, seed)
-        for face in disc.beside:
-            if face in disc.faces or face in self.patch_of or not self._convex.get(face) or len(disc.faces) >= self._most:
+        """Faces of a disc, in an order in which any first ones are a disc too, which are free no more; and the signs of the parts of their normals,
+        0 where all are 0. What is added has edges in common with the disc that follow one another, and no corner beside them."""
+        model, normals, free = self._model, self._normals, self._free
+        rows, outlines, faces_beyond = model.faces, model.outlines, model.faces_beyond
+        faces: Dict[int, None] = {}
+        corners: Set[int] = set()
+        way, beside = _signs(normals[seed]), [seed]
+        for face in beside:
+            signs = _common(way, normals[face]) if face in free and len(faces) < self._most else None
+            if signs is None:
                 continue
-            signs = _common(way, self._normals[face])
-            if signs is not None and disc.add(face):
-                way = signs
-        return list(disc.faces), way
+            loop = rows[face].outer
+            outline, beyond = outlines[loop], faces_beyond(loop)
+            new = [other for other in beyond if other not in faces]
+            if faces and sum(map(corners.__contains__, outline)) != 1 + len(beyond) - len(new):
+                continue
+            way = signs
+            faces[face] = None
+            free.discard(face)
+            corners.update(outline)
+            beside += new
+        return list(faces), way
 
     def _outline(self, faces: Sequence[int], way: Vector) -> List[Flat]:
         """The corners of the outline of a disc in their order, as seen from far away on this way."""
         model = self._model
-        after = {model.tail(half): half for half in model.rim(faces)}
+        rim = model.rim(faces)
+        after = dict(zip(model.tails(rim), model.tails(map(neg, rim))))
         start = next(iter(after))
-        vertices, vertex = [start], model.tail(-after[start])
+        vertices, vertex = [start], after[start]
         while vertex != start:
             vertices.append(vertex)
-            vertex = model.tail(-after[vertex])
+            vertex = after[vertex]
         return [_seen(model.vertices[vertex], way) for vertex in vertices]
-
-
-class _Disc:
-    """A disc of faces: what is added has edges in common with it that follow one another, and no corner beside them."""
-
-    def __init__(self, model: Model, seed: int) -> None:
-        self._model = model
-        self.faces: Dict[int, None] = {}
-        self.beside: List[int] = []
-        self._corners: Set[int] = set()
-        loop = model.faces[seed].outer
-        self._put(seed, model.loop_vertices(loop), model.faces_beyond(loop))
-
-    def add(self, face: int) -> bool:
-        """Adds a face that isn't of the disc; False where it stays no disc."""
-        loop = self._model.faces[face].outer
-        corners, beyond = self._model.loop_vertices(loop), self._model.faces_beyond(loop)
-        new = [other for other in beyond if other not in self.faces]
-        if sum(map(self._corners.__contains__, corners)) != 1 + len(beyond) - len(new):
-            return False
-        self._put(face, corners, new)
-        return True
-
-    def _put(self, face: int, corners: Sequence[int], new: Sequence[int]) -> None:
-        self.faces[face] = None
-        self._corners.update(corners)
-        self.beside += new
 
 
 def _signs(vector: Vector) -> Vector:

@@ -11,33 +11,32 @@ from ..errors import Unfit
 from ..geometry.box_index import Box, BoxIndex, box_of
 from ..geometry.convexity import is_convex
 from ..geometry.flat_face import ExactVector, FlatFace
-from ..geometry.measures import normal
 from ..geometry.model import Model
 from ..geometry.plane_figures import Place, locate, turn
 from ..geometry.touched_edges import TouchedEdges, touched_edges
 from ..geometry.triangulation import face_triangles
 from ..geometry.vectors import Vector, ZERO, cross, dot, lies_between, reduced, subtract
-from .face_checks import is_flat
+from .face_checks import FlatFaces, flat_faces
 from .findings import CROSSING, MEETING, TOUCHING, Finding
 from .near_pairs import near_pairs
+from .patches import shells_of_patches
 from .shell_checks import shell_findings
 
 
 class SolidCheck:
     """One solid of a model, made ready for its parts to be compared."""
 
-    def __init__(self, model: Model, solid: int, normals: Optional[Mapping[int, Vector]] = None, flat: Optional[AbstractSet[int]] = None) -> None:
-        """`normals` are those of its faces, where they are known, and `flat` the faces that are flat and have an area."""
+    def __init__(self, model: Model, solid: int, known: Optional[FlatFaces] = None) -> None:
+        """What is known of the model's faces is given where that is at hand."""
         self._model = model.only(solid)
         self._solid = solid
-        self._normals = {face: normal(self._model, face) for face in self._model.faces} if normals is None else normals
-        self._shells = self._model.shells(solid)
-        self._flat_shells = {face: shell[0] for shell in self._shells if self._is_in_one_plane(shell) for face in shell}
-        known = (face in flat if flat is not None else is_flat(self._model, face, self._normals[face]) for face in self._model.faces)
-        self._flat = {face: self._normals[face] for face, is_known in zip(self._model.faces, known) if is_known}
+        self._normals, convex = known or flat_faces(self._model)
+        self._flat = {face: self._normals[face] for face in self._model.faces if face in convex}
         self._known_shapes: Dict[int, FlatFace] = {}
         self._inner: Dict[int, Optional[ExactVector]] = {}
-        self._pairs = near_pairs(self._model, self._flat)
+        self._pairs = near_pairs(self._model, self._flat, convex)
+        self._shells = shells_of_patches(self._model, self._pairs.patch_of)
+        self._flat_shells = {face: shell[0] for shell in self._shells if self._is_in_one_plane(shell) for face in shell}
 
     def findings(self) -> Iterator[Finding]:
         """All slips, each with the numbers concerned."""
@@ -138,14 +137,25 @@ class SolidCheck:
         first: Dict[Vector, int] = {}
         return {vertex: first.setdefault(point, vertex) for vertex, point in self._model.vertices.items()}
 
+    @cached_property
+    def _are_points_different(self) -> bool:
+        return len(set(self._model.vertices.values())) == len(self._model.vertices)
+
+    def _are_edges_different(self) -> bool:
+        """Whether no two edges have the same two vertices: each pair is taken as one number, which takes less time."""
+        ends, far = self._model.edges.values(), max(self._model.vertices) + 1
+        return len({one * far + other if one < other else other * far + one for one, other in ends}) == len(ends)
+
     def _equal_points(self) -> Iterator[Finding]:
         first: Dict[Vector, int] = {}
-        for vertex, point in self._model.vertices.items():
+        for vertex, point in self._model.vertices.items() if not self._are_points_different else ():
             if point in first:
                 yield Finding(TOUCHING, f'vertices {first[point]} and {vertex} of solid {self._solid} lie at one point')
             first.setdefault(point, vertex)
 
     def _equal_edges(self) -> Iterator[Finding]:
+        if self._are_points_different and self._are_edges_different():
+            return
         first: Dict[Tuple[int, int], int] = {}
         there = self._first_there
         for edge, (one, other) in self._model.edges.items():

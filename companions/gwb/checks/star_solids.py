@@ -37,7 +37,8 @@ class _Sky:
 
     def __init__(self, model: Model, faces: Sequence[int], normals: Mapping[int, Vector]) -> None:
         self._model, self._faces, self._normals = model, faces, normals
-        corners = [model.vertices[vertex] for vertex in chain.from_iterable(map(model.face_vertices, faces))]
+        outlines = [model.outlines[model.faces[face].outer] for face in faces]
+        corners = [model.vertices[vertex] for vertex in set(chain.from_iterable(outlines))]
         self._scale = min(_FINEST, len(corners))
         x, y, z = (self._scale * sum(map(itemgetter(axis), corners)) // len(corners) for axis in range(3))
         self._eye = (x, y, z)

@@ -8,9 +8,14 @@ from .vectors import Vector, flat_axes
 
 def is_convex(model: Model, face: int, across: Vector) -> bool:
     """Whether a flat face, whose normal is given, is a triangle or a quadrilateral that turns left at each corner."""
-    row = model.faces[face]
-    count = 0 if row.rings else len(model.loops[row.outer].halves)
-    return count == 3 or count == 4 and _turns_left(model.loop_points(row.outer), across)
+    _, outer, rings = model.faces[face]
+    outline = () if rings else model.outlines[outer]
+    return len(outline) == 3 or len(outline) == 4 and _turns_left(model.loop_points(outer), across)
+
+
+def is_parallelogram(a: Vector, b: Vector, c: Vector, d: Vector) -> bool:
+    """Whether four points are the corners of a parallelogram: it is flat, and where it has an area, it turns left at each corner."""
+    return a[0] + c[0] == b[0] + d[0] and a[1] + c[1] == b[1] + d[1] and a[2] + c[2] == b[2] + d[2]
 
 
 def _turns_left(points: Sequence[Vector], across: Vector) -> bool:

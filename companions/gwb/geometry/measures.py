@@ -4,7 +4,7 @@ from typing import Iterable, Optional, Sequence
 
 from ..errors import Unfit
 from .model import Model
-from .vectors import Vector, ZERO, cross, dot, subtract, total
+from .vectors import Vector, ZERO, cross, dot, total
 
 
 def area_vector(points: Sequence[Vector]) -> Vector:
@@ -14,7 +14,9 @@ def area_vector(points: Sequence[Vector]) -> Vector:
         a, b, c, u, v, w = a - x, b - y, c - z, u - x, v - y, w - z
         return (b * w - c * v, c * u - a * w, a * v - b * u)
     if len(points) == 4:
-        return cross(subtract(points[2], points[0]), subtract(points[3], points[1]))
+        (x, y, z), (u, v, w), (a, b, c), (d, e, f) = points
+        a, b, c, d, e, f = a - x, b - y, c - z, d - u, e - v, f - w
+        return (b * f - c * e, c * d - a * f, a * e - b * d)
     return total(cross(points[i - 1], points[i]) for i in range(len(points)))
 
 
@@ -31,8 +33,7 @@ def normal(model: Model, face: int) -> Vector:
 
 def anchor(model: Model, face: int) -> Vector:
     """The first corner of the face's outer loop."""
-    loop = model.loops[model.faces[face].outer]
-    return model.point(loop.halves[0]) if loop.vertex is None else model.vertices[loop.vertex]
+    return model.vertices[model.outlines[model.faces[face].outer][0]]
 
 
 def off_plane(model: Model, face: int, across: Vector) -> Optional[int]:

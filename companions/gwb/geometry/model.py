@@ -2,7 +2,9 @@
 
 from dataclasses import dataclass, field
 from functools import cached_property
-from typing import Collection, Dict, Iterator, List, NamedTuple, Optional, Set, Tuple
+from itertools import chain
+from operator import neg
+from typing import Dict, Iterable, Iterator, List, NamedTuple, Optional, Set, Tuple
 
 from .vectors import Vector
 
@@ -32,17 +34,22 @@ class Face(NamedTuple):
         return (self.outer, *self.rings)
 
 
-class _Outlines(Dict[int, Tuple[int, ...]]):
+class Outlines(Dict[int, Tuple[int, ...]]):
     """The vertices of loops in their order. Those of a loop are found when they are first asked for."""
 
-    def __init__(self, loops: Dict[int, Loop], edges: Dict[int, Tuple[int, int]]) -> None:
+    def __init__(self, loops: Dict[int, Loop], tails: Dict[int, int]) -> None:
         super().__init__()
-        self._loops, self._edges = loops, edges
+        self._loops, self._tail = loops, tails.__getitem__
 
     def __missing__(self, loop: int) -> Tuple[int, ...]:
-        (halves, lone), edges = self._loops[loop], self._edges
-        self[loop] = found = tuple([edges[half][0] if half > 0 else edges[-half][1] for half in halves]) if lone is None else (lone,)
+        halves, lone = self._loops[loop]
+        self[loop] = found = tuple(map(self._tail, halves)) if lone is None else (lone,)
         return found
+
+    def find_all(self) -> None:
+        """Finds those of all loops: together that takes less time."""
+        tail = self._tail
+        self.update({loop: tuple(map(tail, halves)) if lone is None else (lone,) for loop, (halves, lone) in self._loops.items()})
 
 
 @dataclass(frozen=True)
@@ -54,15 +61,19 @@ class Model:
     loops: Dict[int, Loop]
     edges: Dict[int, Tuple[int, int]]
     vertices: Dict[int, Vector]
+    outlines: Outlines = field(init=False, repr=False, compare=False)
     _sides: Dict[int, int] = field(init=False, repr=False, compare=False)
-    _outlines: _Outlines = field(init=False, repr=False, compare=False)
+    _tails: Dict[int, int] = field(init=False, repr=False, compare=False)
 
     def __post_init__(self) -> None:
         sides = {half: number for number, face in self.faces.items()
                  for loop in face.loops if loop in self.loops
                  for half in self.loops[loop].halves}
+        tails = {edge: start for edge, (start, _) in self.edges.items()}
+        tails.update({-edge: end for edge, (_, end) in self.edges.items()})
         object.__setattr__(self, '_sides', sides)
-        object.__setattr__(self, '_outlines', _Outlines(self.loops, self.edges))
+        object.__setattr__(self, '_tails', tails)
+        object.__setattr__(self, 'outlines', Outlines(self.loops, tails))
 
     def _repr_svg_(self) -> Optional[str]:
         """A notebook draws the model, where there is something of it."""
@@ -71,7 +82,19 @@ class Model:
 
     def tail(self, half: int) -> int:
         """The vertex at which the half-edge starts."""
-        return self.edges[half][0] if half > 0 else self.edges[-half][1]
+        return self._tails[half]
+
+    def tails(self, halves: Iterable[int]) -> List[int]:
+        """The vertices at which half-edges start."""
+        return list(map(self._tails.__getitem__, halves))
+
+    def is_paired(self) -> bool:
+        """Whether the half-edges that stand in the loops of faces are the two of each edge."""
+        return self._sides.keys() == self._tails.keys()
+
+    def some_half_at(self) -> Dict[int, int]:
+        """For each vertex with edges one half-edge that starts there."""
+        return dict(zip(self._tails.values(), self._tails))
 
     def face_of(self, half: int) -> int:
         """The face in whose loops the half-edge stands."""
@@ -83,37 +106,40 @@ class Model:
 
     def faces_beyond(self, loop: int) -> List[int]:
         """The faces on the other side of the loop's half-edges, in its order."""
-        sides = self._sides
-        return [sides[-half] for half in self.loops[loop].halves]
+        return self.faces_at(map(neg, self.loops[loop].halves))
 
-    def rim(self, faces: Collection[int]) -> List[int]:
-        """The half-edges of some faces across which there is none of these faces, in the order of the faces."""
-        held, rows, loops, sides = set(faces), self.faces, self.loops, self._sides
-        return [half for face in faces for loop in rows[face].loops for half in loops[loop].halves if sides[-half] not in held]
+    def faces_at(self, halves: Iterable[int]) -> List[int]:
+        """The faces in whose loops half-edges stand."""
+        return list(map(self._sides.__getitem__, halves))
+
+    def rim(self, faces: Iterable[int]) -> Set[int]:
+        """The half-edges of some faces across which there is none of these faces."""
+        halves = set(chain.from_iterable(map(self.face_halves, faces)))
+        return halves.difference(map(neg, halves))
 
     def loop_vertices(self, loop: int) -> List[int]:
         """The vertices of the loop in its order."""
-        return list(self._outlines[loop])
+        return list(self.outlines[loop])
 
     def loop_points(self, loop: int) -> List[Vector]:
         """The points of the loop in its order."""
         vertices = self.vertices
-        return [vertices[vertex] for vertex in self._outlines[loop]]
+        return [vertices[vertex] for vertex in self.outlines[loop]]
 
     def face_halves(self, face: int) -> Iterator[int]:
         """The half-edges of all loops of the face."""
-        for loop in self.faces[face].loops:
-            yield from self.loops[loop].halves
+        row, loops = self.faces[face], self.loops
+        return chain.from_iterable([loops[loop].halves for loop in row.loops]) if row.rings else iter(loops[row.outer].halves)
 
     def face_vertices(self, face: int) -> List[int]:
         """The vertices of all loops of the face, the outer loop first; one may come more than once."""
         row = self.faces[face]
-        return [vertex for loop in row.loops for vertex in self._outlines[loop]] if row.rings else list(self._outlines[row.outer])
+        return [vertex for loop in row.loops for vertex in self.outlines[loop]] if row.rings else list(self.outlines[row.outer])
 
     def face_points(self, face: int) -> List[Vector]:
         """The points of all loops of the face."""
         vertices = self.vertices
-        row, outlines = self.faces[face], self._outlines
+        row, outlines = self.faces[face], self.outlines
         return [vertices[vertex] for loop in (row.loops if row.rings else (row.outer,)) for vertex in outlines[loop]]
 
     def faces_of(self, solid: int) -> List[int]:

@@ -1,16 +1,15 @@
 """Reads and writes the listing of a model: the one module that knows how listings are written."""
 
-from itertools import accumulate, groupby
-from operator import itemgetter
-from typing import Dict, Iterator, List, NamedTuple, Sequence, Tuple
+import json
+from itertools import accumulate, compress, groupby, repeat
+from operator import ge, itemgetter
+from typing import Any, Dict, Iterator, NamedTuple, Sequence
 
 from ..errors import NotAListing
 from ..geometry.free_numbers import KINDS
 from ..geometry.model import Face, Loop, Model
 from .replies import Reply, last_listing
 from .soundness import require_sound
-
-_Row = Tuple[int, ...]
 
 _KIND_OF = {kind[0]: kind for kind in KINDS}
 # This stands for the word `at`: no half-edge has so great a number.
@@ -39,40 +38,52 @@ def read_listed(data: bytes) -> Listed:
 
 def model_of(reply: Reply) -> Model:
     """The model that a listing describes, whose parts are found to fit together."""
-    rows = _rows(reply.lines)
+    tables = _tables(reply.lines)
     model = Model(
-        solids=tuple([number for number, in rows['solid']]),
-        faces={row[0]: Face(row[1], row[2], row[3:]) for row in rows['face']},
-        loops={row[0]: Loop((), row[2]) if row[1] == _AT else Loop(row[1:]) for row in rows['loop']},
-        edges={number: (start, end) for number, start, end in rows['edge']},
-        vertices={number: (x, y, z) for number, x, y, z in rows['vertex']})
+        solids=tuple(tables['solid'].numbers),
+        faces={number: Face(row[0], row[1], row[2:]) for number, row in zip(*tables['face'])},
+        loops={number: Loop((), row[1]) if row[0] == _AT else Loop(row) for number, row in zip(*tables['loop'])},
+        edges=dict(zip(*tables['edge'])),
+        vertices=dict(zip(*tables['vertex'])))
     require_sound(model)
     return model
 
 
-def _rows(lines: Sequence[str]) -> Dict[str, List[_Row]]:
-    """For each kind the numbers of its lines. Kinds come in order, and so do the first numbers of the lines of a kind."""
-    rows: Dict[str, List[_Row]] = {kind: [] for kind in KINDS}
+class _Table(NamedTuple):
+    """The lines of a kind: the numbers of its things, and for each the numbers that follow."""
+
+    numbers: Sequence[int] = ()
+    rows: Sequence[Any] = ()
+
+
+def _tables(lines: Sequence[str]) -> Dict[str, _Table]:
+    """For each kind its lines. Kinds come in order, and so do the numbers of the things of a kind."""
+    tables = dict.fromkeys(KINDS, _Table())
     if lines == ('empty',):
-        return rows
+        return tables
     place = 0
     for letter, group in groupby(lines, itemgetter(0)):
         kind = _KIND_OF[letter]
-        held = _numbers_of(kind, list(group))
-        numbers = [row[0] for row in held]
-        later = next((number for last, number in zip([0, *numbers], numbers) if number <= last), None)
+        tables[kind] = _table_of(kind, list(group))
+        numbers = tables[kind].numbers
+        later = next(compress(numbers, map(ge, (0, *numbers), numbers)), None)
         if KINDS.index(kind) < place or later is not None:
             raise NotAListing(f'`{kind} {numbers[0] if later is None else later}` is out of order')
         place = KINDS.index(kind)
-        rows[kind] = held
-    return rows
+    return tables
 
 
-def _numbers_of(kind: str, lines: Sequence[str]) -> List[_Row]:
-    """The numbers of each line of a kind. All lines are read as one, which takes less time."""
-    numbers = tuple(map(int, ' '.join(lines).replace(f'{kind} ', '').replace(' at ', f' {_AT} ').split(' ')))
-    counts = [line.count(' ') for line in lines]
-    return [numbers[end - count:end] for count, end in zip(counts, accumulate(counts))]
+def _table_of(kind: str, lines: Sequence[str]) -> _Table:
+    """The lines of a kind. All are read as one list of numbers, and where they are equally long, the numbers at one place of all lines are taken
+    at once: both take less time."""
+    words = ','.join(lines).replace(f'{kind} ', '').replace(' at ', f' {_AT} ').replace(' ', ',').replace('+', '')
+    numbers = tuple(json.loads(f'[{words}]'))
+    counts = list(map(str.count, lines, repeat(' ')))
+    count = counts[0]
+    if counts.count(count) == len(counts):
+        return _Table(numbers[::count], list(zip(*(numbers[place::count] for place in range(1, count)))))
+    ends = list(accumulate(counts))
+    return _Table([numbers[end - count] for count, end in zip(counts, ends)], [numbers[end - count + 1:end] for count, end in zip(counts, ends)])
 
 
 def listing_lines(model: Model) -> Iterator[str]:

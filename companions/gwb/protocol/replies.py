@@ -14,7 +14,7 @@ _ONE_LINE = re.compile(
     rf'|plane {_WHOLE} {_WHOLE} {_WHOLE} {_WHOLE} (?:flat|bent)'
     rf'|count {_NUMBER} {_NUMBER} {_NUMBER} {_NUMBER} {_WHOLE}')
 _BEHIND_SOLIDS = (
-    rf'face {_NUMBER} {_NUMBER}(?: {_NUMBER})+|loop {_NUMBER} at {_NUMBER}|loop {_NUMBER}(?: [+-]{_NUMBER})+'
+    rf'face {_NUMBER} {_NUMBER}(?: {_NUMBER})+|loop {_NUMBER}(?: at {_NUMBER}|(?: [+-]{_NUMBER})+)'
     rf'|edge {_NUMBER} {_NUMBER} {_NUMBER}|vertex {_NUMBER} {_WHOLE} {_WHOLE} {_WHOLE}')
 _LISTED, _GOES_ON = re.compile(rf'solid {_NUMBER}|{_BEHIND_SOLIDS}'), re.compile(rf'(?:(?:{_BEHIND_SOLIDS})\n)+')
 

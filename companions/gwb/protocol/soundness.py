@@ -6,6 +6,7 @@ from typing import Dict, Iterable, Sequence
 
 from ..errors import NotAListing
 from ..geometry.model import Model
+from .sound_at_once import is_sound_at_once
 
 _NUMBERS, _COORDINATES = 1_000_000, 1_000_000_000
 
@@ -15,6 +16,9 @@ def require_sound(model: Model) -> None:
     _require_ranges(model)
     _require_faces(model)
     _require_loops(model)
+    if is_sound_at_once(model):
+        _require_one_solid_on_both_sides(model)
+        return
     _require_halves(model)
     _require_cycles(model)
     _require_one_solid_on_both_sides(model)
@@ -36,8 +40,8 @@ def _require_ranges(model: Model) -> None:
     """Numbers and coordinates lie in their ranges."""
     greatest = [max(numbers, default=0) for numbers in (model.solids, model.faces, model.loops, model.edges, model.vertices)]
     _refuse(f'the number {number} is out of range' for number in greatest if number > _NUMBERS)
-    _refuse(f'vertex {vertex} lies out of range' for vertex, point in model.vertices.items()
-            if max(point) > _COORDINATES or min(point) < -_COORDINATES)
+    _refuse(f'vertex {vertex} lies out of range' for vertex, (x, y, z) in model.vertices.items()
+            if not (-_COORDINATES <= x <= _COORDINATES and -_COORDINATES <= y <= _COORDINATES and -_COORDINATES <= z <= _COORDINATES))
 
 
 def _require_faces(model: Model) -> None:
@@ -51,7 +55,9 @@ def _require_faces(model: Model) -> None:
 
 def _require_loops(model: Model) -> None:
     """The faces' loops are there, and each loop is of one face."""
-    named = [loop for face in model.faces.values() for loop in face.loops]
+    named = [loop for face in model.faces.values() for loop in (face.loops if face.rings else (face.outer,))]
+    if len(named) == len(model.loops) and model.loops.keys() == set(named):
+        return
     _require_once(named, 'loop')
     _refuse(f'loop {loop} is missing' for loop in named if loop not in model.loops)
     _refuse(f'loop {loop} is of no face' for loop in model.loops.keys() - set(named))
