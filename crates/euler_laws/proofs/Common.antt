@@ -1,7 +1,7 @@
 -- The lemmas of this crate that other crates cite, passed on from one place. Declares nothing.
 pub use Rattle.euler_laws.proofs.Cases.{effect_keeps_sound, inverse_goes, inverse_undoes}
 pub use Rattle.euler_laws.proofs.Growth.{Grown, Parted, kemr_grows, mef_grows, mev_grows, mfkrh_grows}
-pub use Rattle.euler_laws.proofs.Runs.{AreAccepted-append, AreAccepted-back, AreAccepted-front, Leads, all_taken, effects-append, effects_keep_sound, inverses_go, inverses_undo, leads_first, leads_none, leads_on, leads_one, leads_sound, next_goes, next_taken, some_taken}
+pub use Rattle.euler_laws.proofs.Runs.{AreAccepted-append, AreAccepted-back, AreAccepted-front, Leads, effects-append, effects_keep_sound, inverses_go, inverses_undo, leads_first, leads_none, leads_on, leads_one, leads_sound, next_goes, next_taken, some_taken}
 pub use Rattle.euler_laws.proofs.Sizes.{loops_are, mapped_none, rises_apart, rises_on, rises_over, size-map_rows, size-put_new, size-put_old, size-remove, size_parts}
 pub use Rattle.euler_laws.proofs.faces.Kfmrh.{KillGoes, MakeGoes, g_gone, kfmrh_accepted, kfmrh_goes, kill_face_else, kill_face_l, kill_outer, kill_same, kill_solid, l_face, mfkrh_accepted, mfkrh_goes, sound-kfmrh}
 pub use Rattle.euler_laws.proofs.faces.RingIn.{RingGoes, ring_in_accepted, ring_in_goes, sound-ring_in}

@@ -78,7 +78,3 @@ next_taken {X = X} {ops = ops} w e = subst (λ Y. Leads Y X ops) (sym e) (record
 -- once some are taken together the others lead on
 pub some_taken : (N : Model) (ops more : List Op) (X K : Model) → AreAccepted N (ops ++ more) → effects N (ops ++ more) ≡ X → K ≡ effects N ops → Leads K X more
 some_taken N ops more X K accepted made e = subst (λ Y. Leads Y X more) (sym e) (record { accepted = AreAccepted-back N ops more accepted; made = sym (effects-append N ops more) ∙ made })
-
--- once all are taken the model is made
-pub all_taken : {N X : Model} → Leads N X [] → N ≡ X
-all_taken w = w.made

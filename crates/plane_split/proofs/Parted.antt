@@ -1,10 +1,8 @@
 -- A solid opened along its section and parted, once its faces are drawn.
 use Rattle.std.proofs.Common.{◌≡◌, ℕ, List, [], ◌∷◌, ◌++◌, None, sym, ap, ◌∙◌, subst}
 use Rattle.euler_operators.specs.Common.{Plane, Model, Sound}
-use Rattle.euler_operators.specs.declared.Op.{Op}
 use Rattle.euler_operators.specs.declared.Op.TheVariants.{Part}
-use Rattle.euler_laws.specs.Laws.{AreAccepted, effects}
-use Rattle.euler_laws.proofs.Common.{effects-append, AreAccepted-back, Leads}
+use Rattle.euler_laws.proofs.Common.{Leads, some_taken}
 use Rattle.shapes.specs.Common.{faces_above, below_halves, section_cycles, Drawing, with_drawings, Caps, Opening, all_opened, opened_at, upper_left, split_refusal, split_model}
 use Rattle.split_drawing_laws.specs.pairs.Laws.{rewriting_ops}
 use Rattle.split_drawing_laws.proofs.pairs.Whole.{rewritings_made}
@@ -21,13 +19,6 @@ use Rattle.split_laws.proofs.Openings.{openings_go}
 use Rattle.split_laws.proofs.Whole.{split_accepted, split_made}
 use Rattle.plane_split.specs.Drawn.{IsDrawn}
 
--- where some operators lead on from a model that the first of them make, the others lead on from there
-rest_leads : (M N K : Model) (ops more : List Op) → effects M ops ≡ N → Leads M K (ops ++ more) → Leads N K more
-rest_leads M N K ops more e a = record {
-  accepted = subst (λ X. AreAccepted X more) e (AreAccepted-back M ops more a.accepted);
-  made = ap (λ X. effects X more) (sym e) ∙ sym (effects-append M ops more) ∙ a.made;
-}
-
 module _ (M : Model) (s : ℕ) (p : Plane) (t : ℕ) (sound : Sound M) (accepted : split_refusal M s p t ≡ None) where
   abbrev D : Drawing
   D = with_drawings M s p
@@ -40,13 +31,13 @@ module _ (M : Model) (s : ℕ) (p : Plane) (t : ℕ) (sound : Sound M) (accepted
   whole = record { accepted = split_accepted M s p t sound accepted; made = split_made M s p t sound accepted }
 
   later : Leads (with_drawings M s p).model (split_above (with_drawings M s p) s p t) (ops_above (with_drawings M s p) s p t)
-  later = rest_leads M D.model (split_above D s p t) (rewriting_ops M s p) (ops_above D s p t) (rewritings_made M s p t sound (begins M s p t sound accepted)) whole
+  later = some_taken M (rewriting_ops M s p) (ops_above D s p t) (split_above D s p t) D.model whole.accepted whole.made (sym (rewritings_made M s p t sound (begins M s p t sound accepted)))
 
   upper : Leads (opened_at (with_drawings M s p) (faces_above (with_drawings M s p).model p s) s p).model (split_above (with_drawings M s p) s p t)
       (upper_ops (opened_at (with_drawings M s p) (faces_above (with_drawings M s p).model p s) s p) (faces_above (with_drawings M s p).model p s) s t)
-  upper = rest_leads D.model (opened_at D above s p).model (split_above D s p t)
-      (openings_ops above s p (record { model = D.model; taken = D.taken; caps = [] }) (section_cycles D.model (below_halves D.model above s))) (upper_ops (opened_at D above s p) above s t)
-      (openings_go above s p (record { model = D.model; taken = D.taken; caps = [] }) (section_cycles D.model (below_halves D.model above s)) (can_open_all M s p t sound accepted)).made later
+  upper = some_taken D.model (openings_ops above s p (record { model = D.model; taken = D.taken; caps = [] }) (section_cycles D.model (below_halves D.model above s)))
+      (upper_ops (opened_at D above s p) above s t) (split_above D s p t) (opened_at D above s p).model later.accepted later.made
+      (sym (openings_go above s p (record { model = D.model; taken = D.taken; caps = [] }) (section_cycles D.model (below_halves D.model above s)) (can_open_all M s p t sound accepted)).made)
 
 -- ---- from a drawing
 
