@@ -1,5 +1,5 @@
 //! The split of a solid by a plane, as one command.
-ghost use Rattle.std.specs.Prelude.{◌≡◌, None, Some, Err, IfOk, OnOk, OnErr};
+ghost use Rattle.std.specs.Prelude.{◌≡◌, None, Some, Err, IfOk, IfSome, OnOk, OnErr};
 ghost use Rattle.std.specs.declared.alloc.AllocError.{AllocError};
 ghost use Rattle.euler_operators.specs.declared.Refusal.{Refusal};
 ghost use Rattle.euler_conditions.specs.Ready.{IsReady};
@@ -9,7 +9,7 @@ ghost use Rattle.undo_journal.specs.Journal.{after_steps, record_of, recorded, I
 ghost use Rattle.shapes.specs.split.Split as spec;
 ghost use Rattle.shapes.specs.Common.{split_model};
 ghost use Rattle.plane_split.specs.Machine.{plane_with, split, split_refusal};
-ghost use Rattle.split_checks.specs.begin_checks.Conditions.{early_refusal};
+ghost use Rattle.split_checks.specs.begin_checks.Conditions.{early_refusal, HasFlatFaces};
 ghost use Rattle.split_drawing.specs.Cuts.{AreCuts};
 ghost use Rattle.split_drawing.specs.Noted.{AreSides};
 ghost use Rattle.split_laws.specs.SplitOps.{split_ops};
@@ -41,9 +41,11 @@ fn admit(
     s: u32,
     plane: &Plane,
     upper: u32,
+    flat: Option<u32>,
     sides: &mut Sides,
 ) -> Result<Cuts, Failure>
     requires ready { IsReady arena.now }
+    requires flat { IfSome flat (HasFlatFaces arena.now.model) }
     requires sides { AreSides arena.now.model plane.now sides.old }
     ensures ok { OnOk result (CanBegin arena.now.model s plane.now upper) }
     ensures cuts { IfOk result (λ cuts. AreCuts arena.now.model plane.now s cuts) }
@@ -51,7 +53,7 @@ fn admit(
     ensures refused { (refusal : Refusal) → (result ≡ Err (Failure.Refused refusal)) → (spec.split_refusal arena.now.model s plane.now upper ≡ Some refusal) }
     ensures memory { (error : AllocError) → (result ≡ Err (Failure.Memory error)) → (early_refusal arena.now.model s plane.now upper ≡ None) }
 {
-    match check_begin(alloc, arena, s, plane, upper, sides) {
+    match check_begin(alloc, arena, s, plane, upper, flat, sides) {
         Ok(Ok(cuts)) => Ok(cuts),
         Ok(Err(refusal)) => Err(Failure::Refused(refusal)),
         Err(error) => Err(Failure::Memory(error)),
@@ -79,7 +81,7 @@ pub fn split_in(
 {
     let plane = plane_of(a, b, c, d);
     let mut sides = none_noted();
-    let cuts = match admit(alloc, draft.arena(), s, &plane, upper, &mut sides) {
+    let cuts = match admit(alloc, draft.arena(), s, &plane, upper, None, &mut sides) {
         Ok(cuts) => cuts,
         Err(failure) => return Err(failure),
     };
@@ -124,6 +126,30 @@ pub fn split(
     ensures sound { Sound (held session.machine) }
     ensures ok { OnOk result.1 ((split_refusal session.machine s (plane_with a b c d) upper ≡ None) × (result.0.machine ≡ split session.machine s (plane_with a b c d) upper)) }
     ensures recorded { OnOk result.1 (IsRecorded session result.0) }
+    ensures record { let M = held session.machine in OnOk result.1 (result.0.records ≡ recorded session (record_of M (split_ops M s (plane_with a b c d) upper))) }
+    ensures refused { (refusal : Refusal) → (result.1 ≡ Err (Failure.Refused refusal)) → (split_refusal session.machine s (plane_with a b c d) upper ≡ Some refusal) }
+    ensures memory { (error : AllocError) → (result.1 ≡ Err (Failure.Memory error)) → (early_refusal (held session.machine) s (plane_with a b c d) upper ≡ None) }
+    ensures err { OnErr result.1 (result.0 ≡ session) }
+{
+    split_with_flat(alloc, session, s, a, b, c, d, upper, None)
+}
+
+/// A split as `split` makes it. If a solid is given that is known to have no lone loop and only flat faces, its faces aren't looked at for that.
+pub fn split_with_flat(
+    alloc: Global,
+    session: Session,
+    s: u32,
+    a: i64,
+    b: i64,
+    c: i64,
+    d: i64,
+    upper: u32,
+    flat: Option<u32>,
+) -> (Session, Result<(), Failure>)
+    requires flat { IfSome flat (HasFlatFaces (held session.machine)) }
+    ensures sound { Sound (held session.machine) }
+    ensures ok { OnOk result.1 ((split_refusal session.machine s (plane_with a b c d) upper ≡ None) × (result.0.machine ≡ split session.machine s (plane_with a b c d) upper)) }
+    ensures recorded { OnOk result.1 (IsRecorded session result.0) }
     ensures record { OnOk result.1 (result.0.records ≡ recorded session (record_of (held session.machine) (split_ops (held session.machine) s (plane_with a b c d) upper))) }
     ensures refused { (refusal : Refusal) → (result.1 ≡ Err (Failure.Refused refusal)) → (split_refusal session.machine s (plane_with a b c d) upper ≡ Some refusal) }
     ensures memory { (error : AllocError) → (result.1 ≡ Err (Failure.Memory error)) → (early_refusal (held session.machine) s (plane_with a b c d) upper ≡ None) }
@@ -131,7 +157,7 @@ pub fn split(
 {
     let plane = plane_of(a, b, c, d);
     let mut sides = none_noted();
-    let cuts = match admit(alloc, session.arena(), s, &plane, upper, &mut sides) {
+    let cuts = match admit(alloc, session.arena(), s, &plane, upper, flat, &mut sides) {
         Ok(cuts) => cuts,
         Err(failure) => return (session, Err(failure)),
     };

@@ -16,15 +16,16 @@
 //! it takes these operators as steps. It is refused only with the first false condition and its value. Otherwise the answer is `Memory`. It
 //! may come in place of a refusal, but only of one by a condition that is tested after memory is asked for (`early_refusal`). On any
 //! failure the session is as it was, and the models ahead are kept, even if the split is refused after the faces are drawn. No operator
-//! inside is ever refused. `splits_are_held`: after the answer Ok, a caller of `split` holds a sound model in which both parts are solids
-//! and share the six volumes of the one, and every other solid keeps its own. No vertex of the part that keeps the number lies above the
-//! plane, and none of the other part lies below it.
+//! inside is ever refused. `split_with_flat` does the same, and doesn't look for lone loops and bent faces of a solid that is known to have
+//! none. `splits_are_held`: after the answer Ok, a caller of `split` holds a sound model in which both parts are solids and share the six
+//! volumes of the one, and every other solid keeps its own. No vertex of the part that keeps the number lies above the plane, and none of
+//! the other part lies below it.
 
 mod command;
 mod laws;
 mod solid_opening;
 mod steps;
 
-pub use command::{split, split_in};
+pub use command::{split, split_in, split_with_flat};
 pub use laws::{splits_are_calls, splits_are_held};
 pub use split_laws::{parts_lie_on_either_side, parts_share_volumes, splits_make_split};

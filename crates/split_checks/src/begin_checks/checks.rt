@@ -1,8 +1,8 @@
 //! The conditions with which a split begins, in the order in which they are tested.
-ghost use Rattle.std.specs.Prelude.{◌≡◌, ◌&&◌, map, None, Some, IfErr, IfOk, OnErr};
+ghost use Rattle.std.specs.Prelude.{◌≡◌, ◌&&◌, map, None, Some, IfErr, IfOk, IfSome, OnErr};
 ghost use Rattle.euler_operators.specs.Common.{code, faces_of, first_refusal, verdict, IsCutPlane};
 ghost use Rattle.euler_conditions.specs.Ready.{IsReady};
-ghost use Rattle.split_checks.specs.Common.{AreCuts, all_pairs, codes, paired_face, early_refusal, AreTold, IsSolidMet, faces_in, AreSides, AreFacesAlong, AreCrossings};
+ghost use Rattle.split_checks.specs.Common.{AreCuts, all_pairs, codes, paired_face, early_refusal, HasFlatFaces, AreTold, IsSolidMet, faces_in, AreSides, AreFacesAlong, AreCrossings};
 ghost use Rattle.shapes.specs.Common.{crossing_edges, straddling_faces, cut_conditions, faces_are_flat, first_conditions, number_conditions, sectioning_conditions, straddling_conditions};
 
 use crate::begin_checks::crossings::cut_edges;
@@ -44,8 +44,8 @@ fn check_numbers(arena: &Arena, s: u32, upper: u32) -> Result<(), Refusal>
     Ok(())
 }
 
-/// Whether solid s has no lone loop, and only flat faces.
-fn check_solid(arena: &Arena, s: u32) -> Result<(), Refusal>
+/// Whether solid s has no lone loop, and only flat faces. It looks at each face.
+fn check_each_face(arena: &Arena, s: u32) -> Result<(), Refusal>
     requires { IsReady arena.now }
     ensures { result ≡ verdict (first_refusal (faces_are_flat arena.now.model (faces_of arena.now.model s))) }
 {
@@ -56,6 +56,18 @@ fn check_solid(arena: &Arena, s: u32) -> Result<(), Refusal>
         return refused(Why::NotFlat, f);
     }
     Ok(())
+}
+
+/// Whether solid s has no lone loop, and only flat faces. It looks at no face if this is known of the solid.
+fn check_solid(arena: &Arena, s: u32, flat: Option<u32>) -> Result<(), Refusal>
+    requires ready { IsReady arena.now }
+    requires flat { IfSome flat (HasFlatFaces arena.now.model) }
+    ensures { result ≡ verdict (first_refusal (faces_are_flat arena.now.model (faces_of arena.now.model s))) }
+{
+    match flat {
+        Some(known) if known == s => Ok(()),
+        _ => check_each_face(arena, s),
+    }
 }
 
 /// Whether the solid that was looked at has vertices on both sides of the plane.
@@ -179,19 +191,20 @@ fn check_section(
 /// down. Last comes NumbersSpent with 2, 3, 4 or 5 if no numbers are left for the faces, loops, edges or vertices that cutting the edges and the
 /// faces takes.
 ///
-/// It looks only at the faces of s, at each a few times. It computes on which side of the plane a corner lies unless this is noted in `sides`, and
-/// then notes it. It takes n log n steps for n edges that cross, and for n cut places of a face. `AllocError` if memory is refused: none is asked for
-/// before the conditions up to NotFlat hold.
-/// refused: none is asked for before the conditions up to NotFlat hold.
+/// It looks only at the faces of s, at each a few times; it doesn't look for lone loops and bent faces if s is known to have none, as solid `flat` is.
+/// It computes on which side of the plane a corner lies unless this is noted in `sides`, and then notes it. It takes n log n steps for n edges that
+/// cross, and for n cut places of a face. `AllocError` if memory is refused: none is asked for before the conditions up to NotFlat hold.
 pub fn check_begin(
     alloc: Global,
     arena: &Arena,
     s: u32,
     plane: &Plane,
     upper: u32,
+    flat: Option<u32>,
     sides: &mut Sides,
 ) -> Result<Result<Cuts, Refusal>, AllocError>
     requires ready { IsReady arena.now }
+    requires flat { IfSome flat (HasFlatFaces arena.now.model) }
     requires sides { AreSides arena.now.model plane.now sides.old }
     ensures begins { IfOk result (λ checked. IfOk checked (λ _. first_refusal (first_conditions arena.now.model s plane.now upper) ≡ None)) }
     ensures cuts { IfOk result (λ checked. IfOk checked (λ cuts. AreCuts arena.now.model plane.now s cuts)) }
@@ -205,7 +218,7 @@ pub fn check_begin(
     if let Err(refusal) = check_plane(*plane) {
         return Ok(Err(refusal));
     }
-    if let Err(refusal) = check_solid(arena, s) {
+    if let Err(refusal) = check_solid(arena, s, flat) {
         return Ok(Err(refusal));
     }
     check_section(alloc, arena, *plane, sides, s)

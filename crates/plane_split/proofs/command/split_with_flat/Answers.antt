@@ -9,7 +9,7 @@ use Rattle.split_checks.proofs.begin_checks_laws.Stages.{none_early}
 use Rattle.undo_journal.proofs.Marks.{further_recorded, further_session, steps_recorded}
 use Rattle.plane_split.proofs.Conditions.{same_failure}
 use Rattle.plane_split.proofs.Planes.{plane_is}
-use Rattle.plane_split.proofs.command.split.Goals as goal
+use Rattle.plane_split.proofs.command.split_with_flat.Goals as goal
 
 pub admit-requires-clause-sides : goal.admit-requires-clause-sides
 admit-requires-clause-sides c = c.none_noted-sides.ensures c.arena.result.now.model c.plane_of-plane.result
