@@ -1,11 +1,13 @@
 //! A change as one command of a session.
-ghost use Rattle.commands.specs.Known.{IsKnown};
+ghost use Rattle.std.specs.Prelude.{IfSome};
+ghost use Rattle.undo_journal.specs.Machine.{held};
+ghost use Rattle.gluing.specs.Flat.{IsClosedFlat};
 ghost use Rattle.commands.specs.Telling.{TellsSession, told_of};
 
 use crate::command::{Change, Command};
 use euler_operators::{Op, Point};
 use gluing::glue_with_flat;
-use plane_split::split;
+use plane_split::split_with_flat;
 use std::alloc::Global;
 use sweeps::{block, lamina, sweep};
 use undo_journal::{Failure, Session};
@@ -41,7 +43,7 @@ fn make_block(
     block(alloc, session, solid, corner, dx, dy, dz)
 }
 
-/// A split, by the coefficients of its plane.
+/// A split, by the coefficients of its plane. A solid may be known to be closed and flat.
 fn make_split(
     alloc: Global,
     session: Session,
@@ -51,23 +53,25 @@ fn make_split(
     c: i64,
     d: i64,
     above: u32,
+    flat: Option<u32>,
 ) -> (Session, Result<(), Failure>)
+    requires { IfSome flat (IsClosedFlat (held session.machine)) }
     ensures { TellsSession session (Command.Change (Change.Split solid a b c d above)) (told_of result.1) result.0 }
 {
-    split(alloc, session, solid, a, b, c, d, above)
+    split_with_flat(alloc, session, solid, a, b, c, d, above, flat)
 }
 
 /// Makes a change one command of the session. A refusal is that of the command that the change names. On any failure the session is as it
 /// was, with its records. An accepted change leaves one record.
 ///
-/// A glue looks at no face of the solid that is known to be closed and flat.
+/// A glue and a split don't look for lone loops and bent faces of the solid that is known to be closed and flat.
 pub(crate) fn change_session(
     alloc: Global,
     session: Session,
     flat: Option<u32>,
     change: Change<'_>,
 ) -> (Session, Result<(), Failure>)
-    requires { IsKnown session flat }
+    requires { IfSome flat (IsClosedFlat (held session.machine)) }
     ensures { TellsSession session (Command.Change change.entry) (told_of result.1) result.0 }
 {
     match change {
@@ -79,7 +83,7 @@ pub(crate) fn change_session(
         Change::Sweep(face, way) => sweep(alloc, session, face, way),
         Change::Glue(face, other) => glue_with_flat(alloc, session, face, other, flat),
         Change::Split(solid, a, b, c, d, above) => {
-            make_split(alloc, session, solid, a, b, c, d, above)
+            make_split(alloc, session, solid, a, b, c, d, above, flat)
         }
     }
 }

@@ -1,10 +1,11 @@
-//! A session, and a solid that it knows to be closed and flat.
-ghost use Rattle.std.specs.Prelude.{◌≡◌, IfSome, OnErr, OnOk};
+//! A session, and what it knows of one of its solids.
+ghost use Rattle.std.specs.Prelude.{◌≡◌, ◌⊎◌, IfSome, OnErr, OnOk};
 ghost use Rattle.euler_conditions.specs.Ready.{IsReady};
 ghost use Rattle.euler_operators.specs.Common.{solid_of, verdict};
-ghost use Rattle.undo_journal.specs.Journal.{after_redo, after_undo};
-ghost use Rattle.undo_journal.specs.Machine.{redo_refusal, undo_refusal};
-ghost use Rattle.commands.specs.Known.{MakesKnown};
+ghost use Rattle.undo_journal.specs.Journal.{after_redo, after_undo, Journal};
+ghost use Rattle.undo_journal.specs.Machine.{held, redo_refusal, undo_refusal};
+ghost use Rattle.gluing.specs.Flat.{IsClosedFlat};
+ghost use Rattle.commands.specs.Known.{IsKnown, MakesKnown};
 ghost use Rattle.commands.specs.Telling.{TellsSession, told_of};
 
 use crate::changing::{act_on_session, change_session};
@@ -15,15 +16,28 @@ use std::alloc::Global;
 use std::marker::Model;
 use undo_journal::{Failure, Session};
 
-/// A session, with the number of a solid that is known to be closed and flat. A glue of it, or to it, looks at none of its faces, so a solid
-/// to which block after block is glued isn't looked at anew for each. Contracts see the session alone.
+/// What is known of one solid.
+#[derive(Clone, Copy)]
+enum Known {
+    /// Nothing.
+    Nothing,
+    /// The solid with this number has no lone loop, and only flat faces.
+    Flat(u32),
+    /// And it is strictly convex, so that both parts of a split of it have only flat faces again. Other parts needn't: a face that crosses itself may
+    /// leave a piece without area.
+    Convex(u32),
+}
+
+/// A session, with what is known of one of its solids. A glue of a solid that is known to be closed and flat, or to it, and a split of it don't look
+/// for lone loops and bent faces in it. So a solid to which block after block is glued isn't looked at anew for each, nor a bar from which slice after
+/// slice is cut. Contracts see the session alone.
 ///
-/// A block makes its solid known where none is, and a glue the solid that stays. A larger command that is refused leaves it known. After any
-/// other change of the model, and after a draft, none is known.
+/// A block makes its solid known where none is, a glue the solid that stays, and a split the upper part if the solid was known to be strictly convex.
+/// A larger command that is refused leaves it known. After any other change of the model, and after a draft, none is known.
 #[derive(Drop)]
 pub struct KnownSession {
     session: Session,
-    flat: Option<u32>,
+    known: Known,
 }
 
 impl Model for KnownSession {
@@ -37,7 +51,7 @@ impl Model for KnownSession {
 
     ghost view = { λ s. s.session };
 
-    ghost invariant = { λ s. IsKnown s.session s.flat };
+    ghost invariant = { λ s. IsKnown s.session s.known };
 }
 
 /// The solid of a face, if there is one.
@@ -54,18 +68,60 @@ fn solid_of(arena: &Arena, f: u32) -> Option<u32>
     Some(arena.solid_of(f))
 }
 
-/// The solid that is known once this change is accepted.
-fn known_next(arena: &Arena, flat: Option<u32>, wanted: &Change<'_>) -> Option<u32>
+/// The solid that is known to be closed and flat, if one is.
+fn flat_of(known: Known) -> Option<u32>
+    ensures { (s : Journal) → IsKnown s known → IfSome result (IsClosedFlat (held s.machine)) }
+{
+    match known {
+        Known::Nothing => None,
+        Known::Flat(solid) => Some(solid),
+        Known::Convex(solid) => Some(solid),
+    }
+}
+
+/// What is known once block `solid` is made.
+fn known_with_block(known: Known, solid: u32) -> Known
+    ensures { (result ≡ known) ⊎ (result ≡ Known.Convex solid) }
+{
+    match known {
+        Known::Nothing => Known::Convex(solid),
+        known => known,
+    }
+}
+
+/// What is known once a face is glued to face f.
+fn known_glued(arena: &Arena, f: u32) -> Known
     requires { IsReady arena.now }
-    ensures { IfSome result (MakesKnown arena.now.model flat wanted.now) }
+    ensures { (result ≡ Known.Nothing) ⊎ (result ≡ Known.Flat (solid_of arena.now.model f)) }
+{
+    match solid_of(arena, f) {
+        Some(solid) => Known::Flat(solid),
+        None => Known::Nothing,
+    }
+}
+
+/// What is known once a solid is split.
+fn known_split(known: Known, solid: u32, upper: u32) -> Known
+    ensures { (result ≡ Known.Nothing) ⊎ ((known ≡ Known.Convex solid) × (result ≡ Known.Convex upper)) }
+{
+    if let Known::Convex(whole) = known {
+        if whole == solid {
+            return Known::Convex(upper);
+        }
+    }
+    Known::Nothing
+}
+
+/// What is known once this change is accepted.
+fn known_next(arena: &Arena, known: Known, wanted: &Change<'_>) -> Known
+    requires { IsReady arena.now }
+    ensures { MakesKnown arena.now.model known wanted.now result }
 {
     match wanted {
-        Change::Block(solid, _, _, _, _) => match flat {
-            Some(known) => Some(known),
-            None => Some(*solid),
-        },
-        Change::Glue(face, _) => solid_of(arena, *face),
-        _ => None,
+        Change::Block(solid, _, _, _, _) => known_with_block(known, *solid),
+        Change::Glue(face, _) => known_glued(arena, *face),
+        Change::Split(solid, _, _, _, _, upper) => known_split(known, *solid, *upper),
+        _ => Known::Nothing,
     }
 }
 
@@ -76,7 +132,7 @@ impl KnownSession {
     {
         KnownSession {
             session,
-            flat: None,
+            known: Known::Nothing,
         }
     }
 
@@ -91,7 +147,7 @@ impl KnownSession {
     pub fn forget(self) -> Session
         ensures { result ≡ self }
     {
-        let KnownSession { session, flat: _ } = self;
+        let KnownSession { session, known: _ } = self;
         session
     }
 
@@ -100,7 +156,7 @@ impl KnownSession {
     pub fn act(&mut self, op: Op) -> Result<(), Failure>
         ensures { TellsSession self.old (Command.Change (Change.Act op)) (told_of result) self.new }
     {
-        self.flat = None;
+        self.known = Known::Nothing;
         act_on_session(&mut self.session, op)
     }
 
@@ -110,7 +166,7 @@ impl KnownSession {
         ensures refused { result ≡ verdict (undo_refusal self.old.machine) }
         ensures err { OnErr result (self.new ≡ self.old) }
     {
-        self.flat = None;
+        self.known = Known::Nothing;
         self.session.undo()
     }
 
@@ -120,7 +176,7 @@ impl KnownSession {
         ensures refused { result ≡ verdict (redo_refusal self.old.machine) }
         ensures err { OnErr result (self.new ≡ self.old) }
     {
-        self.flat = None;
+        self.known = Known::Nothing;
         self.session.redo()
     }
 
@@ -129,15 +185,15 @@ impl KnownSession {
     pub fn change(self, alloc: Global, wanted: Change<'_>) -> (KnownSession, Result<(), Failure>)
         ensures { TellsSession self (Command.Change wanted.entry) (told_of result.1) result.0 }
     {
-        let KnownSession { session, flat } = self;
-        let next = known_next(session.arena(), flat, &wanted);
-        let (session, ended) = change_session(alloc, session, flat, wanted);
+        let KnownSession { session, known } = self;
+        let next = known_next(session.arena(), known, &wanted);
+        let (session, ended) = change_session(alloc, session, flat_of(known), wanted);
         match ended {
             Ok(()) => {
-                let flat = next;
-                (KnownSession { session, flat }, Ok(()))
+                let known = next;
+                (KnownSession { session, known }, Ok(()))
             }
-            Err(failure) => (KnownSession { session, flat }, Err(failure)),
+            Err(failure) => (KnownSession { session, known }, Err(failure)),
         }
     }
 }

@@ -2,8 +2,8 @@
 //! Commands: the one way in which an operator, a larger command, a question, undo, redo and a draft reach a session.
 //!
 //! `command` defines commands and their answers. `changing` makes a change one command of a session, and `drafting` makes it steps of a
-//! draft; `asking` answers a question. `known` holds a session and a solid of it that is known to be closed and flat; `stage` holds that or
-//! a draft of its next command, and `making` makes calls of any kind on it.
+//! draft; `asking` answers a question. `known` holds a session and what it knows of one of its solids; `stage` holds that or a draft of its next
+//! command, and `making` makes calls of any kind on it.
 //!
 //! # What is proved
 //!

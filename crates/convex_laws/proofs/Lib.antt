@@ -1,10 +1,10 @@
 mod Levels
 mod Blocks
-mod Bends
+pub mod Bends
 mod Within
 mod Apart
 mod Seen
-mod Others
+pub mod Others
 mod Volumes
 mod Turns
 mod Planes
@@ -25,6 +25,6 @@ mod Caps
 mod CapNormals
 mod Parts
 mod Traces
-mod Strict
+pub mod Strict
 mod Built
 mod Refused

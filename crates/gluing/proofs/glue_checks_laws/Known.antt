@@ -1,6 +1,6 @@
 -- A solid that is closed and flat adds nothing to what is searched for in two solids.
 use Rattle.std.proofs.Common.{◌≡◌, ℕ, Bool, true, false, not, cond, ◌&&◌, nat_eq, List, [], ◌∷◌, Option, Some, None, is_some, unwrap_or, refl, sym, ap, subst, ◌∙◌, eqb-true, IfSome}
-use Rattle.euler_operators.specs.Common.{IsIn, Model, LoopRow, no_face, content, face_of, faces_of, solid_of, Sound, Has, is_lone, lists}
+use Rattle.euler_operators.specs.Common.{IsIn, Model, LoopRow, no_face, content, face_of, faces_of, first_refusal, solid_of, Sound, Has, is_lone, lists}
 use Rattle.euler_operators.specs.Table as table
 use Rattle.euler_operators.specs.declared.Why.TheVariants.{LoneLoop, NotFlat}
 use Rattle.euler_operators.proofs.Common.{content_row, face_row, first_where_zero, IsIn_head, IsIn_rest}
@@ -35,6 +35,10 @@ module _ (M : Model) (s : ℕ) (flat : IsClosedFlat M s) where
 
   none_bent : first_bent M (faces_of M s) ≡ None
   none_bent = none_such (λ k. not (is_flat M k)) (faces_of M s) (λ k i. let w = in_solid k (listed-from_in k (faces_of M s) i) in ap not (flat.flat k w.0 w.1))
+
+  -- so no condition on its faces alone is false
+  pub none_false : first_refusal (faces_are_flat M (faces_of M s)) ≡ None
+  none_false = λ i. first_refusal (no_such (none_lone i) LoneLoop ∷ no_such (none_bent i) NotFlat ∷ [])
 
 module _ (M : Model) (sound : Sound M) (s t : ℕ) (flat : IsClosedFlat M s) where
   -- so the conditions of two solids are those of the other one
