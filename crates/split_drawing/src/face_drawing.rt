@@ -5,6 +5,6 @@ mod joining;
 mod pairs;
 mod rings;
 
-pub(crate) use drawing::draw_pairs;
+pub(crate) use drawing::{draw_pair, draw_pairs};
 pub(crate) use joining::join_pairs;
 pub(crate) use rings::{move_rings, ring_free};

@@ -1,11 +1,11 @@
 -- One face drawn between its pairs, step by step as the code does it.
-use Rattle.std.proofs.Common.{◌≡◌, ℕ, Bool, true, false, cond, ◌&&◌, nat_eq, nat_lt, List, [], ◌++◌, length, map, ◌≢◌, refl, sym, ap, ◌∙◌, subst, ne_eqb, eq-eqb, fold, arith, append_assoc, append-nil}
+use Rattle.std.proofs.Common.{◌≡◌, ℕ, ◌+◌, Bool, true, false, cond, ◌&&◌, nat_eq, nat_lt, None, List, [], ◌∷◌, ◌++◌, length, map, ◌≢◌, refl, sym, ap, ◌∙◌, subst, ne_eqb, eq-eqb, fold, arith, append_assoc, append-nil, slice_index_or}
 use Rattle.std.proofs.lemmas.List.{length-map}
-use Rattle.euler_operators.specs.Common.{Plane, Model, content, Has, has_rings}
+use Rattle.euler_operators.specs.Common.{Plane, Model, content, Has, has_rings, first_false, effect}
 use Rattle.euler_operators.specs.Table as table
 use Rattle.euler_operators.specs.declared.Op.{Op}
 use Rattle.euler_laws.specs.Laws.{AreAccepted}
-use Rattle.shapes.specs.Common.{vertices_on, some_above, Drawing, join_next, draw_next, all_joined, ring_free, all_drawn, rings_above, with_rings, rings_shared, drawn_between}
+use Rattle.shapes.specs.Common.{vertices_on, some_above, Drawing, join_pair, join_next, draw_pair, draw_next, all_joined, ring_free, all_drawn, rings_above, with_rings, rings_shared, drawn_between}
 use Rattle.shapes.specs.split.Drawing as drawing
 use Rattle.split_drawing_laws.specs.drawings.DrawingOps.{join_ops, draw_ops, ring_ops, share_ops, face_ops}
 use Rattle.split_drawing_laws.proofs.drawings.Faces.{begun_joining, joins, going, going_on, fitting_on, last, newer_face}
@@ -16,6 +16,10 @@ use Rattle.split_checks.specs.declared.cut_places.noted.Noted.{Noted}
 use Rattle.split_checks.specs.declared.cuts.Pair.{Pair}
 use Rattle.split_checks.specs.declared.progress.Progress.{Progress}
 use Rattle.split_checks.specs.Cuts.{codes}
+use Rattle.solid_walks.specs.declared.numbers.Counters.{Counters}
+use Rattle.solid_walks.specs.Counters.{taken_of}
+use Rattle.split_drawing_laws.proofs.drawings.Passes.{join_next_one}
+use Rattle.split_drawing.proofs.face_drawing_laws.Turns.{draw_accepted, drew}
 use Rattle.split_drawing.specs.face_drawing.Stuck.{stuck_at}
 use Rattle.split_checks.specs.Progress.{drawing_of}
 use Rattle.split_drawing.specs.face_drawing.Passes.{CanJoin, CanDraw}
@@ -146,3 +150,43 @@ module _ (p : Plane) (f : ℕ) (pairs : List Pair) (from : Progress) (M : Model)
           let none : [] ≡ share_ops p f ps (all_drawn f (ring_free f ps (all_joined ps begun))) =
           sym (ap (λ b. cond b given []) (ne_eqb (length ps) 1 (λ e. more (sym (length-map pairs codes) ∙ e)))) ∙ ap (share_ops p f ps) last_is in
           ap (λ (xs : List Op). join_ops begun ps ++ xs) (sym (append-nil second) ∙ (λ i. second_is i ++ none i))
+
+-- a face with only one pair, which stands in one loop: the first pass leaves it, and the second draws it
+module _ (p : Plane) (f : ℕ) (pair : Pair) (from : Progress) (M : Model) (w : CanDrawFace p f (codes pair ∷ []) (drawing_of from M [])) where
+  lone_joined : drawing_of from M (codes pair ∷ []) ≡ fold join_next (drawing_of from M []) (map codes (pair ∷ []))
+  lone_joined = sym (join_next_one (drawing_of from M []) (codes pair) w.ready.alone)
+
+  lone_can : CanDraw f (drawing_of from M (codes pair ∷ [])) (map codes (pair ∷ []))
+  lone_can = then_draw p f (pair ∷ []) from M w from M (pair ∷ []) lone_joined M refl from refl (pair ∷ []) refl
+
+  pub lone_accepted : first_false M (draw_pair (taken_of from.taken) (codes pair)) ≡ None
+  lone_accepted = draw_accepted f from M (codes pair ∷ []) (pair ∷ []) (omega arith) lone_can w.ready.alone
+
+  module _ (K : Model) (is : K ≡ effect M (draw_pair (taken_of from.taken) (codes pair))) (t : Counters)
+      (counted : t ≡ record from.taken { faces = from.taken.faces + 1; loops = from.taken.loops + 1; edges = from.taken.edges + 1 }) where
+    abbrev lone_drew : CanDraw f (drawing_of (record from { taken = t }) K (codes pair ∷ [])) []
+        × (drawing_of (record from { taken = t }) K (codes pair ∷ []) ≡ fold (draw_next f) (drawing_of from M (codes pair ∷ [])) (map codes (pair ∷ [])))
+        × (draw_pair (taken_of from.taken) (codes pair) ∷ [] ≡ draw_ops f (drawing_of from M (codes pair ∷ [])) (map codes (pair ∷ [])))
+    lone_drew = drew f from M (codes pair ∷ []) (pair ∷ []) (omega arith) lone_can w.ready.alone K is t counted
+
+    pub lone_there : Has K.faces f
+    lone_there = last_there p f (pair ∷ []) from M w from M (pair ∷ []) lone_joined M refl from refl (pair ∷ []) refl (record from { taken = t }) K lone_drew.1
+
+    pub lone_noted : (ns : List Noted) → AreNoted M p ns → AreNoted K p ns
+    lone_noted = last_noted p f (pair ∷ []) from M w from M (pair ∷ []) lone_joined M refl from refl (pair ∷ []) refl (record from { taken = t }) K lone_drew.1
+
+    pub lone_rings : AreAccepted K (ring_ops (rings_above K p f) t.faces)
+    lone_rings = last_rings p f (pair ∷ []) from M w from M (pair ∷ []) lone_joined M refl from refl (pair ∷ []) refl (record from { taken = t }) K lone_drew.1 refl
+
+    pub lone_shared : (Z : Model) → Z ≡ with_rings K (rings_above K p f) t.faces → drawing_of (record from { taken = t }) Z [] ≡ put_aside (drawn_between p f (codes pair ∷ []) (drawing_of from M []))
+    lone_shared = with_shared p f (pair ∷ []) from M w from M (pair ∷ []) lone_joined M refl from refl (pair ∷ []) refl (record from { taken = t }) K lone_drew.1 refl
+
+    pub lone_steps : draw_pair (taken_of from.taken) (codes pair) ∷ ring_ops (rings_above K p f) t.faces ≡ face_ops p f (codes pair ∷ []) (drawing_of from M [])
+    lone_steps = (λ i. ((cond (sym w.ready.alone i) [] (join_pair M (codes pair) (from.taken.edges + 1) ∷ []) ++ []) ++ lone_drew.2 i) ++ ring_ops (rings_above K p f) t.faces)
+        ∙ steps_with_shared p f (pair ∷ []) from M w from M (pair ∷ []) lone_joined M refl from refl (pair ∷ []) refl (record from { taken = t }) K lone_drew.1 refl
+
+-- the only pair of a list
+pub lone_pair : (qs : List Pair) (none : Pair) → length qs ≡ 1 → codes (slice_index_or qs 0 none) ∷ [] ≡ map codes qs
+lone_pair [] none one = absurd (omega (arith, one))
+lone_pair (q ∷ []) none one = refl
+lone_pair (q ∷ r ∷ qs) none one = absurd (omega (arith, one))

@@ -19,7 +19,12 @@ use std::alloc::AllocError;
 use undo_journal::Draft;
 
 /// Cuts off a new face between the two of a pair, with the next edge, face and loop, and counts these.
-fn draw_pair(draft: &mut Draft, taken: Counters, pair: Pair) -> Result<Counters, AllocError>
+#[inline(always)]
+pub(crate) fn draw_pair(
+    draft: &mut Draft,
+    taken: Counters,
+    pair: Pair,
+) -> Result<Counters, AllocError>
     requires faces_left { taken.faces + 1 ≤ 1000000 }
     requires loops_left { taken.loops + 1 ≤ 1000000 }
     requires edges_left { taken.edges + 1 ≤ 1000000 }
