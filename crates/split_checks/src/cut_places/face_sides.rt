@@ -44,6 +44,7 @@ fn ring_side(arena: &Arena, plane: Plane, sides: &mut Sides, h: HalfEdge) -> Sig
 }
 
 /// The side that loop l reaches: above if it has a corner above the plane, else below if it has one below, else on. It takes no memory.
+#[inline(always)]
 pub fn loop_side(arena: &Arena, plane: Plane, sides: &mut Sides, l: u32) -> Sign
     requires ready { IsReady arena.now }
     requires there { has_number arena.now Kind.Loop l ≡ true }

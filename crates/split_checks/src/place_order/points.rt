@@ -12,6 +12,7 @@ use euler_operators::{HalfEdge, Plane, Point, Sign};
 use solid_measure::start;
 
 /// The point of a cut place, whose edge is among the crossings or which starts on the plane.
+#[inline(always)]
 pub(crate) fn place_point(
     arena: &Arena,
     plane: Plane,
