@@ -33,14 +33,15 @@ pub fn side(plane: Plane, p: Point) -> Sign
     }
 }
 
-/// The height of a point in range over a plane along which points are cut, at most 6 * 10^18 in magnitude.
+/// The height of a point in range over a plane along which points are cut, at most 6 * 10^18 in magnitude. It fits 64 bits, and what goes
+/// beyond these isn't computed.
 fn cut_height(plane: Plane, p: Point) -> i128
     requires plane { IsCutPlane plane }
     requires p { IsInRange p }
     ensures is { result ≡ height plane p }
     ensures within { IsWithin 6000000000000000000 result }
 {
-    height(plane, p)
+    i128::from(height(plane, p) as i64)
 }
 
 /// The number divided by the divisor, if the quotient is a whole coordinate.
