@@ -46,7 +46,7 @@ class Outcome:
 
 def trials(program: str, archive: str) -> Iterator[Trial]:
     """The tests, those of documents first."""
-    for name in ('gate', 'quotes', 'sentences', 'statement', 'versions', 'refusals', 'pages', 'words', 'unused', 'conditionals'):
+    for name in ('gate', 'quotes', 'sentences', 'statement', 'versions', 'refusals', 'vocabulary', 'pages', 'words', 'unused', 'conditionals'):
         yield Trial((f'tests/{name}.py',))
     yield Trial(('tests/handed_on.py',), ('cc',))
     yield Trial(('.ci/unused',))
