@@ -113,6 +113,12 @@ tried 'the shared object and the examples in C and C++' make_here
 echo "the shared object and two examples took $(($(date +%s) - began)) seconds"
 prints 'the example in C' bindings/examples/block_c.expected "$dir/built/block_c"
 prints 'the example in C++' bindings/examples/block_cpp.expected "$dir/built/block_cpp"
+# is_alone OBJECT: whether a shared object has names of gwb_* alone for others, and needs the C library alone
+is_alone() {
+    nm -D --defined-only "$1" > "$dir/names" && objdump -p "$1" > "$dir/needs" || return
+    grep -q ' gwb_open' "$dir/names" && ! grep -v ' gwb_' "$dir/names" && ! grep NEEDED "$dir/needs" | grep -Ev ' (libc|ld-linux[^ ]*)\.so'
+}
+tried 'the shared object has gwb_* alone, and needs the C library alone' is_alone "$dir/built/libgwb.so"
 # The same with each block alone, so that valgrind sees each and each can be refused: all but heap.o is the same.
 cp -pr "$dir/built" "$dir/alone"
 rm -f "$dir/alone/heap.o" "$dir/alone/libgwb.a" "$dir/alone/block_c"

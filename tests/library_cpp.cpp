@@ -1,4 +1,9 @@
 // Tries gwb.hpp: exceptions by name, numbers as types, ranges, drafts and workbenches that move or are closed. The last line counts.
+#include "gwb.h"
+#include <cstdint>
+// The version that gwb.hpp finds linked, so that it can be another one; that of the library is (gwb_version)().
+static std::uint32_t linked_version = GWB_VERSION;
+#define gwb_version() linked_version
 #include "gwb.hpp"
 #include <array>
 #include <cstdlib>
@@ -194,7 +199,7 @@ static void try_what_is_said()
         check(faulted.number() == 1 && std::string(faulted.what()) == std::string(100, 'x') + ": fault 1", "what a fault says");
     }
     check(throws<RefusedBy<GWB_WHY_NO_SOLID>>([&] { bench.kvfs(Solid(1000000)); }), "a number of seven digits");
-    check(gwb_version() == GWB_VERSION, "the version of the library is that of the header");
+    check((gwb_version)() == GWB_VERSION, "the version of the library is that of the header");
     check(bench.run("") == GWB_SILENT && bench.run("count 1") == GWB_COUNT && bench.reply() == "count 8 12 6 0 2\n", "kinds of answers");
 }
 
@@ -582,6 +587,18 @@ static void try_what_drafts_refuse()
     check(throws<Closed>([&] { closed.commit(); }), "the draft of a closed workbench");
 }
 
+// A library whose first number is another has no workbench for this header.
+static void try_other_versions()
+{
+    for (std::uint32_t version : {GWB_VERSION - 10000, GWB_VERSION + 10000}) {
+        linked_version = version;
+        check(throws<OtherVersion>([] { Workbench bench; }) && Session::opened().error().problem == Problem::version, "a library of another version");
+    }
+    linked_version = GWB_VERSION + 199;
+    check(!throws<OtherVersion>([] { Workbench bench; }) && Session::opened(), "a later one with the same first number");
+    linked_version = GWB_VERSION;
+}
+
 // ---- what changes nothing, what is ended, and what was accepted
 
 template <class Calls, class = void> struct CanUndo : std::false_type {};
@@ -716,6 +733,7 @@ static void try_moves()
 // A workbench in a heap of its own, which is full at last.
 static void try_heaps()
 {
+    static_assert(!std::is_assignable_v<decltype(gwb_heap::allocate) &, void *(*)(void *, std::size_t)>, "a heap that may throw");
     static long held = 0, left = 1000000;
     const auto allocate = [](void *, std::size_t size) noexcept -> void * { return left-- > 0 ? (held++, std::malloc(size)) : nullptr; };
     const auto reallocate = [](void *, void *block, std::size_t size) noexcept -> void * { return left-- > 0 ? std::realloc(block, size) : nullptr; };
@@ -920,6 +938,7 @@ int main()
                            try_what_outlives,
                            try_marks,
                            try_marks_of_others,
+                           try_other_versions,
                            try_const,
                            try_stops,
                            try_record,

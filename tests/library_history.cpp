@@ -2,6 +2,7 @@
 #include "gwb_features.hpp"
 #include "gwb_history.hpp"
 #include <array>
+#include <cstdlib>
 #include <iostream>
 #include <numeric>
 #include <sstream>
@@ -376,10 +377,38 @@ static void try_draft_given_up()
     check(changes.faces.made.size() == 6, "and redone");
 }
 
+// How many bytes the library asks for while a split is followed, and its undo, where there are so many other blocks.
+static std::size_t asked_beside(std::int64_t others)
+{
+    static std::size_t asked = 0;
+    const auto allocate = [](void *, std::size_t size) noexcept { return asked += size, std::malloc(size); };
+    const auto reallocate = [](void *, void *block, std::size_t size) noexcept { return asked += size, std::realloc(block, size); };
+    const gwb_heap heap{allocate, reallocate, [](void *, void *block) noexcept { std::free(block); }, nullptr};
+    Workbench bench(heap);
+    for (std::int64_t place = 0; place < others; place++)
+        (void)bench.block({10 * place, 9, 0}, {4, 4, 4});
+    const Solid block = bench.block({0, 0, 0}, {4, 4, 4});
+    const auto turn = [&] {
+        check(follow(bench, [&] { bench.split(block, 0, 0, 1, -2); }).faces.made.size() == 6, "a split among others");
+        check(follow_undo(bench).faces.removed.size() == 6, "and its undo");
+    };
+    turn(); // after which there is room in all tables
+    asked = 0;
+    turn();
+    return asked;
+}
+
+// What is followed costs as much whatever else there is.
+static void try_costs()
+{
+    const std::size_t among_few = asked_beside(5);
+    check(among_few > 0 && asked_beside(2000) < 2 * among_few, "what is followed among many");
+}
+
 int main()
 {
     for (void (*part)() : {try_operators, try_splits, try_gone, try_numbers_used_again, try_throws, try_walls_and_copies, try_touched,
-                           try_what_was_before, try_draft_given_up}) {
+                           try_what_was_before, try_draft_given_up, try_costs}) {
         try {
             part();
         } catch (const std::exception &thrown) {

@@ -2,6 +2,8 @@
 #include "gwb_features.hpp"
 #include "gwb_history.hpp"
 #include <cstdio>
+#include <sys/wait.h>
+#include <unistd.h>
 
 #if defined(__cpp_exceptions)
 #error "compile with -fno-exceptions"
@@ -16,6 +18,27 @@ static void check(bool holds, const char *what)
     (holds ? passed : failed)++;
     if (!holds)
         std::printf("%s\n", what);
+}
+
+// Whether a call ends the program.
+static bool terminates(void (*call)())
+{
+    std::fflush(stdout);
+    const pid_t child = fork();
+    if (child == 0) {
+        std::set_terminate([] { _exit(7); });
+        call();
+        _exit(0);
+    }
+    int status = 0;
+    return waitpid(child, &status, 0) == child && WIFEXITED(status) && WEXITSTATUS(status) == 7;
+}
+
+static void try_no_value()
+{
+    check(terminates([] { (void)*Result<Solid>(Failure{Problem::refused}); }), "the value of a result that has none");
+    check(terminates([] { (void)Result<FaceRow>(Failure{Problem::absent})->solid; }), "a part of it");
+    check(!terminates([] { (void)*Result<Solid>(Solid(1)); }), "the value of one that has one");
 }
 
 static void try_commands(Session &session)
@@ -88,6 +111,7 @@ static void try_ends(Session session)
 
 int main()
 {
+    try_no_value();
     Result<Session> session = Session::opened();
     check(static_cast<bool>(session), "a session");
     try_commands(*session);

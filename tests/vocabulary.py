@@ -9,7 +9,7 @@ What a language does otherwise by its conventions stands in that page too, and h
 import ast
 import re
 import sys
-from typing import Dict, Iterator, List, Sequence, Tuple
+from typing import Dict, Iterator, List, Mapping, Sequence, Tuple
 
 from counts import TOP, command_line, told
 
@@ -195,7 +195,7 @@ def findings() -> Iterator[str]:
         yield from alike(name, {'C++': cpp_fields(name), 'Rust': rust_fields(name), 'Python': python_fields(name)})
 
 
-def alike(what: str, lists: Dict[str, Sequence[str]]) -> Iterator[str]:
+def alike(what: str, lists: Mapping[str, Sequence[str]]) -> Iterator[str]:
     """Whether all lists are as the first."""
     first, *others = lists
     for other in others:

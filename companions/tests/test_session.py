@@ -291,7 +291,7 @@ class WithoutALibrary(unittest.TestCase):
                 bench.block((0, 0, 0), (1, 1, 1))
 
     def test_one_that_lies_in_the_package(self):
-        with tempfile.TemporaryDirectory() as folder, mock.patch.dict(os.environ, GWB='/work/gwb'):
+        with tempfile.TemporaryDirectory() as folder, mock.patch.dict(os.environ, GWB='/nowhere/gwb'):
             package = Path(folder) / 'gwb'
             (package / '_lib').mkdir(parents=True)
             (package / '_lib' / 'libgwb.so').symlink_to(library())
