@@ -184,6 +184,8 @@ _CALLS: Dict[str, Call] = {
     'renumber': lambda s, n, w: s.counted([number for pair in s.bench.renumber().solids.items() for number in pair]),
     'scale': lambda s, n, w: _nothing(s.bench.scale(n())), 'glue_all': lambda s, n, w: _nothing(s.bench.glue_all(list(w))),
     'split': lambda s, n, w: [number for made in [s.bench.split(n(), _four(w), above=n())] for number in s.counted(made.lower_caps, made.upper_caps)],
+    'cut': lambda s, n, w: [number for made in [s.bench.cut(n(), _four(w), above=n())] for number in s.counted(made.lower_caps, made.upper_caps)],
+    'trim': lambda s, n, w: s.counted(s.bench.trim(n(), _four(w))), 'union': lambda s, n, w: _nothing(s.bench.union(list(w))),
     'off_lattice': lambda s, n, w: [number for said in [s.bench.off_lattice(n(), _four(w))] for number in (len(said.crossings), said.factor)],
     'faces': lambda s, n, w: s.faces(n(), n(), list(w)), 'edges': lambda s, n, w: s.edges(n(), n(), list(w))}
 
@@ -304,7 +306,10 @@ class Author:
 
     def _of_solids(self) -> Tuple[str, List[int]]:
         solid, solids = self._any_solid(), self._solids()
-        word = self._random.choice(['copy', 'copy', 'move', 'kill', 'kill', 'pattern', 'around', 'scale', 'glue_all', 'split', 'split', 'renumber', 'polyhedron', 'new'])
+        word = self._random.choice(['copy', 'copy', 'move', 'kill', 'kill', 'pattern', 'around', 'scale', 'glue_all', 'split', 'split', 'renumber', 'polyhedron',
+                                    'new', 'beside', 'union', 'union', 'cut', 'cut', 'trim'])
+        if word == 'beside':
+            return self._beside(self._random.choice(solids))
         if word == 'around':
             quarters = 1 + self._below(3)
             return 'pattern_around', [solid, 2 + self._below(1 if quarters == 2 else 3), self._below(3), quarters, -20, self._below(3), 40]
@@ -317,13 +322,22 @@ class Author:
             return word, [self._new(), 4, 3, *(self._below(9) for _ in range(12)), *places]
         if word == 'scale':
             return word, [self._random.choice([1, 2, 3, 100_000_000])]
-        if word == 'glue_all':
-            return word, self._random.sample(solids, self._random.randint(1, len(solids)))
-        if word == 'split':
+        if word == 'glue_all' or (word == 'union' and len(solids) > 1):
+            return word, self._random.sample(solids, self._random.randint(1 if word == 'glue_all' else 2, len(solids)))
+        if word in ('union', 'trim'):
+            return 'trim', [solid, *self._plane()]
+        if word in ('split', 'cut'):
             return word, [solid, *self._plane(), self._new()]
         given = {'copy': lambda: self._motion(True), 'move': lambda: self._motion(False), 'kill': list,
                  'pattern': lambda: [self._random.choice([2, 3, 4]), self._random.choice([15, 0]), 20, 1]}
         return word, [solid, *given[word]()]
+
+    def _beside(self, solid: int) -> Tuple[str, List[int]]:
+        """A block where the solid ends in x, which touches it there."""
+        points = [vertex.point for vertex in self._session.bench.vertices(solid=solid)]
+        end = max(point[0] for point in points)
+        low = [min(point[axis] for point in points if point[0] == end) for axis in (1, 2)]
+        return 'block', [self._new(), end, *low, *(2 + self._below(9) for _ in range(3))]
 
     def _plane(self) -> List[int]:
         across = self._random.choice([[1, 0, 0], [0, 1, 0], [0, 0, 1], [1, 1, 0], [2, 0, 0], [0, 3, 0], [1, 2, 3]])

@@ -321,24 +321,33 @@ static bool is_of_solid(const char *word, uint32_t solid)
             put(made, count - 1);
     } else if (strcmp(word, "polyhedron") == 0) {
         polyhedron(solid);
-    } else if (strcmp(word, "split") == 0) {
-        const gwb_cut_plane cut = plane();
-        put_lists(gwb_split_solid(&g, solid, &cut, name(), &why), GWB_MADE_LOWER_CAPS, GWB_MADE_UPPER_CAPS);
-    } else if (strcmp(word, "off_lattice") == 0) {
-        const gwb_cut_plane cut = plane();
-        put_advice(solid, &cut);
     } else {
         return false;
     }
     return true;
 }
 
-static void glue_all(void)
+static bool is_of_plane(const char *word, uint32_t solid)
+{
+    const bool is_split = strcmp(word, "split") == 0, is_trim = strcmp(word, "trim") == 0, is_advice = strcmp(word, "off_lattice") == 0;
+    if (!is_split && !is_trim && !is_advice && strcmp(word, "cut") != 0)
+        return false;
+    const gwb_cut_plane cut = plane();
+    if (is_advice)
+        put_advice(solid, &cut);
+    else if (is_trim)
+        put_lists(gwb_trim(&g, solid, &cut, &why), GWB_MADE_LOWER_CAPS, GWB_MADE_LOWER_CAPS);
+    else
+        put_lists((is_split ? gwb_split_solid : gwb_cut)(&g, solid, &cut, name(), &why), GWB_MADE_LOWER_CAPS, GWB_MADE_UPPER_CAPS);
+    return true;
+}
+
+static void join(enum gwb_kind (*call)(gwb *, const uint32_t *, size_t, gwb_refusal *))
 {
     size_t n = 0;
     while (at < given)
         others[n++] = name();
-    is_well(gwb_glue_all(&g, others, n, &why));
+    is_well(call(&g, others, n, &why));
 }
 
 static void chamfer_edges(void)
@@ -373,7 +382,9 @@ static bool is_of_session(const char *word)
     } else if (strcmp(word, "scale") == 0) {
         is_well(gwb_scale(&g, number(), &why));
     } else if (strcmp(word, "glue_all") == 0) {
-        glue_all();
+        join(gwb_glue_all);
+    } else if (strcmp(word, "union") == 0) {
+        join(gwb_union);
     } else if (strcmp(word, "chamfer_edges") == 0) {
         chamfer_edges();
     } else if (strcmp(word, "faces") == 0) {
@@ -391,7 +402,7 @@ static void give(const char *word)
     if (is_of_session(word))
         return;
     const uint32_t of = name();
-    if (is_of_outline(word, of) || is_strip(word, of) || is_of_solid(word, of))
+    if (is_of_outline(word, of) || is_strip(word, of) || is_of_solid(word, of) || is_of_plane(word, of))
         return;
     if (strcmp(word, "block") == 0)
         block(of);

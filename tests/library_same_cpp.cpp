@@ -86,7 +86,8 @@ private:
             {"hole", &Given::hole},         {"drill", &Given::drill},     {"notch", &Given::notch},       {"slot", &Given::slot},
             {"groove", &Given::groove},     {"shoulder", &Given::shoulder}, {"chamfer", &Given::chamfer}, {"kill", &Given::kill},
             {"copy", &Given::copy},         {"move", &Given::move},       {"pattern", &Given::pattern},   {"scale", &Given::scale},
-            {"glue_all", &Given::glue_all}, {"split", &Given::split},     {"off_lattice", &Given::off_lattice},
+            {"glue_all", &Given::glue_all}, {"split", &Given::split},     {"off_lattice", &Given::off_lattice}, {"cut", &Given::cut},
+            {"trim", &Given::trim},         {"union", &Given::unite},
             {"faces", &Given::faces},       {"edges", &Given::edges},     {"renumber", &Given::renumber},
             {"polyhedron", &Given::polyhedron},     {"pattern_around", &Given::pattern_around}, {"chamfer_edges", &Given::chamfer_edges}};
         return all;
@@ -333,15 +334,35 @@ private:
     {
         is_well(gwb_session::glue_all(*attempt_, words.names<Solid>()));
     }
-    void split(Words &words)
+    void unite(Words &words)
     {
-        const auto solid = words.name<Solid>();
-        const CutPlane plane = words.plane();
-        const Result<Split> made = split_solid(*attempt_, solid, plane, words.name<Solid>());
+        is_well(gwb_session::unite(*attempt_, words.names<Solid>()));
+    }
+    static void put_split(const Result<Split> &made)
+    {
         if (is_well(made)) {
             put_counted(made->lower_caps);
             put_counted(made->upper_caps);
         }
+    }
+    void split(Words &words)
+    {
+        const auto solid = words.name<Solid>();
+        const CutPlane plane = words.plane();
+        put_split(split_solid(*attempt_, solid, plane, words.name<Solid>()));
+    }
+    void cut(Words &words)
+    {
+        const auto solid = words.name<Solid>();
+        const CutPlane plane = words.plane();
+        put_split(gwb_session::cut(*attempt_, solid, plane, words.name<Solid>()));
+    }
+    void trim(Words &words)
+    {
+        const auto solid = words.name<Solid>();
+        const Result<std::vector<Face>> made = gwb_session::trim(*attempt_, solid, words.plane());
+        if (is_well(made))
+            put_counted(*made);
     }
     void off_lattice(Words &words)
     {

@@ -181,10 +181,16 @@ macro_rules! made {
                 let solids: Vec<Solid> = words.0.by_ref().map(|number| Solid(number as u32)).collect();
                 bench.glue_all(&solids).map(|()| String::new())
             }
-            "split" => {
-                let (solid, plane) = (words.name(), words.plane());
-                bench.split_solid(solid, plane, words.name::<Solid>()).map(|made| counted(&made.lower_caps) + &counted(&made.upper_caps))
+            "union" => {
+                let solids: Vec<Solid> = words.0.by_ref().map(|number| Solid(number as u32)).collect();
+                bench.union(&solids).map(|_| String::new())
             }
+            "split" | "cut" => {
+                let (solid, plane, above) = (words.name(), words.plane(), words.name::<Solid>());
+                let made = if $word == "cut" { bench.cut(solid, plane, above) } else { bench.split_solid(solid, plane, above) };
+                made.map(|made| counted(&made.lower_caps) + &counted(&made.upper_caps))
+            }
+            "trim" => bench.trim(words.name(), words.plane()).map(|caps| counted(&caps)),
             word => read(bench, word, words).unwrap(),
         }
     }};
