@@ -37,6 +37,12 @@ int main(void)
     return 0;
 }
 '''
+PYTHON = '''
+from gwb import Workbench
+from gwb.session.library import find_path
+with Workbench() as bench:
+    print(bench.volume(bench.block((0, 0, 0), (4, 4, 4))), find_path())
+'''
 CMAKE = '''cmake_minimum_required(VERSION 3.10)
 project(try C CXX)
 find_package(gwb {version} REQUIRED)
@@ -153,7 +159,7 @@ PACKAGES = {'pkg-config': packages, 'cmake': cmake}
 
 
 def library(at: Installation) -> Iterator[str]:
-    """Programs over what is installed: by the compiler's words alone, by pkg-config, by CMake, and with a heap of their own."""
+    """Programs over what is installed: by the compiler's words alone, by pkg-config, by CMake, with a heap of their own, and in Python."""
     (at.prefix.parent / 'try.c').write_text(PROGRAM)
     (at.prefix.parent / 'try.cpp').write_text('#include <gwb.hpp>\nint main() { gwb_session::Workbench bench; return bench.depth() != 0; }\n')
     words = f'-I{at.prefix}/include -L{at.prefix}/lib -Wl,-rpath,{at.prefix}/lib'.split()
@@ -161,6 +167,8 @@ def library(at: Installation) -> Iterator[str]:
     yield complaint(at.run(['cc', 'try.c', '-o', 'plain', *words, '-lgwb'])) or complaint(at.run([at.prefix.parent / 'plain']))
     yield complaint(at.run(['cc', f'-I{at.prefix}/include', '-c', at.prefix / 'share' / 'gwb' / 'heap.c', '-o', 'heap.o']))
     yield complaint(at.run(['cc', 'try.c', '-o', 'own_heap', *words, *kernel])) or complaint(at.run([at.prefix.parent / 'own_heap']))
+    python = at.run(['env', f'PYTHONPATH={at.prefix}/share/gwb/companions', 'python3', '-B', '-c', PYTHON])
+    yield complaint(python, f'64 {at.prefix}/lib/{SONAME}\n'.encode())
     for tool, tries in PACKAGES.items():
         if shutil.which(tool):
             yield from tries(at)
