@@ -248,6 +248,25 @@ static void try_all_triangles()
     check(found == wanted && found.size() > 64, "the triangles of all faces");
     check(bench.triangle_rows(other).size() == 12 && bench.triangle_rows(solid).size() == found.size() - 12, "those of a solid");
     check(bench.triangle_rows(Face(999)).empty() && bench.triangle_rows(Solid(999)).empty(), "those of what is not there");
+    check(bench.triangle_rows(Solid()).empty() && bench.half_edge_rows(Solid()).empty() && bench.faces(Solid()).empty(), "a solid that nothing was given");
+}
+
+// Faces are cut once, however many triangles they have: as often as the library is asked for them.
+static void try_once()
+{
+    static long asked = 0;
+    const auto allocate = [](void *, std::size_t size) noexcept { return asked++, std::malloc(size); };
+    const auto reallocate = [](void *, void *block, std::size_t size) noexcept { return asked++, std::realloc(block, size); };
+    const gwb_heap heap{allocate, reallocate, [](void *, void *block) noexcept { std::free(block); }, nullptr};
+    Workbench bench;
+    const Solid solid = two_holes(bench);
+    gwb_triangle_row none{};
+    gwb_use_heap(&heap);
+    (void)gwb_read_triangles(bench.handle(), solid.number(), &none, 0);
+    const long once = std::exchange(asked, 0);
+    const bool are_many = bench.triangle_rows(solid).size() > 64;
+    gwb_use_heap(nullptr);
+    check(are_many && once > 0 && asked == once, "the faces of a solid are cut once");
 }
 
 static void try_loading(const std::string &name, Solid (*make)(Workbench &))
@@ -620,6 +639,7 @@ int main()
         try_triangles("a lone ring", lone_ring);
         try_random_triangles();
         try_all_triangles();
+        try_once();
         try_loading("a pocket", pocket);
         try_loading("a hole", hole);
         try_loading("two holes", two_holes);
