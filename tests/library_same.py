@@ -306,8 +306,8 @@ class Author:
 
     def _of_solids(self) -> Tuple[str, List[int]]:
         solid, solids = self._any_solid(), self._solids()
-        word = self._random.choice(['copy', 'copy', 'move', 'kill', 'kill', 'pattern', 'around', 'scale', 'glue_all', 'split', 'split', 'renumber', 'polyhedron',
-                                    'new', 'beside', 'union', 'union', 'cut', 'cut', 'trim'])
+        word = self._random.choice(['copy', 'copy', 'move', 'kill', 'kill', 'pattern', 'around', 'scale', 'glue_all', 'split', 'split', 'renumber',
+                                    'polyhedron', 'new', 'beside', 'union', 'union', 'cut', 'cut', 'trim'])
         if word == 'beside':
             return self._beside(self._random.choice(solids))
         if word == 'around':
