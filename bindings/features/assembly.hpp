@@ -3,20 +3,10 @@
 #ifndef GWB_FEATURES_ASSEMBLY_HPP
 #define GWB_FEATURES_ASSEMBLY_HPP
 #include "sheets.hpp"
-#include <charconv>
-#include <unordered_map>
 
 namespace gwb_session::sheets {
 
 // ---- the solid that is held
-
-/// A face as it is read: its cycles, the outline first.
-struct HeldFace {
-    Face face;
-    std::vector<Cycle> cycles;
-
-    [[nodiscard]] Box box() const { return Box::around(points_of(cycles[0])); }
-};
 
 /// Faces of a solid as a model of their own.
 struct Model {
@@ -27,12 +17,12 @@ struct Model {
     std::map<Edge, std::pair<Vertex, Vertex>> edges;
     std::map<Vertex, Vector> vertices;
 
-    /// A face with its loops as cycles.
-    [[nodiscard]] HeldFace held(Face face) const
+    /// The cycles of a face, the outline first.
+    [[nodiscard]] std::vector<Cycle> cycles(Face face) const
     {
-        HeldFace found{face, {}};
+        std::vector<Cycle> found;
         for (Loop loop : faces.at(face)) {
-            Cycle &cycle = found.cycles.emplace_back();
+            Cycle &cycle = found.emplace_back();
             for (HalfEdge half : loops.at(loop))
                 cycle.push_back({at(half), at(half.twin()), half});
         }
@@ -90,26 +80,24 @@ struct Model {
     [[nodiscard]] std::string listing() const
     {
         std::string text;
-        put(text, "solid", solid);
+        put(text, "solid ", solid.number());
         for (const auto &[face, row] : faces) {
-            put(text, "\nface", face, solid);
+            put(text, "\nface ", face.number(), solid.number());
             for (Loop loop : row)
-                put(text, "", loop);
+                put(text, " ", loop.number());
         }
         for (const auto &[loop, halves] : loops) {
-            put(text, "\nloop", loop);
+            put(text, "\nloop ", loop.number());
             if (halves.empty())
-                put(text, " at", lone.at(loop));
-            for (HalfEdge half : halves) {
-                text += half.is_second() ? " -" : " +";
-                put_digits(text, half.edge());
-            }
+                put(text, " at ", lone.at(loop).number());
+            for (HalfEdge half : halves)
+                put(text, half.is_second() ? " -" : " +", half.edge().number());
         }
         for (const auto &[edge, ends] : edges)
-            put(text, "\nedge", edge, ends.first, ends.second);
+            put(text, "\nedge ", edge.number(), ends.first.number(), ends.second.number());
         for (const auto &[vertex, at] : vertices) {
             const Point place = point(at);
-            put(text, "\nvertex", vertex, place.x, place.y, place.z);
+            put(text, "\nvertex ", vertex.number(), place.x, place.y, place.z);
         }
         return text + '\n';
     }
@@ -121,17 +109,11 @@ private:
             place->second = vector(bench.vertex(vertex));
     }
 
-    static void put_digits(std::string &text, std::int64_t number)
-    {
-        std::array<char, 24> digits{};
-        text.append(digits.data(), std::to_chars(digits.data(), digits.data() + digits.size(), number).ptr);
-    }
-    template <class Kind> static void put_digits(std::string &text, Kind thing) { put_digits(text, std::int64_t{thing.number()}); }
     /// Writes a word, and numbers after it.
-    template <class... All> static void put(std::string &text, std::string_view word, All... numbers)
+    template <class... All> static void put(std::string &text, const char *word, std::int64_t number, All... numbers)
     {
-        text += word;
-        ((text += ' ', put_digits(text, numbers)), ...);
+        (text += word) += std::to_string(number);
+        ((text += ' ', text += std::to_string(numbers)), ...);
     }
 };
 
@@ -155,16 +137,18 @@ public:
     {
         for (const auto &[loop, halves] : model.loops)
             for (HalfEdge half : halves)
-                rows.emplace(half.code(), Row{model.start(half), loop, model.at(half)});
+                rows.emplace(half, Row{model.start(half), loop, model.at(half)});
         put_rest(bench);
-        for (const auto &[code, row] : rows)
-            if (vertices_at_[row.at].insert(row.start).second && is_fixed(bench, HalfEdge(code)))
+        for (const auto &[half, row] : rows)
+            if (vertices_at_[row.at].insert(row.start).second && is_fixed(bench, half))
                 fixed_.insert(row.at);
     }
 
-    [[nodiscard]] const Vector &at(HalfEdge half_edge) const { return rows.at(half_edge.code()).at; }
     /// Whether the side is all of a half-edge.
-    [[nodiscard]] bool is_whole(const Side &side) const { return side.is_old() && at(side.half) == side.start && at(side.half.twin()) == side.end; }
+    [[nodiscard]] bool is_whole(const Side &side) const
+    {
+        return side.is_old() && rows.at(side.half).at == side.start && rows.at(side.half.twin()).at == side.end;
+    }
     [[nodiscard]] std::set<Vertex> vertices_at(const Vector &point) const
     {
         const auto found = vertices_at_.find(point);
@@ -174,19 +158,19 @@ public:
     [[nodiscard]] bool is_fixed(const Vector &point) const { return fixed_.count(point) != 0; }
 
     Model model;
-    std::unordered_map<std::uint32_t, Row> rows; ///< by the codes of half-edges
-    std::vector<Cycle> rest;                     ///< the half-edges of the rest at the open edges, in cycles
+    std::unordered_map<HalfEdge, Row> rows;
+    std::vector<Cycle> rest; ///< the half-edges of the rest at the open edges, in cycles
 
 private:
-    [[nodiscard]] bool is_held(HalfEdge half) const { return rows.count(half.code()) != 0; }
+    [[nodiscard]] bool is_held(HalfEdge half) const { return rows.count(half) != 0; }
 
     /// Each half-edge of the rest leads to the next one round the vertex at its end, where edges of the rest alone are missing.
     void put_rest(const Bench &bench)
     {
         std::set<HalfEdge> left;
-        for (const auto &[code, row] : rows)
-            if (!is_held(HalfEdge(code).twin()))
-                left.insert(HalfEdge(code).twin());
+        for (const auto &[half, row] : rows)
+            if (!is_held(half.twin()))
+                left.insert(half.twin());
         while (!left.empty()) {
             Cycle &cycle = rest.emplace_back();
             for (HalfEdge half = *left.begin(); left.erase(half) != 0;) {
@@ -199,7 +183,7 @@ private:
         }
         for (const Cycle &cycle : rest)
             for (const Side &side : cycle)
-                rows.emplace(side.half.code(), Row{model.start(side.half), Loop(), side.start});
+                rows.emplace(side.half, Row{model.start(side.half), Loop(), side.start});
     }
 
     [[nodiscard]] bool is_fixed(const Bench &bench, HalfEdge half) const
@@ -219,35 +203,6 @@ private:
 
 // ---- a closed surface of regions
 
-/// Numbers for things of a kind: old ones while they are free, else new ones.
-template <class Kind> class Names {
-public:
-    explicit Names(const Bench &bench) : next_(bench.next_free<Kind>().number()) {}
-    template <class Numbers> Kind one(const Numbers &wanted)
-    {
-        for (Kind number : wanted)
-            if (number != Kind() && used_.insert(number).second)
-                return number;
-        return spare();
-    }
-    /// A new one.
-    Kind spare() { return Kind(next_++); }
-
-private:
-    std::uint32_t next_;
-    std::set<Kind> used_;
-};
-
-/// Numbers for the things of a surface, and spare ones.
-struct AllNames {
-    explicit AllNames(const Bench &bench) : faces(bench), loops(bench), edges(bench), vertices(bench) {}
-
-    Names<Face> faces;
-    Names<Loop> loops;
-    Names<Edge> edges;
-    Names<Vertex> vertices;
-};
-
 /// The model of a surface, and the face that each of its regions is.
 struct Made {
     Model model;
@@ -258,7 +213,7 @@ struct Made {
 /// its numbers, as far as it still is.
 class Assembly {
 public:
-    Assembly(const Held &held, const std::vector<Region> &regions, AllNames &names) : held_(held), regions_(regions), names_(names)
+    Assembly(const Held &held, const std::vector<Sheet> &regions, AllNames &names) : held_(held), regions_(regions), names_(names)
     {
         for (std::size_t region = 0; region < regions.size(); region++) {
             go_on();
@@ -292,6 +247,8 @@ private:
         Side side;
         std::size_t after, mate, region, into;
         std::vector<Side> parts; ///< where it is longer than one side
+
+        [[nodiscard]] std::vector<Side> all_parts() const { return parts.empty() ? std::vector<Side>{side} : parts; }
     };
 
     /// The sides of a cycle get places: the first one's.
@@ -299,19 +256,19 @@ private:
     {
         const std::size_t first = sides_.size();
         for (std::size_t at = 0; at < cycle.size(); at++)
-            sides_.push_back({cycle[at], at + 1 < cycle.size() ? first + at + 1 : first, none, region, none, {}});
+            sides_.push_back({cycle[at], first + (at + 1) % cycle.size(), none, region, none, {}});
         return first;
     }
 
     /// Sides that are both half-edges of an old edge are mates.
     void pair_whole()
     {
-        std::unordered_map<std::uint32_t, std::size_t> whole;
+        std::unordered_map<HalfEdge, std::size_t> whole;
         for (std::size_t at = 0; at < sides_.size(); at++)
             if (held_.is_whole(sides_[at].side))
-                whole[sides_[at].side.half.code()] = at;
-        for (const auto &[code, at] : whole)
-            if (const auto mate = whole.find(code ^ 1u); mate != whole.end())
+                whole[sides_[at].side.half] = at;
+        for (const auto &[half, at] : whole)
+            if (const auto mate = whole.find(half.twin()); mate != whole.end())
                 sides_[at].mate = mate->second;
     }
 
@@ -326,7 +283,7 @@ private:
                 const Vector along = reduced(sides_[at].side.way()), way = std::max(along, negative(along));
                 lines[{way, cross(sides_[at].side.start, way)}].push_back(at);
             }
-        return std::all_of(lines.begin(), lines.end(), [&](const auto &line) { return pair_on_line(line.first.first, line.second); });
+        return all(lines, [&](const auto &line) { return pair_on_line(line.first.first, line.second); });
     }
 
     bool pair_on_line(const Vector &way, const std::vector<std::size_t> &held)
@@ -339,7 +296,7 @@ private:
         std::map<Wide, std::vector<std::size_t>> parts; // by where they begin along the line
         for (std::size_t at : held)
             cut(at, way, stops, parts);
-        return std::all_of(parts.begin(), parts.end(), [&](const auto &part) { return pair(part.second, way); });
+        return all(parts, [&](const auto &part) { return pair(part.second, way); });
     }
 
     /// A side becomes parts that end where sides of its line do.
@@ -374,7 +331,7 @@ private:
         if (2 * static_cast<std::size_t>(back) != places.size())
             return false;
         if (places.size() > 2)
-            std::sort(places.begin(), places.end(), [&](std::size_t one, std::size_t other) { return comes_before(one, other, way); });
+            sort_round(places, way);
         for (std::size_t at = 0; at < places.size(); at++) {
             const std::size_t place = places[at], following = places[(at + 1) % places.size()];
             if (runs_back(place, way) == runs_back(following, way))
@@ -387,21 +344,17 @@ private:
         return true;
     }
 
-    /// Whether a side comes before another one of its line by the turn of their faces about it, counterclockwise as seen from where the way
-    /// points: so do their normals, those of sides that run back turned round. They lie across the way, so that they are looked at along an axis.
-    [[nodiscard]] bool comes_before(std::size_t one, std::size_t other, const Vector &way) const
+    /// Sorts sides of one line by the turn of their faces about it, counterclockwise as seen from where the way points: so do their normals, those of
+    /// sides that run back turned round. They lie across the way, so that they are looked at along an axis.
+    void sort_round(std::vector<std::size_t> &places, const Vector &way) const
     {
         const Axes axes = flat_axes(way);
-        const auto seen = [&](std::size_t at) {
+        const auto normal = [&](std::size_t at) {
             const Vector &across = regions_[sides_[at].region].across;
-            const Wide turn = runs_back(at, way) ? -1 : 1;
-            return std::pair(turn * across[axes[0]], turn * across[axes[1]]);
+            return Side{{}, runs_back(at, way) ? negative(across) : across}.seen(axes);
         };
-        const auto half = [](const std::pair<Wide, Wide> &way_to) { return way_to.second < 0 || (way_to.second == 0 && way_to.first < 0); };
-        const auto first = seen(one), second = seen(other);
-        if (half(first) != half(second))
-            return half(second);
-        return compare_products(first.first, second.second, first.second, second.first) > 0;
+        const Segment from({}, {1, 0});
+        std::sort(places.begin(), places.end(), [&](std::size_t one, std::size_t other) { return comes_before(from, normal(other), normal(one)); });
     }
 
     /// The sides that leave one vertex, from this one on.
@@ -444,9 +397,7 @@ private:
         Placed &kept = sides_[first], &gone = sides_[second];
         if (kept.parts.empty())
             kept.parts = {kept.side};
-        if (gone.parts.empty())
-            gone.parts = {gone.side};
-        kept.parts.insert(kept.parts.end(), gone.parts.begin(), gone.parts.end());
+        append(kept.parts, gone.all_parts());
         kept.side = {kept.side.start, gone.side.end, kept.side.is_old() ? kept.side.half : gone.side.half};
         kept.after = gone.after;
         before[gone.after] = first;
@@ -463,10 +414,10 @@ private:
                 std::set<Vertex> tails;
                 for (std::size_t side : fan)
                     if (sides_[side].side.is_old())
-                        tails.insert(held_.rows.at(sides_[side].side.half.code()).start);
+                        tails.insert(held_.rows.at(sides_[side].side.half).start);
                 std::vector<Vertex> wanted;
                 std::set_intersection(tails.begin(), tails.end(), old.begin(), old.end(), std::back_inserter(wanted));
-                wanted.insert(wanted.end(), old.begin(), old.end());
+                append(wanted, old);
                 const Vertex vertex = names_.vertices.one(wanted);
                 made.vertices[vertex] = sides_[at].side.start;
                 for (std::size_t side : fan)
@@ -488,9 +439,7 @@ private:
     {
         const std::size_t mate = sides_[at].mate;
         const std::vector<HalfEdge> halves = old_halves(at);
-        std::vector<Edge> wanted;
-        std::transform(halves.begin(), halves.end(), std::back_inserter(wanted), [](HalfEdge half) { return half.edge(); });
-        const Edge edge = names_.edges.one(wanted);
+        const Edge edge = names_.edges.one(mapped(halves, [](HalfEdge half) { return half.edge(); }));
         const auto old = std::find_if(halves.begin(), halves.end(), [&](HalfEdge half) { return half.edge() == edge; });
         const bool is_second = old != halves.end() ? old->is_second() : start_[mate] < start_[at];
         half_[at] = is_second ? minus(edge) : plus(edge);
@@ -501,20 +450,15 @@ private:
     /// The old half-edges that the edge of a side is made of, as it runs: those that it is all of first.
     [[nodiscard]] std::vector<HalfEdge> old_halves(std::size_t at) const
     {
-        const auto parts_of = [&](std::size_t place) {
-            return sides_[place].parts.empty() ? std::vector<Side>{sides_[place].side} : sides_[place].parts;
-        };
-        std::vector<Side> parts = parts_of(at);
-        for (const Side &side : parts_of(sides_[at].mate))
+        std::vector<Side> parts = sides_[at].all_parts();
+        for (const Side &side : sides_[sides_[at].mate].all_parts())
             parts.push_back(side.turned());
-        std::stable_sort(parts.begin(), parts.end(), [&](const Side &a, const Side &b) {
-            const bool first = held_.is_whole(a), second = held_.is_whole(b);
-            return first != second ? first : first && a.half < b.half;
-        });
-        std::vector<HalfEdge> halves;
+        std::vector<HalfEdge> halves, others;
         for (const Side &side : parts)
             if (side.is_old())
-                halves.push_back(side.half);
+                (held_.is_whole(side) ? halves : others).push_back(side.half);
+        std::sort(halves.begin(), halves.end());
+        append(halves, others);
         return halves;
     }
 
@@ -529,7 +473,7 @@ private:
             std::size_t at = start;
             do {
                 if (sides_[at].side.is_old())
-                    wanted.push_back(held_.rows.at(sides_[at].side.half.code()).loop);
+                    wanted.push_back(held_.rows.at(sides_[at].side.half).loop);
                 halves.push_back(half_[at]);
                 at = sides_[at].after;
             } while (at != start);

@@ -8,7 +8,6 @@ namespace gwb_session::combining {
 
 using namespace contacts;
 using changing::Operator;
-using sheets::Region;
 
 // ---- what lies near
 
@@ -29,17 +28,15 @@ inline Part part_near(const Bench &bench, const Surface &surface, Solid solid, c
             continue;
         const FacePlane *plane = surface.plane(face);
         const bool needs_all = all_rings || plane == nullptr || dot(plane->across(), area_vector(surface.path(outer))) <= 0;
-        const auto is_far = [&](Loop ring) { return !needs_all && !std::binary_search(near.begin(), near.end(), ring); };
-        std::size_t read = 0;
-        for (Loop loop : bench.loops_of(face)) {
-            if (is_far(loop))
-                found.fast.insert(face);
-            else
-                found.model.read(bench, face, loop);
-            read += !is_far(loop);
-            if (read == near.size() && found.fast.count(face) != 0)
-                break;
-        }
+        const auto rings = bench.rings(face);
+        const auto is_far = [&](Loop ring) { return !std::binary_search(near.begin(), near.end(), ring); };
+        const bool is_fast = !needs_all && any(rings, is_far);
+        if (is_fast)
+            found.fast.insert(face);
+        found.model.read(bench, face, outer);
+        for (Loop ring : is_fast ? near : std::vector<Loop>(rings.begin(), rings.end()))
+            if (ring != outer)
+                found.model.read(bench, face, ring);
     }
     return found;
 }
@@ -53,66 +50,58 @@ inline std::vector<Sheet> sheets_of(const Model &model)
     std::vector<Sheet> sheets;
     for (const auto &[face, loops] : model.faces) {
         go_on();
-        const HeldFace held = model.held(face);
-        const bool has_lengths = std::all_of(held.cycles.begin(), held.cycles.end(), [](const Cycle &cycle) {
-            return !cycle.empty() && std::all_of(cycle.begin(), cycle.end(), [](const Side &side) { return side.start != side.end; });
+        std::vector<Cycle> cycles = model.cycles(face);
+        const bool has_lengths = all(cycles, [](const Cycle &cycle) {
+            return !cycle.empty() && all(cycle, [](const Side &side) { return side.start != side.end; });
         });
-        const Vector across = area_of(held.cycles);
+        const Vector across = area_of(cycles);
         if (!has_lengths || is_zero(across) || longest(reduced(across)) > steepest)
             throw refused(GWB_WHY_NOT_FLAT, face.number());
-        sheets.push_back({face, reduced(across), held.cycles, no_mark});
+        sheets.emplace_back(face, reduced(across), std::move(cycles));
     }
     return sheets;
 }
 
 // ---- what is made
 
+/// Faces with their regions.
+using Regions = std::map<Face, const Sheet *>;
+
 /// The regions that sheets came to, and the faces that they are.
 struct Combined {
-    std::vector<Region> regions;
+    std::vector<Sheet> regions;
     Made made;
 
-    /// The faces of the regions for which the function says true.
-    template <class Fits> [[nodiscard]] std::vector<Face> faces_where(Fits fits) const
-    {
-        std::vector<Face> found;
-        for (std::size_t at = 0; at < regions.size(); at++)
-            if (fits(regions[at]))
-                found.push_back(made.of_regions[at]);
-        return found;
-    }
     /// The faces that added sheets went into, rising, by the places of these among the added ones: so many from one on.
     [[nodiscard]] std::vector<Face> marked(std::size_t from, std::size_t count) const
     {
         const auto is_marked = [&](std::size_t mark) { return from <= mark && mark - from < count; };
-        std::vector<Face> found = faces_where([&](const Region &region) { return std::any_of(region.marks.begin(), region.marks.end(), is_marked); });
+        std::vector<Face> found;
+        for (std::size_t at = 0; at < regions.size(); at++)
+            if (any(regions[at].marks, is_marked))
+                found.push_back(made.of_regions[at]);
         std::sort(found.begin(), found.end());
         return found;
     }
-    /// The faces that a face went into.
-    [[nodiscard]] std::vector<Face> became(Face face) const
+    /// What a face went into.
+    [[nodiscard]] Regions became(Face face) const
     {
-        return faces_where([&](const Region &region) { return std::find(region.owners.begin(), region.owners.end(), face) != region.owners.end(); });
+        Regions found;
+        for (std::size_t at = 0; at < regions.size(); at++)
+            if (std::find(regions[at].owners.begin(), regions[at].owners.end(), face) != regions[at].owners.end())
+                found.emplace(made.of_regions[at], &regions[at]);
+        return found;
     }
 };
-
-/// Whether a model has all faces of a solid.
-inline bool has_all(const Bench &bench, const Model &model, Solid solid)
-{
-    for (Face face : bench.faces(solid))
-        if (model.faces.count(face) == 0)
-            return false;
-    return true;
-}
 
 /// The solid of held sheets with the others added. Not possible: OffLattice; NothingLeft; what the caller says where they make no faces.
 inline Combined combined(const Bench &bench, Solid solid, const Held &held, const std::vector<Sheet> &sheets,
                          const std::vector<Sheet> &added, AllNames &names, const Failure &why)
 {
-    Result<std::vector<Region>> regions = tried([&] { return overlaid(sheets, added); });
+    Result<std::vector<Sheet>> regions = tried([&] { return overlaid(sheets, added); });
     if (!regions)
         throw regions.error().is(Misfit::off_lattice) ? regions.error() : why;
-    if (regions->empty() && has_all(bench, held.model, solid))
+    if (regions->empty() && all(bench.faces(solid), [&](Face face) { return held.model.faces.count(face) != 0; }))
         throw impossible(Misfit::nothing_left, solid.number());
     std::optional<Made> made = Assembly(held, *regions, names).made(solid);
     if (!made)
@@ -121,62 +110,46 @@ inline Combined combined(const Bench &bench, Solid solid, const Held &held, cons
 }
 
 /// What the faces of a model near a box do.
-inline std::set<Findings::Finding> findings_near(const Model &model, const Box &box)
+inline std::set<Findings::Finding> findings_near(const Model &model, const Box &box) { return Findings(model, box).all(); }
+
+/// Whether near a box models meet or touch themselves as none of those before did.
+inline bool touch_anew(std::initializer_list<const Model *> before, std::initializer_list<const Model *> after, const Box &box)
 {
-    std::vector<HeldFace> faces;
-    for (const auto &[face, loops] : model.faces) {
-        go_on();
-        if (const HeldFace held = model.held(face); !held.cycles[0].empty() && held.box().meets(box))
-            faces.push_back(held);
-    }
-    return Findings(faces, box, [&](HalfEdge half) { return model.start(half); }).all();
+    std::set<Findings::Finding> found;
+    for (const Model *model : after)
+        found.merge(findings_near(*model, box));
+    for (const Model *model : before)
+        if (!found.empty())
+            for (const Findings::Finding &known : findings_near(*model, box))
+                found.erase(known);
+    return !found.empty();
 }
 
 /// Whether near what is added the solid meets or touches itself as none of the models before did, or sheets pass through each other.
 inline bool has_contact(std::initializer_list<const Model *> before, const Model &after, const std::vector<Sheet> &held,
                         const std::vector<Sheet> &added)
 {
-    const Box box = box_of(added);
-    std::set<Findings::Finding> found = findings_near(after, box);
-    for (const Model *model : before)
-        if (!found.empty())
-            for (const Findings::Finding &known : findings_near(*model, box))
-                found.erase(known);
-    if (!found.empty())
-        return true;
-    std::vector<Shape> walls, flat;
-    for (const Sheet &sheet : added)
-        walls.emplace_back(sheet.cycles, sheet.across);
-    for (const Sheet &sheet : held)
-        if (Shape shape(sheet.cycles, sheet.across); shape.is_flat())
-            flat.push_back(shape);
-    return comes_into(flat, walls);
+    return touch_anew(before, {&after}, box_of(added)) || comes_into(held, added);
 }
 
 /// The operators that move rings of a face that weren't looked at to those faces that it went into in which they lie; none where all corners of one
 /// lie on outlines.
-inline std::optional<std::vector<Operator>> moves(const Bench &bench, const Surface &surface, const Part &part, const Combined &combined,
-                                                  Face face)
+inline std::optional<std::vector<Operator>> moves(const Bench &bench, const Surface &surface, Face face, const std::vector<Loop> &looked_at,
+                                                  const Regions &became)
 {
-    std::vector<std::pair<Face, Shape>> regions;
-    for (Face other : combined.became(face)) {
-        std::size_t at = 0;
-        while (combined.made.of_regions[at] != other)
-            at++;
-        regions.emplace_back(other, Shape(combined.made.model.held(other).cycles, combined.regions[at].across));
-    }
-    const std::vector<Loop> &looked_at = part.model.faces.at(face);
+    std::map<Face, Shape> shapes;
+    for (const auto &[other, region] : became)
+        shapes.emplace(other, *region);
     std::vector<Operator> found;
     for (Loop ring : bench.rings(face)) {
         go_on();
         if (std::binary_search(looked_at.begin() + 1, looked_at.end(), ring))
             continue;
         const Path &path = surface.path(ring);
-        const auto lies_in = [&](const auto &region) {
-            return std::any_of(path.begin(), path.end(), [&](const Vector &at) { return region.second.locate({at}) == Place::inside; });
-        };
-        const auto around = std::find_if(regions.begin(), regions.end(), lies_in);
-        if (around == regions.end())
+        const auto around = std::find_if(shapes.begin(), shapes.end(), [&](const auto &shape) {
+            return any(path, [&](const Vector &at) { return shape.second.locate({at}) == Place::inside; });
+        });
+        if (around == shapes.end())
             return std::nullopt;
         if (around->first != face)
             found.push_back(Operator::ring_in(ring, around->first));
@@ -189,20 +162,20 @@ inline std::optional<std::vector<Operator>> moves(const Bench &bench, const Surf
 inline std::optional<std::vector<Operator>> operators_for(const Bench &bench, const Surface &surface, const Part &part, const Combined &combined,
                                                           AllNames &names)
 {
-    std::vector<Face> split;
+    std::map<Face, Regions> split;
     for (Face face : part.fast) {
-        const std::vector<Face> became = combined.became(face);
-        if (std::find(became.begin(), became.end(), face) == became.end())
+        const Regions became = combined.became(face);
+        if (became.count(face) == 0)
             return std::nullopt;
         if (became.size() > 1)
-            split.push_back(face);
+            split.emplace(face, became);
     }
     auto operators = changing::operators_between(changing::Pair{part.model, combined.made.model, part.fast}, names);
-    for (Face face : split) {
-        const auto moved = operators ? moves(bench, surface, part, combined, face) : std::nullopt;
+    for (const auto &[face, became] : split) {
+        const auto moved = operators ? moves(bench, surface, face, part.model.faces.at(face), became) : std::nullopt;
         if (!moved)
             return std::nullopt;
-        operators->insert(operators->end(), moved->begin(), moved->end());
+        append(*operators, *moved);
     }
     return operators;
 }
@@ -215,12 +188,8 @@ inline void follow(Surface &surface, const Model &part, const Model &made, const
         for (Loop loop : loops)
             surface.forget(loop);
     }
-    for (const auto &[face, loops] : made.faces) {
-        const std::vector<Cycle> cycles = made.held(face).cycles;
-        std::vector<Path> paths;
-        std::transform(cycles.begin(), cycles.end(), std::back_inserter(paths), points_of);
-        surface.put(face, paths, loops);
-    }
+    for (const auto &[face, loops] : made.faces)
+        surface.put(face, mapped(made.cycles(face), points_of), loops);
     for (const Operator &made_by : operators)
         if (made_by.kind == Operator::Kind::ring_in)
             surface.move(made_by.loop, made_by.face);

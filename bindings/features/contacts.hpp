@@ -16,30 +16,36 @@ struct ScaledPoint {
     [[nodiscard]] bool lies_in(const Box &box) const { return Box{times(box.low, scale), times(box.high, scale)}.meets(Box{at, at}); }
     /// Between this one and another.
     [[nodiscard]] ScaledPoint between(const ScaledPoint &other) const { return {add(at, other.at), scale + other.scale}; }
+    friend bool operator<(const ScaledPoint &a, const ScaledPoint &b)
+    {
+        int order = 0;
+        for (std::size_t axis = 0; axis < 3 && order == 0; axis++)
+            order = compare_products(a.at[axis], b.scale, b.at[axis], a.scale);
+        return order < 0;
+    }
 };
+
+/// Where a side crosses a plane, or a line, that lies so far from its ends, on one side of it and on the other.
+inline ScaledPoint divided(const Side &side, Wide before, Wide after)
+{
+    const Wide scale = magnitude(before - after);
+    return {add(times(side.start, scale), times(side.way(), magnitude(before))), scale};
+}
 
 /// A flat region, ready to be looked at.
 class Shape {
 public:
-    explicit Shape(const std::vector<Cycle> &cycles, const Vector &normal)
-        : across_(normal), axes_(flat_axes(normal))
+    explicit Shape(const Sheet &sheet)
+        : across_(sheet.across), axes_(flat_axes(across_)), sides_(sheet.sides()), points_(sheet.points()), box_(Box::around(points_))
     {
-        for (const Cycle &cycle : cycles) {
-            sides_.insert(sides_.end(), cycle.begin(), cycle.end());
-            const Path points = points_of(cycle);
-            loops_.emplace_back(Box::around(points), outline(cycle, axes_));
-            points_.insert(points_.end(), points.begin(), points.end());
-        }
-        outline_ = outline(sides_, axes_);
+        for (const Cycle &cycle : sheet.cycles)
+            loops_.emplace_back(Box::around(points_of(cycle)), outline(cycle, axes_));
     }
 
     [[nodiscard]] const Vector &across() const { return across_; }
     [[nodiscard]] const Path &points() const { return points_; }
-    [[nodiscard]] Box box() const { return Box::around(points_); }
-    [[nodiscard]] bool is_flat() const
-    {
-        return std::all_of(points_.begin(), points_.end(), [&](const Vector &at) { return height({at}) == 0; });
-    }
+    [[nodiscard]] const Box &box() const { return box_; }
+    [[nodiscard]] bool is_flat() const { return all(points_, [&](const Vector &at) { return height({at}) == 0; }); }
     /// Positive before the plane, negative behind it: times the point's scale.
     [[nodiscard]] Wide height(const ScaledPoint &point) const { return dot(across_, subtract(point.at, times(points_[0], point.scale))); }
     /// Where a point of the plane lies: within an odd number of loops, of which those with a box around it count.
@@ -50,31 +56,20 @@ public:
         });
     }
 
-    /// Where the segment meets the plane on whose two sides its ends lie.
-    [[nodiscard]] ScaledPoint met_by(const Vector &start, const Vector &end) const
+    /// Whether a part of a side in the plane lies within.
+    [[nodiscard]] bool has_part(const Side &whole) const
     {
-        const Wide before = magnitude(height({start})), scale = before + magnitude(height({end}));
-        return {add(times(start, scale), times(subtract(end, start), before)), scale};
-    }
-
-    /// Whether a part of a segment in the plane lies within.
-    [[nodiscard]] bool has_part(const Vector &start, const Vector &end) const
-    {
-        const Segment whole(sheets::spot(start, axes_), sheets::spot(end, axes_));
-        std::vector<ScaledPoint> stops = {{start}, {end}};
-        for (const Segment &side : outline_) {
-            const auto turn = [&](const Spot &at) { return side.x * (at.y - side.start.y) - side.y * (at.x - side.start.x); };
-            const Wide before = turn(whole.start), after = turn(whole.end);
-            if (sign(before) * sign(after) < 0) {
-                const Wide scale = magnitude(before - after);
-                stops.push_back({add(times(start, scale), times(subtract(end, start), magnitude(before))), scale});
-            } else if (whole.holds(side.start)) {
-                stops.push_back({points_[static_cast<std::size_t>(&side - outline_.data())]});
-            }
+        const Segment own = whole.seen(axes_);
+        std::vector<ScaledPoint> stops = {{whole.start}, {whole.end}};
+        for (const Side &side : sides_) {
+            const Segment seen = side.seen(axes_);
+            const Wide before = area_beside(seen, own.start), after = area_beside(seen, own.end);
+            if (sign(before) * sign(after) < 0)
+                stops.push_back(divided(whole, before, after));
+            else if (own.holds(seen.start))
+                stops.push_back({side.start});
         }
-        return any_between(stops, [&](const ScaledPoint &, const ScaledPoint &, const ScaledPoint &middle) {
-            return locate(middle) == Place::inside;
-        });
+        return !parts_within(std::move(stops)).empty();
     }
 
     /// A point within: the middle of a triangle of corners.
@@ -94,92 +89,58 @@ public:
     /// Whether both run along one line within, some of the way.
     [[nodiscard]] bool passes_through(const Shape &other) const
     {
-        if (are_parallel(across_, other.across_) || !is_cut_by(other) || !other.is_cut_by(*this))
-            return false;
-        const std::size_t axis = widest(cross(across_, other.across_));
-        const auto one = spans(other, axis), beyond = other.spans(*this, axis);
-        return std::any_of(one.begin(), one.end(), [&](const Span &span) {
-            return std::any_of(beyond.begin(), beyond.end(), [&](const Span &beside) {
-                return compare(span.first, beside.second, axis) < 0 && compare(beside.first, span.second, axis) < 0;
-            });
+        const std::vector<Span> own = are_parallel(across_, other.across_) ? std::vector<Span>() : cut_by(other);
+        const std::vector<Span> beyond = own.empty() ? std::vector<Span>() : other.cut_by(*this);
+        return any(own, [&](const Span &one) {
+            return any(beyond, [&](const Span &other) { return one.first < other.second && other.first < one.second; });
         });
     }
 
     /// Where a ray meets it, seen along the ray.
     [[nodiscard]] Place hit(const ScaledPoint &start, const Vector &ray) const
     {
-        const Wide slope = dot(across_, ray);
-        if (sign(height(start)) * sign(slope) >= 0)
+        if (sign(height(start)) * sign(dot(across_, ray)) >= 0)
             return Place::outside;
         const Sight sight(ray, Vector{});
-        Outline seen;
-        for (const Side &side : sides_)
-            seen.emplace_back(sight.spot(side.start), sight.spot(side.end));
         const Spot from = sight.spot(start.at);
+        const Outline seen = mapped(sides_, [&](const Side &side) { return Segment(sight.spot(side.start), sight.spot(side.end)); });
         return exact::locate(seen, {from.x, from.y, start.scale});
     }
 
 private:
     using Span = std::pair<ScaledPoint, ScaledPoint>;
 
-    static int compare(const ScaledPoint &one, const ScaledPoint &other, std::size_t axis)
+    /// The parts between points of one line, each from one of them to the next, that lie within.
+    [[nodiscard]] std::vector<Span> parts_within(std::vector<ScaledPoint> stops) const
     {
-        return compare_products(one.at[axis], other.scale, other.at[axis], one.scale);
-    }
-
-    /// Whether the test holds for two points that come one after the other along their line, and a point between.
-    template <class Test> static bool any_between(std::vector<ScaledPoint> stops, Test test)
-    {
-        std::sort(stops.begin(), stops.end(), [](const ScaledPoint &one, const ScaledPoint &other) { return order(one, other) < 0; });
+        std::sort(stops.begin(), stops.end());
+        std::vector<Span> found;
         for (std::size_t at = 1; at < stops.size(); at++)
-            if (order(stops[at - 1], stops[at]) < 0 && test(stops[at - 1], stops[at], stops[at - 1].between(stops[at])))
-                return true;
-        return false;
-    }
-    static int order(const ScaledPoint &one, const ScaledPoint &other)
-    {
-        for (std::size_t axis = 0; axis < 2; axis++)
-            if (const int found = compare(one, other, axis); found != 0)
-                return found;
-        return compare(one, other, 2);
+            if (stops[at - 1] < stops[at] && locate(stops[at - 1].between(stops[at])) == Place::inside)
+                found.emplace_back(stops[at - 1], stops[at]);
+        return found;
     }
 
-    /// Whether it lies on both sides of the plane of another one.
-    [[nodiscard]] bool is_cut_by(const Shape &plane) const
-    {
-        bool is_below = false, is_above = false;
-        for (const Vector &at : points_) {
-            is_below = is_below || plane.height({at}) < 0;
-            is_above = is_above || plane.height({at}) > 0;
-        }
-        return is_below && is_above;
-    }
-
-    /// Where the plane of another one runs within it, along the line in which both planes meet.
-    [[nodiscard]] std::vector<Span> spans(const Shape &plane, std::size_t axis) const
+    /// Where the plane of another one, on both sides of which it lies, runs within it: along the line in which both planes meet.
+    [[nodiscard]] std::vector<Span> cut_by(const Shape &plane) const
     {
         std::vector<ScaledPoint> stops;
+        bool is_below = false, is_above = false;
         for (const Side &side : sides_) {
             const Wide before = plane.height({side.start}), after = plane.height({side.end});
-            if (before == 0)
-                stops.push_back({side.start});
-            else if (sign(before) * sign(after) < 0)
-                stops.push_back(plane.met_by(side.start, side.end));
+            is_below = is_below || before < 0;
+            is_above = is_above || before > 0;
+            if (before == 0 || sign(before) * sign(after) < 0)
+                stops.push_back(before == 0 ? ScaledPoint{side.start} : divided(side, before, after));
         }
-        std::vector<Span> found;
-        any_between(stops, [&](const ScaledPoint &first, const ScaledPoint &last, const ScaledPoint &middle) {
-            if (locate(middle) == Place::inside)
-                found.push_back(compare(first, last, axis) < 0 ? Span{first, last} : Span{last, first});
-            return false;
-        });
-        return found;
+        return is_below && is_above ? parts_within(std::move(stops)) : std::vector<Span>();
     }
 
     Vector across_;
     Axes axes_;
     std::vector<Side> sides_;
     Path points_;
-    Outline outline_;
+    Box box_;
     std::vector<std::pair<Box, Outline>> loops_;
 };
 
@@ -187,9 +148,8 @@ private:
 /// (1, k, k k) at most two lie in any plane through the point, so only finitely many meet an edge.
 inline bool is_bound(const std::vector<Shape> &walls, const ScaledPoint &point)
 {
-    for (const Shape &wall : walls)
-        if (wall.height(point) == 0 && wall.locate(point) != Place::outside)
-            return false;
+    if (any(walls, [&](const Shape &wall) { return wall.height(point) == 0 && wall.locate(point) != Place::outside; }))
+        return false;
     for (Wide k = 3;; k++) {
         std::size_t inside = 0, on = 0;
         for (const Shape &wall : walls) {
@@ -203,22 +163,21 @@ inline bool is_bound(const std::vector<Shape> &walls, const ScaledPoint &point)
 }
 
 /// Whether a held sheet comes into the room that closed walls bound, otherwise than through their edges.
-inline bool comes_into(const std::vector<Shape> &held, const std::vector<Shape> &walls)
+inline bool comes_into(const std::vector<Sheet> &held, const std::vector<Sheet> &added)
 {
-    Box around = walls[0].box();
+    const Box around = box_of(added);
+    const std::vector<Shape> walls(added.begin(), added.end());
     BoxIndex boxes;
-    for (std::size_t at = 0; at < walls.size(); at++) {
+    for (std::size_t at = 0; at < walls.size(); at++)
         boxes.put(walls[at].box(), at);
-        for (const Vector &point : walls[at].points())
-            around.take(point);
-    }
-    for (const Shape &shape : held) {
+    for (const Sheet &sheet : held) {
         go_on();
-        const std::vector<std::size_t> near = boxes.meeting(shape.box());
-        if (std::any_of(near.begin(), near.end(), [&](std::size_t at) { return walls[at].passes_through(shape); }))
+        const Shape shape(sheet);
+        if (!shape.is_flat())
+            continue;
+        if (any(boxes.meeting(shape.box()), [&](std::size_t at) { return walls[at].passes_through(shape); }))
             return true;
-        const Path &points = shape.points();
-        const bool is_within = std::all_of(points.begin(), points.end(), [&](const Vector &at) { return Box{at, at}.meets(around); });
+        const bool is_within = all(shape.points(), [&](const Vector &at) { return Box{at, at}.meets(around); });
         const std::optional<ScaledPoint> inner = is_within ? shape.inner_point() : std::nullopt;
         if (inner && is_bound(walls, *inner))
             return true;
@@ -228,23 +187,19 @@ inline bool comes_into(const std::vector<Shape> &held, const std::vector<Shape> 
 
 // ---- what meets or touches
 
-/// What faces near a box do: each as a kind and two numbers.
+/// What faces of a model near a box do: each as a kind and two numbers.
 class Findings {
 public:
     enum class Kind { equal_points, equal_edges, vertex_on_edge, edges_cross, vertex_on_face, edge_through_face, edge_along_face, faces_overlap };
     using Finding = std::tuple<Kind, std::uint32_t, std::uint32_t>;
 
-    /// Of these faces, whose half-edges start at vertices that the function tells.
-    template <class Start> Findings(const std::vector<HeldFace> &faces, const Box &box, Start start)
+    Findings(const Model &model, const Box &box) : model_(model), box_(box)
     {
-        for (const HeldFace &face : faces)
-            take(face, box, start);
-        for (const auto &[edge, row] : edges_)
-            edge_boxes_.put(row.box(), edge.number());
-        for (const auto &[vertex, row] : vertices_)
-            vertex_boxes_.put({row.at, row.at}, vertex.number());
-        for (std::size_t at = 0; at < faces_.size(); at++)
-            face_boxes_.put(faces_[at].box, at);
+        for (const auto &[face, loops] : model.faces) {
+            go_on();
+            if (const std::vector<Cycle> cycles = model.cycles(face); !cycles[0].empty() && is_near(cycles[0]))
+                take(face, cycles);
+        }
         compare_vertices();
         compare_edges();
         for (const NearFace &face : faces_) {
@@ -261,46 +216,52 @@ private:
     struct NearFace {
         Face face;
         Shape shape;
-        Box box;
     };
-    struct NearEdge {
-        Vector start, end;
-        std::set<Face> faces;
+    /// Edges or vertices as sides, with the faces that they are of.
+    template <class Kind> struct NearSides {
+        struct Row {
+            Side side;
+            std::set<Face> faces;
+        };
+        std::map<Kind, Row> rows;
+        BoxIndex boxes;
 
-        [[nodiscard]] Box box() const { return Box::between(start, end); }
-    };
-    struct NearVertex {
-        Vector at;
-        std::set<Face> faces;
+        void take(Kind number, const Side &side, Face face)
+        {
+            const auto [row, is_new] = rows.try_emplace(number);
+            if (is_new) {
+                row->second.side = side;
+                boxes.put(side.box(), number.number());
+            }
+            row->second.faces.insert(face);
+        }
+        [[nodiscard]] std::vector<Kind> near(const Box &box) const
+        {
+            return mapped(boxes.meeting(box), [](std::size_t number) { return Kind(static_cast<std::uint32_t>(number)); });
+        }
     };
 
-    template <class Start> void take(const HeldFace &face, const Box &box, Start start)
+    [[nodiscard]] bool is_near(const Cycle &cycle) const { return Box::around(points_of(cycle)).meets(box_); }
+
+    void take(Face face, const std::vector<Cycle> &cycles)
     {
-        std::vector<Cycle> near;
-        for (const Cycle &cycle : face.cycles)
-            if (near.empty() || Box::around(points_of(cycle)).meets(box))
-                near.push_back(cycle);
+        std::vector<Cycle> near = {cycles[0]};
+        std::copy_if(cycles.begin() + 1, cycles.end(), std::back_inserter(near), [&](const Cycle &ring) { return is_near(ring); });
         for (const Cycle &cycle : near)
             for (const Side &side : cycle)
-                take(side, face.face, box, start);
+                take(face, side);
         if (const Vector across = area_of(near); !is_zero(across))
-            if (Shape shape(near, reduced(across)); shape.is_flat())
-                faces_.push_back({face.face, shape, shape.box()});
+            if (const Shape shape(Sheet(face, reduced(across), near)); shape.is_flat()) {
+                boxes_.put(shape.box(), faces_.size());
+                faces_.push_back({face, shape});
+            }
     }
-    template <class Start> void take(const Side &side, Face face, const Box &box, Start start)
+    void take(Face face, const Side &side)
     {
-        if (Box::between(side.start, side.end).meets(box)) {
-            NearEdge &edge = edges_[side.half.edge()];
-            const bool is_second = side.half.is_second();
-            edge.start = is_second ? side.end : side.start;
-            edge.end = is_second ? side.start : side.end;
-            edge.faces.insert(face);
-        }
-        if (Box{side.start, side.start}.meets(box)) {
-            NearVertex &vertex = vertices_[start(side.half)];
-            vertex.at = side.start;
-            vertex.faces.insert(face);
-        }
+        if (side.box().meets(box_))
+            edges_.take(side.half.edge(), side.half.is_second() ? side.turned() : side, face);
+        if (const Side corner{side.start, side.start}; corner.box().meets(box_))
+            vertices_.take(model_.start(side.half), corner, face);
     }
 
     template <class One, class Other> void find(Kind kind, One one, Other other) { found_.insert({kind, one.number(), other.number()}); }
@@ -308,59 +269,58 @@ private:
     void compare_vertices()
     {
         std::map<Vector, Vertex> first;
-        for (const auto &[vertex, row] : vertices_)
-            if (const auto [old, is_new] = first.emplace(row.at, vertex); !is_new)
+        for (const auto &[vertex, row] : vertices_.rows)
+            if (const auto [old, is_new] = first.emplace(row.side.start, vertex); !is_new)
                 find(Kind::equal_points, old->second, vertex);
     }
 
     void compare_edges()
     {
-        for (const auto &[edge, row] : edges_) {
+        for (const auto &[edge, row] : edges_.rows) {
             go_on();
-            for (Edge other : near<Edge>(edge_boxes_, row.box()))
+            for (Edge other : edges_.near(row.side.box()))
                 if (edge < other)
-                    compare_edges(edge, row, other, edges_.at(other));
-            for (Vertex vertex : near<Vertex>(vertex_boxes_, row.box()))
-                if (lies_between(row, vertices_.at(vertex).at))
+                    compare_edges(edge, row.side, other, edges_.rows.at(other).side);
+            for (Vertex vertex : vertices_.near(row.side.box()))
+                if (lies_between(row.side, vertices_.rows.at(vertex).side.start))
                     find(Kind::vertex_on_edge, vertex, edge);
         }
     }
-    void compare_edges(Edge one, const NearEdge &first, Edge other, const NearEdge &second)
+    void compare_edges(Edge one, const Side &first, Edge other, const Side &second)
     {
         if (std::minmax(first.start, first.end) == std::minmax(second.start, second.end))
             find(Kind::equal_edges, one, other);
-        const Vector across = cross(subtract(first.end, first.start), subtract(second.end, second.start));
+        const Vector across = cross(first.way(), second.way());
         if (is_zero(across) || dot(across, subtract(second.start, first.start)) != 0)
             return;
         const Axes axes = flat_axes(across);
-        const auto seen = [&](const NearEdge &edge) { return Segment(spot(edge.start, axes), spot(edge.end, axes)); };
-        if (seen(first).crosses(seen(second)))
+        if (first.seen(axes).crosses(second.seen(axes)))
             find(Kind::edges_cross, one, other);
     }
-    static bool lies_between(const NearEdge &edge, const Vector &at)
+    static bool lies_between(const Side &side, const Vector &at)
     {
-        const Vector along = subtract(edge.end, edge.start), way = subtract(at, edge.start);
+        const Vector along = side.way(), way = subtract(at, side.start);
         return is_zero(cross(along, way)) && 0 < dot(along, way) && dot(along, way) < dot(along, along);
     }
 
     void compare_with_vertices(const NearFace &face)
     {
-        for (Vertex vertex : near<Vertex>(vertex_boxes_, face.box)) {
-            const NearVertex &row = vertices_.at(vertex);
-            if (row.faces.count(face.face) == 0 && face.shape.height({row.at}) == 0 && face.shape.locate({row.at}) == Place::inside)
+        for (Vertex vertex : vertices_.near(face.shape.box())) {
+            const auto &[side, faces] = vertices_.rows.at(vertex);
+            if (faces.count(face.face) == 0 && face.shape.height({side.start}) == 0 && face.shape.locate({side.start}) == Place::inside)
                 find(Kind::vertex_on_face, vertex, face.face);
         }
     }
     void compare_with_edges(const NearFace &face)
     {
-        for (Edge edge : near<Edge>(edge_boxes_, face.box)) {
-            const NearEdge &row = edges_.at(edge);
-            if (row.faces.count(face.face) != 0)
+        for (Edge edge : edges_.near(face.shape.box())) {
+            const auto &[side, faces] = edges_.rows.at(edge);
+            if (faces.count(face.face) != 0)
                 continue;
-            const int before = sign(face.shape.height({row.start})), after = sign(face.shape.height({row.end}));
-            if (before * after < 0 && face.shape.locate(face.shape.met_by(row.start, row.end)) == Place::inside)
+            const Wide before = face.shape.height({side.start}), after = face.shape.height({side.end});
+            if (sign(before) * sign(after) < 0 && face.shape.locate(divided(side, before, after)) == Place::inside)
                 find(Kind::edge_through_face, edge, face.face);
-            else if (before == 0 && after == 0 && face.shape.has_part(row.start, row.end))
+            else if (before == 0 && after == 0 && face.shape.has_part(side))
                 find(Kind::edge_along_face, edge, face.face);
         }
     }
@@ -371,7 +331,7 @@ private:
         for (const NearFace &one : faces_) {
             go_on();
             std::vector<const NearFace *> beside;
-            for (std::size_t at : face_boxes_.meeting(one.box))
+            for (std::size_t at : boxes_.meeting(one.shape.box()))
                 if (const NearFace &other = faces_[at]; one.face != other.face && are_parallel(one.shape.across(), other.shape.across()) &&
                                                         one.shape.height({other.shape.points()[0]}) == 0)
                     beside.push_back(&other);
@@ -382,19 +342,12 @@ private:
         }
     }
 
-    /// The numbers whose boxes meet a box.
-    template <class Of> static std::vector<Of> near(const BoxIndex &boxes, const Box &box)
-    {
-        std::vector<Of> found;
-        for (std::size_t number : boxes.meeting(box))
-            found.emplace_back(static_cast<std::uint32_t>(number));
-        return found;
-    }
-
+    const Model &model_;
+    const Box &box_;
     std::vector<NearFace> faces_;
-    std::map<Edge, NearEdge> edges_;
-    std::map<Vertex, NearVertex> vertices_;
-    BoxIndex edge_boxes_, vertex_boxes_, face_boxes_;
+    BoxIndex boxes_; ///< of faces, by their places
+    NearSides<Edge> edges_;
+    NearSides<Vertex> vertices_;
     std::set<Finding> found_;
 };
 

@@ -17,31 +17,26 @@ inline bool is_motion(const gwb_motion &motion)
                         [&](std::int32_t axis) { return axis < -3 || axis > 3 || std::exchange(is_taken[static_cast<std::size_t>(axis < 0 ? -axis : axis)], true); });
 }
 
-/// Where points go, and how many times as far out they lie first.
-struct Placing {
-    Motion motion;
-    std::int64_t factor = 1;
-
-    static Placing scaled(std::int64_t factor) { return {Motion(), factor}; }
-
-    [[nodiscard]] Point operator()(const Point &point) const
-    {
-        const std::array<exact::Wide, 4> parts = {0, point.x, point.y, point.z};
-        const auto part = [&](std::int32_t axis, std::int64_t by) {
-            const exact::Wide image = parts[static_cast<std::size_t>(axis < 0 ? -axis : axis)] * factor;
-            return in_64_bits((axis < 0 ? -image : image) + by);
-        };
-        const auto &[axes, by] = motion.row();
-        return {part(axes[0], by.x), part(axes[1], by.y), part(axes[2], by.z)};
+/// Where a motion takes a point that lies so many times as far out.
+inline Vector image(const Vector &at, const Motion &motion, Wide factor)
+{
+    const auto &[axes, by] = motion.row();
+    Vector found = vector(by);
+    for (std::size_t place = 0; place < 3; place++) {
+        const std::int32_t axis = axes[place];
+        found[place] += factor * (axis < 0 ? -at[static_cast<std::size_t>(-axis - 1)] : at[static_cast<std::size_t>(axis - 1)]);
     }
+    return found;
+}
 
-    /// A coordinate that is out of range stays so.
-    static std::int64_t in_64_bits(exact::Wide coordinate)
-    {
-        constexpr exact::Wide most = 4 * exact::Wide{exact::farthest};
-        return static_cast<std::int64_t>(std::max(-most, std::min(coordinate, most)));
-    }
-};
+/// A motion by a vector. One that is out of range stays so.
+inline Motion moving(Vector by)
+{
+    constexpr Wide most = 4 * Wide{farthest};
+    for (Wide &part : by)
+        part = std::clamp(part, -most, most);
+    return Motion::move(point(by));
+}
 
 // ---- numbers
 
@@ -52,21 +47,18 @@ struct Numbering {
     std::map<Edge, Edge> edges;
     std::map<Vertex, Vertex> vertices;
 
-    /// Those that a function gives the parts of a model, which are asked for as the old ones rise.
-    template <class Number> static Numbering of(const Model &model, Number &&number)
+    /// Free ones for the parts of a model, which are asked for as the old ones rise.
+    static Numbering of(const Model &model, AllNames &names)
     {
         Numbering numbers;
-        for (const auto &[face, row] : model.faces) {
-            numbers.faces.emplace_hint(numbers.faces.end(), face, number(face));
-            for (Loop loop : row)
-                numbers.loops.emplace(loop, Loop());
-        }
-        for (auto &[loop, made] : numbers.loops)
-            made = number(loop);
-        for (const auto &[edge, ends] : model.edges)
-            numbers.edges.emplace_hint(numbers.edges.end(), edge, number(edge));
-        for (const auto &[vertex, at] : model.vertices)
-            numbers.vertices.emplace_hint(numbers.vertices.end(), vertex, number(vertex));
+        const auto put = [](auto &made, const auto &rows, auto &free) {
+            for (const auto &[old, row] : rows)
+                made.emplace_hint(made.end(), old, free.take());
+        };
+        put(numbers.faces, model.faces, names.faces);
+        put(numbers.loops, model.loops, names.loops);
+        put(numbers.edges, model.edges, names.edges);
+        put(numbers.vertices, model.vertices, names.vertices);
         return numbers;
     }
     [[nodiscard]] HalfEdge of(HalfEdge half) const
@@ -89,40 +81,6 @@ struct Numbering {
     }
 };
 
-/// Free numbers of all kinds.
-class AllFree {
-public:
-    explicit AllFree(const Bench &bench) : solids_(bench), faces_(bench), loops_(bench), edges_(bench), vertices_(bench) {}
-    Solid operator()(Solid) { return solids_.take(); }
-    Face operator()(Face) { return faces_.take(); }
-    Loop operator()(Loop) { return loops_.take(); }
-    Edge operator()(Edge) { return edges_.take(); }
-    Vertex operator()(Vertex) { return vertices_.take(); }
-
-    /// Refuses a kind of which no number was left.
-    void require_enough() const
-    {
-        std::uint32_t kind = GWB_SOLID;
-        for (bool is_spent : {solids_.is_spent(), faces_.is_spent(), loops_.is_spent(), edges_.is_spent(), vertices_.is_spent()})
-            if (kind++; is_spent)
-                throw refused(GWB_WHY_NUMBERS_SPENT, kind);
-    }
-    /// Throws that none was left for what comes on the way and goes again.
-    [[noreturn]] void fail_on_the_way()
-    {
-        (void)(*this)(Face()), (void)(*this)(Loop()), (void)(*this)(Edge());
-        require_enough();
-        throw refused(GWB_WHY_NUMBERS_SPENT, GWB_FACE + 1U);
-    }
-
-private:
-    FreeNumbers<Solid> solids_;
-    FreeNumbers<Face> faces_;
-    FreeNumbers<Loop> loops_;
-    FreeNumbers<Edge> edges_;
-    FreeNumbers<Vertex> vertices_;
-};
-
 /// All numbers in use of a kind as low as they can be, in their order, by what they are.
 template <class Kind> std::map<Kind, Kind> ranked(const Bench &bench)
 {
@@ -142,17 +100,18 @@ inline Model read(Bench &bench, Solid solid)
     return Model::whole(bench, solid);
 }
 
-/// The model elsewhere. Loops of a mirror image run the other way, by the mates of their half-edges. Refused: PointRange, with the least vertex.
-inline Model moved(Model model, const Placing &placing)
+/// The model elsewhere, so many times as large first. Loops of a mirror image run the other way, by the mates of their half-edges. Refused:
+/// PointRange, with the least vertex.
+inline Model moved(Model model, const Motion &motion, Wide factor = 1)
 {
     for (auto &[vertex, at] : model.vertices)
-        if (at = vector(placing(point(at))); !is_in_range(at))
+        if (at = image(at, motion, factor); !is_in_range(at))
             throw refused(GWB_WHY_POINT_RANGE, vertex.number());
-    if (!placing.motion.is_mirror())
+    if (!motion.is_mirror())
         return model;
     for (auto &[loop, halves] : model.loops) {
-        std::transform(halves.begin(), halves.end(), halves.begin(), [](HalfEdge half) { return half.twin(); });
-        halves = from_least(std::vector<HalfEdge>(halves.rbegin(), halves.rend()));
+        std::reverse(halves.begin(), halves.end());
+        halves = from_least(mapped(halves, [](HalfEdge half) { return half.twin(); }));
     }
     return model;
 }
@@ -163,16 +122,12 @@ inline Model numbered(const Model &model, const Numbering &numbers, Solid solid)
     Model made{solid, {}, {}, {}, {}, {}};
     const auto put = [](auto &all, auto number, auto row) { all.emplace_hint(all.end(), number, std::move(row)); }; // (they rise, but in gaps)
     for (const auto &[face, loops] : model.faces) {
-        std::vector<Loop> row = loops;
-        std::transform(row.begin(), row.end(), row.begin(), [&](Loop loop) { return numbers.loops.at(loop); });
+        std::vector<Loop> row = mapped(loops, [&](Loop loop) { return numbers.loops.at(loop); });
         std::sort(row.begin() + 1, row.end());
         put(made.faces, numbers.faces.at(face), std::move(row));
     }
-    for (const auto &[loop, halves] : model.loops) {
-        std::vector<HalfEdge> cycle = halves;
-        std::transform(cycle.begin(), cycle.end(), cycle.begin(), [&](HalfEdge half) { return numbers.of(half); });
-        put(made.loops, numbers.loops.at(loop), from_least(std::move(cycle)));
-    }
+    for (const auto &[loop, halves] : model.loops)
+        put(made.loops, numbers.loops.at(loop), from_least(mapped(halves, [&](HalfEdge half) { return numbers.of(half); })));
     for (const auto &[loop, vertex] : model.lone)
         put(made.lone, numbers.loops.at(loop), numbers.vertices.at(vertex));
     for (const auto &[edge, ends] : model.edges)
@@ -185,13 +140,16 @@ inline Model numbered(const Model &model, const Numbering &numbers, Solid solid)
 /// A new solid as a model says; its numbers are above all in use, as long as there are any. Refused: NumbersSpent.
 inline Solid make(Bench &bench, const Model &model, Lists &lists)
 {
-    AllFree free(bench);
-    const Solid solid = free(model.solid);
-    const Numbering numbers = Numbering::of(model, free);
-    free.require_enough();
+    AllNames names(bench);
+    const Solid solid = names.solids.take();
+    const Numbering numbers = Numbering::of(model, names);
+    names.require_enough();
     const Result<void> made = bench.attempt().load(numbered(model, numbers, solid).listing());
-    if (made.error().is(GWB_WHY_NUMBER_RANGE))
-        free.fail_on_the_way();
+    if (made.error().is(GWB_WHY_NUMBER_RANGE)) { // what comes on the way and goes again has none
+        (void)names.faces.take(), (void)names.loops.take(), (void)names.edges.take();
+        names.require_enough();
+        throw refused(GWB_WHY_NUMBERS_SPENT, GWB_FACE + 1U);
+    }
     if (!made)
         throw made.error();
     numbers.tell(lists);
@@ -206,18 +164,18 @@ template <class Place> std::vector<Solid> patterned(Bench &bench, Solid solid, s
     const Model model = read(bench, solid);
     std::vector<Solid> row;
     for (std::uint32_t at = 1; at < count; at++)
-        row.push_back(make(bench, moved(model, {place(at)}), lists));
+        row.push_back(make(bench, moved(model, place(at)), lists));
     return row;
 }
 
 /// By so many times a vector.
-inline Motion steps(const gwb_point &step, std::uint32_t times) { return Motion::move(Placing::scaled(times)(step)); }
+inline Motion steps(const gwb_point &step, std::uint32_t count) { return moving(times(vector(step), count)); }
 
 /// By so many quarters about the axis through a point. (If the point is far out of range, nothing stays in range.)
 inline Motion turn(std::uint32_t axis, std::uint32_t quarters, const gwb_point &about)
 {
-    const Point way = Placing()(about);
-    return Motion::move({-way.x, -way.y, -way.z}).then(Motion::quarter_turns(axis, quarters)).then(Motion::move(way));
+    const Vector way = vector(about);
+    return moving(negative(way)).then(Motion::quarter_turns(axis, quarters)).then(moving(way));
 }
 
 inline std::vector<Model> all_read(const Bench &bench)
@@ -232,7 +190,7 @@ inline std::vector<Model> all_read(const Bench &bench)
 inline void scale_all(Bench &bench, std::int64_t factor)
 {
     for (const Model &model : all_read(bench))
-        make_anew(bench, moved(model, Placing::scaled(factor)));
+        make_anew(bench, moved(model, Motion(), factor));
 }
 
 /// All numbers become as low as they can be, in their order.

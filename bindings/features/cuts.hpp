@@ -8,7 +8,6 @@ namespace gwb_session::cuts {
 
 using namespace combining;
 using exact::Plane;
-using sheets::Region;
 
 // ---- what lies below
 
@@ -46,7 +45,7 @@ inline std::vector<Side> cuts_of(const Sheet &sheet, const Plane &plane)
             points.emplace(dot(along, at), at);
         }
     }
-    const Shape shape(sheet.cycles, sheet.across);
+    const Shape shape(sheet);
     std::vector<Side> found;
     for (auto at = points.begin(); at != points.end() && std::next(at) != points.end(); ++at)
         if (shape.locate({add(at->second, std::next(at)->second), 2}) == Place::inside)
@@ -58,17 +57,16 @@ inline std::vector<Side> cuts_of(const Sheet &sheet, const Plane &plane)
 inline void put_below(const Sheet &sheet, const Plane &plane, const Failure &why, std::vector<Sheet> &left)
 {
     const Path points = sheet.points();
-    const bool is_below = std::any_of(points.begin(), points.end(), [&](const Vector &at) { return plane.height(at) < 0; });
-    const bool is_above = std::any_of(points.begin(), points.end(), [&](const Vector &at) { return plane.height(at) > 0; });
+    const bool is_below = any(points, [&](const Vector &at) { return plane.height(at) < 0; });
+    const bool is_above = any(points, [&](const Vector &at) { return plane.height(at) > 0; });
     if (!is_above && (is_below || dot(sheet.across, plane.across) > 0))
         left.push_back(sheet);
     if (!is_above || !is_below)
         return;
     std::vector<Side> sides = sides_below(sheet, plane);
-    const std::vector<Side> cuts = cuts_of(sheet, plane);
-    sides.insert(sides.end(), cuts.begin(), cuts.end());
-    for (const std::vector<Cycle> &cycles : regions_of(sides, sheet.across, why))
-        left.push_back({sheet.owner, sheet.across, cycles, no_mark});
+    append(sides, cuts_of(sheet, plane));
+    for (const std::vector<Cycle> &cycles : Traced(sides, sheet.across, why).regions())
+        left.emplace_back(sheet.owners[0], sheet.across, cycles);
 }
 
 /// The sides in the plane that have no other beside them, turned round.
@@ -97,9 +95,9 @@ inline Combined part_below(const Held &held, const std::vector<Sheet> &sheets, c
         go_on();
         put_below(sheet, plane, meets, left);
     }
-    for (const std::vector<Cycle> &cycles : regions_of(open_sides(left, plane), plane.across, meets))
-        caps.push_back({Face(), reduced(plane.across), cycles, caps.size()});
-    Result<std::vector<Region>> laid = tried([&] { return overlaid(left, caps); });
+    for (const std::vector<Cycle> &cycles : Traced(open_sides(left, plane), plane.across, meets).regions())
+        caps.emplace_back(Face(), reduced(plane.across), cycles, caps.size());
+    Result<std::vector<Sheet>> laid = tried([&] { return overlaid(left, caps); });
     std::optional<Made> made = laid ? Assembly(held, *laid, names).made(solid) : std::nullopt;
     if (!made)
         throw meets;
@@ -124,16 +122,7 @@ inline Path corners_in(const Bench &bench, Solid solid, const Plane &plane)
 /// solid lie in the plane.
 inline void require_apart(const Model &before, const Path &corners, std::initializer_list<const Model *> parts)
 {
-    if (corners.empty())
-        return;
-    const Box box = Box::around(corners);
-    std::set<Findings::Finding> found;
-    for (const Model *part : parts)
-        found.merge(findings_near(*part, box));
-    if (!found.empty())
-        for (const Findings::Finding &known : findings_near(before, box))
-            found.erase(known);
-    if (!found.empty())
+    if (!corners.empty() && touch_anew({&before}, parts, Box::around(corners)))
         throw impossible(Misfit::meets, before.solid.number());
 }
 
@@ -148,16 +137,10 @@ inline bool is_coped_with(const Failure &failure)
 inline std::vector<Face> faces_in(const Bench &bench, Solid solid, Face above, const Plane &plane)
 {
     std::vector<Face> found;
-    for (Face face : bench.faces(solid)) {
-        if (face <= above)
-            continue;
-        const std::vector<Path> loops = loops_at(bench, face);
-        const auto lies_in = [&](const Path &loop) {
-            return std::all_of(loop.begin(), loop.end(), [&](const Vector &at) { return plane.height(at) == 0; });
-        };
-        if (std::all_of(loops.begin(), loops.end(), lies_in))
+    const auto lies_in = [&](const Path &loop) { return all(loop, [&](const Vector &at) { return plane.height(at) == 0; }); };
+    for (Face face : bench.faces(solid))
+        if (face > above && all(loops_at(bench, face), lies_in))
             found.push_back(face);
-    }
     return found;
 }
 

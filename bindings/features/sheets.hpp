@@ -12,7 +12,7 @@ namespace gwb_session::sheets {
 
 using namespace machining;
 
-// ---- sides, sheets and regions
+// ---- sides and sheets
 
 /// A directed side, with the region on its left: its ends, and the half-edge that it is, or is a part of, or none.
 struct Side {
@@ -21,7 +21,10 @@ struct Side {
 
     [[nodiscard]] bool is_old() const { return half != HalfEdge(); }
     [[nodiscard]] Vector way() const { return subtract(end, start); }
+    [[nodiscard]] Box box() const { return Box::between(start, end); }
     [[nodiscard]] Side turned() const { return {end, start, is_old() ? half.twin() : half}; }
+    /// As it is seen in a plane.
+    [[nodiscard]] Segment seen(Axes axes) const { return {{start[axes[0]], start[axes[1]]}, {end[axes[0]], end[axes[1]]}}; }
     friend bool operator<(const Side &a, const Side &b) { return std::tie(a.start, a.end, a.half) < std::tie(b.start, b.end, b.half); }
     friend bool operator==(const Side &a, const Side &b) { return a.start == b.start && a.end == b.end && a.half == b.half; }
 };
@@ -31,10 +34,7 @@ using Cycle = std::vector<Side>;
 /// The points that a cycle goes through.
 inline Path points_of(const Cycle &cycle)
 {
-    Path points;
-    for (const Side &side : cycle)
-        points.push_back(side.start);
-    return points;
+    return mapped(cycle, [](const Side &side) { return side.start; });
 }
 
 /// Twice the area that cycles go round, as a vector.
@@ -46,20 +46,32 @@ inline Vector area_of(const std::vector<Cycle> &cycles)
     return sum;
 }
 
+inline Outline outline(const std::vector<Side> &sides, Axes axes)
+{
+    return mapped(sides, [&](const Side &side) { return side.seen(axes); });
+}
+
 /// A plane, whichever way it is looked at: its reduced normal, the first part of which that isn't zero is positive, and its height.
 using Level = std::pair<Vector, Wide>;
 
 constexpr std::size_t no_mark = std::numeric_limits<std::size_t>::max();
 
-/// A flat region: the face that it is, none for an added one; its reduced normal; its cycles, the outline first; where it is added, its place
-/// among the added ones.
+/// A flat region: the faces that it is of, where it is of any; where it is added, or added ones went into it, their places among the added ones;
+/// its reduced normal; its cycles, the outline first.
 struct Sheet {
-    Face owner;
+    std::vector<Face> owners;
+    std::vector<std::size_t> marks;
     Vector across;
     std::vector<Cycle> cycles;
-    std::size_t mark = no_mark;
 
-    [[nodiscard]] bool is_added() const { return mark != no_mark; }
+    Sheet(Face owner, const Vector &normal, std::vector<Cycle> around, std::size_t mark = no_mark)
+        : owners{owner}, across(normal), cycles(std::move(around))
+    {
+        if (mark != no_mark)
+            marks.push_back(mark);
+    }
+
+    [[nodiscard]] bool is_added() const { return !marks.empty(); }
     /// Whether it looks the way of its plane's normal.
     [[nodiscard]] bool is_facing() const { return across > Vector{}; }
     [[nodiscard]] Level level() const
@@ -69,165 +81,121 @@ struct Sheet {
     }
     [[nodiscard]] std::vector<Side> sides() const
     {
-        std::vector<Side> all;
+        std::vector<Side> found;
         for (const Cycle &cycle : cycles)
-            all.insert(all.end(), cycle.begin(), cycle.end());
-        return all;
+            append(found, cycle);
+        return found;
     }
-    [[nodiscard]] Path points() const
-    {
-        return points_of(sides());
-    }
+    [[nodiscard]] Path points() const { return points_of(sides()); }
     [[nodiscard]] bool lies_in(const Level &level) const
     {
-        const Path all = points();
-        return std::all_of(all.begin(), all.end(), [&](const Vector &at) { return dot(level.first, at) == level.second; });
+        return all(points(), [&](const Vector &at) { return dot(level.first, at) == level.second; });
     }
 };
 
-/// A region that sheets came to: the faces that they were, the places of the added ones among them, its normal and its cycles.
-struct Region {
-    std::vector<Face> owners;
-    std::vector<std::size_t> marks;
-    Vector across;
-    std::vector<Cycle> cycles;
-};
+/// What sheets came to.
+using Region = Sheet;
+inline const Region &unchanged(const Sheet &sheet) { return sheet; }
 
-inline Region unchanged(const Sheet &sheet)
+/// The box around all of some sheets.
+inline Box box_of(const std::vector<Sheet> &sheets)
 {
-    Region region{{sheet.owner}, {}, sheet.across, sheet.cycles};
-    if (sheet.is_added())
-        region.marks.push_back(sheet.mark);
-    return region;
-}
-
-inline Spot spot(const Vector &at, Axes axes) { return {at[axes[0]], at[axes[1]]}; }
-
-inline Outline outline(const std::vector<Side> &sides, Axes axes)
-{
-    Outline found;
-    for (const Side &side : sides)
-        found.emplace_back(spot(side.start, axes), spot(side.end, axes));
-    return found;
+    Path points;
+    for (const Sheet &sheet : sheets)
+        append(points, sheet.points());
+    return Box::around(points);
 }
 
 // ---- sides traced as cycles
 
+/// Whether one way comes before another in the turn clockwise from a third one, which itself comes last.
+inline bool comes_before(const Segment &from, const Segment &one, const Segment &other)
+{
+    const auto turned = [](const Segment &a, const Segment &b) { return compare_products(a.x, b.y, a.y, b.x); };
+    const auto quarter = [&](const Segment &way) { // below a half turn, a half, above it, a whole
+        const int side = turned(from, way);
+        return side != 0 ? side + 1 : from.x * way.x + from.y * way.y > 0 ? 3 : 1;
+    };
+    const int quarters = quarter(one) - quarter(other);
+    return quarters != 0 ? quarters < 0 : turned(one, other) < 0;
+}
+
 /// The cycles of sides, and the regions that these bound.
 class Traced {
 public:
-    Traced(const std::vector<Side> &sides, const Vector &across) : axes_(flat_axes(across))
+    /// Thrown is what the caller says where the sides make no outlines, or a hole lies in none.
+    Traced(std::vector<Side> sides, const Vector &across, const Failure &why) : sides_(std::move(sides)), axes_(flat_axes(across)), why_(why)
     {
-        const std::set<Side> once(sides.begin(), sides.end());
-        sides_.assign(once.begin(), once.end());
-        for (std::size_t at = 0; at < sides_.size(); at++)
-            leaving_[sides_[at].start].push_back(at);
+        std::sort(sides_.begin(), sides_.end());
+        sides_.erase(std::unique(sides_.begin(), sides_.end()), sides_.end());
     }
 
-    /// The regions, the outline of each and then its holes, the largest first; where they touch in a point they stay apart. None where the sides
-    /// make no outlines, or a hole lies in none.
-    [[nodiscard]] std::optional<std::vector<std::vector<Cycle>>> regions() const
+    /// The regions, the outline of each and then its holes, the largest first; where they touch in a point they stay apart.
+    [[nodiscard]] std::vector<std::vector<Cycle>> regions() const
     {
-        std::optional<std::vector<Cycle>> cycles = all_cycles();
-        if (!cycles)
-            return std::nullopt;
         std::vector<std::pair<Wide, Cycle>> outer;
         std::vector<Cycle> holes;
-        for (const Cycle &cycle : *cycles) {
-            const Wide area = twice_area(outline(cycle, axes_));
-            if (area > 0)
+        for (const Cycle &cycle : cycles())
+            if (const Wide area = twice_area(outline(cycle, axes_)); area > 0)
                 outer.emplace_back(-area, cycle);
             else
                 holes.push_back(cycle);
-        }
         std::sort(outer.begin(), outer.end());
         std::vector<std::vector<Cycle>> found;
         for (const auto &[area, cycle] : outer)
             found.push_back({cycle});
-        return put_holes(holes, found) ? std::optional(found) : std::nullopt;
+        for (const Cycle &hole : holes) { // into the smallest around it
+            const auto around = std::find_if(found.rbegin(), found.rend(), [&](const auto &region) { return lies_in(hole, region[0]); });
+            if (around == found.rend())
+                throw why_;
+            around->push_back(hole);
+        }
+        return found;
     }
 
 private:
-    /// Puts each hole into the smallest region around it.
-    bool put_holes(const std::vector<Cycle> &holes, std::vector<std::vector<Cycle>> &regions) const
-    {
-        for (const Cycle &hole : holes) {
-            const auto around = std::find_if(regions.rbegin(), regions.rend(), [&](const auto &region) { return lies_in(hole, region[0]); });
-            if (around == regions.rend())
-                return false;
-            around->push_back(hole);
-        }
-        return true;
-    }
-
     [[nodiscard]] bool lies_in(const Cycle &hole, const Cycle &around) const
     {
         const Outline walls = outline(around, axes_);
         for (const Side &side : hole)
-            if (const Place place = locate(walls, spot(side.start, axes_)); place != Place::on)
+            if (const Place place = locate(walls, side.seen(axes_).start); place != Place::on)
                 return place == Place::inside;
         return false;
     }
 
     /// The cycles: from each side on to the one that bounds the same corner of the region.
-    [[nodiscard]] std::optional<std::vector<Cycle>> all_cycles() const
+    [[nodiscard]] std::vector<Cycle> cycles() const
     {
         std::vector<bool> is_left(sides_.size(), true);
-        std::vector<Cycle> cycles;
+        std::vector<Cycle> found;
         for (std::size_t first = 0; first < sides_.size(); first++)
             if (is_left[first]) {
-                cycles.emplace_back();
-                for (std::optional<std::size_t> at = first; is_left[*at];) {
-                    is_left[*at] = false;
-                    cycles.back().push_back(sides_[*at]);
-                    at = next(sides_[*at]);
-                    if (!at)
-                        return std::nullopt;
+                Cycle &cycle = found.emplace_back();
+                for (std::size_t at = first; is_left[at]; at = next(sides_[at])) {
+                    is_left[at] = false;
+                    cycle.push_back(sides_[at]);
                 }
             }
-        return cycles;
+        return found;
     }
 
     /// The first of the sides that leave the end of one, clockwise from the way back.
-    [[nodiscard]] std::optional<std::size_t> next(const Side &side) const
+    [[nodiscard]] std::size_t next(const Side &side) const
     {
-        const auto leaving = leaving_.find(side.end);
-        if (leaving == leaving_.end())
-            return std::nullopt;
-        const Segment back(spot(side.end, axes_), spot(side.start, axes_));
-        const auto comes_before = [&](std::size_t one, std::size_t other) {
-            const Segment first = segment(one), second = segment(other);
-            const int quarters = quarter(back, first) - quarter(back, second);
-            return quarters != 0 ? quarters < 0 : turned(first, second) < 0;
-        };
-        return *std::min_element(leaving->second.begin(), leaving->second.end(), comes_before);
+        const auto starts_before = [](const Side &one, const Side &other) { return one.start < other.start; };
+        const auto [first, last] = std::equal_range(sides_.begin(), sides_.end(), side.turned(), starts_before);
+        if (first == last)
+            throw why_;
+        const auto found = std::min_element(first, last, [back = side.turned().seen(axes_), this](const Side &one, const Side &other) {
+            return comes_before(back, one.seen(axes_), other.seen(axes_));
+        });
+        return static_cast<std::size_t>(found - sides_.begin());
     }
 
-    [[nodiscard]] Segment segment(std::size_t at) const { return Segment(spot(sides_[at].start, axes_), spot(sides_[at].end, axes_)); }
-    static int turned(const Segment &one, const Segment &other) { return compare_products(one.x, other.y, one.y, other.x); }
-
-    /// In which part of the turn clockwise from the way back: below a half, a half, above it, a whole.
-    static int quarter(const Segment &back, const Segment &way)
-    {
-        const int side = turned(back, way);
-        if (side == 0)
-            return back.x * way.x + back.y * way.y > 0 ? 3 : 1;
-        return side < 0 ? 0 : 2;
-    }
-
+    std::vector<Side> sides_; ///< rising
     Axes axes_;
-    std::vector<Side> sides_;
-    std::map<Vector, std::vector<std::size_t>> leaving_;
+    Failure why_;
 };
-
-/// The regions that sides come to. Not possible, for what the caller says: they make no outlines.
-inline std::vector<std::vector<Cycle>> regions_of(const std::vector<Side> &sides, const Vector &across, const Failure &why)
-{
-    auto regions = Traced(sides, across).regions();
-    if (!regions)
-        throw why;
-    return std::move(*regions);
-}
 
 // ---- sheets of one plane
 
@@ -253,10 +221,16 @@ private:
     std::unordered_map<Member, Member> above_; ///< of those that aren't the name of their set
 };
 
+/// Twice the area between a segment and a point, positive where that lies left.
+inline Wide area_beside(const Segment &segment, const Spot &at)
+{
+    return segment.x * (at.y - segment.start.y) - segment.y * (at.x - segment.start.x);
+}
+
 /// The sheets of one plane, cut up.
 class Overlay {
 public:
-    /// The box is that of the added ones.
+    /// Sheets that are held come first, so that what is joined has their name. The box is that of the added ones.
     Overlay(std::vector<Sheet> sheets, const Box &box)
         : sheets_(std::move(sheets)), box_(box), axes_(flat_axes(sheets_[0].level().first)), kept_(sheets_.size())
     {
@@ -268,44 +242,49 @@ public:
 
     /// The regions that they come to. Refused: Overlap, as Meets: two that look one way have room in common; OffLattice: two sides cross
     /// between whole coordinates.
-    std::vector<Region> regions()
+    std::vector<Sheet> regions()
     {
         emit();
-        std::map<std::size_t, std::vector<std::size_t>> members;
+        std::map<std::size_t, Places> members;
         for (std::size_t at = 0; at < sheets_.size(); at++)
             members[joined_.name(at)].push_back(at);
-        std::vector<Region> found;
+        std::vector<Sheet> found;
         for (const auto &[name, places] : members)
             put_regions(places, found);
         return found;
     }
 
 private:
-    /// A part of sides of sheets that none of them cuts: its ends, and for each such sheet the parts, with the way they run.
+    using Places = std::vector<std::size_t>;
     using Ends = std::pair<Vector, Vector>;
-    using Parts = std::map<std::size_t, std::vector<Side>>;
-    using Pieces = std::map<Ends, Parts>;
-    struct Near {
+    /// A side of the sheet at a place.
+    struct Part {
         std::size_t place;
         Side side;
     };
+    /// A part of sides of sheets that none of them cuts: as the part of each, in the order of the sheets; those beside it, seen from where the plane's
+    /// normal points.
+    struct Piece {
+        std::vector<Part> parts;
+        Places left, right;
+    };
 
-    void put_regions(const std::vector<std::size_t> &places, std::vector<Region> &found) const
+    void put_regions(const Places &places, std::vector<Sheet> &found) const
     {
-        std::vector<Side> sides;
-        Region made{{}, {}, sheets_[places[0]].across, {}};
-        for (std::size_t place : places) {
-            sides.insert(sides.end(), kept_[place].begin(), kept_[place].end());
-            made.owners.push_back(sheets_[place].owner);
-            if (sheets_[place].is_added())
-                made.marks.push_back(sheets_[place].mark);
+        std::vector<Side> sides = kept_[places[0]];
+        Sheet made = sheets_[places[0]];
+        for (auto place = places.begin() + 1; place != places.end(); ++place) {
+            append(sides, kept_[*place]);
+            append(made.owners, sheets_[*place].owners);
+            append(made.marks, sheets_[*place].marks);
         }
-        const std::vector<Side> own = sheets_[places[0]].sides();
+        const std::vector<Side> own = made.sides();
         if (places.size() == 1 && std::set<Side>(sides.begin(), sides.end()) == std::set<Side>(own.begin(), own.end())) {
-            found.push_back(unchanged(sheets_[places[0]]));
+            found.push_back(made);
             return;
         }
-        for (const std::vector<Cycle> &cycles : regions_of(places.size() > 2 ? without_seams(sides) : sides, made.across, impossible(Misfit::meets, 0))) {
+        const Traced traced(places.size() > 2 ? without_seams(sides) : sides, made.across, impossible(Misfit::meets, 0));
+        for (const std::vector<Cycle> &cycles : traced.regions()) {
             made.cycles = cycles;
             found.push_back(made);
         }
@@ -317,141 +296,126 @@ private:
         std::set<Ends> ways;
         for (const Side &side : sides)
             ways.insert({side.start, side.end});
-        std::vector<Side> left;
-        std::copy_if(sides.begin(), sides.end(), std::back_inserter(left), [&](const Side &side) { return ways.count({side.end, side.start}) == 0; });
-        return left;
+        return filtered(sides, [&](const Side &side) { return ways.count({side.end, side.start}) == 0; });
     }
 
     /// Each side, or part of one, goes to the sheets that it bounds afterwards.
     void emit()
     {
-        const Pieces pieces = cut_pieces();
-        std::vector<std::array<std::vector<std::size_t>, 2>> beside;
-        for (const auto &[ends, parts] : pieces) {
-            std::vector<std::size_t> left = left_over(ends, parts, true), right = left_over(ends, parts, false);
-            join(left, right);
-            beside.push_back({std::move(left), std::move(right)});
+        std::map<Ends, Piece> pieces = cut_pieces();
+        for (auto &[ends, piece] : pieces) {
+            piece.left = left_over(ends, piece.parts, true);
+            piece.right = left_over(ends, piece.parts, false);
+            join(piece);
         }
-        auto sides = beside.begin();
-        for (const auto &[ends, parts] : pieces) {
-            keep(only((*sides)[0], (*sides)[1]), parts, ends);
-            keep(only((*sides)[1], (*sides)[0]), parts, {ends.second, ends.first});
-            ++sides;
+        for (const auto &[ends, piece] : pieces) {
+            keep(only(piece.left, piece.right), piece.parts, {ends.first, ends.second});
+            keep(only(piece.right, piece.left), piece.parts, {ends.second, ends.first});
         }
     }
 
     /// Those that are of no set with one of the others.
-    std::vector<std::size_t> only(const std::vector<std::size_t> &one, const std::vector<std::size_t> &other)
+    Places only(const Places &one, const Places &other)
     {
         std::set<std::size_t> beyond;
         for (std::size_t place : other)
             beyond.insert(joined_.name(place));
-        std::vector<std::size_t> left;
-        std::copy_if(one.begin(), one.end(), std::back_inserter(left), [&](std::size_t place) { return beyond.count(joined_.name(place)) == 0; });
-        return left;
+        return filtered(one, [&](std::size_t place) { return beyond.count(joined_.name(place)) == 0; });
     }
 
     /// The piece is a side of these sheets, which lie left of it as it runs, seen from where the plane's normal points.
-    void keep(const std::vector<std::size_t> &places, const Parts &parts, const Ends &ends)
+    void keep(const Places &places, const std::vector<Part> &parts, const Side &piece)
     {
         for (std::size_t place : places) {
-            const Side run = sheets_[place].is_facing() ? Side{ends.first, ends.second} : Side{ends.second, ends.first};
-            kept_[place].push_back({run.start, run.end, old_half(place, parts, run)});
+            Side run = sheets_[place].is_facing() ? piece : piece.turned();
+            run.half = old_half(place, parts, run);
+            kept_[place].push_back(run);
         }
     }
 
     /// The old half-edge that a piece is a part of, as it runs: that of the sheet, or of another one, or none.
-    static HalfEdge old_half(std::size_t place, const Parts &parts, const Side &run)
+    static HalfEdge old_half(std::size_t place, const std::vector<Part> &parts, const Side &run)
     {
-        HalfEdge own, other;
-        for (const auto &[of, sides] : parts)
-            for (const Side &side : sides) {
-                const bool is_along = side.start == run.start && side.end == run.end;
-                if (of == place && is_along && own == HalfEdge())
-                    own = side.half;
-                if (other == HalfEdge() && side.is_old())
-                    other = is_along ? side.half : side.half.twin();
-            }
-        return own != HalfEdge() ? own : other;
+        const auto is_own = [&](const Part &part) { return part.place == place && part.side.is_old() && part.side.start == run.start; };
+        auto found = std::find_if(parts.begin(), parts.end(), is_own);
+        if (found == parts.end())
+            found = std::find_if(parts.begin(), parts.end(), [](const Part &part) { return part.side.is_old(); });
+        if (found == parts.end())
+            return HalfEdge();
+        return found->side.start == run.start ? found->side.half : found->side.half.twin();
     }
 
     /// A held and an added sheet that look one way on both sides of a piece become one.
-    void join(const std::vector<std::size_t> &left, const std::vector<std::size_t> &right)
+    void join(const Piece &piece)
     {
-        for (std::size_t one : left)
-            for (std::size_t other : right)
+        for (std::size_t one : piece.left)
+            for (std::size_t other : piece.right)
                 if (sheets_[one].is_added() != sheets_[other].is_added() && sheets_[one].is_facing() == sheets_[other].is_facing())
                     joined_.join(std::min(one, other), std::max(one, other));
     }
 
     /// The sheets beside a piece, left of it or right, without those that go: an added one and a held one that look against each other.
-    std::vector<std::size_t> left_over(const Ends &ends, const Parts &parts, bool on_left)
+    [[nodiscard]] Places left_over(const Ends &ends, const std::vector<Part> &parts, bool on_left) const
     {
         go_on();
-        std::set<std::size_t> found;
-        for (std::size_t place : boxes_.meeting(Box::between(ends.first, ends.second)))
-            if (covers(place, ends, parts, on_left))
-                found.insert(place);
-        for (std::size_t place : std::vector<std::size_t>(found.begin(), found.end())) {
-            if (!sheets_[place].is_added())
-                continue;
-            const auto looks_alike = [&](std::size_t other) { return other != place && sheets_[other].is_facing() == sheets_[place].is_facing(); };
-            if (std::any_of(found.begin(), found.end(), looks_alike))
+        const Places near = boxes_.meeting(Box::between(ends.first, ends.second));
+        Places found = filtered(near, [&](std::size_t place) { return covers(place, ends, parts, on_left); });
+        for (std::size_t place : filtered(found, [&](std::size_t of) { return sheets_[of].is_added(); })) {
+            if (any(found, [&](std::size_t other) { return other != place && sheets_[other].is_facing() == sheets_[place].is_facing(); }))
                 throw impossible(Misfit::meets, 0);
-            const auto against = std::find_if(found.begin(), found.end(), [&](std::size_t other) { return !sheets_[other].is_added(); });
-            if (against != found.end()) {
-                found.erase(against);
-                found.erase(place);
-            }
-        }
-        return {found.begin(), found.end()};
-    }
-
-    /// Whether the sheet lies on this side of the piece.
-    [[nodiscard]] bool covers(std::size_t place, const Ends &ends, const Parts &parts, bool on_left) const
-    {
-        if (const auto own = parts.find(place); own != parts.end()) {
-            const bool along = on_left == sheets_[place].is_facing();
-            return std::any_of(own->second.begin(), own->second.end(), [&](const Side &side) { return (side.start == ends.first) == along; });
-        }
-        const Spot start = spot(ends.first, axes_), end = spot(ends.second, axes_);
-        return locate(outlines_[place], {start.x + end.x, start.y + end.y, 2}) == Place::inside;
-    }
-
-    /// The parts of sides near added sheets; the other sides are kept as they are.
-    Pieces cut_pieces()
-    {
-        std::vector<Near> near;
-        for (std::size_t place = 0; place < sheets_.size(); place++)
-            for (const Side &side : sheets_[place].sides()) {
-                if (Box::between(side.start, side.end).meets(box_))
-                    near.push_back({place, side});
-                else
-                    kept_[place].push_back(side);
-            }
-        BoxIndex index;
-        for (std::size_t at = 0; at < near.size(); at++)
-            index.put(Box::between(near[at].side.start, near[at].side.end), at);
-        Pieces found;
-        for (const Near &one : near) {
-            go_on();
-            const Path stops = cut(one, near, index);
-            for (std::size_t at = 1; at < stops.size(); at++) {
-                const Side part{stops[at - 1], stops[at], one.side.half};
-                found[std::minmax(part.start, part.end)][one.place].push_back(part);
+            if (!sheets_[found[0]].is_added()) {
+                found.erase(std::find(found.begin(), found.end(), place));
+                found.erase(found.begin());
             }
         }
         return found;
     }
 
+    /// Whether the sheet lies on this side of the piece.
+    [[nodiscard]] bool covers(std::size_t place, const Ends &ends, const std::vector<Part> &parts, bool on_left) const
+    {
+        bool has_part = false;
+        for (const Part &part : parts)
+            if (part.place == place) {
+                has_part = true;
+                if ((part.side.start == ends.first) == (on_left == sheets_[place].is_facing()))
+                    return true;
+            }
+        const Segment piece = Side{ends.first, ends.second}.seen(axes_);
+        return !has_part && locate(outlines_[place], {piece.start.x + piece.end.x, piece.start.y + piece.end.y, 2}) == Place::inside;
+    }
+
+    /// The parts of sides near added sheets; the other sides are kept as they are.
+    std::map<Ends, Piece> cut_pieces()
+    {
+        std::vector<Part> near;
+        BoxIndex index;
+        for (std::size_t place = 0; place < sheets_.size(); place++)
+            for (const Side &side : sheets_[place].sides())
+                if (side.box().meets(box_)) {
+                    index.put(side.box(), near.size());
+                    near.push_back({place, side});
+                } else {
+                    kept_[place].push_back(side);
+                }
+        std::map<Ends, Piece> found;
+        for (const auto &[place, side] : near) {
+            go_on();
+            const Path stops = cut({place, side}, near, index);
+            for (std::size_t at = 1; at < stops.size(); at++)
+                found[std::minmax(stops[at - 1], stops[at])].parts.push_back({place, {stops[at - 1], stops[at], side.half}});
+        }
+        return found;
+    }
+
     /// The points at which a side is cut, its ends included: those where one of the others, held against added, meets it.
-    [[nodiscard]] Path cut(const Near &one, const std::vector<Near> &near, const BoxIndex &index) const
+    [[nodiscard]] Path cut(const Part &one, const std::vector<Part> &near, const BoxIndex &index) const
     {
         std::set<Vector> points = {one.side.start, one.side.end};
-        const Segment own(spot(one.side.start, axes_), spot(one.side.end, axes_));
-        for (std::size_t at : index.meeting(Box::between(one.side.start, one.side.end))) {
-            const Near &other = near[at];
-            const Segment across(spot(other.side.start, axes_), spot(other.side.end, axes_));
+        const Segment own = one.side.seen(axes_);
+        for (std::size_t at : index.meeting(one.side.box())) {
+            const Part &other = near[at];
+            const Segment across = other.side.seen(axes_);
             if (sheets_[other.place].is_added() == sheets_[one.place].is_added())
                 continue;
             if (own.holds(across.start))
@@ -459,7 +423,7 @@ private:
             if (own.holds(across.end))
                 points.insert(other.side.end);
             if (own.crosses(across))
-                points.insert(crossing(one.side, own, across));
+                points.insert(crossing(one.side, area_beside(across, own.start), area_beside(across, own.end)));
         }
         Path path(points.begin(), points.end());
         if (one.side.end < one.side.start)
@@ -467,11 +431,10 @@ private:
         return path;
     }
 
-    /// The point where two sides cross; refused where it isn't whole.
-    static Vector crossing(const Side &side, const Segment &own, const Segment &across)
+    /// Where a side crosses a line beside which its ends lie so far, one on each side; refused where the point isn't whole.
+    static Vector crossing(const Side &side, Wide start, Wide end)
     {
-        const auto turn = [&](const Spot &at) { return across.x * (at.y - across.start.y) - across.y * (at.x - across.start.x); };
-        const std::optional<Vector> at = on_way(side.start, side.way(), turn(own.start), turn(own.start) - turn(own.end));
+        const std::optional<Vector> at = on_way(side.start, side.way(), start, start - end);
         if (!at)
             throw impossible(Misfit::off_lattice, side.half.edge().number());
         return *at;
@@ -486,63 +449,34 @@ private:
     BoxIndex boxes_; ///< around the sheets, by their places
 };
 
-/// The box around what is added.
-inline Box box_of(const std::vector<Sheet> &added)
-{
-    Box box = Box::around(added[0].points());
-    for (const Sheet &sheet : added)
-        for (const Vector &at : sheet.points())
-            box.take(at);
-    return box;
-}
-
-/// Sheets of one plane: those that are held come first, so that what is joined has their name. The box is that of the added ones.
+/// Sheets of one plane. The box is that of the added ones.
 struct InPlane {
     std::vector<Sheet> held, added;
     Box box{};
 };
 
-/// What is added by planes, in the order in which they come, and their places by the planes.
-struct Planes {
-    std::vector<InPlane> all;
-    std::map<Level, std::size_t> places;
-
-    explicit Planes(const std::vector<Sheet> &added)
-    {
-        for (const Sheet &sheet : added) {
-            const auto place = places.emplace(sheet.level(), all.size()).first->second;
-            if (place == all.size())
-                all.emplace_back();
-            all[place].added.push_back(sheet);
-        }
-        for (InPlane &plane : all)
-            plane.box = box_of(plane.added);
-    }
-    /// The plane in which a sheet lies near an added one.
-    [[nodiscard]] InPlane *around(const Sheet &sheet)
-    {
-        const auto place = places.find(sheet.level());
-        const bool is_near = place != places.end() && sheet.lies_in(place->first) && Box::around(sheet.points()).meets(all[place->second].box);
-        return is_near ? &all[place->second] : nullptr;
-    }
-};
-
-/// What sheets come to where others are added to them; what lies in no plane of an added one stays.
-inline std::vector<Region> overlaid(const std::vector<Sheet> &held, const std::vector<Sheet> &added)
+/// What sheets come to where others are added to them; what lies in no plane of an added one, or not near it, stays.
+inline std::vector<Sheet> overlaid(const std::vector<Sheet> &held, const std::vector<Sheet> &added)
 {
-    Planes planes(added);
-    std::vector<Region> found;
+    std::vector<InPlane> planes; // in the order in which they come among the added ones
+    std::map<Level, std::size_t> places;
+    for (const Sheet &sheet : added) {
+        const std::size_t place = places.emplace(sheet.level(), places.size()).first->second;
+        planes.resize(places.size());
+        planes[place].added.push_back(sheet);
+    }
+    for (InPlane &plane : planes)
+        plane.box = box_of(plane.added);
+    std::vector<Sheet> found;
     for (const Sheet &sheet : held) {
         go_on();
-        if (InPlane *plane = planes.around(sheet))
-            plane->held.push_back(sheet);
-        else
-            found.push_back(unchanged(sheet));
+        const auto place = places.find(sheet.level());
+        const bool is_near = place != places.end() && sheet.lies_in(place->first) && Box::around(sheet.points()).meets(planes[place->second].box);
+        (is_near ? planes[place->second].held : found).push_back(sheet);
     }
-    for (InPlane &plane : planes.all) {
-        plane.held.insert(plane.held.end(), plane.added.begin(), plane.added.end());
-        const std::vector<Region> made = Overlay(plane.held, plane.box).regions();
-        found.insert(found.end(), made.begin(), made.end());
+    for (InPlane &plane : planes) {
+        append(plane.held, plane.added);
+        append(found, Overlay(std::move(plane.held), plane.box).regions());
     }
     return found;
 }

@@ -5,24 +5,60 @@
 #include "gwb_made.hpp"
 #include "stopping.hpp"
 #include "throwing.hpp"
+#include <set>
 
 namespace gwb_session {
 
-/// Free numbers of a kind: those above all in use, and then those below that aren't.
+// ---- items
+
+/// Items after those that are there.
+template <class Item, class Added> void append(std::vector<Item> &to, const Added &added) { to.insert(to.end(), added.begin(), added.end()); }
+/// Whether a test holds for all of them, or for any.
+template <class All, class Test> bool all(const All &items, Test test) { return std::all_of(items.begin(), items.end(), test); }
+template <class All, class Test> bool any(const All &items, Test test) { return std::any_of(items.begin(), items.end(), test); }
+/// Those for which it holds.
+template <class Item, class Test> std::vector<Item> filtered(const std::vector<Item> &items, Test test)
+{
+    std::vector<Item> found;
+    std::copy_if(items.begin(), items.end(), std::back_inserter(found), test);
+    return found;
+}
+/// What a function makes of each.
+template <class All, class Of> auto mapped(const All &items, Of of)
+{
+    std::vector<std::decay_t<decltype(of(*items.begin()))>> found;
+    found.reserve(items.size());
+    std::transform(items.begin(), items.end(), std::back_inserter(found), of);
+    return found;
+}
+
+// ---- free numbers
+
+/// Free numbers of a kind, above all in use.
 template <class Kind> class FreeNumbers {
 public:
-    explicit FreeNumbers(const Bench &bench) : bench_(bench), next_(bench.greatest<Kind>().number() + 1) {}
+    explicit FreeNumbers(const Bench &bench) : bench_(bench), last_(bench.greatest<Kind>().number()) {}
     /// The next one. Where none is left it is out of range, so that operators refuse it.
+    Kind spare() { return Kind(++last_); }
+    /// The first of these old numbers that this hasn't given yet, else the next one.
+    template <class Numbers> Kind one(const Numbers &wanted)
+    {
+        for (Kind number : wanted)
+            if (number != Kind() && given_.insert(number).second)
+                return number;
+        return spare();
+    }
+    /// The next one, or where none is left the least of those below that aren't in use.
     Kind take()
     {
-        if (next_ <= greatest_number)
-            return Kind(next_++);
+        if (last_ < greatest_number)
+            return spare();
         do
             gap_++;
         while (gap_ <= greatest_number && is_in_use(gap_));
         return Kind(gap_);
     }
-    [[nodiscard]] bool is_spent() const { return gap_ > greatest_number; }
+    [[nodiscard]] bool is_spent() const { return std::max(last_, gap_) > greatest_number; }
 
 private:
     static constexpr std::uint32_t greatest_number = 1'000'000;
@@ -34,87 +70,97 @@ private:
     }
 
     const Bench &bench_;
-    std::uint32_t next_, gap_ = 0;
+    std::uint32_t last_, gap_ = 0;
+    std::set<Kind> given_;
+};
+
+/// Free numbers of all kinds.
+struct AllNames {
+    FreeNumbers<Solid> solids;
+    FreeNumbers<Face> faces;
+    FreeNumbers<Loop> loops;
+    FreeNumbers<Edge> edges;
+    FreeNumbers<Vertex> vertices;
+
+    explicit AllNames(const Bench &bench) : solids(bench), faces(bench), loops(bench), edges(bench), vertices(bench) {}
+
+    /// Refuses a kind of which none was left.
+    void require_enough() const
+    {
+        std::uint32_t kind = GWB_SOLID;
+        for (bool is_spent : {solids.is_spent(), faces.is_spent(), loops.is_spent(), edges.is_spent(), vertices.is_spent()})
+            if (kind++; is_spent)
+                throw Failure{Problem::refused, GWB_WHY_NUMBERS_SPENT, kind};
+    }
 };
 
 /// Lists of what was made, by enum gwb_list.
 using Lists = std::array<std::vector<std::uint32_t>, GWB_MADE_SOLIDS + 1>;
 
-/// Takes a solid away in the draft that is open. For the function below.
+// ---- solids taken away
+
+/// Takes solids away in the draft that is open. For the function below.
 class TakenApart {
 public:
-    TakenApart(Bench &bench, Solid solid)
-        : bench_(bench), solid_(solid), edges_(edges_of(bench.half_edge_rows(solid))), spare_faces_(bench), spare_loops_(bench)
-    {
-    }
+    explicit TakenApart(Bench &bench) : bench_(bench), spare_faces_(bench), spare_loops_(bench) {}
 
-    void take()
+    void take(Solid solid)
     {
-        rings_out();
-        while (!edges_.empty()) {
-            faces_out();
-            leaves_out();
-            if (!edges_.empty())
-                handle_out();
-        }
-        parts_out();
-        bench_.kvfs(solid_);
+        const std::vector<gwb_half_edge_row> rows = bench_.half_edge_rows(solid);
+        for (Face face : bench_.faces(solid))
+            for (Loop ring : bench_.rings(face))
+                ring_out(ring);
+        edges_out(faces_out(rows));
+        std::optional<Face> first;
+        for (Face face : bench_.faces(solid)) // of one vertex each
+            if (first)
+                part_out(*first, face);
+            else
+                first = face;
+        bench_.kvfs(solid);
     }
 
 private:
     [[nodiscard]] bool is_there(Edge edge) const { return has(bench_.attempt().edge(edge)); }
+    [[nodiscard]] bool is_between_faces(Edge edge) const { return bench_.loop_of(plus(edge)) != bench_.loop_of(minus(edge)); }
 
-    static std::vector<Edge> edges_of(const std::vector<gwb_half_edge_row> &rows)
-    {
-        std::vector<Edge> edges;
-        for (const gwb_half_edge_row &row : rows)
-            if (row.half_edge % 2 == 0)
-                edges.push_back(HalfEdge(row.half_edge).edge());
-        return edges;
-    }
-
-    /// Each ring becomes the outer loop of a face of its own.
-    void rings_out()
-    {
-        std::vector<Loop> rings;
-        for (Face face : bench_.faces(solid_))
-            for (Loop ring : bench_.rings(face))
-                rings.push_back(ring);
-        for (Loop ring : rings)
-            ring_out(ring);
-    }
+    /// A ring becomes the outer loop of a face of its own.
     void ring_out(Loop ring)
     {
         go_on();
         bench_.mfkrh(ring, spare_faces_.take());
     }
 
-    /// Edges between two faces go, and one of the faces with each.
-    void faces_out()
+    /// Edges between two faces go, and one of the faces with each: those that are left.
+    std::vector<Edge> faces_out(const std::vector<gwb_half_edge_row> &rows)
     {
         std::vector<Edge> left;
-        for (Edge edge : edges_) {
+        for (const gwb_half_edge_row &row : rows) {
+            const HalfEdge half(row.half_edge);
+            if (half.is_second())
+                continue;
             go_on();
-            if (bench_.loop_of(plus(edge)) == bench_.loop_of(minus(edge)))
-                left.push_back(edge);
+            if (is_between_faces(half.edge()))
+                bench_.kef(half);
             else
-                bench_.kef(plus(edge));
+                left.push_back(half.edge());
         }
-        edges_ = std::move(left);
+        return left;
     }
 
-    /// Edges with a leaf at one end go, and those that have one then.
-    void leaves_out()
+    /// The others go: those with a leaf at one end, and then those that open handles, with what has a leaf after each.
+    void edges_out(const std::vector<Edge> &edges)
     {
-        for (Edge edge : edges_) {
-            leaf_out(plus(edge));
-            leaf_out(minus(edge));
-        }
-        edges_.erase(std::remove_if(edges_.begin(), edges_.end(), [&](Edge edge) { return !is_there(edge); }), edges_.end());
+        for (Edge edge : edges)
+            for (HalfEdge half : {plus(edge), minus(edge)})
+                twig_out(half);
+        for (Edge edge : edges)
+            if (is_there(edge))
+                edge_out(edge);
     }
 
     /// The edge of a half-edge goes where that ends at a leaf, and so on back.
-    void leaf_out(HalfEdge half)
+    void twig_out(HalfEdge half)
     {
         while (is_there(half.edge()) && bench_.next(half) == half.twin()) {
             go_on();
@@ -124,24 +170,22 @@ private:
         }
     }
 
-    /// An edge that has one loop on both sides goes, and what lies behind it is the loop of a spare face.
-    void handle_out()
+    /// An edge without a leaf goes: where it has one loop on both sides, what lies behind it is the loop of a spare face.
+    void edge_out(Edge edge)
     {
-        const Loop ring = spare_loops_.take();
-        bench_.kemr(plus(edges_.back()), ring);
-        edges_.pop_back();
-        ring_out(ring);
+        const std::array<HalfEdge, 2> before = {bench_.previous(plus(edge)), bench_.previous(minus(edge))};
+        if (is_between_faces(edge)) {
+            bench_.kef(plus(edge));
+        } else {
+            const Loop ring = spare_loops_.take();
+            bench_.kemr(plus(edge), ring);
+            ring_out(ring);
+        }
+        for (HalfEdge half : before)
+            twig_out(half);
     }
 
-    /// What is left is a face of one vertex for each part: all but the first go.
-    void parts_out()
-    {
-        std::vector<Face> faces;
-        for (Face face : bench_.faces(solid_))
-            faces.push_back(face);
-        for (std::size_t at = 1; at < faces.size(); at++)
-            part_out(faces.front(), faces[at]);
-    }
+    /// A part that has come to a face of one vertex goes, by way of another one.
     void part_out(Face first, Face face)
     {
         const Loop stays = bench_.face(first).outer_loop, loop = bench_.face(face).outer_loop;
@@ -152,49 +196,27 @@ private:
     }
 
     Bench &bench_;
-    Solid solid_;
-    std::vector<Edge> edges_; ///< that aren't gone
     FreeNumbers<Face> spare_faces_;
     FreeNumbers<Loop> spare_loops_;
 };
 
 /// Takes a solid away in the draft that is open. Refused: NoSolid.
-inline void take_away(Bench &bench, Solid solid)
-{
-    TakenApart(bench, solid).take();
-}
+inline void take_away(Bench &bench, Solid solid) { TakenApart(bench).take(solid); }
 
-/// Commands that are one: in a draft of their own, or as steps of the draft that is open. Unless they are kept they are taken back. For the
-/// functions below.
-class Together {
+// ---- commands that are one
+
+/// Commands that are one: in a draft of their own, or as steps of the draft that is open. Unless they are kept they are taken back.
+class Together : Bench {
 public:
-    explicit Together(Bench &bench) : bench_(bench), draft_(bench.attempt().draft())
+    explicit Together(Bench &bench) : steps_(bench.handle())
     {
-        if (!draft_ && draft_.error().problem != Problem::in_draft)
-            throw draft_.error();
-        if (!draft_)
-            mark_ = bench_.mark();
+        if (!steps_.are_begun())
+            throw Failure{steps_.kind() == GWB_MEMORY ? Problem::memory : Problem::closed};
     }
-    Together(const Together &) = delete;
-    Together &operator=(const Together &) = delete;
-    ~Together()
-    {
-        if (!is_kept_ && !draft_)
-            (void)gwb_back(bench_.handle(), mark_.steps()); // (which takes no memory)
-    }
-
-    void keep()
-    {
-        is_kept_ = true;
-        if (draft_ && !draft_->commit())
-            throw Failure{Problem::closed};
-    }
+    void keep() { steps_.keep(); }
 
 private:
-    Bench &bench_;
-    Result<Attempts::Draft> draft_;
-    Mark mark_;
-    bool is_kept_ = false;
+    Steps steps_;
 };
 
 } // namespace gwb_session

@@ -14,26 +14,20 @@ public:
     void follow(const Combined &combined)
     {
         std::map<Face, std::set<Face>> step;
-        std::set<Face> owners;
         for (std::size_t at = 0; at < combined.regions.size(); at++)
-            for (Face owner : combined.regions[at].owners) {
+            for (Face owner : combined.regions[at].owners)
                 step[owner].insert(combined.made.of_regions[at]);
-                owners.insert(owner);
-            }
-        for (auto &[face, now] : into_) {
-            std::set<Face> next;
-            for (Face part : now)
+        for (auto &[face, now] : into_)
+            for (Face part : std::exchange(now, {}))
                 if (const auto found = step.find(part); found != step.end())
-                    next.insert(found->second.begin(), found->second.end());
+                    now.insert(found->second.begin(), found->second.end());
                 else
-                    next.insert(part);
-            now = next;
-        }
+                    now.insert(part);
         for (const auto &[face, now] : step)
             if (made_.count(face) == 0)
                 into_.emplace(face, now);
         for (Face face : combined.made.of_regions)
-            if (owners.count(face) == 0)
+            if (step.count(face) == 0)
                 made_.insert(face);
     }
 
@@ -55,11 +49,11 @@ private:
     std::set<Face> made_;                 ///< that none of them had
 };
 
-/// A measure of a region's area, by which regions of one plane that look one way add up.
-template <class Flat> Wide size_of(const std::vector<Flat> &regions)
+/// A measure of areas, by which regions of one plane that look one way add up.
+inline Wide size_of(const std::vector<Sheet> &regions)
 {
     Wide size = 0;
-    for (const Flat &region : regions)
+    for (const Sheet &region : regions)
         for (Wide part : area_of(region.cycles))
             size += magnitude(part);
     return size;
@@ -71,7 +65,7 @@ inline Combined add(Bench &bench, Solid solid, Solid gone)
     const Model other = Model::whole(bench, gone);
     std::vector<Sheet> added = sheets_of(other);
     for (std::size_t at = 0; at < added.size(); at++)
-        added[at].mark = at;
+        added[at].marks = {at};
     const Failure overlap = impossible(Misfit::overlap, solid.number());
     const auto combine = [&](const Part &part, AllNames &names) {
         const std::vector<Sheet> sheets = sheets_of(part.model);
@@ -88,15 +82,13 @@ inline Combined add(Bench &bench, Solid solid, Solid gone)
 /// Adds the first of some solids that touches another one to it, and takes it out. Not possible: NoContact: none does.
 inline Combined add_first(Bench &bench, Solid solid, std::vector<Solid> &others)
 {
-    for (auto other = others.begin(); other != others.end(); ++other) {
-        Result<Combined> made = tried([&] { return add(bench, solid, *other); });
-        if (!made && !made.error().is(Misfit::no_contact))
-            throw made.error();
-        if (made) {
+    for (auto other = others.begin(); other != others.end(); ++other)
+        if (Result<Combined> made = tried([&] { return add(bench, solid, *other); })) {
             others.erase(other);
             return std::move(*made);
+        } else if (!made.error().is(Misfit::no_contact)) {
+            throw made.error();
         }
-    }
     throw impossible(Misfit::no_contact, others.front().number());
 }
 
@@ -108,9 +100,8 @@ inline Became unite(Bench &bench, const std::vector<Solid> &solids)
             throw refused(GWB_WHY_NO_SOLID, solid.number());
     std::vector<Solid> left(solids.begin() + 1, solids.end());
     Became became;
-    while (!left.empty()) {
+    while (!left.empty())
         became.follow(add_first(bench, solids[0], left));
-    }
     return became;
 }
 
