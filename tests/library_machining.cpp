@@ -578,6 +578,12 @@ static void try_cuts()
     check(unite(attempt, {step}).error().problem == Problem::no_call && !unite(attempt, {step, step}) && bench.depth() == 7, "no two solids");
     unite(bench, {step, within});
     check(narrow(bench.six_volumes(step)) == 6 * 260 && bench.count(step).rings == 1, "a block on it");
+    Workbench beside;
+    const Solid low = beside.block({0, 0, 0}, {4, 4, 4});
+    const Merged into = unite(beside, {low, beside.block({4, 0, 0}, {4, 4, 4}), beside.block({0, 0, 4}, {8, 4, 4})});
+    check(into.size() == 12 && beside.count(low).faces == 6, "what is left of the faces of three blocks");
+    for (const auto &[face, part] : into)
+        check(static_cast<bool>(beside.attempt().face(part)), "two tops that became one, of which nothing is left, went into nothing");
 }
 
 static void try_refusals()

@@ -3,6 +3,7 @@
 #ifndef GWB_FEATURES_ASSEMBLY_HPP
 #define GWB_FEATURES_ASSEMBLY_HPP
 #include "sheets.hpp"
+#include <deque>
 
 namespace gwb_session::sheets {
 
@@ -139,9 +140,11 @@ public:
             for (HalfEdge half : halves)
                 rows.emplace(half, Row{model.start(half), loop, model.at(half)});
         put_rest(bench);
-        for (const auto &[half, row] : rows)
-            if (vertices_at_[row.at].insert(row.start).second && is_fixed(bench, half))
-                fixed_.insert(row.at);
+        for (const auto &[vertex, at] : model.vertices) {
+            vertices_at.emplace(at, vertex);
+            if (is_fixed(bench, vertex))
+                fixed_.insert(at);
+        }
     }
 
     /// Whether the side is all of a half-edge.
@@ -149,17 +152,13 @@ public:
     {
         return side.is_old() && rows.at(side.half).at == side.start && rows.at(side.half.twin()).at == side.end;
     }
-    [[nodiscard]] std::set<Vertex> vertices_at(const Vector &point) const
-    {
-        const auto found = vertices_at_.find(point);
-        return found != vertices_at_.end() ? found->second : std::set<Vertex>();
-    }
     /// Whether a vertex at the point stays: it has two edges, so that somebody wanted it there, or one that is of the rest alone.
     [[nodiscard]] bool is_fixed(const Vector &point) const { return fixed_.count(point) != 0; }
 
     Model model;
     std::unordered_map<HalfEdge, Row> rows;
     std::vector<Cycle> rest; ///< the half-edges of the rest at the open edges, in cycles
+    std::multimap<Vector, Vertex> vertices_at;
 
 private:
     [[nodiscard]] bool is_held(HalfEdge half) const { return rows.count(half) != 0; }
@@ -186,18 +185,17 @@ private:
                 rows.emplace(side.half, Row{model.start(side.half), Loop(), side.start});
     }
 
-    [[nodiscard]] bool is_fixed(const Bench &bench, HalfEdge half) const
+    [[nodiscard]] bool is_fixed(const Bench &bench, Vertex vertex) const
     {
         std::size_t edges = 0;
         bool is_of_rest = false;
-        for (HalfEdge other : bench.around(half)) {
+        for (HalfEdge half : bench.around(vertex)) {
             edges++;
-            is_of_rest = is_of_rest || (!is_held(other) && !is_held(other.twin()));
+            is_of_rest = is_of_rest || (!is_held(half) && !is_held(half.twin()));
         }
         return edges == 2 || is_of_rest;
     }
 
-    std::map<Vector, std::set<Vertex>> vertices_at_;
     std::set<Vector> fixed_;
 };
 
@@ -209,20 +207,20 @@ struct Made {
     std::vector<Face> of_regions;
 };
 
-/// A closed surface of regions put together: sides by places, what follows each in its loop, and the mate of each. What was there before keeps
-/// its numbers, as far as it still is.
+/// A closed surface of regions put together: sides, what follows each in its loop, and the mate of each. What was there before keeps its numbers,
+/// as far as it still is.
 class Assembly {
 public:
     Assembly(const Held &held, const std::vector<Sheet> &regions, AllNames &names) : held_(held), regions_(regions), names_(names)
     {
-        for (std::size_t region = 0; region < regions.size(); region++) {
+        for (const Sheet &region : regions) {
             go_on();
             starts_.emplace_back();
-            for (const Cycle &cycle : regions[region].cycles)
-                starts_.back().push_back(put(cycle, region));
+            for (const Cycle &cycle : region.cycles)
+                starts_.back().push_back(put(cycle, &region));
         }
         for (const Cycle &cycle : held.rest)
-            put(cycle, regions.size());
+            put(cycle, nullptr);
     }
 
     /// The model of a solid, without the rest; none where the surface isn't closed, or faces lie back to back at an edge.
@@ -237,222 +235,222 @@ public:
         name_vertices(made.model);
         name_edges(made.model);
         for (std::size_t region = 0; region < regions_.size(); region++)
-            name_face(made, region);
+            name_face(made, regions_[region], starts_[region]);
         return made;
     }
 
 private:
-    static constexpr std::size_t none = std::numeric_limits<std::size_t>::max();
     struct Placed {
         Side side;
-        std::size_t after, mate, region, into;
-        std::vector<Side> parts; ///< where it is longer than one side
+        const Sheet *region; ///< none of the rest
+        Placed *after = nullptr, *before = nullptr, *mate = nullptr;
+        Placed *into = nullptr;       ///< of which it became part
+        std::vector<Side> parts = {}; ///< where it is longer than one side
+        Vertex start = {};
+        HalfEdge half = {};
 
         [[nodiscard]] std::vector<Side> all_parts() const { return parts.empty() ? std::vector<Side>{side} : parts; }
+        [[nodiscard]] bool runs_back(const Vector &way) const { return dot(way, side.way()) < 0; }
     };
+    using Row = std::vector<Placed *>;
 
-    /// The sides of a cycle get places: the first one's.
-    std::size_t put(const Cycle &cycle, std::size_t region)
+    /// The first of the sides of a cycle, which follow each other.
+    Placed *put(const Cycle &cycle, const Sheet *region)
     {
-        const std::size_t first = sides_.size();
-        for (std::size_t at = 0; at < cycle.size(); at++)
-            sides_.push_back({cycle[at], first + (at + 1) % cycle.size(), none, region, none, {}});
-        return first;
+        Placed *first = nullptr, *last = nullptr;
+        for (const Side &side : cycle) {
+            Placed *placed = &sides_.emplace_back(Placed{side, region});
+            (first == nullptr ? first : last->after) = placed;
+            last = placed;
+        }
+        return last->after = first;
     }
 
     /// Sides that are both half-edges of an old edge are mates.
     void pair_whole()
     {
-        std::unordered_map<HalfEdge, std::size_t> whole;
-        for (std::size_t at = 0; at < sides_.size(); at++)
-            if (held_.is_whole(sides_[at].side))
-                whole[sides_[at].side.half] = at;
-        for (const auto &[half, at] : whole)
+        std::unordered_map<HalfEdge, Placed *> whole;
+        for (Placed &placed : sides_)
+            if (held_.is_whole(placed.side))
+                whole[placed.side.half] = &placed;
+        for (const auto &[half, placed] : whole)
             if (const auto mate = whole.find(half.twin()); mate != whole.end())
-                sides_[at].mate = mate->second;
+                placed->mate = mate->second;
     }
 
     /// The other sides are cut where the sides on one line end, and pair up.
     bool pair_along_lines()
     {
-        std::map<std::pair<Vector, Vector>, std::vector<std::size_t>> lines;
-        for (std::size_t at = 0; at < sides_.size(); at++)
-            if (sides_[at].mate == none) {
-                if (sides_[at].region == regions_.size()) // the rest's are whole, and so are their mates
+        std::map<std::pair<Vector, Vector>, Row> lines;
+        for (Placed &placed : sides_)
+            if (placed.mate == nullptr) {
+                if (placed.region == nullptr) // the rest's are whole, and so are their mates
                     return false;
-                const Vector along = reduced(sides_[at].side.way()), way = std::max(along, negative(along));
-                lines[{way, cross(sides_[at].side.start, way)}].push_back(at);
+                const Vector along = reduced(placed.side.way()), way = std::max(along, negative(along));
+                lines[{way, cross(placed.side.start, way)}].push_back(&placed);
             }
         return all(lines, [&](const auto &line) { return pair_on_line(line.first.first, line.second); });
     }
 
-    bool pair_on_line(const Vector &way, const std::vector<std::size_t> &held)
+    bool pair_on_line(const Vector &way, const Row &line)
     {
         go_on();
         std::map<Wide, Vector> stops;
-        for (std::size_t at : held)
-            for (const Vector &end : {sides_[at].side.start, sides_[at].side.end})
+        for (const Placed *placed : line)
+            for (const Vector &end : {placed->side.start, placed->side.end})
                 stops.emplace(dot(way, end), end);
-        std::map<Wide, std::vector<std::size_t>> parts; // by where they begin along the line
-        for (std::size_t at : held)
-            cut(at, way, stops, parts);
+        std::map<Wide, Row> parts; // by where they begin along the line
+        for (Placed *placed : line)
+            cut(placed, way, stops, parts);
         return all(parts, [&](const auto &part) { return pair(part.second, way); });
     }
 
     /// A side becomes parts that end where sides of its line do.
-    void cut(std::size_t at, const Vector &way, const std::map<Wide, Vector> &stops, std::map<Wide, std::vector<std::size_t>> &parts)
+    void cut(Placed *placed, const Vector &way, const std::map<Wide, Vector> &stops, std::map<Wide, Row> &parts)
     {
-        const Side side = sides_[at].side;
-        const Wide first = dot(way, side.start), last = dot(way, side.end);
+        const Side side = placed->side;
+        const auto [low, high] = std::minmax({dot(way, side.start), dot(way, side.end)});
         Path points;
-        for (auto stop = stops.find(std::min(first, last)); stop != stops.end() && stop->first <= std::max(first, last); ++stop)
+        for (auto stop = stops.find(low); stop != stops.end() && stop->first <= high; ++stop)
             points.push_back(stop->second);
-        if (first > last)
+        if (placed->runs_back(way))
             std::reverse(points.begin(), points.end());
-        std::size_t place = at;
-        for (std::size_t part = 1; part < points.size(); part++) {
-            if (part > 1) {
-                sides_.push_back({side, sides_[place].after, none, sides_[at].region, none, {}});
-                sides_[place].after = sides_.size() - 1;
-                place = sides_.size() - 1;
+        for (std::size_t at = 1; at < points.size(); at++) {
+            if (at > 1) {
+                Placed &next = sides_.emplace_back(Placed{side, placed->region, placed->after});
+                placed = placed->after = &next;
             }
-            sides_[place].side = {points[part - 1], points[part], side.half};
-            parts[std::min(dot(way, points[part - 1]), dot(way, points[part]))].push_back(place);
+            placed->side = {points[at - 1], points[at], side.half};
+            parts[std::min(dot(way, points[at - 1]), dot(way, points[at]))].push_back(placed);
         }
     }
 
-    [[nodiscard]] bool runs_back(std::size_t at, const Vector &way) const { return dot(way, sides_[at].side.way()) < 0; }
-
     /// Mates among sides between the same two points: each that runs back with the next one round the line that runs along, which has the same
     /// room of the solid between.
-    bool pair(std::vector<std::size_t> places, const Vector &way)
+    bool pair(Row sides, const Vector &way)
     {
-        const auto back = std::count_if(places.begin(), places.end(), [&](std::size_t at) { return runs_back(at, way); });
-        if (2 * static_cast<std::size_t>(back) != places.size())
+        const auto back = std::count_if(sides.begin(), sides.end(), [&](const Placed *placed) { return placed->runs_back(way); });
+        if (2 * static_cast<std::size_t>(back) != sides.size())
             return false;
-        if (places.size() > 2)
-            sort_round(places, way);
-        for (std::size_t at = 0; at < places.size(); at++) {
-            const std::size_t place = places[at], following = places[(at + 1) % places.size()];
-            if (runs_back(place, way) == runs_back(following, way))
+        if (sides.size() > 2)
+            sort_round(sides, way);
+        for (std::size_t at = 0; at < sides.size(); at++) {
+            Placed *placed = sides[at], *following = sides[(at + 1) % sides.size()];
+            if (placed->runs_back(way) == following->runs_back(way))
                 return false;
-            if (runs_back(place, way)) {
-                sides_[place].mate = following;
-                sides_[following].mate = place;
-            }
+            if (placed->runs_back(way))
+                mate(placed, following);
         }
         return true;
+    }
+    static void mate(Placed *one, Placed *other)
+    {
+        one->mate = other;
+        other->mate = one;
     }
 
     /// Sorts sides of one line by the turn of their faces about it, counterclockwise as seen from where the way points: so do their normals, those of
     /// sides that run back turned round. They lie across the way, so that they are looked at along an axis.
-    void sort_round(std::vector<std::size_t> &places, const Vector &way) const
+    static void sort_round(Row &sides, const Vector &way)
     {
         const Axes axes = flat_axes(way);
-        const auto normal = [&](std::size_t at) {
-            const Vector &across = regions_[sides_[at].region].across;
-            return Side{{}, runs_back(at, way) ? negative(across) : across}.seen(axes);
+        const auto normal = [&](const Placed *placed) {
+            const Vector &across = placed->region->across;
+            return Side{{}, placed->runs_back(way) ? negative(across) : across}.seen(axes);
         };
         const Segment from({}, {1, 0});
-        std::sort(places.begin(), places.end(), [&](std::size_t one, std::size_t other) { return comes_before(from, normal(other), normal(one)); });
-    }
-
-    /// The sides that leave one vertex, from this one on.
-    [[nodiscard]] std::vector<std::size_t> around(std::size_t at) const
-    {
-        std::vector<std::size_t> found = {at};
-        for (std::size_t side = sides_[sides_[at].mate].after; side != at; side = sides_[sides_[side].mate].after)
-            found.push_back(side);
-        return found;
+        std::sort(sides.begin(), sides.end(), [&](const Placed *one, const Placed *other) { return comes_before(from, normal(other), normal(one)); });
     }
 
     /// A vertex that only divides an edge goes, unless it was there for no other reason before.
     void straighten()
     {
-        std::vector<std::size_t> before(sides_.size());
-        for (std::size_t at = 0; at < sides_.size(); at++)
-            before[sides_[at].after] = at;
-        for (std::size_t at = 0; at < sides_.size(); at++)
-            if (sides_[at].into == none && divides(at)) {
-                const std::size_t onward = sides_[sides_[at].mate].after, first = before[at], other = before[onward];
-                lengthen(first, at, before);
-                lengthen(other, onward, before);
-                sides_[first].mate = other;
-                sides_[other].mate = first;
+        for (Placed &placed : sides_)
+            placed.after->before = &placed;
+        for (Placed &placed : sides_)
+            if (placed.into == nullptr && divides(placed)) {
+                Placed &onward = *placed.mate->after, &first = *placed.before, &other = *onward.before;
+                lengthen(first, placed);
+                lengthen(other, onward);
+                mate(&first, &other);
             }
     }
 
-    [[nodiscard]] bool divides(std::size_t at) const
+    [[nodiscard]] bool divides(const Placed &placed) const
     {
-        const std::size_t onward = sides_[sides_[at].mate].after;
-        if (onward == at || sides_[sides_[onward].mate].after != at || held_.is_fixed(sides_[at].side.start))
+        const Placed &onward = *placed.mate->after;
+        if (&onward == &placed || onward.mate->after != &placed || held_.is_fixed(placed.side.start))
             return false;
-        const Vector one = sides_[at].side.way(), other = sides_[onward].side.way();
+        const Vector one = placed.side.way(), other = onward.side.way();
         return are_parallel(one, other) && dot(one, other) < 0;
     }
 
     /// The second side becomes part of the first one.
-    void lengthen(std::size_t first, std::size_t second, std::vector<std::size_t> &before)
+    static void lengthen(Placed &kept, Placed &gone)
     {
-        Placed &kept = sides_[first], &gone = sides_[second];
         if (kept.parts.empty())
             kept.parts = {kept.side};
         append(kept.parts, gone.all_parts());
         kept.side = {kept.side.start, gone.side.end, kept.side.is_old() ? kept.side.half : gone.side.half};
         kept.after = gone.after;
-        before[gone.after] = first;
-        gone.into = first;
+        kept.after->before = &kept;
+        gone.into = &kept;
     }
 
     void name_vertices(Model &made)
     {
-        start_.assign(sides_.size(), Vertex());
-        for (std::size_t at = 0; at < sides_.size(); at++)
-            if (sides_[at].into == none && start_[at] == Vertex()) {
-                const std::vector<std::size_t> fan = around(at);
-                const std::set<Vertex> old = held_.vertices_at(sides_[at].side.start);
-                std::set<Vertex> tails;
-                for (std::size_t side : fan)
-                    if (sides_[side].side.is_old())
-                        tails.insert(held_.rows.at(sides_[side].side.half).start);
-                std::vector<Vertex> wanted;
-                std::set_intersection(tails.begin(), tails.end(), old.begin(), old.end(), std::back_inserter(wanted));
-                append(wanted, old);
-                const Vertex vertex = names_.vertices.one(wanted);
-                made.vertices[vertex] = sides_[at].side.start;
-                for (std::size_t side : fan)
-                    start_[side] = vertex;
+        for (Placed &first : sides_)
+            if (first.into == nullptr && first.start == Vertex()) {
+                Row fan = {&first}; // the sides that leave the vertex
+                for (Placed *side = first.mate->after; side != &first; side = side->mate->after)
+                    fan.push_back(side);
+                const Vertex vertex = names_.vertices.one(old_vertices(fan));
+                made.vertices[vertex] = first.side.start;
+                for (Placed *side : fan)
+                    side->start = vertex;
             }
     }
 
-    /// A new edge starts at the vertex of the lesser number. Sides that are all of an old one come first.
-    void name_edges(Model &made)
+    /// The old vertices at the point where sides start: those first at which half-edges of theirs did.
+    [[nodiscard]] std::vector<Vertex> old_vertices(const Row &fan) const
     {
-        half_.assign(sides_.size(), HalfEdge());
-        for (bool is_whole : {true, false})
-            for (std::size_t at = 0; at < sides_.size(); at++)
-                if (sides_[at].into == none && half_[at] == HalfEdge() && (!is_whole || held_.is_whole(sides_[at].side)))
-                    name_edge(made, at);
+        std::set<Vertex> tails;
+        for (const Placed *placed : fan)
+            if (placed->side.is_old())
+                tails.insert(held_.rows.at(placed->side.half).start);
+        std::vector<Vertex> found, others;
+        for (auto [old, end] = held_.vertices_at.equal_range(fan[0]->side.start); old != end; ++old)
+            (tails.count(old->second) != 0 ? found : others).push_back(old->second);
+        append(found, others);
+        return found;
     }
 
-    void name_edge(Model &made, std::size_t at)
+    /// Sides that are all of an old one come first.
+    void name_edges(Model &made)
     {
-        const std::size_t mate = sides_[at].mate;
-        const std::vector<HalfEdge> halves = old_halves(at);
+        for (bool is_whole : {true, false})
+            for (Placed &placed : sides_)
+                if (placed.into == nullptr && placed.half == HalfEdge() && (!is_whole || held_.is_whole(placed.side)))
+                    name_edge(made, placed, *placed.mate);
+    }
+
+    /// A new edge starts at the vertex of the lesser number.
+    void name_edge(Model &made, Placed &own, Placed &mate)
+    {
+        const std::vector<HalfEdge> halves = old_halves(own, mate);
         const Edge edge = names_.edges.one(mapped(halves, [](HalfEdge half) { return half.edge(); }));
         const auto old = std::find_if(halves.begin(), halves.end(), [&](HalfEdge half) { return half.edge() == edge; });
-        const bool is_second = old != halves.end() ? old->is_second() : start_[mate] < start_[at];
-        half_[at] = is_second ? minus(edge) : plus(edge);
-        half_[mate] = half_[at].twin();
-        made.edges[edge] = is_second ? std::pair(start_[mate], start_[at]) : std::pair(start_[at], start_[mate]);
+        const bool is_second = old != halves.end() ? old->is_second() : mate.start < own.start;
+        own.half = is_second ? minus(edge) : plus(edge);
+        mate.half = own.half.twin();
+        made.edges[edge] = is_second ? std::pair(mate.start, own.start) : std::pair(own.start, mate.start);
     }
 
     /// The old half-edges that the edge of a side is made of, as it runs: those that it is all of first.
-    [[nodiscard]] std::vector<HalfEdge> old_halves(std::size_t at) const
+    [[nodiscard]] std::vector<HalfEdge> old_halves(const Placed &own, const Placed &mate) const
     {
-        std::vector<Side> parts = sides_[at].all_parts();
-        for (const Side &side : sides_[sides_[at].mate].all_parts())
-            parts.push_back(side.turned());
+        std::vector<Side> parts = own.all_parts();
+        append(parts, mapped(mate.all_parts(), [](const Side &side) { return side.turned(); }));
         std::vector<HalfEdge> halves, others;
         for (const Side &side : parts)
             if (side.is_old())
@@ -462,36 +460,34 @@ private:
         return halves;
     }
 
-    void name_face(Made &made, std::size_t region)
+    void name_face(Made &made, const Sheet &region, const Row &starts)
     {
         std::vector<Loop> row;
-        for (std::size_t start : starts_[region]) {
-            while (sides_[start].into != none) // it may have gone into the one before it
-                start = sides_[start].into;
+        for (const Placed *start : starts) {
+            while (start->into != nullptr) // it may have gone into the one before it
+                start = start->into;
             std::vector<Loop> wanted;
             std::vector<HalfEdge> halves;
-            std::size_t at = start;
+            const Placed *at = start;
             do {
-                if (sides_[at].side.is_old())
-                    wanted.push_back(held_.rows.at(sides_[at].side.half).loop);
-                halves.push_back(half_[at]);
-                at = sides_[at].after;
+                if (at->side.is_old())
+                    wanted.push_back(held_.rows.at(at->side.half).loop);
+                halves.push_back(at->half);
+                at = at->after;
             } while (at != start);
             row.push_back(names_.loops.one(wanted));
             made.model.loops[row.back()] = from_least(halves);
         }
         std::sort(row.begin() + 1, row.end());
-        made.of_regions.push_back(names_.faces.one(regions_[region].owners));
+        made.of_regions.push_back(names_.faces.one(region.owners));
         made.model.faces[made.of_regions.back()] = row;
     }
 
     const Held &held_;
-    const std::vector<Region> &regions_;
+    const std::vector<Sheet> &regions_;
     AllNames &names_;
-    std::vector<Placed> sides_;
-    std::vector<std::vector<std::size_t>> starts_;
-    std::vector<Vertex> start_;
-    std::vector<HalfEdge> half_;
+    std::deque<Placed> sides_; // which stay where they are
+    std::vector<Row> starts_;
 };
 
 } // namespace gwb_session::sheets

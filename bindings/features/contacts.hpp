@@ -7,31 +7,6 @@ namespace gwb_session::contacts {
 
 using namespace sheets;
 
-/// A point whose coordinates are divided by the scale, which is above zero.
-struct ScaledPoint {
-    Vector at;
-    Wide scale = 1;
-
-    [[nodiscard]] Spot spot(Axes axes) const { return {at[axes[0]], at[axes[1]], scale}; }
-    [[nodiscard]] bool lies_in(const Box &box) const { return Box{times(box.low, scale), times(box.high, scale)}.meets(Box{at, at}); }
-    /// Between this one and another.
-    [[nodiscard]] ScaledPoint between(const ScaledPoint &other) const { return {add(at, other.at), scale + other.scale}; }
-    friend bool operator<(const ScaledPoint &a, const ScaledPoint &b)
-    {
-        int order = 0;
-        for (std::size_t axis = 0; axis < 3 && order == 0; axis++)
-            order = compare_products(a.at[axis], b.scale, b.at[axis], a.scale);
-        return order < 0;
-    }
-};
-
-/// Where a side crosses a plane, or a line, that lies so far from its ends, on one side of it and on the other.
-inline ScaledPoint divided(const Side &side, Wide before, Wide after)
-{
-    const Wide scale = magnitude(before - after);
-    return {add(times(side.start, scale), times(side.way(), magnitude(before))), scale};
-}
-
 /// A flat region, ready to be looked at.
 class Shape {
 public:
@@ -86,11 +61,30 @@ public:
         return std::nullopt;
     }
 
+    /// Where a plane, beside which points lie so far as a function says, and on both of whose sides it lies, runs within it.
+    using Span = std::pair<ScaledPoint, ScaledPoint>;
+    template <class Height> [[nodiscard]] std::vector<Span> cut_by(Height height) const
+    {
+        std::vector<ScaledPoint> stops;
+        bool is_below = false, is_above = false;
+        for (const Side &side : sides_) {
+            const Wide before = height(side.start), after = height(side.end);
+            is_below = is_below || before < 0;
+            is_above = is_above || before > 0;
+            if (before == 0 || sign(before) * sign(after) < 0)
+                stops.push_back(before == 0 ? ScaledPoint{side.start} : divided(side, before, after));
+        }
+        return is_below && is_above ? parts_within(std::move(stops)) : std::vector<Span>();
+    }
+
     /// Whether both run along one line within, some of the way.
     [[nodiscard]] bool passes_through(const Shape &other) const
     {
-        const std::vector<Span> own = are_parallel(across_, other.across_) ? std::vector<Span>() : cut_by(other);
-        const std::vector<Span> beyond = own.empty() ? std::vector<Span>() : other.cut_by(*this);
+        const auto cut_by = [](const Shape &shape, const Shape &plane) {
+            return shape.cut_by([&](const Vector &at) { return plane.height({at}); });
+        };
+        const std::vector<Span> own = are_parallel(across_, other.across_) ? std::vector<Span>() : cut_by(*this, other);
+        const std::vector<Span> beyond = own.empty() ? std::vector<Span>() : cut_by(other, *this);
         return any(own, [&](const Span &one) {
             return any(beyond, [&](const Span &other) { return one.first < other.second && other.first < one.second; });
         });
@@ -108,8 +102,6 @@ public:
     }
 
 private:
-    using Span = std::pair<ScaledPoint, ScaledPoint>;
-
     /// The parts between points of one line, each from one of them to the next, that lie within.
     [[nodiscard]] std::vector<Span> parts_within(std::vector<ScaledPoint> stops) const
     {
@@ -119,21 +111,6 @@ private:
             if (stops[at - 1] < stops[at] && locate(stops[at - 1].between(stops[at])) == Place::inside)
                 found.emplace_back(stops[at - 1], stops[at]);
         return found;
-    }
-
-    /// Where the plane of another one, on both sides of which it lies, runs within it: along the line in which both planes meet.
-    [[nodiscard]] std::vector<Span> cut_by(const Shape &plane) const
-    {
-        std::vector<ScaledPoint> stops;
-        bool is_below = false, is_above = false;
-        for (const Side &side : sides_) {
-            const Wide before = plane.height({side.start}), after = plane.height({side.end});
-            is_below = is_below || before < 0;
-            is_above = is_above || before > 0;
-            if (before == 0 || sign(before) * sign(after) < 0)
-                stops.push_back(before == 0 ? ScaledPoint{side.start} : divided(side, before, after));
-        }
-        return is_below && is_above ? parts_within(std::move(stops)) : std::vector<Span>();
     }
 
     Vector across_;

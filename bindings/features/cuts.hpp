@@ -11,21 +11,15 @@ using exact::Plane;
 
 // ---- what lies below
 
-/// Where a side goes through the plane: at a whole point, which split has seen to.
-inline Vector crossing(const Side &side, const Plane &plane)
-{
-    const Wide start = plane.height(side.start);
-    return *on_way(side.start, side.way(), start, start - plane.height(side.end));
-}
-
-/// The parts of a face's sides below the plane; those in it where the face beside them lies below.
+/// The parts of a face's sides below the plane; those in it where the face beside them lies below. (That sides go through it at whole points split has
+/// seen to.)
 inline std::vector<Side> sides_below(const Sheet &sheet, const Plane &plane)
 {
     std::vector<Side> found;
     for (Side side : sheet.sides()) {
-        const int start = sign(plane.height(side.start)), end = sign(plane.height(side.end));
-        if (start * end < 0)
-            (start < 0 ? side.end : side.start) = crossing(side, plane);
+        const Wide start = plane.height(side.start), end = plane.height(side.end);
+        if (sign(start) * sign(end) < 0)
+            (start < 0 ? side.end : side.start) = *divided(side, start, end).whole();
         const bool is_in_plane = start == 0 && end == 0;
         if (is_in_plane ? dot(plane.across, cross(sheet.across, side.way())) < 0 : std::min(start, end) < 0)
             found.push_back(side);
@@ -37,20 +31,10 @@ inline std::vector<Side> sides_below(const Sheet &sheet, const Plane &plane)
 inline std::vector<Side> cuts_of(const Sheet &sheet, const Plane &plane)
 {
     const Vector along = cross(sheet.across, plane.across);
-    std::map<Wide, Vector> points;
-    for (const Side &side : sheet.sides()) {
-        const int start = sign(plane.height(side.start)), end = sign(plane.height(side.end));
-        if (start == 0 || start * end < 0) {
-            const Vector at = start == 0 ? side.start : crossing(side, plane);
-            points.emplace(dot(along, at), at);
-        }
-    }
-    const Shape shape(sheet);
-    std::vector<Side> found;
-    for (auto at = points.begin(); at != points.end() && std::next(at) != points.end(); ++at)
-        if (shape.locate({add(at->second, std::next(at)->second), 2}) == Place::inside)
-            found.push_back({at->second, std::next(at)->second});
-    return found;
+    return mapped(Shape(sheet).cut_by([&](const Vector &at) { return plane.height(at); }), [&](const auto &span) {
+        const Side side{*span.first.whole(), *span.second.whole()};
+        return dot(along, side.way()) > 0 ? side : side.turned();
+    });
 }
 
 /// Puts in what is left of a face below the plane. A face in the plane is left where it looks upwards.

@@ -51,6 +51,33 @@ inline Outline outline(const std::vector<Side> &sides, Axes axes)
     return mapped(sides, [&](const Side &side) { return side.seen(axes); });
 }
 
+/// A point whose coordinates are divided by the scale, which is above zero.
+struct ScaledPoint {
+    Vector at;
+    Wide scale = 1;
+
+    [[nodiscard]] Spot spot(Axes axes) const { return {at[axes[0]], at[axes[1]], scale}; }
+    [[nodiscard]] bool lies_in(const Box &box) const { return Box{times(box.low, scale), times(box.high, scale)}.meets(Box{at, at}); }
+    /// Between this one and another.
+    [[nodiscard]] ScaledPoint between(const ScaledPoint &other) const { return {add(at, other.at), scale + other.scale}; }
+    /// The point, where it is whole.
+    [[nodiscard]] std::optional<Vector> whole() const { return on_way({}, at, 1, scale); }
+    friend bool operator<(const ScaledPoint &a, const ScaledPoint &b)
+    {
+        int order = 0;
+        for (std::size_t axis = 0; axis < 3 && order == 0; axis++)
+            order = compare_products(a.at[axis], b.scale, b.at[axis], a.scale);
+        return order < 0;
+    }
+};
+
+/// Where a side crosses a plane, or a line, that lies so far from its ends, on one side of it and on the other.
+inline ScaledPoint divided(const Side &side, Wide before, Wide after)
+{
+    const Wide scale = magnitude(before - after);
+    return {add(times(side.start, scale), times(side.way(), magnitude(before))), scale};
+}
+
 /// A plane, whichever way it is looked at: its reduced normal, the first part of which that isn't zero is positive, and its height.
 using Level = std::pair<Vector, Wide>;
 
@@ -408,7 +435,8 @@ private:
         return found;
     }
 
-    /// The points at which a side is cut, its ends included: those where one of the others, held against added, meets it.
+    /// The points at which a side is cut, its ends included: those where one of the others, held against added, meets it. Refused where it crosses one
+    /// at a point that isn't whole.
     [[nodiscard]] Path cut(const Part &one, const std::vector<Part> &near, const BoxIndex &index) const
     {
         std::set<Vector> points = {one.side.start, one.side.end};
@@ -422,22 +450,17 @@ private:
                 points.insert(other.side.start);
             if (own.holds(across.end))
                 points.insert(other.side.end);
-            if (own.crosses(across))
-                points.insert(crossing(one.side, area_beside(across, own.start), area_beside(across, own.end)));
+            if (!own.crosses(across))
+                continue;
+            const std::optional<Vector> at_crossing = divided(one.side, area_beside(across, own.start), area_beside(across, own.end)).whole();
+            if (!at_crossing)
+                throw impossible(Misfit::off_lattice, one.side.half.edge().number());
+            points.insert(*at_crossing);
         }
         Path path(points.begin(), points.end());
         if (one.side.end < one.side.start)
             std::reverse(path.begin(), path.end());
         return path;
-    }
-
-    /// Where a side crosses a line beside which its ends lie so far, one on each side; refused where the point isn't whole.
-    static Vector crossing(const Side &side, Wide start, Wide end)
-    {
-        const std::optional<Vector> at = on_way(side.start, side.way(), start, start - end);
-        if (!at)
-            throw impossible(Misfit::off_lattice, side.half.edge().number());
-        return *at;
     }
 
     std::vector<Sheet> sheets_;

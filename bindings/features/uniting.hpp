@@ -8,45 +8,38 @@ namespace gwb_session::uniting {
 
 using namespace combining;
 
-/// Faces, and those that they went into.
+/// Faces of solids, and those that they went into.
 class Became {
 public:
-    void follow(const Combined &combined)
+    void follow(const Bench &bench, const Combined &combined)
     {
-        std::map<Face, std::set<Face>> step;
+        std::map<Face, std::set<Face>> now;
         for (std::size_t at = 0; at < combined.regions.size(); at++)
             for (Face owner : combined.regions[at].owners)
-                step[owner].insert(combined.made.of_regions[at]);
-        for (auto &[face, now] : into_)
-            for (Face part : std::exchange(now, {}))
-                if (const auto found = step.find(part); found != step.end())
-                    now.insert(found->second.begin(), found->second.end());
+                if (const auto known = sources_.find(owner); known != sources_.end())
+                    now[combined.made.of_regions[at]].insert(known->second.begin(), known->second.end());
                 else
-                    now.insert(part);
-        for (const auto &[face, now] : step)
-            if (made_.count(face) == 0)
-                into_.emplace(face, now);
-        for (Face face : combined.made.of_regions)
-            if (step.count(face) == 0)
-                made_.insert(face);
+                    now[combined.made.of_regions[at]].insert(owner);
+        for (const auto &[face, sources] : std::exchange(sources_, now))
+            if (has(bench.attempt().face(face))) // what isn't there went into others, or nothing is left of it
+                sources_.emplace(face, sources);
     }
 
     /// Each of those that became part of another one, or several, with what it went into.
     void tell(std::vector<std::uint32_t> &list) const
     {
-        std::map<Face, std::size_t> sources;
-        for (const auto &[face, now] : into_)
-            for (Face part : now)
-                sources[part]++;
-        for (const auto &[face, now] : into_)
-            for (Face part : now)
-                if (part != face || now.size() > 1 || sources[part] > 1)
+        std::map<Face, std::set<Face>> into;
+        for (const auto &[part, sources] : sources_)
+            for (Face face : sources)
+                into[face].insert(part);
+        for (const auto &[face, parts] : into)
+            for (Face part : parts)
+                if (part != face || parts.size() > 1 || sources_.at(part).size() > 1)
                     list.insert(list.end(), {face.number(), part.number()});
     }
 
 private:
-    std::map<Face, std::set<Face>> into_; ///< of all solids as they were
-    std::set<Face> made_;                 ///< that none of them had
+    std::map<Face, std::set<Face>> sources_; ///< what there is now, and the faces of all solids as they were that went into it
 };
 
 /// A measure of areas, by which regions of one plane that look one way add up.
@@ -101,7 +94,7 @@ inline Became unite(Bench &bench, const std::vector<Solid> &solids)
     std::vector<Solid> left(solids.begin() + 1, solids.end());
     Became became;
     while (!left.empty())
-        became.follow(add_first(bench, solids[0], left));
+        became.follow(bench, add_first(bench, solids[0], left));
     return became;
 }
 
