@@ -216,10 +216,9 @@ template <class Combine, class Before> Combined make_near(Bench &bench, Solid so
         const auto operators = operators_for(bench, surface, part, found, names);
         if (!operators && !part.fast.empty())
             continue;
-        const Model after = operators ? Model() : Model::whole(bench, solid).with(part.model, found.made.model);
         before();
         if (!operators) {
-            make_anew(bench, after);
+            make_anew(bench, Model::whole(bench, solid).with(part.model, found.made.model));
             return found;
         }
         give(bench, *operators);

@@ -13,8 +13,9 @@ using namespace sheets;
 inline bool is_motion(const gwb_motion &motion)
 {
     std::array<bool, 4> is_taken = {true};
-    return std::none_of(std::begin(motion.axes), std::end(motion.axes),
-                        [&](std::int32_t axis) { return axis < -3 || axis > 3 || std::exchange(is_taken[static_cast<std::size_t>(axis < 0 ? -axis : axis)], true); });
+    return std::none_of(std::begin(motion.axes), std::end(motion.axes), [&](std::int32_t axis) {
+        return axis < -3 || axis > 3 || std::exchange(is_taken[static_cast<std::size_t>(axis < 0 ? -axis : axis)], true);
+    });
 }
 
 /// Where a motion takes a point that lies so many times as far out.

@@ -183,12 +183,13 @@ inline Split cut_by_faces(Bench &bench, Solid solid, const Plane &plane, const P
 inline Split cut(Bench &bench, Solid solid, const Plane &plane, Solid above, bool is_wanted)
 {
     const Path corners = corners_in(bench, solid, plane);
-    const Result<Split> caps = tried([&] { return cut_at_once(bench, solid, plane, corners, above, is_wanted); });
-    if (is_coped_with(caps.error()))
-        return cut_by_faces(bench, solid, plane, corners, above, is_wanted);
-    if (!caps)
-        throw caps.error();
-    return *caps;
+    try {
+        return cut_at_once(bench, solid, plane, corners, above, is_wanted);
+    } catch (const Failure &failure) {
+        if (!is_coped_with(failure))
+            throw;
+    }
+    return cut_by_faces(bench, solid, plane, corners, above, is_wanted);
 }
 
 } // namespace gwb_session::cuts

@@ -32,10 +32,7 @@ struct Side {
 using Cycle = std::vector<Side>;
 
 /// The points that a cycle goes through.
-inline Path points_of(const Cycle &cycle)
-{
-    return mapped(cycle, [](const Side &side) { return side.start; });
-}
+inline Path points_of(const Cycle &cycle) { return mapped(cycle, [](const Side &side) { return side.start; }); }
 
 /// Twice the area that cycles go round, as a vector.
 inline Vector area_of(const std::vector<Cycle> &cycles)
@@ -46,10 +43,8 @@ inline Vector area_of(const std::vector<Cycle> &cycles)
     return sum;
 }
 
-inline Outline outline(const std::vector<Side> &sides, Axes axes)
-{
-    return mapped(sides, [&](const Side &side) { return side.seen(axes); });
-}
+/// Sides as they are seen in a plane.
+inline Outline outline(const std::vector<Side> &sides, Axes axes) { return mapped(sides, [&](const Side &side) { return side.seen(axes); }); }
 
 /// A point whose coordinates are divided by the scale, which is above zero.
 struct ScaledPoint {
@@ -83,8 +78,8 @@ using Level = std::pair<Vector, Wide>;
 
 constexpr std::size_t no_mark = std::numeric_limits<std::size_t>::max();
 
-/// A flat region: the faces that it is of, where it is of any; where it is added, or added ones went into it, their places among the added ones;
-/// its reduced normal; its cycles, the outline first.
+/// A flat region: the faces that it is of, none of an added one that is no face; where it is added, or added ones went into it, their places among the
+/// added ones; its reduced normal; its cycles, the outline first.
 struct Sheet {
     std::vector<Face> owners;
     std::vector<std::size_t> marks;
@@ -336,24 +331,18 @@ private:
             join(piece);
         }
         for (const auto &[ends, piece] : pieces) {
-            keep(only(piece.left, piece.right), piece.parts, {ends.first, ends.second});
-            keep(only(piece.right, piece.left), piece.parts, {ends.second, ends.first});
+            keep(piece.left, piece.right, piece.parts, {ends.first, ends.second});
+            keep(piece.right, piece.left, piece.parts, {ends.second, ends.first});
         }
     }
 
-    /// Those that are of no set with one of the others.
-    Places only(const Places &one, const Places &other)
-    {
-        std::set<std::size_t> beyond;
-        for (std::size_t place : other)
-            beyond.insert(joined_.name(place));
-        return filtered(one, [&](std::size_t place) { return beyond.count(joined_.name(place)) == 0; });
-    }
-
-    /// The piece is a side of these sheets, which lie left of it as it runs, seen from where the plane's normal points.
-    void keep(const Places &places, const std::vector<Part> &parts, const Side &piece)
+    /// The piece is a side of these sheets, which lie left of it as it runs, seen from where the plane's normal points; not of those that became one
+    /// with one beyond it.
+    void keep(const Places &places, const Places &beyond, const std::vector<Part> &parts, const Side &piece)
     {
         for (std::size_t place : places) {
+            if (any(beyond, [&](std::size_t other) { return joined_.name(other) == joined_.name(place); }))
+                continue;
             Side run = sheets_[place].is_facing() ? piece : piece.turned();
             run.half = old_half(place, parts, run);
             kept_[place].push_back(run);
