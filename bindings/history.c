@@ -30,6 +30,13 @@ static int by_number(const void *one, const void *other)
     return (a > b) - (a < b);
 }
 
+static bool has_face(const struct reading *r, uint32_t face)
+{
+    const uint32_t *faces = r->faces->items;
+    const size_t place = first_from(faces, r->faces->count, sizeof face, face);
+    return place < r->faces->count && faces[place] == face;
+}
+
 static bool read_solids(struct reading *r, struct solids *solids)
 {
     const size_t count = solids->half_edges.count;
@@ -58,18 +65,7 @@ static void forget(struct reading *r)
 }
 
 /* The place of the first entry of a key, where there is one. */
-static size_t first_of(const struct reading *r, const struct entry *entries, uint32_t key)
-{
-    size_t least = 0, most = r->count;
-    while (least < most) {
-        const size_t middle = least + (most - least) / 2;
-        if (entries[middle].key < key)
-            least = middle + 1;
-        else
-            most = middle;
-    }
-    return least;
-}
+static size_t first_of(const struct reading *r, const struct entry *entries, uint32_t key) { return first_from(entries, r->count, sizeof *entries, key); }
 
 static bool is_of(const struct reading *r, const struct entry *entries, size_t at, uint32_t key) { return at < r->count && entries[at].key == key; }
 
@@ -185,7 +181,7 @@ static bool missing_faces(const struct reading *these, const struct reading *oth
     const uint32_t *faces = these->faces->items;
     bool is_well = true;
     for (size_t i = 0; i < these->faces->count && is_well; i++)
-        if (others->faces->count == 0 || bsearch(&faces[i], others->faces->items, others->faces->count, sizeof *faces, by_number) == NULL)
+        if (!has_face(others, faces[i]))
             is_well = list_add(changes, &(gwb_change){faces[i], find(these, faces[i], others)});
     return is_well;
 }

@@ -37,6 +37,20 @@ static inline bool list_add(struct list *list, const void *item)
     return true;
 }
 
+/* The place of the first item of some that rise by the number with which each begins, where that isn't below a key: how many there are, if none is. */
+static inline size_t first_from(const void *items, size_t count, size_t size, uint32_t key)
+{
+    size_t least = 0, most = count;
+    while (least < most) {
+        const size_t middle = least + (most - least) / 2;
+        if (*(const uint32_t *)((const char *)items + middle * size) < key)
+            least = middle + 1;
+        else
+            most = middle;
+    }
+    return least;
+}
+
 static inline void list_free(struct list *list)
 {
     if (list->items != NULL)

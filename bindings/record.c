@@ -1,37 +1,21 @@
-/* A record of accepted commands. Their lines stand one after another: those of the commands that are held, then of those that are undone, then
- * those of the draft's steps, and behind all that of a call which is being made. */
+/* A record of accepted commands: the bytes of their lines. */
 #include "record.h"
 #include "beside.h"
-#include "lists.h"
+#include "commands.h"
 
 /* As many digits as a number of 64 bits has, with its sign and a blank before it. */
 enum { MOST_DIGITS = 21 };
 
-struct record {
-    struct list text;     /* bytes */
-    struct list lines;    /* of each where it begins in the text */
-    struct list commands; /* of each its first line */
-    struct list marks;    /* of each line of the draft how many steps were there before it */
-    size_t held;          /* how many commands are: those after them are undone */
-    size_t written;       /* how many bytes the line behind all others has */
-    size_t draft;         /* the first line of the draft */
-    size_t steps;         /* how many the draft has */
-    bool is_drafting;
+/* A line of the draft: where it begins, and how many steps were there before it. */
+struct line {
+    size_t at, before;
 };
 
-static size_t *place(const struct list *list, size_t at) { return (size_t *)list->items + at; }
-static char *byte(const struct record *r, size_t at) { return (char *)r->text.items + at; }
-
-/* Where a line begins in the text; for the one after the last where the text ends. */
-static size_t line_at(const struct record *r, size_t line) { return line < r->lines.count ? *place(&r->lines, line) : r->text.count; }
-
-/* The first line of a command; for the one after the last the first one of the draft, or the one after all. */
-static size_t first_line(const struct record *r, size_t command)
-{
-    if (command < r->commands.count)
-        return *place(&r->commands, command);
-    return r->is_drafting ? r->draft : r->lines.count;
-}
+struct record {
+    struct commands kept; /* of char */
+    struct list lines;    /* of struct line */
+    size_t steps;         /* how many the draft has */
+};
 
 struct record *record_new(void)
 {
@@ -39,7 +23,7 @@ struct record *record_new(void)
     if (!block.ok)
         return NULL;
     struct record *r = block.at;
-    *r = (struct record){.text.size = 1, .lines.size = sizeof(size_t), .commands.size = sizeof(size_t), .marks.size = sizeof(size_t)};
+    *r = (struct record){.kept = NO_COMMANDS(char), .lines.size = sizeof(struct line)};
     return r;
 }
 
@@ -47,26 +31,26 @@ void record_free(struct record *r)
 {
     if (r == NULL)
         return;
-    list_free(&r->text);
+    commands_free(&r->kept);
     list_free(&r->lines);
-    list_free(&r->commands);
-    list_free(&r->marks);
     rattle_dealloc(r);
 }
 
-/* Takes room for a line of so many bytes, and for what is kept of it. */
-static bool reserve(struct record *r, size_t bytes)
+/* Begins a line, with room for so many bytes and for what is kept of it. */
+static bool begin(struct record *r, size_t bytes)
 {
-    return list_reserve(&r->text, r->text.count + bytes) && list_reserve(&r->lines, r->lines.count + 1) &&
-           list_reserve(&r->commands, r->commands.count + 1) && list_reserve(&r->marks, r->marks.count + 1);
+    r->kept.call = r->kept.items.count;
+    return list_reserve(&r->kept.items, r->kept.call + bytes) && list_reserve(&r->lines, r->lines.count + 1) && commands_reserve(&r->kept);
 }
 
-static void put(struct record *r, char c) { *byte(r, r->text.count + r->written++) = c; }
+static char *text(const struct record *r) { return r->kept.items.items; }
+
+static void put(struct record *r, char c) { text(r)[r->kept.items.count++] = c; }
 
 static void put_bytes(struct record *r, const char *bytes, size_t n)
 {
-    memcpy(byte(r, r->text.count + r->written), bytes, n);
-    r->written += n;
+    memcpy(text(r) + r->kept.items.count, bytes, n);
+    r->kept.items.count += n;
 }
 
 static void put_number(struct record *r, uint64_t number)
@@ -106,7 +90,7 @@ static void put_value(struct record *r, char form, int64_t value)
 
 bool record_begin(struct record *r, const char *word, size_t values)
 {
-    if (values > SIZE_MAX / 2 / MOST_DIGITS || !reserve(r, strlen(word) + values * MOST_DIGITS + 1))
+    if (values > SIZE_MAX / 2 / MOST_DIGITS || !begin(r, strlen(word) + values * MOST_DIGITS + 1))
         return false;
     put_bytes(r, word, strlen(word));
     return true;
@@ -132,106 +116,60 @@ bool record_write(struct record *r, const char *word, const char *form, const in
 
 bool record_write_line(struct record *r, const char *line, size_t n)
 {
-    if (n > SIZE_MAX / 2 || !reserve(r, n + 1))
+    if (n > SIZE_MAX / 2 || !begin(r, n + 1))
         return false;
     put_bytes(r, line, n);
     put(r, '\n');
     return true;
 }
 
-/* Moves the text from a place on to an earlier one: what lay there goes. */
-static void move_text(struct record *r, size_t from, size_t bytes, size_t to)
-{
-    memmove(byte(r, to), byte(r, from), bytes);
-    r->text.count = to + bytes;
-}
-
-static void keep_step(struct record *r, size_t steps)
-{
-    list_add(&r->lines, &r->text.count);
-    list_add(&r->marks, &r->steps);
-    r->text.count += r->written;
-    r->steps = steps;
-}
-
-/* What could be redone goes. */
-static void keep_command(struct record *r)
-{
-    const size_t line = first_line(r, r->held), at = line_at(r, line);
-    move_text(r, r->text.count, r->written, at);
-    r->lines.count = line;
-    list_add(&r->lines, &at);
-    r->commands.count = r->held++;
-    list_add(&r->commands, &line);
-}
-
 void record_keep(struct record *r, size_t steps)
 {
-    if (r->is_drafting)
-        keep_step(r, steps);
-    else
-        keep_command(r);
-    r->written = 0;
+    if (r->kept.is_drafting)
+        list_add(&r->lines, &(struct line){r->kept.call, r->steps});
+    r->steps = steps;
+    commands_end(&r->kept, true);
 }
 
-void record_drop(struct record *r) { r->written = 0; }
+void record_drop(struct record *r) { commands_end(&r->kept, false); }
 
-bool record_reserve_draft(struct record *r) { return list_reserve(&r->commands, r->commands.count + 1); }
+bool record_reserve_draft(struct record *r) { return commands_reserve(&r->kept); }
 
 void record_draft(struct record *r)
 {
-    r->draft = r->lines.count;
-    r->marks.count = 0;
+    commands_draft(&r->kept);
+    r->lines.count = 0;
     r->steps = 0;
-    r->is_drafting = true;
 }
 
-void record_commit(struct record *r)
-{
-    const size_t from = line_at(r, r->draft), lines = r->lines.count - r->draft;
-    const size_t line = first_line(r, r->held), to = line_at(r, line);
-    for (size_t at = 0; at < lines; at++)
-        *place(&r->lines, line + at) = *place(&r->lines, r->draft + at) - (from - to);
-    move_text(r, from, r->text.count - from, to);
-    r->lines.count = line + lines;
-    r->commands.count = r->held++;
-    list_add(&r->commands, &line);
-    r->is_drafting = false;
-}
+void record_commit(struct record *r) { commands_commit(&r->kept); }
+void record_abandon(struct record *r) { commands_abandon(&r->kept); }
 
-void record_abandon(struct record *r)
+/* The last line, of a larger command of which some steps are left, is written in capitals, as no script has it. */
+static void put_in_capitals(struct record *r, size_t from)
 {
-    r->text.count = line_at(r, r->draft);
-    r->lines.count = r->draft;
-    r->is_drafting = false;
-}
-
-/* The line of a larger command of which some steps are left is written in capitals, as no script has it. */
-static void put_in_capitals(struct record *r, size_t line)
-{
-    for (size_t at = line_at(r, line); at < line_at(r, line + 1); at++)
-        if (*byte(r, at) >= 'a' && *byte(r, at) <= 'z')
-            *byte(r, at) += 'A' - 'a';
+    for (size_t at = from; at < r->kept.items.count; at++)
+        if (text(r)[at] >= 'a' && text(r)[at] <= 'z')
+            text(r)[at] += 'A' - 'a';
 }
 
 void record_back(struct record *r, size_t steps)
 {
-    size_t lines = r->lines.count - r->draft, end = r->steps;
+    const struct line *lines = r->lines.items;
+    size_t end = r->steps;
     if (steps >= r->steps)
         return;
-    for (; lines > 0 && *place(&r->marks, lines - 1) >= steps; lines--)
-        end = *place(&r->marks, lines - 1);
-    if (lines < r->marks.count)
-        r->text.count = line_at(r, r->draft + lines);
-    r->lines.count = r->draft + lines;
-    r->marks.count = lines;
+    for (; r->lines.count > 0 && lines[r->lines.count - 1].before >= steps; r->lines.count--) {
+        end = lines[r->lines.count - 1].before;
+        r->kept.items.count = lines[r->lines.count - 1].at;
+    }
     if (steps < end)
-        put_in_capitals(r, r->lines.count - 1);
+        put_in_capitals(r, lines[r->lines.count - 1].at);
     r->steps = steps;
 }
 
-void record_undo(struct record *r) { r->held--; }
-void record_redo(struct record *r) { r->held++; }
+void record_undo(struct record *r) { r->kept.held--; }
+void record_redo(struct record *r) { r->kept.held++; }
 
 /* ---- what is read of it */
 
@@ -240,7 +178,7 @@ size_t gwb_recorded(const gwb *g)
     if (!gwb_is_open(g))
         return SIZE_MAX;
     const struct record *r = beside_of(g)->record;
-    return r != NULL ? r->held + r->is_drafting : 0;
+    return r != NULL ? r->kept.held + r->kept.is_drafting : 0;
 }
 
 /* A part of a text that is written into a buffer. */
@@ -253,7 +191,7 @@ static void write_text(struct writing *w, const struct record *r, size_t from, s
 {
     const size_t bytes = from < to ? to - from : 0, left = w->room > w->length ? w->room - w->length : 0;
     if (bytes > 0 && left > 0)
-        memcpy(w->buf + w->length, byte(r, from), bytes < left ? bytes : left);
+        memcpy(w->buf + w->length, text(r) + from, bytes < left ? bytes : left);
     w->length += bytes;
 }
 
@@ -265,9 +203,10 @@ size_t gwb_script(const gwb *g, size_t first, size_t n, char *buf, size_t room)
     const struct record *r = beside_of(g)->record;
     if (r == NULL)
         return 0;
+    const struct commands *kept = &r->kept;
     const size_t end = first < SIZE_MAX - n ? first + n : SIZE_MAX;
-    write_text(&w, r, line_at(r, first_line(r, first)), line_at(r, first_line(r, end < r->held ? end : r->held)));
-    if (r->is_drafting && first <= r->held && end > r->held)
-        write_text(&w, r, line_at(r, r->draft), r->text.count);
+    write_text(&w, r, commands_first(kept, first), commands_first(kept, end < kept->held ? end : kept->held));
+    if (kept->is_drafting && first <= kept->held && end > kept->held)
+        write_text(&w, r, kept->draft, kept->items.count);
     return w.length;
 }

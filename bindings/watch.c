@@ -1,18 +1,13 @@
-/* The solids that commands touch stand one after another: those of the commands that are held, then of those that are undone, then those of the draft's
- * steps. Solid 0 stands for all. When a solid is first touched, what it was before is written down, if that is asked for. */
+/* The solids that commands touch. Solid 0 stands for all. When a solid is first touched, what it was before is written down, if that is asked for. */
 #include "watch.h"
 #include "beside.h"
+#include "commands.h"
 #include "history.h"
 #include "walks.h"
 
 struct watch {
-    struct list touched;       /* of uint32_t: solids */
-    struct list commands;      /* of size_t: of each where its solids begin */
-    size_t held;               /* how many commands are: those after them are undone */
-    size_t undone_before;      /* how many are undone that were given before any was watched */
-    size_t draft;              /* where the solids of the draft's steps begin */
-    size_t call;               /* and those of the call that is being made */
-    bool is_drafting;
+    struct commands touched;   /* of uint32_t: solids */
+    size_t undone_before;      /* how many commands are undone that were given before any was watched */
     bool is_asked;             /* whether what solids were before is asked for: */
     bool are_all;              /* whether all were touched, also those that were made */
     struct list solids;        /* of uint32_t: those that were touched, rising */
@@ -23,16 +18,18 @@ struct watch {
 #define NO_SOLIDS {{.size = sizeof(gwb_half_edge_row)}, {.size = sizeof(gwb_vertex_row)}, {.size = sizeof(uint32_t)}}
 #define NO_CHANGES {.size = sizeof(gwb_change)}
 
+static bool touch(struct watch *w, uint32_t solid) { return list_add(&w->touched.items, &solid); }
+
 struct watch *watch_new(bool is_drafting)
 {
-    const uint32_t all = 0;
     struct tried block = rattle_alloc(sizeof(struct watch), 16);
     if (!block.ok)
         return NULL;
     struct watch *w = block.at;
-    *w = (struct watch){.touched.size = sizeof(uint32_t), .commands.size = sizeof(size_t), .solids.size = sizeof(uint32_t), .before = NO_SOLIDS,
-                        .changes = {{NO_CHANGES, NO_CHANGES}, {NO_CHANGES, NO_CHANGES}}, .is_drafting = is_drafting};
-    if (!is_drafting || (list_add(&w->touched, &all) && watch_reserve_draft(w)))
+    *w = (struct watch){.touched = NO_COMMANDS(uint32_t), .solids.size = sizeof(uint32_t), .before = NO_SOLIDS,
+                        .changes = {{NO_CHANGES, NO_CHANGES}, {NO_CHANGES, NO_CHANGES}}};
+    w->touched.is_drafting = is_drafting;
+    if (!is_drafting || (touch(w, 0) && commands_reserve(&w->touched)))
         return w;
     watch_free(w);
     return NULL;
@@ -49,28 +46,19 @@ void watch_free(struct watch *w)
 {
     if (w == NULL)
         return;
-    struct list *lists[] = {&w->touched, &w->commands, &w->solids, &w->changes[0][0], &w->changes[0][1], &w->changes[1][0], &w->changes[1][1]};
+    struct list *lists[] = {&w->solids, &w->changes[0][0], &w->changes[0][1], &w->changes[1][0], &w->changes[1][1]};
     for (size_t i = 0; i < sizeof lists / sizeof *lists; i++)
         list_free(lists[i]);
+    commands_free(&w->touched);
     free_solids(&w->before);
     rattle_dealloc(w);
 }
 
 /* ---- what solids were */
 
-/* The place of a solid among those that were touched, or where it would stand. */
-static size_t place_of(const struct watch *w, uint32_t solid)
-{
-    size_t least = 0, most = w->solids.count;
-    while (least < most) {
-        const size_t middle = least + (most - least) / 2;
-        if (((uint32_t *)w->solids.items)[middle] < solid)
-            least = middle + 1;
-        else
-            most = middle;
-    }
-    return least;
-}
+/* The solids that were touched, and the place of one among them, or where it would stand. */
+static uint32_t *solids(const struct watch *w) { return w->solids.items; }
+static size_t place_of(const struct watch *w, uint32_t solid) { return first_from(solids(w), w->solids.count, sizeof solid, solid); }
 
 static bool write_faces(struct solids *to, const gwb *g, uint32_t solid)
 {
@@ -110,11 +98,11 @@ static bool write_rows(struct solids *to, const gwb *g, uint32_t solid)
 static bool write_solid(struct watch *w, const gwb *g, uint32_t solid)
 {
     const size_t place = w->is_asked ? place_of(w, solid) : 0;
-    if (!w->is_asked || w->are_all || (place < w->solids.count && ((uint32_t *)w->solids.items)[place] == solid))
+    if (!w->is_asked || w->are_all || (place < w->solids.count && solids(w)[place] == solid))
         return true;
     if (!list_reserve(&w->solids, w->solids.count + 1) || !write_rows(&w->before, g, solid))
         return false;
-    uint32_t *at = (uint32_t *)w->solids.items + place;
+    uint32_t *at = solids(w) + place;
     memmove(at + 1, at, (w->solids.count++ - place) * sizeof *at);
     *at = solid;
     return true;
@@ -160,86 +148,63 @@ static uint32_t solid_of(const gwb *g, char kind, int64_t value)
     }
 }
 
+/* Begins a call, or ends one before it was made. */
+static void begin(struct watch *w) { w->touched.call = w->touched.items.count; }
+static bool dropped(struct watch *w) { return watch_end(w, false), false; }
+
 bool watch_touch(struct watch *w, const gwb *g, const char *kinds, const int64_t *values, size_t n)
 {
-    w->call = w->touched.count;
+    begin(w);
     for (size_t i = 0; i < n && kinds[i] != '\0'; i++) {
         const uint32_t solid = solid_of(g, kinds[i], values[i]);
-        if (solid != 0 && (!list_add(&w->touched, &solid) || !write_solid(w, g, solid)))
-            return w->touched.count = w->call, false;
+        if (solid != 0 && (!touch(w, solid) || !write_solid(w, g, solid)))
+            return dropped(w);
     }
-    return list_reserve(&w->commands, w->commands.count + 1) || (w->touched.count = w->call, false);
+    return commands_reserve(&w->touched) || dropped(w);
 }
 
 bool watch_touch_any(struct watch *w, const gwb *g)
 {
-    const uint32_t all = 0;
-    w->call = w->touched.count;
-    return (list_add(&w->touched, &all) && write_all(w, g) && list_reserve(&w->commands, w->commands.count + 1)) || (w->touched.count = w->call, false);
-}
-
-/* Where the solids of a command begin; for the one after the last, where the draft's do, or all end. */
-static size_t first_of(const struct watch *w, size_t command)
-{
-    if (command < w->commands.count)
-        return ((size_t *)w->commands.items)[command];
-    return w->is_drafting ? w->draft : w->touched.count;
-}
-
-/* The solids from a place on are those of a new command: those of commands that could be redone go. */
-static void keep(struct watch *w, size_t from)
-{
-    const size_t to = w->held < w->commands.count ? first_of(w, w->held) : from, count = w->touched.count - from;
-    uint32_t *solids = w->touched.items;
-    if (count > 0)
-        memmove(solids + to, solids + from, count * sizeof *solids);
-    w->touched.count = to + count;
-    w->commands.count = w->held++;
-    w->undone_before = 0;
-    list_add(&w->commands, &to);
+    begin(w);
+    return (touch(w, 0) && write_all(w, g) && commands_reserve(&w->touched)) || dropped(w);
 }
 
 void watch_end(struct watch *w, bool is_accepted)
 {
-    if (!is_accepted)
-        w->touched.count = w->call;
-    else if (!w->is_drafting)
-        keep(w, w->call);
+    if (is_accepted && !w->touched.is_drafting)
+        w->undone_before = 0;
+    commands_end(&w->touched, is_accepted);
 }
 
-bool watch_reserve_draft(struct watch *w) { return list_reserve(&w->commands, w->commands.count + 1); }
-void watch_draft(struct watch *w) { w->is_drafting = true, w->draft = w->touched.count; }
+bool watch_reserve_draft(struct watch *w) { return commands_reserve(&w->touched); }
+void watch_draft(struct watch *w) { commands_draft(&w->touched); }
 void watch_commit(struct watch *w)
 {
-    w->is_drafting = false;
-    keep(w, w->draft);
+    w->undone_before = 0;
+    commands_commit(&w->touched);
 }
-void watch_abandon(struct watch *w)
-{
-    w->touched.count = w->draft;
-    w->is_drafting = false;
-}
+void watch_abandon(struct watch *w) { commands_abandon(&w->touched); }
 
 /* Writes down the solids of a command. */
 static bool see(struct watch *w, const gwb *g, size_t command)
 {
     bool is_well = true;
-    for (size_t i = first_of(w, command); i < first_of(w, command + 1) && is_well; i++) {
-        const uint32_t solid = ((uint32_t *)w->touched.items)[i];
+    for (size_t i = commands_first(&w->touched, command); i < commands_first(&w->touched, command + 1) && is_well; i++) {
+        const uint32_t solid = ((uint32_t *)w->touched.items.items)[i];
         is_well = solid != 0 ? write_solid(w, g, solid) : write_all(w, g);
     }
     return is_well;
 }
 
-bool watch_see_undo(struct watch *w, const gwb *g) { return w->held > 0 ? see(w, g, w->held - 1) : write_all(w, g); }
+bool watch_see_undo(struct watch *w, const gwb *g) { return w->touched.held > 0 ? see(w, g, w->touched.held - 1) : write_all(w, g); }
 bool watch_see_redo(struct watch *w, const gwb *g)
 {
     if (w->undone_before > 0)
         return write_all(w, g);
-    return w->held == w->commands.count || see(w, g, w->held);
+    return w->touched.held == w->touched.begins.count || see(w, g, w->touched.held);
 }
-void watch_undo(struct watch *w) { w->held > 0 ? w->held-- : w->undone_before++; }
-void watch_redo(struct watch *w) { w->undone_before > 0 ? w->undone_before-- : w->held++; }
+void watch_undo(struct watch *w) { w->touched.held > 0 ? w->touched.held-- : w->undone_before++; }
+void watch_redo(struct watch *w) { w->undone_before > 0 ? w->undone_before-- : w->touched.held++; }
 
 /* ---- what is asked of it */
 
@@ -274,7 +239,7 @@ enum gwb_kind gwb_watch(gwb *g, bool is_asked)
 static uint32_t touched_after(const gwb *g, const struct watch *w, uint32_t solid)
 {
     const size_t place = place_of(w, solid + 1);
-    const uint32_t touched = place < w->solids.count ? ((uint32_t *)w->solids.items)[place] : 0;
+    const uint32_t touched = place < w->solids.count ? solids(w)[place] : 0;
     uint32_t found = 0;
     if (w->are_all)
         gwb_number_after(g, GWB_SOLID, solid, &found);
