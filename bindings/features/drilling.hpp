@@ -54,7 +54,7 @@ inline std::vector<Point> polygon(const Bench &bench, Face face, Point center, s
         throw machining::impossible(Misfit::not_across, face.number());
     if (!is_in_range(vector(center)) || radius > 2 * farthest)
         throw machining::refused(GWB_WHY_POINT_RANGE, 0);
-    const std::size_t axis = across[0] != 0 ? 0 : across[1] != 0 ? 1 : 2;
+    const std::size_t axis = widest(across);
     std::vector<Point> points;
     for (std::uint32_t place = 0; place < sides; place++) {
         const auto [first, second] = corner(place, sides, radius);
@@ -72,9 +72,7 @@ inline Hole drill(Bench &bench, Face face, Point center, std::int64_t radius, st
     if (radius < 1 || sides < 3 || sides > most_sides || depth < 0)
         throw machining::refused(GWB_WHY_SIZE_RANGE, radius < 1 ? 1 : depth < 0 ? 3 : 2);
     std::vector<Point> points = polygon(bench, face, center, radius, sides);
-    if (depth == 0)
-        return machining::make_hole(bench, face, points);
-    Pocket made = machining::raise(bench, face, points, -depth);
+    Pocket made = depth == 0 ? machining::make_hole(bench, face, points) : machining::make_pocket(bench, face, points, depth);
     return Hole{made.face, made.loop, std::move(made.sides), std::move(points)};
 }
 

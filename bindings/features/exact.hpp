@@ -72,6 +72,16 @@ template <class Path> Path from_least(Path path)
     return path;
 }
 
+/// What a map has for a key, or none.
+template <class Map> const typename Map::mapped_type *look_up(const Map &map, const typename Map::key_type &key)
+{
+    const auto found = map.find(key);
+    return found != map.end() ? &found->second : nullptr;
+}
+
+/// Adds items behind others.
+template <class Item> void append(std::vector<Item> &to, const std::vector<Item> &more) { to.insert(to.end(), more.begin(), more.end()); }
+
 // ---- vectors
 
 constexpr Vector vector(Point point) { return {point.x, point.y, point.z}; }
@@ -129,12 +139,28 @@ struct Plane {
     [[nodiscard]] Plane turned() const { return {negative(across), -offset}; }
 };
 
+/// Points, so much further on.
+inline std::vector<Vector> moved(std::vector<Vector> points, const Vector &way)
+{
+    for (Vector &at : points)
+        at = add(at, way);
+    return points;
+}
+
 /// Twice the area that the closed path through points goes round, as a vector.
 inline Vector area_vector(const std::vector<Vector> &points)
 {
     Vector sum{};
     for (std::size_t at = 2; at < points.size(); at++)
         sum = add(sum, cross(subtract(points[at - 1], points[0]), subtract(points[at], points[0])));
+    return sum;
+}
+
+inline Vector area_vector(const std::vector<std::vector<Vector>> &loops)
+{
+    Vector sum{};
+    for (const std::vector<Vector> &points : loops)
+        sum = add(sum, area_vector(points));
     return sum;
 }
 
@@ -172,11 +198,12 @@ struct Box {
         box.take(b);
         return box;
     }
-    void take(const Vector &at)
+    void take(const Vector &at) { take(Box{at, at}); }
+    void take(const Box &other)
     {
         for (std::size_t axis = 0; axis < 3; axis++) {
-            low[axis] = std::min(low[axis], at[axis]);
-            high[axis] = std::max(high[axis], at[axis]);
+            low[axis] = std::min(low[axis], other.low[axis]);
+            high[axis] = std::max(high[axis], other.high[axis]);
         }
     }
     [[nodiscard]] bool meets(const Box &other) const
@@ -306,13 +333,15 @@ struct Segment {
 
 using Outline = std::vector<Segment>;
 
-/// The sides of a closed path: from each point to the next.
-inline Outline outline_of(const std::vector<Spot> &path)
+/// The sides of a closed path as a function sees its points: from each to the next.
+template <class See> Outline outline_of(const std::vector<Vector> &path, See see)
 {
+    std::vector<Spot> spots(path.size());
+    std::transform(path.begin(), path.end(), spots.begin(), see);
     Outline sides;
     sides.reserve(path.size());
     for (std::size_t at = 0; at < path.size(); at++)
-        sides.emplace_back(path[at], path[(at + 1) % path.size()]);
+        sides.emplace_back(spots[at], spots[(at + 1) % path.size()]);
     return sides;
 }
 

@@ -20,7 +20,7 @@ void gwb_forget_features(struct beside *of); // for calls.c
 
 /// What is said of a cut, for whoever asked.
 struct gwb_advice {
-    gwb_session::OffLattice found;
+    gwb_session::cutting::OffLattice found;
 };
 
 namespace gwb_session {
@@ -44,59 +44,19 @@ void go_on()
 
 namespace {
 
-/// What is kept with a session: what features have read of its model, and what the last one made.
-struct Known : machining::Surroundings {
-    Lists lists;
-
-    /// That of a session, if there is one.
-    static Known *of(const struct beside &session) { return static_cast<Known *>(static_cast<Surroundings *>(session.known)); }
-    static Known *of(const gwb *g) { return of(*beside_of(g)); }
-    /// That of a session, which is made where there is none.
-    static Known &at(struct beside &session)
-    {
-        if (session.known == nullptr)
-            session.known = static_cast<Surroundings *>(new Known());
-        return *of(session);
-    }
-    void clear()
-    {
-        for (auto &list : lists)
-            list.clear();
-    }
-};
-
-/// The calls of a session that something else holds.
-struct Shared : Bench {
-    explicit Shared(std::shared_ptr<State> state) : Commands(std::move(state)) {}
-};
-
 /// A session in the place of a handle, which is closed meanwhile.
-class Borrowed {
+class Borrowed : public Bench {
 public:
-    explicit Borrowed(gwb *g) : g_(g), state_(std::make_shared<State>()), bench_(state_) { state_->handle = std::exchange(*g, gwb{}); }
+    explicit Borrowed(gwb *g) : Borrowed(g, std::make_shared<State>()) {}
     Borrowed(const Borrowed &) = delete;
     Borrowed &operator=(const Borrowed &) = delete;
-    ~Borrowed() { *g_ = std::exchange(state_->handle, gwb{}); }
-    [[nodiscard]] Bench &bench() { return bench_; }
+    ~Borrowed() { *g_ = std::exchange(session_->handle, gwb{}); }
 
 private:
+    Borrowed(gwb *g, const std::shared_ptr<State> &session) : Commands(session), g_(g), session_(session) { session->handle = std::exchange(*g, gwb{}); }
+
     gwb *g_;
-    std::shared_ptr<State> state_;
-    Shared bench_;
-};
-
-/// A copy of a handle, for readers.
-class Lent {
-public:
-    explicit Lent(const gwb *g) : state_(std::make_shared<State>()), bench_(state_) { state_->handle = *g; }
-    Lent(const Lent &) = delete;
-    Lent &operator=(const Lent &) = delete;
-    ~Lent() { state_->handle = gwb{}; }
-    [[nodiscard]] const Bench &bench() const { return bench_; }
-
-private:
-    std::shared_ptr<State> state_;
-    Shared bench_;
+    std::shared_ptr<State> session_;
 };
 
 gwb_kind told(const Failure &failure, gwb_refusal *why)
@@ -130,20 +90,77 @@ template <class Call> gwb_kind guarded(const gwb *g, gwb_refusal *why, Call call
     }
 }
 
+// ---- what was made, where the caller wants it
+
+template <class Kind> void put(const std::vector<Kind> &made, std::uint32_t *to)
+{
+    for (Kind number : made)
+        *to++ = number.number();
+}
+void put(Solid made, std::uint32_t *to) { *to = made.number(); }
+void put(const gwb_polyhedron_made &made, gwb_polyhedron_made *to) { *to = made; }
+void put(const Profile &made, gwb_profile_made *to, std::uint32_t *sides)
+{
+    *to = {made.far.number(), made.base.number()};
+    put(made.sides, sides);
+}
+void put(const Pocket &made, gwb_outline_made *to, std::uint32_t *sides)
+{
+    *to = {made.face.number(), made.loop.number()};
+    put(made.sides, sides);
+}
+void put(const Hole &made, gwb_outline_made *to, std::uint32_t *sides, gwb_point *points)
+{
+    *to = {made.other.number(), made.loop.number()};
+    put(made.sides, sides);
+    std::copy(made.points.begin(), made.points.end(), points);
+}
+void put(const Ring &made, gwb_outline_made *to, std::uint32_t *edges, std::uint32_t *vertices)
+{
+    *to = {made.face.number(), made.loop.number()};
+    put(made.edges, edges);
+    put(made.vertices, vertices);
+}
+
+/// What is told by lists, which take memory.
+void list(const std::vector<Face> &made, std::vector<std::uint32_t> &to)
+{
+    to.resize(made.size());
+    put(made, to.data());
+}
+void list(const Notch &made, Lists &lists)
+{
+    list(made.floor, lists[GWB_MADE_FLOOR]);
+    list(made.walls, lists[GWB_MADE_WALLS]);
+}
+void list(const Split &made, Lists &lists)
+{
+    list(made.lower_caps, lists[GWB_MADE_LOWER_CAPS]);
+    list(made.upper_caps, lists[GWB_MADE_UPPER_CAPS]);
+}
+
+// ---- what is made
+
 /// Makes something as one command, and then puts it where the caller wants it.
-template <class Make, class Put> void make_at_once(gwb *g, Make make, Put put)
+template <class Make, class... To> void make_at_once(gwb *g, Make make, To... to)
 {
     const struct beside &of = *beside_of(g);
-    Known &known = Known::at(*beside_of(g));
+    machining::Surroundings &known = machining::Surroundings::at(*beside_of(g));
     const std::uint64_t before = of.changes;
     const bool was_known = known.is_of(before);
-    known.clear();
+    for (auto &list : known.lists)
+        list.clear();
     try {
         Borrowed session(g);
-        Together commands(session.bench());
-        const auto found = make(session.bench(), known);
-        commands.keep(); // nothing takes memory from here on
-        put(found);
+        Together commands(session);
+        if constexpr (std::is_void_v<decltype(make(session, known.lists))>) {
+            make(session, known.lists);
+            commands.keep();
+        } else {
+            const auto found = make(session, known.lists);
+            commands.keep(); // nothing takes memory from here on
+            put(found, to...);
+        }
     } catch (const Failure &) {
         if (was_known && known.is_of(before)) // it is again what it was
             known.is_again(of.changes);
@@ -151,115 +168,32 @@ template <class Make, class Put> void make_at_once(gwb *g, Make make, Put put)
     }
 }
 
-/// The same, in the heap of the session.
-template <class Make, class Put> gwb_kind made(gwb *g, gwb_refusal *why, Make make, Put put) noexcept
+/// The same, in the heap of the session. What makes something is given the session, and the lists for what it tells by them.
+template <class Make, class... To> gwb_kind made(gwb *g, gwb_refusal *why, Make make, To... to) noexcept
 {
     if (!gwb_is_open(g))
         return GWB_CLOSED;
     const gwb_heap *before = gwb_use_heap(beside_of(g)->heap);
-    const gwb_kind kind = guarded(g, why, [&] { make_at_once(g, make, put); });
+    const gwb_kind kind = guarded(g, why, [&] { make_at_once(g, make, to...); });
     gwb_use_heap(before);
     return kind;
+}
+
+/// Makes what is told by lists alone: a notch, or the like; a split, or the like.
+template <class Make> gwb_kind listed(gwb *g, gwb_refusal *why, Make make)
+{
+    return made(g, why, [&](Bench &bench, Lists &lists) { list(make(bench), lists); });
 }
 
 /// What is answered to a call whose arguments make none.
 gwb_kind no_call(const gwb *g) { return gwb_is_open(g) ? GWB_NO_CALL : GWB_CLOSED; }
 
-template <class Kind> void write(const std::vector<Kind> &numbers, std::uint32_t *to)
-{
-    for (Kind number : numbers)
-        *to++ = number.number();
-}
-
 /// A row of solids, each by its place in it.
 template <class Place>
 gwb_kind row_of(gwb *g, std::uint32_t solid, std::uint32_t count, Place place, std::uint32_t *solids, gwb_refusal *why)
 {
-    if (count == 0)
-        return no_call(g);
-    return made(
-        g, why,
-        [&](Bench &bench, Known &known) { return copies::patterned(bench, Solid(solid), count, place, known.lists); },
-        [&](const std::vector<Solid> &row) { write(row, solids); });
-}
-
-template <class Kind> std::vector<Kind> all_of(const std::uint32_t *numbers, std::size_t n)
-{
-    std::vector<Kind> all;
-    for (std::size_t at = 0; at < n; at++)
-        all.emplace_back(numbers[at]);
-    return all;
-}
-
-Items<Point> items(const gwb_point *points, std::size_t n)
-{
-    return Items<Point>(points, n);
-}
-
-gwb_kind raised(gwb *g, std::uint32_t face, const gwb_point *points, std::size_t n, std::int64_t length, bool is_pocket, gwb_outline_made *out,
-                std::uint32_t *sides, gwb_refusal *why)
-{
-    return made(
-        g, why,
-        [&](Bench &bench, Known &) {
-            if (length < 1)
-                throw machining::refused(GWB_WHY_SIZE_RANGE, 1);
-            return machining::raise(bench, Face(face), items(points, n), is_pocket ? -length : length);
-        },
-        [&](const Pocket &made) {
-            *out = {made.face.number(), made.loop.number()};
-            write(made.sides, sides);
-        });
-}
-
-/// Changes something, or makes what is told by lists alone.
-template <class Change> gwb_kind changed(gwb *g, gwb_refusal *why, Change change)
-{
-    return made(
-        g, why,
-        [&](Bench &bench, Known &known) {
-            change(bench, known.lists);
-            return true;
-        },
-        [](bool) {});
-}
-
-void put(const std::vector<Face> &faces, std::vector<std::uint32_t> &list)
-{
-    for (Face face : faces)
-        list.push_back(face.number());
-}
-
-/// A notch, slot, groove or shoulder.
-template <class Make> gwb_kind cut(gwb *g, gwb_refusal *why, Make make)
-{
-    return changed(g, why, [&](Bench &bench, Lists &lists) {
-        const Notch notch = make(bench);
-        put(notch.floor, lists[GWB_MADE_FLOOR]);
-        put(notch.walls, lists[GWB_MADE_WALLS]);
-    });
-}
-
-/// A slot or a groove.
-template <class MakeTool>
-gwb_kind channel(gwb *g, std::uint32_t face, const gwb_point *start, const gwb_point *end, std::int64_t width, std::int64_t depth, MakeTool make,
-                 gwb_refusal *why)
-{
-    return cut(g, why, [&](Bench &bench) {
-        return shaping::cut_in_face(bench, Face(face), {*start, *end}, {width, depth}, [&](const machining::Path &ends) {
-            return make(bench, Face(face), ends, width, depth);
-        });
-    });
-}
-
-/// A split, cut or trim.
-template <class Make> gwb_kind parted(gwb *g, gwb_refusal *why, Make make)
-{
-    return changed(g, why, [&](Bench &bench, Lists &lists) {
-        const Split parts = make(bench);
-        put(parts.lower_caps, lists[GWB_MADE_LOWER_CAPS]);
-        put(parts.upper_caps, lists[GWB_MADE_UPPER_CAPS]);
-    });
+    const auto make = [&](Bench &bench, Lists &lists) { return copies::patterned(bench, Solid(solid), count, place, lists); };
+    return count == 0 ? no_call(g) : made(g, why, make, solids);
 }
 
 /// Whether each number stands once.
@@ -271,22 +205,25 @@ bool are_different(const std::uint32_t *numbers, std::size_t n)
     return true;
 }
 
-/// Chamfers of different edges, made at once.
-gwb_kind sloped(gwb *g, const std::uint32_t *edges, std::size_t n, std::int64_t width, std::int64_t other, std::uint32_t *faces, gwb_refusal *why)
-{
-    return made(
-        g, why,
-        [&](Bench &bench, Known &) { return shaping::make_chamfers(bench, all_of<Edge>(edges, n), width, other); },
-        [&](const std::vector<Face> &slopes) { write(slopes, faces); });
-}
+// ---- what is found
 
 gwb_wide wide(exact::Wide number) { return {static_cast<std::int64_t>(number >> 64), static_cast<std::uint64_t>(number)}; }
 
+/// Writes rows, as far as there is room: how many there are.
 template <class Row, class Items, class Of> std::size_t rows(const Items &items, Row *to, std::size_t room, Of of)
 {
-    for (std::size_t at = 0; at < items.size() && at < room; at++)
-        to[at] = of(items[at]);
+    std::transform(items.begin(), items.begin() + static_cast<std::ptrdiff_t>(std::min(items.size(), room)), to, of);
     return items.size();
+}
+
+/// Reads a session, of whose handle it has a copy.
+template <class Read> gwb_kind looked_at(const gwb *g, gwb_refusal *why, Read read)
+{
+    return guarded(g, why, [&] {
+        gwb lent = *g;
+        const Borrowed session(&lent);
+        read(session);
+    });
 }
 
 /// Writes what a query finds.
@@ -295,10 +232,7 @@ gwb_kind sought(const gwb *g, const Query &query, Find find, std::uint32_t *buf,
 {
     if (!selection::is_query(query))
         return no_call(g);
-    return guarded(g, why, [&] {
-        const Lent session(g);
-        *count = rows(find(session.bench(), query), buf, room, [](auto number) { return number.number(); });
-    });
+    return looked_at(g, why, [&](const Bench &bench) { *count = rows(find(bench, query), buf, room, [](auto number) { return number.number(); }); });
 }
 
 } // namespace
@@ -308,223 +242,183 @@ using namespace gwb_session;
 
 extern "C" {
 
-void gwb_forget_features(struct beside *of) { delete Known::of(*of); }
+void gwb_forget_features(struct beside *of) { delete static_cast<machining::Surroundings *>(of->known); }
 
-const char *gwb_misfit_name(std::uint32_t misfit) { return misfit_name(static_cast<Misfit>(misfit)); }
+const char *gwb_misfit_name(uint32_t misfit) { return misfit_name(static_cast<Misfit>(misfit)); }
 
-std::size_t gwb_made(const gwb *g, std::uint32_t list, std::uint32_t *buf, std::size_t room)
+size_t gwb_made(const gwb *g, uint32_t list, uint32_t *buf, size_t room)
 {
     if (!gwb_is_open(g))
         return SIZE_MAX;
-    if (Known::of(g) == nullptr || list >= std::tuple_size_v<Lists>)
+    const auto *known = static_cast<const machining::Surroundings *>(beside_of(g)->known);
+    if (known == nullptr || list >= std::tuple_size_v<Lists>)
         return 0;
-    return rows(Known::of(g)->lists[list], buf, room, [](std::uint32_t number) { return number; });
+    return rows(known->lists[list], buf, room, [](uint32_t number) { return number; });
 }
 
-gwb_kind gwb_kill_solid(gwb *g, std::uint32_t solid, gwb_refusal *why)
+gwb_kind gwb_kill_solid(gwb *g, uint32_t solid, gwb_refusal *why)
 {
-    return changed(g, why, [&](Bench &bench, Lists &) { take_away(bench, Solid(solid)); });
+    return made(g, why, [&](Bench &bench, Lists &) { take_away(bench, Solid(solid)); });
 }
 
-gwb_kind gwb_copy_solid(gwb *g, std::uint32_t solid, const gwb_motion *motion, std::uint32_t *out, gwb_refusal *why)
+gwb_kind gwb_copy_solid(gwb *g, uint32_t solid, const gwb_motion *motion, uint32_t *out, gwb_refusal *why)
 {
-    if (!copies::is_motion(*motion))
-        return no_call(g);
-    return made(
-        g, why, [&](Bench &bench, Known &known) { return copies::make(bench, copies::moved(copies::read(bench, Solid(solid)), {Motion(*motion)}), known.lists); },
-        [&](Solid made) { *out = made.number(); });
+    const auto make = [&](Bench &bench, Lists &lists) {
+        return copies::make(bench, copies::moved(copies::read(bench, Solid(solid)), {Motion(*motion)}), lists);
+    };
+    return copies::is_motion(*motion) ? made(g, why, make, out) : no_call(g);
 }
 
-gwb_kind gwb_move_solid(gwb *g, std::uint32_t solid, const gwb_motion *motion, gwb_refusal *why)
+gwb_kind gwb_move_solid(gwb *g, uint32_t solid, const gwb_motion *motion, gwb_refusal *why)
 {
-    if (!copies::is_motion(*motion))
-        return no_call(g);
-    return changed(g, why, [&](Bench &bench, Lists &) { sheets::make_anew(bench, copies::moved(copies::read(bench, Solid(solid)), {Motion(*motion)})); });
+    const auto make = [&](Bench &bench, Lists &) {
+        sheets::make_anew(bench, copies::moved(copies::read(bench, Solid(solid)), {Motion(*motion)}));
+    };
+    return copies::is_motion(*motion) ? made(g, why, make) : no_call(g);
 }
 
-gwb_kind gwb_pattern(gwb *g, std::uint32_t solid, std::uint32_t count, const gwb_point *step, std::uint32_t *solids, gwb_refusal *why)
+gwb_kind gwb_pattern(gwb *g, uint32_t solid, uint32_t count, const gwb_point *step, uint32_t *solids, gwb_refusal *why)
 {
-    return row_of(g, solid, count, [&](std::uint32_t place) { return copies::steps(*step, place); }, solids, why);
+    return row_of(g, solid, count, [&](uint32_t place) { return copies::steps(*step, place); }, solids, why);
 }
 
-gwb_kind gwb_pattern_around(gwb *g, std::uint32_t solid, std::uint32_t count, std::uint32_t axis, std::uint32_t quarters, const gwb_point *about,
-                            std::uint32_t *solids, gwb_refusal *why)
+gwb_kind gwb_pattern_around(gwb *g, uint32_t solid, uint32_t count, uint32_t axis, uint32_t quarters, const gwb_point *about, uint32_t *solids,
+                            gwb_refusal *why)
 {
     const bool are_apart = quarters == 2 ? count <= 2 : quarters % 2 == 1 && quarters < 4 && count <= 4;
     if (axis > 2 || !are_apart)
         return no_call(g);
-    return row_of(g, solid, count, [&](std::uint32_t place) { return copies::turn(axis, quarters * place, *about); }, solids, why);
+    return row_of(g, solid, count, [&](uint32_t place) { return copies::turn(axis, quarters * place, *about); }, solids, why);
 }
 
-gwb_kind gwb_scale(gwb *g, std::int64_t factor, gwb_refusal *why)
+gwb_kind gwb_scale(gwb *g, int64_t factor, gwb_refusal *why)
 {
-    return changed(g, why, [&](Bench &bench, Lists &) {
-        if (factor < 1)
-            throw machining::refused(GWB_WHY_SIZE_RANGE, 1);
+    return made(g, why, [&](Bench &bench, Lists &) {
+        machining::require_sizes({factor});
         copies::scale_all(bench, factor);
     });
 }
 
-gwb_kind gwb_renumber(gwb *g, gwb_refusal *why)
-{
-    return changed(g, why, [](Bench &bench, Lists &lists) { copies::renumber(bench, lists); });
-}
+gwb_kind gwb_renumber(gwb *g, gwb_refusal *why) { return made(g, why, copies::renumber); }
 
-gwb_kind gwb_glue_all(gwb *g, const std::uint32_t *solids, std::size_t n, gwb_refusal *why)
+gwb_kind gwb_glue_all(gwb *g, const uint32_t *solids, size_t n, gwb_refusal *why)
 {
     if (n == 0 || !are_different(solids, n))
         return no_call(g);
-    return changed(g, why, [&](Bench &bench, Lists &) { gluing::glue_all(bench, all_of<Solid>(solids, n)); });
+    return made(g, why, [&](Bench &bench, Lists &) { gluing::glue_all(bench, std::vector<Solid>(solids, solids + n)); });
 }
 
-gwb_kind gwb_split_solid(gwb *g, std::uint32_t solid, const gwb_cut_plane *plane, std::uint32_t above, gwb_refusal *why)
+gwb_kind gwb_split_solid(gwb *g, uint32_t solid, const gwb_cut_plane *plane, uint32_t above, gwb_refusal *why)
 {
-    return parted(g, why, [&](Bench &bench) { return cuts::split(bench, Solid(solid), exact::Plane::of(*plane), Solid(above)); });
+    return listed(g, why, [&](Bench &bench) { return cuts::split(bench, Solid(solid), exact::Plane::of(*plane), Solid(above)); });
 }
 
-gwb_kind gwb_cut(gwb *g, std::uint32_t solid, const gwb_cut_plane *plane, std::uint32_t above, gwb_refusal *why)
+gwb_kind gwb_cut(gwb *g, uint32_t solid, const gwb_cut_plane *plane, uint32_t above, gwb_refusal *why)
 {
-    return parted(g, why, [&](Bench &bench) { return cuts::cut(bench, Solid(solid), exact::Plane::of(*plane), Solid(above), true); });
+    return listed(g, why, [&](Bench &bench) { return cuts::cut(bench, Solid(solid), exact::Plane::of(*plane), Solid(above), true); });
 }
 
-gwb_kind gwb_trim(gwb *g, std::uint32_t solid, const gwb_cut_plane *plane, gwb_refusal *why)
+gwb_kind gwb_trim(gwb *g, uint32_t solid, const gwb_cut_plane *plane, gwb_refusal *why)
 {
-    return parted(g, why, [&](Bench &bench) { return cuts::cut(bench, Solid(solid), exact::Plane::of(*plane), bench.next_free<Solid>(), false); });
+    return listed(g, why, [&](Bench &bench) { return cuts::cut(bench, Solid(solid), exact::Plane::of(*plane), bench.next_free<Solid>(), false); });
 }
 
-gwb_kind gwb_union(gwb *g, const std::uint32_t *solids, std::size_t n, gwb_refusal *why)
+gwb_kind gwb_union(gwb *g, const uint32_t *solids, size_t n, gwb_refusal *why)
 {
     if (n < 2 || !are_different(solids, n))
         return no_call(g);
-    return changed(g, why, [&](Bench &bench, Lists &lists) {
-        uniting::unite(bench, all_of<Solid>(solids, n)).tell(lists[GWB_MADE_INTO]);
-    });
+    return made(g, why, [&](Bench &bench, Lists &lists) { uniting::unite(bench, std::vector<Solid>(solids, solids + n)).tell(lists[GWB_MADE_INTO]); });
 }
 
-gwb_kind gwb_profile(gwb *g, std::uint32_t solid, const gwb_point *points, std::size_t n, const gwb_point *along, gwb_profile_made *out,
-                     std::uint32_t *sides, gwb_refusal *why)
+gwb_kind gwb_profile(gwb *g, uint32_t solid, const gwb_point *points, size_t n, const gwb_point *along, gwb_profile_made *out, uint32_t *sides,
+                     gwb_refusal *why)
 {
-    return made(
-        g, why,
-        [&](Bench &bench, Known &) { return machining::make_profile(bench, Solid(solid), items(points, n), *along); },
-        [&](const Profile &made) {
-            *out = {made.far.number(), made.base.number()};
-            write(made.sides, sides);
-        });
+    return made(g, why, [&](Bench &bench, Lists &) { return machining::make_profile(bench, Solid(solid), {points, n}, *along); }, out, sides);
 }
 
-gwb_kind gwb_polyhedron(gwb *g, std::uint32_t solid, const gwb_point *points, std::size_t n, const std::uint32_t *corners, const std::uint32_t *sizes,
-                        std::size_t faces, gwb_polyhedron_made *out, gwb_refusal *why)
+gwb_kind gwb_polyhedron(gwb *g, uint32_t solid, const gwb_point *points, size_t n, const uint32_t *corners, const uint32_t *sizes, size_t faces,
+                        gwb_polyhedron_made *out, gwb_refusal *why)
 {
-    const std::size_t count = std::accumulate(sizes, sizes + faces, std::size_t{0});
-    if (faces == 0 || n == 0 || std::any_of(corners, corners + count, [&](std::uint32_t corner) { return corner >= n; }))
+    const size_t count = std::accumulate(sizes, sizes + faces, size_t{0});
+    if (faces == 0 || n == 0 || std::any_of(corners, corners + count, [&](uint32_t corner) { return corner >= n; }))
         return no_call(g);
-    return made(
-        g, why,
-        [&](Bench &bench, Known &) {
-            return polyhedra::make(bench, Solid(solid), items(points, n), corners, Items<std::uint32_t>(sizes, faces));
-        },
-        [&](const gwb_polyhedron_made &made) { *out = made; });
+    const auto make = [&](Bench &bench, Lists &) {
+        return polyhedra::make(bench, Solid(solid), {points, n}, corners, Items<uint32_t>(sizes, faces));
+    };
+    return made(g, why, make, out);
 }
 
-gwb_kind gwb_ring(gwb *g, std::uint32_t face, const gwb_point *points, std::size_t n, gwb_outline_made *out, std::uint32_t *edges,
-                  std::uint32_t *vertices, gwb_refusal *why)
+gwb_kind gwb_ring(gwb *g, uint32_t face, const gwb_point *points, size_t n, gwb_outline_made *out, uint32_t *edges, uint32_t *vertices, gwb_refusal *why)
 {
-    return made(
-        g, why, [&](Bench &bench, Known &) { return machining::make_ring(bench, Face(face), items(points, n)); },
-        [&](const Ring &made) {
-            *out = {made.face.number(), made.loop.number()};
-            write(made.edges, edges);
-            write(made.vertices, vertices);
-        });
+    return made(g, why, [&](Bench &bench, Lists &) { return machining::make_ring(bench, Face(face), {points, n}); }, out, edges, vertices);
 }
 
-gwb_kind gwb_pocket(gwb *g, std::uint32_t face, const gwb_point *points, std::size_t n, std::int64_t depth, gwb_outline_made *out,
-                    std::uint32_t *sides, gwb_refusal *why)
+gwb_kind gwb_pocket(gwb *g, uint32_t face, const gwb_point *points, size_t n, int64_t depth, gwb_outline_made *out, uint32_t *sides, gwb_refusal *why)
 {
-    return raised(g, face, points, n, depth, true, out, sides, why);
+    return made(g, why, [&](Bench &bench, Lists &) { return machining::make_pocket(bench, Face(face), {points, n}, depth); }, out, sides);
 }
 
-gwb_kind gwb_boss(gwb *g, std::uint32_t face, const gwb_point *points, std::size_t n, std::int64_t height, gwb_outline_made *out,
-                  std::uint32_t *sides, gwb_refusal *why)
+gwb_kind gwb_boss(gwb *g, uint32_t face, const gwb_point *points, size_t n, int64_t height, gwb_outline_made *out, uint32_t *sides, gwb_refusal *why)
 {
-    return raised(g, face, points, n, height, false, out, sides, why);
+    return made(g, why, [&](Bench &bench, Lists &) { return machining::make_boss(bench, Face(face), {points, n}, height); }, out, sides);
 }
 
-gwb_kind gwb_hole(gwb *g, std::uint32_t face, const gwb_point *points, std::size_t n, gwb_outline_made *out, std::uint32_t *sides,
-                  gwb_refusal *why)
+gwb_kind gwb_hole(gwb *g, uint32_t face, const gwb_point *points, size_t n, gwb_outline_made *out, uint32_t *sides, gwb_refusal *why)
 {
-    return made(
-        g, why, [&](Bench &bench, Known &) { return machining::make_hole(bench, Face(face), items(points, n)); },
-        [&](const Hole &made) {
-            *out = {made.other.number(), made.loop.number()};
-            write(made.sides, sides);
-        });
+    return made(g, why, [&](Bench &bench, Lists &) { return machining::make_hole(bench, Face(face), {points, n}); }, out, sides);
 }
 
-gwb_kind gwb_drill(gwb *g, std::uint32_t face, const gwb_point *center, std::int64_t radius, std::uint32_t n, std::int64_t depth,
-                   gwb_outline_made *out, std::uint32_t *sides, gwb_point *points, gwb_refusal *why)
+gwb_kind gwb_drill(gwb *g, uint32_t face, const gwb_point *center, int64_t radius, uint32_t n, int64_t depth, gwb_outline_made *out, uint32_t *sides,
+                   gwb_point *points, gwb_refusal *why)
 {
-    return made(
-        g, why, [&](Bench &bench, Known &) { return drilling::drill(bench, Face(face), *center, radius, n, depth); },
-        [&](const Hole &made) {
-            *out = {made.other.number(), made.loop.number()};
-            write(made.sides, sides);
-            std::copy(made.points.begin(), made.points.end(), points);
-        });
+    return made(g, why, [&](Bench &bench, Lists &) { return drilling::drill(bench, Face(face), *center, radius, n, depth); }, out, sides, points);
 }
 
-gwb_kind gwb_find_faces(const gwb *g, const gwb_face_query *query, std::uint32_t *buf, std::size_t room, std::size_t *found, gwb_refusal *why)
+gwb_kind gwb_notch(gwb *g, uint32_t face, const gwb_point *points, size_t n, int64_t depth, gwb_refusal *why)
+{
+    return listed(g, why, [&](Bench &bench) { return shaping::cut_in_face(bench, Face(face), {points, n}, shaping::notch_tool, depth); });
+}
+
+gwb_kind gwb_slot(gwb *g, uint32_t face, const gwb_point *start, const gwb_point *end, int64_t width, int64_t depth, gwb_refusal *why)
+{
+    return listed(g, why, [&](Bench &bench) { return shaping::cut_in_face(bench, Face(face), {*start, *end}, shaping::slot_tool, width, depth); });
+}
+
+gwb_kind gwb_groove(gwb *g, uint32_t face, const gwb_point *start, const gwb_point *end, int64_t width, int64_t depth, gwb_refusal *why)
+{
+    return listed(g, why, [&](Bench &bench) { return shaping::cut_in_face(bench, Face(face), {*start, *end}, shaping::groove_tool, width, depth); });
+}
+
+gwb_kind gwb_shoulder(gwb *g, uint32_t face, uint32_t edge, int64_t width, int64_t depth, gwb_refusal *why)
+{
+    return listed(g, why, [&](Bench &bench) { return shaping::cut_shoulder(bench, Face(face), Edge(edge), width, depth); });
+}
+
+gwb_kind gwb_chamfer(gwb *g, uint32_t edge, int64_t width, int64_t other, uint32_t *face, gwb_refusal *why)
+{
+    return made(g, why, [&](Bench &bench, Lists &) { return shaping::make_chamfers(bench, {Edge(edge)}, width, other); }, face);
+}
+
+gwb_kind gwb_chamfer_edges(gwb *g, const uint32_t *edges, size_t n, int64_t width, uint32_t *faces, gwb_refusal *why)
+{
+    if (n == 0 || !are_different(edges, n))
+        return no_call(g);
+    return made(g, why, [&](Bench &bench, Lists &) { return shaping::make_chamfers(bench, std::vector<Edge>(edges, edges + n), width, width); }, faces);
+}
+
+gwb_kind gwb_find_faces(const gwb *g, const gwb_face_query *query, uint32_t *buf, size_t room, size_t *found, gwb_refusal *why)
 {
     return sought(g, *query, selection::faces, buf, room, found, why);
 }
 
-gwb_kind gwb_find_edges(const gwb *g, const gwb_edge_query *query, std::uint32_t *buf, std::size_t room, std::size_t *found, gwb_refusal *why)
+gwb_kind gwb_find_edges(const gwb *g, const gwb_edge_query *query, uint32_t *buf, size_t room, size_t *found, gwb_refusal *why)
 {
     return sought(g, *query, selection::edges, buf, room, found, why);
 }
 
-gwb_kind gwb_notch(gwb *g, std::uint32_t face, const gwb_point *points, std::size_t n, std::int64_t depth, gwb_refusal *why)
+gwb_kind gwb_off_lattice(const gwb *g, uint32_t solid, const gwb_cut_plane *plane, size_t most, gwb_advice **advice, gwb_refusal *why)
 {
-    return cut(g, why, [&](Bench &bench) {
-        return shaping::cut_in_face(bench, Face(face), items(points, n), {depth}, [&](const machining::Path &path) {
-            return shaping::notch_tool(bench, Face(face), path, depth);
-        });
-    });
-}
-
-gwb_kind gwb_slot(gwb *g, std::uint32_t face, const gwb_point *start, const gwb_point *end, std::int64_t width, std::int64_t depth, gwb_refusal *why)
-{
-    return channel(g, face, start, end, width, depth, shaping::slot_tool, why);
-}
-
-gwb_kind gwb_groove(gwb *g, std::uint32_t face, const gwb_point *start, const gwb_point *end, std::int64_t width, std::int64_t depth,
-                    gwb_refusal *why)
-{
-    return channel(g, face, start, end, width, depth, shaping::groove_tool, why);
-}
-
-gwb_kind gwb_shoulder(gwb *g, std::uint32_t face, std::uint32_t edge, std::int64_t width, std::int64_t depth, gwb_refusal *why)
-{
-    return cut(g, why, [&](Bench &bench) { return shaping::cut_shoulder(bench, Face(face), Edge(edge), width, depth); });
-}
-
-gwb_kind gwb_chamfer(gwb *g, std::uint32_t edge, std::int64_t width, std::int64_t other, std::uint32_t *face, gwb_refusal *why)
-{
-    return sloped(g, &edge, 1, width, other, face, why);
-}
-
-gwb_kind gwb_chamfer_edges(gwb *g, const std::uint32_t *edges, std::size_t n, std::int64_t width, std::uint32_t *faces, gwb_refusal *why)
-{
-    return n == 0 || !are_different(edges, n) ? no_call(g) : sloped(g, edges, n, width, width, faces, why);
-}
-
-gwb_kind gwb_off_lattice(const gwb *g, std::uint32_t solid, const gwb_cut_plane *plane, std::size_t most, gwb_advice **advice, gwb_refusal *why)
-{
-    return guarded(g, why, [&] {
-        const Lent session(g);
-        *advice = new gwb_advice{cutting::made(session.bench(), Solid(solid), *plane, most)};
-    });
+    return looked_at(g, why, [&](const Bench &bench) { *advice = new gwb_advice{cutting::made(bench, Solid(solid), *plane, most)}; });
 }
 
 void gwb_advice_free(gwb_advice *advice) { delete advice; }
@@ -533,11 +427,11 @@ gwb_wide gwb_advice_factor(const gwb_advice *advice) { return wide(advice->found
 
 bool gwb_advice_fits(const gwb_advice *advice) { return advice->found.fits; }
 
-std::size_t gwb_advice_cuts(const gwb_advice *advice, gwb_edge_cut *to, std::size_t room)
+size_t gwb_advice_cuts(const gwb_advice *advice, gwb_edge_cut *to, size_t room)
 {
-    return rows(advice->found.cuts, to, room, [](const EdgeCut &cut) {
+    return rows(advice->found.cuts, to, room, [](const cutting::EdgeCut &cut) {
         gwb_edge_cut row{cut.edge.number(), {}, {}};
-        for (std::size_t axis = 0; axis < 3; axis++) {
+        for (size_t axis = 0; axis < 3; axis++) {
             row.numerators[axis] = wide(cut.point[axis].numerator);
             row.denominators[axis] = wide(cut.point[axis].denominator);
         }
@@ -545,12 +439,12 @@ std::size_t gwb_advice_cuts(const gwb_advice *advice, gwb_edge_cut *to, std::siz
     });
 }
 
-std::size_t gwb_advice_planes(const gwb_advice *advice, gwb_near_plane *to, std::size_t room)
+size_t gwb_advice_planes(const gwb_advice *advice, gwb_near_plane *to, size_t room)
 {
     return rows(advice->found.near, to, room, [](const gwb_near_plane &near) { return near; });
 }
 
-std::size_t gwb_advice_text(const gwb_advice *advice, std::uint32_t above, char *buf, std::size_t room)
+size_t gwb_advice_text(const gwb_advice *advice, uint32_t above, char *buf, size_t room)
 {
     try {
         const std::string text = advice->found.advice(Solid(above));

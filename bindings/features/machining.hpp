@@ -22,13 +22,19 @@ inline std::uint32_t place(std::size_t at) { return static_cast<std::uint32_t>(a
 
 // ---- outlines
 
+/// Refuses sizes of the caller below 1, with the place of the first such.
+inline void require_sizes(std::initializer_list<std::int64_t> sizes)
+{
+    const auto small = std::find_if(sizes.begin(), sizes.end(), [](std::int64_t size) { return size < 1; });
+    if (small != sizes.end())
+        throw refused(GWB_WHY_SIZE_RANGE, place(static_cast<std::size_t>(small - sizes.begin())));
+}
+
 /// Points of the caller; refused where one lies out of range.
 inline Path path_of(Items<Point> points)
 {
-    Path path;
-    path.reserve(points.size());
-    for (const Point &at : points)
-        path.push_back(vector(at));
+    Path path(points.size());
+    std::transform(points.begin(), points.end(), path.begin(), vector);
     if (!std::all_of(path.begin(), path.end(), is_in_range))
         throw refused(GWB_WHY_POINT_RANGE, 0);
     return path;
@@ -36,11 +42,7 @@ inline Path path_of(Items<Point> points)
 
 inline Outline flattened(const Path &path, Axes axes)
 {
-    std::vector<Spot> spots;
-    spots.reserve(path.size());
-    for (const Vector &at : path)
-        spots.push_back({at[axes[0]], at[axes[1]]});
-    return outline_of(spots);
+    return outline_of(path, [&](const Vector &at) { return Spot{at[axes[0]], at[axes[1]]}; });
 }
 
 /// Whether two sides of an outline meet otherwise than neighbours do, at their common end.
@@ -66,6 +68,14 @@ inline void require_simple(const Outline &sides)
     }
 }
 
+/// Refuses points off a plane, by their heights above it.
+template <class Height> void require_in_plane(const Path &path, Height height)
+{
+    const auto off = std::find_if(path.begin(), path.end(), [&](const Vector &at) { return height(at) != 0; });
+    if (off != path.end())
+        throw impossible(Misfit::not_in_plane, place(static_cast<std::size_t>(off - path.begin())));
+}
+
 /// The normal of the flat simple outline through points.
 inline Vector simple_normal(const Path &path)
 {
@@ -78,9 +88,7 @@ inline Vector simple_normal(const Path &path)
     const Vector across = area_vector(path);
     if (is_zero(across))
         throw impossible(Misfit::no_area, 0);
-    for (std::size_t at = 0; at < path.size(); at++)
-        if (dot(across, subtract(path[at], path[0])) != 0)
-            throw impossible(Misfit::not_in_plane, place(at));
+    require_in_plane(path, [&](const Vector &at) { return dot(across, subtract(at, path[0])); });
     require_simple(flattened(path, flat_axes(across)));
     return across;
 }
@@ -142,9 +150,7 @@ public:
     /// None where a loop is lone, the face has no area, a vertex lies off its plane or an edge has no length.
     static std::optional<FacePlane> of(const std::vector<Path> &loops)
     {
-        Vector sum{};
-        for (const Path &path : loops)
-            sum = add(sum, area_vector(path));
+        const Vector sum = area_vector(loops);
         if (is_zero(sum))
             return std::nullopt;
         const FacePlane plane(reduced(sum), loops[0][0]);
@@ -254,7 +260,9 @@ public:
         const Box box = Box::around(path);
         boxes_.put(box, loop.number());
         loops_.insert_or_assign(loop, std::pair(face, path));
-        around_ = around_ ? joined(*around_, box) : box;
+        if (!around_)
+            around_ = box;
+        around_->take(box);
     }
 
     /// A loop is gone, or runs elsewhere.
@@ -270,11 +278,7 @@ public:
     void move(Loop ring, Face face) { loops_.at(ring).first = face; }
 
     /// The plane of a face, where that is plain and flat.
-    [[nodiscard]] const FacePlane *plane(Face face) const
-    {
-        const auto found = planes_.find(face);
-        return found != planes_.end() ? &found->second : nullptr;
-    }
+    [[nodiscard]] const FacePlane *plane(Face face) const { return look_up(planes_, face); }
 
     /// A box around the part of a ray that lies in the box around the solid.
     [[nodiscard]] Box box_of_ray(const Vector &start, const Vector &way) const
@@ -314,9 +318,7 @@ public:
     [[nodiscard]] Path ring_path(Face face, const Path &path) const
     {
         const FacePlane &plane = planes_.at(face);
-        for (std::size_t at = 0; at < path.size(); at++)
-            if (plane.height(path[at]) != 0)
-                throw impossible(Misfit::not_in_plane, place(at));
+        require_in_plane(path, [&](const Vector &at) { return plane.height(at); });
         (void)simple_normal(path);
         const Outline own = flattened(path, flat_axes(plane.across()));
         Region(plane, near(Box::around(path))[face]).require_inside(face, own);
@@ -324,20 +326,13 @@ public:
     }
 
 private:
-    static Box joined(Box box, const Box &other)
-    {
-        box.take(other.low);
-        box.take(other.high);
-        return box;
-    }
-
     std::unordered_map<Loop, std::pair<Face, Path>> loops_;
     std::map<Face, FacePlane> planes_;
     BoxIndex boxes_;
     std::optional<Box> around_;
 };
 
-/// What is known of the solids of a model.
+/// What is kept with a session: what is known of the solids of its model, and what the last feature made.
 class Surroundings {
 public:
     /// Those of the model that a workbench holds, which are forgotten where it isn't the one that they are of.
@@ -348,6 +343,14 @@ public:
         if (std::exchange(known.changes_, of.changes) != of.changes)
             known.surfaces_.clear();
         return known;
+    }
+
+    /// What is kept with a session, and is made where there is none.
+    static Surroundings &at(struct beside &session)
+    {
+        if (session.known == nullptr)
+            session.known = new Surroundings();
+        return *static_cast<Surroundings *>(session.known);
     }
 
     /// Whether it is of the model that was changed so many times.
@@ -366,10 +369,19 @@ public:
         changes_ = beside_of(bench.handle())->changes;
     }
 
+    Lists lists; ///< what the last feature made
+
 private:
     std::uint64_t changes_ = UINT64_MAX; ///< after which it was read; the greatest where it is of no model
     std::map<Solid, Surface> surfaces_;
 };
+
+/// Refuses a solid that isn't there: NoSolid.
+inline void require_solid(const Bench &bench, Solid solid)
+{
+    if (bench.faces(solid).empty())
+        throw refused(GWB_WHY_NO_SOLID, solid.number());
+}
 
 /// The solid of a face. Refused: NoFace.
 inline Solid solid_of(const Bench &bench, Face face)
@@ -400,9 +412,7 @@ public:
     }
     [[nodiscard]] Outline outline(const Path &path) const
     {
-        std::vector<Spot> spots;
-        std::transform(path.begin(), path.end(), std::back_inserter(spots), [&](const Vector &at) { return spot(at); });
-        return outline_of(spots);
+        return outline_of(path, [&](const Vector &at) { return spot(at); });
     }
 
 private:
@@ -415,16 +425,15 @@ private:
 class Prism {
 public:
     Prism(const Vector &across, const Path &path, const Vector &way, bool is_open)
-        : path_(path), up_(dot(across, way) > 0 ? across : negative(across)), top_(dot(up_, way)), is_open_(is_open), sight_(up_, path[0]),
-          sides_(sight_.outline(path)), box_(Box::around(path))
+        : path_(path), far_(moved(path, way)), up_(dot(across, way) > 0 ? across : negative(across)), top_(dot(up_, way)), is_open_(is_open),
+          sight_(up_, path[0]), sides_(sight_.outline(path)), box_(Box::around(path))
     {
-        for (const Vector &at : path) {
-            far_.push_back(add(at, way));
-            box_.take(far_.back());
-        }
+        box_.take(Box::around(far_));
     }
 
     [[nodiscard]] const Box &box() const { return box_; }
+    /// The outline where it was moved to.
+    [[nodiscard]] const Path &far() const { return far_; }
 
     /// Whether it meets an edge of a loop, or the vertex of a lone one.
     [[nodiscard]] bool meets_loop(const Path &path) const
@@ -557,18 +566,11 @@ inline Opposite opposite(const Surface &surface, Face face, const Vector &across
 
 // ---- what is drawn and moved
 
-/// A path of edges through points, closed: the face inside, where the points run clockwise, the edges in their order, and the vertices of all
-/// points but the first.
-struct ClosedPath {
-    Face inside;
-    std::vector<Edge> edges;
-    std::vector<Vertex> vertices;
-};
-
-/// Draws a closed path from the lone vertex of a loop, where its first point lies.
-inline ClosedPath close_path(Bench &bench, Loop loop, const Path &path)
+/// Draws a closed path from the lone vertex of a loop, where its first point lies: the face inside, where the points run clockwise, and the edges and
+/// vertices in the order of the points.
+inline Ring close_path(Bench &bench, Loop loop, Vertex first, const Path &path)
 {
-    ClosedPath made;
+    Ring made{Face(), loop, {}, {first}};
     for (std::size_t at = 1; at < path.size(); at++) {
         go_on();
         const Corner corner = at == 1 ? lone(loop) : Corner(minus(made.edges.back()));
@@ -577,7 +579,7 @@ inline ClosedPath close_path(Bench &bench, Loop loop, const Path &path)
         made.vertices.push_back(grown.vertex);
     }
     const NewFace closing = bench.mef(minus(made.edges.back()), plus(made.edges.front()));
-    made.inside = closing.face;
+    made.face = closing.face;
     made.edges.push_back(closing.edge);
     return made;
 }
@@ -587,11 +589,7 @@ inline Ring draw(Bench &bench, Face face, const Path &path)
 {
     const HalfEdge start = *bench.around(bench.face(face).outer_loop).begin();
     const NewVertex spur = bench.mev(start, start, point(path[0]));
-    const Loop loop = bench.kemr(plus(spur.edge));
-    const ClosedPath made = close_path(bench, loop, path);
-    Ring ring{made.inside, loop, made.edges, {spur.vertex}};
-    ring.vertices.insert(ring.vertices.end(), made.vertices.begin(), made.vertices.end());
-    return ring;
+    return close_path(bench, bench.kemr(plus(spur.edge)), spur.vertex, path);
 }
 
 /// Moves a face, and finds the sides over half-edges of it.
@@ -604,23 +602,6 @@ inline std::vector<Face> sides_of_sweep(Bench &bench, Face face, const Vector &w
     return sides;
 }
 
-/// A solid of two faces back to back through points: the first looks to where they run counterclockwise, along the first half-edges of the
-/// edges, from the points on.
-struct FlatSolid {
-    Face front, back;
-    std::vector<Edge> edges;
-};
-
-inline FlatSolid flat_solid(Bench &bench, const Path &path, Solid solid)
-{
-    const Face face = bench.next_free<Face>();
-    const Loop loop = bench.next_free<Loop>();
-    const Vertex vertex = bench.next_free<Vertex>();
-    bench.mvfs(solid, face, loop, vertex, point(path[0]));
-    ClosedPath made = close_path(bench, loop, path);
-    return FlatSolid{face, made.inside, std::move(made.edges)};
-}
-
 inline Profile make_profile(Bench &bench, Solid solid, Items<Point> points, Point along)
 {
     const Path path = path_of(points);
@@ -631,9 +612,15 @@ inline Profile make_profile(Bench &bench, Solid solid, Items<Point> points, Poin
     const int side = sign(dot(across, way));
     if (side == 0)
         throw impossible(Misfit::along_plane, 0);
-    const FlatSolid flat = flat_solid(bench, side > 0 ? path : turned(path), solid);
-    const std::vector<Face> sides = sides_of_sweep(bench, flat.front, way, flat.edges, true);
-    return Profile{solid, flat.front, flat.back, by_points(sides, side < 0)};
+    // two faces back to back, of which the one moves to where the points run counterclockwise
+    const Path drawn = side > 0 ? path : turned(path);
+    const Face far = bench.next_free<Face>();
+    const Loop loop = bench.next_free<Loop>();
+    const Vertex first = bench.next_free<Vertex>();
+    bench.mvfs(solid, far, loop, first, point(drawn[0]));
+    const Ring flat = close_path(bench, loop, first, drawn);
+    const std::vector<Face> sides = sides_of_sweep(bench, far, way, flat.edges, true);
+    return Profile{solid, far, flat.face, by_points(sides, side < 0)};
 }
 
 /// An outline that is ready to be drawn in a face.
@@ -648,15 +635,12 @@ struct Drawing {
 inline Drawing drawing(const Bench &bench, Face face, Items<Point> points)
 {
     const Solid solid = solid_of(bench, face);
+    const Vector across = plane_of(bench, face).across();
     Surroundings &known = Surroundings::of(bench);
-    const Surface &surface = known.surface(bench, solid);
-    const FacePlane *plane = surface.plane(face);
-    if (plane == nullptr)
-        throw refused(GWB_WHY_NOT_FLAT, face.number());
     const Path given = path_of(points);
-    Path path = surface.ring_path(face, given);
+    Path path = known.surface(bench, solid).ring_path(face, given);
     const bool is_turned = path != given;
-    return Drawing{&known, solid, plane->across(), std::move(path), is_turned};
+    return Drawing{&known, solid, across, std::move(path), is_turned};
 }
 
 inline Ring make_ring(Bench &bench, Face face, Items<Point> points)
@@ -674,60 +658,61 @@ inline Ring make_ring(Bench &bench, Face face, Items<Point> points)
     return made;
 }
 
-/// Draws an outline and moves the face inside it.
-inline Pocket draw_and_sweep(Bench &bench, Face face, const Drawing &drawn, const Vector &way)
+/// Moves an outline in a face along the face's normal, as far as another face where it is to end in that.
+inline Pocket move_outline(Bench &bench, Face face, const Drawing &drawn, const Vector &way, Face other = Face())
 {
+    const Prism prism(drawn.across, drawn.path, way, other != Face());
+    const Surface &surface = drawn.known->surface(bench, drawn.solid);
+    if (other != Face())
+        (void)surface.ring_path(other, prism.far());
+    require_room(surface, prism, face, other);
     const Ring ring = draw(bench, face, drawn.path);
     const std::vector<Face> sides = sides_of_sweep(bench, ring.face, way, ring.edges, false);
-    return Pocket{ring.face, ring.loop, by_points(sides, drawn.is_turned)};
+    const Loop far_ring = bench.face(ring.face).outer_loop;
+    if (other != Face())
+        bench.kfmrh(other, ring.face);
+    drawn.known->follow(bench, drawn.solid, [&](Surface &of) {
+        of.put(face, ring.loop, drawn.path);
+        for (Face side : sides)
+            of.put(bench, side);
+        if (other != Face())
+            of.put(other, far_ring, prism.far());
+        else
+            of.put(bench, ring.face);
+    });
+    return Pocket{other != Face() ? other : ring.face, ring.loop, by_points(sides, drawn.is_turned)};
 }
 
-/// Takes in a ring in a face, and the sides over it.
-inline void put_sides(Surface &surface, const Bench &bench, Face face, Loop loop, const Path &ring, const std::vector<Face> &sides)
-{
-    surface.put(face, loop, ring);
-    for (Face side : sides)
-        surface.put(bench, side);
-}
-
-/// Moves an outline in a face along the face's normal: by a length that is below zero for a pocket.
-inline Pocket raise(Bench &bench, Face face, Items<Point> points, std::int64_t length)
+/// The same by a length, which is below zero for a pocket. Refused, where a point would lie out of range, for what the caller says.
+inline Pocket move_so_far(Bench &bench, Face face, Items<Point> points, std::int64_t length, const Failure &far_out)
 {
     const Drawing drawn = drawing(bench, face, points);
     const std::optional<Vector> way = steps_along(drawn.across, length);
     if (!way)
         throw impossible(Misfit::off_lattice, face.number());
-    if (std::any_of(drawn.path.begin(), drawn.path.end(), [&](const Vector &at) { return !is_in_range(add(at, *way)); }))
-        throw length < 0 ? impossible(Misfit::meets, face.number()) : refused(GWB_WHY_POINT_RANGE, 0);
-    const Prism prism(drawn.across, drawn.path, *way, false);
-    require_room(drawn.known->surface(bench, drawn.solid), prism, face);
-    const Pocket made = draw_and_sweep(bench, face, drawn, *way);
-    drawn.known->follow(bench, drawn.solid, [&](Surface &surface) {
-        put_sides(surface, bench, face, made.loop, drawn.path, made.sides);
-        surface.put(bench, made.face);
-    });
-    return made;
+    if (!std::all_of(drawn.path.begin(), drawn.path.end(), [&](const Vector &at) { return is_in_range(add(at, *way)); }))
+        throw far_out;
+    return move_outline(bench, face, drawn, *way);
 }
 
-inline Hole make_hole(Bench &bench, Face face, Items<Point> points)
+inline Pocket make_pocket(Bench &bench, Face face, Items<Point> points, std::int64_t depth)
+{
+    require_sizes({depth});
+    return move_so_far(bench, face, points, -depth, impossible(Misfit::meets, face.number()));
+}
+
+inline Pocket make_boss(Bench &bench, Face face, Items<Point> points, std::int64_t height)
+{
+    require_sizes({height});
+    return move_so_far(bench, face, points, height, refused(GWB_WHY_POINT_RANGE, 0));
+}
+
+/// A hole: the face is the one that it ends in.
+inline Pocket make_hole(Bench &bench, Face face, Items<Point> points)
 {
     const Drawing drawn = drawing(bench, face, points);
-    const Surface &surface = drawn.known->surface(bench, drawn.solid);
-    const Opposite end = opposite(surface, face, drawn.across, drawn.path[0]);
-    Path far;
-    std::transform(drawn.path.begin(), drawn.path.end(), std::back_inserter(far), [&](const Vector &at) { return add(at, end.way); });
-    (void)surface.ring_path(end.face, far);
-    require_room(surface, Prism(drawn.across, drawn.path, end.way, true), face, end.face);
-    const Pocket made = draw_and_sweep(bench, face, drawn, end.way);
-    const Loop far_ring = bench.face(made.face).outer_loop;
-    bench.kfmrh(end.face, made.face);
-    drawn.known->follow(bench, drawn.solid, [&](Surface &of) {
-        put_sides(of, bench, face, made.loop, drawn.path, made.sides);
-        of.put(end.face, far_ring, far);
-    });
-    Hole hole{end.face, made.loop, made.sides, {}};
-    hole.points.assign(points.begin(), points.end());
-    return hole;
+    const Opposite end = opposite(drawn.known->surface(bench, drawn.solid), face, drawn.across, drawn.path[0]);
+    return move_outline(bench, face, drawn, end.way, end.face);
 }
 
 } // namespace machining

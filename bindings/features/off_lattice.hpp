@@ -9,22 +9,30 @@
 #include <limits>
 #include <set>
 
-namespace gwb_session {
+namespace gwb_session::cutting {
+
+using namespace exact;
+using machining::Path;
 
 /// A fraction by its least terms, of which the second is above zero.
 struct Fraction {
-    exact::Wide numerator = 0, denominator = 1;
+    Wide numerator = 0, denominator = 1;
 
+    static Fraction of(Wide numerator, Wide denominator)
+    {
+        const Wide divisor = denominator < 0 ? -greatest_divisor(numerator, denominator) : greatest_divisor(numerator, denominator);
+        return {numerator / divisor, denominator / divisor};
+    }
     [[nodiscard]] bool is_whole() const { return denominator == 1; }
     [[nodiscard]] double value() const { return static_cast<double>(numerator) / static_cast<double>(denominator); }
     /// As 7/2, or 7 where it is whole.
     [[nodiscard]] std::string text() const { return is_whole() ? digits(numerator) : digits(numerator) + "/" + digits(denominator); }
 
     /// A whole number in decimal digits.
-    static std::string digits(exact::Wide number)
+    static std::string digits(Wide number)
     {
         std::string text;
-        for (exact::Wide left = exact::magnitude(number); left != 0 || text.empty(); left /= 10)
+        for (Wide left = magnitude(number); left != 0 || text.empty(); left /= 10)
             text.insert(text.begin(), static_cast<char>('0' + static_cast<int>(left % 10)));
         return number < 0 ? "-" + text : text;
     }
@@ -44,7 +52,7 @@ struct OffLattice {
     gwb_cut_plane plane;
     std::vector<EdgeCut> cuts; ///< of all edges that the plane cuts, rising
     /// The least by which the model must be multiplied for all points of the cut to be whole: 1 where they are, 0 where it passes 10^36.
-    exact::Wide factor = 1;
+    Wide factor = 1;
     /// Whether the model times the factor stays within 1,000,000,000, and the plane in its range: then the plane a, b, c, d times the factor
     /// cuts it at whole points.
     bool fits = true;
@@ -94,19 +102,8 @@ private:
     }
 };
 
-namespace cutting {
-
-using namespace exact;
-
 /// The offset of a plane lies within this.
 constexpr Wide farthest_offset = 3 * Wide{farthest} * farthest;
-
-/// A fraction by its least terms.
-inline Fraction fraction(Wide numerator, Wide denominator)
-{
-    const Wide divisor = denominator < 0 ? -greatest_divisor(numerator, denominator) : greatest_divisor(numerator, denominator);
-    return {numerator / divisor, denominator / divisor};
-}
 
 struct Ends {
     Edge edge;
@@ -117,11 +114,11 @@ struct Ends {
     [[nodiscard]] Wide parts() const { return greatest_divisor(greatest_divisor(along()[0], along()[1]), along()[2]); }
     [[nodiscard]] bool is_cut(const Plane &plane) const { return sign(plane.height(start)) * sign(plane.height(end)) < 0; }
     /// How far along it the plane meets it: 0 at its start, 1 at its end.
-    [[nodiscard]] Fraction met(const Plane &plane) const { return fraction(plane.height(start), plane.height(start) - plane.height(end)); }
+    [[nodiscard]] Fraction met(const Plane &plane) const { return Fraction::of(plane.height(start), plane.height(start) - plane.height(end)); }
     [[nodiscard]] EdgeCut cut(const Plane &plane) const
     {
         const Fraction way = met(plane);
-        const auto part = [&](std::size_t axis) { return fraction(start[axis] * way.denominator + along()[axis] * way.numerator, way.denominator); };
+        const auto part = [&](std::size_t axis) { return Fraction::of(start[axis] * way.denominator + along()[axis] * way.numerator, way.denominator); };
         return {edge, {part(0), part(1), part(2)}};
     }
 };
@@ -167,6 +164,9 @@ private:
 struct Band {
     Wide low, high;
 
+    explicit Band(Wide from, Wide to) : low(from), high(to) {}
+    explicit Band(Wide only) : Band(only, only) {}
+
     /// How far the fraction lies beside the band, times its denominator.
     [[nodiscard]] Wide gap(const Fraction &offset) const
     {
@@ -199,9 +199,9 @@ inline std::vector<Band> bands_of(const std::vector<Span> &spans, const Fraction
     std::vector<Band> bands;
     for (auto low = levels.begin(), high = std::next(low); high != levels.end(); low = high++) {
         if (*low + 1 < *high)
-            bands.push_back({*low + 1, *high - 1});
+            bands.emplace_back(*low + 1, *high - 1);
         if (std::next(high) != levels.end())
-            bands.push_back({*high, *high});
+            bands.emplace_back(*high);
     }
     std::stable_sort(bands.begin(), bands.end(), [&](const Band &a, const Band &b) { return a.gap(offset) < b.gap(offset); });
     return bands;
@@ -221,40 +221,41 @@ inline std::optional<Wide> nearest_in(const Band &band, const Fraction &offset, 
     std::optional<Wide> found;
     for (Wide beside : {below, below + common->modulus}) {
         const bool is_asked = std::all_of(asked.begin(), asked.end(), [&](const Congruence &one) { return one.has(beside); });
-        if (band.low <= beside && beside <= band.high && is_asked && (!found || Band{beside, beside}.gap(offset) < Band{*found, *found}.gap(offset)))
+        if (band.low <= beside && beside <= band.high && is_asked && (!found || Band(beside).gap(offset) < Band(*found).gap(offset)))
             found = beside;
     }
     return found;
 }
 
-/// How often a loop with corners at these heights passes through the plane; none where it only touches it somewhere.
-inline std::optional<int> cut_places(const std::vector<int> &heights)
+/// How often a loop passes through a plane, given on which side each of its corners lies; none where it only touches it somewhere.
+inline std::optional<int> cut_places(const std::vector<int> &sides)
 {
     int count = 0;
-    for (std::size_t at = 0; at < heights.size(); at++) {
-        const int before = heights[(at + heights.size() - 1) % heights.size()], level = heights[at], after = heights[(at + 1) % heights.size()];
-        if (level == 0 && before * after >= 0)
+    for (std::size_t at = 0; at < sides.size(); at++) {
+        const int before = sides[(at + sides.size() - 1) % sides.size()], side = sides[at], after = sides[(at + 1) % sides.size()];
+        if (side == 0 && before * after >= 0)
             return std::nullopt;
-        count += level == 0 || level * after < 0;
+        count += side == 0 || side * after < 0;
     }
     return count;
 }
 
-/// Whether a face lies on one side of a plane, or can be cut by it: given on which side the corners of its loops lie, the outer one first.
-inline bool is_drawn(const std::vector<std::vector<int>> &loops)
+/// Whether a face with these loops, the outer one first, lies on one side of a plane, or can be cut by it.
+inline bool is_drawn(const std::vector<Path> &loops, const Plane &plane)
 {
-    bool is_below = false, is_above = false;
-    for (const std::vector<int> &loop : loops) {
-        is_below = is_below || *std::min_element(loop.begin(), loop.end()) < 0;
-        is_above = is_above || *std::max_element(loop.begin(), loop.end()) > 0;
+    std::vector<std::vector<int>> sides;
+    int lowest = 0, highest = 0;
+    for (const Path &loop : loops) {
+        std::vector<int> &own = sides.emplace_back(loop.size());
+        std::transform(loop.begin(), loop.end(), own.begin(), [&](const Vector &at) { return sign(plane.height(at)); });
+        lowest = std::min(lowest, *std::min_element(own.begin(), own.end()));
+        highest = std::max(highest, *std::max_element(own.begin(), own.end()));
     }
-    if (!is_below || !is_above)
-        return true;
     int sum = 0;
     bool is_missed = false;
-    for (const std::vector<int> &loop : loops) {
-        const std::optional<int> count = cut_places(loop);
-        if (!count || (&loop == &loops.front() && *count == 0))
+    for (std::size_t at = 0; at < sides.size() && lowest < 0 && highest > 0; at++) {
+        const std::optional<int> count = cut_places(sides[at]);
+        if (!count || (at == 0 && *count == 0))
             return false;
         sum += *count;
         is_missed = is_missed || *count == 0;
@@ -299,8 +300,8 @@ public:
             const EdgeRow row = bench.edge(edge);
             edges_.push_back({edge, vector(bench.vertex(row.from)), vector(bench.vertex(row.to))});
         }
-        std::copy_if(edges_.begin(), edges_.end(), std::back_inserter(cuts_), [&](const Ends &ends) { return ends.is_cut(plane); });
-        std::stable_partition(edges_.begin(), edges_.end(), [&](const Ends &ends) { return ends.is_cut(plane); });
+        const auto others = std::stable_partition(edges_.begin(), edges_.end(), [&](const Ends &ends) { return ends.is_cut(plane); });
+        cuts_.assign(edges_.begin(), others);
     }
 
     [[nodiscard]] const std::vector<Ends> &cuts() const { return cuts_; }
@@ -308,8 +309,8 @@ public:
     [[nodiscard]] Wide reach() const
     {
         Wide reach = 0;
-        for (const std::vector<std::vector<Vector>> &face : faces_)
-            for (const std::vector<Vector> &loop : face)
+        for (const std::vector<Path> &loops : faces_)
+            for (const Path &loop : loops)
                 for (const Vector &at : loop)
                     reach = std::max(reach, longest(at));
         return reach;
@@ -320,21 +321,21 @@ public:
     {
         const Vector normal = reduced(plane_.across);
         const std::size_t axis = widest(normal);
-        const Fraction offset = fraction(plane_.offset * normal[axis], plane_.across[axis]);
+        const Fraction offset = Fraction::of(plane_.offset * normal[axis], plane_.across[axis]);
         std::vector<Span> spans;
         for (const Ends &ends : edges_)
             spans.push_back(span_of(normal, ends));
         std::optional<Wide> best;
         for (const Band &band : bands_of(spans, offset)) {
             go_on();
-            if (best && band.gap(offset) >= Band{*best, *best}.gap(offset))
+            if (best && band.gap(offset) >= Band(*best).gap(offset))
                 break;
             std::set<Congruence> asked;
             for (const Span &span : spans)
                 if (span.crosses(band))
                     asked.insert(span.whole);
             const std::optional<Wide> found = nearest_in(band, offset, asked);
-            if (found && (!best || Band{*found, *found}.gap(offset) < Band{*best, *best}.gap(offset)) && is_cuttable({normal, *found}))
+            if (found && (!best || Band(*found).gap(offset) < Band(*best).gap(offset)) && is_cuttable({normal, *found}))
                 best = found;
         }
         return best ? near({normal, *best}, true) : std::nullopt;
@@ -395,12 +396,12 @@ private:
     }
 
     /// The whole points of an edge, its ends among them, next to where it is cut: two on either side.
-    [[nodiscard]] std::vector<Vector> whole_points(const Ends &ends) const
+    [[nodiscard]] Path whole_points(const Ends &ends) const
     {
         const Fraction way = ends.met(plane_);
         const Wide parts = ends.parts(), last = parts * way.numerator / way.denominator;
         const Vector step = reduced(ends.along());
-        std::vector<Vector> points;
+        Path points;
         for (Wide place = std::max(Wide{0}, last - 1); place <= std::min(parts, last + 2); place++)
             points.push_back(add(ends.start, times(step, place)));
         return points;
@@ -409,7 +410,7 @@ private:
     /// The planes through whole points of three cut edges that lie apart, each once, looking the way of the plane but not parallel to it.
     [[nodiscard]] std::vector<Plane> candidates() const
     {
-        std::vector<std::vector<Vector>> points;
+        std::vector<Path> points;
         for (const Ends &ends : spread())
             points.push_back(whole_points(ends));
         std::vector<Plane> found;
@@ -421,8 +422,8 @@ private:
         return found;
     }
 
-    void through_each(const std::vector<Vector> &firsts, const std::vector<Vector> &seconds, const std::vector<Vector> &thirds,
-                      std::set<std::pair<Vector, Wide>> &seen, std::vector<Plane> &found) const
+    void through_each(const Path &firsts, const Path &seconds, const Path &thirds, std::set<std::pair<Vector, Wide>> &seen,
+                      std::vector<Plane> &found) const
     {
         for (const Vector &first : firsts)
             for (const Vector &second : seconds)
@@ -451,9 +452,8 @@ private:
         bool is_above = false, is_below = false;
         for (const Ends &ends : edges_) {
             const Wide first = plane.height(ends.start), last = plane.height(ends.end);
-            for (std::size_t axis = 0; axis < 3 && sign(first) * sign(last) < 0; axis++)
-                if (ends.along()[axis] * first % (first - last) != 0)
-                    return false;
+            if (sign(first) * sign(last) < 0 && !on_way(ends.start, ends.along(), first, first - last))
+                return false;
             is_above = is_above || first > 0 || last > 0;
             is_below = is_below || first < 0 || last < 0;
         }
@@ -464,14 +464,7 @@ private:
     [[nodiscard]] bool is_cuttable(const Plane &plane) const
     {
         go_on();
-        return std::all_of(faces_.begin(), faces_.end(), [&](const std::vector<std::vector<Vector>> &face) {
-            std::vector<std::vector<int>> heights;
-            for (const std::vector<Vector> &loop : face) {
-                std::vector<int> &of_loop = heights.emplace_back();
-                std::transform(loop.begin(), loop.end(), std::back_inserter(of_loop), [&](const Vector &at) { return sign(plane.height(at)); });
-            }
-            return is_drawn(heights);
-        });
+        return std::all_of(faces_.begin(), faces_.end(), [&](const std::vector<Path> &loops) { return is_drawn(loops, plane); });
     }
 
     /// The square of how far the plane moves the cut along an edge at most; none where it is parallel to one.
@@ -482,7 +475,7 @@ private:
             if (plane.height(ends.start) == plane.height(ends.end))
                 return std::nullopt;
             const Fraction old = ends.met(plane_), now = ends.met(plane);
-            const Fraction way = fraction(now.numerator * old.denominator - old.numerator * now.denominator, old.denominator * now.denominator);
+            const Fraction way = Fraction::of(now.numerator * old.denominator - old.numerator * now.denominator, old.denominator * now.denominator);
             if (const SquareMoved moved(way, dot(ends.along(), ends.along())); moved.compare(most) > 0)
                 most = moved;
         }
@@ -498,14 +491,28 @@ private:
     }
 
     Plane plane_;
-    std::vector<std::vector<std::vector<Vector>>> faces_;
+    std::vector<std::vector<Path>> faces_; ///< their loops
     std::vector<Ends> edges_, cuts_;
 };
 
+/// The least number by which points must be multiplied to be whole: 0 where it passes 10^36.
+inline Wide least_factor(const std::vector<EdgeCut> &cuts)
+{
+    constexpr Wide most = Wide{1'000'000'000'000'000'000} * 1'000'000'000'000'000'000;
+    Wide factor = 1;
+    for (const EdgeCut &cut : cuts)
+        for (const Fraction &part : cut.point) {
+            const Wide step = part.denominator / greatest_divisor(factor, part.denominator);
+            if (step > most / factor)
+                return 0;
+            factor *= step;
+        }
+    return factor;
+}
+
 inline OffLattice made(const Bench &bench, Solid solid, const gwb_cut_plane &row, std::size_t most)
 {
-    if (bench.faces(solid).empty())
-        throw machining::refused(GWB_WHY_NO_SOLID, solid.number());
+    machining::require_solid(bench, solid);
     const Plane plane = Plane::of(row);
     const std::array<Wide, 4> parts = {row.a, row.b, row.c, row.d};
     for (std::uint32_t at = 0; at < 4; at++)
@@ -515,25 +522,15 @@ inline OffLattice made(const Bench &bench, Solid solid, const gwb_cut_plane &row
     OffLattice found{solid, row, {}, 1, true, {}};
     for (const Ends &ends : near.cuts())
         found.cuts.push_back(ends.cut(plane));
-    constexpr Wide most_factor = Wide{1'000'000'000'000'000'000} * 1'000'000'000'000'000'000;
-    for (const EdgeCut &cut : found.cuts)
-        for (const Fraction &part : cut.point)
-            if (found.factor != 0) {
-                const Wide step = part.denominator / greatest_divisor(found.factor, part.denominator);
-                found.factor = step > most_factor / found.factor ? 0 : found.factor * step;
-            }
-    found.fits = found.factor == 1 || (found.factor != 0 && found.factor <= farthest && near.reach() * found.factor <= farthest &&
-                                       magnitude(parts[3]) * found.factor <= farthest_offset);
-    if (found.factor == 1)
+    const Wide factor = found.factor = least_factor(found.cuts);
+    if (factor == 1)
         return found;
+    found.fits = factor != 0 && factor <= farthest && near.reach() * factor <= farthest && magnitude(plane.offset) * factor <= farthest_offset;
     if (const std::optional<gwb_near_plane> parallel = near.parallel())
         found.near.push_back(*parallel);
-    for (const gwb_near_plane &tilted : near.tilted(most))
-        found.near.push_back(tilted);
+    append(found.near, near.tilted(most));
     return found;
 }
 
-} // namespace cutting
-
-} // namespace gwb_session
+} // namespace gwb_session::cutting
 #endif

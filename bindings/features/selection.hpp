@@ -46,11 +46,7 @@ inline bool is_query(const gwb_edge_query &query)
 /// A face that is looked at.
 class Candidate {
 public:
-    Candidate(const Bench &bench, Face face) : loops_(machining::loops_at(bench, face))
-    {
-        for (const Path &path : loops_)
-            across_ = add(across_, area_vector(path));
-    }
+    Candidate(const Bench &bench, Face face) : loops_(machining::loops_at(bench, face)), across_(area_vector(loops_)) {}
 
     [[nodiscard]] bool fits(const gwb_face_query &query) const
     {
@@ -78,7 +74,7 @@ private:
     }
 
     std::vector<Path> loops_;
-    Vector across_{};
+    Vector across_;
 };
 
 /// The faces for which all holds that is asked, rising. Refused: NoSolid.
@@ -92,12 +88,13 @@ inline std::vector<Face> faces(const Bench &bench, const gwb_face_query &query)
                 found.push_back(face);
         }
     };
-    if (query.solid == 0)
+    const Solid solid(query.solid);
+    if (solid == Solid()) {
         look(bench.numbers<Face>());
-    else if (bench.faces(Solid(query.solid)).empty())
-        throw machining::refused(GWB_WHY_NO_SOLID, query.solid);
-    else
-        look(bench.faces(Solid(query.solid)));
+    } else {
+        machining::require_solid(bench, solid);
+        look(bench.faces(solid));
+    }
     return found;
 }
 
@@ -118,15 +115,14 @@ inline std::set<Edge> edges_between(const Bench &bench, Face one, Face other, So
 inline std::set<Edge> candidates(const Bench &bench, const gwb_edge_query &query)
 {
     const Solid solid(query.solid);
-    const bool is_there = solid == Solid() || !bench.faces(solid).empty();
-    if (query.between[0] != 0) {
-        std::set<Edge> found = edges_between(bench, Face(query.between[0]), Face(query.between[1]), solid);
-        if (is_there)
-            return found;
-    }
-    if (!is_there)
-        throw machining::refused(GWB_WHY_NO_SOLID, query.solid);
+    const bool are_between = query.between[0] != 0;
     std::set<Edge> found;
+    if (are_between)
+        found = edges_between(bench, Face(query.between[0]), Face(query.between[1]), solid);
+    if (solid != Solid())
+        machining::require_solid(bench, solid);
+    if (are_between)
+        return found;
     if (solid == Solid())
         for (Edge edge : bench.numbers<Edge>())
             found.insert(found.end(), edge);

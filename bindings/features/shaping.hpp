@@ -16,6 +16,13 @@ using namespace combining;
 /// A part that is cut out, or put on, by its faces seen from outside: those that lie on the solid's, those opposite to these, and the others.
 struct Tool {
     std::vector<Path> lids, floors, walls;
+
+    void add(const Tool &other)
+    {
+        append(lids, other.lids);
+        append(floors, other.floors);
+        append(walls, other.walls);
+    }
 };
 
 /// An end of an edge, and the points beside it in the two faces of the edge; where its slope meets others there, perhaps a point between.
@@ -35,9 +42,7 @@ inline Path backwards(Path path)
 inline Tool prism(const Path &outline, const Vector &way)
 {
     const Path path = dot(area_vector(outline), way) < 0 ? outline : backwards(outline);
-    Tool tool{{path}, {Path()}, {}};
-    for (const Vector &at : path)
-        tool.floors[0].insert(tool.floors[0].begin(), add(at, way));
+    Tool tool{{path}, {backwards(moved(path, way))}, {}};
     for (std::size_t at = 0; at < path.size(); at++) {
         const Vector &before = path[(at + path.size() - 1) % path.size()];
         tool.walls.push_back({path[at], before, add(before, way), add(path[at], way)});
@@ -45,29 +50,23 @@ inline Tool prism(const Path &outline, const Vector &way)
     return tool;
 }
 
-/// The faces of a wedge along an edge, seen from outside: the sides at its edge, the slope opposite to it, and its ends, where it has any.
-struct Wedge {
-    Path first, second, slope;
-    std::vector<Path> ends;
-};
-
-inline Wedge wedge(const Corner &start, const Corner &end)
+/// The wedge along an edge: its lid is the side at the first points, its floor the slope opposite to the edge.
+inline Tool wedge(const Corner &start, const Corner &end)
 {
-    Wedge made{{start.point, end.point, end.first, start.first}, {start.second, end.second, end.point, start.point}, {start.first, end.first}, {}};
+    Path slope = {start.first, end.first};
     if (end.between)
-        made.slope.push_back(*end.between);
-    made.slope.insert(made.slope.end(), {end.second, start.second});
+        slope.push_back(*end.between);
+    slope.insert(slope.end(), {end.second, start.second});
     if (start.between)
-        made.slope.push_back(*start.between);
+        slope.push_back(*start.between);
+    Tool made{{{start.point, end.point, end.first, start.first}}, {slope}, {{start.second, end.second, end.point, start.point}}};
     if (!start.is_shared)
-        made.ends.push_back({start.point, start.first, start.second});
+        made.walls.push_back({start.point, start.first, start.second});
     if (!end.is_shared)
-        made.ends.push_back({end.point, end.second, end.first});
-    if (dot(area_vector(made.slope), subtract(start.first, start.point)) > 0)
-        return made;
-    for (Path *path : {&made.first, &made.second, &made.slope})
-        *path = backwards(*path);
-    std::transform(made.ends.begin(), made.ends.end(), made.ends.begin(), backwards);
+        made.walls.push_back({end.point, end.second, end.first});
+    if (dot(area_vector(slope), subtract(start.first, start.point)) <= 0)
+        for (std::vector<Path> *part : {&made.lids, &made.floors, &made.walls})
+            std::transform(part->begin(), part->end(), part->begin(), backwards);
     return made;
 }
 
@@ -86,48 +85,40 @@ inline Vector along(const Vector &way, std::int64_t length, Face face)
     return *found;
 }
 
-inline Tool notch_tool(const Bench &bench, Face face, const Path &points, std::int64_t depth)
+inline Tool notch_tool(Face face, const FacePlane &plane, const Path &points, std::int64_t depth)
 {
-    const FacePlane plane = plane_of(bench, face);
-    for (std::size_t at = 0; at < points.size(); at++)
-        if (plane.height(points[at]) != 0)
-            throw impossible(Misfit::not_in_plane, place(at));
+    require_in_plane(points, [&](const Vector &at) { return plane.height(at); });
     (void)simple_normal(points);
     return prism(points, along(negative(plane.across()), depth, face));
 }
 
-/// A strip around a line in a face: the normal of the face, and the way from the line to the strip's right side.
-struct Strip {
-    Vector across, side;
-};
-
-inline Strip strip(const Bench &bench, Face face, const Path &ends, std::int64_t width)
+/// The way from a line in a face to the right side of a strip around it.
+inline Vector side_of_strip(Face face, const FacePlane &plane, const Path &ends, std::int64_t width)
 {
-    const Vector across = flat_normal(bench, face);
     const Vector line = subtract(ends[1], ends[0]);
     if (is_zero(line))
         throw refused(GWB_WHY_REPEATED_POINT, 2);
-    if (dot(line, across) != 0)
+    if (dot(line, plane.across()) != 0)
         throw impossible(Misfit::not_in_plane, 2);
     if (width % 2 != 0)
         throw impossible(Misfit::off_lattice, face.number());
-    return {across, along(reduced(cross(across, line)), width / 2, face)};
+    return along(reduced(cross(plane.across(), line)), width / 2, face);
 }
 
-inline Tool slot_tool(const Bench &bench, Face face, const Path &ends, std::int64_t width, std::int64_t depth)
+inline Tool slot_tool(Face face, const FacePlane &plane, const Path &ends, std::int64_t width, std::int64_t depth)
 {
-    const Strip made = strip(bench, face, ends, width);
-    const Vector &side = made.side;
-    return notch_tool(bench, face, {subtract(ends[0], side), subtract(ends[1], side), add(ends[1], side), add(ends[0], side)}, depth);
+    const Vector side = side_of_strip(face, plane, ends, width);
+    return notch_tool(face, plane, {subtract(ends[0], side), subtract(ends[1], side), add(ends[1], side), add(ends[0], side)}, depth);
 }
 
-inline Tool groove_tool(const Bench &bench, Face face, const Path &ends, std::int64_t width, std::int64_t depth)
+inline Tool groove_tool(Face face, const FacePlane &plane, const Path &ends, std::int64_t width, std::int64_t depth)
 {
-    const Strip around = strip(bench, face, ends, width);
-    const Vector way = along(negative(around.across), depth, face);
-    const auto corner = [&](const Vector &at) { return Corner{add(at, way), subtract(at, around.side), add(at, around.side)}; };
-    const Wedge made = wedge(corner(ends[0]), corner(ends[1]));
-    return Tool{{made.slope}, {}, {made.first, made.second, made.ends[0], made.ends[1]}};
+    const Vector side = side_of_strip(face, plane, ends, width), way = along(negative(plane.across()), depth, face);
+    const auto corner = [&](const Vector &at) { return Corner{add(at, way), subtract(at, side), add(at, side)}; };
+    Tool made = wedge(corner(ends[0]), corner(ends[1])); // whose slope lies in the face
+    made.walls.insert(made.walls.begin(), made.lids.front());
+    made.lids = std::exchange(made.floors, {});
+    return made;
 }
 
 /// The point that lies so far from a corner along a way as the fraction says.
@@ -268,13 +259,8 @@ inline Tool chamfer_tool(const Bench &bench, const std::vector<Edge> &edges, std
         if (here.size() > 1)
             join_slopes(bench, vertex, here);
     Tool tool;
-    for (const auto &[start, end] : corners) {
-        Wedge made = wedge(start, end);
-        tool.lids.push_back(std::move(made.first));
-        tool.floors.push_back(std::move(made.slope));
-        tool.walls.push_back(std::move(made.second));
-        tool.walls.insert(tool.walls.end(), made.ends.begin(), made.ends.end());
-    }
+    for (const auto &[start, end] : corners)
+        tool.add(wedge(start, end));
     return tool;
 }
 
@@ -297,9 +283,9 @@ inline bool bends_outwards(const Bench &bench, HalfEdge half)
 /// The faces of a tool as sheets: the lids, the floors, and then the walls; seen from outside, or from inside where they cut.
 inline std::vector<Sheet> sheets_of(const Tool &tool, bool are_cut)
 {
-    std::vector<Path> paths;
-    for (const std::vector<Path> *part : {&tool.lids, &tool.floors, &tool.walls})
-        paths.insert(paths.end(), part->begin(), part->end());
+    std::vector<Path> paths = tool.lids;
+    append(paths, tool.floors);
+    append(paths, tool.walls);
     for (const Path &path : paths)
         if (!std::all_of(path.begin(), path.end(), is_in_range))
             throw refused(GWB_WHY_POINT_RANGE, 0);
@@ -360,27 +346,18 @@ inline Notch cut_out(Bench &bench, Face face, const Tool &tool)
     return notch;
 }
 
-/// Refuses sizes below 1, and a face that isn't there.
-inline void given(const Bench &bench, Face face, std::initializer_list<std::int64_t> sizes)
+/// A feature in a face by a tool that is made of the face's plane, points and sizes.
+template <class MakeTool, class... Sizes> Notch cut_in_face(Bench &bench, Face face, Items<Point> points, MakeTool make, Sizes... sizes)
 {
-    std::uint32_t number = 0;
-    for (std::int64_t size : sizes)
-        if (number++; size < 1)
-            throw refused(GWB_WHY_SIZE_RANGE, number);
-    (void)plane_of(bench, face);
-}
-
-/// A feature in a face by a tool that is made of points and sizes.
-template <class MakeTool>
-Notch cut_in_face(Bench &bench, Face face, Items<Point> points, std::initializer_list<std::int64_t> sizes, MakeTool make)
-{
-    given(bench, face, sizes);
-    return cut_out(bench, face, make(path_of(points)));
+    require_sizes({sizes...});
+    const FacePlane plane = plane_of(bench, face);
+    return cut_out(bench, face, make(face, plane, path_of(points), sizes...));
 }
 
 inline Notch cut_shoulder(Bench &bench, Face face, Edge edge, std::int64_t width, std::int64_t depth)
 {
-    given(bench, face, {width, depth});
+    require_sizes({width, depth});
+    (void)plane_of(bench, face);
     const auto faces = bench.attempt().faces_of(edge);
     if (!faces)
         throw refused(GWB_WHY_NO_EDGE, edge.number());
@@ -408,8 +385,7 @@ inline bool all_bend_outwards(const Bench &bench, const std::vector<Edge> &edges
 /// Edges become slopes: their faces.
 inline std::vector<Face> make_chamfers(Bench &bench, const std::vector<Edge> &edges, std::int64_t width, std::int64_t other)
 {
-    if (width < 1 || other < 1)
-        throw refused(GWB_WHY_SIZE_RANGE, width < 1 ? 1 : 2);
+    require_sizes({width, other});
     const bool are_outer = all_bend_outwards(bench, edges);
     const Tool tool = chamfer_tool(bench, edges, width, other);
     const Face face = bench.face_of(plus(edges[0]));
