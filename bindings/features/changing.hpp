@@ -65,28 +65,20 @@ class Links {
 public:
     void put(const std::vector<HalfEdge> &loop)
     {
-        for (std::size_t at = 0; at < loop.size(); at++) {
-            const HalfEdge following = loop[(at + 1) % loop.size()];
-            after_[loop[at]] = following;
-            before_[following] = loop[at];
-        }
+        for (std::size_t at = 0; at < loop.size(); at++)
+            link(loop[at], loop[(at + 1) % loop.size()]);
     }
     [[nodiscard]] HalfEdge after(HalfEdge half) const { return after_.at(half); }
 
-    /// The edge goes: its two loops become one, or the edge that sticks out is cut off.
+    /// The edge goes: its two loops become one, or the edge that sticks out is cut off. What comes before each of its half-edges leads past it.
     void take(Edge edge)
     {
-        std::vector<std::pair<HalfEdge, HalfEdge>> ways;
         for (HalfEdge half : {plus(edge), minus(edge)})
-            if (const HalfEdge before = before_.at(half); before.edge() != edge)
-                ways.emplace_back(before, past(before, edge));
+            if (const HalfEdge before = before_.at(half), following = after_.at(half.twin()); before != half.twin())
+                link(before, following);
         for (HalfEdge half : {plus(edge), minus(edge)}) {
             after_.erase(half);
             before_.erase(half);
-        }
-        for (const auto &[half, following] : ways) {
-            after_[half] = following;
-            before_[following] = half;
         }
     }
 
@@ -100,13 +92,10 @@ public:
     }
 
 private:
-    /// What comes after a half-edge where an edge is missing.
-    [[nodiscard]] HalfEdge past(HalfEdge half, Edge edge) const
+    void link(HalfEdge half, HalfEdge following)
     {
-        HalfEdge following = after(half);
-        while (following.edge() == edge)
-            following = after(following.twin());
-        return following;
+        after_[half] = following;
+        before_[following] = half;
     }
 
     std::unordered_map<HalfEdge, HalfEdge> after_, before_;
@@ -119,40 +108,36 @@ struct Pair {
 
     [[nodiscard]] bool is_same(HalfEdge half) const
     {
-        const auto other = made.edges.find(half.edge());
-        return other != made.edges.end() && old.edges.at(half.edge()) == other->second && old.at(half) == made.at(half);
+        const auto *ends = look_up(made.edges, half.edge());
+        return ends != nullptr && old.edges.at(half.edge()) == *ends && old.at(half) == made.at(half);
     }
     /// Whether all half-edges of a loop are the same in both.
     [[nodiscard]] bool is_same(Loop loop) const
     {
-        const auto other = made.loops.find(loop);
+        const auto *other = look_up(made.loops, loop);
         const std::vector<HalfEdge> &halves = old.loops.at(loop);
-        return other != made.loops.end() && other->second == halves &&
-               std::all_of(halves.begin(), halves.end(), [&](HalfEdge half) { return is_same(half); });
+        return other != nullptr && *other == halves && std::all_of(halves.begin(), halves.end(), [&](HalfEdge half) { return is_same(half); });
     }
     [[nodiscard]] std::set<Face> same_faces() const
     {
         std::set<Face> found;
-        for (const auto &[face, loops] : old.faces) {
-            const auto other = made.faces.find(face);
-            if (other != made.faces.end() && other->second == loops &&
-                std::all_of(loops.begin(), loops.end(), [&](Loop loop) { return is_same(loop); }))
+        for (const auto &[face, loops] : old.faces)
+            if (const auto *other = look_up(made.faces, face); other != nullptr && *other == loops &&
+                                                               std::all_of(loops.begin(), loops.end(), [&](Loop loop) { return is_same(loop); }))
                 found.insert(face);
-        }
         return found;
     }
     /// The half-edges that the outer loops of a face have in both.
     [[nodiscard]] std::set<HalfEdge> same_outline(Face face) const
     {
-        if (old.faces.count(face) == 0 || made.faces.count(face) == 0)
+        const auto *before = look_up(old.faces, face), *after = look_up(made.faces, face);
+        if (before == nullptr || after == nullptr)
             return {};
-        const auto outline = [](const Model &of, Face which) {
-            const std::vector<HalfEdge> &halves = of.loops.at(of.faces.at(which)[0]);
-            return std::set<HalfEdge>(halves.begin(), halves.end());
-        };
-        const std::set<HalfEdge> before = outline(old, face), after = outline(made, face);
+        std::vector<HalfEdge> one = old.loops.at(before->front()), other = made.loops.at(after->front());
+        std::sort(one.begin(), one.end());
+        std::sort(other.begin(), other.end());
         std::set<HalfEdge> found;
-        std::set_intersection(before.begin(), before.end(), after.begin(), after.end(), std::inserter(found, found.end()));
+        std::set_intersection(one.begin(), one.end(), other.begin(), other.end(), std::inserter(found, found.end()));
         return found;
     }
     [[nodiscard]] std::set<Edge> same_edges() const
@@ -404,12 +389,8 @@ private:
         const bool is_first = std::none_of(gone.begin(), gone.end(), belongs);
         if (!is_first)
             gone = halves_.around(back);
-        if (way_ == Way::takes)
-            operators.push_back(Operator::kemr(is_first ? half : half.twin(), ring));
-        else if (is_first)
-            operators.push_back(Operator::mekr(back, onward, half.edge()));
-        else
-            make_back(half.edge(), onward, Operator::mekr(onward, back, spare_edge()));
+        take_edge(is_first, half.edge(), Operator::kemr(is_first ? half : half.twin(), ring), onward,
+                  [&](Edge edge) { return is_first ? Operator::mekr(back, onward, edge) : Operator::mekr(onward, back, edge); });
         step(Operator::mfkrh(ring, spare), Operator::kfmrh(face, spare));
         for (HalfEdge other : gone)
             loop_of_[other] = ring;
@@ -426,26 +407,25 @@ private:
         const bool goes_other = pair_.fast.count(face_of_.at(other)) == 0;
         if (!goes_other && pair_.fast.count(face_of_.at(own)) != 0)
             return false;
+        const Loop gone = goes_other ? other : own;
         const HalfEdge onward = halves_.after(half), back = halves_.after(half.twin());
-        if (goes_other)
-            step(Operator::kef(half), Operator::mef(back, onward, half.edge(), face_of_.at(other), other));
-        else if (way_ == Way::takes)
-            operators.push_back(Operator::kef(half.twin()));
-        else
-            make_back(half.edge(), onward, Operator::mef(onward, back, spare_edge(), face_of_.at(own), own));
+        take_edge(goes_other, half.edge(), Operator::kef(goes_other ? half : half.twin()), onward, [&](Edge edge) {
+            return Operator::mef(goes_other ? back : onward, goes_other ? onward : back, edge, face_of_.at(gone), gone);
+        });
         halves_.take(half.edge());
-        loops_.join(goes_other ? own : other, goes_other ? other : own);
+        loops_.join(goes_other ? own : other, gone);
         return true;
     }
 
-    /// An edge that ends where it is made from: a spare one is made the other way, in whose place it comes. (What makes comes the last one first.)
-    void make_back(Edge edge, HalfEdge onward, const Operator &makes)
+    /// An edge goes. What makes it again begins where it starts; or else where it ends, so that a spare one is made first, in whose place it comes. (What
+    /// makes comes the last one first.)
+    template <class Makes> void take_edge(bool is_along, Edge edge, const Operator &takes, HalfEdge onward, Makes makes)
     {
-        const Face face = spare_face();
-        const Loop loop = spare_loop();
+        if (is_along || way_ == Way::takes)
+            return step(takes, makes(edge));
         operators.push_back(Operator::kef(plus(spare_edge())));
-        operators.push_back(Operator::mef(minus(spare_edge()), onward, edge, face, loop));
-        operators.push_back(makes);
+        operators.push_back(Operator::mef(minus(spare_edge()), onward, edge, spare_face(), spare_loop()));
+        operators.push_back(makes(spare_edge()));
     }
 
     /// The edge to a leaf goes.
@@ -459,12 +439,9 @@ private:
         if (is_alone && half.is_second())
             root_ = model_.start(half.twin());
         const Corner place = is_alone ? lone(loop_at(half)) : Corner(corner);
-        if (!half.is_second() || is_alone)
-            step(Operator::kev(plus(half.edge())), Operator::mev(place, half.edge(), leaf, model_.vertices.at(leaf)));
-        else if (way_ == Way::takes)
-            operators.push_back(Operator::kev(half));
-        else
-            make_back(half.edge(), corner, Operator::mev(place, spare_edge(), leaf, model_.vertices.at(leaf)));
+        const bool is_along = !half.is_second() || is_alone;
+        take_edge(is_along, half.edge(), Operator::kev(is_along ? plus(half.edge()) : half), corner,
+                  [&](Edge edge) { return Operator::mev(place, edge, leaf, model_.vertices.at(leaf)); });
         halves_.take(half.edge());
         return true;
     }
@@ -537,7 +514,7 @@ inline std::optional<std::vector<Operator>> renamings(const Pair &pair, const Co
             rename(outline[0], pair.old.at(outline[0]), {names.faces.spare(), names.loops.spare()}, names, first);
         rename(outline[0], pair.old.at(outline[0]), other->second, names, last);
     }
-    first.insert(first.end(), last.begin(), last.end());
+    append(first, last);
     return old.size() == made.size() ? std::optional(first) : std::nullopt;
 }
 
@@ -555,7 +532,7 @@ inline std::optional<std::vector<Operator>> operators_between(const Pair &pair, 
     if (!renamed)
         return std::nullopt;
     std::vector<Operator> found = takes.operators;
-    found.insert(found.end(), renamed->begin(), renamed->end());
+    append(found, *renamed);
     found.insert(found.end(), makes.operators.rbegin(), makes.operators.rend());
     return found;
 }
