@@ -81,10 +81,8 @@ private:
     {
         gwb_change none{};
         std::vector<gwb_change> rows(gwb_compared(g_, Kind::kind, are_made, &none, 0) + 1); // (so that it has an address)
-        rows.resize(gwb_compared(g_, Kind::kind, are_made, rows.data(), rows.size()));
-        std::vector<Change<Kind>> found;
-        for (const gwb_change &row : rows)
-            found.push_back({Kind(row.number), Kind(row.other)});
+        std::vector<Change<Kind>> found(gwb_compared(g_, Kind::kind, are_made, rows.data(), rows.size()));
+        std::transform(rows.begin(), rows.end() - 1, found.begin(), [](const gwb_change &row) { return Change<Kind>{Kind(row.number), Kind(row.other)}; });
         return found;
     }
 
@@ -229,9 +227,7 @@ template <class Policy, class... AllNotes> typename Policy::template Returned<Ch
 {
     const Watching watching(bench.handle());
     const Result<void> done = bench.attempt().undo();
-    if (!done)
-        return Policy::template failed<Changes>("undo", done.error());
-    return followed(watching, Turn::undo, notes...);
+    return done ? followed(watching, Turn::undo, notes...) : Policy::template failed<Changes>("undo", done.error());
 }
 
 /// Does the command again that was taken back last, and lets notes follow it.
@@ -239,9 +235,7 @@ template <class Policy, class... AllNotes> typename Policy::template Returned<Ch
 {
     const Watching watching(bench.handle());
     const Result<void> done = bench.attempt().redo();
-    if (!done)
-        return Policy::template failed<Changes>("redo", done.error());
-    return followed(watching, Turn::redo, notes...);
+    return done ? followed(watching, Turn::redo, notes...) : Policy::template failed<Changes>("redo", done.error());
 }
 
 } // namespace gwb_session

@@ -36,16 +36,15 @@ public:
     }
     [[nodiscard]] Point operator()(Point point) const
     {
-        const std::array<std::int64_t, 3> parts = {point.x, point.y, point.z};
-        const auto part = [&](std::int32_t axis) { return axis < 0 ? -parts[from(axis)] : parts[from(axis)]; };
-        return {part(row_.axes[0]) + row_.by.x, part(row_.axes[1]) + row_.by.y, part(row_.axes[2]) + row_.by.z};
+        const std::int64_t parts[] = {point.x, point.y, point.z};
+        return {part(parts, row_.axes[0]) + row_.by.x, part(parts, row_.axes[1]) + row_.by.y, part(parts, row_.axes[2]) + row_.by.z};
     }
     /// This motion, and then another.
     [[nodiscard]] Motion then(const Motion &next) const
     {
         Motion both;
         for (std::size_t axis = 0; axis < 3; axis++)
-            both.row_.axes[axis] = next.row_.axes[axis] < 0 ? -row_.axes[from(next.row_.axes[axis])] : row_.axes[from(next.row_.axes[axis])];
+            both.row_.axes[axis] = part(row_.axes, next.row_.axes[axis]);
         both.row_.by = next(row_.by);
         return both;
     }
@@ -59,6 +58,7 @@ public:
 
 private:
     static std::size_t from(std::int32_t axis) { return static_cast<std::size_t>(axis < 0 ? -axis : axis) - 1; }
+    template <class Part> static Part part(const Part (&of)[3], std::int32_t axis) { return axis < 0 ? -of[from(axis)] : of[from(axis)]; }
     gwb_motion row_ = {{1, 2, 3}, {0, 0, 0}};
 };
 
