@@ -30,23 +30,19 @@ public:
     }
 
 protected:
-    /// Old numbers, rising, each with the new one after it.
-    using Pairs = std::vector<std::uint32_t>;
+    /// Old numbers, rising, each with the new one.
+    using Pairs = std::vector<std::array<std::uint32_t, 2>>;
     static std::uint32_t find(const Pairs &pairs, std::uint32_t old)
     {
-        std::size_t low = 0, high = pairs.size() / 2;
-        while (low < high) {
-            const std::size_t middle = (low + high) / 2;
-            (pairs[2 * middle] < old ? low : high) = pairs[2 * middle] < old ? middle + 1 : middle;
-        }
-        return low < pairs.size() / 2 && pairs[2 * low] == old ? pairs[2 * low + 1] : 0;
+        const auto found = std::lower_bound(pairs.begin(), pairs.end(), std::array<std::uint32_t, 2>{old, 0});
+        return found != pairs.end() && (*found)[0] == old ? (*found)[1] : 0;
     }
 
-    /// The new numbers, each with the old one after it: both rise where all numbers were made lower.
+    /// The new numbers, each with the old one: both rise where all numbers were made lower.
     static void turn_back(Pairs &pairs)
     {
-        for (std::size_t at = 0; at < pairs.size(); at += 2)
-            std::swap(pairs[at], pairs[at + 1]);
+        for (auto &[old, made] : pairs)
+            std::swap(old, made);
     }
     void turn_back()
     {
@@ -88,6 +84,22 @@ private:
 
 namespace features {
 
+/// What a call gives by the policy of its workbench.
+template <class Policy, class T> using Answer = typename Policy::template Returned<T>;
+
+/// Gives a call of gwb_features.h with these arguments. `make` makes what it gives of what was written, and takes no memory.
+template <class Policy, class Call, class Make, class... All>
+auto give(Commands<Policy> &bench, const char *command, Make make, Call call, All... arguments)
+{
+    return bench.feature(command, [&](gwb *g, gwb_refusal *why) { return call(g, arguments..., why); }, make);
+}
+/// The same, where `make` takes memory.
+template <class Policy, class Call, class Make, class... All>
+auto give_listed(Commands<Policy> &bench, const char *command, Make make, Call call, All... arguments)
+{
+    return bench.listed_feature(command, [&](gwb *g, gwb_refusal *why) { return call(g, arguments..., why); }, make);
+}
+
 /// Room for so many numbers that a feature writes, of which none needs memory once it was made.
 template <class Kind> class Room {
 public:
@@ -115,19 +127,15 @@ template <class Row, class Write> std::vector<Row> rows(Write write)
     return found;
 }
 
-/// A list of what the last feature made.
-inline std::vector<std::uint32_t> listed(const gwb *g, gwb_list which)
-{
-    return rows<std::uint32_t>([&](std::uint32_t *to, std::size_t room) { return gwb_made(g, which, to, room); });
-}
+/// A list of what the last feature made: faces; numbers, each with another one.
 inline std::vector<Face> faces(const gwb *g, gwb_list which)
 {
-    const std::vector<std::uint32_t> found = listed(g, which);
-    std::vector<Face> made;
-    made.reserve(found.size());
-    for (std::uint32_t face : found)
-        made.emplace_back(face);
-    return made;
+    const auto found = rows<std::uint32_t>([&](std::uint32_t *to, std::size_t room) { return gwb_made(g, which, to, room); });
+    return std::vector<Face>(found.begin(), found.end());
+}
+inline std::vector<std::array<std::uint32_t, 2>> pairs(const gwb *g, gwb_list which)
+{
+    return rows<std::array<std::uint32_t, 2>>([&](auto *to, std::size_t room) { return gwb_made(g, which, to->data(), 2 * room) / 2; });
 }
 
 /// The numbers of things, and room for one more, so that they have an address.
@@ -138,141 +146,131 @@ template <class Kind> std::vector<std::uint32_t> numbers(Items<Kind> things)
     return found;
 }
 
-/// New solids, so many with the one that they are of.
-template <class Policy, class Call>
-typename Policy::template Returned<std::vector<Solid>> row(Commands<Policy> &bench, const char *command, std::uint32_t count, Call call)
+/// The number of a new solid, where none is given for it.
+template <class Policy> Solid next_solid(Commands<Policy> &bench) { return bench.attempt().template next_free<Solid>().value_or(Solid()); }
+
+/// A row of solids, so many with the one that they are of: those that are new.
+template <class Policy, class Call, class... All>
+Answer<Policy, std::vector<Solid>> row(Commands<Policy> &bench, const char *command, Call call, Solid solid, std::uint32_t count, All... arguments)
 {
     Room<Solid> made(count > 0 ? count - 1 : 0);
-    return bench.feature(command, [&](gwb *g, gwb_refusal *why) { return call(g, made.to(), why); }, [&] { return made.take(); });
+    return give(bench, command, [&] { return made.take(); }, call, solid.number(), count, arguments..., made.to());
 }
 
-/// A feature of an outline: its face and loop, and a number for each point.
-template <class Made, class Policy, class Call>
-typename Policy::template Returned<Made> outlined(Commands<Policy> &bench, const char *command, Items<Point> points, Call call)
+/// A pocket or a boss.
+template <class Policy, class Call>
+Answer<Policy, Pocket> raise(Commands<Policy> &bench, const char *command, Call call, Face face, Items<Point> points, std::int64_t length)
 {
     gwb_outline_made made{};
     Room<Face> sides(points.size());
-    return bench.feature(command, [&](gwb *g, gwb_refusal *why) { return call(g, &made, sides.to(), why); }, [&] {
-        return Made{Face(made.face), Loop(made.loop), sides.take()};
-    });
+    return give(bench, command, [&] { return Pocket{Face(made.face), Loop(made.loop), sides.take()}; }, call, face.number(), points.data(),
+                points.size(), length, &made, sides.to());
 }
 
 /// A notch, slot, groove or shoulder.
-template <class Policy, class Call> typename Policy::template Returned<Notch> notch(Commands<Policy> &bench, const char *command, Call call)
+template <class Policy, class Call, class... All>
+Answer<Policy, Notch> notch(Commands<Policy> &bench, const char *command, Call call, Face face, All... arguments)
 {
-    return bench.listed_feature(command, call, [&] {
-        return Notch{faces(bench.handle(), GWB_MADE_FLOOR), faces(bench.handle(), GWB_MADE_WALLS)};
-    });
+    const auto made = [&] { return Notch{faces(bench.handle(), GWB_MADE_FLOOR), faces(bench.handle(), GWB_MADE_WALLS)}; };
+    return give_listed(bench, command, made, call, face.number(), arguments...);
+}
+
+/// A split or a cut; where no number is given for the solid above, it takes the next one.
+template <class Policy, class Call>
+Answer<Policy, Split> split(Commands<Policy> &bench, const char *command, Call call, Solid solid, const gwb_cut_plane &plane,
+                            std::optional<Solid> above)
+{
+    const Solid upper = above ? *above : next_solid(bench);
+    const auto made = [&] {
+        Split parts{upper, faces(bench.handle(), GWB_MADE_LOWER_CAPS), {}};
+        parts.upper_caps = faces(bench.handle(), GWB_MADE_UPPER_CAPS);
+        return parts;
+    };
+    return give_listed(bench, command, made, call, solid.number(), &plane, upper.number());
 }
 
 } // namespace features
 
-/// The solid goes, with all its parts.
-template <class Policy> typename Policy::template Returned<void> kill_solid(Commands<Policy> &bench, Solid solid)
-{
-    return bench.feature("kill_solid", [&](gwb *g, gwb_refusal *why) { return gwb_kill_solid(g, solid.number(), why); }, [] {});
-}
-
 inline Parts::Parts(const gwb *g)
-    : faces_(features::listed(g, GWB_MADE_FACES)), loops_(features::listed(g, GWB_MADE_LOOPS)), edges_(features::listed(g, GWB_MADE_EDGES)),
-      vertices_(features::listed(g, GWB_MADE_VERTICES))
+    : faces_(features::pairs(g, GWB_MADE_FACES)), loops_(features::pairs(g, GWB_MADE_LOOPS)), edges_(features::pairs(g, GWB_MADE_EDGES)),
+      vertices_(features::pairs(g, GWB_MADE_VERTICES))
 {
 }
-inline Renumbered::Renumbered(const gwb *g) : Parts(g), solids_(features::listed(g, GWB_MADE_SOLIDS)) {}
+inline Renumbered::Renumbered(const gwb *g) : Parts(g), solids_(features::pairs(g, GWB_MADE_SOLIDS)) {}
+
+/// The solid goes, with all its parts.
+template <class Policy> features::Answer<Policy, void> kill_solid(Commands<Policy> &bench, Solid solid)
+{
+    return features::give(bench, "kill_solid", [] {}, gwb_kill_solid, solid.number());
+}
 
 /// A new solid, that is another one moved; its numbers are free ones, above all in use as long as there are any.
-template <class Policy> typename Policy::template Returned<Copy> copy_solid(Commands<Policy> &bench, Solid solid, const Motion &motion = {})
+template <class Policy> features::Answer<Policy, Copy> copy_solid(Commands<Policy> &bench, Solid solid, const Motion &motion = {})
 {
     std::uint32_t made = 0;
-    return bench.listed_feature("copy_solid",
-                                [&](gwb *g, gwb_refusal *why) { return gwb_copy_solid(g, solid.number(), &motion.row(), &made, why); },
-                                [&] { return Copy(bench.handle(), Solid(made)); });
+    return features::give_listed(bench, "copy_solid", [&] { return Copy(bench.handle(), Solid(made)); }, gwb_copy_solid, solid.number(), &motion.row(),
+                                 &made);
 }
 
 /// A solid lies elsewhere, with the numbers that it has.
-template <class Policy> typename Policy::template Returned<void> move_solid(Commands<Policy> &bench, Solid solid, const Motion &motion)
+template <class Policy> features::Answer<Policy, void> move_solid(Commands<Policy> &bench, Solid solid, const Motion &motion)
 {
-    return bench.feature("move_solid", [&](gwb *g, gwb_refusal *why) { return gwb_move_solid(g, solid.number(), &motion.row(), why); }, [] {});
+    return features::give(bench, "move_solid", [] {}, gwb_move_solid, solid.number(), &motion.row());
 }
 
 /// A row of so many solids, of which this is the first, each by the step from the one before it: those that are new. NoCall where there are none.
 template <class Policy>
-typename Policy::template Returned<std::vector<Solid>> pattern(Commands<Policy> &bench, Solid solid, std::uint32_t count, Point step)
+features::Answer<Policy, std::vector<Solid>> pattern(Commands<Policy> &bench, Solid solid, std::uint32_t count, Point step)
 {
-    return features::row(bench, "pattern", count, [&](gwb *g, std::uint32_t *row, gwb_refusal *why) {
-        return gwb_pattern(g, solid.number(), count, &step, row, why);
-    });
+    return features::row(bench, "pattern", gwb_pattern, solid, count, &step);
 }
 
 /// So many solids around the axis through a point (0 x, 1 y, 2 z), of which this is the first, each so many quarter turns on from the one before it:
 /// those that are new. NoCall where there are none, or one would lie where the first does.
 template <class Policy>
-typename Policy::template Returned<std::vector<Solid>> pattern_around(Commands<Policy> &bench, Solid solid, std::uint32_t count, std::uint32_t axis,
-                                                                      std::uint32_t quarters = 1, Point about = {0, 0, 0})
+features::Answer<Policy, std::vector<Solid>> pattern_around(Commands<Policy> &bench, Solid solid, std::uint32_t count, std::uint32_t axis,
+                                                            std::uint32_t quarters = 1, Point about = {0, 0, 0})
 {
-    return features::row(bench, "pattern_around", count, [&](gwb *g, std::uint32_t *row, gwb_refusal *why) {
-        return gwb_pattern_around(g, solid.number(), count, axis, quarters, &about, row, why);
-    });
+    return features::row(bench, "pattern_around", gwb_pattern_around, solid, count, axis, quarters, &about);
 }
 
 /// All coordinates times the factor; numbers stay.
-template <class Policy> typename Policy::template Returned<void> scale(Commands<Policy> &bench, std::int64_t factor)
+template <class Policy> features::Answer<Policy, void> scale(Commands<Policy> &bench, std::int64_t factor)
 {
-    return bench.feature("scale", [&](gwb *g, gwb_refusal *why) { return gwb_scale(g, factor, why); }, [] {});
+    return features::give(bench, "scale", [] {}, gwb_scale, factor);
 }
 
 /// All numbers become as low as they can be, in their order: where none is left for what comes. Notes follow by renumbered().
-template <class Policy> typename Policy::template Returned<Renumbered> renumber(Commands<Policy> &bench)
+template <class Policy> features::Answer<Policy, Renumbered> renumber(Commands<Policy> &bench)
 {
-    return bench.listed_feature("renumber", [&](gwb *g, gwb_refusal *why) { return gwb_renumber(g, why); },
-                                [&] { return Renumbered(bench.handle()); });
+    return features::give_listed(bench, "renumber", [&] { return Renumbered(bench.handle()); }, gwb_renumber);
 }
 
 /// The solids become the first, glued along the faces that match. NoCall where one stands twice, or there are none.
-template <class Policy> typename Policy::template Returned<void> glue_all(Commands<Policy> &bench, Items<Solid> solids)
+template <class Policy> features::Answer<Policy, void> glue_all(Commands<Policy> &bench, Items<Solid> solids)
 {
     const std::vector<std::uint32_t> numbers = features::numbers(solids);
-    return bench.feature("glue_all", [&](gwb *g, gwb_refusal *why) { return gwb_glue_all(g, numbers.data(), solids.size(), why); }, [] {});
+    return features::give(bench, "glue_all", [] {}, gwb_glue_all, numbers.data(), solids.size());
 }
-
-namespace features {
-
-/// A split or a cut; where no number is given for the solid above, it takes the next one.
-template <class Policy, class Call>
-typename Policy::template Returned<Split> split(Commands<Policy> &bench, const char *command, Solid solid, const gwb_cut_plane &plane,
-                                                std::optional<Solid> above, Call call)
-{
-    const Solid upper = above ? *above : bench.attempt().template next_free<Solid>().value_or(Solid());
-    return bench.listed_feature(
-        command, [&](gwb *g, gwb_refusal *why) { return call(g, solid.number(), &plane, upper.number(), why); },
-        [&] {
-            Split made{upper, faces(bench.handle(), GWB_MADE_LOWER_CAPS), {}};
-            made.upper_caps = faces(bench.handle(), GWB_MADE_UPPER_CAPS);
-            return made;
-        });
-}
-
-} // namespace features
 
 /// What the command split does, with the faces that close both parts. Refused as split.
 template <class Policy>
-typename Policy::template Returned<Split> split_solid(Commands<Policy> &bench, Solid solid, const gwb_cut_plane &plane, std::optional<Solid> above = {})
+features::Answer<Policy, Split> split_solid(Commands<Policy> &bench, Solid solid, const gwb_cut_plane &plane, std::optional<Solid> above = {})
 {
-    return features::split(bench, "split", solid, plane, above, gwb_split_solid);
+    return features::split(bench, "split", gwb_split_solid, solid, plane, above);
 }
 
 /// The same, also where split refuses the plane for what it touches or how it runs through faces and holes.
 template <class Policy>
-typename Policy::template Returned<Split> cut(Commands<Policy> &bench, Solid solid, const gwb_cut_plane &plane, std::optional<Solid> above = {})
+features::Answer<Policy, Split> cut(Commands<Policy> &bench, Solid solid, const gwb_cut_plane &plane, std::optional<Solid> above = {})
 {
-    return features::split(bench, "cut", solid, plane, above, gwb_cut);
+    return features::split(bench, "cut", gwb_cut, solid, plane, above);
 }
 
 /// What lies above the plane goes: the faces that close what is left. Refused as cut.
-template <class Policy> typename Policy::template Returned<std::vector<Face>> trim(Commands<Policy> &bench, Solid solid, const gwb_cut_plane &plane)
+template <class Policy> features::Answer<Policy, std::vector<Face>> trim(Commands<Policy> &bench, Solid solid, const gwb_cut_plane &plane)
 {
-    return bench.listed_feature("trim", [&](gwb *g, gwb_refusal *why) { return gwb_trim(g, solid.number(), &plane, why); },
-                                [&] { return features::faces(bench.handle(), GWB_MADE_LOWER_CAPS); });
+    return features::give_listed(bench, "trim", [&] { return features::faces(bench.handle(), GWB_MADE_LOWER_CAPS); }, gwb_trim, solid.number(), &plane);
 }
 
 /// Faces that became one with others, or several, each with one that it went into.
@@ -280,175 +278,140 @@ using Merged = std::vector<std::pair<Face, Face>>;
 
 /// The solids, which touch in faces, become the first (`union` is a word of the language). NoCall where one stands twice, or there are fewer than
 /// two.
-template <class Policy> typename Policy::template Returned<Merged> unite(Commands<Policy> &bench, Items<Solid> solids)
+template <class Policy> features::Answer<Policy, Merged> unite(Commands<Policy> &bench, Items<Solid> solids)
 {
     const std::vector<std::uint32_t> numbers = features::numbers(solids);
-    return bench.listed_feature("union", [&](gwb *g, gwb_refusal *why) { return gwb_union(g, numbers.data(), solids.size(), why); }, [&] {
-        const std::vector<Face> faces = features::faces(bench.handle(), GWB_MADE_INTO);
+    const auto made = [&] {
         Merged merged;
-        for (std::size_t at = 0; at < faces.size(); at += 2)
-            merged.emplace_back(faces[at], faces[at + 1]);
+        for (const auto &[face, into] : features::pairs(bench.handle(), GWB_MADE_INTO))
+            merged.emplace_back(face, into);
         return merged;
-    });
+    };
+    return features::give_listed(bench, "union", made, gwb_union, numbers.data(), solids.size());
 }
 
 /// A new solid: the outline through the points, moved along the vector.
-template <class Policy>
-typename Policy::template Returned<Profile> profile(Commands<Policy> &bench, Solid solid, Items<Point> points, Point along)
+template <class Policy> features::Answer<Policy, Profile> profile(Commands<Policy> &bench, Solid solid, Items<Point> points, Point along)
 {
     gwb_profile_made made{};
     features::Room<Face> sides(points.size());
-    return bench.feature(
-        "profile",
-        [&](gwb *g, gwb_refusal *why) {
-            return gwb_profile(g, solid.number(), points.data(), points.size(), &along, &made, sides.to(), why);
-        },
-        [&] { return Profile{solid, Face(made.far), Face(made.base), sides.take()}; });
+    return features::give(bench, "profile", [&] { return Profile{solid, Face(made.far), Face(made.base), sides.take()}; }, gwb_profile,
+                          solid.number(), points.data(), points.size(), &along, &made, sides.to());
 }
-template <class Policy> typename Policy::template Returned<Profile> profile(Commands<Policy> &bench, Items<Point> points, Point along)
+template <class Policy> features::Answer<Policy, Profile> profile(Commands<Policy> &bench, Items<Point> points, Point along)
 {
-    return profile(bench, bench.attempt().template next_free<Solid>().value_or(Solid()), points, along);
+    return profile(bench, features::next_solid(bench), points, along);
 }
 
 /// A new solid: points, and faces of so many corners each, by their places among the points from 0 on, counterclockwise as seen from outside. NoCall where
 /// these aren't sound as a solid.
 template <class Policy>
-typename Policy::template Returned<Polyhedron> polyhedron(Commands<Policy> &bench, Solid solid, Items<Point> points, Items<std::uint32_t> corners,
-                                                          Items<std::uint32_t> sizes)
+features::Answer<Policy, Polyhedron> polyhedron(Commands<Policy> &bench, Solid solid, Items<Point> points, Items<std::uint32_t> corners,
+                                                Items<std::uint32_t> sizes)
 {
     gwb_polyhedron_made made{};
-    return bench.feature(
-        "polyhedron",
-        [&](gwb *g, gwb_refusal *why) {
-            const bool has_all = std::accumulate(sizes.begin(), sizes.end(), std::uint64_t{0}) == corners.size();
-            return has_all ? gwb_polyhedron(g, solid.number(), points.data(), points.size(), corners.data(), sizes.data(), sizes.size(), &made, why)
-                           : GWB_NO_CALL;
-        },
-        [&] { return Polyhedron{solid, Vertex(made.first_vertex), Face(made.first_face)}; });
+    const bool has_all = std::accumulate(sizes.begin(), sizes.end(), std::uint64_t{0}) == corners.size();
+    return features::give(bench, "polyhedron", [&] { return Polyhedron{solid, Vertex(made.first_vertex), Face(made.first_face)}; }, gwb_polyhedron,
+                          solid.number(), points.data(), points.size(), corners.data(), sizes.data(), has_all ? sizes.size() : 0, &made);
 }
 template <class Policy>
-typename Policy::template Returned<Polyhedron> polyhedron(Commands<Policy> &bench, Items<Point> points, Items<std::uint32_t> corners,
-                                                          Items<std::uint32_t> sizes)
+features::Answer<Policy, Polyhedron> polyhedron(Commands<Policy> &bench, Items<Point> points, Items<std::uint32_t> corners, Items<std::uint32_t> sizes)
 {
-    return polyhedron(bench, bench.attempt().template next_free<Solid>().value_or(Solid()), points, corners, sizes);
+    return polyhedron(bench, features::next_solid(bench), points, corners, sizes);
 }
 
 /// A face inside the face, with the outline through the points, and a ring around it.
-template <class Policy> typename Policy::template Returned<Ring> ring(Commands<Policy> &bench, Face face, Items<Point> points)
+template <class Policy> features::Answer<Policy, Ring> ring(Commands<Policy> &bench, Face face, Items<Point> points)
 {
     gwb_outline_made made{};
     features::Room<Edge> edges(points.size());
     features::Room<Vertex> vertices(points.size());
-    return bench.feature(
-        "ring",
-        [&](gwb *g, gwb_refusal *why) {
-            return gwb_ring(g, face.number(), points.data(), points.size(), &made, edges.to(), vertices.to(), why);
-        },
-        [&] { return Ring{Face(made.face), Loop(made.loop), edges.take(), vertices.take()}; });
+    return features::give(bench, "ring", [&] { return Ring{Face(made.face), Loop(made.loop), edges.take(), vertices.take()}; }, gwb_ring,
+                          face.number(), points.data(), points.size(), &made, edges.to(), vertices.to());
 }
 
 /// A pocket so deep behind the outline in the face.
 template <class Policy>
-typename Policy::template Returned<Pocket> pocket(Commands<Policy> &bench, Face face, Items<Point> points, std::int64_t depth)
+features::Answer<Policy, Pocket> pocket(Commands<Policy> &bench, Face face, Items<Point> points, std::int64_t depth)
 {
-    return features::outlined<Pocket>(bench, "pocket", points, [&](gwb *g, gwb_outline_made *made, std::uint32_t *sides, gwb_refusal *why) {
-        return gwb_pocket(g, face.number(), points.data(), points.size(), depth, made, sides, why);
-    });
+    return features::raise(bench, "pocket", gwb_pocket, face, points, depth);
 }
 
 /// A boss so high on the outline in the face.
 template <class Policy>
-typename Policy::template Returned<Pocket> boss(Commands<Policy> &bench, Face face, Items<Point> points, std::int64_t height)
+features::Answer<Policy, Pocket> boss(Commands<Policy> &bench, Face face, Items<Point> points, std::int64_t height)
 {
-    return features::outlined<Pocket>(bench, "boss", points, [&](gwb *g, gwb_outline_made *made, std::uint32_t *sides, gwb_refusal *why) {
-        return gwb_boss(g, face.number(), points.data(), points.size(), height, made, sides, why);
-    });
+    return features::raise(bench, "boss", gwb_boss, face, points, height);
 }
 
 /// A hole from the outline in the face through to the face opposite to it, which is parallel.
-template <class Policy> typename Policy::template Returned<Hole> hole(Commands<Policy> &bench, Face face, Items<Point> points)
+template <class Policy> features::Answer<Policy, Hole> hole(Commands<Policy> &bench, Face face, Items<Point> points)
 {
     gwb_outline_made made{};
     features::Room<Face> sides(points.size());
     std::vector<Point> corners(points.begin(), points.end());
-    return bench.feature(
-        "hole",
-        [&](gwb *g, gwb_refusal *why) { return gwb_hole(g, face.number(), points.data(), points.size(), &made, sides.to(), why); },
-        [&] { return Hole{Face(made.face), Loop(made.loop), sides.take(), std::move(corners)}; });
+    return features::give(bench, "hole", [&] { return Hole{Face(made.face), Loop(made.loop), sides.take(), std::move(corners)}; }, gwb_hole,
+                          face.number(), points.data(), points.size(), &made, sides.to());
 }
 
 /// A hole with a polygon of so many sides around the center, on whole numbers nearest to the circle of the radius: through, where the depth is 0, or so deep.
 template <class Policy>
-typename Policy::template Returned<Hole> drill(Commands<Policy> &bench, Face face, Point center, std::int64_t radius, std::uint32_t sides,
-                                               std::int64_t depth = 0)
+features::Answer<Policy, Hole> drill(Commands<Policy> &bench, Face face, Point center, std::int64_t radius, std::uint32_t sides, std::int64_t depth = 0)
 {
     constexpr std::uint32_t most_sides = 1'000'000;
     gwb_outline_made made{};
     std::vector<Point> points(sides <= most_sides ? sides + 1 : 1); // (so that it has an address)
     features::Room<Face> walls(points.size() - 1);
-    return bench.feature(
-        "drill",
-        [&](gwb *g, gwb_refusal *why) {
-            return gwb_drill(g, face.number(), &center, radius, sides, depth, &made, walls.to(), points.data(), why);
-        },
-        [&] {
-            points.pop_back();
-            return Hole{Face(made.face), Loop(made.loop), walls.take(), std::move(points)};
-        });
+    const auto drilled = [&] {
+        points.pop_back();
+        return Hole{Face(made.face), Loop(made.loop), walls.take(), std::move(points)};
+    };
+    return features::give(bench, "drill", drilled, gwb_drill, face.number(), &center, radius, sides, depth, &made, walls.to(), points.data());
 }
 
 /// A pocket whose outline may reach the edges of the face.
-template <class Policy>
-typename Policy::template Returned<Notch> notch(Commands<Policy> &bench, Face face, Items<Point> points, std::int64_t depth)
+template <class Policy> features::Answer<Policy, Notch> notch(Commands<Policy> &bench, Face face, Items<Point> points, std::int64_t depth)
 {
-    return features::notch(bench, "notch", [&](gwb *g, gwb_refusal *why) {
-        return gwb_notch(g, face.number(), points.data(), points.size(), depth, why);
-    });
+    return features::notch(bench, "notch", gwb_notch, face, points.data(), points.size(), depth);
 }
 
 /// A channel of this width along the line between two points on edges of the face, with a flat floor.
 template <class Policy>
-typename Policy::template Returned<Notch> slot(Commands<Policy> &bench, Face face, Point start, Point end, std::int64_t width, std::int64_t depth)
+features::Answer<Policy, Notch> slot(Commands<Policy> &bench, Face face, Point start, Point end, std::int64_t width, std::int64_t depth)
 {
-    return features::notch(bench, "slot", [&](gwb *g, gwb_refusal *why) { return gwb_slot(g, face.number(), &start, &end, width, depth, why); });
+    return features::notch(bench, "slot", gwb_slot, face, &start, &end, width, depth);
 }
 
 /// A channel alike, like a V.
 template <class Policy>
-typename Policy::template Returned<Notch> groove(Commands<Policy> &bench, Face face, Point start, Point end, std::int64_t width, std::int64_t depth)
+features::Answer<Policy, Notch> groove(Commands<Policy> &bench, Face face, Point start, Point end, std::int64_t width, std::int64_t depth)
 {
-    return features::notch(bench, "groove",
-                           [&](gwb *g, gwb_refusal *why) { return gwb_groove(g, face.number(), &start, &end, width, depth, why); });
+    return features::notch(bench, "groove", gwb_groove, face, &start, &end, width, depth);
 }
 
 /// A step of this width and depth along an edge of the face.
 template <class Policy>
-typename Policy::template Returned<Notch> shoulder(Commands<Policy> &bench, Face face, Edge edge, std::int64_t width, std::int64_t depth)
+features::Answer<Policy, Notch> shoulder(Commands<Policy> &bench, Face face, Edge edge, std::int64_t width, std::int64_t depth)
 {
-    return features::notch(bench, "shoulder",
-                           [&](gwb *g, gwb_refusal *why) { return gwb_shoulder(g, face.number(), edge.number(), width, depth, why); });
+    return features::notch(bench, "shoulder", gwb_shoulder, face, edge.number(), width, depth);
 }
 
 /// The edge becomes a sloping face, so far into the face of its first half-edge, and so far into the other one: where no second width is given as
 /// far. An edge whose faces bend inwards is filled.
 template <class Policy>
-typename Policy::template Returned<Face> chamfer(Commands<Policy> &bench, Edge edge, std::int64_t width, std::optional<std::int64_t> other = {})
+features::Answer<Policy, Face> chamfer(Commands<Policy> &bench, Edge edge, std::int64_t width, std::optional<std::int64_t> other = {})
 {
     std::uint32_t made = 0;
-    return bench.feature(
-        "chamfer", [&](gwb *g, gwb_refusal *why) { return gwb_chamfer(g, edge.number(), width, other.value_or(width), &made, why); },
-        [&] { return Face(made); });
+    return features::give(bench, "chamfer", [&] { return Face(made); }, gwb_chamfer, edge.number(), width, other.value_or(width), &made);
 }
 
 /// The same of different edges at once, as far into the faces on both sides, whose slopes meet where the edges do: the slope of each.
 template <class Policy>
-typename Policy::template Returned<std::vector<Face>> chamfer_edges(Commands<Policy> &bench, Items<Edge> edges, std::int64_t width)
+features::Answer<Policy, std::vector<Face>> chamfer_edges(Commands<Policy> &bench, Items<Edge> edges, std::int64_t width)
 {
     const std::vector<std::uint32_t> numbers = features::numbers(edges);
     features::Room<Face> slopes(edges.size());
-    return bench.feature(
-        "chamfer_edges", [&](gwb *g, gwb_refusal *why) { return gwb_chamfer_edges(g, numbers.data(), edges.size(), width, slopes.to(), why); },
-        [&] { return slopes.take(); });
+    return features::give(bench, "chamfer_edges", [&] { return slopes.take(); }, gwb_chamfer_edges, numbers.data(), edges.size(), width, slopes.to());
 }
 
 using CutPlane = gwb_cut_plane;
@@ -476,7 +439,7 @@ template <class T> const T *pointer(const std::optional<T> &value) { return valu
 
 /// What a query finds, which is asked for twice.
 template <class Kind, class Policy, class Query, class Call>
-typename Policy::template Returned<std::vector<Kind>> found(const Commands<Policy> &bench, const char *reader, const Query &query, Call call)
+Answer<Policy, std::vector<Kind>> found(const Commands<Policy> &bench, const char *reader, const Query &query, Call call)
 {
     std::vector<std::uint32_t> numbers(64);
     std::size_t count = 0;
@@ -488,16 +451,14 @@ typename Policy::template Returned<std::vector<Kind>> found(const Commands<Polic
     }
     if (kind != GWB_OK)
         return Policy::template failed<std::vector<Kind>>(reader, bench.feature_failure(kind, why));
-    std::vector<Kind> kinds;
-    for (std::size_t at = 0; at < count; at++)
-        kinds.emplace_back(numbers[at]);
-    return kinds;
+    numbers.resize(count);
+    return std::vector<Kind>(numbers.begin(), numbers.end());
 }
 
 } // namespace features
 
 /// The faces that are sought, rising. Refused: NoSolid. NoCall where a plane or a direction is zero.
-template <class Policy> typename Policy::template Returned<std::vector<Face>> find_faces(const Commands<Policy> &bench, const FaceQuery &query)
+template <class Policy> features::Answer<Policy, std::vector<Face>> find_faces(const Commands<Policy> &bench, const FaceQuery &query)
 {
     const gwb_face_query row = {query.solid.value_or(Solid()).number(), features::pointer(query.plane), features::pointer(query.normal),
                                 features::pointer(query.containing), features::pointer(query.area)};
@@ -505,7 +466,7 @@ template <class Policy> typename Policy::template Returned<std::vector<Face>> fi
 }
 
 /// The edges that are sought, rising. Refused: NoFace; NoSolid. NoCall where a direction is zero.
-template <class Policy> typename Policy::template Returned<std::vector<Edge>> find_edges(const Commands<Policy> &bench, const EdgeQuery &query)
+template <class Policy> features::Answer<Policy, std::vector<Edge>> find_edges(const Commands<Policy> &bench, const EdgeQuery &query)
 {
     const auto [one, other] = query.between.value_or(std::pair<Face, Face>());
     const gwb_edge_query row = {query.solid.value_or(Solid()).number(), {one.number(), other.number()}, features::pointer(query.along),
@@ -529,9 +490,9 @@ public:
     /// All of it as lines of a script, with this number for the solid above the plane. Empty where memory is refused.
     [[nodiscard]] std::string advice(Solid above) const
     {
-        char none = 0;
-        const std::size_t length = gwb_advice_text(advice_.get(), above.number(), &none, 0);
-        std::string text(length != SIZE_MAX ? length : 0, '\0');
+        std::string text;
+        const std::size_t length = gwb_advice_text(advice_.get(), above.number(), text.data(), 0);
+        text.resize(length != SIZE_MAX ? length : 0);
         gwb_advice_text(advice_.get(), above.number(), text.data(), text.size());
         return text;
     }
@@ -546,7 +507,7 @@ private:
 
 /// What is to be said of the cut of a solid by a plane, with at most so many tilted planes that would do. Refused: NoSolid; PlaneRange.
 template <class Policy>
-typename Policy::template Returned<OffLattice> off_lattice(const Commands<Policy> &bench, Solid solid, const CutPlane &plane, std::size_t most = 3)
+features::Answer<Policy, OffLattice> off_lattice(const Commands<Policy> &bench, Solid solid, const CutPlane &plane, std::size_t most = 3)
 {
     gwb_advice *advice = nullptr;
     gwb_refusal why{};
