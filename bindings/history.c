@@ -179,23 +179,22 @@ typedef uint32_t (*found_in)(const struct reading *r, uint32_t number, const str
 static bool missing_faces(const struct reading *these, const struct reading *others, found_in find, struct list *changes)
 {
     const uint32_t *faces = these->faces->items;
-    bool is_well = true;
-    for (size_t i = 0; i < these->faces->count && is_well; i++)
-        if (!has_face(others, faces[i]))
-            is_well = list_add(changes, &(gwb_change){faces[i], find(these, faces[i], others)});
-    return is_well;
+    for (size_t i = 0; i < these->faces->count; i++)
+        if (!has_face(others, faces[i]) && !list_add(changes, &(gwb_change){faces[i], find(these, faces[i], others)}))
+            return false;
+    return true;
 }
 
 /* The edges alike. */
 static bool missing_edges(const struct reading *these, const struct reading *others, struct list *changes)
 {
-    bool is_well = true;
-    for (size_t i = 0; i < these->count && is_well; i++) {
-        const uint32_t edge = these->by_itself[i].key / 2;
-        if (these->by_itself[i].key == gwb_plus(edge) && place_of(others, gwb_plus(edge)) == NOWHERE)
-            is_well = list_add(changes, &(gwb_change){edge, edge_along(these, edge, others)});
+    for (size_t i = 0; i < these->count; i++) {
+        const uint32_t half_edge = these->by_itself[i].key, edge = half_edge / 2;
+        const bool is_missing = half_edge == gwb_plus(edge) && place_of(others, half_edge) == NOWHERE;
+        if (is_missing && !list_add(changes, &(gwb_change){edge, edge_along(these, edge, others)}))
+            return false;
     }
-    return is_well;
+    return true;
 }
 
 bool history_find(struct solids *before, struct solids *after, struct list changes[2][2])
