@@ -23,15 +23,9 @@ struct Operator {
     Vertex vertex;
     Vector at;
 
-    static Operator mev(Corner corner, Edge edge, Vertex vertex, const Vector &at)
-    {
-        return {Kind::mev, corner, corner, edge, {}, {}, {}, vertex, at};
-    }
+    static Operator mev(Corner corner, Edge edge, Vertex vertex, const Vector &at) { return {Kind::mev, corner, corner, edge, {}, {}, {}, vertex, at}; }
     static Operator kev(HalfEdge half) { return of(Kind::kev, half, half); }
-    static Operator mef(HalfEdge first, HalfEdge second, Edge edge, Face face, Loop loop)
-    {
-        return {Kind::mef, first, second, edge, face, {}, loop, {}, {}};
-    }
+    static Operator mef(HalfEdge first, HalfEdge second, Edge edge, Face face, Loop loop) { return {Kind::mef, first, second, edge, face, {}, loop, {}, {}}; }
     static Operator kef(HalfEdge half) { return of(Kind::kef, half, half); }
     static Operator mekr(Corner corner, Corner ring, Edge edge) { return of(Kind::mekr, corner, ring, edge); }
     static Operator kemr(HalfEdge half, Loop ring) { return {Kind::kemr, half, half, {}, {}, {}, ring, {}, {}}; }
@@ -234,7 +228,7 @@ public:
     bool take(const std::set<Loop> &left, RingFaces &ring_faces)
     {
         rings_out(left, ring_faces);
-        for (const std::vector<Loop> &loops : connected(left)) {
+        for (const auto &[name, loops] : connected(left)) {
             go_on();
             if (!down(loops))
                 return false;
@@ -261,17 +255,17 @@ private:
             for (auto ring = loops.begin() + 1; ring != loops.end(); ++ring) {
                 if (left.count(*ring) != 0)
                     continue;
-                auto spare = ring_faces.find(*ring);
-                if (spare == ring_faces.end())
-                    spare = ring_faces.emplace(*ring, names_.faces.spare()).first;
+                const auto [spare, is_new] = ring_faces.try_emplace(*ring);
+                if (is_new)
+                    spare->second = names_.faces.spare();
                 face_of_[*ring] = spare->second;
                 step(Operator::mfkrh(*ring, spare->second), Operator::kfmrh(face, spare->second));
             }
         }
     }
 
-    /// The loops of the faces that differ, in parts that inner edges join.
-    std::vector<std::vector<Loop>> connected(const std::set<Loop> &left)
+    /// The loops of the faces that differ, in parts that inner edges join, each by the name of its set.
+    std::map<Loop, std::vector<Loop>> connected(const std::set<Loop> &left)
     {
         JoinedSets<Loop> joined;
         for (Edge edge : region_.inner)
@@ -281,10 +275,7 @@ private:
             for (Loop loop : model_.faces.at(face))
                 if (left.count(loop) == 0)
                     parts[joined.name(loop)].push_back(loop);
-        std::vector<std::vector<Loop>> found;
-        for (const auto &[name, loops] : parts)
-            found.push_back(loops);
-        return found;
+        return parts;
     }
 
     /// One connected part becomes a face for each of its outlines, or comes down to a vertex.
@@ -368,7 +359,7 @@ private:
         faces_ = 1;
         return std::all_of(bridges.begin(), bridges.end(), [&](HalfEdge half) {
             const bool is_between = loop_at(half) != loop_at(half.twin());
-            faces_ = is_between ? faces_ - 1 : faces_ + 1;
+            is_between ? faces_-- : faces_++;
             return is_between ? face_out(half) : bridge_out(half);
         });
     }

@@ -79,6 +79,15 @@ template <class Map> const typename Map::mapped_type *look_up(const Map &map, co
     return found != map.end() ? &found->second : nullptr;
 }
 
+/// Whether the test holds for the ends of a side of a closed path.
+template <class Path, class Test> bool any_side(const Path &path, Test test)
+{
+    for (std::size_t at = 0; at < path.size(); at++)
+        if (test(path[at], path[(at + 1) % path.size()]))
+            return true;
+    return false;
+}
+
 /// Adds items behind others.
 template <class Item> void append(std::vector<Item> &to, const std::vector<Item> &more) { to.insert(to.end(), more.begin(), more.end()); }
 
@@ -198,12 +207,13 @@ struct Box {
         box.take(b);
         return box;
     }
-    void take(const Vector &at) { take(Box{at, at}); }
-    void take(const Box &other)
+    void take(const Vector &at) { take(at, at); }
+    void take(const Box &other) { take(other.low, other.high); }
+    void take(const Vector &least, const Vector &most)
     {
         for (std::size_t axis = 0; axis < 3; axis++) {
-            low[axis] = std::min(low[axis], other.low[axis]);
-            high[axis] = std::max(high[axis], other.high[axis]);
+            low[axis] = std::min(low[axis], least[axis]);
+            high[axis] = std::max(high[axis], most[axis]);
         }
     }
     [[nodiscard]] bool meets(const Box &other) const
@@ -218,22 +228,13 @@ struct Box {
 /// Numbers by boxes. Each lies in a grid whose cells are longer than its box, by a power of two, in the cell of the box's lowest corner.
 class BoxIndex {
 public:
-    void put(const Box &box, std::size_t number)
-    {
-        int size = 0;
-        while (longest(subtract(box.high, box.low)) >> size != 0)
-            size++;
-        grids_[size][cell(box.low, size)].push_back({box, number});
-    }
+    void put(const Box &box, std::size_t number) { entries(box).push_back({box, number}); }
 
     /// A number that was put with this box goes.
     void take_away(const Box &box, std::size_t number)
     {
-        for (auto &[size, grid] : grids_)
-            if (const auto found = grid.find(cell(box.low, size)); found != grid.end()) {
-                auto &held = found->second;
-                held.erase(std::remove_if(held.begin(), held.end(), [&](const Entry &entry) { return entry.number == number; }), held.end());
-            }
+        auto &held = entries(box);
+        held.erase(std::find_if(held.begin(), held.end(), [&](const Entry &entry) { return entry.number == number; }));
     }
 
     /// The numbers of the boxes that meet one, rising.
@@ -252,6 +253,15 @@ private:
         std::size_t number;
     };
     using Grid = std::map<Vector, std::vector<Entry>>;
+
+    /// Those of the cell in which a box lies.
+    std::vector<Entry> &entries(const Box &box)
+    {
+        int size = 0;
+        while (longest(subtract(box.high, box.low)) >> size != 0)
+            size++;
+        return grids_[size][cell(box.low, size)];
+    }
 
     static Vector cell(const Vector &at, int size) { return {at[0] >> size, at[1] >> size, at[2] >> size}; }
 

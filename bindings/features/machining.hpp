@@ -17,6 +17,13 @@ using Path = std::vector<Vector>;
 
 inline Failure impossible(Misfit why, std::uint32_t value) { return {Problem::impossible, static_cast<std::uint32_t>(why), value}; }
 inline Failure refused(gwb_why why, std::uint32_t value) { return {Problem::refused, static_cast<std::uint32_t>(why), value}; }
+/// What is whole at a face. Not possible where it isn't: OffLattice.
+inline Vector whole(Face face, const std::optional<Vector> &found)
+{
+    if (!found)
+        throw impossible(Misfit::off_lattice, face.number());
+    return *found;
+}
 /// The number of a place in a list, from 1 on.
 inline std::uint32_t place(std::size_t at) { return static_cast<std::uint32_t>(at) + 1; }
 
@@ -168,10 +175,7 @@ private:
     /// Whether a loop lies on it, and none of its edges has no length.
     [[nodiscard]] bool has(const Path &path) const
     {
-        for (std::size_t at = 0; at < path.size(); at++)
-            if (height(path[at]) != 0 || path[at] == path[(at + 1) % path.size()])
-                return false;
-        return true;
+        return !any_side(path, [&](const Vector &start, const Vector &end) { return height(start) != 0 || start == end; });
     }
 
     Vector across_, origin_;
@@ -299,8 +303,7 @@ public:
     {
         Near found;
         for (const auto &[face, loops] : loops_near(box))
-            for (Loop loop : loops)
-                found[face].push_back(loops_.at(loop).second);
+            std::transform(loops.begin(), loops.end(), std::back_inserter(found[face]), [&](Loop loop) { return path(loop); });
         return found;
     }
     [[nodiscard]] std::map<Face, std::vector<Loop>> loops_near(const Box &box) const
@@ -392,6 +395,15 @@ inline Solid solid_of(const Bench &bench, Face face)
     return row->solid;
 }
 
+/// The edges of a solid, rising.
+inline std::set<Edge> edges_of(const Bench &bench, Solid solid)
+{
+    std::set<Edge> found;
+    for (const gwb_half_edge_row &row : bench.half_edge_rows(solid))
+        found.insert(HalfEdge(row.half_edge).edge());
+    return found;
+}
+
 /// The plane of a face. Refused: NoFace, NotFlat.
 inline FacePlane plane_of(const Bench &bench, Face face)
 {
@@ -425,7 +437,7 @@ private:
 class Prism {
 public:
     Prism(const Vector &across, const Path &path, const Vector &way, bool is_open)
-        : path_(path), far_(moved(path, way)), up_(dot(across, way) > 0 ? across : negative(across)), top_(dot(up_, way)), is_open_(is_open),
+        : path_(path), far_(moved(path, way)), way_(way), up_(dot(across, way) > 0 ? across : negative(across)), top_(dot(up_, way)), is_open_(is_open),
           sight_(up_, path[0]), sides_(sight_.outline(path)), box_(Box::around(path))
     {
         box_.take(Box::around(far_));
@@ -438,12 +450,7 @@ public:
     /// Whether it meets an edge of a loop, or the vertex of a lone one.
     [[nodiscard]] bool meets_loop(const Path &path) const
     {
-        for (std::size_t at = 0; at < path.size(); at++) {
-            const Vector &start = path[at], &end = path[(at + 1) % path.size()];
-            if (Box::between(start, end).meets(box_) && meets_edge(start, end))
-                return true;
-        }
-        return false;
+        return any_side(path, [&](const Vector &start, const Vector &end) { return Box::between(start, end).meets(box_) && meets_edge(start, end); });
     }
 
     /// Whether a point of the segment lies in the prism or on it; in the face, and in the other one, only what is on the outline counts.
@@ -466,12 +473,12 @@ public:
     /// Whether an edge of the prism meets a face none of whose edges meets the prism.
     [[nodiscard]] bool meets_face(const Region &region) const
     {
-        for (std::size_t at = 0; at < path_.size(); at++) {
-            const std::size_t after = (at + 1) % path_.size();
-            if (meets(region, path_[at], path_[after]) || meets(region, far_[at], far_[after]) || meets(region, path_[at], far_[at]))
-                return true;
-        }
-        return false;
+        const auto meets = [&](const Vector &start, const Vector &end) {
+            const FacePlane &plane = region.plane();
+            return sign(plane.height(start)) * sign(plane.height(end)) <= 0 && region.locate_between(start, end) != Place::outside;
+        };
+        const auto is_met = [&](const Vector &at) { return meets(at, add(at, way_)); };
+        return any_side(path_, meets) || any_side(far_, meets) || std::any_of(path_.begin(), path_.end(), is_met);
     }
 
 private:
@@ -488,14 +495,8 @@ private:
         return Segment(low < 0 ? on_way(0) : start, high > top_ ? on_way(top_) : end, whole);
     }
 
-    static bool meets(const Region &region, const Vector &start, const Vector &end)
-    {
-        const FacePlane &plane = region.plane();
-        return sign(plane.height(start)) * sign(plane.height(end)) <= 0 && region.locate_between(start, end) != Place::outside;
-    }
-
     Path path_, far_;
-    Vector up_;
+    Vector way_, up_;
     Wide top_;
     bool is_open_;
     Sight sight_;
@@ -533,23 +534,20 @@ struct Reach {
     [[nodiscard]] bool is_before(const Reach &reach) const { return compare_products(height, reach.slope, reach.height, slope) < 0; }
 };
 
-/// Whether a point that the sight begins at lies in the face that has these loops, as seen along it, or on its outline.
-inline bool is_seen(const Sight &sight, const std::vector<Path> &loops)
-{
-    return locate_in(loops, [&](const Path &path) { return locate(sight.outline(path), Spot()); }) != Place::outside;
-}
-
 inline Opposite opposite(const Surface &surface, Face face, const Vector &across, const Vector &start)
 {
     if (longest(across) > 2 * farthest)
         throw impossible(Misfit::off_lattice, face.number());
     const Sight sight(across, start);
     const Vector back = negative(across);
+    const auto is_seen = [&](const std::vector<Path> &loops) { // where the ray goes through a face, or its outline
+        return locate_in(loops, [&](const Path &path) { return locate(sight.outline(path), Spot()); }) != Place::outside;
+    };
     std::optional<Reach> nearest;
     for (const auto &[other, loops] : surface.near(surface.box_of_ray(start, back))) {
         const FacePlane *plane = other != face ? surface.plane(other) : nullptr;
         const Wide slope = plane != nullptr ? dot(plane->across(), back) : 0, height = plane != nullptr ? plane->height(start) : 0;
-        if (sign(height) * sign(slope) >= 0 || !is_seen(sight, loops))
+        if (sign(height) * sign(slope) >= 0 || !is_seen(loops))
             continue;
         const Reach reach{magnitude(height), magnitude(slope), other, plane->across()};
         if (!nearest || reach.is_before(*nearest))
@@ -596,9 +594,8 @@ inline Ring draw(Bench &bench, Face face, const Path &path)
 inline std::vector<Face> sides_of_sweep(Bench &bench, Face face, const Vector &way, const std::vector<Edge> &edges, bool of_first)
 {
     bench.sweep(face, point(way));
-    std::vector<Face> sides;
-    for (Edge edge : edges)
-        sides.push_back(bench.face_of(of_first ? plus(edge) : minus(edge)));
+    std::vector<Face> sides(edges.size());
+    std::transform(edges.begin(), edges.end(), sides.begin(), [&](Edge edge) { return bench.face_of(of_first ? plus(edge) : minus(edge)); });
     return sides;
 }
 
@@ -687,12 +684,10 @@ inline Pocket move_outline(Bench &bench, Face face, const Drawing &drawn, const 
 inline Pocket move_so_far(Bench &bench, Face face, Items<Point> points, std::int64_t length, const Failure &far_out)
 {
     const Drawing drawn = drawing(bench, face, points);
-    const std::optional<Vector> way = steps_along(drawn.across, length);
-    if (!way)
-        throw impossible(Misfit::off_lattice, face.number());
-    if (!std::all_of(drawn.path.begin(), drawn.path.end(), [&](const Vector &at) { return is_in_range(add(at, *way)); }))
+    const Vector way = whole(face, steps_along(drawn.across, length));
+    if (!std::all_of(drawn.path.begin(), drawn.path.end(), [&](const Vector &at) { return is_in_range(add(at, way)); }))
         throw far_out;
-    return move_outline(bench, face, drawn, *way);
+    return move_outline(bench, face, drawn, way);
 }
 
 inline Pocket make_pocket(Bench &bench, Face face, Items<Point> points, std::int64_t depth)

@@ -164,9 +164,8 @@ private:
 struct Band {
     Wide low, high;
 
-    explicit Band(Wide from, Wide to) : low(from), high(to) {}
+    Band(Wide from, Wide to) : low(from), high(to) {}
     explicit Band(Wide only) : Band(only, only) {}
-
     /// How far the fraction lies beside the band, times its denominator.
     [[nodiscard]] Wide gap(const Fraction &offset) const
     {
@@ -293,10 +292,7 @@ public:
             go_on();
             faces_.push_back(machining::loops_at(bench, face));
         }
-        std::set<Edge> edges;
-        for (const gwb_half_edge_row &half : bench.half_edge_rows(solid))
-            edges.insert(HalfEdge(half.half_edge).edge());
-        for (Edge edge : edges) {
+        for (Edge edge : machining::edges_of(bench, solid)) {
             const EdgeRow row = bench.edge(edge);
             edges_.push_back({edge, vector(bench.vertex(row.from)), vector(bench.vertex(row.to))});
         }
@@ -338,7 +334,7 @@ public:
             if (found && (!best || Band(*found).gap(offset) < Band(*best).gap(offset)) && is_cuttable({normal, *found}))
                 best = found;
         }
-        return best ? near({normal, *best}, true) : std::nullopt;
+        return best ? std::optional(near({normal, *best}, *square_moved({normal, *best}), true)) : std::nullopt;
     }
 
     /// The nearest of those through whole points of three cut edges, nearest first; at most so many.
@@ -362,7 +358,7 @@ public:
         std::vector<gwb_near_plane> found;
         for (std::size_t at = 0; at < ranked.size() && found.size() < most; at++)
             if (is_cuttable(ranked[at].plane))
-                found.push_back(*near(ranked[at].plane, false));
+                found.push_back(near(ranked[at].plane, ranked[at].square, false));
         return found;
     }
 
@@ -483,11 +479,9 @@ private:
     }
 
     /// The plane with how far it moves the cut.
-    [[nodiscard]] std::optional<gwb_near_plane> near(const Plane &plane, bool is_parallel) const
+    static gwb_near_plane near(const Plane &plane, const SquareMoved &square, bool is_parallel)
     {
-        const std::optional<SquareMoved> square = square_moved(plane);
-        // (less than what rounding adds is not rounded up)
-        return square ? std::optional(gwb_near_plane{plane.row(), is_parallel, std::ceil(std::sqrt(square->value) * 100 - 1e-9) / 100}) : std::nullopt;
+        return {plane.row(), is_parallel, std::ceil(std::sqrt(square.value) * 100 - 1e-9) / 100}; // (less than what rounding adds is not rounded up)
     }
 
     Plane plane_;

@@ -115,20 +115,17 @@ inline std::set<Edge> edges_between(const Bench &bench, Face one, Face other, So
 inline std::set<Edge> candidates(const Bench &bench, const gwb_edge_query &query)
 {
     const Solid solid(query.solid);
-    const bool are_between = query.between[0] != 0;
     std::set<Edge> found;
-    if (are_between)
+    if (query.between[0] != 0)
         found = edges_between(bench, Face(query.between[0]), Face(query.between[1]), solid);
     if (solid != Solid())
         machining::require_solid(bench, solid);
-    if (are_between)
+    if (query.between[0] != 0)
         return found;
-    if (solid == Solid())
-        for (Edge edge : bench.numbers<Edge>())
-            found.insert(found.end(), edge);
-    else
-        for (const gwb_half_edge_row &row : bench.half_edge_rows(solid))
-            found.insert(HalfEdge(row.half_edge).edge());
+    if (solid != Solid())
+        return machining::edges_of(bench, solid);
+    for (Edge edge : bench.numbers<Edge>())
+        found.insert(found.end(), edge);
     return found;
 }
 

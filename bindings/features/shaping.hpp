@@ -71,25 +71,13 @@ inline Tool wedge(const Corner &start, const Corner &end)
 }
 
 /// The shortest normal of a face that is plain and flat.
-inline Vector flat_normal(const Bench &bench, Face face)
-{
-    return plane_of(bench, face).across();
-}
-
-/// The whole vector of a length along a direction.
-inline Vector along(const Vector &way, std::int64_t length, Face face)
-{
-    const std::optional<Vector> found = steps_along(way, length);
-    if (!found)
-        throw impossible(Misfit::off_lattice, face.number());
-    return *found;
-}
+inline Vector flat_normal(const Bench &bench, Face face) { return plane_of(bench, face).across(); }
 
 inline Tool notch_tool(Face face, const FacePlane &plane, const Path &points, std::int64_t depth)
 {
     require_in_plane(points, [&](const Vector &at) { return plane.height(at); });
     (void)simple_normal(points);
-    return prism(points, along(negative(plane.across()), depth, face));
+    return prism(points, whole(face, steps_along(plane.across(), -depth)));
 }
 
 /// The way from a line in a face to the right side of a strip around it.
@@ -102,7 +90,7 @@ inline Vector side_of_strip(Face face, const FacePlane &plane, const Path &ends,
         throw impossible(Misfit::not_in_plane, 2);
     if (width % 2 != 0)
         throw impossible(Misfit::off_lattice, face.number());
-    return along(reduced(cross(plane.across(), line)), width / 2, face);
+    return whole(face, steps_along(reduced(cross(plane.across(), line)), width / 2));
 }
 
 inline Tool slot_tool(Face face, const FacePlane &plane, const Path &ends, std::int64_t width, std::int64_t depth)
@@ -113,21 +101,12 @@ inline Tool slot_tool(Face face, const FacePlane &plane, const Path &ends, std::
 
 inline Tool groove_tool(Face face, const FacePlane &plane, const Path &ends, std::int64_t width, std::int64_t depth)
 {
-    const Vector side = side_of_strip(face, plane, ends, width), way = along(negative(plane.across()), depth, face);
+    const Vector side = side_of_strip(face, plane, ends, width), way = whole(face, steps_along(plane.across(), -depth));
     const auto corner = [&](const Vector &at) { return Corner{add(at, way), subtract(at, side), add(at, side)}; };
     Tool made = wedge(corner(ends[0]), corner(ends[1])); // whose slope lies in the face
     made.walls.insert(made.walls.begin(), made.lids.front());
     made.lids = std::exchange(made.floors, {});
     return made;
-}
-
-/// The point that lies so far from a corner along a way as the fraction says.
-inline Vector part_of_way(Face face, const Vector &corner, const Vector &way, Wide numerator, Wide denominator)
-{
-    const std::optional<Vector> found = on_way(corner, way, numerator, denominator);
-    if (!found)
-        throw impossible(Misfit::off_lattice, face.number());
-    return *found;
 }
 
 /// The point on the way from a corner to the end of the side there, as far in as the step is; where the side runs the other way, square.
@@ -139,16 +118,16 @@ inline Vector on_side(Face face, const Vector &corner, const Vector &end, const 
         return add(corner, step);
     if (square > rise)
         throw impossible(Misfit::outline_outside, face.number());
-    return part_of_way(face, corner, side, square, rise);
+    return whole(face, on_way(corner, side, square, rise));
 }
 
 /// The point where the lines meet that lie so far from both sides of a corner as their steps.
 inline Vector beside_both(Face face, const Vector &corner, const Vector &step, const Vector &other)
 {
-    const Wide square = dot(step, step), whole = square + dot(step, other);
-    if (whole == 0)
+    const Wide square = dot(step, step), sum = square + dot(step, other);
+    if (sum == 0)
         throw impossible(Misfit::outline_outside, face.number());
-    return part_of_way(face, corner, add(step, other), square, whole);
+    return whole(face, on_way(corner, add(step, other), square, sum));
 }
 
 inline Vector start_of(const Bench &bench, HalfEdge half) { return vector(bench.vertex(bench.start_of(half))); }
@@ -157,7 +136,8 @@ inline Vector start_of(const Bench &bench, HalfEdge half) { return vector(bench.
 inline Vector inwards(const Bench &bench, HalfEdge half, std::int64_t length)
 {
     const Face face = bench.face_of(half);
-    return along(reduced(cross(flat_normal(bench, face), subtract(start_of(bench, half.twin()), start_of(bench, half)))), length, face);
+    const Vector side = subtract(start_of(bench, half.twin()), start_of(bench, half));
+    return whole(face, steps_along(reduced(cross(flat_normal(bench, face), side)), length));
 }
 
 /// The points where the line at a distance from a half-edge, in its face, meets the sides before and after it; of those that have such a line too
@@ -180,7 +160,7 @@ inline Tool shoulder_tool(const Bench &bench, HalfEdge half, std::int64_t width,
 {
     const Face face = bench.face_of(half);
     const auto ends = setbacks(bench, half, width);
-    const Vector way = along(negative(flat_normal(bench, face)), depth, face);
+    const Vector way = whole(face, steps_along(flat_normal(bench, face), -depth));
     return prism({start_of(bench, half), start_of(bench, half.twin()), ends[1], ends[0]}, way);
 }
 
@@ -267,15 +247,12 @@ inline Tool chamfer_tool(const Bench &bench, const std::vector<Edge> &edges, std
 /// Whether the solid has less than half of the room around an edge; refused where its faces lie in one plane.
 inline bool bends_outwards(const Bench &bench, HalfEdge half)
 {
-    const Vector across = flat_normal(bench, bench.face_of(half));
-    const Face other = bench.face_of(half.twin());
-    const FacePlane beyond = plane_of(bench, other);
-    if (are_parallel(across, beyond.across()))
+    const Vector across = flat_normal(bench, bench.face_of(half)), beyond = flat_normal(bench, bench.face_of(half.twin()));
+    if (are_parallel(across, beyond))
         throw impossible(Misfit::flat_edge, half.edge().number());
     // (what is across both normals runs along the edge, so one part of it tells which way)
-    const Axes axes = flat_axes(subtract(start_of(bench, half.twin()), start_of(bench, half)));
-    const Vector &one = across, &other_one = beyond.across();
-    return compare_products(one[axes[0]], other_one[axes[1]], one[axes[1]], other_one[axes[0]]) > 0;
+    const auto [first, second] = flat_axes(subtract(start_of(bench, half.twin()), start_of(bench, half)));
+    return compare_products(across[first], beyond[second], across[second], beyond[first]) > 0;
 }
 
 // ---- what is changed
