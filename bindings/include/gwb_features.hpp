@@ -11,17 +11,49 @@
 
 namespace gwb_session {
 
+/// What a call gives by the policy of its workbench: a value, or a Result.
+template <class Policy, class T> using Answer = typename Policy::template Returned<T>;
+
+namespace features {
+
+/// The rows that a call writes.
+template <class Row, class Write> std::vector<Row> rows(Write write)
+{
+    Row nothing{};
+    std::vector<Row> found(write(&nothing, 0));
+    if (!found.empty())
+        write(found.data(), found.size());
+    return found;
+}
+
+/// A list of what the last feature made: faces; numbers, each with another one.
+inline std::vector<Face> faces(const gwb *g, gwb_list which)
+{
+    const auto found = rows<std::uint32_t>([&](std::uint32_t *to, std::size_t room) { return gwb_made(g, which, to, room); });
+    return std::vector<Face>(found.begin(), found.end());
+}
+inline std::vector<std::array<std::uint32_t, 2>> pairs(const gwb *g, gwb_list which)
+{
+    return rows<std::array<std::uint32_t, 2>>([&](auto *to, std::size_t room) { return gwb_made(g, which, to->data(), 2 * room) / 2; });
+}
+
+} // namespace features
+
 /// Which of the parts that were made last are of which.
 class Parts {
 public:
     /// What gwb_made has of them.
-    explicit Parts(const gwb *g);
+    explicit Parts(const gwb *g)
+        : faces_(features::pairs(g, GWB_MADE_FACES)), loops_(features::pairs(g, GWB_MADE_LOOPS)), edges_(features::pairs(g, GWB_MADE_EDGES)),
+          vertices_(features::pairs(g, GWB_MADE_VERTICES))
+    {
+    }
 
     /// The part that is of this one: none of another one.
-    [[nodiscard]] Face of(Face face) const { return Face(find(faces_, face.number())); }
-    [[nodiscard]] Loop of(Loop loop) const { return Loop(find(loops_, loop.number())); }
-    [[nodiscard]] Edge of(Edge edge) const { return Edge(find(edges_, edge.number())); }
-    [[nodiscard]] Vertex of(Vertex vertex) const { return Vertex(find(vertices_, vertex.number())); }
+    [[nodiscard]] Face of(Face face) const { return find(faces_, face); }
+    [[nodiscard]] Loop of(Loop loop) const { return find(loops_, loop); }
+    [[nodiscard]] Edge of(Edge edge) const { return find(edges_, edge); }
+    [[nodiscard]] Vertex of(Vertex vertex) const { return find(vertices_, vertex); }
     /// The half-edge from the vertex of this one to that of its other end.
     [[nodiscard]] HalfEdge of(HalfEdge half_edge) const
     {
@@ -32,25 +64,12 @@ public:
 protected:
     /// Old numbers, rising, each with the new one.
     using Pairs = std::vector<std::array<std::uint32_t, 2>>;
-    static std::uint32_t find(const Pairs &pairs, std::uint32_t old)
+    template <class Kind> static Kind find(const Pairs &pairs, Kind old)
     {
-        const auto found = std::lower_bound(pairs.begin(), pairs.end(), std::array<std::uint32_t, 2>{old, 0});
-        return found != pairs.end() && (*found)[0] == old ? (*found)[1] : 0;
+        const auto found = std::lower_bound(pairs.begin(), pairs.end(), std::array<std::uint32_t, 2>{old.number(), 0});
+        return found != pairs.end() && (*found)[0] == old.number() ? Kind((*found)[1]) : Kind();
     }
 
-    /// The new numbers, each with the old one: both rise where all numbers were made lower.
-    static void turn_back(Pairs &pairs)
-    {
-        for (auto &[old, made] : pairs)
-            std::swap(old, made);
-    }
-    void turn_back()
-    {
-        for (Pairs *pairs : {&faces_, &loops_, &edges_, &vertices_})
-            turn_back(*pairs);
-    }
-
-private:
     Pairs faces_, loops_, edges_, vertices_;
 };
 
@@ -65,31 +84,27 @@ public:
 /// What all numbers have become.
 class Renumbered : public Parts {
 public:
-    explicit Renumbered(const gwb *g);
+    explicit Renumbered(const gwb *g) : Parts(g), solids_(features::pairs(g, GWB_MADE_SOLIDS)) {}
     using Parts::of;
-    [[nodiscard]] Solid of(Solid solid) const { return Solid(find(solids_, solid.number())); }
-    /// The same the other way, for what follows an undo.
+    [[nodiscard]] Solid of(Solid solid) const { return find(solids_, solid); }
+    /// The same the other way, for what follows an undo: the new numbers rise as the old ones.
     [[nodiscard]] Renumbered back() const
     {
         Renumbered before = *this;
-        before.turn_back();
-        Parts::turn_back(before.solids_);
+        for (Pairs *pairs : {&before.faces_, &before.loops_, &before.edges_, &before.vertices_, &before.solids_})
+            for (auto &[old, made] : *pairs)
+                std::swap(old, made);
         return before;
     }
 
 private:
-    using Parts::turn_back;
     Pairs solids_;
 };
 
 namespace features {
 
-/// What a call gives by the policy of its workbench.
-template <class Policy, class T> using Answer = typename Policy::template Returned<T>;
-
 /// Gives a call of gwb_features.h with these arguments. `make` makes what it gives of what was written, and takes no memory.
-template <class Policy, class Call, class Make, class... All>
-auto give(Commands<Policy> &bench, const char *command, Make make, Call call, All... arguments)
+template <class Policy, class Call, class Make, class... All> auto give(Commands<Policy> &bench, const char *command, Make make, Call call, All... arguments)
 {
     return bench.feature(command, [&](gwb *g, gwb_refusal *why) { return call(g, arguments..., why); }, make);
 }
@@ -116,27 +131,6 @@ private:
     std::vector<std::uint32_t> numbers_;
     std::vector<Kind> made_;
 };
-
-/// The rows that a call writes.
-template <class Row, class Write> std::vector<Row> rows(Write write)
-{
-    Row nothing{};
-    std::vector<Row> found(write(&nothing, 0));
-    if (!found.empty())
-        write(found.data(), found.size());
-    return found;
-}
-
-/// A list of what the last feature made: faces; numbers, each with another one.
-inline std::vector<Face> faces(const gwb *g, gwb_list which)
-{
-    const auto found = rows<std::uint32_t>([&](std::uint32_t *to, std::size_t room) { return gwb_made(g, which, to, room); });
-    return std::vector<Face>(found.begin(), found.end());
-}
-inline std::vector<std::array<std::uint32_t, 2>> pairs(const gwb *g, gwb_list which)
-{
-    return rows<std::array<std::uint32_t, 2>>([&](auto *to, std::size_t room) { return gwb_made(g, which, to->data(), 2 * room) / 2; });
-}
 
 /// The numbers of things, and room for one more, so that they have an address.
 template <class Kind> std::vector<std::uint32_t> numbers(Items<Kind> things)
@@ -177,8 +171,7 @@ Answer<Policy, Notch> notch(Commands<Policy> &bench, const char *command, Call c
 
 /// A split or a cut; where no number is given for the solid above, it takes the next one.
 template <class Policy, class Call>
-Answer<Policy, Split> split(Commands<Policy> &bench, const char *command, Call call, Solid solid, const gwb_cut_plane &plane,
-                            std::optional<Solid> above)
+Answer<Policy, Split> split(Commands<Policy> &bench, const char *command, Call call, Solid solid, const gwb_cut_plane &plane, std::optional<Solid> above)
 {
     const Solid upper = above ? *above : next_solid(bench);
     const auto made = [&] {
@@ -191,21 +184,14 @@ Answer<Policy, Split> split(Commands<Policy> &bench, const char *command, Call c
 
 } // namespace features
 
-inline Parts::Parts(const gwb *g)
-    : faces_(features::pairs(g, GWB_MADE_FACES)), loops_(features::pairs(g, GWB_MADE_LOOPS)), edges_(features::pairs(g, GWB_MADE_EDGES)),
-      vertices_(features::pairs(g, GWB_MADE_VERTICES))
-{
-}
-inline Renumbered::Renumbered(const gwb *g) : Parts(g), solids_(features::pairs(g, GWB_MADE_SOLIDS)) {}
-
 /// The solid goes, with all its parts.
-template <class Policy> features::Answer<Policy, void> kill_solid(Commands<Policy> &bench, Solid solid)
+template <class Policy> Answer<Policy, void> kill_solid(Commands<Policy> &bench, Solid solid)
 {
     return features::give(bench, "kill_solid", [] {}, gwb_kill_solid, solid.number());
 }
 
 /// A new solid, that is another one moved; its numbers are free ones, above all in use as long as there are any.
-template <class Policy> features::Answer<Policy, Copy> copy_solid(Commands<Policy> &bench, Solid solid, const Motion &motion = {})
+template <class Policy> Answer<Policy, Copy> copy_solid(Commands<Policy> &bench, Solid solid, const Motion &motion = {})
 {
     std::uint32_t made = 0;
     return features::give_listed(bench, "copy_solid", [&] { return Copy(bench.handle(), Solid(made)); }, gwb_copy_solid, solid.number(), &motion.row(),
@@ -213,14 +199,13 @@ template <class Policy> features::Answer<Policy, Copy> copy_solid(Commands<Polic
 }
 
 /// A solid lies elsewhere, with the numbers that it has.
-template <class Policy> features::Answer<Policy, void> move_solid(Commands<Policy> &bench, Solid solid, const Motion &motion)
+template <class Policy> Answer<Policy, void> move_solid(Commands<Policy> &bench, Solid solid, const Motion &motion)
 {
     return features::give(bench, "move_solid", [] {}, gwb_move_solid, solid.number(), &motion.row());
 }
 
 /// A row of so many solids, of which this is the first, each by the step from the one before it: those that are new. NoCall where there are none.
-template <class Policy>
-features::Answer<Policy, std::vector<Solid>> pattern(Commands<Policy> &bench, Solid solid, std::uint32_t count, Point step)
+template <class Policy> Answer<Policy, std::vector<Solid>> pattern(Commands<Policy> &bench, Solid solid, std::uint32_t count, Point step)
 {
     return features::row(bench, "pattern", gwb_pattern, solid, count, &step);
 }
@@ -228,47 +213,45 @@ features::Answer<Policy, std::vector<Solid>> pattern(Commands<Policy> &bench, So
 /// So many solids around the axis through a point (0 x, 1 y, 2 z), of which this is the first, each so many quarter turns on from the one before it:
 /// those that are new. NoCall where there are none, or one would lie where the first does.
 template <class Policy>
-features::Answer<Policy, std::vector<Solid>> pattern_around(Commands<Policy> &bench, Solid solid, std::uint32_t count, std::uint32_t axis,
-                                                            std::uint32_t quarters = 1, Point about = {0, 0, 0})
+Answer<Policy, std::vector<Solid>> pattern_around(Commands<Policy> &bench, Solid solid, std::uint32_t count, std::uint32_t axis, std::uint32_t quarters = 1,
+                                                  Point about = {0, 0, 0})
 {
     return features::row(bench, "pattern_around", gwb_pattern_around, solid, count, axis, quarters, &about);
 }
 
 /// All coordinates times the factor; numbers stay.
-template <class Policy> features::Answer<Policy, void> scale(Commands<Policy> &bench, std::int64_t factor)
+template <class Policy> Answer<Policy, void> scale(Commands<Policy> &bench, std::int64_t factor)
 {
     return features::give(bench, "scale", [] {}, gwb_scale, factor);
 }
 
 /// All numbers become as low as they can be, in their order: where none is left for what comes. Notes follow by renumbered().
-template <class Policy> features::Answer<Policy, Renumbered> renumber(Commands<Policy> &bench)
+template <class Policy> Answer<Policy, Renumbered> renumber(Commands<Policy> &bench)
 {
     return features::give_listed(bench, "renumber", [&] { return Renumbered(bench.handle()); }, gwb_renumber);
 }
 
 /// The solids become the first, glued along the faces that match. NoCall where one stands twice, or there are none.
-template <class Policy> features::Answer<Policy, void> glue_all(Commands<Policy> &bench, Items<Solid> solids)
+template <class Policy> Answer<Policy, void> glue_all(Commands<Policy> &bench, Items<Solid> solids)
 {
     const std::vector<std::uint32_t> numbers = features::numbers(solids);
     return features::give(bench, "glue_all", [] {}, gwb_glue_all, numbers.data(), solids.size());
 }
 
 /// What the command split does, with the faces that close both parts. Refused as split.
-template <class Policy>
-features::Answer<Policy, Split> split_solid(Commands<Policy> &bench, Solid solid, const gwb_cut_plane &plane, std::optional<Solid> above = {})
+template <class Policy> Answer<Policy, Split> split_solid(Commands<Policy> &bench, Solid solid, const gwb_cut_plane &plane, std::optional<Solid> above = {})
 {
     return features::split(bench, "split", gwb_split_solid, solid, plane, above);
 }
 
 /// The same, also where split refuses the plane for what it touches or how it runs through faces and holes.
-template <class Policy>
-features::Answer<Policy, Split> cut(Commands<Policy> &bench, Solid solid, const gwb_cut_plane &plane, std::optional<Solid> above = {})
+template <class Policy> Answer<Policy, Split> cut(Commands<Policy> &bench, Solid solid, const gwb_cut_plane &plane, std::optional<Solid> above = {})
 {
     return features::split(bench, "cut", gwb_cut, solid, plane, above);
 }
 
 /// What lies above the plane goes: the faces that close what is left. Refused as cut.
-template <class Policy> features::Answer<Policy, std::vector<Face>> trim(Commands<Policy> &bench, Solid solid, const gwb_cut_plane &plane)
+template <class Policy> Answer<Policy, std::vector<Face>> trim(Commands<Policy> &bench, Solid solid, const gwb_cut_plane &plane)
 {
     return features::give_listed(bench, "trim", [&] { return features::faces(bench.handle(), GWB_MADE_LOWER_CAPS); }, gwb_trim, solid.number(), &plane);
 }
@@ -278,7 +261,7 @@ using Merged = std::vector<std::pair<Face, Face>>;
 
 /// The solids, which touch in faces, become the first (`union` is a word of the language). NoCall where one stands twice, or there are fewer than
 /// two.
-template <class Policy> features::Answer<Policy, Merged> unite(Commands<Policy> &bench, Items<Solid> solids)
+template <class Policy> Answer<Policy, Merged> unite(Commands<Policy> &bench, Items<Solid> solids)
 {
     const std::vector<std::uint32_t> numbers = features::numbers(solids);
     const auto made = [&] {
@@ -291,14 +274,14 @@ template <class Policy> features::Answer<Policy, Merged> unite(Commands<Policy> 
 }
 
 /// A new solid: the outline through the points, moved along the vector.
-template <class Policy> features::Answer<Policy, Profile> profile(Commands<Policy> &bench, Solid solid, Items<Point> points, Point along)
+template <class Policy> Answer<Policy, Profile> profile(Commands<Policy> &bench, Solid solid, Items<Point> points, Point along)
 {
     gwb_profile_made made{};
     features::Room<Face> sides(points.size());
     return features::give(bench, "profile", [&] { return Profile{solid, Face(made.far), Face(made.base), sides.take()}; }, gwb_profile,
                           solid.number(), points.data(), points.size(), &along, &made, sides.to());
 }
-template <class Policy> features::Answer<Policy, Profile> profile(Commands<Policy> &bench, Items<Point> points, Point along)
+template <class Policy> Answer<Policy, Profile> profile(Commands<Policy> &bench, Items<Point> points, Point along)
 {
     return profile(bench, features::next_solid(bench), points, along);
 }
@@ -306,8 +289,7 @@ template <class Policy> features::Answer<Policy, Profile> profile(Commands<Polic
 /// A new solid: points, and faces of so many corners each, by their places among the points from 0 on, counterclockwise as seen from outside. NoCall where
 /// these aren't sound as a solid.
 template <class Policy>
-features::Answer<Policy, Polyhedron> polyhedron(Commands<Policy> &bench, Solid solid, Items<Point> points, Items<std::uint32_t> corners,
-                                                Items<std::uint32_t> sizes)
+Answer<Policy, Polyhedron> polyhedron(Commands<Policy> &bench, Solid solid, Items<Point> points, Items<std::uint32_t> corners, Items<std::uint32_t> sizes)
 {
     gwb_polyhedron_made made{};
     const bool has_all = std::accumulate(sizes.begin(), sizes.end(), std::uint64_t{0}) == corners.size();
@@ -315,13 +297,13 @@ features::Answer<Policy, Polyhedron> polyhedron(Commands<Policy> &bench, Solid s
                           solid.number(), points.data(), points.size(), corners.data(), sizes.data(), has_all ? sizes.size() : 0, &made);
 }
 template <class Policy>
-features::Answer<Policy, Polyhedron> polyhedron(Commands<Policy> &bench, Items<Point> points, Items<std::uint32_t> corners, Items<std::uint32_t> sizes)
+Answer<Policy, Polyhedron> polyhedron(Commands<Policy> &bench, Items<Point> points, Items<std::uint32_t> corners, Items<std::uint32_t> sizes)
 {
     return polyhedron(bench, features::next_solid(bench), points, corners, sizes);
 }
 
 /// A face inside the face, with the outline through the points, and a ring around it.
-template <class Policy> features::Answer<Policy, Ring> ring(Commands<Policy> &bench, Face face, Items<Point> points)
+template <class Policy> Answer<Policy, Ring> ring(Commands<Policy> &bench, Face face, Items<Point> points)
 {
     gwb_outline_made made{};
     features::Room<Edge> edges(points.size());
@@ -331,21 +313,19 @@ template <class Policy> features::Answer<Policy, Ring> ring(Commands<Policy> &be
 }
 
 /// A pocket so deep behind the outline in the face.
-template <class Policy>
-features::Answer<Policy, Pocket> pocket(Commands<Policy> &bench, Face face, Items<Point> points, std::int64_t depth)
+template <class Policy> Answer<Policy, Pocket> pocket(Commands<Policy> &bench, Face face, Items<Point> points, std::int64_t depth)
 {
     return features::raise(bench, "pocket", gwb_pocket, face, points, depth);
 }
 
 /// A boss so high on the outline in the face.
-template <class Policy>
-features::Answer<Policy, Pocket> boss(Commands<Policy> &bench, Face face, Items<Point> points, std::int64_t height)
+template <class Policy> Answer<Policy, Pocket> boss(Commands<Policy> &bench, Face face, Items<Point> points, std::int64_t height)
 {
     return features::raise(bench, "boss", gwb_boss, face, points, height);
 }
 
 /// A hole from the outline in the face through to the face opposite to it, which is parallel.
-template <class Policy> features::Answer<Policy, Hole> hole(Commands<Policy> &bench, Face face, Items<Point> points)
+template <class Policy> Answer<Policy, Hole> hole(Commands<Policy> &bench, Face face, Items<Point> points)
 {
     gwb_outline_made made{};
     features::Room<Face> sides(points.size());
@@ -356,7 +336,7 @@ template <class Policy> features::Answer<Policy, Hole> hole(Commands<Policy> &be
 
 /// A hole with a polygon of so many sides around the center, on whole numbers nearest to the circle of the radius: through, where the depth is 0, or so deep.
 template <class Policy>
-features::Answer<Policy, Hole> drill(Commands<Policy> &bench, Face face, Point center, std::int64_t radius, std::uint32_t sides, std::int64_t depth = 0)
+Answer<Policy, Hole> drill(Commands<Policy> &bench, Face face, Point center, std::int64_t radius, std::uint32_t sides, std::int64_t depth = 0)
 {
     constexpr std::uint32_t most_sides = 1'000'000;
     gwb_outline_made made{};
@@ -370,44 +350,39 @@ features::Answer<Policy, Hole> drill(Commands<Policy> &bench, Face face, Point c
 }
 
 /// A pocket whose outline may reach the edges of the face.
-template <class Policy> features::Answer<Policy, Notch> notch(Commands<Policy> &bench, Face face, Items<Point> points, std::int64_t depth)
+template <class Policy> Answer<Policy, Notch> notch(Commands<Policy> &bench, Face face, Items<Point> points, std::int64_t depth)
 {
     return features::notch(bench, "notch", gwb_notch, face, points.data(), points.size(), depth);
 }
 
 /// A channel of this width along the line between two points on edges of the face, with a flat floor.
-template <class Policy>
-features::Answer<Policy, Notch> slot(Commands<Policy> &bench, Face face, Point start, Point end, std::int64_t width, std::int64_t depth)
+template <class Policy> Answer<Policy, Notch> slot(Commands<Policy> &bench, Face face, Point start, Point end, std::int64_t width, std::int64_t depth)
 {
     return features::notch(bench, "slot", gwb_slot, face, &start, &end, width, depth);
 }
 
 /// A channel alike, like a V.
-template <class Policy>
-features::Answer<Policy, Notch> groove(Commands<Policy> &bench, Face face, Point start, Point end, std::int64_t width, std::int64_t depth)
+template <class Policy> Answer<Policy, Notch> groove(Commands<Policy> &bench, Face face, Point start, Point end, std::int64_t width, std::int64_t depth)
 {
     return features::notch(bench, "groove", gwb_groove, face, &start, &end, width, depth);
 }
 
 /// A step of this width and depth along an edge of the face.
-template <class Policy>
-features::Answer<Policy, Notch> shoulder(Commands<Policy> &bench, Face face, Edge edge, std::int64_t width, std::int64_t depth)
+template <class Policy> Answer<Policy, Notch> shoulder(Commands<Policy> &bench, Face face, Edge edge, std::int64_t width, std::int64_t depth)
 {
     return features::notch(bench, "shoulder", gwb_shoulder, face, edge.number(), width, depth);
 }
 
 /// The edge becomes a sloping face, so far into the face of its first half-edge, and so far into the other one: where no second width is given as
 /// far. An edge whose faces bend inwards is filled.
-template <class Policy>
-features::Answer<Policy, Face> chamfer(Commands<Policy> &bench, Edge edge, std::int64_t width, std::optional<std::int64_t> other = {})
+template <class Policy> Answer<Policy, Face> chamfer(Commands<Policy> &bench, Edge edge, std::int64_t width, std::optional<std::int64_t> other = {})
 {
     std::uint32_t made = 0;
     return features::give(bench, "chamfer", [&] { return Face(made); }, gwb_chamfer, edge.number(), width, other.value_or(width), &made);
 }
 
 /// The same of different edges at once, as far into the faces on both sides, whose slopes meet where the edges do: the slope of each.
-template <class Policy>
-features::Answer<Policy, std::vector<Face>> chamfer_edges(Commands<Policy> &bench, Items<Edge> edges, std::int64_t width)
+template <class Policy> Answer<Policy, std::vector<Face>> chamfer_edges(Commands<Policy> &bench, Items<Edge> edges, std::int64_t width)
 {
     const std::vector<std::uint32_t> numbers = features::numbers(edges);
     features::Room<Face> slopes(edges.size());
@@ -458,7 +433,7 @@ Answer<Policy, std::vector<Kind>> found(const Commands<Policy> &bench, const cha
 } // namespace features
 
 /// The faces that are sought, rising. Refused: NoSolid. NoCall where a plane or a direction is zero.
-template <class Policy> features::Answer<Policy, std::vector<Face>> find_faces(const Commands<Policy> &bench, const FaceQuery &query)
+template <class Policy> Answer<Policy, std::vector<Face>> find_faces(const Commands<Policy> &bench, const FaceQuery &query)
 {
     const gwb_face_query row = {query.solid.value_or(Solid()).number(), features::pointer(query.plane), features::pointer(query.normal),
                                 features::pointer(query.containing), features::pointer(query.area)};
@@ -466,7 +441,7 @@ template <class Policy> features::Answer<Policy, std::vector<Face>> find_faces(c
 }
 
 /// The edges that are sought, rising. Refused: NoFace; NoSolid. NoCall where a direction is zero.
-template <class Policy> features::Answer<Policy, std::vector<Edge>> find_edges(const Commands<Policy> &bench, const EdgeQuery &query)
+template <class Policy> Answer<Policy, std::vector<Edge>> find_edges(const Commands<Policy> &bench, const EdgeQuery &query)
 {
     const auto [one, other] = query.between.value_or(std::pair<Face, Face>());
     const gwb_edge_query row = {query.solid.value_or(Solid()).number(), {one.number(), other.number()}, features::pointer(query.along),
@@ -506,8 +481,7 @@ private:
 };
 
 /// What is to be said of the cut of a solid by a plane, with at most so many tilted planes that would do. Refused: NoSolid; PlaneRange.
-template <class Policy>
-features::Answer<Policy, OffLattice> off_lattice(const Commands<Policy> &bench, Solid solid, const CutPlane &plane, std::size_t most = 3)
+template <class Policy> Answer<Policy, OffLattice> off_lattice(const Commands<Policy> &bench, Solid solid, const CutPlane &plane, std::size_t most = 3)
 {
     gwb_advice *advice = nullptr;
     gwb_refusal why{};
