@@ -33,12 +33,13 @@ constexpr Wide greatest_divisor(Wide a, Wide b)
     return magnitude(a);
 }
 
-/// A product of 256 bits, its upper half first.
-constexpr std::pair<Unsigned, Unsigned> product(Unsigned a, Unsigned b)
+/// The product of the magnitudes of two numbers, in 256 bits: its upper half first.
+constexpr std::pair<Unsigned, Unsigned> product(Wide one, Wide other)
 {
+    const auto a = static_cast<Unsigned>(magnitude(one)), b = static_cast<Unsigned>(magnitude(other));
     const Unsigned half = ~std::uint64_t{0}, least = (a & half) * (b & half);
-    const Unsigned one = (a >> 64) * (b & half) + (least >> 64), other = (a & half) * (b >> 64) + (one & half);
-    return {(a >> 64) * (b >> 64) + (one >> 64) + (other >> 64), other << 64 | (least & half)};
+    const Unsigned first = (a >> 64) * (b & half) + (least >> 64), second = (a & half) * (b >> 64) + (first & half);
+    return {(a >> 64) * (b >> 64) + (first >> 64) + (second >> 64), second << 64 | (least & half)};
 }
 
 /// The sign of a b - c d, however large these are.
@@ -49,9 +50,8 @@ inline int compare_products(Wide a, Wide b, Wide c, Wide d)
         return (first > second) - (first < second);
     const int one = sign(a) * sign(b), other = sign(c) * sign(d);
     if (one != other)
-        return one < other ? -1 : 1;
-    const auto unsigned_product = [](Wide x, Wide y) { return product(static_cast<Unsigned>(magnitude(x)), static_cast<Unsigned>(magnitude(y))); };
-    const auto large = unsigned_product(a, b), beside = unsigned_product(c, d);
+        return sign(one - other);
+    const auto large = product(a, b), beside = product(c, d);
     return one * ((large > beside) - (large < beside));
 }
 

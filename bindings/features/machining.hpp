@@ -75,13 +75,36 @@ inline void require_simple(const Outline &sides)
     }
 }
 
-/// Refuses points off a plane, by their heights above it.
-template <class Height> void require_in_plane(const Path &path, Height height)
-{
-    const auto off = std::find_if(path.begin(), path.end(), [&](const Vector &at) { return height(at) != 0; });
-    if (off != path.end())
-        throw impossible(Misfit::not_in_plane, place(static_cast<std::size_t>(off - path.begin())));
-}
+/// The plane of a face, or of an outline.
+class FacePlane {
+public:
+    FacePlane(const Vector &across, const Vector &origin) : across_(across), origin_(origin) {}
+    /// That of a face with these loops: none where one is lone, the face has no area, a vertex lies off its plane or an edge has no length.
+    static std::optional<FacePlane> of(const std::vector<Path> &loops)
+    {
+        const Vector sum = area_vector(loops);
+        if (is_zero(sum))
+            return std::nullopt;
+        const FacePlane plane(reduced(sum), loops[0][0]);
+        const auto is_off = [&](const Vector &start, const Vector &end) { return plane.height(start) != 0 || start == end; };
+        return std::any_of(loops.begin(), loops.end(), [&](const Path &path) { return any_side(path, is_off); }) ? std::nullopt : std::optional(plane);
+    }
+
+    /// Its normal: of a face as short as it can be.
+    [[nodiscard]] const Vector &across() const { return across_; }
+    /// Positive where the point lies before it, negative behind it.
+    [[nodiscard]] Wide height(const Vector &at) const { return dot(across_, subtract(at, origin_)); }
+    /// Refuses points off it.
+    void require(const Path &path) const
+    {
+        const auto off = std::find_if(path.begin(), path.end(), [&](const Vector &at) { return height(at) != 0; });
+        if (off != path.end())
+            throw impossible(Misfit::not_in_plane, place(static_cast<std::size_t>(off - path.begin())));
+    }
+
+private:
+    Vector across_, origin_;
+};
 
 /// The normal of the flat simple outline through points.
 inline Vector simple_normal(const Path &path)
@@ -95,7 +118,7 @@ inline Vector simple_normal(const Path &path)
     const Vector across = area_vector(path);
     if (is_zero(across))
         throw impossible(Misfit::no_area, 0);
-    require_in_plane(path, [&](const Vector &at) { return dot(across, subtract(at, path[0])); });
+    FacePlane(across, path[0]).require(path);
     require_simple(flattened(path, flat_axes(across)));
     return across;
 }
@@ -150,36 +173,6 @@ inline std::vector<Path> loops_at(const Bench &bench, Face face, std::vector<Loo
         }
     return loops;
 }
-
-/// The plane of a face.
-class FacePlane {
-public:
-    /// None where a loop is lone, the face has no area, a vertex lies off its plane or an edge has no length.
-    static std::optional<FacePlane> of(const std::vector<Path> &loops)
-    {
-        const Vector sum = area_vector(loops);
-        if (is_zero(sum))
-            return std::nullopt;
-        const FacePlane plane(reduced(sum), loops[0][0]);
-        return std::all_of(loops.begin(), loops.end(), [&](const Path &path) { return plane.has(path); }) ? std::optional(plane) : std::nullopt;
-    }
-
-    /// Its normal, as short as it can be.
-    [[nodiscard]] const Vector &across() const { return across_; }
-    /// Positive where the point lies before it, negative behind it.
-    [[nodiscard]] Wide height(const Vector &at) const { return dot(across_, subtract(at, origin_)); }
-
-private:
-    FacePlane(const Vector &across, const Vector &origin) : across_(across), origin_(origin) {}
-
-    /// Whether a loop lies on it, and none of its edges has no length.
-    [[nodiscard]] bool has(const Path &path) const
-    {
-        return !any_side(path, [&](const Vector &start, const Vector &end) { return height(start) != 0 || start == end; });
-    }
-
-    Vector across_, origin_;
-};
 
 /// A flat face as a region of its plane, so far as its loops tell that lie near a place.
 class Region {
@@ -321,7 +314,7 @@ public:
     [[nodiscard]] Path ring_path(Face face, const Path &path) const
     {
         const FacePlane &plane = planes_.at(face);
-        require_in_plane(path, [&](const Vector &at) { return plane.height(at); });
+        plane.require(path);
         (void)simple_normal(path);
         const Outline own = flattened(path, flat_axes(plane.across()));
         Region(plane, near(Box::around(path))[face]).require_inside(face, own);
@@ -519,22 +512,15 @@ inline void require_room(const Surface &surface, const Prism &prism, Face face, 
         throw impossible(Misfit::meets, face.number());
 }
 
-/// The face that a ray from a point of a face goes out through, which is parallel, and the way to it.
-struct Opposite {
-    Face face;
-    Vector way;
-};
-
 /// How far along a vector a face lies.
 struct Reach {
     Wide height, slope; ///< the first divided by the second, which is above zero
     Face face;
     Vector across;
-
-    [[nodiscard]] bool is_before(const Reach &reach) const { return compare_products(height, reach.slope, reach.height, slope) < 0; }
 };
 
-inline Opposite opposite(const Surface &surface, Face face, const Vector &across, const Vector &start)
+/// The face that a ray from a point of a face goes out through, which is parallel, and the way to it.
+inline std::pair<Face, Vector> opposite(const Surface &surface, Face face, const Vector &across, const Vector &start)
 {
     if (longest(across) > 2 * farthest)
         throw impossible(Misfit::off_lattice, face.number());
@@ -549,9 +535,8 @@ inline Opposite opposite(const Surface &surface, Face face, const Vector &across
         const Wide slope = plane != nullptr ? dot(plane->across(), back) : 0, height = plane != nullptr ? plane->height(start) : 0;
         if (sign(height) * sign(slope) >= 0 || !is_seen(loops))
             continue;
-        const Reach reach{magnitude(height), magnitude(slope), other, plane->across()};
-        if (!nearest || reach.is_before(*nearest))
-            nearest = reach;
+        if (!nearest || compare_products(magnitude(height), nearest->slope, nearest->height, magnitude(slope)) < 0)
+            nearest = Reach{magnitude(height), magnitude(slope), other, plane->across()};
     }
     if (!nearest)
         throw impossible(Misfit::no_opposite, face.number());
@@ -559,7 +544,7 @@ inline Opposite opposite(const Surface &surface, Face face, const Vector &across
         throw impossible(Misfit::not_parallel, nearest->face.number());
     if (nearest->height % nearest->slope != 0)
         throw impossible(Misfit::off_lattice, nearest->face.number());
-    return Opposite{nearest->face, times(back, nearest->height / nearest->slope)};
+    return {nearest->face, times(back, nearest->height / nearest->slope)};
 }
 
 // ---- what is drawn and moved
@@ -706,8 +691,8 @@ inline Pocket make_boss(Bench &bench, Face face, Items<Point> points, std::int64
 inline Pocket make_hole(Bench &bench, Face face, Items<Point> points)
 {
     const Drawing drawn = drawing(bench, face, points);
-    const Opposite end = opposite(drawn.known->surface(bench, drawn.solid), face, drawn.across, drawn.path[0]);
-    return move_outline(bench, face, drawn, end.way, end.face);
+    const auto [end, way] = opposite(drawn.known->surface(bench, drawn.solid), face, drawn.across, drawn.path[0]);
+    return move_outline(bench, face, drawn, way, end);
 }
 
 } // namespace machining

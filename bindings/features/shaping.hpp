@@ -75,7 +75,7 @@ inline Vector flat_normal(const Bench &bench, Face face) { return plane_of(bench
 
 inline Tool notch_tool(Face face, const FacePlane &plane, const Path &points, std::int64_t depth)
 {
-    require_in_plane(points, [&](const Vector &at) { return plane.height(at); });
+    plane.require(points);
     (void)simple_normal(points);
     return prism(points, whole(face, steps_along(plane.across(), -depth)));
 }
