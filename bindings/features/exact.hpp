@@ -207,15 +207,14 @@ struct Box {
         box.take(b);
         return box;
     }
-    void take(const Vector &at) { take(at, at); }
-    void take(const Box &other) { take(other.low, other.high); }
-    void take(const Vector &least, const Vector &most)
+    void take(const Vector &at)
     {
         for (std::size_t axis = 0; axis < 3; axis++) {
-            low[axis] = std::min(low[axis], least[axis]);
-            high[axis] = std::max(high[axis], most[axis]);
+            low[axis] = std::min(low[axis], at[axis]);
+            high[axis] = std::max(high[axis], at[axis]);
         }
     }
+    void take(const Box &other) { take(other.low), take(other.high); }
     [[nodiscard]] bool meets(const Box &other) const
     {
         for (std::size_t axis = 0; axis < 3; axis++)
