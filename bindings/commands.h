@@ -32,6 +32,9 @@ static inline size_t commands_first(const struct commands *c, size_t command)
 /* Takes room for one more command. */
 static inline bool commands_reserve(struct commands *c) { return list_reserve(&c->begins, c->begins.count + 1); }
 
+/* A call begins, before anything is added. */
+static inline void commands_begin(struct commands *c) { c->call = c->items.count; }
+
 /* The items from a place on are those of a new command, for which there is room: those of commands that could be redone go. */
 static inline void commands_keep(struct commands *c, size_t from)
 {
@@ -50,7 +53,7 @@ static inline void commands_end(struct commands *c, bool is_accepted)
         c->items.count = c->call;
     else if (!c->is_drafting)
         commands_keep(c, c->call);
-    c->call = c->items.count;
+    commands_begin(c);
 }
 
 /* A draft was opened, for which room was taken before; its steps were made a command, or were taken back. */

@@ -36,11 +36,12 @@ void record_free(struct record *r)
     rattle_dealloc(r);
 }
 
-/* Begins a line, with room for so many bytes and for what is kept of it. */
-static bool begin(struct record *r, size_t bytes)
+/* Begins a line, with room for a word and so many parts of so many bytes, for its end, and for what is kept of it. */
+static bool begin(struct record *r, size_t parts, size_t bytes)
 {
-    r->kept.call = r->kept.items.count;
-    return list_reserve(&r->kept.items, r->kept.call + bytes) && list_reserve(&r->lines, r->lines.count + 1) && commands_reserve(&r->kept);
+    commands_begin(&r->kept);
+    return parts <= SIZE_MAX / 2 / bytes && list_reserve(&r->kept.items, r->kept.call + MOST_DIGITS + parts * bytes + 1) &&
+           list_reserve(&r->lines, r->lines.count + 1) && commands_reserve(&r->kept);
 }
 
 static char *text(const struct record *r) { return r->kept.items.items; }
@@ -90,7 +91,7 @@ static void put_value(struct record *r, char form, int64_t value)
 
 bool record_begin(struct record *r, const char *word, size_t values)
 {
-    if (values > SIZE_MAX / 2 / MOST_DIGITS || !begin(r, strlen(word) + values * MOST_DIGITS + 1))
+    if (!begin(r, values, MOST_DIGITS)) /* (the word is no longer than a number) */
         return false;
     put_bytes(r, word, strlen(word));
     return true;
@@ -116,7 +117,7 @@ bool record_write(struct record *r, const char *word, const char *form, const in
 
 bool record_write_line(struct record *r, const char *line, size_t n)
 {
-    if (n > SIZE_MAX / 2 || !begin(r, n + 1))
+    if (!begin(r, n, 1))
         return false;
     put_bytes(r, line, n);
     put(r, '\n');

@@ -148,13 +148,12 @@ static uint32_t solid_of(const gwb *g, char kind, int64_t value)
     }
 }
 
-/* Begins a call, or ends one before it was made. */
-static void begin(struct watch *w) { w->touched.call = w->touched.items.count; }
+/* Ends a call before it was made. */
 static bool dropped(struct watch *w) { return watch_end(w, false), false; }
 
 bool watch_touch(struct watch *w, const gwb *g, const char *kinds, const int64_t *values, size_t n)
 {
-    begin(w);
+    commands_begin(&w->touched);
     for (size_t i = 0; i < n && kinds[i] != '\0'; i++) {
         const uint32_t solid = solid_of(g, kinds[i], values[i]);
         if (solid != 0 && (!touch(w, solid) || !write_solid(w, g, solid)))
@@ -165,7 +164,7 @@ bool watch_touch(struct watch *w, const gwb *g, const char *kinds, const int64_t
 
 bool watch_touch_any(struct watch *w, const gwb *g)
 {
-    begin(w);
+    commands_begin(&w->touched);
     return (touch(w, 0) && write_all(w, g) && commands_reserve(&w->touched)) || dropped(w);
 }
 

@@ -223,6 +223,9 @@ static void try_words(void)
     check(gwb_script(&g, 0, 1, few, 5) == 20 && memcmp(few, "block--", 7) == 0, "too little room");
     check(gwb_script(&g, 4, 1, script, ROOM) == 14 && gwb_recorded(&g) == 5, "the draft comes last");
     check(gwb_script(&g, 0, 0, script, ROOM) == 0 && gwb_script(&g, 9, 9, script, ROOM) == 0, "none");
+    gwb_abandon(&g);
+    length = gwb_script(&g, 0, SIZE_MAX, script, 0);
+    check(gwb_part(&g, faces, SIZE_MAX / 4, 3) == GWB_MEMORY && gwb_script(&g, 0, SIZE_MAX, script, 0) == length, "a line that is too long for memory");
     gwb_close(&g);
 }
 
