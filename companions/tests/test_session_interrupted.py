@@ -7,7 +7,9 @@ import signal
 import sys
 import threading
 import unittest
+from contextvars import copy_context
 from pathlib import Path
+from unittest import mock
 
 from support import as_listed, library
 
@@ -17,8 +19,8 @@ from gwb import Complaint, InDraft, InGroup, OutOfStep, Workbench
 FOLDER = str(Path(gwb.__file__).parent / 'session')
 # The modules in which an exception may come at each line.
 TRACED = {f'{FOLDER}/{name}.py' for name in (
-    'workbench', 'bench', 'kernel', 'notes', 'new_numbers', 'library', 'steps', 'turns', 'commands', 'feature_methods', 'feature_calls', 'features',
-    'labelling', 'selection', 'refining', 'cutting', 'solids', 'solid_methods')}
+    'workbench', 'bench', 'kernel', 'notes', 'new_numbers', 'library', 'steps', 'turns', 'commands', 'feature_methods', 'feature_calls',
+    'labelling', 'selection', 'cutting', 'solids', 'solid_methods')}
 # Python looks for signals where a call begins or returns: not between a line and the `try:` after it, nor between a block and its `finally`.
 NOT_BEFORE = ('try:', '.is_inside =', 'group_from = outer')
 SQUARE = [(5, 5, 20), (15, 5, 20), (15, 15, 20), (5, 15, 20)]
@@ -217,6 +219,31 @@ class Interrupted(unittest.TestCase):
             bench._bench.kernel.blocks = []
             bench.block((0, 0, 0), (2, 2, 2))
             bench.undo()
+
+    def test_a_draft_or_a_group_left_at_each_line_of_its_end(self):
+        for begin in ('draft', 'group'):
+            line = 1
+            with mock.patch.object(sys, 'unraisablehook'):
+                while copy_context().run(self.leave_at_the_end, begin, line):
+                    line += 1
+            self.assertGreater(line, 20, begin)
+
+    def leave_at_the_end(self, begin, line):
+        """Whether the end of a draft or a group came to the line. Calls go on after it."""
+        interrupter = Interrupter(line)
+        with Workbench(library()) as bench:
+            try:
+                with getattr(bench, begin)():
+                    bench.mvfs((1, 1, 1))
+                    interrupter.__enter__()
+            except Left:
+                pass
+            finally:
+                interrupter.__exit__()
+            made = bench.mvfs((2, 2, 2))
+            self.assertIn((made.solid, len(bench.solids())), ((1, 1), (2, 1), (2, 2)), (begin, line))
+            bench.undo()
+            return interrupter.has_come
 
     def test_a_handler_that_gives_a_call_in_a_call(self):
         with Workbench(library()) as bench:

@@ -21,24 +21,20 @@ class _Draft:
         return self in self._kernel.blocks
 
     def end(self, is_whole: bool) -> None:
-        """It is over, and kept if it is whole."""
+        """It is over, with all within it that is still open. It is kept if it is whole; else all is as before, whatever exception comes meanwhile."""
         try:
             if is_whole:
                 self._kernel.lines.require_open()
                 self.keep()
                 self._is_kept = True
         finally:
-            self._end()
-
-    def _end(self) -> None:
-        """It is over, with all within it that is still open. Where it isn't kept all is as before, whatever exception comes meanwhile."""
-        try:
-            self._unless_kept()
-        finally:
             try:
                 self._unless_kept()
             finally:
-                self._leave()
+                try:
+                    self._unless_kept()
+                finally:
+                    self._leave()
 
     def _unless_kept(self) -> None:
         if not self._is_kept and self._kernel.lines.is_open:
@@ -47,11 +43,12 @@ class _Draft:
 
     def _leave(self) -> None:
         blocks = self._kernel.blocks
-        for block in reversed(blocks[blocks.index(self):]):
-            blocks.remove(block)
-            block.leave()
-        if not blocks:
+        place = blocks.index(self)
+        if place == 0:
             self._kernel.let_go()
+        for block in reversed(blocks[place:]):
+            block.leave()
+            blocks.remove(block)
 
     # What each kind does
 

@@ -8,7 +8,6 @@ from contextlib import contextmanager
 from contextvars import ContextVar
 from functools import wraps
 from inspect import CO_ASYNC_GENERATOR, CO_COROUTINE, CO_GENERATOR, isfunction
-from operator import attrgetter
 from threading import Condition, RLock, current_thread
 from types import FrameType
 from typing import Any, Callable, Iterator, Optional, Tuple, Type, TypeVar, cast
@@ -99,9 +98,9 @@ class Turns:
 
     def let_go(self) -> None:
         """Others need not wait any more."""
-        if self.holder:
-            self.holder.end()
-        self.holder = None
+        holder, self.holder = self.holder, None
+        if holder:
+            holder.end()
         self._free.notify_all()
 
 
@@ -112,18 +111,18 @@ def taking_turns(*as_it_is: str) -> Callable[[Type[Taker]], Type[Taker]]:
         for name in dir(cls):
             method = getattr(cls, name)
             if isfunction(method) and not name.startswith('_'):
-                setattr(cls, name, _taken(method, attrgetter('_turns'), name in as_it_is))
+                setattr(cls, name, _taken(method, name in as_it_is))
         return cls
 
     return taking
 
 
-def _taken(method: Method, turns_of: Callable[[Any], Turns], as_it_is: bool) -> Method:
+def _taken(method: Method, as_it_is: bool) -> Method:
     """The method as a turn of its own where it isn't called in one, which begins with `begin_turn` unless all may stay as it is."""
 
     @wraps(method)
     def taken(self: Any, *values: Any, **named: Any) -> Any:
-        turns = turns_of(self)
+        turns: Turns = self._turns
         with turns.taken():
             if turns.is_inside:
                 return method(self, *values, **named)
