@@ -8,10 +8,11 @@ from .geometry.model import Face, Loop, Model
 from .geometry.outlines import Impossible
 from .geometry.solid_measures import BoundingBox, Inertia, NotParallel, NoVolume
 from .protocol.listing import read_model
+from .session.arguments import Lone
 from .session.cutting import Cut
 from .session.reading import EdgePart, FacePart, LoopPart, Part, Selection, SolidPart, VertexPart
-from .session.results import (Block, Count, Hole, Lamina, Lone, NewEdge, NewFace, NewSolid, Notch, Plane, Pocket, Polyhedron, Profile,
-                              Renumbered, Ring, Split, Sweep)
+from .session.results import (Block, Count, Hole, Lamina, NewEdge, NewFace, NewSolid, Notch, Plane, Pocket, Polyhedron, Profile, Renumbered,
+                              Ring, Split, Sweep)
 from .session.sketches import Sketch
 from .session.solids import Copy
 from .session.workbench import Workbench

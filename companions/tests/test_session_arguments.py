@@ -177,6 +177,11 @@ class Things(unittest.TestCase):
             for name, kind in names.items():
                 self.refused(ValueError, rf'^{name}: the {kind} 1 is of another workbench$', method, name, getattr(self.other, kind)(1))
 
+    def test_the_number_of_the_part_above(self):
+        for method in ('split', 'cut'):
+            self.refused(TypeError, '^above: a solid is wanted, not the face 6$', method, 'above', self.bench.face(6))
+            self.refused(ValueError, '^above: the solid 6 is of another workbench$', method, 'above', self.other.solid(6))
+
     def test_things_in_lists_and_as_coordinates(self):
         bench, other = self.bench, self.other
         self.refused(TypeError, r'^solids\[0\]: a solid is wanted, not the face 1$', 'glue_all', 'solids', [bench.face(1)])
@@ -216,6 +221,7 @@ class Things(unittest.TestCase):
         self.assertEqual(moved.of(bench.solid(first)), bench.solid(moved.solid))
         for part in (bench.solid(second), bench.face(second.top), bench.edge(second.edges[0]), bench.vertex(second.vertices[0])):
             self.assertRaises(KeyError, moved.of, part)
+        self.assertRaisesRegex(TypeError, '^part: a thing of the model is wanted, not the int 3$', moved.of, 3)
         with Workbench(library()) as other:
             other.block((0, 0, 0), (1, 1, 1))
             for part in (other.solid(first), other.face(first.top), other.edge(first.edges[0])):

@@ -69,7 +69,8 @@ class Arrays(unittest.TestCase):
         points, faces = [(0, 0, 0), (6, 0, 0), (0, 6, 0), (0, 0, 6)], [(0, 2, 1), (0, 1, 3), (1, 2, 3), (0, 3, 2)]
         before = self.bench.listing()
         for name, value, wrong, solid in (('NotClosed', 1, faces[:3], 50), ('NotClosed', 4, [*faces[:3], (0, 2, 3)], 50), ('FewPoints', 2, [(0, 1), *faces], 50),
-                                          ('NotClosed', 5, [*faces, (0, 2, 1)], 50), ('NotClosed', 1, [(0, 0, 1), *faces], 50), ('SolidTaken', 1, faces, 1)):
+                                          ('NotClosed', 5, [*faces, (0, 2, 1)], 50), ('NotClosed', 1, [(0, 0, 1), *faces], 50), ('SolidTaken', 1, faces, 1),
+                                          ('NumberRange', 1_000_001, faces, 1_000_001)):
             with self.assertRaises(Refused) as caught:
                 self.bench.polyhedron(points, wrong, solid=solid)
             self.assertEqual((caught.exception.name, caught.exception.value), (name, value), wrong)

@@ -105,6 +105,14 @@ class Exports(unittest.TestCase):
             self.assertEqual(bench.labels, self.bench.labels)
             self.assertEqual(bench.listing(), self.bench.listing())
 
+    def test_they_are_saved_after_the_end(self):
+        self.bench.delete(self.bench.copy(self.base, move=(50, 0, 0)))
+        path, labels = self.folder / 'part.gwb', dict(self.bench.labels)
+        self.bench.close()
+        self.bench.save(path)
+        self.assertEqual(appearances_in(path.read_text().splitlines()), labels)
+        self.assertEqual(self.bench.labels, labels)
+
     def test_what_a_command_returned_is_labelled(self):
         copy, parts = self.bench.copy(self.base, move=(50, 0, 0)), self.bench.split(self.base, (0, 0, 1, -3))
         for made in (self.base, copy, parts):

@@ -154,6 +154,16 @@ class Refusals(unittest.TestCase):
         bench.undo()
         self.assertEqual(len(bench.solids()), 4)
 
+    def test_a_condition_of_a_command_says_what_it_means(self):
+        one, other = (self.bench.block((x, 0, 0), (9, 9, 9)) for x in (200, 209))
+        start = self.bench.face(one.top).outer.half_edges[0]
+        lone = self.bench.kemr(self.bench.mev(start, start, (204, 4, 9)).edge)
+        for give, text in ((lambda: self.bench.glue_all([one, other]), f'^LoneLoop: loop {lone} is a vertex without an edge$'),
+                           (lambda: self.bench.profile([(0, 0, 0), (1, 0, 0)], along=(0, 0, 1)), '^FewPoints: there are 2 points, and 3 are needed$'),
+                           (lambda: self.bench.profile([(0, 0, 0), (1, 0, 0), (0, 1, 0)], along=(0, 0, 1), solid=2_000_000),
+                            '^NumberRange: the number 2000000 is outside 1 to 1,000,000$')):
+            self.assertRaisesRegex(Impossible, text, give)
+
     def test_selection(self):
         bench, block = self.bench, self.block
         self.assertEqual(bench.faces(plane=(1, 0, 0, -10)).one(), bench.face(block.sides[1]))
@@ -182,6 +192,10 @@ class Refusals(unittest.TestCase):
         self.assertEqual(bench.solids().nearest((0, 0, 0)).one().number, self.block.solid)
         self.assertEqual({edge.points for edge in bench.edges(solid=made).nearest((99, 0, 1))},
                          {edge.points for edge in bench.edges(solid=made) if any(x == 100 for x, _, _ in edge.points)})
+        for large in (2 ** 64, 2 ** 70, Fraction(1, 2 ** 70), Fraction(1, 2 ** 64 - 1)):
+            self.assertEqual((len(bench.faces(area=large)), len(bench.edges(solid=made, length=large))), (0, 0))
+            for find in (lambda: bench.faces(solid=99, area=large), lambda: bench.edges(solid=99, length=large)):
+                self.assertRaisesRegex(Refused, 'NoSolid', find)
         with self.assertRaisesRegex(TypeError, r'^point\b'):
             bench.vertices().nearest(None)
         with self.assertRaisesRegex(NotOne, r'^one edge with solid=.*, length=5 was wanted; 2 were found'):

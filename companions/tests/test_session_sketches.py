@@ -75,6 +75,16 @@ class Sketches(Sketched):
         self.refused('NotFlat', bent.front)
         self.assertRaisesRegex(ValueError, '^sides: 2 is outside 3', self.bench.sketch(1).polygon, (0, 0), 5, 2)
 
+    def test_what_is_no_outline_is_named(self):
+        sketch = self.bench.sketch(1)
+        for error, words, draw in (
+                (TypeError, r'^spots: a sequence is wanted, not the int 5$', lambda: sketch.points(5)),
+                (ValueError, r'^spots\[1\]: 2 whole numbers are wanted, not 3$', lambda: sketch.points([(0, 0), (1, 2, 3)])),
+                (TypeError, r'^corner: a sequence is wanted, not None$', lambda: sketch.rectangle(None, (1, 1))),
+                (TypeError, r'^sizes\[1\]: a whole number is wanted, not the float 2.0$', lambda: sketch.rectangle((0, 0), (1, 2.0))),
+                (ValueError, r'^center: 2 whole numbers are wanted, not 1$', lambda: sketch.polygon((1,), 5, 6))):
+            self.assertRaisesRegex(error, words, draw)
+
 
 class Selections(Sketched):
     """Selections combined, and what was returned in the place of a solid."""

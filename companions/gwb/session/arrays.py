@@ -4,28 +4,21 @@ import ctypes
 from typing import Any, List, Optional
 
 from . import arguments
-from .bench import Bench, Methods
-from .library import ADDRESS, SIZE, WORD, declare
+from .bench import Methods
+from .c_calls import LENGTH, WORD
 from .reading import SolidPart
 
-# For each call what it takes before the rows, how many numbers a row has, and of which type; where those have a letter in buffers.
-_LONG = ctypes.c_int64
-_LETTERS = {WORD: 'I', _LONG: 'q'}
+# The letters that types of numbers have in buffers.
+_LETTERS = {WORD: 'I', LENGTH: 'q'}
 
 
 class Arrays(Methods):
     """Rows of numbers, as a memoryview in two dimensions, which `tolist()` makes lists of. Of nothing there are no rows. It stays what it is when the model
     changes."""
 
-    def __init__(self, bench: Bench) -> None:
-        super().__init__(bench)
-        lines = bench.kernel.lines
-        for name, taken in (('read_vertices', [ADDRESS, SIZE]), ('read_half_edges', [WORD, ADDRESS, SIZE]), ('read_triangles', [WORD, ADDRESS, SIZE])):
-            declare(lines.library, lines.path, name, f'gwb_{name}', SIZE, [ADDRESS, *taken])
-
     def vertices_array(self) -> memoryview:
         """A row for each vertex, rising: its number, x, y and z, in 64 bits each."""
-        return self._rows('read_vertices', [], self._bench.kernel.lines.greatest('vertex'), 4, _LONG)
+        return self._rows('read_vertices', [], self._bench.kernel.lines.greatest('vertex'), 4, LENGTH)
 
     def half_edges_array(self, solid: Optional[arguments.Solid] = None) -> memoryview:
         """A row for each half-edge, of a solid or of all, in 32 bits each: it, the vertex at which it starts, the half-edge after it in its loop, its
@@ -54,7 +47,7 @@ class Arrays(Methods):
         """What a call writes, which has room for so many rows. Raises MemoryError."""
         lines = self._bench.kernel.lines
         rows = (kind * (width * room or 1))()
-        count: int = getattr(lines.library, name)(ctypes.addressof(lines.handle), *solid, ctypes.addressof(rows), room)
+        count: int = getattr(lines.library, name)(lines.handle, *solid, rows, room)
         if count > room:
             raise MemoryError(f'{name}: memory was refused')
         flat = memoryview(rows).cast('B')[:count * width * ctypes.sizeof(kind)]

@@ -1,6 +1,8 @@
 """What the methods of a workbench share: its kernel, and what is read and labelled by it."""
 
-from typing import Dict, Iterable, List, Optional, Sequence, Tuple, Union
+import sys
+import warnings
+from typing import Dict, Iterable, List, Optional, Sequence, Tuple
 
 from ..formats.appearance import Appearance, Thing
 from ..geometry.model import Model
@@ -9,10 +11,10 @@ from . import arguments
 from .feature_calls import FeatureCalls
 from .kernel import Kernel
 from .library import find_path
-from .part_models import model_of_faces
-from .reading import FacePart, SolidPart
-from .results import Lone, Numbers
+from .reading import EdgePart, FacePart, Part, SolidPart
 from .steps import Block
+
+_PACKAGE = __name__.split('.')[0]
 
 
 class Bench:
@@ -29,16 +31,42 @@ class Bench:
     # Arguments
 
     def number(self, name: str, value: object, kind: str = '') -> int:
-        """The number of a thing of the kind, by default the one that the argument is named after: a thing of this workbench, or a number."""
-        return arguments.number(name, value, kind or name, self.kernel)
+        """The number of a thing of the kind, by default the one that the argument is named after, as the language reads it: 0 to 4,294,967,295. Those
+        past 1,000,000 are for the kernel to refuse.
+
+        A thing of this workbench may be given too, and for a solid what the command that made it returned."""
+        wanted = kind or name
+        if isinstance(value, Part):
+            return self._own(name, value, wanted)
+        made = getattr(value, 'solid', None) if wanted == 'solid' else None
+        return arguments.within(name, value if made is None else made, 0, arguments.GREATEST_WORD)
+
+    def _own(self, name: str, part: Part, kind: str) -> int:
+        """The number of a thing, if it is of the kind and of this workbench."""
+        if part.kind != kind:
+            raise arguments.wrong(name, f'an {kind}' if kind[0] in 'aeiou' else f'a {kind}', part)
+        if part._kernel is not self.kernel:
+            raise ValueError(f'{name}: {arguments.thing(part)} is of another workbench')
+        return part.number
 
     def several(self, name: str, value: object, kind: str) -> List[int]:
         """The numbers of things of the kind."""
-        return arguments.numbers(name, value, kind, self.kernel)
+        return [self.number(f'{name}[{place}]', item, kind) for place, item in enumerate(arguments.items(name, value))]
+
+    def different(self, name: str, value: object, kind: str, least: int = 1) -> List[int]:
+        """The numbers of different things of the kind, at least so many."""
+        found = self.several(name, value, kind)
+        if len(found) < least or len(set(found)) < len(found):
+            raise ValueError(f'{name}: different numbers are wanted, at least {least}')
+        return found
 
     def half_edge(self, name: str, value: object) -> int:
-        """A half-edge, by a number or an edge of this workbench."""
-        return arguments.half_edge(name, value, self.kernel)
+        """A half-edge, `+e` or `-e`: an edge's number with a sign, or an edge of this workbench, which stands for `+e`."""
+        if isinstance(value, EdgePart):
+            return self._own(name, value, 'edge')
+        if isinstance(value, Part):
+            raise arguments.wrong(name, 'a half-edge', value)
+        return arguments.within(name, value, -arguments.GREATEST_WORD, arguments.GREATEST_WORD)
 
     def half(self, name: str, value: object) -> str:
         """The word for a half-edge."""
@@ -46,17 +74,19 @@ class Bench:
 
     def corner(self, name: str, value: object) -> str:
         """The word for a corner, in a lone loop or at a half-edge."""
-        found: Union[int, Lone] = arguments.corner(name, value, self.kernel)
-        return f'@{found.loop}' if isinstance(found, Lone) else f'{found:+d}'
+        return f'@{self.number(f"{name}.loop", value.loop, "loop")}' if isinstance(value, arguments.Lone) else self.half(name, value)
 
     def pair(self, name: str, value: object, kind: str) -> Tuple[int, int]:
         """The numbers of two things of the kind."""
-        return arguments.pair(name, value, kind, self.kernel)
+        found = self.several(name, value, kind)
+        if len(found) != 2:
+            raise ValueError(f'{name}: two numbers are wanted, not {len(found)}')
+        return (found[0], found[1])
 
-    def new(self, kind: str, given: Optional[int], name: str = '') -> int:
-        """The number that was given, by the argument of the kind's name or another, or a new one."""
+    def new(self, kind: str, given: Optional[int]) -> int:
+        """The number that was given, by the argument of the kind's name, or a new one."""
         if given is not None:
-            return self.number(name or kind, given, kind)
+            return self.number(kind, given)
         self.kernel.lines.require_open()
         return self.numbers.next(kind)
 
@@ -65,7 +95,7 @@ class Bench:
     @property
     def labels(self) -> Dict[Thing, Appearance]:
         """The labels of what is there."""
-        return {thing: look for thing, look in self.kernel.notes.labels.items() if self.kernel.lines.in_use(*thing)}
+        return self.kernel.labels()
 
     def label_alike(self, kind: str, others: Iterable[Tuple[int, int]]) -> None:
         """Of each pair of solids or faces the second one gets the label that the first one has, if it has one."""
@@ -82,17 +112,13 @@ class Bench:
 
     # What is held
 
-    def fresh(self) -> Dict[str, Numbers]:
-        """For each kind the fresh numbers of the last command."""
-        return {kind: tuple(numbers) for kind, numbers in self.kernel.lines.fresh().items()}
-
     def solid_of(self, face: int) -> int:
         """The solid of a face. Refused: NoFace."""
         return FacePart(self.kernel, face).solid.number
 
     def model_of(self, faces: Sequence[int]) -> Model:
         """The model of these faces alone, which are there."""
-        return model_of_faces(self.kernel.lines, faces)
+        return self.kernel.lines.model(faces)
 
     def solid_model(self, solid: int) -> Model:
         """The model of one solid. Refused: NoSolid."""
@@ -104,3 +130,11 @@ class Methods:
 
     def __init__(self, bench: Bench) -> None:
         self._bench = bench
+
+
+def warn(text: str) -> None:
+    """Warns of something, at the line of the caller's that called the package."""
+    level, frame = 1, sys._getframe()
+    while frame.f_back and frame.f_globals.get('__name__', '').split('.')[0] == _PACKAGE:
+        level, frame = level + 1, frame.f_back
+    warnings.warn(text, stacklevel=level)

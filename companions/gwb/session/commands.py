@@ -1,14 +1,15 @@
 """The commands of the script language as methods."""
 
 from fractions import Fraction
-from typing import Optional, Sequence
+from itertools import islice
+from typing import List, Optional
 
-from ..geometry.free_numbers import numbers_of
-from ..geometry.vectors import Vector, dot
+from ..protocol.replies import Reply
 from . import arguments
+from .arguments import Corner
 from .bench import Methods
 from .reading import FacePart
-from .results import Block, Corner, Count, Lamina, NewEdge, NewFace, NewSolid, Numbers, Plane, Split, Sweep
+from .results import Block, Count, Lamina, NewEdge, NewFace, NewSolid, Plane, Sweep
 
 
 class Commands(Methods):
@@ -76,25 +77,25 @@ class Commands(Methods):
 
     def ringmv(self, ring: arguments.LoopNumber, face: arguments.Face, way: str) -> None:
         """The ring becomes a ring of the face (way `in`), or its outer loop (way `out`)."""
-        self._bench.kernel.do('ringmv', self._bench.number('ring', ring, 'loop'), self._bench.number('face', face), arguments.way('way', way))
+        self._bench.kernel.do('ringmv', self._bench.number('ring', ring, 'loop'), self._bench.number('face', face), arguments.word('way', way, ('in', 'out')))
 
     def lamina(self, points: arguments.Points, *, solid: Optional[int] = None) -> Lamina:
         """A new solid of two faces, back to back, through up to 64 points. The front is seen with the points counterclockwise."""
         places = arguments.points('points', points, arguments.MOST_LAMINA_POINTS)
         number = self._bench.new('solid', solid)
         self._bench.kernel.do('lamina', number, *(part for place in places for part in place))
-        fresh = self._bench.fresh()
+        fresh = self._bench.kernel.lines.fresh()
         front, back = fresh['face']
-        return Lamina(number, front, back, fresh['edge'], fresh['vertex'])
+        return Lamina(number, front, back, tuple(fresh['edge']), tuple(fresh['vertex']))
 
     def block(self, point: arguments.Point, sizes: arguments.Point, *, solid: Optional[int] = None) -> Block:
         """A new solid: the block from the point on with edges along the axes, so long as the sizes say."""
         place, lengths = arguments.point('point', point), arguments.point('sizes', sizes)
         number = self._bench.new('solid', solid)
         self._bench.kernel.do('block', number, *place, *lengths)
-        fresh = self._bench.fresh()
+        fresh = self._bench.kernel.lines.fresh()
         top, bottom, *sides = fresh['face']
-        return Block(number, top, bottom, tuple(sides), fresh['edge'], fresh['vertex'])
+        return Block(number, top, bottom, tuple(sides), tuple(fresh['edge']), tuple(fresh['vertex']))
 
     def sweep(self, face: arguments.Face, vector: arguments.Point) -> Sweep:
         """The face moves by the vector and leaves a side behind each of its half-edges.
@@ -102,15 +103,15 @@ class Commands(Methods):
         A lamina's front is swept along its normal, its back along the opposite one: the other way the solid is inside out."""
         number, way = self._bench.number('face', face), arguments.point('vector', vector)
         self._bench.kernel.do('sweep', number, *way)
-        fresh = self._bench.fresh()
-        rising: Numbers = ()
-        far: Numbers = ()
-        edges = fresh['edge']
-        for size in (len(loop.half_edges) for loop in FacePart(self._bench.kernel, number).loops):
-            round_loop, edges = edges[:2 * size], edges[2 * size:]
-            rising += (round_loop[0], *round_loop[1:-1:2])
-            far += (*round_loop[2::2], round_loop[-1])
-        return Sweep(number, fresh['face'], rising, far, fresh['vertex'])
+        fresh = self._bench.kernel.lines.fresh()
+        edges = iter(fresh['edge'])
+        rising: List[int] = []
+        far: List[int] = []
+        for loop in FacePart(self._bench.kernel, number).loops:
+            round_loop = list(islice(edges, 2 * len(loop.half_edges)))
+            rising += [round_loop[0], *round_loop[1:-1:2]]
+            far += [*round_loop[2::2], round_loop[-1]]
+        return Sweep(number, tuple(fresh['face']), tuple(rising), tuple(far), tuple(fresh['vertex']))
 
     def glue(self, face: arguments.Face, other: arguments.Face) -> int:
         """The solids of the two faces become one along them: its number."""
@@ -120,34 +121,18 @@ class Commands(Methods):
         assert kept is not None, 'glue is refused where there is no such face'
         return kept.solid
 
-    def split(self, solid: arguments.Solid, plane: arguments.Point, *, above: Optional[int] = None) -> Split:
-        """The solid is cut by the plane a x + b y + c z + d = 0, four numbers or what `plane` returns; what lies above it becomes a new solid."""
-        cut, coefficients = self._bench.number('solid', solid), arguments.plane('plane', plane)
-        number = self._bench.new('solid', above, 'above')
-        self._bench.kernel.do('split', cut, *coefficients, number)
-        fresh, reader = self._bench.fresh(), self._bench.kernel.lines
-        model = self._bench.model_of([face for side in (cut, number) for face in reader.faces_of(side)])
-        numbers = numbers_of(model)
-        made = {kind: tuple(found for found in numbers[kind] if found in new) for kind, new in fresh.items()}
-        caps = [face for face in made['face'] if all(_height(coefficients, point) == 0 for point in model.face_points(face))]
-        lower, upper = (tuple(face for face in caps if model.faces[face].solid == side) for side in (cut, number))
-        return Split(number, lower, upper, made['face'], made['edge'], made['vertex'])
-
     def undo(self, *, command: bool = False) -> None:
         """The last step is taken back: a command, or all those of a feature or a group; with `command=True` one command of it. A draft is one
         command. Refused: NothingToUndo. In a draft InDraft, in a group InGroup."""
-        one = arguments.flag('command', command)
-        self._bench.kernel.step('undo', 1 if one else self._bench.kernel.notes.step_back())
+        self._bench.kernel.step('undo', 1 if arguments.flag('command', command) else self._bench.kernel.notes.step_back())
 
     def redo(self, *, command: bool = False) -> None:
         """The step that was taken back last is done again; with `command=True` one command of it. Refused: NothingToRedo."""
-        one = arguments.flag('command', command)
-        self._bench.kernel.step('redo', 1 if one else self._bench.kernel.notes.step_ahead())
+        self._bench.kernel.step('redo', 1 if arguments.flag('command', command) else self._bench.kernel.notes.step_ahead())
 
     def plane(self, face: arguments.Face) -> Plane:
         """The plane of the face, which `split` and `faces` take."""
-        number = self._bench.number('face', face)
-        reply = self._bench.kernel.lines.asked(f'plane {number}')
+        reply = self._asked('plane', 'face', face)
         a, b, c, d = reply.numbers
         return Plane(a, b, c, d, reply.lines[0].endswith(' flat'))
 
@@ -157,15 +142,13 @@ class Commands(Methods):
 
     def six_volume(self, solid: arguments.Solid) -> int:
         """Six times the volume of the solid, which is whole: what the command `volume` says."""
-        number = self._bench.number('solid', solid)
-        return self._bench.kernel.lines.asked(f'volume {number}').numbers[0]
+        return self._asked('volume', 'solid', solid).numbers[0]
 
     def count(self, solid: arguments.Solid) -> Count:
         """How many things of each kind the solid has."""
-        number = self._bench.number('solid', solid)
-        return Count(*self._bench.kernel.lines.asked(f'count {number}').numbers)
+        return Count(*self._asked('count', 'solid', solid).numbers)
 
-
-def _height(plane: Sequence[int], point: Vector) -> int:
-    a, b, c, d = plane
-    return dot((a, b, c), point) + d
+    def _asked(self, word: str, kind: str, thing: object) -> Reply:
+        """The reply to a question of one thing. Refused: that it isn't there."""
+        number = self._bench.number(kind, thing)
+        return self._bench.kernel.lines.asked(f'{word} {number}')

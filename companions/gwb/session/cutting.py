@@ -1,25 +1,17 @@
-"""Solids cut by planes, and solids that touch made one."""
+"""Solids cut by planes, and solids that touch made one. Parts of faces have the labels of these."""
 
-from enum import Enum
-from typing import Dict, List, NamedTuple, Optional, Sequence, Tuple
+from typing import Callable, Dict, List, NamedTuple, Optional, Sequence, Tuple, TypeVar, Union
 
-from ..geometry.vectors import negative
-from .bench import Bench
-from .commands import Commands
-from .feature_calls import INTO, words
+from ..errors import Refused
+from ..geometry.crossings import Plane, without_common_factor
+from ..geometry.free_numbers import numbers_of
+from ..geometry.vectors import dot, negative
+from . import arguments
+from .bench import Methods, warn
+from .c_calls import INTO
+from .feature_calls import words
 from .labelling import LabelledFaces
 from .results import Split
-from .telling import warn
-
-Plane = Tuple[int, int, int, int]
-
-
-class Keep(Enum):
-    """What is kept of a solid that is cut."""
-
-    BOTH = 'both'
-    BELOW = 'below'
-    ABOVE = 'above'
 
 
 class Cut(NamedTuple):
@@ -31,74 +23,124 @@ class Cut(NamedTuple):
     upper_caps: Tuple[int, ...]
 
 
-def cut(bench: Bench, solid: int, plane: Plane, above: Optional[int]) -> Cut:
-    """Cuts a solid in two, as one command."""
-    number = bench.new('solid', above, 'above')
-    labelled = LabelledFaces(bench.kernel, solid)
-    with bench.step():
-        lower, upper = bench.features.cut(solid, plane, number)
-        bench.label_alike('solid', [(solid, number)])
-        labelled.label_parts((solid, number), (*lower, *upper))
-    return Cut(solid, number, lower, upper)
+Made = TypeVar('Made')
+Parted = TypeVar('Parted', bound=Union[Cut, Split])
 
 
-def split(bench: Bench, solid: int, plane: Plane, above: Optional[int]) -> Split:
-    """The command, and the labels of the solid and its faces for the parts above."""
-    labelled = LabelledFaces(bench.kernel, solid)
-    with bench.step():
-        made = Commands(bench).split(solid, plane, above=above)
-        bench.label_alike('solid', [(solid, made.solid)])
-        labelled.label_parts((solid, made.solid), (*made.lower_caps, *made.upper_caps))
+class Cutting(Methods):
+    """Cuts and unions. Each is one command; one that is refused leaves everything as it was."""
+
+    def split(self, solid: arguments.Solid, plane: arguments.Point, *, above: Optional[int] = None, scale: bool = False) -> Split:
+        """The solid is cut by the plane a x + b y + c z + d = 0, four numbers or what `plane` returns; what lies above it becomes a new solid.
+
+        With scale=True a cut that is refused NotLattice is made in a finer unit: all coordinates of the bench are multiplied by the least whole
+        number that makes the points of the cut whole, and `unit` is divided by it, as one command with the cut. Refused besides: PointRange: a
+        point would then lie past 1,000,000,000."""
+        number, level = self._bench.number('solid', solid), arguments.plane('plane', plane)
+        return self._cut_by(number, level, scale, above, lambda plane, new: self._in_two(number, new, lambda new: self._split(number, plane, new)))
+
+    def cut(self, solid: arguments.Solid, plane: arguments.Point, *, keep: str = 'both', above: Optional[int] = None, scale: bool = False) -> Cut:
+        """The solid is cut by the plane a x + b y + c z + d = 0. What lies below it stays the solid, and what lies above it becomes a new one,
+        of the number `above` where one is given. With keep='below' or 'above' the other part is thrown away, and the part that is kept keeps
+        the number of the solid. With scale=True it is cut in a finer unit where its points ask for one, as `split` does.
+
+        Where split refuses the plane for what it touches or how it runs through faces and holes, the solid is cut face by face, and faces in
+        the plane are one with the caps beside them. Refused: what split says of the solid, the plane and its points: NoSolid,
+        SolidTaken, LoneLoop, NotFlat, PlaneMisses, NotLattice; Meets: a part would touch itself."""
+        number, level, wanted = self._bench.number('solid', solid), arguments.plane('plane', plane), arguments.word('keep', keep, ('both', 'below', 'above'))
+        if above is not None and wanted != 'both':
+            raise ValueError(f'above: the part above the plane gets no number of its own where {keep!r} alone is kept')
+        features = self._bench.features
+
+        def give(plane: Plane, new: Optional[int]) -> Cut:
+            if wanted == 'both':
+                return self._in_two(number, new, lambda new: Cut(number, new, *features.cut(number, plane, new)))
+            if wanted == 'below':
+                return Cut(number, None, self._trimmed(number, plane), ())
+            return Cut(None, number, (), self._trimmed(number, (*negative(plane[:3]), -plane[3])))
+
+        return self._cut_by(number, level, scale, above, give)
+
+    def trim(self, solid: arguments.Solid, plane: arguments.Point, *, scale: bool = False) -> Tuple[int, ...]:
+        """What lies above the plane is cut off and thrown away: the faces that close what is left. With scale=True it is cut in a finer unit
+        where its points ask for one. Refused as cut is."""
+        return self.cut(solid, plane, keep='below', scale=scale).lower_caps
+
+    def union(self, solids: Sequence[arguments.Solid]) -> int:
+        """The solids, which touch in faces and have no room in common, become one: the number of the first of them. Faces of one plane
+        beside each other become one, and so do the edges that go on straight.
+
+        Refused: NoSolid, NotFlat; NoContact: a solid touches the others in no face; Overlap: two have room in common, or the union
+        would touch itself; OffLattice: edges of two solids cross between whole coordinates."""
+        numbers = self._bench.different('solids', solids, 'solid', 2)
+        with self._bench.step():
+            self._bench.features.give('union', words(numbers), len(numbers), frees=True)
+            merged: Dict[int, List[int]] = {}
+            for face, part in self._bench.features.pairs(INTO):
+                merged.setdefault(part, []).append(face)
+            for part, faces in merged.items():
+                first = part if part in faces else faces[0]
+                self._tell_lost_labels(first, faces)
+                self._bench.label_alike('face', [(first, part)])
+        return numbers[0]
+
+    def _tell_lost_labels(self, first: int, faces: Sequence[int]) -> None:
+        """Warns where faces that had different labels, or one of which had none, become one face: it has that of the first."""
+        labels = self._bench.kernel.notes.labels
+        if any(labels.get(('face', face)) != labels.get(('face', first)) for face in faces):
+            together = (first, *(face for face in faces if face != first))
+            warn('faces {} become one, which keeps the label of face {}'.format(' and '.join(map(str, together)), first))
+
+    def _cut_by(self, solid: int, plane: Plane, scale: object, above: object, give: Callable[[Plane, Optional[int]], Made]) -> Made:
+        """Cuts a solid by a plane, with the number for what is above it if one is given. Where points of the cut aren't whole, that is refused with the
+        least factor by which they are, or it is done once the unit is the least finer one in which they are; both as one command.
+
+        Refused: what the cut is refused for, with all as before; PointRange: in the finer unit a point would leave the range."""
+        may_scale, new = arguments.flag('scale', scale), None if above is None else self._bench.number('above', above, 'solid')
+        try:
+            return give(plane, new)
+        except Refused as refused:
+            if refused.name != 'NotLattice':
+                raise
+            factor = self._bench.features.whole_factor(solid, plane)
+            if not may_scale:
+                refused.args = (f'{refused.args[0]}; times {factor} all its points are whole, as scale=True makes them; off_lattice() names planes near by',)
+                raise
+        with self._bench.step():
+            try:
+                self._bench.features.give('scale', factor)
+            except Refused as refused:
+                refused.args = (f'times {factor} all points of the cut are whole, but {refused}',)
+                raise
+            self._bench.kernel.notes.unit = self._bench.kernel.notes.unit / factor
+            # (its offset stays in range, since it meets edges whose ends do)
+            return give(without_common_factor((*plane[:3], plane[3] * factor)), new)
+
+    def _in_two(self, solid: int, above: Optional[int], give: Callable[[int], Parted]) -> Parted:
+        """Cuts a solid in two, as one command, by what is given the number of the part above."""
+        number = self._bench.new('solid', above)
+        labelled = LabelledFaces(self._bench.kernel, solid)
+        with self._bench.step():
+            made = give(number)
+            self._bench.label_alike('solid', [(solid, number)])
+            labelled.label_parts((solid, number), (*made.lower_caps, *made.upper_caps))
         return made
 
+    def _trimmed(self, solid: int, plane: Plane) -> Tuple[int, ...]:
+        """What lies above the plane is cut off and thrown away, as one command: the caps of what is left, which keeps its number."""
+        labelled = LabelledFaces(self._bench.kernel, solid)
+        with self._bench.step():
+            caps = self._bench.features.trim(solid, plane)
+            labelled.label_parts([solid], caps)
+        return caps
 
-def trimmed(bench: Bench, solid: int, plane: Plane) -> Tuple[int, ...]:
-    """What lies above the plane is cut off and thrown away, as one command: the caps of what is left, which keeps its number."""
-    labelled = LabelledFaces(bench.kernel, solid)
-    with bench.step():
-        caps = bench.features.trim(solid, plane)
-        labelled.label_parts([solid], caps)
-    return caps
-
-
-def kept(value: object) -> Keep:
-    """What is to be kept: 'both', 'below' or 'above'."""
-    words = [word.value for word in Keep]
-    if value not in words:
-        raise ValueError(f'keep: one of {", ".join(map(repr, words))} is wanted, not {value!r}')
-    return Keep(value)
-
-
-def opposite(plane: Plane) -> Plane:
-    """The same plane, looked at from its other side."""
-    return (*negative(plane[:3]), -plane[3])
-
-
-def united(bench: Bench, solids: Sequence[int]) -> int:
-    """Makes one solid of several that touch, as one command: the number of the first one."""
-    with bench.step():
-        bench.features.give('union', words(solids), len(solids), frees=True)
-        merged: Dict[int, List[int]] = {}
-        for face, part in bench.features.pairs(INTO):
-            merged.setdefault(part, []).append(face)
-        for part, faces in merged.items():
-            first = part if part in faces else faces[0]
-            _tell_lost_labels(bench, first, faces)
-            bench.label_alike('face', [(first, part)])
-    return solids[0]
-
-
-def solid_numbers(bench: Bench, value: object) -> List[int]:
-    """At least two different numbers of solids of the bench."""
-    found = bench.several('solids', value, 'solid')
-    if len(found) < 2 or len(set(found)) < len(found):
-        raise ValueError('solids: different numbers are wanted, at least two')
-    return found
-
-
-def _tell_lost_labels(bench: Bench, first: int, faces: Sequence[int]) -> None:
-    """Warns where faces that had different labels, or one of which had none, become one face: it has that of the first."""
-    look = bench.kernel.notes.labels.get(('face', first))
-    if any(bench.kernel.notes.labels.get(('face', face)) != look for face in faces):
-        together = (first, *(face for face in faces if face != first))
-        warn('faces {} become one, which keeps the label of face {}'.format(' and '.join(map(str, together)), first))
+    def _split(self, solid: int, plane: Plane, above: int) -> Split:
+        """Gives the command: what it makes."""
+        kernel = self._bench.kernel
+        kernel.do('split', solid, *plane, above)
+        model = kernel.lines.model([face for side in (solid, above) for face in kernel.lines.faces_of(side)])
+        numbers = numbers_of(model)
+        made = {kind: tuple(found for found in numbers[kind] if found in new) for kind, new in kernel.lines.fresh().items()}
+        caps = [face for face in made['face'] if all(dot(plane[:3], point) + plane[3] == 0 for point in model.face_points(face))]
+        lower, upper = (tuple(face for face in caps if model.faces[face].solid == side) for side in (solid, above))
+        return Split(above, lower, upper, made['face'], made['edge'], made['vertex'])

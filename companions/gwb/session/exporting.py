@@ -1,27 +1,31 @@
 """Names and colours of solids and faces in a session, its unit, and the files that are made of what it holds, or taken in."""
 
+import os
 from fractions import Fraction
 from pathlib import Path
 from types import MappingProxyType
-from typing import Callable, Dict, NamedTuple, Optional, Tuple, Union
+from typing import Callable, Dict, List, NamedTuple, Optional, Tuple, Union
 
 from ..drawing.page import page_of
 from ..errors import Unfit
 from ..formats.appearance import LONGEST_NAME, Appearance, Appearances, Colour, colour_of
 from ..formats.glb import glb_bytes
+from ..formats.importing import read_file
+from ..formats.models_of_parts import Imported
 from ..formats.mesh import mesh_of
 from ..formats.obj import mtl_text, obj_text
 from ..formats.off import off_text
+from ..formats.polygon_files import FORMS
 from ..formats.step.write import step_text
 from ..formats.stl import stl_text
 from ..formats.three_mf.write import three_mf_bytes
+from ..geometry.free_numbers import renumbered
 from ..geometry.model import Model
 from ..geometry.plane_figures import Exact
 from ..geometry.touching_solids import touching_solids
-from . import arguments, files_in
-from .bench import Methods
+from . import arguments
+from .bench import Methods, warn
 from .reading import FacePart, Selection, SolidPart
-from .telling import warn
 
 
 class _Held(NamedTuple):
@@ -92,12 +96,27 @@ class Exporting(Methods):
         `repair` mends what can be; `flat` takes of STEP the flat solids alone. Warns of what is wrong with the solids, and of what is left out.
         Raises OSError; NotAMesh where it is no such file; Unfit where its surfaces aren't closed, or a point isn't whole or past the range.
         Refused: NumbersSpent."""
-        options = files_in.Options(
-            files_in.known_form(arguments.text('form', form)), arguments.factor('scale', scale), arguments.flag('rounded', rounded),
-            arguments.flag('keep_triangles', keep_triangles), arguments.flag('repair', repair), arguments.flag('flat', flat),
-            arguments.distance('within', within))
-        solids = files_in.take_in(self._bench, arguments.path('path', path), options)
+        kind = arguments.text('form', form) and arguments.word('form', form, FORMS)
+        size, most = arguments.factor('scale', scale) / self.unit, arguments.fraction('within', within)
+        round_all, keep, mend, flat_alone = (arguments.flag(name, value) for name, value in (
+            ('rounded', rounded), ('keep_triangles', keep_triangles), ('repair', repair), ('flat', flat)))
+        file = arguments.path('path', path)
+        found = read_file(os.path.abspath(file), form=kind or None, scale=size.numerator if size.denominator == 1 else size,
+                          rounded=round_all, keep_triangles=keep, repair=mend, flat=flat_alone, within=most)
+        for wrong in found.wrong:
+            warn(f'{file}: {wrong}')
+        solids = self._take_in(found)
         return Selection('solid', '', [SolidPart(self._bench.kernel, solid) for solid in solids])
+
+    def _take_in(self, found: Imported) -> List[int]:
+        """Makes the solids of a file as one command, and labels what has a name or a colour: their numbers."""
+        new = self._bench.numbers.instead_of(found.model)
+        with self._bench.step():
+            if found.model.solids:
+                self._bench.features.load(renumbered(found.model, new))
+            for (kind, number), look in found.looks.items():
+                self._bench.kernel.notes.put((kind, new[kind][number]), look._replace(name=look.name[:LONGEST_NAME]))
+        return [new['solid'][solid] for solid in found.model.solids]
 
 
 def _name(value: object) -> str:

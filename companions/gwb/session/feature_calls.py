@@ -2,37 +2,29 @@
 
 import ctypes
 from fractions import Fraction
-from typing import Any, Callable, Dict, List, NamedTuple, Optional, Sequence, Tuple
+from typing import Any, List, NamedTuple, Sequence, Tuple
 
 from ..errors import CompanionError, Refused
+from ..geometry.free_numbers import LARGEST
 from ..geometry.measures import why_unfit
 from ..geometry.model import Model
 from ..geometry.outlines import Impossible
 from ..geometry.vectors import Vector
 from ..protocol.complaints import memory_refused, refused
+from ..protocol.language import refusal
 from ..protocol.listing import listing_lines
 from ..protocol.replies import Reply
+from .c_calls import (ADDRESS, IMPOSSIBLE, LENGTH, LOWER_CAPS, MEMORY, NO_CALL, OK, REFUSED, SIZE, UPPER_CAPS, WORD, CutPlane, Pair, Point, Ratio,
+                      Refusal)
 from .kernel import Kernel
-from .library import ADDRESS, IMPOSSIBLE, MEMORY, NO_CALL, OK, REFUSED, SIZE, WORD, Point, Refusal, Wide, declare
-from .part_models import model_of_faces
+from .library import filled
 
-_LENGTH = ctypes.c_int64
-_OUTLINE, _MADE = [WORD, ADDRESS, SIZE], [ADDRESS, ADDRESS]
-_STRIP = [WORD, ADDRESS, ADDRESS, _LENGTH, _LENGTH]
-# What each call takes after the handle, and before the refusal.
-_CALLS: Dict[str, List[Any]] = {
-    'kill_solid': [WORD], 'copy_solid': [WORD, ADDRESS, ADDRESS], 'move_solid': [WORD, ADDRESS], 'pattern': [WORD, WORD, ADDRESS, ADDRESS],
-    'pattern_around': [WORD] * 4 + [ADDRESS, ADDRESS], 'chamfer_edges': [ADDRESS, SIZE, _LENGTH, ADDRESS], 'load': [ctypes.c_char_p, SIZE],
-    'scale': [_LENGTH], 'renumber': [], 'glue_all': [ADDRESS, SIZE], 'profile': [*_OUTLINE, ADDRESS, *_MADE],
-    'polyhedron': [*_OUTLINE, ADDRESS, ADDRESS, SIZE, ADDRESS], 'ring': [*_OUTLINE, *_MADE, ADDRESS], 'pocket': [*_OUTLINE, _LENGTH, *_MADE], 'boss': [*_OUTLINE, _LENGTH, *_MADE], 'hole': [*_OUTLINE, *_MADE],
-    'drill': [WORD, ADDRESS, _LENGTH, WORD, _LENGTH, *_MADE, ADDRESS], 'notch': [*_OUTLINE, _LENGTH],
-    'slot': _STRIP, 'groove': _STRIP, 'shoulder': [WORD, WORD, _LENGTH, _LENGTH], 'chamfer': [WORD, _LENGTH, _LENGTH, ADDRESS],
-    'cut': [WORD, ADDRESS, WORD], 'trim': [WORD, ADDRESS], 'union': [ADDRESS, SIZE]}
 _CUTS = ('cut', 'trim')
 # The conditions that are of a number that was given, so that no feature is at fault.
 _OF_NUMBERS = ('NoSolid', 'NoFace', 'NoEdge', 'SolidTaken')
+# What misfits say, and conditions that say something else of a feature than of a command.
 _TEXTS = {
-    'FewPoints': 'there are {} points, and 3 are needed', 'RepeatedPoint': 'point {} is there twice', 'NoArea': 'the outline has no area, or crosses itself',
+    'RepeatedPoint': 'point {} is there twice', 'NoArea': 'the outline has no area, or crosses itself',
     'NotInPlane': 'point {} lies off the plane', 'OutlineCrossed': 'side {} of the outline crosses or touches another one',
     'AlongPlane': 'the vector lies in the plane of the points', 'OutlineOutside': "the outline doesn't lie inside face {}",
     'OutlineAroundRing': 'a ring of face {} lies inside the outline', 'OffLattice': 'a point or a vector at {} would not be whole',
@@ -45,51 +37,13 @@ _TEXTS = {
     'Overlap': 'solid {} has room in common with another one, or their union would touch itself', 'PointRange': 'a point would lie past 1,000,000,000',
     'NoCorner': "the slopes of edges that end at vertex {} don't meet in one point, or more than three edges end there",
     'NotAlike': 'edge {} is of another solid than the first, or bends the other way',
-    'NotClosed': "a side of face {} hasn't one side, of one face, that runs the other way", 'NumberRange': 'the number {} is outside 1 to 1,000,000', 'NumbersSpent': 'too few numbers above all that are in use are left'}
+    'NotClosed': "a side of face {} hasn't one side, of one face, that runs the other way",
+    'NumbersSpent': 'too few numbers above all that are in use are left'}
 _PART_MEETS = 'a part of solid {} would touch itself in the plane'
-FLOOR, WALLS, FACES, LOOPS, EDGES, VERTICES, TURNED, LOWER_CAPS, UPPER_CAPS, INTO, SOLIDS = range(11)
-_QUERIES = {'face': 'find_faces', 'edge': 'find_edges'}
+_NUMBER_RANGE = 1
+_ROOM = 64
 _MOST_TERM = 2 ** 64 - 1
 _TOO_MANY = 2 ** 62
-
-
-class Motion(ctypes.Structure):
-    """Where points go: by the axes, signed and counted from 1, and then by a vector."""
-
-    _fields_ = [('axes', ctypes.c_int32 * 3), ('by', Point)]
-
-
-class CutPlane(ctypes.Structure):
-    """The plane a x + b y + c z + d = 0."""
-
-    _fields_ = [(name, ctypes.c_int64) for name in 'abcd']
-
-
-class Ratio(ctypes.Structure):
-    """A numerator divided by a denominator."""
-
-    _fields_ = [('numerator', ctypes.c_uint64), ('denominator', ctypes.c_uint64)]
-
-
-_PLANE, _POINT, _RATIO = (ctypes.POINTER(kind) for kind in (CutPlane, Point, Ratio))
-
-
-class FaceQuery(ctypes.Structure):
-    """Which faces are sought."""
-
-    _fields_ = [('solid', WORD), ('plane', _PLANE), ('normal', _POINT), ('containing', _POINT), ('area', _RATIO)]
-
-
-class EdgeQuery(ctypes.Structure):
-    """Which edges are sought."""
-
-    _fields_ = [('solid', WORD), ('between', WORD * 2), ('along', _POINT), ('length', _RATIO)]
-
-
-class Pair(ctypes.Structure):
-    """Two numbers of what is made: a face and a loop, or two faces."""
-
-    _fields_ = [('first', WORD), ('second', WORD)]
 
 
 class Outlined(NamedTuple):
@@ -101,13 +55,9 @@ class Outlined(NamedTuple):
     vertices: Tuple[int, ...]
 
 
-# What is given by its address.
-_IN_MEMORY = (ctypes.Structure, ctypes.Array, WORD)
-
-
 def rows(points: Sequence[Vector]) -> Any:
     """Points as the library takes them."""
-    return (_LENGTH * (3 * len(points)))(*[part for point in points for part in point])
+    return (LENGTH * (3 * len(points)))(*[part for point in points for part in point])
 
 
 def words(numbers: Sequence[int]) -> Any:
@@ -115,35 +65,27 @@ def words(numbers: Sequence[int]) -> Any:
     return (WORD * len(numbers))(*numbers)
 
 
-def ratio(value: Fraction) -> Optional[Ratio]:
-    """A fraction above zero, if its terms fit: those of lengths and areas do."""
-    return Ratio(value.numerator, value.denominator) if max(value.numerator, value.denominator) <= _MOST_TERM else None
+def ratio(value: Fraction) -> Any:
+    """A fraction above zero. The terms of lengths and areas fit; in the place of one whose terms don't stands one that is none of theirs either."""
+    return Ratio(value.numerator, value.denominator) if max(value.numerator, value.denominator) <= _MOST_TERM else Ratio(1, _MOST_TERM)
 
 
 class FeatureCalls:
     """The calls of the features of a kernel's library."""
 
     def __init__(self, kernel: Kernel) -> None:
-        self._kernel, library, path = kernel, kernel.lines.library, kernel.lines.path
-        for name, taken in _CALLS.items():
-            declare(library, path, name, f'gwb_{name}', WORD, [ADDRESS, *taken, ADDRESS])
-        for name in _QUERIES.values():
-            declare(library, path, name, f'gwb_{name}', WORD, [ADDRESS] * 2 + [ADDRESS, SIZE, ADDRESS, ADDRESS])
-        declare(library, path, 'off_lattice', 'gwb_off_lattice', WORD, [ADDRESS, WORD, ADDRESS, SIZE, ADDRESS, ADDRESS])
-        declare(library, path, 'advice_factor', 'gwb_advice_factor', Wide, [ADDRESS])
-        declare(library, path, 'advice_free', 'gwb_advice_free', None, [ADDRESS])
-        declare(library, path, 'made', 'gwb_made', SIZE, [ADDRESS, WORD, ADDRESS, SIZE])
-        declare(library, path, 'misfit_name', 'gwb_misfit_name', ctypes.c_char_p, [WORD])
-        self._library, self._handle = library, ctypes.addressof(kernel.lines.handle)
+        self._kernel, self._library, self._handle = kernel, kernel.lines.library, kernel.lines.handle
 
-    def give(self, word: str, *values: Any, frees: bool = False) -> None:
-        """Gives a feature of numbers, and of what lies in memory, by its address; `frees` where numbers may be free after it that were in use."""
+    def _ask(self, word: str, *values: Any) -> None:
+        """Makes a call. A complaint is raised."""
         why = Refusal()
-        call: Callable[..., int] = getattr(self._library, word)
-        given = [ctypes.addressof(value) if isinstance(value, _IN_MEMORY) else value for value in (*values, why)]
-        said = self._kernel.giving(lambda: call(self._handle, *given), frees)
+        said = getattr(self._library, word)(self._handle, *values, why)
         if said != OK:
             raise self._complaint(word, said, why)
+
+    def give(self, word: str, *values: Any, frees: bool = False) -> None:
+        """Gives a feature; `frees` where numbers may be free after it that were in use."""
+        self._kernel.giving(lambda: self._ask(word, *values), frees)
 
     def written(self, word: str, room: int, *values: Any, frees: bool = False) -> Tuple[int, ...]:
         """Gives a feature that writes so many numbers behind what it takes: these."""
@@ -163,24 +105,23 @@ class FeatureCalls:
         self.give('drill', face, Point(*center), radius, sides, depth, made, along, points)
         return Outlined(made.first, made.second, tuple(along), ()), tuple((at.x, at.y, at.z) for at in points)
 
-    def find(self, kind: str, query: ctypes.Structure) -> List[int]:
+    def find(self, word: str, query: Any) -> List[int]:
         """The faces or edges that are sought, rising. A complaint is raised."""
-        word, why, count, room = _QUERIES[kind], Refusal(), SIZE(), 64
-        call: Callable[..., int] = getattr(self._library, word)
-        while True:
-            found = (WORD * room)()
-            said = call(self._handle, ctypes.addressof(query), ctypes.addressof(found), room, ctypes.addressof(count), ctypes.addressof(why))
-            if said != OK:
-                raise self._complaint(word, said, why)
-            if count.value <= room:
-                return found[:count.value]
-            room = count.value
+        count = SIZE()
 
-    def polyhedron(self, solid: int, points: Sequence[Vector], faces: Sequence[Sequence[int]]) -> Pair:
-        """A solid of points, and of faces by their corners: its first vertex and its first face."""
+        def write(found: Any, room: int) -> int:
+            self._ask(word, query, found, room, count)
+            return count.value
+
+        return list(filled(WORD, _ROOM, write))
+
+    def polyhedron(self, solid: int, points: Sequence[Vector], faces: Sequence[Sequence[int]]) -> Tuple[int, int]:
+        """A solid of points, and of faces by their corners: its first vertex and its first face. Refused: NumberRange, of which the call says nothing."""
+        if not 1 <= solid <= LARGEST:
+            raise refused('polyhedron', _NUMBER_RANGE, solid)
         made, corners = Pair(), words([corner for face in faces for corner in face])
         self.give('polyhedron', solid, rows(points), len(points), corners, words([len(face) for face in faces]), len(faces), made)
-        return made
+        return made.first, made.second
 
     def load(self, model: Model) -> None:
         """Makes what a model has, which isn't empty, with its numbers."""
@@ -189,12 +130,10 @@ class FeatureCalls:
 
     def whole_factor(self, solid: int, plane: Sequence[int]) -> int:
         """The least number by which the model must be multiplied for all points of a cut to be whole."""
-        advice, row, why = ADDRESS(), CutPlane(*plane), Refusal()
-        said = self._library.off_lattice(self._handle, solid, ctypes.addressof(row), 0, ctypes.addressof(advice), ctypes.addressof(why))
-        if said != OK:
-            raise self._complaint('off_lattice', said, why)
+        advice = ADDRESS()
+        self._ask('off_lattice', solid, CutPlane(*plane), 0, advice)
         try:
-            factor: Wide = self._library.advice_factor(advice)
+            factor = self._library.advice_factor(advice)
         finally:
             self._library.advice_free(advice)
         # (0 where it is too great to be said: out of range in any case)
@@ -222,17 +161,14 @@ class FeatureCalls:
 
     def made(self, which: int) -> Tuple[int, ...]:
         """A list of what the last feature made."""
-        count = self._library.made(self._handle, which, None, 0)
-        found = (WORD * (count or 1))()
-        self._library.made(self._handle, which, ctypes.addressof(found), count)
-        return tuple(found[:count])
+        return tuple(filled(WORD, _ROOM, lambda found, room: int(self._library.made(self._handle, which, found, room))))
 
     def pairs(self, which: int) -> List[Tuple[int, int]]:
         """A list of numbers and others in their place."""
         found = self.made(which)
         return list(zip(found[::2], found[1::2]))
 
-    def _complaint(self, word: str, said: int, why: Refusal) -> CompanionError:
+    def _complaint(self, word: str, said: int, why: Any) -> CompanionError:
         if said == IMPOSSIBLE:
             name = self._library.misfit_name(why.number).decode()
             text = _PART_MEETS if name == 'Meets' and word in _CUTS else _TEXTS[name]
@@ -246,17 +182,17 @@ class FeatureCalls:
             raise ValueError(f'{word}: what is given is no solid')
         raise AssertionError(f'{word}: an answer of kind {said}')
 
-    def _refused(self, word: str, why: Refusal) -> CompanionError:
+    def _refused(self, word: str, why: Any) -> CompanionError:
         """The error of a condition. What isn't of a number that was given, nor of a cut, is a feature that isn't possible."""
         found = refused(word, why.number, why.value)
         if word in _CUTS:
             return found
         if found.name == 'NumberRange' and word != 'profile':
-            return Impossible('NumbersSpent', 0, 'too few numbers above all that are in use are left')
+            return Impossible('NumbersSpent', 0, _TEXTS['NumbersSpent'])
         if found.name in _OF_NUMBERS:
             return found
-        text = _TEXTS.get(found.name, '{}').format(why.value)
+        text = _TEXTS.get(found.name, refusal(why.number, why.value).text).format(why.value)
         if found.name == 'NotFlat':
-            model = model_of_faces(self._kernel.lines, [why.value])
+            model = self._kernel.lines.model([why.value])
             text = (why_unfit(model, why.value) if model.faces else None) or (f"face {why.value} isn't flat" if why.value else "a slope wouldn't be flat")
         return Impossible(found.name, why.value, text)

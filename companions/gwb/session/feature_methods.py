@@ -5,12 +5,10 @@ from typing import List, Optional, Sequence, Tuple
 from ..geometry.vectors import Vector
 from . import arguments
 from .bench import Methods
+from .c_calls import Point
 from .feature_calls import words
-from .library import Point
 from .results import Hole, Pocket, Polyhedron, Profile, Ring
 from .sketches import Sketch, sketch_on
-
-_MOST_SIDES = 1_000_000
 
 
 class FeatureMethods(Methods):
@@ -35,8 +33,8 @@ class FeatureMethods(Methods):
         corners = arguments.points('points', points)
         places = arguments.corners('faces', faces, len(corners))
         number = self._bench.new('solid', solid)
-        made = self._bench.features.polyhedron(number, corners, places)
-        return Polyhedron(number, tuple(range(made.second, made.second + len(places))), tuple(range(made.first, made.first + len(corners))))
+        vertex, first = self._bench.features.polyhedron(number, corners, places)
+        return Polyhedron(number, tuple(range(first, first + len(places))), tuple(range(vertex, vertex + len(corners))))
 
     def sketch(self, face: arguments.Face, *, origin: Optional[arguments.Point] = None, right: Optional[arguments.Point] = None) -> Sketch:
         """Two coordinates in the plane of a flat face, as one looks at it from outside, in which outlines are drawn: from the origin on, in steps of
@@ -100,9 +98,7 @@ class FeatureMethods(Methods):
         is nothing behind it; NotParallel: the face behind it isn't parallel; Meets: the hole would meet or touch something else of the solid,
         or with a depth come through it."""
         number, middle = self._bench.number('face', face), arguments.point('center', center)
-        reach, count = arguments.positive('radius', radius), arguments.positive('sides', sides)
-        if not 3 <= count <= _MOST_SIDES:
-            raise ValueError(f'sides: {count} is outside 3 to {_MOST_SIDES}')
+        reach, count = arguments.positive('radius', radius), arguments.sides('sides', sides)
         deep = 0 if depth is None else arguments.positive('depth', depth)
         made, outline = self._bench.features.drill(number, middle, reach, count, deep)
         return Hole(made.first, made.second, made.along, outline)
@@ -112,8 +108,6 @@ class FeatureMethods(Methods):
 
         Refused: NoMatch: no chain of matching faces joins a solid with the first; GluedTwice: two of them match along more than the one face that a
         gluing takes, so that the rest would touch."""
-        numbers = self._bench.several('solids', solids, 'solid')
-        if not numbers or len(set(numbers)) < len(numbers):
-            raise ValueError('solids: different numbers are wanted, at least one')
+        numbers = self._bench.different('solids', solids, 'solid')
         self._bench.features.give('glue_all', words(numbers), len(numbers), frees=True)
         return numbers[0]

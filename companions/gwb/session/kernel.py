@@ -1,10 +1,10 @@
 """The session of the library, the notes on its commands, and the drafts and groups that are open in it."""
 
-from contextlib import contextmanager
 from fractions import Fraction
-from typing import Any, Callable, Iterator, List, Optional, Sequence, Tuple, TypeVar
+from typing import Any, Callable, Dict, List, Optional, Sequence, Tuple, TypeVar
 
 from ..errors import Complaint, InDraft, InGroup, OutOfStep
+from ..formats.appearance import Appearance, Thing
 from ..geometry.model import Model
 from ..protocol.advice import advice
 from ..protocol.complaints import complaint
@@ -40,10 +40,10 @@ class Kernel(Turns):
         self._ended: Optional[List[str]] = None
 
     def close(self) -> None:
-        """Ends the session. Its script is kept."""
+        """Ends the session. Its script and its labels are kept."""
         if self.lines.is_open:
             self.numbers.note()
-            self._ended = self.commands()
+            self._ended, self.notes.labels = self.commands(), self.labels()
         self.has_changed()
         self.lines.close()
 
@@ -68,12 +68,16 @@ class Kernel(Turns):
         """The model held."""
         self.lines.require_open()
         if self._listing is None:
-            self._listing = self.lines.model()
+            self._listing = self.lines.model(self.lines.numbers('face'))
         return self._listing
 
     def has_changed(self) -> None:
         """What was read of the model no longer holds."""
         self._listing = None
+
+    def labels(self) -> Dict[Thing, Appearance]:
+        """The labels of what is there, or was there when the session ended."""
+        return {thing: look for thing, look in self.notes.labels.items() if not self.lines.is_open or self.lines.in_use(*thing)}
 
     def commands(self) -> List[str]:
         """The lines of each command that is held, and then those of the draft, if one is open."""
@@ -136,27 +140,21 @@ class Kernel(Turns):
         if frees:
             self.numbers.note()
         before, was_told = self.notes.at, self._may_have_gone
-        try:
-            with self._accounted(is_new):
-                self.has_changed()
-                if is_new:
-                    self._forget_gone()
-                return give()
-        finally:
-            is_left = self.notes.at == before and not self.lines.is_drafting
-            self._may_have_gone = self._may_have_gone or frees or (was_told and is_left)
-
-    @contextmanager
-    def _accounted(self, is_new: bool) -> Iterator[None]:
-        is_command = is_new and not self.lines.is_drafting
-        if is_command:
+        if is_new and not self.lines.is_drafting:
             self.notes.expect()
         self._is_giving = True
         try:
-            yield
+            self.has_changed()
+            if is_new:
+                self._forget_gone()
+            return give()
         finally:
             self._is_giving = False
-            self.settle()
+            try:
+                self.settle()
+            finally:
+                is_left = self.notes.at == before and not self.lines.is_drafting
+                self._may_have_gone = self._may_have_gone or frees or (was_told and is_left)
 
     def expect_loss(self) -> None:
         """What comes takes something back: numbers may be free after it, and things may have gone that have labels."""

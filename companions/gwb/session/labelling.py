@@ -8,7 +8,6 @@ from ..geometry.model import Model
 from ..geometry.plane_figures import Place
 from ..geometry.vectors import same_direction
 from .kernel import Kernel
-from .part_models import model_of_faces
 
 
 class LabelledFaces:
@@ -18,7 +17,7 @@ class LabelledFaces:
         self._kernel = kernel
         self.held = set(kernel.lines.faces_of(solid)) if any(kind == 'face' for kind, _ in kernel.notes.labels) else set()
         labelled = [face for face in self.held if ('face', face) in kernel.notes.labels]
-        model = model_of_faces(kernel.lines, labelled)
+        model = kernel.lines.model(labelled)
         self._faces: Dict[int, FlatFace] = {face: FlatFace(model, face) for face in labelled if why_unfit(model, face) is None}
 
     def label_parts(self, solids: Iterable[int], but: Sequence[int]) -> None:
@@ -26,7 +25,7 @@ class LabelledFaces:
         if not self._faces:
             return
         new = [face for solid in solids for face in self._kernel.lines.faces_of(solid) if face not in self.held and face not in but]
-        model = model_of_faces(self._kernel.lines, new)
+        model = self._kernel.lines.model(new)
         for face in new:
             whole = next((whole for whole, shape in self._faces.items() if _lies_in(model, face, shape)), None)
             if whole is not None:

@@ -5,7 +5,7 @@ import os
 import re
 from ctypes.util import find_library
 from pathlib import Path
-from typing import Any, Callable, Dict, Iterator, List, Optional, Sequence, Tuple, Type
+from typing import Any, Callable, Dict, Iterable, Iterator, List, Optional, Sequence, Tuple, Type
 
 from ..errors import CompanionError, Ended, InDraft, NoDraft, ProgramMissing
 from ..geometry.free_numbers import KINDS, from_least
@@ -15,10 +15,9 @@ from ..protocol.complaints import complaint
 from ..protocol.language import command_bytes, first_word
 from ..protocol.replies import ACCEPTED, Reply, only_reply
 from ..version import VERSION
+from .c_calls import ADDRESS, CLOSED, FOUND, IN_DRAFT, NO_DRAFT, OK, PLANE, SIZE, WORD, EdgeRow, FaceRow, Handle, PlaneRow, Point, Range, Refusal, prototypes
 from .results import Plane
 
-WORD, SIZE, ADDRESS = ctypes.c_uint32, ctypes.c_size_t, ctypes.c_void_p
-OK, REFUSED, MEMORY, CLOSED, NO_CALL, IN_DRAFT, NO_DRAFT, IMPOSSIBLE = 1, 2, 4, 9, 10, 11, 12, 13
 _NO_TEXT = SIZE(-1).value
 _ROOM = 4096
 _FEW = 64
@@ -26,76 +25,12 @@ _CLOSED_TEXT = 'the session is closed'
 # What is raised where there is no answer, and what it says.
 _NO_ANSWERS: Dict[int, Tuple[Type[CompanionError], str]] = {
     CLOSED: (Ended, _CLOSED_TEXT), IN_DRAFT: (InDraft, 'a draft is open, in which nothing is undone or redone'), NO_DRAFT: (NoDraft, 'there is no draft')}
-_FOUND = 1
-_PLANE = 5
 _MAJOR = int(VERSION.split('.')[0])
 _PACKAGE = Path(__file__).resolve().parents[1]
 
 
-class Handle(ctypes.Structure):
-    """What the library keeps in its caller's memory."""
-
-    _fields_ = [('is_open', ctypes.c_bool), ('held', ADDRESS), ('beside', ADDRESS)]
-
-
-class FaceRow(ctypes.Structure):
-    """What the library says of a face."""
-
-    _fields_ = [('solid', WORD), ('outer_loop', WORD)]
-
-
-class EdgeRow(ctypes.Structure):
-    """What the library says of an edge."""
-
-    _fields_ = [('start', WORD), ('end', WORD)]
-
-
-class Point(ctypes.Structure):
-    """Where a vertex lies."""
-
-    _fields_ = [('x', ctypes.c_int64), ('y', ctypes.c_int64), ('z', ctypes.c_int64)]
-
-
-class Refusal(ctypes.Structure):
-    """The condition that is false, and the value that goes with it."""
-
-    _fields_ = [('number', WORD), ('value', WORD)]
-
-
-class Wide(ctypes.Structure):
-    """A number of 128 bits."""
-
-    _fields_ = [('high', ctypes.c_int64), ('low', ctypes.c_uint64)]
-
-
-class PlaneRow(ctypes.Structure):
-    """What the library says of the plane of a face."""
-
-    _fields_ = [('numbers', Wide * 4), ('flat', WORD)]
-
-
-class Range(ctypes.Structure):
-    """The first and the last of the fresh numbers of a kind."""
-
-    _fields_ = [('first', WORD), ('last', WORD)]
-
-
 class TextRefused(CompanionError):
     """Memory for the text of a reply was refused; the command itself was answered."""
-
-
-_HANDLE, _WORDS, _TEXT = ctypes.POINTER(Handle), ctypes.POINTER(WORD), ctypes.c_char_p
-# The calls: what each returns, and what it takes after the handle. Those of readers are exported as gwb_lent_*.
-_READERS: Dict[str, Tuple[Any, List[Any]]] = {
-    'reply': (SIZE, [_TEXT, SIZE]), 'depth': (SIZE, []), 'ahead': (SIZE, []), 'mark': (SIZE, []), 'half_edges': (SIZE, [WORD, _WORDS, SIZE]),
-    'number_after': (WORD, [WORD, WORD, _WORDS]), 'face': (WORD, [WORD, ctypes.POINTER(FaceRow)]), 'ring_after': (WORD, [WORD, WORD, _WORDS]),
-    'face_after': (WORD, [WORD, WORD, _WORDS]), 'loop': (WORD, [WORD, _WORDS]), 'lone_vertex': (WORD, [WORD, _WORDS]),
-    'edge': (WORD, [WORD, ctypes.POINTER(EdgeRow)]), 'vertex': (WORD, [WORD, ctypes.POINTER(Point)]),
-    'plane': (WORD, [WORD, ctypes.POINTER(PlaneRow), ctypes.POINTER(Refusal)]), 'half_edge_loop': (WORD, [WORD, _WORDS]), 'fresh': (WORD, [WORD, ctypes.POINTER(Range)])}
-_CALLS: Dict[str, Tuple[Any, List[Any]]] = {
-    'open': (ctypes.c_bool, []), 'close': (None, []), 'line': (WORD, [_TEXT, SIZE]), 'lines': (WORD, [_TEXT, SIZE, ctypes.POINTER(SIZE)]), 'draft': (WORD, []), 'commit': (WORD, []),
-    'abandon': (WORD, []), 'back': (WORD, [SIZE]), 'record': (WORD, []), 'recorded': (SIZE, []), 'script': (SIZE, [SIZE, SIZE, _TEXT, SIZE]),
-    'greatest_number': (SIZE, [WORD]), 'stop_by': (None, [ADDRESS, ADDRESS])}
 
 
 def find_path() -> str:
@@ -132,29 +67,20 @@ def load(path: str) -> ctypes.PyDLL:
     except OSError as error:
         raise ProgramMissing(f'{error}; sessions in Python need libgwb.so') from None
     _require_version(library, path)
-    for names, calls in (('gwb_lent_', _READERS), ('gwb_', _CALLS)):
-        for name, (result, taken) in calls.items():
-            declare(library, path, name, names + name, result, [_HANDLE, *taken])
+    for name, exported, result, taken in prototypes():
+        try:
+            function = getattr(library, exported)
+        except AttributeError:
+            raise ProgramMissing(f'{path}: this is no library of gwb, or an older one: it has no {exported}') from None
+        function.restype, function.argtypes = result, taken
+        setattr(library, name, function)
     return library
 
 
-def declare(library: ctypes.PyDLL, path: str, name: str, exported: str, result: Any, taken: List[Any]) -> None:
-    """Gives a call its types, and the name by which it is called here."""
-    try:
-        function = getattr(library, exported)
-    except AttributeError:
-        raise ProgramMissing(f'{path}: this is no library of gwb, or an older one: it has no {exported}') from None
-    function.restype, function.argtypes = result, taken
-    setattr(library, name, function)
-
-
 def _require_version(library: ctypes.PyDLL, path: str) -> None:
-    try:
-        version = library.gwb_version
-    except AttributeError:
-        raise ProgramMissing(f'{path}: this is no library of gwb') from None
-    version.restype, version.argtypes = WORD, []
-    found = version()
+    if not hasattr(library, 'gwb_version'):
+        raise ProgramMissing(f'{path}: this is no library of gwb')
+    found = library.gwb_version()
     if found // 10_000 != _MAJOR:
         raise ProgramMissing(f'{path}: version {found // 10_000}.{found // 100 % 100}.{found % 100} of the library, where {_MAJOR} is needed')
 
@@ -164,7 +90,7 @@ class Library:
 
     def __init__(self, path: str) -> None:
         self.handle = Handle()
-        self.path, self.library = path, load(path)
+        self.library = load(path)
         # How often something was undone, redone, or taken back in a draft.
         self._taken_back = 0
         if not self.library.open(self.handle) or self.library.record(self.handle) != OK:
@@ -251,11 +177,8 @@ class Library:
 
     def fresh(self) -> Dict[str, range]:
         """For each kind the fresh numbers of the last command that was accepted: none where it took none, as a split that cuts nothing."""
-        found, row = {}, Range()
-        for number, kind in enumerate(KINDS[1:], 1):
-            is_there = self.library.fresh(self.handle, number, row) == _FOUND
-            found[kind] = range(row.first, row.last + 1) if is_there else range(0)
-        return found
+        rows = [self._read('fresh', Range(), number) for number in range(1, len(KINDS))]
+        return {kind: range(row.first, row.last + 1) if row else range(0) for kind, row in zip(KINDS[1:], rows)}
 
     # What is recorded
 
@@ -281,7 +204,7 @@ class Library:
     def script(self, first: int, count: int) -> str:
         """The lines of so many commands that are held, from a place on; those of the draft that is open come last."""
         self.require_open()
-        lines: bytes = self._filled(ctypes.c_char, _ROOM, lambda buffer, room: int(self.library.script(self.handle, first, count, buffer, room)))
+        lines: bytes = filled(ctypes.c_char, _ROOM, lambda buffer, room: int(self.library.script(self.handle, first, count, buffer, room)))
         return lines.decode('utf-8', 'surrogateescape')
 
     # The model
@@ -289,13 +212,13 @@ class Library:
     def half_edges(self, loop: int) -> Tuple[int, ...]:
         """The half-edges of a loop, from the least on: none of a lone loop, or of one that is not there."""
         self.require_open()
-        codes = self._filled(WORD, _FEW, lambda buffer, room: int(self.library.half_edges(self.handle, loop, buffer, room)))
+        codes = filled(WORD, _FEW, lambda buffer, room: int(self.library.half_edges(self.handle, loop, buffer, room)))
         halves = [-(code // 2) if code % 2 else code // 2 for code in codes]
         return from_least(halves) if halves else ()
 
     def in_use(self, kind: str, number: int) -> bool:
         """Whether the number of the kind is in use."""
-        return number > 0 and self._next('number_after', KINDS.index(kind), number - 1) == number
+        return number > 0 and self._number('number_after', KINDS.index(kind), number - 1) == number
 
     def greatest(self, kind: str) -> int:
         """The greatest number of the kind in use, 0 where none is."""
@@ -312,95 +235,85 @@ class Library:
 
     def face(self, face: int) -> Optional[Face]:
         """A face; None where it is not there."""
-        row = FaceRow()
-        if not self._found('face', face, row):
-            return None
-        return Face(row.solid, row.outer_loop, tuple(self._rising('ring_after', face)))
+        row = self._read('face', FaceRow(), face)
+        return row and Face(row.solid, row.outer_loop, tuple(self._rising('ring_after', face)))
 
     def solid_of(self, face: int) -> int:
         """The solid of a face; 0 where it is not there."""
-        row = FaceRow()
-        return int(row.solid) if self._found('face', face, row) else 0
+        row = self._read('face', FaceRow(), face)
+        return int(row.solid) if row else 0
 
     def plane(self, face: int) -> Optional[Plane]:
         """The plane of a face; None where it is not there."""
         row = PlaneRow()
         self.require_open()
-        if self.library.plane(self.handle, face, row, Refusal()) != _PLANE:
+        if self.library.plane(self.handle, face, row, Refusal()) != PLANE:
             return None
         a, b, c, d = (number.high << 64 | number.low for number in row.numbers)
         return Plane(a, b, c, d, bool(row.flat))
 
     def loop(self, loop: int) -> Optional[Loop]:
         """A loop; None where it is not there."""
-        row = WORD()
-        if self._found('lone_vertex', loop, row):
-            return Loop((), row.value)
-        halves = self.half_edges(loop)
-        return Loop(halves) if halves else None
+        vertex = self._number('lone_vertex', loop)
+        halves = self.half_edges(loop) if vertex is None else ()
+        return Loop(halves, vertex) if halves or vertex else None
 
     def face_of_loop(self, loop: int) -> int:
         """The face of a loop that is there."""
-        return self._said('loop', loop)
+        return self._number('loop', loop) or 0
 
     def loop_of(self, half: int) -> int:
         """The loop in which a half-edge stands that is there."""
-        return self._said('half_edge_loop', 2 * half if half > 0 else 1 - 2 * half)
+        return self._number('half_edge_loop', 2 * half if half > 0 else 1 - 2 * half) or 0
 
     def edge(self, edge: int) -> Optional[Tuple[int, int]]:
         """The vertices of an edge; None where it is not there."""
-        row = EdgeRow()
-        return (row.start, row.end) if self._found('edge', edge, row) else None
+        row = self._read('edge', EdgeRow(), edge)
+        return row and (row.start, row.end)
 
     def vertex(self, vertex: int) -> Optional[Vector]:
         """The point of a vertex; None where it is not there."""
-        row = Point()
-        return (row.x, row.y, row.z) if self._found('vertex', vertex, row) else None
+        row = self._read('vertex', Point(), vertex)
+        return row and (row.x, row.y, row.z)
 
-    def model(self) -> Model:
-        """The model held."""
-        faces = {face: row for face in self.numbers('face') for row in [self.face(face)] if row is not None}
-        loops = {loop: row for loop in self.numbers('loop') for row in [self.loop(loop)] if row is not None}
-        edges = {edge: row for edge in self.numbers('edge') for row in [self.edge(edge)] if row is not None}
-        vertices = {vertex: row for vertex in self.numbers('vertex') for row in [self.vertex(vertex)] if row is not None}
-        return Model(self.numbers('solid'), faces, loops, edges, vertices)
+    def model(self, faces: Iterable[int]) -> Model:
+        """The model of these faces alone, which are there, without the rest: of an edge the other side may be missing."""
+        rows = {face: row for face in sorted(faces) for row in [self.face(face)] if row}
+        loops = {loop: row for loop in sorted(loop for face in rows.values() for loop in face.loops) for row in [self.loop(loop)] if row}
+        edges = {edge: ends for edge in sorted({abs(half) for loop in loops.values() for half in loop.halves}) for ends in [self.edge(edge)] if ends}
+        used = {vertex for ends in edges.values() for vertex in ends} | {loop.vertex for loop in loops.values() if loop.vertex}
+        vertices = {vertex: point for vertex in sorted(used) for point in [self.vertex(vertex)] if point}
+        return Model(tuple(sorted({row.solid for row in rows.values()})), rows, loops, edges, vertices)
 
-    def _said(self, name: str, number: int) -> int:
-        """The number that a reader says of a thing that is there."""
-        row = WORD()
-        self._found(name, number, row)
-        return int(row.value)
-
-    def _found(self, name: str, number: int, row: Any) -> bool:
-        """Whether there is a thing of the number, which is then written."""
+    def _read(self, name: str, row: Any, *given: int) -> Any:
+        """The row, with what a reader writes of the numbers given; None where it finds nothing."""
         self.require_open()
-        return bool(getattr(self.library, name)(self.handle, number, row) == _FOUND)
+        return row if getattr(self.library, name)(self.handle, *given, row) == FOUND else None
 
-    def _next(self, name: str, of: int, number: int) -> Optional[int]:
-        """The next number after one; None where there is none."""
-        self.require_open()
-        row = WORD()
-        return row.value if getattr(self.library, name)(self.handle, of, number, row) == _FOUND else None
+    def _number(self, name: str, *given: int) -> Optional[int]:
+        """The number that a reader finds; None where there is none."""
+        row = self._read(name, WORD(), *given)
+        return None if row is None else row.value
 
     def _rising(self, name: str, of: int) -> Iterator[int]:
-        number = self._next(name, of, 0)
+        number = self._number(name, of, 0)
         while number is not None:
             yield number
-            number = self._next(name, of, number)
+            number = self._number(name, of, number)
 
     def _text(self) -> bytes:
         """The text of the last answer, its newlines included."""
-        text: bytes = self._filled(ctypes.c_char, _ROOM, lambda buffer, room: int(self.library.reply(self.handle, buffer, room)))
+        text: bytes = filled(ctypes.c_char, _ROOM, lambda buffer, room: int(self.library.reply(self.handle, buffer, room)))
         return text
 
-    @staticmethod
-    def _filled(kind: Any, room: int, write: Callable[[Any, int], int]) -> Any:
-        """All that a call writes, which is given more room where there is more."""
-        while True:
-            buffer = (kind * room)()
-            length = write(buffer, room)
-            if length == _NO_TEXT:
-                raise TextRefused('memory for the text of the reply was refused')
-            if length <= room:
-                return buffer[:length]
-            room = length
+
+def filled(kind: Any, room: int, write: Callable[[Any, int], int]) -> Any:
+    """All that a call writes, which is given more room where there is more."""
+    while True:
+        buffer = (kind * room)()
+        length = write(buffer, room)
+        if length == _NO_TEXT:
+            raise TextRefused('memory for the text of the reply was refused')
+        if length <= room:
+            return buffer[:length]
+        room = length

@@ -1,13 +1,13 @@
 """The measures of what a workbench holds (solid_measures.py), its sections (sections.py), and cuts off the lattice (lattice_cuts.py)."""
 
 from fractions import Fraction
-from typing import List, Optional, Tuple
+from typing import Any, List, Optional, Tuple
 
 from ..geometry import lattice_cuts, sections, solid_measures
 from ..geometry.flat_face import ExactVector
 from ..geometry.model import Model
 from . import arguments
-from .bench import Bench, Methods
+from .bench import Methods
 from .reading import EdgePart, FacePart
 
 
@@ -17,80 +17,72 @@ class Measuring(Methods):
 
     def bounding_box(self, solid: arguments.Solid) -> solid_measures.BoundingBox:
         """The least box with sides along the axes around the solid. Refused: NoSolid."""
-        return solid_measures.bounding_box(*_solid_read(self._bench, solid))
+        return solid_measures.bounding_box(*self._solid(solid))
 
     def centroid(self, solid: arguments.Solid) -> solid_measures.ExactPoint:
         """The centre of mass of the solid, of even density. Refused: NoSolid. Raises NoVolume where it encloses none."""
-        return solid_measures.centroid(*_solid_read(self._bench, solid))
+        return solid_measures.centroid(*self._solid(solid))
 
     def inertia(self, solid: arguments.Solid, about: Optional[ExactVector] = None) -> solid_measures.Inertia:
         """The moments of inertia of the solid, of density one, about a point or else its centroid. Refused: NoSolid. Raises NoVolume where it
         encloses none and no point is given."""
         place = None if about is None else arguments.exact_point('about', about)
-        return solid_measures.inertia(*_solid_read(self._bench, solid), place)
+        return solid_measures.inertia(*self._solid(solid), place)
 
     def surface_area(self, solid: arguments.Solid) -> float:
         """The area of all faces of the solid, rounded. Refused: NoSolid."""
-        return solid_measures.surface_area(*_solid_read(self._bench, solid))
+        return solid_measures.surface_area(*self._solid(solid))
 
     def area(self, face: arguments.Face) -> float:
         """The area of the face, rounded: the root of square_area. Refused: NoFace."""
-        return solid_measures.area(*_face_read(self._bench, face))
+        return solid_measures.area(*self._faces(face=face))
 
     def square_area(self, face: arguments.Face) -> Fraction:
         """The square of the area of the face. Refused: NoFace."""
-        return solid_measures.square_area(*_face_read(self._bench, face))
+        return solid_measures.square_area(*self._faces(face=face))
 
     def length(self, edge: arguments.Edge) -> float:
         """The length of the edge, rounded: the root of square_length. Refused: NoEdge."""
-        return solid_measures.length(*_edge_read(self._bench, edge))
+        return solid_measures.length(*self._edge(edge))
 
     def square_length(self, edge: arguments.Edge) -> int:
         """The square of the length of the edge. Refused: NoEdge."""
-        return solid_measures.square_length(*_edge_read(self._bench, edge))
+        return solid_measures.square_length(*self._edge(edge))
 
     def distance(self, face: arguments.Face, other: arguments.Face) -> float:
         """The distance of the planes of two parallel faces, rounded: the root of square_distance. Refused: NoFace. Raises NotParallel."""
-        return solid_measures.distance(*_faces_read(self._bench, face, other))
+        return solid_measures.distance(*self._faces(face=face, other=other))
 
     def square_distance(self, face: arguments.Face, other: arguments.Face) -> Fraction:
         """The square of the distance of the planes of two parallel faces. Refused: NoFace. Raises NotParallel."""
-        return solid_measures.square_distance(*_faces_read(self._bench, face, other))
+        return solid_measures.square_distance(*self._faces(face=face, other=other))
 
     def section(self, solid: arguments.Solid, plane: arguments.Point) -> List[sections.Polygon]:
         """The polygons in which the plane a x + b y + c z + d = 0 cuts the solid, seen from above the plane: outlines run counterclockwise,
         holes clockwise; none where it misses the solid. Refused: NoSolid. Raises ValueError where a, b and c are zero."""
         coefficients = arguments.plane('plane', plane)
-        return sections.section(*_solid_read(self._bench, solid), coefficients)
+        return sections.section(*self._solid(solid), coefficients)
 
     def off_lattice(self, solid: arguments.Solid, plane: arguments.Point) -> lattice_cuts.OffLatticeCut:
         """Where the plane cuts the edges of the solid, by which factor all of these points would be whole, and planes nearby that `split`
         takes. Refused: NoSolid. Raises ValueError where a, b and c are zero."""
         coefficients = arguments.plane('plane', plane)
-        return lattice_cuts.off_lattice_cut(*_solid_read(self._bench, solid), coefficients)
+        return lattice_cuts.off_lattice_cut(*self._solid(solid), coefficients)
 
+    def _solid(self, solid: arguments.Solid) -> Tuple[Model, int]:
+        """The solid alone, and its number."""
+        number = self._bench.number('solid', solid)
+        return self._bench.solid_model(number), number
 
-def _solid_read(bench: Bench, solid: arguments.Solid) -> Tuple[Model, int]:
-    """The solid alone, and its number."""
-    number = bench.number('solid', solid)
-    return bench.solid_model(number), number
+    def _faces(self, **faces: arguments.Face) -> Tuple[Any, ...]:
+        """The faces alone, and their numbers. Refused: NoFace."""
+        numbers = [self._bench.number(name, face, 'face') for name, face in faces.items()]
+        for number in numbers:
+            FacePart(self._bench.kernel, number).loops
+        return (self._bench.model_of(numbers), *numbers)
 
-
-def _face_read(bench: Bench, face: arguments.Face) -> Tuple[Model, int]:
-    """The face alone, and its number."""
-    number = bench.number('face', face)
-    FacePart(bench.kernel, number).loops
-    return bench.model_of([number]), number
-
-
-def _faces_read(bench: Bench, face: arguments.Face, other: arguments.Face) -> Tuple[Model, int, int]:
-    numbers = bench.number('face', face), bench.number('other', other, 'face')
-    for number in numbers:
-        FacePart(bench.kernel, number).loops
-    return (bench.model_of(sorted(set(numbers))), *numbers)
-
-
-def _edge_read(bench: Bench, edge: arguments.Edge) -> Tuple[Model, int]:
-    number = abs(bench.half_edge('edge', edge))
-    ends = EdgePart(bench.kernel, number).vertices
-    return Model((), {}, {}, {number: (ends[0].number, ends[1].number)}, {end.number: end.point for end in ends}), number
+    def _edge(self, edge: arguments.Edge) -> Tuple[Model, int]:
+        """The edge alone, and its number. Refused: NoEdge."""
+        number = abs(self._bench.half_edge('edge', edge))
+        ends = EdgePart(self._bench.kernel, number).vertices
+        return Model((), {}, {}, {number: (ends[0].number, ends[1].number)}, {end.number: end.point for end in ends}), number

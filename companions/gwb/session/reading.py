@@ -1,37 +1,17 @@
 """The model held, part by part: solids, faces, loops, edges and vertices that are read when they are asked for."""
 
-from typing import Callable, Generic, Iterable, Iterator, Optional, Protocol, Sequence, Tuple, TypeVar, Union, overload
+from typing import Callable, Generic, Iterable, Iterator, Optional, Sequence, Tuple, TypeVar, Union, overload
 
 from ..errors import NotOne, Refused
 from ..geometry.model import Face, Loop
-from ..geometry.vectors import Vector, ZERO, dot, subtract
-from ..protocol.language import refusal
+from ..geometry.vectors import Vector, dot, subtract
+from .kernel import Kernel
+from .library import Library
 from .turns import PartOfTurns
 
-
 Found = TypeVar('Found', bound='Part')
+Read = TypeVar('Read')
 _PLURALS = {'vertex': 'vertices'}
-
-
-class Reader(Protocol):
-    """Who knows the model."""
-
-    def numbers(self, kind: str) -> Tuple[int, ...]: ...
-    def faces_of(self, solid: int) -> Tuple[int, ...]: ...
-    def face(self, face: int) -> Optional[Face]: ...
-    def solid_of(self, face: int) -> int: ...
-    def plane(self, face: int) -> 'Optional[Tuple[int, int, int, int, bool]]': ...
-    def loop(self, loop: int) -> Optional[Loop]: ...
-    def face_of_loop(self, loop: int) -> int: ...
-    def edge(self, edge: int) -> Optional[Tuple[int, int]]: ...
-    def vertex(self, vertex: int) -> Optional[Vector]: ...
-
-
-class Holder(Protocol):
-    """Who holds the model."""
-
-    @property
-    def lines(self) -> Reader: ...
 
 
 class Part(PartOfTurns):
@@ -39,9 +19,8 @@ class Part(PartOfTurns):
 
     kind = ''
     _missing = 0
-    _kernel: Holder
 
-    def __init__(self, kernel: Holder, number: int) -> None:
+    def __init__(self, kernel: Kernel, number: int) -> None:
         self._kernel, self.number = kernel, number
 
     def __index__(self) -> int:
@@ -57,16 +36,29 @@ class Part(PartOfTurns):
         return f'<{self.kind} {self.number}>'
 
     @property
-    def points(self) -> Tuple[Vector, ...]:
-        """Its points."""
+    def vertices(self) -> 'Sequence[VertexPart]':
+        """Its vertices; of a vertex itself."""
         raise NotImplementedError
 
-    def _read(self) -> Reader:
-        return self._kernel.lines
+    @property
+    def points(self) -> Tuple[Vector, ...]:
+        """The points of its vertices, in their order."""
+        return tuple(vertex.point for vertex in self.vertices)
 
-    def _none(self) -> Refused:
-        meaning = refusal(self._missing, self.number)
-        return Refused(meaning.name, self.number, self._missing, f'there is no {self.kind} {self.number}')
+    def _read(self) -> Library:
+        lines: Library = self._kernel.lines
+        return lines
+
+    def _there(self, found: Optional[Read]) -> Read:
+        """What was read of it. Refused where there is no such thing."""
+        if not found:
+            error = Refused if self._missing else NotThere
+            raise error(f'No{self.kind.capitalize()}', self.number, self._missing, f'there is no {self.kind} {self.number}')
+        return found
+
+
+class NotThere(Refused, LookupError):
+    """There is no such vertex: no command is refused for one, so the refusal has no number of its own."""
 
 
 class Selection(Sequence[Found], Generic[Found]):
@@ -141,10 +133,8 @@ class Selection(Sequence[Found], Generic[Found]):
 
     def farthest(self, direction: Sequence[int]) -> 'Selection[Found]':
         """Those whose nearest point lies farthest along the direction; more than one where they are level."""
-        from .arguments import point    # (which takes parts, so it stands above them)
-        way = point('direction', direction)
-        if way == ZERO:
-            raise ValueError('direction: it is zero')
+        from .arguments import vector    # (which takes parts, so it stands above them)
+        way = vector('direction', direction)
         return self._best(lambda part: min(dot(way, point) for point in part.points), f', farthest along {way}')
 
     def nearest(self, point: Sequence[int]) -> 'Selection[Found]':
@@ -175,22 +165,12 @@ class VertexPart(Part):
     @property
     def point(self) -> Vector:
         """Where it lies."""
-        found = self._read().vertex(self.number)
-        if found is None:
-            raise NotThere(self)
-        return found
+        return self._there(self._read().vertex(self.number))
 
     @property
-    def points(self) -> Tuple[Vector, ...]:
-        """Its one point."""
-        return (self.point,)
-
-
-class NotThere(LookupError, Refused):
-    """There is no such vertex: no command is refused for one, so the refusal has no number of its own."""
-
-    def __init__(self, part: Part) -> None:
-        Refused.__init__(self, f'No{part.kind.capitalize()}', part.number, 0, f'there is no {part.kind} {part.number}')
+    def vertices(self) -> 'Sequence[VertexPart]':
+        """It alone."""
+        return (self,)
 
 
 class EdgePart(Part):
@@ -202,16 +182,8 @@ class EdgePart(Part):
     @property
     def vertices(self) -> Tuple[VertexPart, VertexPart]:
         """The vertices at which `+e` and `-e` start."""
-        found = self._read().edge(self.number)
-        if found is None:
-            raise self._none()
-        return (VertexPart(self._kernel, found[0]), VertexPart(self._kernel, found[1]))
-
-    @property
-    def points(self) -> Tuple[Vector, ...]:
-        """Its two ends."""
-        start, end = self.vertices
-        return (start.point, end.point)
+        start, end = self._there(self._read().edge(self.number))
+        return (VertexPart(self._kernel, start), VertexPart(self._kernel, end))
 
 
 class LoopPart(Part):
@@ -239,21 +211,13 @@ class LoopPart(Part):
         return tuple(VertexPart(self._kernel, _tail(reader, half)) for half in content.halves)
 
     @property
-    def points(self) -> Tuple[Vector, ...]:
-        """The points of its vertices, in their order."""
-        return tuple(vertex.point for vertex in self.vertices)
-
-    @property
     def face(self) -> 'FacePart':
         """The face it is of."""
         self._content()
         return FacePart(self._kernel, self._read().face_of_loop(self.number))
 
     def _content(self) -> Loop:
-        found = self._read().loop(self.number)
-        if found is None:
-            raise self._none()
-        return found
+        return self._there(self._read().loop(self.number))
 
 
 class FacePart(Part):
@@ -265,15 +229,13 @@ class FacePart(Part):
     @property
     def solid(self) -> 'SolidPart':
         """The solid it is of."""
-        found = self._read().solid_of(self.number)
-        if not found:
-            raise self._none()
-        return SolidPart(self._kernel, found)
+        return SolidPart(self._kernel, self._there(self._read().solid_of(self.number)))
 
     @property
     def loops(self) -> Tuple[LoopPart, ...]:
         """Its outer loop and then its rings, rising."""
-        return tuple(LoopPart(self._kernel, loop) for loop in self._row().loops)
+        row: Face = self._there(self._read().face(self.number))
+        return tuple(LoopPart(self._kernel, loop) for loop in row.loops)
 
     @property
     def outer(self) -> LoopPart:
@@ -296,23 +258,9 @@ class FacePart(Part):
         return tuple(dict.fromkeys(vertex for loop in self.loops for vertex in loop.vertices))
 
     @property
-    def points(self) -> Tuple[Vector, ...]:
-        """The points of its vertices."""
-        return tuple(vertex.point for vertex in self.vertices)
-
-    @property
     def normal(self) -> Vector:
         """Its normal, twice its area long: the first three numbers of its plane."""
-        found = self._read().plane(self.number)
-        if found is None:
-            raise self._none()
-        return found[:3]
-
-    def _row(self) -> Face:
-        found = self._read().face(self.number)
-        if found is None:
-            raise self._none()
-        return found
+        return self._there(self._read().plane(self.number))[:3]
 
 
 class SolidPart(Part):
@@ -324,10 +272,7 @@ class SolidPart(Part):
     @property
     def faces(self) -> Selection[FacePart]:
         """Its faces, rising."""
-        found = self._read().faces_of(self.number)
-        if not found:
-            raise self._none()
-        return self._selected('face', [FacePart(self._kernel, face) for face in found])
+        return self._selected('face', [FacePart(self._kernel, face) for face in self._there(self._read().faces_of(self.number))])
 
     @property
     def loops(self) -> Selection[LoopPart]:
@@ -344,16 +289,11 @@ class SolidPart(Part):
         """Its vertices, rising."""
         return self._selected('vertex', {vertex for loop in self.loops for vertex in loop.vertices})
 
-    @property
-    def points(self) -> Tuple[Vector, ...]:
-        """The points of its vertices."""
-        return tuple(vertex.point for vertex in self.vertices)
-
     def _selected(self, kind: str, parts: Iterable[Found]) -> Selection[Found]:
         return Selection(kind, f' of solid {self.number}', sorted(parts, key=_number))
 
 
-def _tail(reader: Reader, half: int) -> int:
+def _tail(reader: Library, half: int) -> int:
     ends = reader.edge(abs(half))
     assert ends is not None, 'an edge of a loop is there'
     return ends[0] if half > 0 else ends[1]

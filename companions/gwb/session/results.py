@@ -1,19 +1,8 @@
 """The numbers that commands of a workbench return."""
 
-from typing import Dict, NamedTuple, Tuple, Union
-
-from .reading import EdgePart, LoopPart
+from typing import Dict, NamedTuple, Tuple
 
 Numbers = Tuple[int, ...]
-
-
-class Lone(NamedTuple):
-    """The corner of a lone loop, `@L` in scripts."""
-
-    loop: Union[int, LoopPart]
-
-
-Corner = Union[int, EdgePart, Lone]
 
 
 class NewSolid(NamedTuple):

@@ -4,11 +4,10 @@ from ctypes import pointer
 from typing import Optional, Tuple
 
 from ..geometry.plane_figures import Exact
-from ..geometry.vectors import Vector, ZERO
 from . import arguments
 from .bench import Methods
-from .feature_calls import CutPlane, EdgeQuery, FaceQuery, ratio
-from .library import WORD, Point
+from .c_calls import WORD, CutPlane, EdgeQuery, FaceQuery, Point
+from .feature_calls import ratio
 from .reading import EdgePart, FacePart, LoopPart, Selection, SolidPart, VertexPart
 
 
@@ -44,34 +43,25 @@ class Selecting(Methods):
               area: Optional[Exact] = None) -> 'Selection[FacePart]':
         """The faces that fit: of the solid; wholly in the plane a x + b y + c z + d = 0, four numbers or what `plane` returns, whichever way
         they look; flat, and looking the way of the normal; flat, with the point inside or on the outline; flat, and so large, exactly."""
-        query = FaceQuery(solid=0 if solid is None else self._bench.number('solid', solid))
-        if plane is not None:
-            query.plane = pointer(CutPlane(*arguments.plane_across('plane', plane)))
-        if normal is not None:
-            query.normal = pointer(Point(*_direction('normal', normal)))
-        if containing is not None:
-            query.containing = pointer(Point(*arguments.point('containing', containing)))
-        large = None if area is None else ratio(arguments.factor('area', area))
-        if large is not None:
-            query.area = pointer(large)
+        query = FaceQuery(
+            solid=0 if solid is None else self._bench.number('solid', solid),
+            plane=None if plane is None else pointer(CutPlane(*arguments.plane_across('plane', plane))),
+            normal=None if normal is None else pointer(Point(*arguments.vector('normal', normal))),
+            containing=None if containing is None else pointer(Point(*arguments.point('containing', containing))),
+            area=None if area is None else pointer(ratio(arguments.factor('area', area))))
         wanted = _wanted(solid=solid, plane=plane, normal=normal, containing=containing, area=area)
-        numbers = self._bench.features.find('face', query) if area is None or large else []
-        return Selection('face', wanted, [FacePart(self._bench.kernel, number) for number in numbers])
+        return Selection('face', wanted, [FacePart(self._bench.kernel, number) for number in self._bench.features.find('find_faces', query)])
 
     def edges(self, *, solid: Optional[arguments.Solid] = None, between: Optional[Tuple[arguments.Face, arguments.Face]] = None,
               along: Optional[arguments.Point] = None, length: Optional[Exact] = None) -> 'Selection[EdgePart]':
         """The edges that fit: of the solid; between two faces; along the vector, one way or the other; so long, exactly."""
-        query = EdgeQuery(solid=0 if solid is None else self._bench.number('solid', solid))
-        if between is not None:
-            query.between = (WORD * 2)(*self._bench.pair('between', between, 'face'))
-        if along is not None:
-            query.along = pointer(Point(*_direction('along', along)))
-        long = None if length is None else ratio(arguments.factor('length', length))
-        if long is not None:
-            query.length = pointer(long)
+        query = EdgeQuery(
+            solid=0 if solid is None else self._bench.number('solid', solid),
+            between=(WORD * 2)(*([] if between is None else self._bench.pair('between', between, 'face'))),
+            along=None if along is None else pointer(Point(*arguments.vector('along', along))),
+            length=None if length is None else pointer(ratio(arguments.factor('length', length))))
         wanted = _wanted(solid=solid, between=between, along=along, length=length)
-        numbers = self._bench.features.find('edge', query) if length is None or long else []
-        return Selection('edge', wanted, [EdgePart(self._bench.kernel, number) for number in numbers])
+        return Selection('edge', wanted, [EdgePart(self._bench.kernel, number) for number in self._bench.features.find('find_edges', query)])
 
     def vertices(self, *, solid: Optional[arguments.Solid] = None, at: Optional[arguments.Point] = None) -> 'Selection[VertexPart]':
         """The vertices of the solid, or all; `at` a point."""
@@ -79,14 +69,6 @@ class Selecting(Methods):
         parts = ([VertexPart(self._bench.kernel, number) for number in self._bench.kernel.lines.numbers('vertex')] if solid is None
                  else list(self.solid(solid).vertices))
         return Selection('vertex', _wanted(solid=solid, at=at), [part for part in parts if place is None or part.point == place])
-
-
-def _direction(name: str, value: arguments.Point) -> Vector:
-    """A vector that isn't zero."""
-    way = arguments.point(name, value)
-    if way == ZERO:
-        raise ValueError(f'{name}: it is zero')
-    return way
 
 
 def _wanted(**criteria: object) -> str:

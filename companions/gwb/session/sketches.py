@@ -11,7 +11,6 @@ from .bench import Bench
 from .reading import FacePart
 
 _AXES: Sequence[Vector] = ((1, 0, 0), (0, 1, 0), (0, 0, 1))
-_MOST_SIDES = 1_000_000
 
 
 class Sketch(NamedTuple):
@@ -31,20 +30,18 @@ class Sketch(NamedTuple):
 
     def points(self, spots: Iterable[Sequence[int]]) -> List[Vector]:
         """The points at these coordinates: an outline of straight sides."""
-        return [self.point(u, v) for u, v in spots]
+        return [self.point(*arguments.spot(f'spots[{place}]', spot)) for place, spot in enumerate(arguments.items('spots', spots))]
 
     def rectangle(self, corner: Sequence[int], sizes: Sequence[int]) -> List[Vector]:
         """A rectangle from its lower left corner on, so wide and high."""
-        (u, v), (width, height) = corner, sizes
-        return self.points([(u, v), (u + width, v), (u + width, v + height), (u, v + height)])
+        (u, v), (width, height) = arguments.spot('corner', corner), arguments.spot('sizes', sizes)
+        return [self.point(*spot) for spot in ((u, v), (u + width, v), (u + width, v + height), (u, v + height))]
 
     def polygon(self, center: Sequence[int], radius: int, sides: int) -> List[Vector]:
         """A polygon around a center, its corners at the whole coordinates nearest to a circle, the first one to the right."""
-        (u, v), reach, count = center, arguments.positive('radius', radius), arguments.positive('sides', sides)
-        if not 3 <= count <= _MOST_SIDES:
-            raise ValueError(f'sides: {count} is outside 3 to {_MOST_SIDES}')
+        (u, v), reach, count = arguments.spot('center', center), arguments.positive('radius', radius), arguments.sides('sides', sides)
         turns = [2 * pi * k / count for k in range(count)]
-        return self.points([(u + round(reach * cos(turn)), v + round(reach * sin(turn))) for turn in turns])
+        return [self.point(u + round(reach * cos(turn)), v + round(reach * sin(turn))) for turn in turns]
 
 
 def sketch_on(bench: Bench, face: int, origin: Optional[Vector], right: Optional[Vector]) -> Sketch:

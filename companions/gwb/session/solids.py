@@ -17,9 +17,8 @@ from ..geometry.outlines import Impossible
 from ..geometry.vectors import ZERO, Vector
 from . import arguments
 from .bench import Bench
-from .feature_calls import EDGES, FACES, LOOPS, SOLIDS, VERTICES, Motion
-from .library import Point
-from .reading import Found
+from .c_calls import EDGES, FACES, LOOPS, SOLIDS, VERTICES, Motion, Point
+from .reading import Found, Part
 from .results import Renumbered
 
 AXES = ('x', 'y', 'z')
@@ -63,6 +62,8 @@ class Copy:
 
     def of(self, part: Found) -> Found:
         """The copy of a thing of the original, as a thing of the same kind."""
+        if not isinstance(part, Part):
+            raise arguments.wrong('part', 'a thing of the model', part)
         numbers: Dict[str, Mapping[int, int]] = {
             'solid': {self.original: self.solid}, 'face': self.faces, 'loop': self.loops, 'edge': self.edges, 'vertex': self.vertices}
         return type(part)(part._kernel, numbers[part.kind][self._bench.number('part', part, part.kind)])
@@ -72,19 +73,31 @@ def copied(bench: Bench, solid: int, way: Sequence[Change]) -> Copy:
     """A copy of the solid after changes of place, by the library where these are of its kind. Refused: NoSolid, PointRange, OffLattice,
     NumbersSpent."""
     motion = _motion(way)
-    if motion is None:
-        return _copied_anew(bench, solid, way)
-    return in_a_row(bench, 'copy_solid', solid, 1, motion)[0]
+    if motion is not None:
+        return in_a_row(bench, 'copy_solid', solid, 1, motion)[0]
+    model = bench.solid_model(solid)
+    new = bench.numbers.instead_of(model)
+    with bench.step():
+        bench.features.load(renumbered(reduce(placed, way, model), new))
+        return _labelled(Copy(new['solid'][solid], new['face'], new['loop'], new['edge'], new['vertex'], solid, bench))
 
 
 def in_a_row(bench: Bench, word: str, solid: int, count: int, *way: Any) -> Tuple[Copy, ...]:
     """So many copies of the solid, which a feature makes of where each lies."""
-    made = bench.features.written(word, count, solid, *way)
-    faces, loops, edges, vertices = (_shares(bench.features.pairs(which), count) for which in (FACES, LOOPS, EDGES, VERTICES))
-    return tuple(Copy(number, faces[place], loops[place], edges[place], vertices[place], solid, bench) for place, number in enumerate(made))
+    with bench.step():
+        made = bench.features.written(word, count, solid, *way)
+        shares = zip(made, *(_shares(bench.features.pairs(which), count) for which in (FACES, LOOPS, EDGES, VERTICES)))
+        return tuple(_labelled(Copy(number, faces, loops, edges, vertices, solid, bench)) for number, faces, loops, edges, vertices in shares)
 
 
-def _motion(way: Sequence[Change]) -> Optional[Motion]:
+def _labelled(copy: Copy) -> Copy:
+    """A copy, with the labels that the solid and its faces have."""
+    copy._bench.label_alike('solid', [(copy.original, copy.solid)])
+    copy._bench.label_alike('face', copy.faces.items())
+    return copy
+
+
+def _motion(way: Sequence[Change]) -> Any:
     """Changes of place as the library has them; None where they aren't of axes, or go far out of range."""
     def place(point: ExactVector) -> ExactVector:
         for change in way:
@@ -108,14 +121,6 @@ def _shares(pairs: Sequence[Tuple[int, int]], count: int) -> List[Dict[int, int]
     """A list in so many parts of one length."""
     share = len(pairs) // count
     return [dict(pairs[place * share:(place + 1) * share]) for place in range(count)]
-
-
-def _copied_anew(bench: Bench, solid: int, way: Sequence[Change]) -> Copy:
-    """A copy by its listing, with numbers that are free."""
-    model = bench.solid_model(solid)
-    new = bench.numbers.instead_of(model)
-    bench.features.load(renumbered(reduce(placed, way, model), new))
-    return Copy(new['solid'][solid], new['face'], new['loop'], new['edge'], new['vertex'], solid, bench)
 
 
 def place(bench: Bench, solid: int, change: Change) -> None:
@@ -147,15 +152,3 @@ def renumber(bench: Bench) -> Renumbered:
         bench.kernel.notes.renumber({'solid': solids, 'face': faces})
     bench.numbers.forget()
     return made
-
-
-def axis_of(value: object) -> str:
-    """The name of an axis."""
-    if value not in AXES:
-        raise ValueError(f"axis: 'x', 'y' or 'z' is wanted, not {value!r}")
-    return str(value)
-
-
-def quarter_turns(axis: object, times: object, about: object) -> Change:
-    """A turn by quarters about an axis through a point."""
-    return turning(axis_of(axis), arguments.coordinate('times', times), arguments.point('about', about))

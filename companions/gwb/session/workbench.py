@@ -9,7 +9,7 @@
 
 Numbers of new things may be given, by name, as the script language does; where one isn't, the workbench takes a free one.
 Methods are in parts over one bench (bench.py): commands (commands.py), selection (selection.py), features (feature_methods.py), solids as
-things (solid_methods.py), measures (measuring.py), arrays (arrays.py), labels and files (exporting.py), and the session itself, scripts and
+things (solid_methods.py, cutting.py), measures (measuring.py), arrays (arrays.py), labels and files (exporting.py), and the session itself, scripts and
 drawings here.
 """
 
@@ -32,6 +32,7 @@ from . import arguments
 from .arrays import Arrays
 from .bench import Bench
 from .commands import Commands
+from .cutting import Cutting
 from .exporting import Exporting
 from .feature_methods import FeatureMethods
 from .measuring import Measuring
@@ -48,7 +49,7 @@ _FIRST_WORDS = ('v', 'vn', 'vt', 'f', 'o', 'g', 'mtllib', 'OFF', 'ply', 'solid',
 
 
 @taking_turns('close', 'save', 'script')
-class Workbench(SolidMethods, FeatureMethods, Commands, Selecting, Measuring, Arrays, Exporting):
+class Workbench(SolidMethods, Cutting, FeatureMethods, Commands, Selecting, Measuring, Arrays, Exporting):
     """A running gwb. Each command is a method; one that isn't accepted raises Refused, Faulted or MemoryRefused."""
 
     def __init__(self, library: Optional[arguments.Path] = None, *, unit: Exact = 1) -> None:
@@ -173,7 +174,6 @@ class Workbench(SolidMethods, FeatureMethods, Commands, Selecting, Measuring, Ar
     def _repr_svg_(self) -> Optional[str]:
         """A notebook draws the model."""
         return self.listing()._repr_svg_()
-
 
 
 def _script_in(file: Path, data: bytes) -> bytes:

@@ -1,0 +1,79 @@
+"""The calls of gwb.h and gwb_features.h as ctypes has them: kinds of answers, structs, and what each call returns and takes."""
+
+import ctypes
+from typing import Any, Dict, Iterator, List, Tuple
+
+WORD, SIZE, LENGTH, ADDRESS = ctypes.c_uint32, ctypes.c_size_t, ctypes.c_int64, ctypes.c_void_p
+OK, REFUSED, MEMORY, PLANE, CLOSED, NO_CALL, IN_DRAFT, NO_DRAFT, IMPOSSIBLE = 1, 2, 4, 5, 9, 10, 11, 12, 13
+FOUND = 1
+# The lists of what a feature made, by their numbers.
+FLOOR, WALLS, FACES, LOOPS, EDGES, VERTICES, TURNED, LOWER_CAPS, UPPER_CAPS, INTO, SOLIDS = range(11)
+
+
+def _struct(**fields: Any) -> Any:
+    return type('Struct', (ctypes.Structure,), {'_fields_': list(fields.items())})
+
+
+# What the library keeps in its caller's memory.
+Handle = _struct(is_open=ctypes.c_bool, held=ADDRESS, beside=ADDRESS)
+# The condition that is false, and the value that goes with it.
+Refusal = _struct(number=WORD, value=WORD)
+# What there is of a face, of an edge, and of a vertex.
+FaceRow, EdgeRow, Point = _struct(solid=WORD, outer_loop=WORD), _struct(start=WORD, end=WORD), _struct(x=LENGTH, y=LENGTH, z=LENGTH)
+# A number of 128 bits, and the plane of a face by four.
+Wide = _struct(high=LENGTH, low=ctypes.c_uint64)
+PlaneRow = _struct(numbers=Wide * 4, flat=WORD)
+# The first and the last of the fresh numbers of a kind.
+Range = _struct(first=WORD, last=WORD)
+# Where points go: by the axes, signed and counted from 1, and then by a vector.
+Motion = _struct(axes=ctypes.c_int32 * 3, by=Point)
+# The plane a x + b y + c z + d = 0.
+CutPlane = _struct(a=LENGTH, b=LENGTH, c=LENGTH, d=LENGTH)
+Ratio = _struct(numerator=ctypes.c_uint64, denominator=ctypes.c_uint64)
+# Two numbers of what is made: a face and a loop, or two faces.
+Pair = _struct(first=WORD, second=WORD)
+
+_TEXT, _WORDS, _ROWS = ctypes.c_char_p, ctypes.POINTER(WORD), ctypes.POINTER(LENGTH)
+_POINT, _PLANE, _RATIO, _MOTION, _PAIR = (ctypes.POINTER(kind) for kind in (Point, CutPlane, Ratio, Motion, Pair))
+# Which faces and which edges are sought.
+FaceQuery = _struct(solid=WORD, plane=_PLANE, normal=_POINT, containing=_POINT, area=_RATIO)
+EdgeQuery = _struct(solid=WORD, between=WORD * 2, along=_POINT, length=_RATIO)
+
+# What each reader returns, and what it takes after the handle; they are exported as gwb_lent_*.
+_READERS: Dict[str, Tuple[Any, List[Any]]] = {
+    'reply': (SIZE, [_TEXT, SIZE]), 'half_edges': (SIZE, [WORD, _WORDS, SIZE]), 'plane': (WORD, [WORD, ctypes.POINTER(PlaneRow), ctypes.POINTER(Refusal)]),
+    **dict.fromkeys(('depth', 'ahead', 'mark'), (SIZE, [])), **dict.fromkeys(('number_after', 'ring_after', 'face_after'), (WORD, [WORD, WORD, _WORDS])),
+    **dict.fromkeys(('loop', 'lone_vertex', 'half_edge_loop'), (WORD, [WORD, _WORDS])), 'face': (WORD, [WORD, ctypes.POINTER(FaceRow)]),
+    'edge': (WORD, [WORD, ctypes.POINTER(EdgeRow)]), 'vertex': (WORD, [WORD, _POINT]), 'fresh': (WORD, [WORD, ctypes.POINTER(Range)])}
+# The same of the other calls.
+_CALLS: Dict[str, Tuple[Any, List[Any]]] = {
+    'open': (ctypes.c_bool, []), 'close': (None, []), 'line': (WORD, [_TEXT, SIZE]), 'lines': (WORD, [_TEXT, SIZE, ctypes.POINTER(SIZE)]),
+    **dict.fromkeys(('draft', 'commit', 'abandon', 'record'), (WORD, [])), 'back': (WORD, [SIZE]), 'recorded': (SIZE, []),
+    'script': (SIZE, [SIZE, SIZE, _TEXT, SIZE]), 'greatest_number': (SIZE, [WORD]), 'stop_by': (None, [ADDRESS, ADDRESS]),
+    'read_vertices': (SIZE, [ADDRESS, SIZE]), **dict.fromkeys(('read_half_edges', 'read_triangles'), (SIZE, [WORD, ADDRESS, SIZE])),
+    'made': (SIZE, [WORD, _WORDS, SIZE])}
+# What a feature or a search takes between the handle and the refusal; each returns the kind of its answer.
+_OUTLINE, _MADE, _STRIP = [WORD, _ROWS, SIZE], [_PAIR, _WORDS], [WORD, _POINT, _POINT, LENGTH, LENGTH]
+_FEATURES: Dict[str, List[Any]] = {
+    'kill_solid': [WORD], 'copy_solid': [WORD, _MOTION, _WORDS], 'move_solid': [WORD, _MOTION], 'pattern': [WORD, WORD, _POINT, _WORDS],
+    'pattern_around': [WORD] * 4 + [_POINT, _WORDS], 'chamfer_edges': [_WORDS, SIZE, LENGTH, _WORDS], 'load': [_TEXT, SIZE], 'scale': [LENGTH],
+    'renumber': [], 'glue_all': [_WORDS, SIZE], 'union': [_WORDS, SIZE], 'profile': [*_OUTLINE, _POINT, *_MADE],
+    'polyhedron': [*_OUTLINE, _WORDS, _WORDS, SIZE, _PAIR], 'ring': [*_OUTLINE, *_MADE, _WORDS], 'pocket': [*_OUTLINE, LENGTH, *_MADE],
+    'boss': [*_OUTLINE, LENGTH, *_MADE], 'hole': [*_OUTLINE, *_MADE], 'drill': [WORD, _POINT, LENGTH, WORD, LENGTH, *_MADE, _POINT],
+    'notch': [*_OUTLINE, LENGTH], 'slot': _STRIP, 'groove': _STRIP, 'shoulder': [WORD, WORD, LENGTH, LENGTH], 'chamfer': [WORD, LENGTH, LENGTH, _WORDS],
+    'cut': [WORD, _PLANE, WORD], 'trim': [WORD, _PLANE], 'off_lattice': [WORD, _PLANE, SIZE, ctypes.POINTER(ADDRESS)],
+    'find_faces': [ctypes.POINTER(FaceQuery), _WORDS, SIZE, ctypes.POINTER(SIZE)],
+    'find_edges': [ctypes.POINTER(EdgeQuery), _WORDS, SIZE, ctypes.POINTER(SIZE)]}
+
+
+def prototypes() -> Iterator[Tuple[str, str, Any, List[Any]]]:
+    """Of each call its name here, that by which it is exported, what it returns and what it takes."""
+    handle, refusal = ctypes.POINTER(Handle), ctypes.POINTER(Refusal)
+    for name, (result, taken) in _READERS.items():
+        yield name, f'gwb_lent_{name}', result, [handle, *taken]
+    for name, (result, taken) in {**_CALLS, **{name: (WORD, [*taken, refusal]) for name, taken in _FEATURES.items()}}.items():
+        yield name, f'gwb_{name}', result, [handle, *taken]
+    beside: List[Tuple[str, Any, List[Any]]] = [
+        ('advice_factor', Wide, [ADDRESS]), ('advice_free', None, [ADDRESS]), ('misfit_name', ctypes.c_char_p, [WORD])]
+    for name, result, taken in beside:
+        yield name, f'gwb_{name}', result, taken
