@@ -1,7 +1,8 @@
 //! Features, by the calls of gwb_features.h. Each is one command of a session, or steps of a draft; what isn't possible is
 //! [`Error::Impossible`], or refused as a command would be, and then nothing has changed.
+use crate::rows::values;
 use crate::{minus, plus, Edge, Error, Face, HalfEdge, Id, Loop, Misfit, Operators, Point, Solid, Vertex};
-use gwb_sys::{kind, Gwb, OutlineMade};
+use gwb_sys::{kind, CutPlane, Gwb, OutlineMade, Refusal};
 use std::collections::BTreeMap;
 use std::ops::Deref;
 
@@ -65,7 +66,7 @@ impl Motion {
     }
 
     fn row(self) -> gwb_sys::Motion {
-        gwb_sys::Motion { axes: self.axes, by: self.by.into() }
+        gwb_sys::Motion { axes: self.axes, by: self.by }
     }
 }
 
@@ -74,66 +75,24 @@ fn place(axis: i32) -> usize {
     axis.unsigned_abs() as usize - 1
 }
 
-/// What [`profile`](Operators::profile) makes: the face that was moved, the one that stayed, and for each point the side from it to the next.
-#[derive(Clone, Debug, PartialEq, Eq)]
-#[allow(missing_docs)]
-pub struct Profile {
-    pub solid: Solid,
-    pub far: Face,
-    pub base: Face,
-    pub sides: Vec<Face>,
-}
-/// What [`polyhedron`](Operators::polyhedron) makes: the first of its vertices and of its faces, which the others follow one by one.
-#[derive(Clone, Copy, Debug, PartialEq, Eq)]
-#[allow(missing_docs)]
-pub struct Polyhedron {
-    pub solid: Solid,
-    pub first_vertex: Vertex,
-    pub first_face: Face,
-}
-/// What [`ring`](Operators::ring) makes: the face inside, the ring around it, and for each point the edge to the next, and the vertex there.
-#[derive(Clone, Debug, PartialEq, Eq)]
-#[allow(missing_docs)]
-pub struct Ring {
-    pub face: Face,
-    pub of_loop: Loop,
-    pub edges: Vec<Edge>,
-    pub vertices: Vec<Vertex>,
-}
-/// What [`pocket`](Operators::pocket) and [`boss`](Operators::boss) make: the floor or top, the ring in the face, and for each point the side.
-#[derive(Clone, Debug, PartialEq, Eq)]
-#[allow(missing_docs)]
-pub struct Pocket {
-    pub face: Face,
-    pub of_loop: Loop,
-    pub sides: Vec<Face>,
-}
-/// What [`hole`](Operators::hole) and [`drill`](Operators::drill) make: the face that it ends in, the ring at its start, for each point the side, and the
-/// points.
-#[derive(Clone, Debug, PartialEq, Eq)]
-#[allow(missing_docs)]
-pub struct Hole {
-    pub other: Face,
-    pub of_loop: Loop,
-    pub sides: Vec<Face>,
-    pub points: Vec<Point>,
-}
-/// What a notch, slot, groove or shoulder leaves: its floor, none where it goes through, and its walls.
-#[derive(Clone, Debug, PartialEq, Eq)]
-#[allow(missing_docs)]
-pub struct Notch {
-    pub floor: Vec<Face>,
-    pub walls: Vec<Face>,
+values! {
+    /// What [`profile`](Operators::profile) makes: the face that was moved, the one that stayed, and for each point the side from it to the next.
+    Profile [] { solid: Solid, far: Face, base: Face, sides: Vec<Face> }
+    /// What [`polyhedron`](Operators::polyhedron) makes: the first of its vertices and of its faces, which the others follow one by one.
+    Polyhedron [Copy] { solid: Solid, first_vertex: Vertex, first_face: Face }
+    /// What [`ring`](Operators::ring) makes: the face inside, the ring around it, and for each point the edge to the next, and the vertex there.
+    Ring [] { face: Face, of_loop: Loop, edges: Vec<Edge>, vertices: Vec<Vertex> }
+    /// What [`pocket`](Operators::pocket) and [`boss`](Operators::boss) make: the floor or top, the ring in the face, and for each point the side.
+    Pocket [] { face: Face, of_loop: Loop, sides: Vec<Face> }
+    /// What [`hole`](Operators::hole) and [`drill`](Operators::drill) make: the face that it ends in, the ring at its start, for each point the side,
+    /// and the points.
+    Hole [] { other: Face, of_loop: Loop, sides: Vec<Face>, points: Vec<Point> }
+    /// What a notch, slot, groove or shoulder leaves: its floor, none where it goes through, and its walls.
+    Notch [] { floor: Vec<Face>, walls: Vec<Face> }
+    /// What [`split_solid`](Operators::split_solid) and [`cut`](Operators::cut) make: the solid above the plane, and the faces that close both parts.
+    Split [] { above: Solid, lower_caps: Vec<Face>, upper_caps: Vec<Face> }
 }
 
-/// What [`split_solid`](Operators::split_solid) and [`cut`](Operators::cut) make: the solid above the plane, and the faces that close both parts.
-#[derive(Clone, Debug, PartialEq, Eq)]
-#[allow(missing_docs)]
-pub struct Split {
-    pub above: Solid,
-    pub lower_caps: Vec<Face>,
-    pub upper_caps: Vec<Face>,
-}
 /// A copy of a solid, and its [`Parts`].
 #[derive(Clone, Debug, PartialEq, Eq)]
 pub struct Copied {
@@ -239,16 +198,33 @@ mod list {
     pub const SOLIDS: u32 = 10;
 }
 
-fn rows(points: &[impl Copy + Into<Point>]) -> Vec<gwb_sys::Point> {
-    points.iter().map(|&at| at.into().into()).collect()
+/// The calls that take a plane and a number for the solid above, an outline and a length, and a middle line.
+type Cut = unsafe extern "C" fn(*mut Gwb, u32, *const CutPlane, u32, *mut Refusal) -> u32;
+type Raise = unsafe extern "C" fn(*mut Gwb, u32, *const Point, usize, i64, *mut OutlineMade, *mut u32, *mut Refusal) -> u32;
+type Strip = unsafe extern "C" fn(*mut Gwb, u32, *const Point, *const Point, i64, i64, *mut Refusal) -> u32;
+
+/// More points of a polygon, and more solids of a row, are refused before any is written.
+const MOST: u32 = 1_000_000;
+
+fn listed(points: &[impl Copy + Into<Point>]) -> Vec<Point> {
+    points.iter().map(|&at| at.into()).collect()
+}
+
+fn ids<N: Id>(numbers: Vec<u32>) -> Vec<N> {
+    numbers.into_iter().map(N::from_number).collect()
+}
+
+/// Room for what a call writes of so many.
+fn room<T: Clone + Default>(count: u32) -> Vec<T> {
+    vec![T::default(); if count <= MOST { count as usize } else { 0 }]
 }
 
 // SAFETY, for all calls in this file: as in operators.rs; lists have as many items as there are points.
 #[allow(clippy::missing_errors_doc)] // (as gwb_features.h says)
 impl Operators {
     /// Gives a feature.
-    fn feature(&mut self, call: impl FnOnce(*mut Gwb, *mut gwb_sys::Refusal) -> u32) -> Result<(), Error> {
-        let (before, mut why) = (self.all_greatest(), gwb_sys::Refusal::default());
+    pub(crate) fn feature(&mut self, call: impl FnOnce(*mut Gwb, *mut Refusal) -> u32) -> Result<(), Error> {
+        let (before, mut why) = (self.all_greatest(), Refusal::default());
         match call(self.handle(), &mut why) {
             kind::OK => self.told_all(before),
             kind::REFUSED => return Err(crate::operators::named(why)),
@@ -261,17 +237,13 @@ impl Operators {
         Ok(())
     }
 
-    fn made(&self, list: u32) -> Vec<u32> {
-        crate::readers::rows(|to, room| unsafe { gwb_sys::gwb_made(self.handle(), list, to, room) })
-    }
-
-    fn made_faces(&self, list: u32) -> Vec<Face> {
-        self.made(list).into_iter().map(Face).collect()
+    fn made<N: Id>(&self, list: u32) -> Vec<N> {
+        ids(crate::readers::rows(|to, room| unsafe { gwb_sys::gwb_made(self.handle(), list, to, room) }))
     }
 
     /// A list of old and new numbers.
     fn made_pairs<N: Id>(&self, list: u32) -> BTreeMap<N, N> {
-        self.made(list).chunks_exact(2).map(|pair| (N::from_number(pair[0]), N::from_number(pair[1]))).collect()
+        self.made(list).chunks_exact(2).map(|pair| (pair[0], pair[1])).collect()
     }
 
     fn made_parts(&self) -> Parts {
@@ -283,24 +255,43 @@ impl Operators {
         }
     }
 
-    fn outline(
+    fn outlined<N: Id>(
         &mut self,
         points: &[impl Copy + Into<Point>],
-        call: impl FnOnce(*mut Gwb, &[gwb_sys::Point], *mut OutlineMade, *mut u32, *mut gwb_sys::Refusal) -> u32,
-    ) -> Result<(Face, Loop, Vec<Face>), Error> {
-        let (points, mut made, mut sides) = (rows(points), OutlineMade::default(), vec![0; points.len()]);
-        self.feature(|g, why| call(g, &points, &mut made, sides.as_mut_ptr(), why))?;
-        Ok((Face(made.face), Loop(made.of_loop), sides.into_iter().map(Face).collect()))
+        call: impl FnOnce(*mut Gwb, &[Point], *mut OutlineMade, *mut u32, *mut Refusal) -> u32,
+    ) -> Result<(Face, Loop, Vec<N>), Error> {
+        let (points, mut made, mut along) = (listed(points), OutlineMade::default(), vec![0; points.len()]);
+        self.feature(|g, why| call(g, &points, &mut made, along.as_mut_ptr(), why))?;
+        Ok((Face(made.face), Loop(made.of_loop), ids(along)))
     }
 
-    fn notched(&mut self, call: impl FnOnce(*mut Gwb, *mut gwb_sys::Refusal) -> u32) -> Result<Notch, Error> {
-        self.feature(call)?;
-        Ok(Notch { floor: self.made_faces(list::FLOOR), walls: self.made_faces(list::WALLS) })
+    fn raised(&mut self, call: Raise, face: Face, points: &[impl Copy + Into<Point>], length: i64) -> Result<Pocket, Error> {
+        let (face, of_loop, sides) = self.outlined(points, |g, points, made, sides, why| unsafe {
+            call(g, face.0, points.as_ptr(), points.len(), length, made, sides, why)
+        })?;
+        Ok(Pocket { face, of_loop, sides })
     }
 
-    fn parted(&mut self, above: Solid, call: impl FnOnce(*mut Gwb, *mut gwb_sys::Refusal) -> u32) -> Result<Split, Error> {
+    fn notched(&mut self, call: impl FnOnce(*mut Gwb, *mut Refusal) -> u32) -> Result<Notch, Error> {
         self.feature(call)?;
-        Ok(Split { above, lower_caps: self.made_faces(list::LOWER_CAPS), upper_caps: self.made_faces(list::UPPER_CAPS) })
+        Ok(Notch { floor: self.made(list::FLOOR), walls: self.made(list::WALLS) })
+    }
+
+    fn strip(&mut self, call: Strip, face: Face, [start, end]: [Point; 2], width: i64, depth: i64) -> Result<Notch, Error> {
+        self.notched(|g, why| unsafe { call(g, face.0, &start, &end, width, depth, why) })
+    }
+
+    fn parted(&mut self, call: Cut, solid: Solid, plane: [i64; 4], above: impl Into<Option<Solid>>) -> Result<Split, Error> {
+        let above = self.named(above);
+        self.feature(|g, why| unsafe { call(g, solid.0, &plane.into(), above.0, why) })?;
+        Ok(Split { above, lower_caps: self.made(list::LOWER_CAPS), upper_caps: self.made(list::UPPER_CAPS) })
+    }
+
+    /// Gives a feature that writes the new ones of so many solids.
+    fn row(&mut self, count: u32, call: impl FnOnce(*mut Gwb, *mut u32, *mut Refusal) -> u32) -> Result<Vec<Solid>, Error> {
+        let mut made = room(count.saturating_sub(1));
+        self.feature(|g, why| call(g, made.as_mut_ptr(), why))?;
+        Ok(ids(made))
     }
 
     /// A solid goes, with all its parts.
@@ -323,17 +314,15 @@ impl Operators {
 
     /// A row of so many solids, of which this is the first, each by the step from the one before it: those that are new.
     pub fn pattern(&mut self, solid: Solid, count: u32, step: impl Into<Point>) -> Result<Vec<Solid>, Error> {
-        let (step, mut row) = (gwb_sys::Point::from(step.into()), vec![0; count.saturating_sub(1) as usize]);
-        self.feature(|g, why| unsafe { gwb_sys::gwb_pattern(g, solid.0, count, &step, row.as_mut_ptr(), why) })?;
-        Ok(row.into_iter().map(Solid).collect())
+        let step = step.into();
+        self.row(count, |g, made, why| unsafe { gwb_sys::gwb_pattern(g, solid.0, count, &step, made, why) })
     }
 
     /// So many solids around the axis through a point (0 x, 1 y, 2 z), of which this is the first, each so many quarter turns on from the one before it:
     /// those that are new.
     pub fn pattern_around(&mut self, solid: Solid, count: u32, axis: u32, quarters: u32, about: impl Into<Point>) -> Result<Vec<Solid>, Error> {
-        let (about, mut row) = (gwb_sys::Point::from(about.into()), vec![0; count.saturating_sub(1) as usize]);
-        self.feature(|g, why| unsafe { gwb_sys::gwb_pattern_around(g, solid.0, count, axis, quarters, &about, row.as_mut_ptr(), why) })?;
-        Ok(row.into_iter().map(Solid).collect())
+        let about = about.into();
+        self.row(count, |g, made, why| unsafe { gwb_sys::gwb_pattern_around(g, solid.0, count, axis, quarters, &about, made, why) })
     }
 
     /// All coordinates times the factor; numbers stay.
@@ -348,29 +337,26 @@ impl Operators {
     }
 
     /// What [`split`](crate::Operators::split) does, with the faces that close both parts.
-    pub fn split_solid(&mut self, solid: Solid, [a, b, c, d]: [i64; 4], above: impl Into<Option<Solid>>) -> Result<Split, Error> {
-        let (above, plane) = (self.named(above), gwb_sys::CutPlane { a, b, c, d });
-        self.parted(above, |g, why| unsafe { gwb_sys::gwb_split_solid(g, solid.0, &plane, above.0, why) })
+    pub fn split_solid(&mut self, solid: Solid, plane: [i64; 4], above: impl Into<Option<Solid>>) -> Result<Split, Error> {
+        self.parted(gwb_sys::gwb_split_solid, solid, plane, above)
     }
 
     /// The same, also where split refuses the plane for what it touches or how it runs through faces and holes.
-    pub fn cut(&mut self, solid: Solid, [a, b, c, d]: [i64; 4], above: impl Into<Option<Solid>>) -> Result<Split, Error> {
-        let (above, plane) = (self.named(above), gwb_sys::CutPlane { a, b, c, d });
-        self.parted(above, |g, why| unsafe { gwb_sys::gwb_cut(g, solid.0, &plane, above.0, why) })
+    pub fn cut(&mut self, solid: Solid, plane: [i64; 4], above: impl Into<Option<Solid>>) -> Result<Split, Error> {
+        self.parted(gwb_sys::gwb_cut, solid, plane, above)
     }
 
     /// What lies above the plane goes: the faces that close what is left.
-    pub fn trim(&mut self, solid: Solid, [a, b, c, d]: [i64; 4]) -> Result<Vec<Face>, Error> {
-        let plane = gwb_sys::CutPlane { a, b, c, d };
-        self.feature(|g, why| unsafe { gwb_sys::gwb_trim(g, solid.0, &plane, why) })?;
-        Ok(self.made_faces(list::LOWER_CAPS))
+    pub fn trim(&mut self, solid: Solid, plane: [i64; 4]) -> Result<Vec<Face>, Error> {
+        self.feature(|g, why| unsafe { gwb_sys::gwb_trim(g, solid.0, &plane.into(), why) })?;
+        Ok(self.made(list::LOWER_CAPS))
     }
 
     /// The solids, which touch in faces, become the first: faces that became one with others, or several, each with one that it went into.
     pub fn union(&mut self, solids: &[Solid]) -> Result<Vec<(Face, Face)>, Error> {
         // `Solid` is a transparent u32
         self.feature(|g, why| unsafe { gwb_sys::gwb_union(g, solids.as_ptr().cast(), solids.len(), why) })?;
-        Ok(self.made_faces(list::INTO).chunks_exact(2).map(|pair| (pair[0], pair[1])).collect())
+        Ok(self.made(list::INTO).chunks_exact(2).map(|pair| (pair[0], pair[1])).collect())
     }
 
     /// A solid lies elsewhere, with the numbers that it has.
@@ -380,12 +366,12 @@ impl Operators {
 
     /// A new solid: the outline through the points, moved along the vector.
     pub fn profile(&mut self, solid: impl Into<Option<Solid>>, points: &[impl Copy + Into<Point>], along: impl Into<Point>) -> Result<Profile, Error> {
-        let (solid, points, along) = (self.named(solid), rows(points), gwb_sys::Point::from(along.into()));
+        let (solid, points, along) = (self.named(solid), listed(points), along.into());
         let (mut made, mut sides) = (gwb_sys::ProfileMade::default(), vec![0; points.len()]);
         self.feature(|g, why| unsafe {
             gwb_sys::gwb_profile(g, solid.0, points.as_ptr(), points.len(), &along, &mut made, sides.as_mut_ptr(), why)
         })?;
-        Ok(Profile { solid, far: Face(made.far), base: Face(made.base), sides: sides.into_iter().map(Face).collect() })
+        Ok(Profile { solid, far: Face(made.far), base: Face(made.base), sides: ids(sides) })
     }
 
     /// A new solid: points, and faces of so many corners each, by their places among the points from 0 on, counterclockwise as seen from outside.
@@ -397,7 +383,7 @@ impl Operators {
         corners: &[u32],
         sizes: &[u32],
     ) -> Result<Polyhedron, Error> {
-        let (solid, points, mut made) = (self.named(solid), rows(points), gwb_sys::PolyhedronMade::default());
+        let (solid, points, mut made) = (self.named(solid), listed(points), gwb_sys::PolyhedronMade::default());
         if sizes.iter().map(|&size| size as usize).sum::<usize>() != corners.len() {
             return Err(Error::NoCall);
         }
@@ -410,67 +396,54 @@ impl Operators {
     /// A face inside the face, with the outline through the points, and a ring around it.
     pub fn ring(&mut self, face: Face, points: &[impl Copy + Into<Point>]) -> Result<Ring, Error> {
         let mut vertices = vec![0; points.len()];
-        let (face, of_loop, edges) = self.outline(points, |g, points, made, edges, why| unsafe {
+        let (face, of_loop, edges) = self.outlined(points, |g, points, made, edges, why| unsafe {
             gwb_sys::gwb_ring(g, face.0, points.as_ptr(), points.len(), made, edges, vertices.as_mut_ptr(), why)
         })?;
-        let edges = edges.into_iter().map(|edge| Edge(edge.0)).collect();
-        Ok(Ring { face, of_loop, edges, vertices: vertices.into_iter().map(Vertex).collect() })
+        Ok(Ring { face, of_loop, edges, vertices: ids(vertices) })
     }
 
     /// A pocket so deep behind the outline in the face.
     pub fn pocket(&mut self, face: Face, points: &[impl Copy + Into<Point>], depth: i64) -> Result<Pocket, Error> {
-        let (face, of_loop, sides) = self.outline(points, |g, points, made, sides, why| unsafe {
-            gwb_sys::gwb_pocket(g, face.0, points.as_ptr(), points.len(), depth, made, sides, why)
-        })?;
-        Ok(Pocket { face, of_loop, sides })
+        self.raised(gwb_sys::gwb_pocket, face, points, depth)
     }
 
     /// A boss so high on the outline in the face.
     pub fn boss(&mut self, face: Face, points: &[impl Copy + Into<Point>], height: i64) -> Result<Pocket, Error> {
-        let (face, of_loop, sides) = self.outline(points, |g, points, made, sides, why| unsafe {
-            gwb_sys::gwb_boss(g, face.0, points.as_ptr(), points.len(), height, made, sides, why)
-        })?;
-        Ok(Pocket { face, of_loop, sides })
+        self.raised(gwb_sys::gwb_boss, face, points, height)
     }
 
     /// A hole from the outline in the face through to the opposite face.
     pub fn hole(&mut self, face: Face, points: &[impl Copy + Into<Point>]) -> Result<Hole, Error> {
-        let (other, of_loop, sides) = self.outline(points, |g, points, made, sides, why| unsafe {
+        let (other, of_loop, sides) = self.outlined(points, |g, points, made, sides, why| unsafe {
             gwb_sys::gwb_hole(g, face.0, points.as_ptr(), points.len(), made, sides, why)
         })?;
-        Ok(Hole { other, of_loop, sides, points: points.iter().map(|&at| at.into()).collect() })
+        Ok(Hole { other, of_loop, sides, points: listed(points) })
     }
 
     /// A hole with a polygon of so many sides around the center, on whole numbers nearest to the circle of the radius: through, where the depth is 0,
     /// or so deep.
     pub fn drill(&mut self, face: Face, center: impl Into<Point>, radius: i64, sides: u32, depth: i64) -> Result<Hole, Error> {
-        const MOST_SIDES: u32 = 1_000_000; // more are refused before any is written
-        let room = if sides <= MOST_SIDES { sides as usize } else { 0 };
-        let (center, mut made) = (gwb_sys::Point::from(center.into()), OutlineMade::default());
-        let (mut walls, mut points) = (vec![0; room], vec![gwb_sys::Point::default(); room]);
+        let (center, mut made, mut walls, mut points) = (center.into(), OutlineMade::default(), room(sides), room(sides));
         self.feature(|g, why| unsafe {
             gwb_sys::gwb_drill(g, face.0, &center, radius, sides, depth, &mut made, walls.as_mut_ptr(), points.as_mut_ptr(), why)
         })?;
-        let points = points.into_iter().map(Point::from).collect();
-        Ok(Hole { other: Face(made.face), of_loop: Loop(made.of_loop), sides: walls.into_iter().map(Face).collect(), points })
+        Ok(Hole { other: Face(made.face), of_loop: Loop(made.of_loop), sides: ids(walls), points })
     }
 
     /// A pocket whose outline may reach the edges of the face.
     pub fn notch(&mut self, face: Face, points: &[impl Copy + Into<Point>], depth: i64) -> Result<Notch, Error> {
-        let points = rows(points);
+        let points = listed(points);
         self.notched(|g, why| unsafe { gwb_sys::gwb_notch(g, face.0, points.as_ptr(), points.len(), depth, why) })
     }
 
     /// A slot with a flat floor along a line from one point to another.
     pub fn slot(&mut self, face: Face, start: impl Into<Point>, end: impl Into<Point>, width: i64, depth: i64) -> Result<Notch, Error> {
-        let (start, end) = (start.into().into(), end.into().into());
-        self.notched(|g, why| unsafe { gwb_sys::gwb_slot(g, face.0, &start, &end, width, depth, why) })
+        self.strip(gwb_sys::gwb_slot, face, [start.into(), end.into()], width, depth)
     }
 
     /// A groove like a V.
     pub fn groove(&mut self, face: Face, start: impl Into<Point>, end: impl Into<Point>, width: i64, depth: i64) -> Result<Notch, Error> {
-        let (start, end) = (start.into().into(), end.into().into());
-        self.notched(|g, why| unsafe { gwb_sys::gwb_groove(g, face.0, &start, &end, width, depth, why) })
+        self.strip(gwb_sys::gwb_groove, face, [start.into(), end.into()], width, depth)
     }
 
     /// A step along an edge of the face.
@@ -490,6 +463,6 @@ impl Operators {
         let mut faces = vec![0; edges.len()];
         // `Edge` is a transparent u32
         self.feature(|g, why| unsafe { gwb_sys::gwb_chamfer_edges(g, edges.as_ptr().cast(), edges.len(), width, faces.as_mut_ptr(), why) })?;
-        Ok(faces.into_iter().map(Face).collect())
+        Ok(ids(faces))
     }
 }

@@ -1,5 +1,5 @@
 //! What commands made, removed and split of a model, and values on faces and edges that follow it.
-use crate::readers::rows;
+use crate::readers::values;
 use crate::{Edge, Error, Face, Id, Session};
 use std::collections::BTreeMap;
 use std::ops::Range;
@@ -14,7 +14,7 @@ pub struct Change<N> {
 }
 
 /// What commands did to the numbers of a kind.
-#[derive(Clone, Debug, PartialEq, Eq)]
+#[derive(Clone, Debug, Default, PartialEq, Eq)]
 pub struct ChangesOf<N> {
     /// Those in use now that were not, rising.
     pub made: Vec<Change<N>>,
@@ -50,13 +50,6 @@ pub struct Changes {
 pub trait Noted: Id {
     /// What became of the numbers of this kind.
     fn of(changes: &Changes) -> &ChangesOf<Self>;
-}
-
-impl<N> Default for ChangesOf<N> {
-    /// Nothing.
-    fn default() -> Self {
-        Self { made: Vec::new(), removed: Vec::new() }
-    }
 }
 
 impl Noted for Face {
@@ -99,9 +92,13 @@ impl<'session> Watching<'session> {
     }
 
     fn listed<N: Noted>(&self, are_made: bool) -> Vec<Change<N>> {
-        let found = rows(|rows, room| unsafe { gwb_sys::gwb_compared(self.session.handle(), N::KIND, are_made, rows, room) });
-        let number = |number: u32| Some(number).filter(|&number| number != 0).map(N::from_number);
-        found.into_iter().map(|row: gwb_sys::Change| Change { id: N::from_number(row.number), other: number(row.other) }).collect()
+        values(|rows, room| unsafe { gwb_sys::gwb_compared(self.session.handle(), N::KIND, are_made, rows, room) })
+    }
+}
+
+impl<N: Id> From<gwb_sys::Change> for Change<N> {
+    fn from(row: gwb_sys::Change) -> Self {
+        Self { id: N::from_number(row.number), other: Some(row.other).filter(|&number| number != 0).map(N::from_number) }
     }
 }
 
@@ -145,9 +142,7 @@ impl Session {
     /// # Errors
     /// As [`undo`](Self::undo); [`Error::Memory`] also where it is refused for what that did.
     pub fn followed_undo(&mut self) -> Result<Changes, Error> {
-        let watching = Watching::new(self)?;
-        watching.session.undo()?;
-        watching.changes(Turn::Undo)
+        self.turned(Turn::Undo, Self::undo)
     }
 
     /// Does the command again that was taken back last, and says what that did.
@@ -155,9 +150,13 @@ impl Session {
     /// # Errors
     /// As [`redo`](Self::redo); [`Error::Memory`] also where it is refused for what that did.
     pub fn followed_redo(&mut self) -> Result<Changes, Error> {
+        self.turned(Turn::Redo, Self::redo)
+    }
+
+    fn turned(&mut self, turn: Turn, give: impl FnOnce(&mut Self) -> Result<(), Error>) -> Result<Changes, Error> {
         let watching = Watching::new(self)?;
-        watching.session.redo()?;
-        watching.changes(Turn::Redo)
+        give(&mut *watching.session)?;
+        watching.changes(turn)
     }
 }
 
@@ -191,7 +190,7 @@ impl<N: Noted, V: Clone> Notes<N, V> {
     /// No values.
     #[must_use]
     pub fn new() -> Self {
-        Self { values: BTreeMap::new(), steps: Vec::new(), seen: 0 }
+        Self::default()
     }
 
     /// Gives a number a value; the one that it had is returned.
@@ -238,7 +237,7 @@ impl<N: Noted, V: Clone> Notes<N, V> {
         self.values.extend(made);
     }
 
-    /// All numbers have become others ([`renumber`](crate::Draft::renumber)), which following doesn't tell: `notes.renumbered(|face| all.face(face))`,
+    /// All numbers have become others ([`renumber`](crate::Operators::renumber)), which following doesn't tell: `notes.renumbered(|face| all.face(face))`,
     /// after its undo of `all.back()`.
     pub fn renumbered(&mut self, of: impl Fn(N) -> Option<N>) {
         let values = std::mem::take(&mut self.values);
@@ -272,12 +271,12 @@ impl<N, V> Step<N, V> {
 
 impl<N: Noted, V, const COUNT: usize> From<[(N, V); COUNT]> for Notes<N, V> {
     fn from(values: [(N, V); COUNT]) -> Self {
-        Self { values: BTreeMap::from(values), steps: Vec::new(), seen: 0 }
+        Self { values: BTreeMap::from(values), ..Self::default() }
     }
 }
 
-impl<N: Noted, V: Clone> Default for Notes<N, V> {
+impl<N, V> Default for Notes<N, V> {
     fn default() -> Self {
-        Self::new()
+        Self { values: BTreeMap::new(), steps: Vec::new(), seen: 0 }
     }
 }

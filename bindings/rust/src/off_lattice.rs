@@ -1,18 +1,18 @@
 //! What is to be said of a split that is refused since its points aren't whole: where the plane cuts edges, by how much the model would have to
 //! be scaled, and which planes nearby would do.
-use crate::readers::rows;
+use crate::readers::values as written;
+use crate::rows::values;
 use crate::{Edge, Error, Readers, Solid};
 use gwb_sys::kind;
 use std::fmt;
 use std::ptr::{null_mut, NonNull};
 use std::sync::Arc;
 
-/// A fraction by its least terms, of which the second is above zero.
-#[derive(Clone, Copy, Debug, PartialEq, Eq, Hash)]
-#[allow(missing_docs)]
-pub struct Fraction {
-    pub numerator: i128,
-    pub denominator: i128,
+values! {
+    /// A fraction by its least terms, of which the second is above zero.
+    Fraction [Copy] { numerator: i128, denominator: i128 }
+    /// Where a plane cuts an edge between its ends.
+    EdgeCut [Copy] { edge: Edge, point: [Fraction; 3] }
 }
 
 impl Fraction {
@@ -28,14 +28,6 @@ impl fmt::Display for Fraction {
     fn fmt(&self, f: &mut fmt::Formatter<'_>) -> fmt::Result {
         if self.is_whole() { self.numerator.fmt(f) } else { write!(f, "{}/{}", self.numerator, self.denominator) }
     }
-}
-
-/// Where a plane cuts an edge between its ends.
-#[derive(Clone, Copy, Debug, PartialEq, Eq, Hash)]
-#[allow(missing_docs)]
-pub struct EdgeCut {
-    pub edge: Edge,
-    pub point: [Fraction; 3],
 }
 
 impl EdgeCut {
@@ -82,7 +74,7 @@ unsafe impl Sync for Advice {}
 // SAFETY, for all calls in this file: the pointer is one that gwb_off_lattice wrote, until it is dropped.
 impl Advice {
     fn rows<Row: Copy + Default, T: From<Row>>(&self, write: unsafe extern "C" fn(*const gwb_sys::Advice, *mut Row, usize) -> usize) -> Vec<T> {
-        rows(|rows, room| unsafe { write(self.0.as_ptr(), rows, room) }).into_iter().map(T::from).collect()
+        written(|rows, room| unsafe { write(self.0.as_ptr(), rows, room) })
     }
 
     fn text(&self, above: Solid) -> String {

@@ -78,11 +78,12 @@ impl Operators {
         let answer = unsafe { gwb_sys::gwb_record(self.handle()) };
         self.answered(answer)
     }
+}
 
+/// Operators and larger commands. Each may be refused, by [`Error::Refused`] or [`Error::Memory`].
+#[allow(clippy::missing_errors_doc)]
+impl Operators {
     /// A new solid with one face, whose outer loop stands at one new vertex.
-    ///
-    /// # Errors
-    /// [`Error::Refused`], [`Error::Memory`].
     pub fn mvfs(
         &mut self,
         solid: impl Into<Option<Solid>>,
@@ -98,18 +99,12 @@ impl Operators {
     }
 
     /// The solid goes, with its one face, loop and vertex.
-    ///
-    /// # Errors
-    /// [`Error::Refused`], [`Error::Memory`].
     pub fn kvfs(&mut self, solid: Solid) -> Result<(), Error> {
         self.told(unsafe { gwb_sys::gwb_kvfs(self.handle(), solid.0) })
     }
 
     /// A new edge from the vertex of the corners to a new vertex. With one corner given twice it sticks out there; with two corners at one
     /// vertex, the half-edges from the first round to before the second start at the new vertex.
-    ///
-    /// # Errors
-    /// [`Error::Refused`], [`Error::Memory`].
     pub fn mev(
         &mut self,
         corner: impl Into<Corner>,
@@ -125,18 +120,12 @@ impl Operators {
     }
 
     /// The edge goes, and the vertex at the end of the half-edge; what else starts there starts where the half-edge does.
-    ///
-    /// # Errors
-    /// [`Error::Refused`], [`Error::Memory`].
     pub fn kev(&mut self, half_edge: HalfEdge) -> Result<(), Error> {
         self.told(unsafe { gwb_sys::gwb_kev(self.handle(), half_edge.code()) })
     }
 
     /// A new edge across a face, between the vertices at which two half-edges of one loop start. The part from the first to before the
     /// second becomes the loop of the new face.
-    ///
-    /// # Errors
-    /// [`Error::Refused`], [`Error::Memory`].
     pub fn mef(
         &mut self,
         half_edge: HalfEdge,
@@ -151,17 +140,11 @@ impl Operators {
     }
 
     /// The edge goes, and the face on its other side becomes part of the half-edge's own.
-    ///
-    /// # Errors
-    /// [`Error::Refused`], [`Error::Memory`].
     pub fn kef(&mut self, half_edge: HalfEdge) -> Result<(), Error> {
         self.told(unsafe { gwb_sys::gwb_kef(self.handle(), half_edge.code()) })
     }
 
     /// The edge goes, which has one loop on both sides; the part after the half-edge is a new ring of the face.
-    ///
-    /// # Errors
-    /// [`Error::Refused`], [`Error::Memory`].
     pub fn kemr(&mut self, half_edge: HalfEdge, ring: impl Into<Option<Loop>>) -> Result<Loop, Error> {
         let ring = self.named(ring);
         self.told(unsafe { gwb_sys::gwb_kemr(self.handle(), half_edge.code(), ring.0) })?;
@@ -169,9 +152,6 @@ impl Operators {
     }
 
     /// A new edge from the first corner to the second, whose loop is a ring of the same face and becomes part of the first one's.
-    ///
-    /// # Errors
-    /// [`Error::Refused`], [`Error::Memory`].
     pub fn mekr(&mut self, corner: impl Into<Corner>, other: impl Into<Corner>, edge: impl Into<Option<Edge>>) -> Result<Edge, Error> {
         let edge = self.named(edge);
         self.told(unsafe { gwb_sys::gwb_mekr(self.handle(), corner.into().code(), other.into().code(), edge.0) })?;
@@ -179,17 +159,11 @@ impl Operators {
     }
 
     /// The second face goes, and its loop becomes a ring of the first.
-    ///
-    /// # Errors
-    /// [`Error::Refused`], [`Error::Memory`].
     pub fn kfmrh(&mut self, face: Face, other: Face) -> Result<(), Error> {
         self.told(unsafe { gwb_sys::gwb_kfmrh(self.handle(), face.0, other.0) })
     }
 
     /// A ring becomes the outer loop of a new face of the same solid.
-    ///
-    /// # Errors
-    /// [`Error::Refused`], [`Error::Memory`].
     pub fn mfkrh(&mut self, ring: Loop, face: impl Into<Option<Face>>) -> Result<Face, Error> {
         let face = self.named(face);
         self.told(unsafe { gwb_sys::gwb_mfkrh(self.handle(), ring.0, face.0) })?;
@@ -197,41 +171,27 @@ impl Operators {
     }
 
     /// A ring becomes a ring of another face: `ringmv` with the word `in`.
-    ///
-    /// # Errors
-    /// [`Error::Refused`], [`Error::Memory`].
     pub fn ring_in(&mut self, ring: Loop, face: Face) -> Result<(), Error> {
         self.told(unsafe { gwb_sys::gwb_ringmv(self.handle(), ring.0, face.0, 0) })
     }
 
     /// A ring becomes the outer loop of a face, whose old one becomes a ring of it: `ringmv` with the word `out`.
-    ///
-    /// # Errors
-    /// [`Error::Refused`], [`Error::Memory`].
     pub fn ring_out(&mut self, ring: Loop, face: Face) -> Result<(), Error> {
         self.told(unsafe { gwb_sys::gwb_ringmv(self.handle(), ring.0, face.0, 1) })
     }
 
     /// A ring becomes the outer loop of its own face, whose old one becomes a ring of the face given. No script has this operator.
-    ///
-    /// # Errors
-    /// [`Error::Refused`], [`Error::Memory`].
     pub fn outer(&mut self, ring: Loop, face: Face) -> Result<(), Error> {
         self.told(unsafe { gwb_sys::gwb_outer(self.handle(), ring.0, face.0) })
     }
 
     /// All faces of the second solid are of the first, and the second is gone. No script has this operator.
-    ///
-    /// # Errors
-    /// [`Error::Refused`], [`Error::Memory`].
     pub fn merge(&mut self, solid: Solid, other: Solid) -> Result<(), Error> {
         self.told(unsafe { gwb_sys::gwb_merge(self.handle(), solid.0, other.0) })
     }
 
     /// A new solid of some faces of one, their numbers rising, which share no edge with its others. No script has this operator.
-    ///
-    /// # Errors
-    /// [`Error::Refused`], [`Error::Memory`]; [`Error::NoCall`] where there are no faces.
+    /// [`Error::NoCall`] where there are no faces.
     pub fn part(&mut self, faces: &[Face], solid: impl Into<Option<Solid>>) -> Result<Solid, Error> {
         let solid = self.named(solid);
         // `Face` is a transparent u32
@@ -239,21 +199,15 @@ impl Operators {
         Ok(solid)
     }
 
-    /// A new solid of two faces through 3 to 64 points, one on either side.
-    ///
-    /// # Errors
-    /// [`Error::Refused`], [`Error::Memory`]; [`Error::NoCall`] where there are more points.
+    /// A new solid of two faces through 3 to 64 points, one on either side; [`Error::NoCall`] where there are more points.
     pub fn lamina<P: Copy + Into<Point>>(&mut self, solid: impl Into<Option<Solid>>, points: &[P]) -> Result<Solid, Error> {
         let solid = self.named(solid);
-        let points: Vec<gwb_sys::Point> = points.iter().map(|&point| point.into()).map(|Point { x, y, z }| gwb_sys::Point { x, y, z }).collect();
+        let points: Vec<Point> = points.iter().map(|&point| point.into()).collect();
         self.told(unsafe { gwb_sys::gwb_lamina(self.handle(), solid.0, points.as_ptr(), points.len()) })?;
         Ok(solid)
     }
 
     /// A new solid, the block that has the point as its lowest corner and edges along the axes, so long as the sizes say.
-    ///
-    /// # Errors
-    /// [`Error::Refused`], [`Error::Memory`].
     pub fn block(&mut self, solid: impl Into<Option<Solid>>, corner: impl Into<Point>, sizes: impl Into<Point>) -> Result<Solid, Error> {
         let (solid, at, by) = (self.named(solid), corner.into(), sizes.into());
         self.told(unsafe { gwb_sys::gwb_block(self.handle(), solid.0, at.x, at.y, at.z, by.x, by.y, by.z) })?;
@@ -262,32 +216,26 @@ impl Operators {
 
     /// The face moves by a vector, and a new face rises over each of its half-edges. Sweep a lamina's first face along its normal: against
     /// it the solid is inside out, and its volume negative.
-    ///
-    /// # Errors
-    /// [`Error::Refused`], [`Error::Memory`].
     pub fn sweep(&mut self, face: Face, along: impl Into<Point>) -> Result<(), Error> {
         let by = along.into();
         self.told(unsafe { gwb_sys::gwb_sweep(self.handle(), face.0, by.x, by.y, by.z) })
     }
 
     /// The two solids of the faces become one along them. The faces go through the same points in opposite directions.
-    ///
-    /// # Errors
-    /// [`Error::Refused`], [`Error::Memory`].
     pub fn glue(&mut self, face: Face, other: Face) -> Result<(), Error> {
         self.told(unsafe { gwb_sys::gwb_glue(self.handle(), face.0, other.0) })
     }
 
     /// The solid is cut in two by the plane a x + b y + c z + d = 0; what lies where the sum is positive becomes the solid `above`.
-    ///
-    /// # Errors
-    /// [`Error::Refused`], [`Error::Memory`]. Of `NotLattice` [`off_lattice`](crate::Readers::off_lattice) says what would do.
+    /// Of `NotLattice` [`off_lattice`](crate::Readers::off_lattice) says what would do.
     pub fn split(&mut self, solid: Solid, [a, b, c, d]: [i64; 4], above: impl Into<Option<Solid>>) -> Result<Solid, Error> {
         let above = self.named(above);
         self.told(unsafe { gwb_sys::gwb_split(self.handle(), solid.0, a, b, c, d, above.0) })?;
         Ok(above)
     }
+}
 
+impl Operators {
     /// Makes the model of a listing beside what is held, with its numbers: as one command, or as steps of the draft that is open.
     ///
     /// ```
@@ -304,14 +252,7 @@ impl Operators {
     /// [`Error::Refused`] where a number is in use, or none is free; [`Error::Memory`]; [`Error::NoCall`] where it is no listing of a sound
     /// model.
     pub fn load(&mut self, listing: &str) -> Result<(), Error> {
-        let before = self.all_greatest();
-        let mut refusal = gwb_sys::Refusal::default();
-        match unsafe { gwb_sys::gwb_load(self.handle(), listing.as_ptr(), listing.len(), &mut refusal) } {
-            kind::OK => self.told_all(before),
-            kind::REFUSED => return Err(named(refusal)),
-            other => return self.answered(other),
-        }
-        Ok(())
+        self.feature(|g, why| unsafe { gwb_sys::gwb_load(g, listing.as_ptr(), listing.len(), why) })
     }
 
     /// The numbers of a kind that the last command made above all that were in use before it, up to the greatest in use; not each of them

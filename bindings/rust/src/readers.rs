@@ -11,6 +11,19 @@ use std::ptr::NonNull;
 type After = unsafe extern "C" fn(*mut Gwb, u32, u32, *mut u32) -> u32;
 type Write = unsafe extern "C" fn(*mut Gwb, *mut u8, usize) -> usize;
 
+/// Readers of what is held of one thing: each by a call, of its number, and what makes a value of what the call writes.
+macro_rules! finders {
+    ($($(#[$doc:meta])* $name:ident($of:ident: $kind:ty) -> $found:ty = $call:ident($number:expr), $value:expr;)+) => {
+        $(
+            $(#[$doc])*
+            #[must_use]
+            pub fn $name(&self, $of: $kind) -> Option<$found> {
+                self.found(|g, row| unsafe { gwb_sys::$call(g, $number, row) }).map($value)
+            }
+        )+
+    };
+}
+
 /// The readers of a [`Session`](crate::Session), which has them all: they walk the model that it holds, in a draft the draft's.
 ///
 /// Numbers, rising, come as an iterator whose `size_hint` says that there are at most so many as are left of 1,000,000. Where what is asked
@@ -70,8 +83,7 @@ impl Readers {
     /// # Errors
     /// [`Error::Refused`].
     pub fn plane(&self, face: Face) -> Result<Plane, Error> {
-        self.measured(|g, plane: &mut gwb_sys::Plane, refusal| unsafe { gwb_sys::gwb_lent_plane(g, face.0, plane, refusal) })
-            .map(Plane::from)
+        self.measured(|g, plane: &mut gwb_sys::Plane, why| unsafe { gwb_sys::gwb_lent_plane(g, face.0, plane, why) }).map(Plane::from)
     }
 
     /// Six times the volume of a solid.
@@ -194,52 +206,23 @@ impl Readers {
         found
     }
 
-    /// What is held of a face.
-    #[must_use]
-    pub fn face(&self, face: Face) -> Option<FaceRow> {
-        self.found(|g, row| unsafe { gwb_sys::gwb_lent_face(g, face.0, row) }).map(FaceRow::from)
-    }
-
-    /// What is held of an edge.
-    #[must_use]
-    pub fn edge(&self, edge: Edge) -> Option<EdgeRow> {
-        self.found(|g, row| unsafe { gwb_sys::gwb_lent_edge(g, edge.0, row) }).map(EdgeRow::from)
-    }
-
-    /// Where a vertex lies.
-    #[must_use]
-    pub fn vertex(&self, vertex: Vertex) -> Option<Point> {
-        self.found(|g, point| unsafe { gwb_sys::gwb_lent_vertex(g, vertex.0, point) }).map(Point::from)
-    }
-
-    /// The vertex of a loop that has one and no edge.
-    #[must_use]
-    pub fn lone_vertex(&self, of_loop: Loop) -> Option<Vertex> {
-        self.found(|g, vertex| unsafe { gwb_sys::gwb_lent_lone_vertex(g, of_loop.0, vertex) }).map(Vertex)
-    }
-
-    /// The half-edge after another in its loop.
-    #[must_use]
-    pub fn next(&self, half_edge: HalfEdge) -> Option<HalfEdge> {
-        self.half_edge(half_edge.code(), gwb_sys::gwb_lent_next_half_edge)
-    }
-
-    /// The half-edge before another in its loop.
-    #[must_use]
-    pub fn previous(&self, half_edge: HalfEdge) -> Option<HalfEdge> {
-        self.half_edge(half_edge.code(), gwb_sys::gwb_lent_previous_half_edge)
-    }
-
-    /// The loop in which a half-edge stands.
-    #[must_use]
-    pub fn loop_of(&self, half_edge: HalfEdge) -> Option<Loop> {
-        self.found(|g, of_loop| unsafe { gwb_sys::gwb_lent_half_edge_loop(g, half_edge.code(), of_loop) }).map(Loop)
-    }
-
-    /// The face of a loop.
-    #[must_use]
-    pub fn face_of_loop(&self, of_loop: Loop) -> Option<Face> {
-        self.found(|g, face| unsafe { gwb_sys::gwb_lent_loop(g, of_loop.0, face) }).map(Face)
+    finders! {
+        /// What is held of a face.
+        face(face: Face) -> FaceRow = gwb_lent_face(face.0), FaceRow::from;
+        /// What is held of an edge.
+        edge(edge: Edge) -> EdgeRow = gwb_lent_edge(edge.0), EdgeRow::from;
+        /// Where a vertex lies.
+        vertex(vertex: Vertex) -> Point = gwb_lent_vertex(vertex.0), Point::from;
+        /// The vertex of a loop that has one and no edge.
+        lone_vertex(of_loop: Loop) -> Vertex = gwb_lent_lone_vertex(of_loop.0), Vertex;
+        /// The half-edge after another in its loop.
+        next(half_edge: HalfEdge) -> HalfEdge = gwb_lent_next_half_edge(half_edge.code()), HalfEdge::from_code;
+        /// The half-edge before another in its loop.
+        previous(half_edge: HalfEdge) -> HalfEdge = gwb_lent_previous_half_edge(half_edge.code()), HalfEdge::from_code;
+        /// The loop in which a half-edge stands.
+        loop_of(half_edge: HalfEdge) -> Loop = gwb_lent_half_edge_loop(half_edge.code()), Loop;
+        /// The face of a loop.
+        face_of_loop(of_loop: Loop) -> Face = gwb_lent_loop(of_loop.0), Face;
     }
 
     /// The face on whose side a half-edge stands.
@@ -271,28 +254,20 @@ impl Readers {
     /// another in their order round it, the outer loop of each face before its rings, faces and rings rising.
     #[must_use]
     pub fn half_edge_rows(&self, solid: impl Into<Option<Solid>>) -> Vec<HalfEdgeRow> {
-        let solid = match number_of(solid) {
-            Some(solid) => solid,
-            None => return Vec::new(),
-        };
-        let rows = rows(|rows: *mut gwb_sys::HalfEdgeRow, room| unsafe { gwb_sys::gwb_read_half_edges(self.handle(), solid, rows, room) });
-        rows.into_iter().map(HalfEdgeRow::from).collect()
+        number_of(solid).map_or_else(Vec::new, |solid| values(|rows, room| unsafe { gwb_sys::gwb_read_half_edges(self.handle(), solid, rows, room) }))
     }
 
     /// Those of a face, loop by loop.
     #[must_use]
     pub fn face_rows(&self, face: Face) -> Vec<HalfEdgeRow> {
-        let rows = rows(|rows: *mut gwb_sys::HalfEdgeRow, room| unsafe {
-            gwb_sys::gwb_lent_half_edge_rows(&mut self.lent(), face.0, rows, room)
-        });
-        rows.into_iter().map(HalfEdgeRow::from).collect()
+        values(|rows, room| unsafe { gwb_sys::gwb_lent_half_edge_rows(&mut self.lent(), face.0, rows, room) })
     }
 
     /// All vertices with their points, rising.
     #[must_use]
     pub fn vertex_rows(&self) -> Vec<(Vertex, Point)> {
         let rows = rows(|rows: *mut gwb_sys::VertexRow, room| unsafe { gwb_sys::gwb_read_vertices(self.handle(), rows, room) });
-        rows.into_iter().map(|row| (Vertex(row.vertex), row.point.into())).collect()
+        rows.into_iter().map(|row| (Vertex(row.vertex), row.point)).collect()
     }
 
     /// The triangles of a flat face, by exact tests: their corners run counterclockwise as seen from outside. None where the face isn't there
@@ -312,14 +287,12 @@ impl Readers {
     /// # Errors
     /// [`Error::Memory`].
     pub fn triangle_rows(&self, solid: impl Into<Option<Solid>>) -> Result<Vec<(Face, [Vertex; 3])>, Error> {
-        let solid = match number_of(solid) {
-            Some(solid) => solid,
-            None => return Ok(Vec::new()),
-        };
-        let rings = |face| self.rings(face).count();
-        let rings: usize = if solid == 0 { self.numbers().map(rings).sum() } else { self.faces(Solid(solid)).map(rings).sum() };
-        let half_edges = unsafe { gwb_sys::gwb_read_half_edges(self.handle(), solid, NonNull::dangling().as_ptr(), 0) };
-        triangle_rows(half_edges + 2 * rings, |rows, room| unsafe { gwb_sys::gwb_read_triangles(self.handle(), solid, rows, room) })
+        number_of(solid).map_or(Ok(Vec::new()), |solid| {
+            let rings = |face| self.rings(face).count();
+            let rings: usize = if solid == 0 { self.numbers().map(rings).sum() } else { self.faces(Solid(solid)).map(rings).sum() };
+            let half_edges = unsafe { gwb_sys::gwb_read_half_edges(self.handle(), solid, NonNull::dangling().as_ptr(), 0) };
+            triangle_rows(half_edges + 2 * rings, |rows, room| unsafe { gwb_sys::gwb_read_triangles(self.handle(), solid, rows, room) })
+        })
     }
 
     /// The lines of what is recorded and held, those of an open draft too: none before [`record`](crate::Operators::record).
@@ -413,6 +386,11 @@ pub(crate) fn rows<T: Clone + Default>(write: impl Fn(*mut T, usize) -> usize) -
     rows
 }
 
+/// Values of all rows that a call writes.
+pub(crate) fn values<T: Clone + Default, V: From<T>>(write: impl Fn(*mut T, usize) -> usize) -> Vec<V> {
+    rows(write).into_iter().map(V::from).collect()
+}
+
 /// Numbers in use, rising: of a kind, the faces of a solid, or the rings of a face.
 #[derive(Clone)]
 #[must_use = "iterators do nothing unless they are gone through"]
@@ -437,11 +415,8 @@ impl<N: Id> Iterator for Numbers<'_, N> {
 
     fn next(&mut self) -> Option<N> {
         // SAFETY: as above.
-        let found = self.readers.found(|g, number| unsafe { (self.after)(g, self.owner, self.last, number) });
-        if let Some(number) = found {
-            self.last = number;
-        }
-        found.map(N::from_number)
+        self.last = self.readers.found(|g, number| unsafe { (self.after)(g, self.owner, self.last, number) })?;
+        Some(N::from_number(self.last))
     }
 
     fn size_hint(&self) -> (usize, Option<usize>) {

@@ -1,94 +1,56 @@
-//! What is held of each number, as values.
-use crate::{Face, HalfEdge, Loop, Solid, Vertex};
-use std::ops::{Add, Neg, Sub};
+//! What is held of each number, and what commands make, as values.
+use crate::{Edge, Face, HalfEdge, Loop, Solid, Vertex};
 
-pub use gwb_sys::Counts;
+pub use gwb_sys::{Counts, Point};
 
-/// A point, or a vector.
-#[derive(Clone, Copy, Debug, Default, PartialEq, Eq, PartialOrd, Ord, Hash)]
-#[repr(C)]
-#[allow(missing_docs)]
-pub struct Point {
-    pub x: i64,
-    pub y: i64,
-    pub z: i64,
-}
-
-impl From<[i64; 3]> for Point {
-    fn from([x, y, z]: [i64; 3]) -> Self {
-        Self { x, y, z }
-    }
-}
-
-impl From<Point> for [i64; 3] {
-    fn from(point: Point) -> Self {
-        [point.x, point.y, point.z]
-    }
-}
-
-impl From<gwb_sys::Point> for Point {
-    fn from(gwb_sys::Point { x, y, z }: gwb_sys::Point) -> Self {
-        Self { x, y, z }
-    }
-}
-
-/// The faces of a block: its top and bottom, where z is greatest and least, and its sides, where y is least, x greatest, y greatest, x least.
-#[derive(Clone, Copy, Debug, PartialEq, Eq)]
-#[allow(missing_docs)]
-pub struct Block {
-    pub top: Face,
-    pub bottom: Face,
-    pub sides: [Face; 4],
-}
-
-/// The faces of a lamina: round the front its points run counterclockwise as seen from outside.
-#[derive(Clone, Copy, Debug, PartialEq, Eq)]
-#[allow(missing_docs)]
-pub struct Lamina {
-    pub front: Face,
-    pub back: Face,
-}
-
-impl From<Point> for gwb_sys::Point {
-    fn from(Point { x, y, z }: Point) -> Self {
-        Self { x, y, z }
-    }
-}
-
-impl Add for Point {
-    type Output = Self;
-
-    fn add(self, by: Self) -> Self {
-        Self { x: self.x + by.x, y: self.y + by.y, z: self.z + by.z }
-    }
-}
-
-impl Neg for Point {
-    type Output = Self;
-
-    fn neg(self) -> Self {
-        Self { x: -self.x, y: -self.y, z: -self.z }
-    }
-}
-
-impl Sub for Point {
-    type Output = Self;
-
-    fn sub(self, by: Self) -> Self {
-        self + -by
-    }
-}
-
-macro_rules! rows {
-    ($($(#[$doc:meta])* $name:ident { $($(#[$field_doc:meta])* $field:ident: $of:ident),+ })+) => {
+/// Makes structs whose fields are open to all. Where `Copy` stands in the brackets they have it, and `Hash`.
+macro_rules! values {
+    ($($(#[$doc:meta])* $name:ident [$($trait:ident)?] { $($(#[$field_doc:meta])* $field:ident: $of:ty),+ $(,)? })+) => {
         $(
             $(#[$doc])*
-            #[derive(Clone, Copy, Debug, Default, PartialEq, Eq, Hash)]
+            #[derive(Clone, Debug, PartialEq, Eq)]
+            $(#[derive($trait, Hash)])?
             #[allow(missing_docs)]
             pub struct $name {
                 $($(#[$field_doc])* pub $field: $of),+
             }
+        )+
+    };
+}
+pub(crate) use values;
 
+values! {
+    /// The faces of a block: its top and bottom, where z is greatest and least, and its sides, where y is least, x greatest, y greatest, x least.
+    Block [Copy] { top: Face, bottom: Face, sides: [Face; 4] }
+    /// The faces of a lamina: round the front its points run counterclockwise as seen from outside.
+    Lamina [Copy] { front: Face, back: Face }
+    /// What is made by [`mvfs`](crate::Operators::mvfs).
+    NewSolid [Copy] { solid: Solid, face: Face, of_loop: Loop, vertex: Vertex }
+    /// What is made by [`mef`](crate::Operators::mef).
+    NewFace [Copy] { edge: Edge, face: Face, of_loop: Loop }
+    /// The plane of a face: a x + b y + c z + d is 0 on it. (a, b, c) is as long as twice the face's area, and points out of a solid that isn't
+    /// inside out.
+    Plane [Copy] {
+        a: i128,
+        b: i128,
+        c: i128,
+        d: i128,
+        /// Whether all vertices of the face lie on the plane.
+        flat: bool
+    }
+}
+
+impl From<gwb_sys::Plane> for Plane {
+    fn from(wide: gwb_sys::Plane) -> Self {
+        Self { a: wide.a.into(), b: wide.b.into(), c: wide.c.into(), d: wide.d.into(), flat: wide.flat != 0 }
+    }
+}
+
+/// Makes values of rows of the same name and fields that the library writes.
+macro_rules! rows {
+    ($($(#[$doc:meta])* $name:ident { $($(#[$field_doc:meta])* $field:ident: $of:ident),+ })+) => {
+        values! { $($(#[$doc])* #[derive(Default)] $name [Copy] { $($(#[$field_doc])* $field: $of),+ })+ }
+        $(
             impl From<gwb_sys::$name> for $name {
                 fn from(row: gwb_sys::$name) -> Self {
                     Self { $($field: $of(row.$field)),+ }
@@ -118,42 +80,4 @@ rows! {
         of_loop: Loop,
         face: Face
     }
-}
-
-/// The plane of a face: a x + b y + c z + d is 0 on it. (a, b, c) is as long as twice the face's area, and points out of a solid that isn't
-/// inside out.
-#[derive(Clone, Copy, Debug, PartialEq, Eq, Hash)]
-#[allow(missing_docs)]
-pub struct Plane {
-    pub a: i128,
-    pub b: i128,
-    pub c: i128,
-    pub d: i128,
-    /// Whether all vertices of the face lie on the plane.
-    pub flat: bool,
-}
-
-impl From<gwb_sys::Plane> for Plane {
-    fn from(wide: gwb_sys::Plane) -> Self {
-        Self { a: wide.a.into(), b: wide.b.into(), c: wide.c.into(), d: wide.d.into(), flat: wide.flat != 0 }
-    }
-}
-
-/// What is made by [`mvfs`](crate::Operators::mvfs).
-#[derive(Clone, Copy, Debug, PartialEq, Eq, Hash)]
-#[allow(missing_docs)]
-pub struct NewSolid {
-    pub solid: Solid,
-    pub face: Face,
-    pub of_loop: Loop,
-    pub vertex: Vertex,
-}
-
-/// What is made by [`mef`](crate::Operators::mef).
-#[derive(Clone, Copy, Debug, PartialEq, Eq, Hash)]
-#[allow(missing_docs)]
-pub struct NewFace {
-    pub edge: crate::Edge,
-    pub face: Face,
-    pub of_loop: Loop,
 }

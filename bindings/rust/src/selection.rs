@@ -57,14 +57,12 @@ impl Readers {
     /// [`Error::Refused`] with `NoSolid`; [`Error::NoCall`] where a plane or a direction is zero, or part of a ratio is; [`Error::Memory`];
     /// [`Error::Stopped`].
     pub fn find_faces(&self, query: &FaceQuery) -> Result<Vec<Face>, Error> {
-        let plane = query.plane.map(|[a, b, c, d]| CutPlane { a, b, c, d });
-        let (normal, containing): (Option<gwb_sys::Point>, Option<gwb_sys::Point>) = (query.normal.map(Into::into), query.containing.map(Into::into));
-        let area = ratio(query.area);
+        let (plane, area) = (query.plane.map(CutPlane::from), ratio(query.area));
         let row = gwb_sys::FaceQuery {
             solid: query.solid.map_or(0, |solid| solid.0),
             plane: pointer(&plane),
-            normal: pointer(&normal),
-            containing: pointer(&containing),
+            normal: pointer(&query.normal),
+            containing: pointer(&query.containing),
             area: pointer(&area),
         };
         let found = self.sought(|g, buf, room, count, why| unsafe { gwb_sys::gwb_find_faces(g, &row, buf, room, count, why) })?;
@@ -76,12 +74,11 @@ impl Readers {
     /// # Errors
     /// As [`find_faces`](Self::find_faces), and `NoFace`.
     pub fn find_edges(&self, query: &EdgeQuery) -> Result<Vec<Edge>, Error> {
-        let along: Option<gwb_sys::Point> = query.along.map(Into::into);
         let length = ratio(query.length);
         let row = gwb_sys::EdgeQuery {
             solid: query.solid.map_or(0, |solid| solid.0),
             between: query.between.map_or([0; 2], |faces| faces.map(|face| face.0)),
-            along: pointer(&along),
+            along: pointer(&query.along),
             length: pointer(&length),
         };
         let found = self.sought(|g, buf, room, count, why| unsafe { gwb_sys::gwb_find_edges(g, &row, buf, room, count, why) })?;

@@ -7,6 +7,7 @@
 #![allow(clippy::missing_safety_doc)] // all of it is in gwb.h
 
 use core::ffi::c_void;
+use core::ops::{Add, Neg, Sub};
 
 /// The first number of the version times 10,000, the second times 100, and the third: the version of the library that these calls are of.
 pub const VERSION: u32 = 30_000;
@@ -190,6 +191,7 @@ rows! {
         to: u32
     }
     /// A point, or a vector.
+    #[derive(PartialOrd, Ord)]
     Point { x: i64, y: i64, z: i64 }
     /// A half-edge, and where it stands.
     HalfEdgeRow {
@@ -226,6 +228,48 @@ rows! {
         face: u32,
         /// Vertices, counterclockwise as seen from outside.
         corners: [u32; 3]
+    }
+}
+
+impl From<[i64; 3]> for Point {
+    fn from([x, y, z]: [i64; 3]) -> Self {
+        Self { x, y, z }
+    }
+}
+
+impl From<Point> for [i64; 3] {
+    fn from(point: Point) -> Self {
+        [point.x, point.y, point.z]
+    }
+}
+
+impl Add for Point {
+    type Output = Self;
+
+    fn add(self, by: Self) -> Self {
+        Self { x: self.x + by.x, y: self.y + by.y, z: self.z + by.z }
+    }
+}
+
+impl Neg for Point {
+    type Output = Self;
+
+    fn neg(self) -> Self {
+        Self { x: -self.x, y: -self.y, z: -self.z }
+    }
+}
+
+impl Sub for Point {
+    type Output = Self;
+
+    fn sub(self, by: Self) -> Self {
+        self + -by
+    }
+}
+
+impl From<[i64; 4]> for CutPlane {
+    fn from([a, b, c, d]: [i64; 4]) -> Self {
+        Self { a, b, c, d }
     }
 }
 
