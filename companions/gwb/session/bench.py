@@ -2,9 +2,8 @@
 
 import sys
 import warnings
-from typing import Dict, Iterable, List, Optional, Sequence, Tuple
+from typing import Iterable, List, Optional, Tuple
 
-from ..formats.appearance import Appearance, Thing
 from ..geometry.model import Model
 from ..geometry.plane_figures import Exact
 from . import arguments
@@ -27,8 +26,6 @@ class Bench:
         self.kernel = Kernel(find_path() if library is None else arguments.path('library', library), size)
         self.numbers = self.kernel.numbers
         self.features = FeatureCalls(self.kernel)
-
-    # Arguments
 
     def number(self, name: str, value: object, kind: str = '') -> int:
         """The number of a thing of the kind, by default the one that the argument is named after, as the language reads it: 0 to 4,294,967,295. Those
@@ -90,13 +87,6 @@ class Bench:
         self.kernel.lines.require_open()
         return self.numbers.next(kind)
 
-    # Labels
-
-    @property
-    def labels(self) -> Dict[Thing, Appearance]:
-        """The labels of what is there."""
-        return self.kernel.labels()
-
     def label_alike(self, kind: str, others: Iterable[Tuple[int, int]]) -> None:
         """Of each pair of solids or faces the second one gets the label that the first one has, if it has one."""
         looks = {(kind, other): self.kernel.notes.labels.get((kind, number)) for number, other in others}
@@ -104,25 +94,17 @@ class Bench:
             if look:
                 self.kernel.notes.put(thing, look)
 
-    # Steps
-
     def step(self) -> Block:
         """The commands given in it are one command, or in a draft part of it. Where one isn't accepted, all is as before."""
         return Block(self.kernel, False)
-
-    # What is held
 
     def solid_of(self, face: int) -> int:
         """The solid of a face. Refused: NoFace."""
         return FacePart(self.kernel, face).solid.number
 
-    def model_of(self, faces: Sequence[int]) -> Model:
-        """The model of these faces alone, which are there."""
-        return self.kernel.lines.model(faces)
-
     def solid_model(self, solid: int) -> Model:
         """The model of one solid. Refused: NoSolid."""
-        return self.model_of([face.number for face in SolidPart(self.kernel, solid).faces])
+        return self.kernel.lines.model([face.number for face in SolidPart(self.kernel, solid).faces])
 
 
 class Methods:

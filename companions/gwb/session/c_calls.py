@@ -47,7 +47,7 @@ _READERS: Dict[str, Tuple[Any, List[Any]]] = {
     'edge': (WORD, [WORD, ctypes.POINTER(EdgeRow)]), 'vertex': (WORD, [WORD, _POINT]), 'fresh': (WORD, [WORD, ctypes.POINTER(Range)])}
 # The same of the other calls.
 _CALLS: Dict[str, Tuple[Any, List[Any]]] = {
-    'open': (ctypes.c_bool, []), 'close': (None, []), 'line': (WORD, [_TEXT, SIZE]), 'lines': (WORD, [_TEXT, SIZE, ctypes.POINTER(SIZE)]),
+    'open': (ctypes.c_bool, []), 'close': (None, []), 'line': (WORD, [_TEXT, SIZE]),
     **dict.fromkeys(('draft', 'commit', 'abandon', 'record'), (WORD, [])), 'back': (WORD, [SIZE]), 'recorded': (SIZE, []),
     'script': (SIZE, [SIZE, SIZE, _TEXT, SIZE]), 'greatest_number': (SIZE, [WORD]), 'stop_by': (None, [ADDRESS, ADDRESS]),
     'read_vertices': (SIZE, [ADDRESS, SIZE]), **dict.fromkeys(('read_half_edges', 'read_triangles'), (SIZE, [WORD, ADDRESS, SIZE])),

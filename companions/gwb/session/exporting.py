@@ -43,7 +43,7 @@ class Exporting(Methods):
     @property
     def labels(self) -> Appearances:
         """The names and colours that were given, by kind and number."""
-        return MappingProxyType(self._bench.labels)
+        return MappingProxyType(self._bench.kernel.labels())
 
     def label(self, thing: Union[SolidPart, FacePart, arguments.MadeSolid], name: str = '', colour: str = '') -> None:
         """Gives a solid, or what a command returned that made it, or a face a name, and a colour such as '#FF8000'; with neither what it had is
@@ -66,7 +66,7 @@ class Exporting(Methods):
 
     def page(self) -> str:
         """A page in HTML to turn the model and to pick from it, as `gwb-view` makes it, with the labels."""
-        return _page(self._bench.kernel.listing(), self._bench.labels, self.unit)
+        return _page(self._bench.kernel.listing(), self._bench.kernel.labels(), self.unit)
 
     def export(self, path: arguments.Path) -> None:
         """Writes what is held to a file, by the ending of its name: .step or .stp, .3mf, .glb, .obj (colours in a .mtl beside it), .off, .stl, .html.
@@ -82,7 +82,7 @@ class Exporting(Methods):
             raise Unfit(f'{file.name}: no solid is held, so there is nothing to write')
         if file.suffix.lower() in ('.off', '.stl'):
             _warn_of_touching(model, file.suffix)
-        data = write(_Held(model, self._bench.labels, self.unit), file)
+        data = write(_Held(model, self._bench.kernel.labels(), self.unit), file)
         file.write_bytes(data)
 
     def import_file(self, path: arguments.Path, *, form: str = '', scale: Exact = 1, rounded: bool = False, keep_triangles: bool = False,

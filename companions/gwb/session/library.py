@@ -5,7 +5,7 @@ import os
 import re
 from ctypes.util import find_library
 from pathlib import Path
-from typing import Any, Callable, Dict, Iterable, Iterator, List, Optional, Sequence, Tuple, Type
+from typing import Any, Callable, Dict, Iterable, Iterator, Optional, Tuple, Type
 
 from ..errors import CompanionError, Ended, InDraft, NoDraft, ProgramMissing
 from ..geometry.free_numbers import KINDS, from_least
@@ -125,7 +125,10 @@ class Library:
         self._taken_back += first_word(data) in ('undo', 'redo')
         said = self.library.line(self.handle, data, len(data))
         self.require_answer(said)
-        return ACCEPTED if said == OK else only_reply(self._text().decode('ascii').split('\n')[:-1])
+        if said == OK:
+            return ACCEPTED
+        text: bytes = filled(ctypes.c_char, _ROOM, lambda buffer, room: int(self.library.reply(self.handle, buffer, room)))
+        return only_reply(text.decode('ascii').split('\n')[:-1])
 
     def asked(self, line: str) -> Reply:
         """The reply to a line. A complaint is raised."""
@@ -133,15 +136,6 @@ class Library:
         if reply.is_complaint:
             raise complaint(line, reply)
         return reply
-
-    def give(self, lines: Sequence[str]) -> None:
-        """Gives operators as lines, one after another. A complaint is raised at the first that isn't accepted."""
-        text, given = '\n'.join(lines).encode(), SIZE()
-        self.require_open()
-        said = self.library.lines(self.handle, text, len(text), given) if lines else OK
-        self.require_answer(said)
-        if said != OK:
-            raise complaint(lines[given.value - 1], only_reply(self._text().decode('ascii').split('\n')[:-1]))
 
     def require_answer(self, said: int) -> None:
         """Raises what a kind of answer stands for that is none to a command."""
@@ -300,11 +294,6 @@ class Library:
         while number is not None:
             yield number
             number = self._number(name, of, number)
-
-    def _text(self) -> bytes:
-        """The text of the last answer, its newlines included."""
-        text: bytes = filled(ctypes.c_char, _ROOM, lambda buffer, room: int(self.library.reply(self.handle, buffer, room)))
-        return text
 
 
 def filled(kind: Any, room: int, write: Callable[[Any, int], int]) -> Any:

@@ -79,7 +79,7 @@ class Measuring(Methods):
         numbers = [self._bench.number(name, face, 'face') for name, face in faces.items()]
         for number in numbers:
             FacePart(self._bench.kernel, number).loops
-        return (self._bench.model_of(numbers), *numbers)
+        return (self._bench.kernel.lines.model(numbers), *numbers)
 
     def _edge(self, edge: arguments.Edge) -> Tuple[Model, int]:
         """The edge alone, and its number. Refused: NoEdge."""

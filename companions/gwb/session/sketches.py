@@ -51,7 +51,7 @@ def sketch_on(bench: Bench, face: int, origin: Optional[Vector], right: Optional
     Refused: NoFace; NotFlat; NotInPlane: the origin or the direction lies off the plane, or no axis lies in it; OffLattice: no whole vector so long
     leads up."""
     points = FacePart(bench.kernel, face).points
-    why = why_unfit(bench.model_of([face]), face)
+    why = why_unfit(bench.kernel.lines.model([face]), face)
     if why is not None:
         raise Impossible('NotFlat', face, why)
     across, start = reduced(FacePart(bench.kernel, face).normal), origin or min(points)

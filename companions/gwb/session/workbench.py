@@ -115,7 +115,7 @@ class Workbench(SolidMethods, Cutting, FeatureMethods, Commands, Selecting, Meas
         """Writes the script to a file. Comments in it say which commands are one step, the unit, and the labels, so that `load` knows them
         again."""
         file = Path(arguments.path('path', path))
-        lines = [*saved_lines(self._bench.kernel), *comments(self._bench.labels)]
+        lines = [*saved_lines(self._bench.kernel), *comments(self._bench.kernel.labels())]
         file.write_text(''.join(f'{line}\n' for line in lines), encoding='ascii')
 
     @classmethod
