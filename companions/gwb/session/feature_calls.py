@@ -1,6 +1,5 @@
 """The calls of gwb_features.h. Each is one command of the library, or steps of the draft that is open; a complaint is raised, and nothing has changed."""
 
-import ctypes
 from fractions import Fraction
 from typing import Any, List, NamedTuple, Sequence, Tuple
 

@@ -7,28 +7,27 @@ import ctypes
 from dataclasses import dataclass, field
 from fractions import Fraction
 from functools import reduce
-from typing import Any, Dict, List, Mapping, Optional, Sequence, Tuple
+from typing import Any, Dict, List, Mapping, Sequence, Tuple
 
 from ..geometry.flat_face import ExactVector
 from ..geometry.free_numbers import renumbered
 from ..geometry.model import Model
-from ..geometry.moved import FARTHEST, Change, Displaced, changed, turning
+from ..geometry.moved import FARTHEST, Change, Displaced, changed
 from ..geometry.outlines import Impossible
-from ..geometry.vectors import ZERO, Vector
+from ..geometry.vectors import ZERO
 from . import arguments
 from .bench import Bench
 from .c_calls import EDGES, FACES, LOOPS, SOLIDS, VERTICES, Motion, Point
 from .reading import Found, Part
 from .results import Renumbered
 
-AXES = ('x', 'y', 'z')
-
 
 @dataclass(frozen=True)
 class Copy:
     """A copy of a solid: its number, and for each face, loop, edge and vertex of the original, by its number, that of the copy.
 
-    What is asked for its copy is a number or a thing of the same workbench, else a ValueError says so. KeyError: the original has no such thing."""
+    What is asked for its copy is a number or a thing of the same workbench, else a ValueError or TypeError says so. KeyError: the original has no such
+    thing."""
 
     solid: int
     faces: Mapping[int, int]
