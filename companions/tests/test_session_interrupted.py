@@ -245,6 +245,31 @@ class Interrupted(unittest.TestCase):
             bench.undo()
             return interrupter.has_come
 
+    def test_a_group_left_at_its_begin_or_its_end_leaves_what_can_be_redone(self):
+        with Workbench(library()) as bench, mock.patch.object(sys, 'unraisablehook'):
+            for place in (0, 5):
+                bench.block((place, 0, 0), (2, 2, 2))
+            bench.undo()
+            bench.undo()
+            line = 1
+            while copy_context().run(self.leave_a_group, bench, line):
+                line += 2
+            self.assertGreater(line, 100)
+            bench.redo()
+            bench.redo()
+            self.assertEqual(len(bench.solids()), 2)
+
+    def leave_a_group(self, bench, line):
+        """Whether a group in which nothing is given came to the line. The model is empty still."""
+        interrupter = Interrupter(line)
+        try:
+            with interrupter, bench.group():
+                pass
+        except Left:
+            pass
+        self.assertEqual((bench.script(), len(bench.solids())), ('', 0), line)
+        return interrupter.has_come
+
     def test_a_handler_that_gives_a_call_in_a_call(self):
         with Workbench(library()) as bench:
             bench.block((0, 0, 0), (2, 2, 2))

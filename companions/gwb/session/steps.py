@@ -155,7 +155,10 @@ def _ahead(kernel: Kernel) -> List[str]:
             kernel.lines.asked('redo')
             found.append(kernel.lines.script(kernel.lines.depth - 1, 1))
     finally:
-        kernel.go_to(before)
+        try:
+            kernel.go_to(before)
+        finally:
+            kernel.go_to(before)    # (where an exception came on the way)
     return found
 
 
@@ -163,9 +166,10 @@ class Block:
     """What a `with` statement holds: a draft or a group, or a part of a draft that is open. It is used once. Where an exception comes before its end
     has begun, it ends when nothing refers to it any more."""
 
+    _work: Optional[_Draft] = None
+
     def __init__(self, kernel: Kernel, is_group: bool) -> None:
         self._kernel, self._is_group = kernel, is_group
-        self._work: Optional[_Draft] = None
 
     def __enter__(self) -> None:
         kernel = self._kernel
