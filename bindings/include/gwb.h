@@ -704,7 +704,7 @@ enum gwb_kind gwb_compare(gwb *g);
  *
  * A new face was split from the one that had a half-edge of it, or else an edge along one of its own from the same vertex, if it lies in that face's plane
  * and looks the same way. A new edge was split from the one that ran along it from the same vertex. A face that is gone was joined to the one that has a
- * half-edge of it, and an edge to the one that runs along it.
+ * half-edge of it, and an edge to the one that runs along it. A number that went and came again in between is taken for what it was.
  * @return how many there are */
 size_t gwb_compared(const gwb *g, uint32_t entity, bool is_made, gwb_change *rows, size_t room);
 

@@ -92,7 +92,8 @@ private:
 };
 
 /// Values on faces or on edges, which follow what becomes of them: a part that was split off has a copy of the value; what is gone has none, and has
-/// it back where undo or redo of the command by which it went makes it again. A copy of a solid has the values that copied() gives it.
+/// it back where undo or redo of the command by which it went makes it again. A copy of a solid has the values that copied() gives it. What goes and gets
+/// its number again within one follow() keeps its value, so such commands are followed one by one.
 template <class Kind, class Value> class Notes {
 public:
     /// The value of a number, which is made where it has none.
