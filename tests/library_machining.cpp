@@ -749,6 +749,11 @@ static void try_queries()
     const Attempts attempt = bench.attempt();
     check(find_faces(attempt, {Solid(9), {}, {}, {}, {}}).error().is(GWB_WHY_NO_SOLID), "faces of no solid");
     check(find_edges(attempt, {Solid(9), {}, {}, {}}).error().is(GWB_WHY_NO_SOLID), "edges of no solid");
+    check(find_faces(attempt, {Solid(), {}, {}, {}, {}}).error().is(GWB_WHY_NO_SOLID) && find_edges(attempt, {Solid(), {}, {}, {}}).error().is(GWB_WHY_NO_SOLID),
+          "a solid that nothing was given");
+    check(find_edges(attempt, {{}, {{Face(), Face()}}, {}, {}}).error().problem == Problem::no_call, "faces that nothing was given");
+    Attempts changing = attempt;
+    check(pattern(changing, wedge.solid, UINT32_MAX, {9, 9, 9}).error().is(GWB_WHY_NUMBERS_SPENT), "more solids than there are numbers");
     check(find_edges(attempt, {{}, {{Face(1), Face(99)}}, {}, {}}).error().is(GWB_WHY_NO_FACE), "edges of no face");
     check(find_faces(attempt, {{}, {}, Point{0, 0, 0}, {}, {}}).error().problem == Problem::no_call, "no direction");
     check(find_faces(attempt, {{}, CutPlane{0, 0, 0, 1}, {}, {}, {}}).error().problem == Problem::no_call, "no plane");

@@ -147,7 +147,8 @@ template <class Policy> Solid next_solid(Commands<Policy> &bench) { return bench
 template <class Policy, class Call, class... All>
 Answer<Policy, std::vector<Solid>> row(Commands<Policy> &bench, const char *command, Call call, Solid solid, std::uint32_t count, All... arguments)
 {
-    Room<Solid> made(count > 0 ? count - 1 : 0);
+    constexpr std::uint32_t most_solids = 1'000'000; // more are refused before any is written
+    Room<Solid> made(count > 0 && count <= most_solids ? count - 1 : 0);
     return give(bench, command, [&] { return made.take(); }, call, solid.number(), count, arguments..., made.to());
 }
 
@@ -435,15 +436,21 @@ Answer<Policy, std::vector<Kind>> found(const Commands<Policy> &bench, const cha
 /// The faces that are sought, rising. Refused: NoSolid. NoCall where a plane or a direction is zero.
 template <class Policy> Answer<Policy, std::vector<Face>> find_faces(const Commands<Policy> &bench, const FaceQuery &query)
 {
+    if (query.solid == Solid()) // (for gwb_find_faces that would be any)
+        return Policy::template failed<std::vector<Face>>("find_faces", {Problem::refused, GWB_WHY_NO_SOLID, 0});
     const gwb_face_query row = {query.solid.value_or(Solid()).number(), features::pointer(query.plane), features::pointer(query.normal),
                                 features::pointer(query.containing), features::pointer(query.area)};
     return features::found<Face>(bench, "find_faces", row, gwb_find_faces);
 }
 
-/// The edges that are sought, rising. Refused: NoFace; NoSolid. NoCall where a direction is zero.
+/// The edges that are sought, rising. Refused: NoFace; NoSolid. NoCall where a direction or a face is zero.
 template <class Policy> Answer<Policy, std::vector<Edge>> find_edges(const Commands<Policy> &bench, const EdgeQuery &query)
 {
     const auto [one, other] = query.between.value_or(std::pair<Face, Face>());
+    if (query.solid == Solid()) // (for gwb_find_edges these would be any)
+        return Policy::template failed<std::vector<Edge>>("find_edges", {Problem::refused, GWB_WHY_NO_SOLID, 0});
+    if (query.between && one == Face())
+        return Policy::template failed<std::vector<Edge>>("find_edges", {Problem::no_call});
     const gwb_edge_query row = {query.solid.value_or(Solid()).number(), {one.number(), other.number()}, features::pointer(query.along),
                                 features::pointer(query.length)};
     return features::found<Edge>(bench, "find_edges", row, gwb_find_edges);

@@ -219,6 +219,7 @@ class Things(unittest.TestCase):
         moved = bench.copy(first, move=(0, 0, 10))
         self.assertEqual(moved.of(bench.face(first.top)), bench.face(moved.face(first.top)))
         self.assertEqual(moved.of(bench.solid(first)), bench.solid(moved.solid))
+        self.assertRaisesRegex(TypeError, '^part: a thing of the model is wanted', moved.of, first)
         for part in (bench.solid(second), bench.face(second.top), bench.edge(second.edges[0]), bench.vertex(second.vertices[0])):
             self.assertRaises(KeyError, moved.of, part)
         self.assertRaisesRegex(TypeError, '^part: a thing of the model is wanted, not the int 3$', moved.of, 3)
@@ -227,6 +228,11 @@ class Things(unittest.TestCase):
             for part in (other.solid(first), other.face(first.top), other.edge(first.edges[0])):
                 self.assertRaisesRegex(ValueError, ' of another workbench$', moved.of, part)
             self.assertRaisesRegex(ValueError, ' of another workbench$', moved.face, other.face(first.top))
+
+    def test_zero_is_no_number_to_be_found(self):
+        for call in (lambda: self.bench.faces(solid=0), lambda: self.bench.edges(solid=0), lambda: self.bench.edges(between=(0, 0)),
+                     lambda: self.bench.edges(between=(0, 1))):
+            self.assertRaisesRegex(ValueError, '^(solid|between): 0 is below 1$', call)
 
     def test_a_row_of_more_solids_than_there_are_numbers(self):
         self.assertRaisesRegex(Refused, '^NumbersSpent: ', self.bench.pattern, 1, 10 ** 9, (0, 0, 60))

@@ -364,7 +364,7 @@ impl Readers {
 }
 
 /// The number of a solid, 0 for all where none is given; none for the solid 0, which is never there.
-fn number_of(solid: impl Into<Option<Solid>>) -> Option<u32> {
+pub(crate) fn number_of(solid: impl Into<Option<Solid>>) -> Option<u32> {
     solid.into().map_or(Some(0), |solid| Some(solid.0).filter(|&number| number != 0))
 }
 

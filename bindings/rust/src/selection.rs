@@ -1,4 +1,5 @@
 //! Faces and edges by where they lie, exactly.
+use crate::readers::number_of;
 use crate::{Edge, Error, Face, Point, Readers, Solid};
 use gwb_sys::{kind, CutPlane, Gwb, Ratio, Refusal};
 use std::ptr::null;
@@ -49,6 +50,11 @@ fn ratio(parts: Option<[u64; 2]>) -> Option<Ratio> {
     parts.map(|[numerator, denominator]| Ratio { numerator, denominator })
 }
 
+/// The number of a solid for a query, 0 for all where none is given.
+fn sought_in(solid: Option<Solid>) -> Result<u32, Error> {
+    number_of(solid).ok_or(Error::Refused { refusal: crate::Refusal::NoSolid, value: 0 })
+}
+
 // SAFETY, for all calls in this file: as in readers.rs; what a query points to lives until the call returns.
 impl Readers {
     /// The faces that are sought, rising.
@@ -59,7 +65,7 @@ impl Readers {
     pub fn find_faces(&self, query: &FaceQuery) -> Result<Vec<Face>, Error> {
         let (plane, area) = (query.plane.map(CutPlane::from), ratio(query.area));
         let row = gwb_sys::FaceQuery {
-            solid: query.solid.map_or(0, |solid| solid.0),
+            solid: sought_in(query.solid)?,
             plane: pointer(&plane),
             normal: pointer(&query.normal),
             containing: pointer(&query.containing),
@@ -75,8 +81,11 @@ impl Readers {
     /// As [`find_faces`](Self::find_faces), and `NoFace`.
     pub fn find_edges(&self, query: &EdgeQuery) -> Result<Vec<Edge>, Error> {
         let length = ratio(query.length);
+        if query.between.map_or(false, |faces| faces.contains(&Face(0))) {
+            return Err(Error::NoCall); // (for the call two of them would be any)
+        }
         let row = gwb_sys::EdgeQuery {
-            solid: query.solid.map_or(0, |solid| solid.0),
+            solid: sought_in(query.solid)?,
             between: query.between.map_or([0; 2], |faces| faces.map(|face| face.0)),
             along: pointer(&query.along),
             length: pointer(&length),

@@ -1,7 +1,7 @@
 //! A session from outside: what commands make, what refuses them, and what readers find.
 use gwb::{
-    lone, minus, plus, version, Change, Draft, Edge, EdgeRow, Error, Face, FaceRow, HalfEdge, Heap, Loop, Motion, Notes, Operators, Plane, Point,
-    Refusal, Session, Solid, Vertex,
+    lone, minus, plus, version, Change, Draft, Edge, EdgeQuery, EdgeRow, Error, Face, FaceQuery, FaceRow, HalfEdge, Heap, Loop, Motion, Notes, Operators,
+    Plane, Point, Refusal, Session, Solid, Vertex,
 };
 use std::cell::Cell;
 use std::ffi::c_void;
@@ -485,6 +485,16 @@ fn what_is_made_has_names() {
     assert_eq!((copy.face(Face(999)), session.half_edge_rows(Solid(0)).len(), session.triangle_rows(Solid(0))), (None, 0, Ok(vec![])));
     session.lamina(None, &[[20, 0, 0], [24, 0, 0], [20, 4, 0]]).unwrap();
     assert!(session.last_lamina().map_or(false, |sheet| normal(&session, sheet.front) == 1));
+}
+
+#[test]
+fn zero_is_no_number_to_be_found() {
+    let mut session = block();
+    let (faces, edges) = (FaceQuery { solid: Some(Solid(0)), ..FaceQuery::default() }, EdgeQuery { solid: Some(Solid(0)), ..EdgeQuery::default() });
+    assert_eq!((session.find_faces(&faces), session.find_edges(&edges)), (refused(Refusal::NoSolid, 0), refused(Refusal::NoSolid, 0)));
+    let between = EdgeQuery { between: Some([Face(0); 2]), ..EdgeQuery::default() };
+    assert_eq!(session.find_edges(&between), Err(Error::NoCall));
+    assert_eq!(session.pattern(Solid(1), u32::MAX, [9, 0, 0]), refused(Refusal::NumbersSpent, 1));
 }
 
 #[test]

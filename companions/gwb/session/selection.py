@@ -1,7 +1,7 @@
 """Finding things of the model by where they lie, exactly."""
 
 from ctypes import pointer
-from typing import Optional, Tuple
+from typing import List, Optional, Tuple
 
 from ..geometry.plane_figures import Exact
 from . import arguments
@@ -44,7 +44,7 @@ class Selecting(Methods):
         """The faces that fit: of the solid; wholly in the plane a x + b y + c z + d = 0, four numbers or what `plane` returns, whichever way
         they look; flat, and looking the way of the normal; flat, with the point inside or on the outline; flat, and so large, exactly."""
         query = FaceQuery(
-            solid=0 if solid is None else self._bench.number('solid', solid),
+            solid=self._sought_in(solid),
             plane=None if plane is None else pointer(CutPlane(*arguments.plane_across('plane', plane))),
             normal=None if normal is None else pointer(Point(*arguments.vector('normal', normal))),
             containing=None if containing is None else pointer(Point(*arguments.point('containing', containing))),
@@ -56,12 +56,20 @@ class Selecting(Methods):
               along: Optional[arguments.Point] = None, length: Optional[Exact] = None) -> 'Selection[EdgePart]':
         """The edges that fit: of the solid; between two faces; along the vector, one way or the other; so long, exactly."""
         query = EdgeQuery(
-            solid=0 if solid is None else self._bench.number('solid', solid),
-            between=(WORD * 2)(*([] if between is None else self._bench.pair('between', between, 'face'))),
+            solid=self._sought_in(solid),
+            between=(WORD * 2)(*([] if between is None else self._faces_sought(between))),
             along=None if along is None else pointer(Point(*arguments.vector('along', along))),
             length=None if length is None else pointer(ratio(arguments.factor('length', length))))
         wanted = _wanted(solid=solid, between=between, along=along, length=length)
         return Selection('edge', wanted, [EdgePart(self._bench.kernel, number) for number in self._bench.features.find('find_edges', query)])
+
+    def _faces_sought(self, pair: Tuple[arguments.Face, arguments.Face]) -> List[int]:
+        """The numbers of two faces for a query, in which 0 stands for any."""
+        return [arguments.positive('between', face) for face in self._bench.pair('between', pair, 'face')]
+
+    def _sought_in(self, solid: Optional[arguments.Solid]) -> int:
+        """The number of a solid for a query, in which 0 stands for all."""
+        return 0 if solid is None else arguments.positive('solid', self._bench.number('solid', solid))
 
     def vertices(self, *, solid: Optional[arguments.Solid] = None, at: Optional[arguments.Point] = None) -> 'Selection[VertexPart]':
         """The vertices of the solid, or all; `at` a point."""
