@@ -169,9 +169,9 @@ def cpp_fields(name: str) -> Arguments:
 
 
 def rust_fields(name: str) -> Arguments:
-    """Those of one in Rust."""
-    body = re.search(rf'^pub struct {name} \{{\n(.*?)^\}}', text_of(*RUST_FILES), re.MULTILINE | re.DOTALL)
-    return tuple(RUST_FIELDS.get(field, field) for field in re.findall(r'^    pub (\w+):', body.group(1) if body else '', re.MULTILINE))
+    """Those of one in Rust, by its row of `values!`."""
+    row = re.search(rf'^    {name} \[\w*\] \{{ (.*) \}}$', text_of(*RUST_FILES), re.MULTILINE)
+    return tuple(RUST_FIELDS.get(field, field) for field in re.findall(r'(\w+): ', row.group(1) if row else ''))
 
 
 def python_fields(name: str) -> Arguments:
