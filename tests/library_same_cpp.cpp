@@ -376,7 +376,8 @@ private:
         const auto solid = words.name<Solid>();
         const std::int64_t what = words.number();
         FaceQuery query;
-        query.solid = solid;
+        if (solid != Solid()) // (0 stands for any)
+            query.solid = solid;
         if (what == 1)
             query.plane = words.plane();
         if (what == 2)
@@ -394,7 +395,8 @@ private:
         const auto solid = words.name<Solid>();
         const std::int64_t what = words.number();
         EdgeQuery query;
-        query.solid = solid;
+        if (solid != Solid()) // (0 stands for any)
+            query.solid = solid;
         if (what == 1) {
             const auto one = words.name<Face>();
             query.between = {one, words.name<Face>()};
