@@ -21,7 +21,7 @@ def memory_refused(line: str) -> MemoryRefused:
     return MemoryRefused(f'{line}: memory was refused')
 
 
-def refused(line: str, number: int, value: int) -> Refused:
-    """The error for a line of which a condition is false."""
+def refused(line: str, number: int, value: int, text: str = '') -> Refused:
+    """The error for a line of which a condition is false, with a text of its own where the condition's doesn't say it."""
     meaning = refusal(number, value, first_word(line.encode()))
-    return Refused(meaning.name, value, number, f'{line}: refused {number} {value}: {meaning}')
+    return Refused(meaning.name, value, number, f'{line}: refused {number} {value}: {meaning.name}: {text or meaning.text}')

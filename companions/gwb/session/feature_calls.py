@@ -17,10 +17,9 @@ from .c_calls import (ADDRESS, IMPOSSIBLE, LENGTH, LOWER_CAPS, MEMORY, NO_CALL, 
                       Refusal)
 from .kernel import Kernel
 from .library import filled
+from .new_numbers import NUMBERS_SPENT
 
 _CUTS = ('cut', 'trim')
-# The conditions that are of a number that was given, so that no feature is at fault.
-_OF_NUMBERS = ('NoSolid', 'NoFace', 'NoEdge', 'SolidTaken')
 # What misfits say, and conditions that say something else of a feature than of a command.
 _TEXTS = {
     'RepeatedPoint': 'point {} is there twice', 'NoArea': 'the outline has no area, or crosses itself',
@@ -182,16 +181,13 @@ class FeatureCalls:
         raise AssertionError(f'{word}: an answer of kind {said}')
 
     def _refused(self, word: str, why: Any) -> CompanionError:
-        """The error of a condition. What isn't of a number that was given, nor of a cut, is a feature that isn't possible."""
-        found = refused(word, why.number, why.value)
+        """The error of a condition, as it is said of a feature. A number past the greatest was chosen, except for a profile: none is left."""
         if word in _CUTS:
-            return found
-        if found.name == 'NumberRange' and word != 'profile':
-            return Impossible('NumbersSpent', 0, _TEXTS['NumbersSpent'])
-        if found.name in _OF_NUMBERS:
-            return found
-        text = _TEXTS.get(found.name, refusal(why.number, why.value).text).format(why.value)
-        if found.name == 'NotFlat':
+            return refused(word, why.number, why.value)
+        if why.number == _NUMBER_RANGE and word != 'profile':
+            return refused(word, NUMBERS_SPENT, 0, _TEXTS['NumbersSpent'])
+        name, text = refusal(why.number, why.value).name, ''
+        if name == 'NotFlat':
             model = self._kernel.lines.model([why.value])
-            text = (why_unfit(model, why.value) if model.faces else None) or (f"face {why.value} isn't flat" if why.value else "a slope wouldn't be flat")
-        return Impossible(found.name, why.value, text)
+            text = (why_unfit(model, why.value) if model.faces else None) or ('' if why.value else "a slope wouldn't be flat")
+        return refused(word, why.number, why.value, text or _TEXTS.get(name, '').format(why.value))

@@ -5,9 +5,10 @@ from typing import Dict, List
 
 from ..geometry.free_numbers import KINDS, LARGEST, numbers_of
 from ..geometry.model import Model
-from ..geometry.outlines import Impossible
+from ..protocol.complaints import refused
 from .library import Library
 
+NUMBERS_SPENT = 27
 
 class NewNumbers:
     """Which numbers of what a session holds are in use, and which come next."""
@@ -57,5 +58,5 @@ class NewNumbers:
         found = list(range(above, min(above + count, LARGEST + 1)))
         found += islice((number for number in range(1, above) if not self.in_use(kind, number)), count - len(found))
         if len(found) < count:
-            raise Impossible('NumbersSpent', 0, f'no {kind} number is free, and one is needed')
+            raise refused('load', NUMBERS_SPENT, KINDS.index(kind) + 1, f'no {kind} number is free, and one is needed')
         return found

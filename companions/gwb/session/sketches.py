@@ -6,11 +6,13 @@ from typing import Iterable, List, NamedTuple, Optional, Sequence, Tuple
 from ..geometry.measures import why_unfit
 from ..geometry.outlines import Impossible
 from ..geometry.vectors import Vector, ZERO, cross, dot, reduced
+from ..protocol.complaints import refused
 from . import arguments
 from .bench import Bench
 from .reading import FacePart
 
 _AXES: Sequence[Vector] = ((1, 0, 0), (0, 1, 0), (0, 0, 1))
+_NOT_FLAT = 32
 
 
 class Sketch(NamedTuple):
@@ -53,7 +55,7 @@ def sketch_on(bench: Bench, face: int, origin: Optional[Vector], right: Optional
     points = FacePart(bench.kernel, face).points
     why = why_unfit(bench.kernel.lines.model([face]), face)
     if why is not None:
-        raise Impossible('NotFlat', face, why)
+        raise refused('sketch', _NOT_FLAT, face, why)
     across, start = reduced(FacePart(bench.kernel, face).normal), origin or min(points)
     if dot(across, start) != dot(across, points[0]):
         raise Impossible('NotInPlane', face, f'the origin {start} lies off the plane of face {face}')

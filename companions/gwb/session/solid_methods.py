@@ -4,13 +4,14 @@ from typing import Any, Optional, Sequence, Tuple
 
 from ..geometry.free_numbers import LARGEST
 from ..geometry.moved import Change, mirroring, moving, turning
-from ..geometry.outlines import Impossible
 from ..geometry.vectors import ZERO
+from ..protocol.complaints import refused
 from . import arguments, solids
 from .bench import Bench, Methods
 from .c_calls import FLOOR, WALLS, Point
 from .feature_calls import rows, words
 from .labelling import LabelledFaces
+from .new_numbers import NUMBERS_SPENT
 from .reading import EdgePart
 from .results import Notch, Renumbered
 from .solids import Copy
@@ -42,7 +43,7 @@ class SolidMethods(Methods):
         if many < 2:
             raise ValueError(f'count: {many} is below 2')
         if many > LARGEST:
-            raise Impossible('NumbersSpent', 1, f'there are {LARGEST:,} numbers for solids, not {many:,}')
+            raise refused('pattern', NUMBERS_SPENT, 1, f'there are {LARGEST:,} numbers for solids, not {many:,}')
         return solids.in_a_row(self._bench, 'pattern', number, many - 1, many, Point(*way))
 
     def pattern_around(self, solid: arguments.Solid, count: int, axis: str, times: int = 1, *, about: arguments.Point = ZERO) -> Tuple[Copy, ...]:

@@ -15,12 +15,14 @@ from ..geometry.model import Model
 from ..geometry.moved import FARTHEST, Change, Displaced, changed
 from ..geometry.outlines import Impossible
 from ..geometry.vectors import ZERO
+from ..protocol.complaints import refused
 from . import arguments
 from .bench import Bench
 from .c_calls import EDGES, FACES, LOOPS, SOLIDS, VERTICES, Motion, Point
 from .reading import Found, Part
 from .results import Renumbered
 
+_POINT_RANGE = 11
 
 @dataclass(frozen=True)
 class Copy:
@@ -77,7 +79,7 @@ def copied(bench: Bench, solid: int, way: Sequence[Change]) -> Copy:
     model = bench.solid_model(solid)
     new = bench.numbers.instead_of(model)
     with bench.step():
-        bench.features.load(renumbered(reduce(placed, way, model), new))
+        bench.features.load(renumbered(reduce(lambda before, change: placed('copy_solid', before, change), way, model), new))
         return _labelled(Copy(new['solid'][solid], new['face'], new['loop'], new['edge'], new['vertex'], solid, bench))
 
 
@@ -128,17 +130,19 @@ def place(bench: Bench, solid: int, change: Change) -> None:
     if motion is not None:
         bench.features.give('move_solid', solid, motion)
         return
-    after = placed(bench.solid_model(solid), change)
+    after = placed('move_solid', bench.solid_model(solid), change)
     with bench.step():
         bench.features.give('kill_solid', solid, frees=True)
         bench.features.load(after)
 
 
-def placed(model: Model, change: Change) -> Model:
-    """The model in another place. Refused: PointRange, OffLattice, with the vertex."""
+def placed(word: str, model: Model, change: Change) -> Model:
+    """The model in another place, for the feature of this word. Refused: PointRange, OffLattice, with the vertex."""
     try:
         return changed(model, change)
     except Displaced as error:
+        if error.name == 'PointRange':
+            raise refused(word, _POINT_RANGE, error.vertex, str(error)) from None
         raise Impossible(error.name, error.vertex, str(error)) from None
 
 
