@@ -354,8 +354,8 @@ class Author:
                                          [3, *self._spots(face, 3)[1]], [4, self._below(90) + 1, 1 + self._below(2)]])
             return word, [solid, *asked]
         other, _ = self._face()
-        beside = [row.face.number for row in face.edges[0].faces] if face is not None and hasattr(face.edges[0], 'faces') else [number, other]
-        asked = self._random.choice([[0], [1, *(beside if len(beside) == 2 else [number, other])], [2, *self._random.choice([(1, 0, 0), (0, 0, 5), (1, 1, 0)])],
+        beside = [side.number for side in face.edges[0].faces] if face is not None else [number, other]
+        asked = self._random.choice([[0], [1, *beside], [2, *self._random.choice([(1, 0, 0), (0, 0, 5), (1, 1, 0)])],
                                      [3, 1 + self._below(14), 1]])
         return word, [solid, *asked]
 

@@ -12,7 +12,7 @@ from unittest import mock
 
 from support import TESTS, library
 
-from gwb import CompanionError, Impossible, NotOne, Refused, Workbench
+from gwb import CompanionError, Impossible, NotOne, Refused, Unfit, Workbench
 from gwb.checks.check import check
 from gwb.geometry.measures import area_vector
 from gwb.geometry.vectors import add
@@ -228,6 +228,31 @@ class Refusals(unittest.TestCase):
             self.assertEqual((face.solid, face.outer.face, face.rings), (solid, face, ()))
         with self.assertRaises(Refused):
             bench.face(99).points
+
+    def test_measures_of_parts(self):
+        """What a part says of itself finds it again, where it is a fraction; else it is near."""
+        bench = self.bench
+        made = bench.solid(bench.profile([(100, 0, 0), (101, 0, 0), (100, 1, 0)], along=(0, 0, 3)).solid)
+        slope = bench.edges(solid=made, along=(1, -1, 0))
+        self.assertEqual([edge.length for edge in slope], [2 ** 0.5] * 2)
+        self.assertEqual(sorted(face.area for face in made.faces), [Fraction(1, 2), Fraction(1, 2), 3, 3, 18 ** 0.5])
+        for edge in made.edges - slope:
+            self.assertIn(edge, bench.edges(length=edge.length))
+        for face in made.faces - bench.faces(normal=(1, 1, 0)):
+            self.assertIn(face, bench.faces(area=face.area))
+        for edge in made.edges:
+            self.assertEqual(edge.solid, made)
+            self.assertIn(edge, bench.edges(between=edge.faces))
+            self.assertEqual([edge.number in face.outer.half_edges for face in edge.faces], [True, False])
+        spur = bench.mev(*[bench.face(self.block.top).outer.half_edges[0]] * 2, (3, 4, 10)).edge
+        self.assertEqual(bench.edge(spur).faces, (bench.face(self.block.top),) * 2)
+        bench.kemr(spur)
+        for kind, what, name in (('face', 'area', 'NoFace'), ('edge', 'length', 'NoEdge'), ('edge', 'faces', 'NoEdge'), ('edge', 'solid', 'NoEdge')):
+            with self.assertRaisesRegex(Refused, f'^there is no {kind} 99$') as caught:
+                getattr(getattr(bench, kind)(99), what)
+            self.assertEqual((caught.exception.name, caught.exception.value), (name, 99))
+        with self.assertRaisesRegex(Unfit, 'lone loop'):
+            bench.face(self.block.top).area
 
     def test_a_profile_either_way_round_and_either_way_along(self):
         bench = self.bench

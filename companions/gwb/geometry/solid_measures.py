@@ -8,7 +8,7 @@ Tetrahedron Inertia Tensor in Terms of its Vertex Coordinates (2005). Faces must
 from dataclasses import dataclass
 from fractions import Fraction
 from math import isqrt
-from typing import Dict, Iterator, List, Optional, Tuple
+from typing import Dict, Iterator, List, Optional, Tuple, Union
 
 from ..errors import Unfit
 from .box_index import box_of
@@ -144,6 +144,12 @@ def square_distance(model: Model, face: int, other: int) -> Fraction:
 def distance(model: Model, face: int, other: int) -> float:
     """The distance of the planes of two parallel faces, rounded. Raises as square_distance does."""
     return _root(square_distance(model, face, other))
+
+
+def root(square: Fraction) -> Union[Fraction, float]:
+    """The root of a square, as a fraction where it is one, else rounded."""
+    exact = Fraction(isqrt(square.numerator), isqrt(square.denominator))
+    return exact if exact * exact == square else _root(square)
 
 
 def _root(square: Fraction) -> float:

@@ -1,9 +1,11 @@
 """The model held, part by part: solids, faces, loops, edges and vertices that are read when they are asked for."""
 
+from fractions import Fraction
 from typing import Callable, Generic, Iterable, Iterator, Optional, Sequence, Tuple, TypeVar, Union, overload
 
 from ..errors import NotOne, Refused
 from ..geometry.model import Face, Loop
+from ..geometry.solid_measures import root, square_area
 from ..geometry.vectors import Vector, dot, subtract
 from .kernel import Kernel
 from .library import Library
@@ -185,6 +187,26 @@ class EdgePart(Part):
         start, end = self._there(self._read().edge(self.number))
         return (VertexPart(self._kernel, start), VertexPart(self._kernel, end))
 
+    @property
+    def faces(self) -> 'Tuple[FacePart, FacePart]':
+        """The faces in which `+e` and `-e` stand, which may be one."""
+        reader = self._read()
+        self._there(reader.edge(self.number))
+        right, left = (FacePart(self._kernel, reader.face_of_loop(reader.loop_of(half))) for half in (self.number, -self.number))
+        return (right, left)
+
+    @property
+    def solid(self) -> 'SolidPart':
+        """The solid it is of."""
+        return self.faces[0].solid
+
+    @property
+    def length(self) -> Union[Fraction, float]:
+        """Its length in coordinates: a fraction where it is one, as `edges(length=)` takes it, else rounded."""
+        start, end = self.points
+        along = subtract(end, start)
+        return root(Fraction(dot(along, along)))
+
 
 class LoopPart(Part):
     """A loop: a cycle of half-edges, or one vertex."""
@@ -261,6 +283,14 @@ class FacePart(Part):
     def normal(self) -> Vector:
         """Its normal, twice its area long: the first three numbers of its plane."""
         return self._there(self._read().plane(self.number))[:3]
+
+    @property
+    def area(self) -> Union[Fraction, float]:
+        """Its area in squares of coordinates: a fraction where it is one, as `faces(area=)` takes it, else rounded. Raises Unfit where it isn't
+        flat."""
+        reader = self._read()
+        self._there(reader.solid_of(self.number))
+        return root(square_area(reader.model([self.number]), self.number))
 
 
 class SolidPart(Part):
