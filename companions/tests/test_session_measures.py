@@ -63,6 +63,15 @@ class Measures(unittest.TestCase):
         self.bench.scale(cut.factor)
         self.bench.split(self.block.solid, cut.scaled_plane)
 
+    def test_planes_out_of_range(self):
+        """What split refuses for the plane itself is no cut off the lattice."""
+        for value, plane in ((1, (10 ** 9 + 1, 0, 0, -1)), (2, (0, -10 ** 9 - 1, 0, 1)), (3, (10 ** 9, 0, 2 * 10 ** 9, -1)), (4, (0, 0, 1, 2 ** 62))):
+            for act in (self.bench.split, self.bench.off_lattice):
+                with self.subTest(plane), self.assertRaises(Refused) as caught:
+                    act(self.block.solid, plane)
+                self.assertEqual((caught.exception.name, caught.exception.number, caught.exception.value), ('PlaneRange', 35, value))
+        self.assertEqual(self.bench.off_lattice(self.block.solid, (0, 0, 10 ** 9, -1)).factor, 10 ** 9)
+
     def test_they_follow_commands_and_are_no_step(self):
         self.bench.sweep(self.block.top, (0, 0, 4))
         script = self.bench.script()

@@ -65,9 +65,11 @@ class Measuring(Methods):
 
     def off_lattice(self, solid: arguments.Solid, plane: arguments.Point) -> lattice_cuts.OffLatticeCut:
         """Where the plane cuts the edges of the solid, by which factor all of these points would be whole, and planes nearby that `split`
-        takes. Refused: NoSolid. Raises ValueError where a, b and c are zero."""
+        takes. Refused: NoSolid; PlaneRange: a coefficient is out of range. Raises ValueError where a, b and c are zero."""
         coefficients = arguments.plane('plane', plane)
-        return lattice_cuts.off_lattice_cut(*self._solid(solid), coefficients)
+        found, number = self._solid(solid)
+        self._bench.features.whole_factor(number, coefficients)    # (refused where one is out of range)
+        return lattice_cuts.off_lattice_cut(found, number, coefficients)
 
     def _solid(self, solid: arguments.Solid) -> Tuple[Model, int]:
         """The solid alone, and its number."""
