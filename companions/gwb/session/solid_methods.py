@@ -38,7 +38,8 @@ class SolidMethods(Methods):
         return solids.copied(self._bench, number, changes)
 
     def pattern(self, solid: arguments.Solid, count: int, step: arguments.Point) -> Tuple[Copy, ...]:
-        """Copies of the solid, each a step farther than the one before, so that there are `count` of it with itself. Refused as copy is."""
+        """Copies of the solid, each a step farther than the one before, so that there are `count` of it with itself. Refused as copy is. Raises
+        ValueError where the count is below 2 or the step is zero."""
         number, many, way = self._bench.number('solid', solid), arguments.positive('count', count), arguments.vector('step', step)
         if many < 2:
             raise ValueError(f'count: {many} is below 2')
