@@ -44,8 +44,8 @@ class InGroup(CompanionError, RuntimeError):
 
 
 class OutOfStep(CompanionError, RuntimeError):
-    """A call is under way, as where a handler of signals gives another one, or the session is of the process from which this one was forked;
-    nothing was sent."""
+    """A call is under way, as where a handler of signals gives another one, or was left before its reply; or a draft or a group is open whose end
+    would be waited for in vain. Nothing was sent."""
 
 
 class NoDraft(CompanionError, RuntimeError):

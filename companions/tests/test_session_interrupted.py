@@ -14,7 +14,7 @@ from unittest import mock
 from support import as_listed, library
 
 import gwb
-from gwb import Complaint, InDraft, InGroup, OutOfStep, Workbench
+from gwb import Complaint, Ended, InDraft, InGroup, OutOfStep, Workbench
 
 FOLDER = str(Path(gwb.__file__).parent / 'session')
 # The modules in which an exception may come at each line.
@@ -297,6 +297,32 @@ class Forked(unittest.TestCase):
                 os._exit(0 if bench.volume(bench.block((9, 0, 0), (1, 1, 1))) == 1 and len(bench.solids()) == 2 else 1)
             self.assertEqual(os.waitpid(process, 0)[1], 0)
             self.assertEqual(len(bench.solids()), 1)
+
+    def test_closing_waits_for_no_child_and_leaves_it_its_session(self):
+        bench, (is_closed, tell_closed) = Workbench(library()), os.pipe()
+        bench.block((0, 0, 0), (2, 2, 2))
+        process = os.fork()
+        if process == 0:
+            os.read(is_closed, 1)
+            os._exit(0 if bench.volume(bench.block((9, 0, 0), (1, 1, 1))) == 1 and len(bench.solids()) == 2 and bench.close() == 0 else 1)
+        closing = threading.Thread(target=bench.close, daemon=True)
+        closing.start()
+        closing.join(1)
+        is_waiting = closing.is_alive()
+        os.write(tell_closed, b'.')
+        self.assertEqual((os.waitpid(process, 0)[1], is_waiting), (0, False))
+        self.assertRaises(Ended, bench.solids)
+        for end in (is_closed, tell_closed):
+            os.close(end)
+
+    def test_a_child_that_closes_leaves_the_session_of_its_parent(self):
+        with Workbench(library()) as bench:
+            bench.block((0, 0, 0), (2, 2, 2))
+            process = os.fork()
+            if process == 0:
+                os._exit(bench.close())
+            self.assertEqual(os.waitpid(process, 0)[1], 0)
+            self.assertEqual(bench.volume(bench.block((9, 0, 0), (1, 1, 1))), 1)
 
 
 class Features(unittest.TestCase):
