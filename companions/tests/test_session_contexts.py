@@ -288,6 +288,33 @@ class Labels(unittest.TestCase):
             self.bench.label(self.bench.solid(self.base), 'alone')
         self.assertEqual(self.names(), {**made, ('solid', self.base.solid): 'alone'})
 
+    def test_what_is_labelled_first_in_a_group_goes_with_it(self):
+        held = self.names()
+        for block in (self.bench.draft, self.bench.group):
+            with block():
+                self.bench.label(self.bench.solid(self.base), 'one')
+                with self.assertRaises(GivenUp), self.bench.group():
+                    self.bench.label(self.bench.face(self.base.bottom), 'not')
+                    self.bench.block((40, 0, 0), (5, 5, 5))
+                    raise GivenUp
+                with self.bench.group():
+                    self.bench.label(self.bench.face(self.base.bottom), 'two')
+                    new = self.bench.block((20, 0, 0), (5, 5, 5))
+                self.bench.label(self.bench.face(new.top), 'three')
+                self.bench.move(new, (3, 0, 0))
+            made = self.names()
+            self.assertEqual(sorted(made.values()), ['base', 'one', 'three', 'two'])
+            self.bench.undo()
+            self.assertEqual(self.names(), held)
+            self.bench.redo()
+            self.assertEqual(self.names(), made)
+            self.bench.undo()
+        with self.bench.group():
+            self.bench.label(self.bench.solid(self.base), 'alone')
+        self.assertEqual(sorted(self.names().values()), ['alone', 'base'])
+        self.bench.undo()
+        self.assertEqual(self.names(), {})
+
     def test_a_label_given_after_an_undo(self):
         new = self.bench.block((20, 0, 0), (5, 5, 5))
         self.bench.label(self.bench.face(new.top), 'new')

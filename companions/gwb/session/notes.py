@@ -160,6 +160,13 @@ class Notes:
         del note.looks[place.looks:]
         note.unit = place.unit
 
+    def hand_on(self, command: int, place: Place) -> None:
+        """The labels that were given after a place of the note of a command go with the next command, if one is held."""
+        if self.at > command:
+            looks = self._notes[command].looks
+            self._notes[command + 1].looks[:0] = looks[place.looks:]
+            del looks[place.looks:]
+
     def ahead(self) -> List[Note]:
         """The notes of the commands that can be redone."""
         return self._notes[self.at + 1:]

@@ -115,7 +115,10 @@ class _Group(_Draft):
             self._kernel.notes.group_from = self._before
 
     def keep(self) -> None:
-        """Its commands stay as they are."""
+        """Its commands stay as they are. What was labelled before the first of them goes with that."""
+        self._kernel.settle()
+        if self._outer is None:
+            self._kernel.notes.hand_on(self._before, self._place)
 
     def take_back(self) -> None:
         """Its commands are undone, and what could be redone before them can be redone."""
