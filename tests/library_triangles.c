@@ -1,12 +1,11 @@
 /* Faces cut into triangles, beside a judge of its own: which faces can be cut, by every pair of edges and the windings round them; that the
  * triangles of one run as it does, are as long as it together, and meet along whole edges, so that they cover it once. Random loops, most of
  * which cross or touch; stars with rings, spurs and bridges; corridors, combs, spirals and plates with holes; points at the limits of
- * coordinates, in several planes; memory refused at each request; how long large faces take. The last line is 'N passed, M failed'. */
+ * coordinates, in several planes; memory refused at each request. The last line is 'N passed, M failed'. */
 #include "gwb.h"
 #include <stdio.h>
 #include <stdlib.h>
 #include <string.h>
-#include <time.h>
 
 enum { MOST = 40000 };
 typedef __int128 wide;
@@ -620,35 +619,6 @@ static void try_large(void)
     draw_plate(12), try_drawn(planes[4], "a plate with holes");
 }
 
-/* How long it takes to cut the face that is drawn: the least of some times. */
-static clock_t time_to_cut(void)
-{
-    gwb g = {0};
-    clock_t least = 0;
-    check(make(&g, planes[0]), "a large face is made");
-    for (int time = 0; time < 5; time++) {
-        const clock_t began = clock();
-        check(gwb_face_triangles(&g, 1, triangles, 2 * MOST) != 0, "a large face is cut");
-        const clock_t taken = clock() - began + 1;
-        least = time == 0 || taken < least ? taken : least;
-    }
-    gwb_close(&g);
-    return least;
-}
-
-/* Sixteen times as many edges take some 24 times as long, as n log n does; n squared is 256 times as much. */
-static void try_growth(void)
-{
-    draw_corridor(500);
-    const clock_t corridor = time_to_cut();
-    draw_corridor(8000);
-    check(time_to_cut() < 96 * corridor, "a corridor is cut in time n log n");
-    draw_plate(10);
-    const clock_t plate = time_to_cut();
-    draw_plate(40);
-    check(time_to_cut() < 96 * plate, "a plate with holes is cut in time n log n");
-}
-
 int main(int count, char **words)
 {
     rounds = count > 1 ? atol(words[1]) : rounds;
@@ -663,7 +633,6 @@ int main(int count, char **words)
     try_large();
     try_pinched();
     try_refused();
-    try_growth();
     check(cut_faces > 0 && uncut_faces > 0, "faces that can be cut, and others");
     printf("%ld faces were cut, %ld can't be\n%d passed, %d failed\n", cut_faces, uncut_faces, passed, failed);
     return failed != 0;
