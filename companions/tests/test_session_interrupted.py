@@ -307,7 +307,7 @@ class Forked(unittest.TestCase):
             os._exit(0 if bench.volume(bench.block((9, 0, 0), (1, 1, 1))) == 1 and len(bench.solids()) == 2 and bench.close() == 0 else 1)
         closing = threading.Thread(target=bench.close, daemon=True)
         closing.start()
-        closing.join(1)
+        closing.join(60)
         is_waiting = closing.is_alive()
         os.write(tell_closed, b'.')
         self.assertEqual((os.waitpid(process, 0)[1], is_waiting), (0, False))
