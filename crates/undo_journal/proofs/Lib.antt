@@ -1,3 +1,4 @@
+pub mod Lasts
 pub mod Copies
 pub mod Journals
 pub mod Consistent

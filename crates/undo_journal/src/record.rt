@@ -1,13 +1,16 @@
 //! The record of a command: lists of operators.
-ghost use Rattle.std.specs.Prelude.{◌≡◌, ◌<◌, [], ◌∷◌, length, reverse, slice_index_or};
+ghost use Rattle.std.specs.Prelude.{◌≡◌, ◌<◌, [], ◌∷◌, length, reverse, slice_index_or, OnOk, OnErr};
+ghost use Rattle.euler_operators.specs.Common.{inverse};
 ghost use Rattle.euler_laws.specs.Laws.{AreAccepted};
 ghost use Rattle.low_euler.specs.Ready.{IsReady};
+ghost use Rattle.low_euler.specs.Room.{IsStepped};
+ghost use Rattle.low_euler.specs.Store.{HasGrown};
 ghost use Rattle.undo_journal.specs.Sessions.{AllHaveRoom, all_after};
 
 use crate::steps::{replay_all, replay_back};
 use euler_operators::Op;
-use low_euler::{Arena, replay};
-use std::alloc::Global;
+use low_euler::{Arena, advance, replay};
+use std::alloc::{AllocError, Global};
 use std::marker::Model;
 
 /// For how many records memory is taken at a time. The system gives a list of more than a few hundred records a block of its own, which it
@@ -106,6 +109,40 @@ impl OpList {
 pub struct Record {
     pub forward: OpList,
     pub back: OpList,
+}
+
+/// A record of one operator that isn't applied yet. `carry_out` writes its inverse.
+pub(crate) fn begun(op: Op) -> Record
+    ensures forward { result.forward ≡ op ∷ [] }
+    ensures back { length result.back ≡ 1 }
+{
+    Record {
+        forward: OpList::one(op),
+        back: OpList::one(Op::Kvfs(0)),
+    }
+}
+
+/// Applies the operator of a record that was begun, and writes its inverse there, so that neither is moved.
+#[inline(always)]
+pub(crate) fn carry_out(
+    alloc: Global,
+    arena: &mut Arena,
+    entry: &mut Record,
+) -> Result<(), AllocError>
+    requires ready { IsReady arena.old }
+    requires one { length entry.old.forward ≡ 1 }
+    requires begun { length entry.old.back ≡ 1 }
+    requires accepted { AreAccepted arena.old.model entry.old.forward }
+    ensures forward { entry.new.forward ≡ entry.old.forward }
+    ensures stepped { OnOk result ((op : Op) → entry.old.forward ≡ op ∷ [] → IsStepped arena.old op arena.new) }
+    ensures back { OnOk result ((op : Op) → entry.old.forward ≡ op ∷ [] → entry.new.back ≡ inverse arena.old.model op ∷ []) }
+    ensures err { OnErr result (HasGrown arena.old arena.new) }
+{
+    let op = entry.forward.get(0);
+    match &mut entry.back.ops {
+        Ops::One(inverse) => advance(alloc, arena, op, inverse),
+        Ops::Many { ops, .. } => advance(alloc, arena, op, &mut ops[0]),
+    }
 }
 
 /// How many places each of two spare lists has at most. Longer lists are freed.

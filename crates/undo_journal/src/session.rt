@@ -1,5 +1,5 @@
 //! A session: one arena, the records of the commands, and a place in their list.
-ghost use Rattle.std.specs.Prelude.{◌≡◌, ◌↔◌, ◌+◌, ◌<◌, ◌≤◌, take, vec_len, OnOk, OnErr, IfOk, None, Some, Err, slice_index_or, vec_capacity};
+ghost use Rattle.std.specs.Prelude.{◌≡◌, ◌↔◌, ◌+◌, ◌<◌, ◌≤◌, List, [], ◌∷◌, ◌++◌, length, take, vec_len, OnOk, OnErr, IfOk, None, Some, Err, slice_index_or, vec_capacity};
 ghost use Rattle.low_euler.specs.Ready.{IsReady};
 ghost use Rattle.undo_journal.specs.Machine.{held, depth, ahead, act_refusal, undo_refusal, redo_refusal};
 ghost use Rattle.undo_journal.specs.Journal.{new_journal, after_act, after_undo, after_redo};
@@ -10,23 +10,32 @@ ghost use Rattle.euler_laws.specs.Laws.{effects, AreAccepted};
 ghost use Rattle.euler_operators.specs.Common.{verdict};
 ghost use Rattle.euler_operators.specs.declared.Refusal.{Refusal};
 
-use crate::record::{OpList, PLACES, Record, Spare, no_spare, spare_of};
+use crate::record::{PLACES, Record, Spare, begun, carry_out, no_spare, spare_of};
 use crate::steps::place_for_one;
 use euler_operators::{Op, Refusal, Why};
-use low_euler::{Arena, advance, check};
+use low_euler::{Arena, check};
 use std::alloc::{AllocError, Global};
 use std::marker::Model;
 
-/// Drops the records from a place on. If there are none, this costs one test.
-fn drop_ahead(records: &mut Vec<Record>, place: usize)
-    ensures items { records.new.items ≡ take place records.old.items }
-    ensures capacity { vec_capacity records.new ≡ vec_capacity records.old }
-    ensures len { vec_len records.new ≤ vec_len records.old }
+/// Drops the records from a place on but for the last one, which comes to that place.
+#[inline(never)]
+fn move_last(records: &mut Vec<Record>, place: usize)
+    ensures { (rs : List Record) (r : Record) → records.old.items ≡ rs ++ r ∷ [] → records.new.items ≡ take place rs ++ r ∷ [] }
 {
-    if records.len() <= place {
-        return;
+    if let Some(record) = records.pop() {
+        records.truncate(place);
+        records.push_reserved(record);
     }
-    records.truncate(place);
+}
+
+/// Drops the records from a place on but for the last one, which comes to that place. If it stands there, this costs one test.
+#[inline(always)]
+fn keep_last(records: &mut Vec<Record>, place: usize, last: usize)
+    ensures { (rs : List Record) (r : Record) → records.old.items ≡ rs ++ r ∷ [] → last ≡ length rs → place ≤ last → records.new.items ≡ take place rs ++ r ∷ [] }
+{
+    if place < last {
+        move_last(records, place);
+    }
 }
 
 /// Drops the records from a place on, and keeps the lists of the first of them. It takes no memory.
@@ -141,15 +150,13 @@ impl Session {
         ensures err { OnErr result (self.new ≡ self.old) }
     {
         place_for_one(&mut self.records, PLACES)?;
-        // `advance` replaces this operator
-        let mut inverse = Op::Kvfs(0);
-        advance(self.alloc, &mut *self.arena, &op, &mut inverse)?;
-        drop_ahead(&mut self.records, self.place);
-        let record = Record {
-            forward: OpList::one(op),
-            back: OpList::one(inverse),
-        };
-        self.records.push_reserved(record);
+        let last = self.records.len();
+        self.records.push_reserved(begun(op));
+        if let Err(error) = carry_out(self.alloc, &mut *self.arena, &mut self.records[last]) {
+            self.records.truncate(last);
+            return Err(error);
+        }
+        keep_last(&mut self.records, self.place, last);
         self.place += 1;
         Ok(())
     }
