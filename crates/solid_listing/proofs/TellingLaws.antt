@@ -2,6 +2,7 @@
 use Rattle.std.proofs.Common.{◌≡◌, ℕ, List, [], ◌++◌, Option, Result, Ok, Err, sym, ap, subst, ◌∙◌, append_assoc, append-nil}
 use Rattle.std.proofs.KnownBytes.{Appends-nil, Appends-trans}
 use Rattle.std.specs.Io.KnownBytes.{Appends}
+use Rattle.std.specs.Result.{IsErrAnd}
 use Rattle.solid_listing.specs.Writing.{Stops, Puts, Outgoing, outgoing, Gathers, Tells}
 use Rattle.solid_listing.proofs.WritingLaws.{Stops-longer, Stops-after as stops_after}
 
@@ -39,6 +40,14 @@ tells_as a b xs ys r e = subst (λ (t : List ℕ). Tells a b t r) e
 pub tells_after : {A E : Type 0} (a b c : Outgoing) (xs ys : List ℕ) (r : Result A E) → Gathers a b xs → Tells b c ys r → Tells a c (xs ++ ys) r
 tells_after a b c xs ys (Ok x) h t = Gathers-trans a b c xs ys h t
 tells_after a b c xs ys (Err e) h t = Breaks-after a b c xs ys h t
+
+-- what a `?` hands on where a text breaks off, of that text and one after it
+pub broken_off : {A E : Type 0} (Q : E → Type 0) (a b : Outgoing) (xs ys : List ℕ) (r : Result A E) → IsErrAnd r Q → Breaks a b xs → Tells a b (xs ++ ys) r
+broken_off Q a b xs ys (Ok x) h s = absurd h
+broken_off Q a b xs ys (Err e) h s = Breaks-longer a b xs ys s
+
+-- one text after another
+pub ruleset telling = (tells_after, broken_off)
 
 -- ---- a text that is told in pieces
 
@@ -92,6 +101,7 @@ all_out a b c p xs (Err e) none g h = subst (Stops a c) (sym g.parts ∙ ap (λ 
 pub went_out : (a : Option (List ℕ)) (b : Outgoing) (xs : List ℕ) → Gathers (outgoing a []) b xs → b.pending ≡ [] → Appends a b.contents xs
 went_out a b xs g none = subst (Appends a b.contents) (sym (g.parts ∙ ap (λ (t : List ℕ). g.front ++ t) none ∙ append-nil g.front)) g.appended
 
--- a text that is told from none on broke off
-pub breaks_from_none : (a : Option (List ℕ)) (b : Outgoing) (p xs : List ℕ) → p ≡ [] → Breaks (outgoing a p) b xs → Stops a b.contents xs
-breaks_from_none a b p xs none s = subst (λ (t : List ℕ). Stops a b.contents (t ++ xs)) none s
+-- what a `?` hands on where a text that is told from none on breaks off
+pub broken_out : {A E : Type 0} (Q : E → Type 0) (a b : Option (List ℕ)) (p xs : List ℕ) (r : Result A E) → IsErrAnd r Q → p ≡ [] → Stops a b (p ++ xs) → Puts a b xs r
+broken_out Q a b p xs (Ok x) h none s = absurd h
+broken_out Q a b p xs (Err e) h none s = subst (λ (t : List ℕ). Stops a b (t ++ xs)) none s

@@ -66,6 +66,7 @@ pub fn tell_listing<W: Write>(
 /// Writes the listing of a model, which is that of `tell_listing`. It takes no memory.
 ///
 /// A fault comes if a write fails or takes no byte; what was written then is a prefix of the listing.
+#[tactic(auto, using(crate::proofs::TellingLaws::all_out, crate::proofs::TellingLaws::broken_out))]
 pub fn write_listing<W: Write>(arena: &Arena, writer: &mut W) -> Result<(), WriteFault>
     requires sound { Sound arena.now.model }
     ensures { Puts (W.contents writer.old) (W.contents writer.new) (listing arena.now.model) result }

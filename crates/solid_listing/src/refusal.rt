@@ -63,7 +63,7 @@ fn refused_head(why: u32) -> Option<&'static [u8]>
 }
 
 /// Writes a number and the end of its line, in one piece if the number has one digit.
-#[tactic(auto, using(std::proofs::lemmas::Fmt::decimal_digit))]
+#[tactic(auto, using(std::proofs::lemmas::Fmt::decimal_digit, crate::proofs::TellingLaws::telling))]
 fn put_last<W: Write>(text: &mut Text, writer: &mut W, number: u32) -> Result<(), WriteFault>
     ensures { Tells (outgoing (W.contents writer.old) text.old) (outgoing (W.contents writer.new) text.new) (decimal number ++ 10 ∷ []) result }
 {
@@ -75,6 +75,7 @@ fn put_last<W: Write>(text: &mut Text, writer: &mut W, number: u32) -> Result<()
 }
 
 /// Writes the beginning of a line, then its last word, which is a number, and its end.
+#[tactic(auto, using(crate::proofs::TellingLaws::telling))]
 fn put_value<W: Write>(
     text: &mut Text,
     writer: &mut W,

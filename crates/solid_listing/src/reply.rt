@@ -83,6 +83,7 @@ pub fn tell_reply<W: Write>(
 /// Writes the line of a reply. It takes no memory.
 ///
 /// A fault comes if a write fails or takes no byte; what was written then is a prefix of the line.
+#[tactic(auto, using(crate::proofs::TellingLaws::all_out, crate::proofs::TellingLaws::broken_out))]
 pub fn write_reply<W: Write>(reply: &Reply, writer: &mut W) -> Result<(), WriteFault>
     ensures { Puts (W.contents writer.old) (W.contents writer.new) (reply_text reply.now) result }
 {

@@ -32,6 +32,7 @@ pub fn put_spaced<W: Write, I: Integer>(
 }
 
 /// Writes a word and the numbers that follow it.
+#[tactic(auto, using(crate::proofs::TellingLaws::telling))]
 pub fn put_words<W: Write, I: Integer>(
     text: &mut Text,
     writer: &mut W,

@@ -1,14 +1,9 @@
-use Rattle.std.proofs.Common.{◌∷◌, map}
+use Rattle.std.proofs.Common.{◌∷◌}
 use Rattle.std.proofs.lemmas.Result.{err_from_is_err_and}
-use Rattle.solid_listing.specs.Common.{spaced, outgoing}
+use Rattle.solid_listing.specs.Common.{outgoing}
 use Rattle.solid_listing.proofs.LineLaws.{spaced_next}
-use Rattle.solid_listing.proofs.TellingLaws.{Breaks-longer, told_more, breaks_inside}
+use Rattle.solid_listing.proofs.TellingLaws.{told_more, breaks_inside}
 use Rattle.solid_listing.proofs.text.put_words.Goals as goal
-
-pub returns-in_err-put : goal.returns-in_err-put
-returns-in_err-put g c =
-    let p = err_from_is_err_and c.from_residual.result c.from_residual.ensures.1 in
-    rw p.1 (Breaks-longer (outgoing (g.W.Write.contents c.args.writer.now) c.args.text.now) (outgoing (g.W.Write.contents c.put.new.writer) c.put.new.text) c.args.name.now (spaced (map g.I.Integer.text c.args.numbers.now)) c.in_err-put.ensures)
 
 pub returns-in_err-put_spaced : goal.returns-in_err-put_spaced
 returns-in_err-put_spaced g c =
