@@ -45,6 +45,7 @@ fn spare_of(arena: &Arena, f: u32) -> Spare
 }
 
 /// The items before and after a half-edge in its loop.
+#[tactic(auto, using(euler_conditions::proofs::Known::in_a_loop))]
 fn neighbours(arena: &Arena, item: HalfEdge) -> (HalfEdge, HalfEdge)
     requires ready { IsReady arena.now }
     requires there { has_half arena.now.model (code item) ≡ true }
@@ -81,6 +82,7 @@ fn open_seam(
 
 /// Glues the item between its partner and the next item: both get a loop of their own, then their ends become one vertex, and then the
 /// partner's edge goes.
+#[tactic(auto, using(undo_journal::proofs::Marks::further_on))]
 fn close_item(
     draft: &mut Draft,
     partner: HalfEdge,

@@ -5,6 +5,7 @@ ghost use Rattle.gluing.specs.Measures.{GluedSolid, OthersThanGlued};
 
 /// After a glue that isn't refused, the solid of the first face has the six volumes that the two solids had together. Every solid that
 /// wasn't glued keeps its own.
+#[tactic(auto, using(gluing_laws::proofs::FromConditions::glue_adds, gluing_laws::proofs::FromConditions::glue_keeps_others))]
 pub fn glue_measures()
     ensures solid { GluedSolid }
     ensures others { OthersThanGlued }

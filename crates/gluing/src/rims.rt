@@ -23,6 +23,7 @@ fn outer_item(arena: &Arena, f: u32) -> HalfEdge
 }
 
 /// The first half-edge of the outer loop of face f, which isn't lone, in the order of listings.
+#[tactic(auto, using(solid_walks::proofs::face_walks_laws::CycleWalks::from_least))]
 pub(crate) fn first_item(arena: &Arena, f: u32) -> HalfEdge
     requires ready { IsReady arena.now }
     requires there { has_number arena.now Kind.Face f ≡ true }

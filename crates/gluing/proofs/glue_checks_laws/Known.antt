@@ -1,6 +1,6 @@
 -- A solid that is closed and flat adds nothing to what is searched for in two solids.
 use Rattle.std.proofs.Common.{◌≡◌, ℕ, Bool, true, false, not, cond, ◌&&◌, nat_eq, List, [], ◌∷◌, Option, Some, None, is_some, unwrap_or, refl, sym, ap, subst, ◌∙◌, eqb-true, IfSome}
-use Rattle.euler_operators.specs.Common.{IsIn, Model, LoopRow, no_face, content, face_of, faces_of, first_refusal, solid_of, Sound, Has, is_lone, lists}
+use Rattle.euler_operators.specs.Common.{IsIn, Model, LoopRow, no_face, face_of, faces_of, first_refusal, solid_of, Sound, Has, is_lone, lists}
 use Rattle.euler_operators.specs.Table as table
 use Rattle.euler_operators.specs.declared.Why.TheVariants.{LoneLoop, NotFlat}
 use Rattle.euler_operators.proofs.Common.{content_row, face_row, first_where_zero, IsIn_head, IsIn_rest}

@@ -28,6 +28,7 @@ pub(crate) fn has_repeats(alloc: Global, points: &[Point]) -> Result<bool, Alloc
 }
 
 /// Whether the point is one of some points.
+#[tactic(auto, using(crate::proofs::glue_checks_laws::Points::some_place))]
 fn is_among(point: Point, points: &[Point]) -> bool
     ensures { result ≡ list_any (same_point point) points.now }
 {
@@ -118,6 +119,7 @@ fn is_turn(points: &[Point], others: &[Point], place: usize) -> bool
 }
 
 /// Whether the points are a rotation of the others, which are all different. It takes n steps for n points.
+#[tactic(auto, using(crate::proofs::glue_checks_laws::Turns::turn_found, crate::proofs::glue_checks_laws::Turns::no_turn_found))]
 pub(crate) fn is_rotation(points: &[Point], others: &[Point]) -> bool
     requires { has_repeats others.now ≡ false }
     ensures { result ≡ is_rotation points.now others.now }

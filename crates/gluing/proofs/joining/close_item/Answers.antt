@@ -5,7 +5,7 @@ use Rattle.euler_operators.proofs.Common.{code-half}
 use Rattle.euler_operators.specs.declared.Op.TheVariants.{Mef, Kev, Kef}
 use Rattle.undo_journal.specs.Journal.{DraftJournal, after_steps}
 use Rattle.euler_laws.proofs.Common.{next_goes, next_taken}
-use Rattle.undo_journal.proofs.Marks.{further_on, first_step, step_after}
+use Rattle.undo_journal.proofs.Marks.{first_step, step_after}
 use Rattle.gluing.proofs.Remaining.{closing_is, closing_left}
 use Rattle.gluing.proofs.joining.close_item.Goals as goal
 
@@ -36,6 +36,3 @@ returns-clause-steps c =
     let one = first_step old first split c.in_ok-step_accepted.ensures.ok in
     let two = step_after old first second (split ∷ []) joined one c.in_ok-step_accepted-2.ensures.ok in
     on_ok_weaker c.step_accepted-3.result (λ step. step_after old second c.step_accepted-3.new.self (split ∷ joined ∷ []) (Kef c.mate.result) two step ∙ ap (after_steps old) are) c.step_accepted-3.ensures.ok
-
-pub returns-clause-further : goal.returns-clause-further
-returns-clause-further c = further_on _ _ _ (further_on _ _ _ c.in_ok-step_accepted.ensures.further c.in_ok-step_accepted-2.ensures.further) c.step_accepted-3.ensures.further

@@ -4,7 +4,7 @@ use Rattle.euler_operators.specs.Common.{At, half, plus, solid_of}
 use Rattle.euler_operators.specs.declared.Op.TheVariants.{Merge, Kfmrh, Mekr, Kev}
 use Rattle.undo_journal.specs.Journal.{DraftJournal, after_steps}
 use Rattle.euler_laws.proofs.Common.{next_goes, next_taken}
-use Rattle.undo_journal.proofs.Marks.{further_on, first_step, step_after}
+use Rattle.undo_journal.proofs.Marks.{first_step, step_after}
 use Rattle.gluing.proofs.Remaining.{opening_is, opening_left}
 use Rattle.gluing.proofs.joining.open_seam.Goals as goal
 
@@ -38,7 +38,3 @@ returns-clause-steps c =
     let two = step_after old first second (merged ∷ []) ring one c.in_ok-step_accepted-2.ensures.ok in
     let three = step_after old second third (merged ∷ ring ∷ []) bridge two c.in_ok-step_accepted-3.ensures.ok in
     on_ok_weaker c.step_accepted-4.result (λ step. step_after old third c.step_accepted-4.new.self (merged ∷ ring ∷ bridge ∷ []) (Kev c.plus-2.result) three step ∙ ap (after_steps old) are) c.step_accepted-4.ensures.ok
-
-pub returns-clause-further : goal.returns-clause-further
-returns-clause-further c =
-    further_on _ _ _ (further_on _ _ _ (further_on _ _ _ c.in_ok-step_accepted.ensures.further c.in_ok-step_accepted-2.ensures.further) c.in_ok-step_accepted-3.ensures.further) c.step_accepted-4.ensures.further

@@ -1,11 +1,7 @@
 use Rattle.std.proofs.Common.{ap, ◌∙◌}
 use Rattle.shapes.specs.Common.{glue_model, glue_ops, glue_refusal}
 use Rattle.undo_journal.specs.Journal.{DraftJournal, after_steps}
-use Rattle.undo_journal.proofs.Marks.{back_at_mark, further_same}
 use Rattle.gluing.proofs.joining.try_join.Goals as goal
-
-pub returns-in_err-reserve-clause-further : goal.returns-in_err-reserve-clause-further
-returns-in_err-reserve-clause-further c = further_same _ _ c.reserve.ensures
 
 pub take_steps-requires : goal.take_steps-requires
 take_steps-requires c = ap (λ (d : DraftJournal). glue_refusal d.model c.args.f c.args.other) c.reserve.ensures ∙ c.requires
@@ -15,9 +11,3 @@ returns-in-Ok-clause-model c = c.in-Ok.ensures.model ∙ ap (λ (d : DraftJourna
 
 pub returns-in-Ok-clause-steps : goal.returns-in-Ok-clause-steps
 returns-in-Ok-clause-steps c = c.in-Ok.ensures.steps ∙ ap (λ (d : DraftJournal). after_steps d (glue_ops d.model c.args.f c.args.other)) c.reserve.ensures
-
-pub returns-in-Err-clause-err : goal.returns-in-Err-clause-err
-returns-in-Err-clause-err c = c.back_to.ensures ∙ back_at_mark _ _ _ c.mark-mark.ensures c.take_steps.ensures.further ∙ c.reserve.ensures
-
-pub returns-in-Err-clause-further : goal.returns-in-Err-clause-further
-returns-in-Err-clause-further c = further_same _ _ (returns-in-Err-clause-err c)

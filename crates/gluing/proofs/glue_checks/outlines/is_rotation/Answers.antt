@@ -1,5 +1,5 @@
-use Rattle.std.proofs.Common.{◌∙◌, sym}
-use Rattle.gluing.proofs.glue_checks_laws.Turns.{other_length, turn_inside, turn_found, no_turn_found}
+use Rattle.std.proofs.Common.{sym}
+use Rattle.gluing.proofs.glue_checks_laws.Turns.{other_length, turn_inside}
 use Rattle.gluing.proofs.glue_checks.outlines.is_rotation.Goals as goal
 
 pub returns-then-points-others : goal.returns-then-points-others
@@ -7,9 +7,3 @@ returns-then-points-others c = sym (other_length c.args.points.now c.args.others
 
 pub is_turn-requires-clause-inside : goal.is_turn-requires-clause-inside
 is_turn-requires-clause-inside c = turn_inside c.args.points.now c.args.others.now _ c.in-Some.place c.in-Some.ensures
-
-pub returns-in-Some : goal.returns-in-Some
-returns-in-Some c = c.is_turn.ensures ∙ turn_found c.args.points.now c.args.others.now _ c.in-Some.place c.in-len1-up.len_at_least c.requires c.if-points-others.false c.in-Some.ensures
-
-pub returns-in-None : goal.returns-in-None
-returns-in-None c = no_turn_found c.args.points.now c.args.others.now _ c.in-len1-up.len_at_least c.if-points-others.false c.in-None.ensures
