@@ -14,6 +14,7 @@ use undo_journal::{Failure, Session};
 
 /// Gives a session an operator without moving it. It does what `change` does.
 #[inline(always)]
+#[tactic(auto, using(crate::proofs::Settling::settled_exactly, undo_journal::proofs::Journals::same_machine))]
 pub(crate) fn act_on_session(session: &mut Session, op: Op) -> Result<(), Failure>
     ensures { TellsSession session.old (Command.Change (Change.Act op)) (told_of result) session.new }
 {

@@ -10,6 +10,7 @@ use sweeps::{block_in, lamina_in, sweep_in};
 use undo_journal::{Draft, Failure};
 
 /// Gives a draft an operator without moving it.
+#[tactic(auto, using(crate::proofs::Settling::settled_exactly, undo_journal::proofs::Marks::first_step))]
 pub(crate) fn act_on_draft(draft: &mut Draft, op: Op) -> Result<(), Failure>
     ensures { TellsDraft draft.old (Command.Change (Change.Act op)) (told_of result) draft.new }
 {

@@ -8,6 +8,7 @@ use plane_split::splits_are_calls;
 use sweeps::larger_commands_are_calls;
 
 /// A command to a session on a sound model is one call of a history, whatever the answer is.
+#[tactic(auto, using(crate::proofs::Calls::commands_are_calls))]
 pub fn commands_are_calls()
     ensures { CommandsAreCalls }
 {
