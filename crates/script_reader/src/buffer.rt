@@ -88,6 +88,7 @@ impl Buffer {
     }
 
     /// Whether a newline is unread.
+    #[tactic(auto, using(crate::proofs::NewlineLaws::found_is))]
     pub fn has_newline(&self) -> bool
         ensures { result ≡ has_newline self.now.unread }
     {
@@ -129,6 +130,7 @@ impl Buffer {
     }
 
     /// Drops the last unread byte.
+    #[tactic(auto, using(crate::proofs::NewlineLaws::without_last))]
     pub fn drop_last(&mut self)
         requires { 0 < length self.old.unread }
         ensures { self.new.unread ≡ take (length self.old.unread - 1) self.old.unread }

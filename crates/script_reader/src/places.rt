@@ -17,6 +17,7 @@ pub enum Way {
     Out,
 }
 
+#[tactic(auto, using(crate::proofs::NumberLaws::some_half))]
 fn half_of(line: &[u8]) -> Option<(HalfEdge, &[u8])>
     ensures { MatchOption result (first_by half_of line.now ≡ None) (λ r. first_by half_of line.now ≡ Some (r.0, r.1.now)) }
 {
