@@ -5,7 +5,8 @@ tells the processor time of a line, the instructions of a line, the peak of memo
     bench/run.py [--program PROGRAM] [--sizes 10000,100000,1000000] [--only FAMILY,FAMILY] [--seconds S] [--times N] [--markdown]
 
 The two programs run by turns. The time is the best of N runs (7; fewer of those that take long), user and system together, less the best time for the
-lines that come before those measured (the start of the program, where there are none). A run past S seconds (20) is given up, and so are larger scripts of its family.
+lines that come before those measured (the start of the program, where there are none). The ratio is the median of those of runs next to each other, since
+a machine may be slow for some runs. A run past S seconds (20) is given up, and so are larger scripts of its family.
 
 Instructions are those of one run under callgrind, less those for the lines that come before. They are told where valgrind is there and the run takes
 at most a twentieth of a second without it, since it takes some fifty times as long with it.
@@ -15,6 +16,7 @@ import collections
 import filecmp
 import math
 import os
+import statistics
 import subprocess
 import tempfile
 
@@ -27,9 +29,9 @@ ENOUGH = 2.0            # seconds of processor time after which a script isn't r
 COUNTED = 0.05          # seconds of processor time up to which a run's instructions are counted
 
 
-# What a run costs, or a line of it; instructions are None where they aren't counted.
-Cost = collections.namedtuple('Cost', 'seconds memory instructions')
-NOTHING = Cost(0, 0, 0)
+# What a run costs, or a line of it; instructions are None where they aren't counted. The turns are the seconds of each run.
+Cost = collections.namedtuple('Cost', 'seconds memory instructions turns')
+NOTHING = Cost(0, 0, 0, ())
 
 
 class TooSlow(Exception):
@@ -61,7 +63,14 @@ def of_a_line(whole, rest, lines):
     if whole is None or rest is None:
         return None
     counted = None not in (whole.instructions, rest.instructions)
-    return Cost(max(whole.seconds - rest.seconds, 0) / lines, whole.memory, (whole.instructions - rest.instructions) / lines if counted else None)
+    return Cost(max(whole.seconds - rest.seconds, 0) / lines, whole.memory, (whole.instructions - rest.instructions) / lines if counted else None,
+                [seconds - rest.seconds for seconds in whole.turns])
+
+
+def ratio_of(one, other):
+    """The median of the ratios of two programs' runs next to each other; None where there is none."""
+    ratios = [first / second for first, second in zip(one.turns, other.turns) if second > 0]
+    return statistics.median(ratios) if ratios else None
 
 
 class Bench:
@@ -99,7 +108,7 @@ class Bench:
     def cost(self, program, script, runs):
         seconds, memory = min(run[0] for run in runs), max(run[1] for run in runs)
         is_counted = seconds <= COUNTED and callgrind.is_there()
-        return Cost(seconds, memory, instructions(program, script) if is_counted else None)
+        return Cost(seconds, memory, instructions(program, script) if is_counted else None, [run[0] for run in runs])
 
     def start(self):
         if None in self.starts:
@@ -135,8 +144,8 @@ def instructions_text(count):
 def table_row(name, size, got, limit):
     cells = [name, '{:,}'.format(size)]
     cells += [time_text(g.seconds) if g else 'over %d s in all' % limit for g in got]
-    ratio = got[0].seconds / got[1].seconds if None not in got and got[1].seconds > 0 else None
-    cells.append('%.1f' % ratio if ratio else '')
+    ratio = ratio_of(*got) if None not in got else None
+    cells.append('%.2f' % ratio if ratio else '')
     cells += [instructions_text(g.instructions) if g else '' for g in got]
     cells += [memory_text(g.memory) if g else '' for g in got]
     return cells, ratio
@@ -185,7 +194,7 @@ def measure_kind(bench, names, sizes, a):
     for size, found in ratios.items():
         if found:
             mean = math.exp(sum(map(math.log, found)) / len(found))
-            show(['(mean)', '{:,}'.format(size), '', '', '%.1f' % mean, '', '', '', ''], a.markdown)
+            show(['(mean)', '{:,}'.format(size), '', '', '%.2f' % mean, '', '', '', ''], a.markdown)
     print()
 
 
