@@ -340,6 +340,10 @@ class Labels(unittest.TestCase):
                 self.assertEqual(dict(again.labels), dict(self.bench.labels))
                 again.undo(), again.undo()
                 self.assertEqual(dict(again.labels), {})
+                self.assertEqual((len(again.solids()), again.ask('block 1 0 0 0 0 0 0').word), (0, 'refused'))
+                again.redo()
+                self.assertEqual(dict(again.labels), dict(self.bench.labels))
+                again.undo()
                 again.block((0, 0, 0), (1, 1, 1))
                 self.assertEqual(dict(again.labels), {})
 

@@ -112,7 +112,7 @@ class Cutting(Methods):
             except Refused as refused:
                 refused.args = (f'times {factor} all points of the cut are whole, but {refused}',)
                 raise
-            self._bench.kernel.notes.unit = self._bench.kernel.notes.unit / factor
+            self._bench.kernel.notes.now.unit /= factor
             # (its offset stays in range, since it meets edges whose ends do)
             return give(without_common_factor((*plane[:3], plane[3] * factor)), new)
 

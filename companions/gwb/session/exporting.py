@@ -62,7 +62,7 @@ class Exporting(Methods):
     @property
     def unit(self) -> Fraction:
         """How many millimetres a coordinate stands for: as the session began, but where coordinates were multiplied for a finer unit."""
-        return self._bench.kernel.notes.unit
+        return self._bench.kernel.notes.now.unit
 
     def page(self) -> str:
         """A page in HTML to turn the model and to pick from it, as `gwb-view` makes it, with the labels."""

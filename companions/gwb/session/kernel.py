@@ -20,7 +20,7 @@ _NOTHING_TO_REDO = Reply(('refused 26 0',))
 # Of a larger model it isn't told what would do in the place of a refused command: that may take long.
 _MOST_EDGES = 20_000
 # The commands after which numbers may be free that were in use.
-_FREEING = ('kvfs', 'kev', 'kef', 'kemr', 'mekr', 'kfmrh', 'glue', 'undo')
+_FREEING = ('kvfs', 'kev', 'kef', 'kemr', 'mekr', 'kfmrh', 'glue', 'undo', 'redo')
 
 
 class Kernel(Turns):
@@ -33,23 +33,20 @@ class Kernel(Turns):
         self.numbers = NewNumbers(self.lines)
         # The drafts and groups that are open, each within the ones before it (steps.py).
         self.blocks: List[Any] = []
-        self._is_giving = False
-        # Whether things may have gone that have labels, and whether this turn has given nothing yet.
-        self._may_have_gone, self._is_first = False, True
-        self._listing: Optional[Model] = None
+        # Whether a command is being given, whether this turn has given one, and whether things may have gone that have labels.
+        self._is_giving = self._has_given = self._may_have_gone = False
+        self._listing: Optional[Tuple[Tuple[int, ...], Model]] = None
         self._ended: Optional[List[str]] = None
 
     def close(self) -> None:
         """Ends the session. Its script and its labels are kept."""
         if self.lines.is_open:
-            self.numbers.note()
             self._ended, self.notes.labels = self.commands(), self.labels()
-        self.has_changed()
         self.lines.close()
 
     def begin_turn(self) -> None:
         """What an exception left half-way is put right: a draft that nobody has begun is given up, and the notes follow the commands."""
-        self._is_first, self._is_giving = True, False
+        self._is_giving = self._has_given = False
         if not self.lines.is_open:
             return
         if self.lines.is_drafting and not any(block.is_draft for block in self.blocks):
@@ -67,13 +64,10 @@ class Kernel(Turns):
     def listing(self) -> Model:
         """The model held."""
         self.lines.require_open()
-        if self._listing is None:
-            self._listing = self.lines.model(self.lines.numbers('face'))
-        return self._listing
-
-    def has_changed(self) -> None:
-        """What was read of the model no longer holds."""
-        self._listing = None
+        state = self.lines.state()
+        if self._listing is None or self._listing[0] != state:
+            self._listing = state, self.lines.model(self.lines.numbers('face'))
+        return self._listing[1]
 
     def labels(self) -> Dict[Thing, Appearance]:
         """The labels of what is there, or was there when the session ended."""
@@ -96,13 +90,9 @@ class Kernel(Turns):
         line = ' '.join(map(str, words))
         reply = self.ask(line)
         if reply.is_complaint:
-            raise self.complaint(line, reply)
-
-    def complaint(self, line: str, reply: Reply) -> Complaint:
-        """The error for a complaint about a line, with what would do."""
-        error = complaint(line, reply)
-        self.advise(error, line, reply)
-        return error
+            error = complaint(line, reply)
+            self.advise(error, line, reply)
+            raise error
 
     def advise(self, error: Complaint, line: str, reply: Reply) -> None:
         """Says how the advice of an error is found: as that of a line with this reply, while the model is as it is now."""
@@ -123,10 +113,12 @@ class Kernel(Turns):
             self.lock.release()
 
     def ask(self, line: str) -> Reply:
-        """The reply to any line. What it makes, undoes or redoes is taken account of."""
+        """The reply to any line. What it makes, undoes or redoes is taken account of. In a draft or a group nothing is undone or redone."""
         word = first_word(line.encode('utf-8', 'surrogateescape'))
-        if word in ('undo', 'redo'):
-            self.refuse_steps(line)
+        if word in ('undo', 'redo') and self.lines.is_drafting:
+            raise InDraft(f'{line}: a draft is open, in which nothing is undone or redone')
+        if word in ('undo', 'redo') and self.notes.group_from is not None:
+            raise InGroup(f'{line}: a group is open, which is undone when it has ended')
         if line.split() == ['redo'] and not self.notes.ahead():
             # (what was given up in a group is undone in the library, and isn't to be redone)
             self.lines.require_open()
@@ -137,49 +129,33 @@ class Kernel(Turns):
         """Gives what may be a new command, or a step of the draft; `frees` where numbers may be free after it that were in use."""
         if self._is_giving:
             raise OutOfStep('another call is under way')
-        if frees:
-            self.numbers.note()
-        before, was_told = self.notes.at, self._may_have_gone
         if is_new and not self.lines.is_drafting:
             self.notes.expect()
-        self._is_giving = True
+        if is_new and self._may_have_gone and self.notes.labels and not self._has_given:
+            self._forget_gone()
+        if frees:
+            self.expect_loss()
+        self._is_giving = self._has_given = True
         try:
-            self.has_changed()
-            if is_new:
-                self._forget_gone()
             return give()
         finally:
             self._is_giving = False
-            try:
-                self.settle()
-            finally:
-                is_left = self.notes.at == before and not self.lines.is_drafting
-                self._may_have_gone = self._may_have_gone or frees or (was_told and is_left)
-
-    def expect_loss(self) -> None:
-        """What comes takes something back: numbers may be free after it, and things may have gone that have labels."""
-        self.has_changed()
-        self.numbers.note()
-        self._may_have_gone = True
+            self.settle()
 
     def _forget_gone(self) -> None:
         """What is gone has no label any more, before a turn makes something that may have its number. Undo gives it back."""
-        if not (self._is_first and self._may_have_gone and self.notes.labels):
-            return
-        self._is_first = self._may_have_gone = False    # (it may have gone still where nothing comes of what is given)
-        for kind, number in [thing for thing in self.notes.labels if not self.lines.in_use(*thing)]:
-            self.notes.drop((kind, number))
+        gone = [thing for thing in self.notes.labels if not self.lines.in_use(*thing)]
+        for thing in gone:
+            self.notes.drop(thing)
+        self._may_have_gone = bool(gone)    # (there still, where nothing comes of what is given)
 
-    def refuse_steps(self, words: str) -> None:
-        """Raises InDraft or InGroup where nothing is undone or redone now."""
-        if self.lines.is_drafting:
-            raise InDraft(f'{words}: a draft is open, in which nothing is undone or redone')
-        if self.notes.group_from is not None:
-            raise InGroup(f'{words}: a group is open, which is undone when it has ended')
+    def expect_loss(self) -> None:
+        """What comes takes something away: numbers may be free after it, and things may have gone that have labels."""
+        self.numbers.note()
+        self._may_have_gone = True
 
     def step(self, word: str, commands: int) -> None:
         """Undoes or redoes so many commands, the word says which: all of them or none. A complaint is raised."""
-        self.refuse_steps(word)
         before = self.lines.depth
         try:
             for _ in range(commands):
@@ -191,8 +167,5 @@ class Kernel(Turns):
     def go_to(self, depth: int) -> None:
         """So many commands are held, of those that are held or can be redone."""
         while self.lines.is_open and self.lines.depth != depth:
-            reply = self.lines.ask('undo' if self.lines.depth > depth else 'redo')
-            if reply.is_complaint:
-                raise complaint('undo', reply)
-        self.has_changed()
+            self.lines.asked('undo' if self.lines.depth > depth else 'redo')
         self.settle()

@@ -1,11 +1,13 @@
 """What a session holds beside the model and follows its commands: which of them are one step to undo, the unit, and labels."""
 
 from fractions import Fraction
-from typing import Dict, List, Mapping, NamedTuple, Optional, Tuple
+from typing import Dict, List, Mapping, Optional, Tuple
 
 from ..formats.appearance import Appearance, Thing
 
 Look = Optional[Appearance]
+# A place among labels and units, to which there is a way back: how many labels the note had, and its unit.
+Place = Tuple[int, Fraction]
 
 
 class Note:
@@ -17,13 +19,6 @@ class Note:
     def __init__(self, begins: bool, unit: Fraction) -> None:
         self.begins, self.unit = begins, unit
         self.looks: List[Tuple[Thing, Look, Look]] = []
-
-
-class Place(NamedTuple):
-    """A place among labels and units, to which there is a way back: how many labels the note had, and its unit."""
-
-    looks: int
-    unit: Fraction
 
 
 class Notes:
@@ -43,37 +38,20 @@ class Notes:
         self.group_from: Optional[int] = None
 
     @property
-    def _now(self) -> Note:
+    def now(self) -> Note:
+        """That of the draft, or of the last command."""
         return self._draft or self._notes[self.at]
 
-    @property
-    def unit(self) -> Fraction:
-        """How many millimetres a coordinate stands for."""
-        return self._now.unit
-
-    @unit.setter
-    def unit(self, unit: Fraction) -> None:
-        self._now.unit = unit
-
-    def units(self) -> List[Fraction]:
-        """The unit before all commands, and after each one that is held."""
-        return [note.unit for note in self._notes[:self.at + 1]]
-
-    def begins(self, command: int) -> bool:
-        """Whether a step begins with a command, counted from 0."""
-        return self._notes[command + 1].begins
+    def held(self) -> List[Note]:
+        """That of what was there before all commands, and of each one that is held."""
+        return self._notes[:self.at + 1]
 
     # Labels
 
     def put(self, thing: Thing, look: Look) -> None:
         """A thing has another look, None for none, as part of the last command, or of the draft."""
-        self._now.looks.append((thing, self.labels.get(thing), look))
+        self.now.looks.append((thing, self.labels.get(thing), look))
         self._set(thing, look)
-
-    def begin_with(self, labels: Dict[Thing, Appearance]) -> None:
-        """These labels were there before all commands."""
-        self._notes[0].looks += [(thing, None, look) for thing, look in labels.items()]
-        self.labels.update(labels)
 
     def drop(self, thing: Thing) -> None:
         """A thing that is gone has no look, as part of the command that is expected, or of the draft."""
@@ -81,6 +59,11 @@ class Notes:
             self.put(thing, None)
         else:
             self._coming.looks.append((thing, self.labels.get(thing), None))
+
+    def begin_with(self, labels: Dict[Thing, Appearance]) -> None:
+        """These labels were there before all commands."""
+        self._notes[0].looks += [(thing, None, look) for thing, look in labels.items()]
+        self.labels.update(labels)
 
     def renumber(self, numbers: Mapping[str, Mapping[int, int]]) -> None:
         """All things have other numbers, said for each kind."""
@@ -100,7 +83,7 @@ class Notes:
 
     def expect(self) -> None:
         """A command is about to be given, outside of a draft."""
-        self._coming = Note(self.group_from is None or self.at <= self.group_from, self.unit)
+        self._coming = Note(self.group_from is None or self.at <= self.group_from, self.now.unit)
 
     def settle(self, depth: int) -> None:
         """So many commands are held."""
@@ -123,8 +106,6 @@ class Notes:
             self._set(thing, before)
 
     def _do_again(self, note: Note) -> None:
-        if not note.looks:
-            return
         note.looks = [(thing, self.labels.get(thing), after) for thing, _, after in note.looks]
         for thing, _, after in note.looks:
             self._set(thing, after)
@@ -133,7 +114,7 @@ class Notes:
 
     def open_draft(self) -> None:
         """A draft is open."""
-        self._draft = Note(False, self.unit)
+        self._draft = Note(False, self.now.unit)
 
     def commit(self) -> None:
         """The draft is about to be one command."""
@@ -151,21 +132,20 @@ class Notes:
 
     def place(self) -> Place:
         """Where it is now."""
-        return Place(len(self._now.looks), self.unit)
+        return len(self.now.looks), self.now.unit
 
     def go_back(self, place: Place) -> None:
         """It is as it was at a place, of the same draft or after the same command."""
-        note = self._now
-        self._take_back(note, place.looks)
-        del note.looks[place.looks:]
-        note.unit = place.unit
+        looks, self.now.unit = place
+        self._take_back(self.now, looks)
+        del self.now.looks[looks:]
 
     def hand_on(self, command: int, place: Place) -> None:
         """The labels that were given after a place of the note of a command go with the next command, if one is held."""
         if self.at > command:
             looks = self._notes[command].looks
-            self._notes[command + 1].looks[:0] = looks[place.looks:]
-            del looks[place.looks:]
+            self._notes[command + 1].looks[:0] = looks[place[0]:]
+            del looks[place[0]:]
 
     def ahead(self) -> List[Note]:
         """The notes of the commands that can be redone."""

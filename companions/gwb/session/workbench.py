@@ -15,8 +15,9 @@ drawings here.
 
 from html import escape
 from pathlib import Path
+from sys import maxsize
 from tempfile import NamedTemporaryFile
-from typing import ContextManager, Iterable, NoReturn, Optional
+from typing import ContextManager, Iterator, NoReturn, Optional, Tuple
 from webbrowser import open as open_in_browser
 
 from ..errors import CompanionError, Complaint, InDraft
@@ -37,7 +38,7 @@ from .exporting import Exporting
 from .feature_methods import FeatureMethods
 from .measuring import Measuring
 from .results import Numbers
-from .saved_steps import Marked, mark_in, saved_lines
+from .saved_steps import mark_in, saved_lines
 from .selection import Selecting
 from .solid_methods import SolidMethods
 from .steps import Block
@@ -129,32 +130,35 @@ class Workbench(SolidMethods, Cutting, FeatureMethods, Commands, Selecting, Meas
         script = _script_in(file, data)
         bench = cls(library)
         try:
-            bench._take(file, script.split(b'\n'))
+            bench._take(file, enumerate(script.split(b'\n'), 1))
             bench._bench.kernel.notes.begin_with(appearances_in(data.decode('utf-8', 'replace').splitlines()))
         except BaseException:
             bench.close()
             raise
         return bench
 
-    def _take(self, file: Path, lines: Iterable[bytes]) -> None:
-        """Gives the lines of a script; a complaint is raised."""
-        with Marked(self._bench.kernel) as marked:
-            for number, line in enumerate(lines, 1):
-                mark, unit = mark_in(line), unit_in(line)
-                if unit is not None:
-                    self._bench.kernel.notes.unit = unit
-                elif mark:
-                    marked.begin(mark)
-                elif is_answered(line):
-                    self._take_line(file, number, line.decode('utf-8', 'surrogateescape'))
-                    marked.count()
+    def _take(self, file: Path, lines: Iterator[Tuple[int, bytes]], within: str = '', most: int = maxsize) -> int:
+        """Gives the lines of a script, up to so many commands, which are a step or a draft where `within` says so: how many were given. A complaint
+        is raised."""
+        given = 0
+        for number, line in lines:
+            mark, unit = mark_in(line), unit_in(line)
+            if unit is not None:
+                self._bench.kernel.notes.now.unit = unit
+            elif mark and within not in (mark[0], 'draft'):
+                with Block(self._bench.kernel, mark[0] == 'step'):
+                    given += self._take(file, lines, mark[0], min(mark[1], most - given))
+            elif is_answered(line):
+                self._take_line(file, number, line.decode('utf-8', 'surrogateescape'))
+                given += 1
+            if given == most:
+                break
+        return given
 
     def _take_line(self, file: Path, number: int, line: str) -> None:
         """Gives a line of a script; a complaint names the file and the line."""
         try:
-            reply = self.ask(line)
-            if reply.is_complaint:
-                raise self._bench.kernel.complaint(line, reply)
+            self._bench.kernel.do(line)
         except (Complaint, InDraft) as error:
             error.args = (f'{file}, line {number}: {error.args[0]}{_hint(file, line)}',)
             raise
