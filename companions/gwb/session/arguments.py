@@ -192,10 +192,14 @@ def flag(name: str, value: object) -> bool:
     return value
 
 
-def text(name: str, value: object) -> str:
-    """A str."""
+def text(name: str, value: object, errors: str = 'surrogateescape') -> str:
+    """A str that can be written in UTF-8, with what stands for other bytes unless `errors` is 'strict'."""
     if not isinstance(value, str):
         raise wrong(name, 'a str', value)
+    try:
+        value.encode('utf-8', errors)
+    except UnicodeEncodeError:
+        raise ValueError(f'{name}: {value!r} has a character that no text in UTF-8 has') from None
     return value
 
 
@@ -207,16 +211,6 @@ def word(name: str, value: object, words: Sequence[str]) -> str:
     if value not in words:
         raise ValueError(f'{name}: {wanted} is wanted, not {value!r}')
     return value
-
-
-def line(name: str, value: object) -> str:
-    """A str that can be sent."""
-    found = text(name, value)
-    try:
-        found.encode('utf-8', 'surrogateescape')
-    except UnicodeEncodeError:
-        raise ValueError(f'{name}: {found!r} has a character that no text in UTF-8 has') from None
-    return found
 
 
 def path(name: str, value: object) -> str:

@@ -73,13 +73,6 @@ class Bench:
         """The word for a corner, in a lone loop or at a half-edge."""
         return f'@{self.number(f"{name}.loop", value.loop, "loop")}' if isinstance(value, arguments.Lone) else self.half(name, value)
 
-    def pair(self, name: str, value: object, kind: str) -> Tuple[int, int]:
-        """The numbers of two things of the kind."""
-        found = self.several(name, value, kind)
-        if len(found) != 2:
-            raise ValueError(f'{name}: two numbers are wanted, not {len(found)}')
-        return (found[0], found[1])
-
     def new(self, kind: str, given: Optional[int]) -> int:
         """The number that was given, by the argument of the kind's name, or a new one."""
         if given is not None:
@@ -110,8 +103,7 @@ class Bench:
 class Methods:
     """Methods of a workbench on one subject, over what they share."""
 
-    def __init__(self, bench: Bench) -> None:
-        self._bench = bench
+    _bench: Bench
 
 
 def warn(text: str) -> None:

@@ -4,7 +4,6 @@ from typing import Callable, Dict, List, NamedTuple, Optional, Sequence, Tuple, 
 
 from ..errors import Refused
 from ..geometry.crossings import Plane, without_common_factor
-from ..geometry.free_numbers import numbers_of
 from ..geometry.vectors import dot, negative
 from . import arguments
 from .bench import Methods, warn
@@ -136,11 +135,10 @@ class Cutting(Methods):
 
     def _split(self, solid: int, plane: Plane, above: int) -> Split:
         """Gives the command: what it makes."""
-        kernel = self._bench.kernel
-        kernel.do('split', solid, *plane, above)
-        model = kernel.lines.model([face for side in (solid, above) for face in kernel.lines.faces_of(side)])
-        numbers = numbers_of(model)
-        made = {kind: tuple(found for found in numbers[kind] if found in new) for kind, new in kernel.lines.fresh().items()}
-        caps = [face for face in made['face'] if all(dot(plane[:3], point) + plane[3] == 0 for point in model.face_points(face))]
+        lines = self._bench.kernel.lines
+        self._bench.kernel.do('split', solid, *plane, above)
+        faces, edges, vertices = (tuple(number for number in lines.fresh()[kind] if lines.in_use(kind, number)) for kind in ('face', 'edge', 'vertex'))
+        model = lines.model(faces)
+        caps = [face for face in faces if all(dot(plane[:3], point) + plane[3] == 0 for point in model.face_points(face))]
         lower, upper = (tuple(face for face in caps if model.faces[face].solid == side) for side in (solid, above))
-        return Split(above, lower, upper, made['face'], made['edge'], made['vertex'])
+        return Split(above, lower, upper, faces, edges, vertices)

@@ -4,21 +4,18 @@ import os
 from fractions import Fraction
 from pathlib import Path
 from types import MappingProxyType
-from typing import Callable, Dict, List, NamedTuple, Optional, Tuple, Union
+from typing import List, Optional, Tuple, Union
 
 from ..drawing.page import page_of
 from ..errors import Unfit
-from ..formats.appearance import LONGEST_NAME, Appearance, Appearances, Colour, colour_of
-from ..formats.glb import glb_bytes
+from ..formats.appearance import LONGEST_NAME, Appearance, Appearances, Colour, Said, colour_of
 from ..formats.importing import read_file
 from ..formats.models_of_parts import Imported
-from ..formats.mesh import mesh_of
+from ..formats.mesh import Mesh, mesh_of
+from ..formats.mesh_files import FORMS
 from ..formats.obj import mtl_text, obj_text
-from ..formats.off import off_text
-from ..formats.polygon_files import FORMS
+from ..formats.polygon_files import FORMS as FORMS_IN
 from ..formats.step.write import step_text
-from ..formats.stl import stl_text
-from ..formats.three_mf.write import three_mf_bytes
 from ..geometry.free_numbers import renumbered
 from ..geometry.model import Model
 from ..geometry.plane_figures import Exact
@@ -28,12 +25,7 @@ from .bench import Methods, warn
 from .reading import FacePart, Selection, SolidPart
 
 
-class _Held(NamedTuple):
-    """What a file is made of: the model, the labels, and the size of a coordinate."""
-
-    model: Model
-    labels: Appearances
-    unit: Fraction
+_ENDINGS = ('.step', '.stp', '.3mf', '.glb', '.obj', '.off', '.stl', '.html')
 
 
 class Exporting(Methods):
@@ -74,16 +66,14 @@ class Exporting(Methods):
         ValueError for another ending, Unfit where a face isn't flat and plain, nothing is held, or a coordinate is past what GLB holds, OSError where
         the file can't be written, or a .mtl is there that the .obj doesn't name. Warns where solids touch and the form doesn't keep them apart."""
         file = Path(arguments.path('path', path))
-        write = _WRITERS.get(file.suffix.lower())
-        if write is None:
-            raise ValueError(f'{file.name}: the endings are {" ".join(_WRITERS)}')
+        if file.suffix.lower() not in _ENDINGS:
+            raise ValueError(f'{file.name}: the endings are {" ".join(_ENDINGS)}')
         model = self._bench.kernel.listing()
         if not model.solids and file.suffix.lower() != '.html':
             raise Unfit(f'{file.name}: no solid is held, so there is nothing to write')
         if file.suffix.lower() in ('.off', '.stl'):
             _warn_of_touching(model, file.suffix)
-        data = write(_Held(model, self._bench.kernel.labels(), self.unit), file)
-        file.write_bytes(data)
+        file.write_bytes(_written(model, Said(self._bench.kernel.labels(), self.unit), file))
 
     def import_file(self, path: arguments.Path, *, form: str = '', scale: Exact = 1, rounded: bool = False, keep_triangles: bool = False,
                     repair: bool = False, within: Exact = 0, flat: bool = False) -> 'Selection[SolidPart]':
@@ -96,7 +86,7 @@ class Exporting(Methods):
         `repair` mends what can be; `flat` takes of STEP the flat solids alone. Warns of what is wrong with the solids, and of what is left out.
         Raises OSError; NotAMesh where it is no such file; Unfit where its surfaces aren't closed, or a point isn't whole or past the range.
         Refused: NumbersSpent."""
-        kind = arguments.text('form', form) and arguments.word('form', form, FORMS)
+        kind = arguments.text('form', form) and arguments.word('form', form, FORMS_IN)
         size, most = arguments.factor('scale', scale) / self.unit, arguments.fraction('within', within)
         round_all, keep, mend, flat_alone = (arguments.flag(name, value) for name, value in (
             ('rounded', rounded), ('keep_triangles', keep_triangles), ('repair', repair), ('flat', flat)))
@@ -121,9 +111,7 @@ class Exporting(Methods):
 
 def _name(value: object) -> str:
     """A name that a file can have."""
-    found = arguments.text('name', value)
-    if not found.isprintable() and any('\ud800' <= letter <= '\udfff' for letter in found):
-        raise ValueError(f'name: {found!r} has a character that no text in UTF-8 has')
+    found = arguments.text('name', value, 'strict')
     if len(found) > LONGEST_NAME:
         raise ValueError(f'name: {len(found)} characters are more than {LONGEST_NAME}')
     return found
@@ -141,32 +129,29 @@ def _page(model: Model, labels: Appearances, unit: Fraction) -> str:
     return page_of(model, 'gwb' if unit == 1 else f'gwb, unit {unit}', looks=labels)
 
 
-def _obj(held: _Held, file: Path) -> bytes:
-    mesh, materials = mesh_of(held.model), file.with_suffix('.mtl')
-    if not any(look.colour for look in held.labels.values()):
-        return obj_text(mesh, held.labels, unit=held.unit).encode()
-    text = obj_text(mesh, held.labels, materials.name, unit=held.unit)
+def _written(model: Model, said: Said, file: Path) -> bytes:
+    """What is to stand in a file, by the ending of its name; a .mtl beside it is written on the way."""
+    form = file.suffix.lower()
+    if form == '.html':
+        return _page(model, *said).encode()
+    if form in ('.step', '.stp'):
+        return step_text(model, *said).encode()
+    mesh = mesh_of(model)
+    return _coloured(mesh, said, file) if form == '.obj' and any(look.colour for look in said.looks.values()) else FORMS[form[1:]](mesh, said)
+
+
+def _coloured(mesh: Mesh, said: Said, file: Path) -> bytes:
+    materials = file.with_suffix('.mtl')
+    text = obj_text(mesh, said.looks, materials.name, unit=said.unit)
     if materials.exists() and not _names(file, materials.name):
         raise FileExistsError(f'{materials} is there, and is of no {file.name} that is there: the colours would be written over it')
-    materials.write_text(mtl_text(held.labels), encoding='utf-8')
+    materials.write_text(mtl_text(said.looks), encoding='utf-8')
     return text.encode()
 
 
 def _names(file: Path, materials: str) -> bool:
     """Whether a file of the form .obj is there and names the materials."""
     return file.exists() and f'mtllib {materials}'.encode() in file.read_bytes().splitlines()
-
-
-_Writer = Callable[[_Held, Path], bytes]
-_WRITERS: Dict[str, _Writer] = {
-    **dict.fromkeys(('.step', '.stp'), lambda held, _: step_text(*held).encode()),
-    '.3mf': lambda held, _: three_mf_bytes(mesh_of(held.model), held.labels, held.unit),
-    '.glb': lambda held, _: glb_bytes(mesh_of(held.model), held.labels, held.unit),
-    '.obj': _obj,
-    '.off': lambda held, _: off_text(mesh_of(held.model), held.unit).encode(),
-    '.stl': lambda held, _: stl_text(mesh_of(held.model), held.unit).encode(),
-    '.html': lambda held, _: _page(*held).encode(),
-}
 
 
 def _warn_of_touching(model: Model, ending: str) -> None:

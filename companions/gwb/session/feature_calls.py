@@ -15,9 +15,8 @@ from ..protocol.listing import listing_lines
 from ..protocol.replies import Reply
 from .c_calls import (ADDRESS, IMPOSSIBLE, LENGTH, LOWER_CAPS, MEMORY, NO_CALL, OK, REFUSED, SIZE, UPPER_CAPS, WORD, CutPlane, Pair, Point, Ratio,
                       Refusal)
-from .kernel import Kernel
+from .kernel import NUMBERS_SPENT, Kernel
 from .library import filled
-from .new_numbers import NUMBERS_SPENT
 
 _CUTS = ('cut', 'trim')
 # What misfits say, and conditions that say something else of a feature than of a command.
@@ -175,7 +174,7 @@ class FeatureCalls:
             return self._refused(word, why)
         if said == MEMORY:
             return memory_refused(word)
-        self._kernel.lines.require_answer(said)
+        self._kernel.lines.require_open()
         if said == NO_CALL:
             raise ValueError(f'{word}: what is given is no solid')
         raise AssertionError(f'{word}: an answer of kind {said}')

@@ -1,21 +1,23 @@
-"""The session of the library, the notes on its commands, and the drafts and groups that are open in it."""
+"""The session of the library, the notes on its commands, the drafts and groups that are open in it, and the numbers of new things."""
 
 from fractions import Fraction
+from itertools import islice
 from typing import Any, Callable, Dict, List, Optional, Sequence, Tuple, TypeVar
 
 from ..errors import Complaint, InDraft, InGroup, OutOfStep
 from ..formats.appearance import Appearance, Thing
+from ..geometry.free_numbers import KINDS, LARGEST, numbers_of
 from ..geometry.model import Model
 from ..protocol.advice import advice
-from ..protocol.complaints import complaint
+from ..protocol.complaints import complaint, refused
 from ..protocol.language import first_word
 from ..protocol.replies import Reply
 from .library import Library
-from .new_numbers import NewNumbers
 from .notes import Notes
 from .turns import Turns
 
 Said = TypeVar('Said')
+NUMBERS_SPENT = 27
 _NOTHING_TO_REDO = Reply(('refused 26 0',))
 # Of a larger model it isn't told what would do in the place of a refused command: that may take long.
 _MOST_EDGES = 20_000
@@ -169,3 +171,45 @@ class Kernel(Turns):
         while self.lines.is_open and self.lines.depth != depth:
             self.lines.asked('undo' if self.lines.depth > depth else 'redo')
         self.settle()
+
+
+class NewNumbers:
+    """The numbers of new things: above all that are or were in use, or in gaps."""
+
+    def __init__(self, lines: Library) -> None:
+        self._lines = lines
+        self.forget()
+
+    def note(self) -> None:
+        """The numbers that are in use now may be free after what comes."""
+        self._ever = {kind: self._above(kind) - 1 for kind in KINDS}
+
+    def forget(self) -> None:
+        """What was in use may be taken again."""
+        self._ever, self._gaps = dict.fromkeys(KINDS, 0), dict.fromkeys(KINDS, 0)
+
+    def next(self, kind: str) -> int:
+        """One above all that are in use or were; where the greatest there is was used, the least after the last one so given that isn't in use; where
+        none is left, one past the greatest, which the kernel refuses."""
+        above = self._above(kind)
+        if above > LARGEST:
+            left = range(self._gaps[kind] + 1, LARGEST + 1)
+            above = self._gaps[kind] = next((number for number in left if not self._lines.in_use(kind, number)), above)
+        return above
+
+    def instead_of(self, model: Model) -> Dict[str, Dict[int, int]]:
+        """For each kind a free number for each of the model's: those that were never in use, then those in gaps. Refused: NumbersSpent."""
+        return {kind: dict(zip(sorted(numbers), self._free(kind, len(numbers)))) for kind, numbers in numbers_of(model).items()}
+
+    def _above(self, kind: str) -> int:
+        """The number after all that are in use or were."""
+        return max(self._ever[kind], self._lines.greatest(kind)) + 1
+
+    def _free(self, kind: str, count: int) -> List[int]:
+        """So many numbers of the kind."""
+        above = self._above(kind)
+        found = list(range(above, min(above + count, LARGEST + 1)))
+        found += islice((number for number in range(1, above) if not self._lines.in_use(kind, number)), count - len(found))
+        if len(found) < count:
+            raise refused('load', NUMBERS_SPENT, KINDS.index(kind) + 1, f'no {kind} number is free, and one is needed')
+        return found

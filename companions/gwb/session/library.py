@@ -5,26 +5,21 @@ import os
 import re
 from ctypes.util import find_library
 from pathlib import Path
-from typing import Any, Callable, Dict, Iterable, Iterator, Optional, Tuple, Type
+from typing import Any, Callable, Dict, Iterable, Iterator, Optional, Tuple
 
-from ..errors import CompanionError, Ended, InDraft, NoDraft, ProgramMissing
+from ..errors import CompanionError, Ended, ProgramMissing
 from ..geometry.free_numbers import KINDS, from_least
 from ..geometry.model import Face, Loop, Model
 from ..geometry.vectors import Vector
-from ..protocol.complaints import complaint
+from ..protocol.complaints import complaint, memory_refused
 from ..protocol.language import command_bytes, first_word
 from ..protocol.replies import ACCEPTED, Reply, only_reply
 from ..version import VERSION
-from .c_calls import ADDRESS, CLOSED, FOUND, IN_DRAFT, NO_DRAFT, OK, PLANE, SIZE, WORD, EdgeRow, FaceRow, Handle, PlaneRow, Point, Range, Refusal, prototypes
-from .results import Plane
+from .c_calls import ADDRESS, FOUND, OK, SIZE, WORD, EdgeRow, FaceRow, Handle, Point, Range, prototypes
 
 _NO_TEXT = SIZE(-1).value
 _ROOM = 4096
 _FEW = 64
-_CLOSED_TEXT = 'the session is closed'
-# What is raised where there is no answer, and what it says.
-_NO_ANSWERS: Dict[int, Tuple[Type[CompanionError], str]] = {
-    CLOSED: (Ended, _CLOSED_TEXT), IN_DRAFT: (InDraft, 'a draft is open, in which nothing is undone or redone'), NO_DRAFT: (NoDraft, 'there is no draft')}
 _MAJOR = int(VERSION.split('.')[0])
 _PACKAGE = Path(__file__).resolve().parents[1]
 
@@ -114,7 +109,7 @@ class Library:
     def require_open(self) -> None:
         """Raises Ended where the session is closed."""
         if not self.handle.is_open:
-            raise Ended(_CLOSED_TEXT)
+            raise Ended('the session is closed')
 
     # Commands
 
@@ -124,7 +119,6 @@ class Library:
         self.require_open()
         self._taken_back += first_word(data) in ('undo', 'redo')
         said = self.library.line(self.handle, data, len(data))
-        self.require_answer(said)
         if said == OK:
             return ACCEPTED
         text: bytes = filled(ctypes.c_char, _ROOM, lambda buffer, room: int(self.library.reply(self.handle, buffer, room)))
@@ -137,22 +131,16 @@ class Library:
             raise complaint(line, reply)
         return reply
 
-    def require_answer(self, said: int) -> None:
-        """Raises what a kind of answer stands for that is none to a command."""
-        if said in _NO_ANSWERS:
-            error, why = _NO_ANSWERS[said]
-            raise error(why)
-
     def open_draft(self) -> None:
         """Opens a draft. MemoryRefused is raised where there is none."""
-        said = self.library.draft(self.handle)
-        self.require_answer(said)
-        if said != OK:
-            raise complaint('draft', Reply(('memory',)))
+        self.require_open()
+        if self.library.draft(self.handle) != OK:
+            raise memory_refused('draft')
 
     def commit(self) -> None:
         """The steps of the draft are one command."""
-        self.require_answer(self.library.commit(self.handle))
+        said = self.library.commit(self.handle)
+        assert said == OK, 'a draft is open'
 
     def abandon(self) -> None:
         """Takes the steps of the draft back. A closed session has no steps."""
@@ -203,13 +191,6 @@ class Library:
 
     # The model
 
-    def half_edges(self, loop: int) -> Tuple[int, ...]:
-        """The half-edges of a loop, from the least on: none of a lone loop, or of one that is not there."""
-        self.require_open()
-        codes = filled(WORD, _FEW, lambda buffer, room: int(self.library.half_edges(self.handle, loop, buffer, room)))
-        halves = [-(code // 2) if code % 2 else code // 2 for code in codes]
-        return from_least(halves) if halves else ()
-
     def in_use(self, kind: str, number: int) -> bool:
         """Whether the number of the kind is in use."""
         return number > 0 and self._number('number_after', KINDS.index(kind), number - 1) == number
@@ -237,28 +218,25 @@ class Library:
         row = self._read('face', FaceRow(), face)
         return int(row.solid) if row else 0
 
-    def plane(self, face: int) -> Optional[Plane]:
-        """The plane of a face; None where it is not there."""
-        row = PlaneRow()
-        self.require_open()
-        if self.library.plane(self.handle, face, row, Refusal()) != PLANE:
-            return None
-        a, b, c, d = (number.high << 64 | number.low for number in row.numbers)
-        return Plane(a, b, c, d, bool(row.flat))
-
     def loop(self, loop: int) -> Optional[Loop]:
-        """A loop; None where it is not there."""
+        """A loop, its half-edges from the least on; None where it is not there."""
         vertex = self._number('lone_vertex', loop)
-        halves = self.half_edges(loop) if vertex is None else ()
+        codes = [] if vertex else filled(WORD, _FEW, lambda buffer, room: int(self.library.half_edges(self.handle, loop, buffer, room)))
+        halves = from_least(-(code // 2) if code % 2 else code // 2 for code in codes) if codes else ()
         return Loop(halves, vertex) if halves or vertex else None
 
     def face_of_loop(self, loop: int) -> int:
         """The face of a loop that is there."""
         return self._number('loop', loop) or 0
 
-    def loop_of(self, half: int) -> int:
-        """The loop in which a half-edge stands that is there."""
-        return self._number('half_edge_loop', 2 * half if half > 0 else 1 - 2 * half) or 0
+    def face_at(self, half: int) -> int:
+        """The face in whose loops a half-edge stands that is there."""
+        return self.face_of_loop(self._number('half_edge_loop', 2 * half if half > 0 else 1 - 2 * half) or 0)
+
+    def tail(self, half: int) -> int:
+        """The vertex at which a half-edge starts that is there."""
+        row = self._read('edge', EdgeRow(), abs(half))
+        return int(row.start if half > 0 else row.end)
 
     def edge(self, edge: int) -> Optional[Tuple[int, int]]:
         """The vertices of an edge; None where it is not there."""

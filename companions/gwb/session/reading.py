@@ -1,14 +1,15 @@
 """The model held, part by part: solids, faces, loops, edges and vertices that are read when they are asked for."""
 
+from dataclasses import dataclass
 from fractions import Fraction
-from typing import Callable, Generic, Iterable, Iterator, Optional, Sequence, Tuple, TypeVar, Union, overload
+from operator import index
+from typing import Callable, ClassVar, Generic, Iterable, Iterator, Optional, Sequence, Tuple, TypeVar, Union, overload
 
 from ..errors import NotOne, Refused
-from ..geometry.model import Face, Loop
+from ..geometry.model import Loop
 from ..geometry.solid_measures import root, square_area
 from ..geometry.vectors import Vector, dot, subtract
 from .kernel import Kernel
-from .library import Library
 from .turns import PartOfTurns
 
 Found = TypeVar('Found', bound='Part')
@@ -16,23 +17,17 @@ Read = TypeVar('Read')
 _PLURALS = {'vertex': 'vertices'}
 
 
+@dataclass(repr=False, unsafe_hash=True)
 class Part(PartOfTurns):
     """One thing of the model held, by its number. What it says is read anew each time, so it follows the commands."""
 
-    kind = ''
-    _missing = 0
-
-    def __init__(self, kernel: Kernel, number: int) -> None:
-        self._kernel, self.number = kernel, number
+    kind: ClassVar[str] = ''
+    _missing: ClassVar[int] = 0
+    _kernel: Kernel
+    number: int
 
     def __index__(self) -> int:
         return self.number
-
-    def __eq__(self, other: object) -> bool:
-        return isinstance(other, Part) and (self._kernel, self.kind, self.number) == (other._kernel, other.kind, other.number)
-
-    def __hash__(self) -> int:
-        return hash((self.kind, self.number))
 
     def __repr__(self) -> str:
         return f'<{self.kind} {self.number}>'
@@ -46,10 +41,6 @@ class Part(PartOfTurns):
     def points(self) -> Tuple[Vector, ...]:
         """The points of its vertices, in their order."""
         return tuple(vertex.point for vertex in self.vertices)
-
-    def _read(self) -> Library:
-        lines: Library = self._kernel.lines
-        return lines
 
     def _there(self, found: Optional[Read]) -> Read:
         """What was read of it. Refused where there is no such thing."""
@@ -108,7 +99,7 @@ class Selection(Sequence[Found], Generic[Found]):
 
     def __or__(self, other: 'Selection[Found]') -> 'Selection[Found]':
         """Those of either selection, rising by their numbers."""
-        parts = sorted({*self._parts, *self._alike(other)}, key=_number)
+        parts = sorted({*self._parts, *self._alike(other)}, key=index)
         return Selection(self._kind, f'{self._wanted} or{other._wanted}', parts)
 
     def where(self, fits: Callable[[Found], object]) -> 'Selection[Found]':
@@ -167,7 +158,7 @@ class VertexPart(Part):
     @property
     def point(self) -> Vector:
         """Where it lies."""
-        return self._there(self._read().vertex(self.number))
+        return self._there(self._kernel.lines.vertex(self.number))
 
     @property
     def vertices(self) -> 'Sequence[VertexPart]':
@@ -184,15 +175,14 @@ class EdgePart(Part):
     @property
     def vertices(self) -> Tuple[VertexPart, VertexPart]:
         """The vertices at which `+e` and `-e` start."""
-        start, end = self._there(self._read().edge(self.number))
+        start, end = self._there(self._kernel.lines.edge(self.number))
         return (VertexPart(self._kernel, start), VertexPart(self._kernel, end))
 
     @property
     def faces(self) -> 'Tuple[FacePart, FacePart]':
         """The faces in which `+e` and `-e` stand, which may be one."""
-        reader = self._read()
-        self._there(reader.edge(self.number))
-        right, left = (FacePart(self._kernel, reader.face_of_loop(reader.loop_of(half))) for half in (self.number, -self.number))
+        self._there(self._kernel.lines.edge(self.number))
+        right, left = (FacePart(self._kernel, self._kernel.lines.face_at(half)) for half in (self.number, -self.number))
         return (right, left)
 
     @property
@@ -227,19 +217,17 @@ class LoopPart(Part):
     @property
     def vertices(self) -> Tuple[VertexPart, ...]:
         """The vertices at which its half-edges start, in their order, or its one vertex."""
-        content, reader = self._content(), self._read()
-        if content.vertex is not None:
-            return (VertexPart(self._kernel, content.vertex),)
-        return tuple(VertexPart(self._kernel, _tail(reader, half)) for half in content.halves)
+        halves, lone = self._content()
+        return tuple(VertexPart(self._kernel, vertex) for vertex in ([lone] if lone else map(self._kernel.lines.tail, halves)))
 
     @property
     def face(self) -> 'FacePart':
         """The face it is of."""
         self._content()
-        return FacePart(self._kernel, self._read().face_of_loop(self.number))
+        return FacePart(self._kernel, self._kernel.lines.face_of_loop(self.number))
 
     def _content(self) -> Loop:
-        return self._there(self._read().loop(self.number))
+        return self._there(self._kernel.lines.loop(self.number))
 
 
 class FacePart(Part):
@@ -251,13 +239,12 @@ class FacePart(Part):
     @property
     def solid(self) -> 'SolidPart':
         """The solid it is of."""
-        return SolidPart(self._kernel, self._there(self._read().solid_of(self.number)))
+        return SolidPart(self._kernel, self._there(self._kernel.lines.solid_of(self.number)))
 
     @property
     def loops(self) -> Tuple[LoopPart, ...]:
         """Its outer loop and then its rings, rising."""
-        row: Face = self._there(self._read().face(self.number))
-        return tuple(LoopPart(self._kernel, loop) for loop in row.loops)
+        return tuple(LoopPart(self._kernel, loop) for loop in self._there(self._kernel.lines.face(self.number)).loops)
 
     @property
     def outer(self) -> LoopPart:
@@ -282,15 +269,16 @@ class FacePart(Part):
     @property
     def normal(self) -> Vector:
         """Its normal, twice its area long: the first three numbers of its plane."""
-        return self._there(self._read().plane(self.number))[:3]
+        self._there(self._kernel.lines.solid_of(self.number))
+        a, b, c, _ = self._kernel.lines.asked(f'plane {self.number}').numbers
+        return (a, b, c)
 
     @property
     def area(self) -> Union[Fraction, float]:
         """Its area in squares of coordinates: a fraction where it is one, as `faces(area=)` takes it, else rounded. Raises Unfit where it isn't
         flat."""
-        reader = self._read()
-        self._there(reader.solid_of(self.number))
-        return root(square_area(reader.model([self.number]), self.number))
+        self._there(self._kernel.lines.solid_of(self.number))
+        return root(square_area(self._kernel.lines.model([self.number]), self.number))
 
 
 class SolidPart(Part):
@@ -302,7 +290,7 @@ class SolidPart(Part):
     @property
     def faces(self) -> Selection[FacePart]:
         """Its faces, rising."""
-        return self._selected('face', [FacePart(self._kernel, face) for face in self._there(self._read().faces_of(self.number))])
+        return self._selected('face', [FacePart(self._kernel, face) for face in self._there(self._kernel.lines.faces_of(self.number))])
 
     @property
     def loops(self) -> Selection[LoopPart]:
@@ -320,14 +308,4 @@ class SolidPart(Part):
         return self._selected('vertex', {vertex for loop in self.loops for vertex in loop.vertices})
 
     def _selected(self, kind: str, parts: Iterable[Found]) -> Selection[Found]:
-        return Selection(kind, f' of solid {self.number}', sorted(parts, key=_number))
-
-
-def _tail(reader: Library, half: int) -> int:
-    ends = reader.edge(abs(half))
-    assert ends is not None, 'an edge of a loop is there'
-    return ends[0] if half > 0 else ends[1]
-
-
-def _number(part: Part) -> int:
-    return part.number
+        return Selection(kind, f' of solid {self.number}', sorted(parts, key=index))

@@ -65,7 +65,10 @@ class Selecting(Methods):
 
     def _faces_sought(self, pair: Tuple[arguments.Face, arguments.Face]) -> List[int]:
         """The numbers of two faces for a query, in which 0 stands for any."""
-        return [arguments.positive('between', face) for face in self._bench.pair('between', pair, 'face')]
+        found = self._bench.several('between', pair, 'face')
+        if len(found) != 2:
+            raise ValueError(f'between: two numbers are wanted, not {len(found)}')
+        return [arguments.positive('between', face) for face in found]
 
     def _sought_in(self, solid: Optional[arguments.Solid]) -> int:
         """The number of a solid for a query, in which 0 stands for all."""

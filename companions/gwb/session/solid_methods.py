@@ -10,8 +10,8 @@ from . import arguments, solids
 from .bench import Bench, Methods
 from .c_calls import FLOOR, WALLS, Point
 from .feature_calls import rows, words
+from .kernel import NUMBERS_SPENT
 from .labelling import LabelledFaces
-from .new_numbers import NUMBERS_SPENT
 from .reading import EdgePart
 from .results import Notch, Renumbered
 from .solids import Copy
@@ -134,10 +134,9 @@ class SolidMethods(Methods):
 
 def _sloped(bench: Bench, word: str, edges: Sequence[int], *values: Any) -> Tuple[int, ...]:
     """Gives a feature that makes slopes of edges, which are returned; the parts of faces get the labels of these."""
-    lines = bench.kernel.lines
     for edge in edges:
         EdgePart(bench.kernel, edge).vertices
-    labelled = LabelledFaces(bench.kernel, bench.solid_of(lines.face_of_loop(lines.loop_of(edges[0]))))
+    labelled = LabelledFaces(bench.kernel, EdgePart(bench.kernel, edges[0]).solid.number)
     with bench.step():
         made = bench.features.written(word, len(edges), *values, frees=True)
         labelled.label_parts([bench.solid_of(made[0])], made)

@@ -6,14 +6,14 @@ from ..errors import MemoryRefused, NoDraft
 from .kernel import Kernel
 
 
-class _Draft:
-    """A draft of the library. One without steps leaves everything as it was."""
+class _Part:
+    """Steps of a draft that is open, from a mark on."""
 
-    is_draft = True
+    is_draft = False
 
     def __init__(self, kernel: Kernel) -> None:
-        self._kernel = kernel
-        self._is_kept = False
+        self._kernel, self._is_kept, self._outer = kernel, False, kernel.notes.group_from
+        self._place, self._mark = kernel.notes.place(), kernel.lines.mark()
 
     @property
     def is_open(self) -> bool:
@@ -43,17 +43,31 @@ class _Draft:
 
     def _leave(self) -> None:
         blocks = self._kernel.blocks
-        place = blocks.index(self)
-        if place == 0:
+        if blocks[0] is self:
             self._kernel.let_go()
-        for block in reversed(blocks[place:]):
-            block.leave()
-            blocks.remove(block)
+        self._kernel.notes.group_from = self._outer
+        del blocks[blocks.index(self):]
 
     # What each kind does
 
     def begin(self) -> None:
         """It opens."""
+
+    def keep(self) -> None:
+        """What was given in it stays."""
+
+    def take_back(self) -> None:
+        """All is as it was before it. This may come twice, here and below."""
+        self._kernel.lines.back(self._mark)
+        self._kernel.notes.go_back(self._place)
+
+
+class _Draft(_Part):
+    """A draft of the library. One without steps leaves everything as it was."""
+
+    is_draft = True
+
+    def begin(self) -> None:
         self._kernel.lines.open_draft()
         self._kernel.notes.open_draft()
 
@@ -69,34 +83,9 @@ class _Draft:
         kernel.settle()
 
     def take_back(self) -> None:
-        """All is as it was before it. This may come twice, here and below."""
         if self._kernel.lines.is_drafting:
             self._kernel.lines.abandon()
         self._kernel.notes.end_draft(False)
-
-    def leave(self) -> None:
-        """It is over, in one way or the other."""
-
-
-class _PartOfDraft(_Draft):
-    """Steps of a draft that is open, from a mark on."""
-
-    is_draft = False
-
-    def __init__(self, kernel: Kernel) -> None:
-        super().__init__(kernel)
-        self._place, self._mark = kernel.notes.place(), kernel.lines.mark()
-
-    def begin(self) -> None:
-        """It begins where the draft is."""
-
-    def keep(self) -> None:
-        """Its steps are the draft's."""
-
-    def take_back(self) -> None:
-        """The draft goes back to where it was."""
-        self._kernel.lines.back(self._mark)
-        self._kernel.notes.go_back(self._place)
 
 
 class _Group(_Draft):
@@ -106,8 +95,7 @@ class _Group(_Draft):
 
     def __init__(self, kernel: Kernel) -> None:
         super().__init__(kernel)
-        self._outer, self._before, self._place = kernel.notes.group_from, kernel.lines.depth, kernel.notes.place()
-        self._ahead, self._notes = _ahead(kernel), kernel.notes.ahead()
+        self._before, self._ahead, self._notes = kernel.lines.depth, _ahead(kernel), kernel.notes.ahead()
 
     def begin(self) -> None:
         """It begins with the next command."""
@@ -145,10 +133,6 @@ class _Group(_Draft):
             lines.asked('undo')
         return given
 
-    def leave(self) -> None:
-        """No group is open any more, or the one around it."""
-        self._kernel.notes.group_from = self._outer
-
 
 def _ahead(kernel: Kernel) -> List[str]:
     """The lines of each command that can be redone."""
@@ -169,7 +153,7 @@ class Block:
     """What a `with` statement holds: a draft or a group, or a part of a draft that is open. It is used once. Where an exception comes before its end
     has begun, it ends when nothing refers to it any more."""
 
-    _work: Optional[_Draft] = None
+    _work: Optional[_Part] = None
 
     def __init__(self, kernel: Kernel, is_group: bool) -> None:
         self._kernel, self._is_group = kernel, is_group
@@ -182,7 +166,7 @@ class Block:
             if not kernel.is_inside:
                 kernel.begin_turn()
             kernel.lines.require_open()
-            self._work = (_PartOfDraft if kernel.lines.is_drafting else _Group if self._is_group else _Draft)(kernel)
+            self._work = (_Part if kernel.lines.is_drafting else _Group if self._is_group else _Draft)(kernel)
             kernel.blocks.append(self._work)
             try:
                 self._work.begin()

@@ -8,7 +8,7 @@ from contextlib import contextmanager
 from contextvars import ContextVar
 from functools import wraps
 from inspect import CO_ASYNC_GENERATOR, CO_COROUTINE, CO_GENERATOR, isfunction
-from threading import Condition, RLock, current_thread
+from threading import Condition, current_thread
 from types import FrameType
 from typing import Any, Callable, Iterator, Optional, Tuple, Type, TypeVar, cast
 
@@ -73,8 +73,7 @@ class Turns:
     """What is shared by threads: one of them has the turn."""
 
     def __init__(self) -> None:
-        self.lock = RLock()
-        self._free = Condition(self.lock)
+        self.lock = Condition()
         self.is_inside = False
         self.holder: Optional[Holder] = None
 
@@ -84,12 +83,12 @@ class Turns:
     @contextmanager
     def taken(self, is_holder: bool = False) -> Iterator[None]:
         """It is the turn of what is given in it; of a holder, wherever that goes on, at once."""
-        with self._free:
+        with self.lock:
             if self.holder and not (is_holder or self.is_inside):
                 self.holder.leave_ended()
             while self.holder and not (is_holder or self.is_inside or self.holder.is_here):
                 self.holder.require_end()
-                self._free.wait(_PATIENCE)
+                self.lock.wait(_PATIENCE)
             yield
 
     def hold(self) -> None:
@@ -101,7 +100,7 @@ class Turns:
         holder, self.holder = self.holder, None
         if holder:
             holder.end()
-        self._free.notify_all()
+        self.lock.notify_all()
 
 
 def taking_turns(*as_it_is: str) -> Callable[[Type[Taker]], Type[Taker]]:

@@ -58,7 +58,7 @@ class Workbench(SolidMethods, Cutting, FeatureMethods, Commands, Selecting, Meas
 
         `unit` is how many millimetres a coordinate stands for, a whole number or a fraction, as `Fraction(1, 60)`.
         """
-        super().__init__(Bench(library, unit))
+        self._bench = Bench(library, unit)
         self._turns: Turns = self._bench.kernel
 
     def __reduce__(self) -> NoReturn:
@@ -78,7 +78,7 @@ class Workbench(SolidMethods, Cutting, FeatureMethods, Commands, Selecting, Meas
     def ask(self, line: str) -> Reply:
         """The reply to one line of the script language, whatever it is. What it makes, undoes or redoes is taken account of; of a draft
         all is undone or redone."""
-        return self._bench.kernel.ask(arguments.line('line', line))
+        return self._bench.kernel.ask(arguments.text('line', line))
 
     def draft(self) -> ContextManager[None]:
         """The calls given in it are one command. By an exception it is abandoned: all is as before, what can be redone included. Within another
