@@ -50,7 +50,7 @@ def height(plane: Plane, point: Vector) -> int:
 def without_common_factor(plane: Plane) -> Plane:
     """The same plane by the least whole coefficients."""
     a, b, c, d = plane
-    divisor = gcd(gcd(a, b), gcd(c, d))
+    divisor = gcd(gcd(a, b), gcd(c, d)) or 1
     return (a // divisor, b // divisor, c // divisor, d // divisor)
 
 

@@ -51,14 +51,14 @@ def turning(axis: str, times: int = 1, about: Vector = ZERO) -> Change:
     return Change(turned)
 
 
-def mirroring(plane: PlaneNumbers) -> Change:
-    """Mirrors points in the plane a x + b y + c z + d = 0, where a, b and c are not all zero."""
+def mirroring(plane: PlaneNumbers, by: Vector = ZERO) -> Change:
+    """Mirrors points in the plane a x + b y + c z + d = 0, where a, b and c are not all zero, and then moves them by a vector."""
     across = plane[:3]
     square = dot(across, across)
 
     def mirrored(point: Vector) -> ExactVector:
         way = Fraction(2 * (dot(across, point) + plane[3]), square)
-        x, y, z = (along - way * part for along, part in zip(point, across))
+        x, y, z = (along - way * part + more for along, part, more in zip(point, across, by))
         return (x, y, z)
     return Change(mirrored, mirrors=True)
 

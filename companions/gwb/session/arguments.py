@@ -2,11 +2,11 @@
 
 from collections.abc import Iterable as Items
 from fractions import Fraction
-from math import gcd
 from numbers import Integral, Rational
 from os import PathLike, fspath
 from typing import Callable, Iterable, List, NamedTuple, Optional, Protocol, Sequence, Tuple, Union
 
+from ..geometry.crossings import without_common_factor
 from ..geometry.vectors import Vector, ZERO
 from ..protocol.word_advice import FINER_UNIT
 from .reading import EdgePart, FacePart, LoopPart, Part, SolidPart, VertexPart
@@ -132,7 +132,7 @@ def exact_point(name: str, value: object) -> Tuple[Fraction, Fraction, Fraction]
 
 def plane(name: str, value: object) -> Tuple[int, int, int, int]:
     """The four coefficients of a plane, or a plane as `plane` returns it, whose coefficients are made as small as they can be."""
-    a, b, c, d = coordinates(name, _reduced(value[:4]) if isinstance(value, Plane) else value, 4)
+    a, b, c, d = coordinates(name, without_common_factor(value[:4]) if isinstance(value, Plane) else value, 4)
     return (a, b, c, d)
 
 
@@ -142,12 +142,6 @@ def plane_across(name: str, value: object) -> Tuple[int, int, int, int]:
     if found[:3] == ZERO:
         raise ValueError(f'{name}: a, b and c are all zero')
     return found
-
-
-def _reduced(coefficients: Sequence[int]) -> Tuple[int, ...]:
-    """The coefficients divided by what they have in common."""
-    divisor = gcd(gcd(coefficients[0], coefficients[1]), gcd(coefficients[2], coefficients[3])) or 1
-    return tuple(part // divisor for part in coefficients)
 
 
 def points(name: str, value: object, most: Optional[int] = None) -> List[Vector]:

@@ -1,10 +1,9 @@
 """The calls of gwb_features.h. Each is one command of the library, or steps of the draft that is open; a complaint is raised, and nothing has changed."""
 
 from fractions import Fraction
-from typing import Any, List, NamedTuple, Sequence, Tuple
+from typing import Any, List, Sequence, Tuple
 
 from ..errors import CompanionError, Refused
-from ..geometry.free_numbers import LARGEST
 from ..geometry.measures import why_unfit
 from ..geometry.model import Model
 from ..geometry.outlines import Impossible
@@ -13,10 +12,11 @@ from ..protocol.complaints import memory_refused, refused
 from ..protocol.language import refusal
 from ..protocol.listing import listing_lines
 from ..protocol.replies import Reply
-from .c_calls import (ADDRESS, IMPOSSIBLE, LENGTH, LOWER_CAPS, MEMORY, NO_CALL, OK, REFUSED, SIZE, UPPER_CAPS, WORD, CutPlane, Pair, Point, Ratio,
+from .c_calls import (ADDRESS, IMPOSSIBLE, LENGTH, LOWER_CAPS, MEMORY, NO_CALL, OK, REFUSED, SIZE, UPPER_CAPS, WORD, CutPlane, Pair, Ratio,
                       Refusal)
 from .kernel import NUMBERS_SPENT, Kernel
 from .library import filled
+from .results import Numbers
 
 _CUTS = ('cut', 'trim')
 # What misfits say, and conditions that say something else of a feature than of a command.
@@ -37,19 +37,10 @@ _TEXTS = {
     'NotClosed': "a side of face {} hasn't one side, of one face, that runs the other way",
     'NumbersSpent': 'too few numbers above all that are in use are left'}
 _PART_MEETS = 'a part of solid {} would touch itself in the plane'
-_NUMBER_RANGE = 1
+NUMBER_RANGE = 1
 _ROOM = 64
 _MOST_TERM = 2 ** 64 - 1
 _TOO_MANY = 2 ** 62
-
-
-class Outlined(NamedTuple):
-    """What a feature of an outline makes: two numbers, and those that belong to the points."""
-
-    first: int
-    second: int
-    along: Tuple[int, ...]
-    vertices: Tuple[int, ...]
 
 
 def rows(points: Sequence[Vector]) -> Any:
@@ -84,23 +75,17 @@ class FeatureCalls:
         """Gives a feature; `frees` where numbers may be free after it that were in use."""
         self._kernel.giving(lambda: self._ask(word, *values), frees)
 
-    def written(self, word: str, room: int, *values: Any, frees: bool = False) -> Tuple[int, ...]:
+    def written(self, word: str, room: int, *values: Any, frees: bool = False) -> Numbers:
         """Gives a feature that writes so many numbers behind what it takes: these."""
         made = (WORD * room)()
         self.give(word, *values, made, frees=frees)
         return tuple(made)
 
-    def outline(self, word: str, number: int, points: Sequence[Vector], *more: Any, of_vertices: bool = False) -> Outlined:
-        """Gives a feature of an outline in a face, or of a solid to be."""
-        made, along, vertices = Pair(), (WORD * len(points))(), (WORD * len(points))()
-        self.give(word, number, rows(points), len(points), *more, made, along, *([vertices] if of_vertices else []))
-        return Outlined(made.first, made.second, tuple(along), tuple(vertices))
-
-    def drill(self, face: int, center: Vector, radius: int, sides: int, depth: int) -> Tuple[Outlined, Tuple[Vector, ...]]:
-        """A hole with a polygon, through where the depth is 0; and the corners of the polygon."""
-        made, along, points = Pair(), (WORD * sides)(), (Point * sides)()
-        self.give('drill', face, Point(*center), radius, sides, depth, made, along, points)
-        return Outlined(made.first, made.second, tuple(along), ()), tuple((at.x, at.y, at.z) for at in points)
+    def outline(self, word: str, number: int, points: Sequence[Vector], *more: Any, beside: Sequence[Any] = ()) -> Tuple[int, int, Numbers]:
+        """Gives a feature of an outline in a face, or of a solid to be: two numbers of what it makes, and those that belong to the points."""
+        made, along = Pair(), (WORD * len(points))()
+        self.give(word, number, rows(points), len(points), *more, made, along, *beside)
+        return made.first, made.second, tuple(along)
 
     def find(self, word: str, query: Any) -> List[int]:
         """The faces or edges that are sought, rising. A complaint is raised."""
@@ -111,14 +96,6 @@ class FeatureCalls:
             return count.value
 
         return list(filled(WORD, _ROOM, write))
-
-    def polyhedron(self, solid: int, points: Sequence[Vector], faces: Sequence[Sequence[int]]) -> Tuple[int, int]:
-        """A solid of points, and of faces by their corners: its first vertex and its first face. Refused: NumberRange, of which the call says nothing."""
-        if not 1 <= solid <= LARGEST:
-            raise refused('polyhedron', _NUMBER_RANGE, solid)
-        made, corners = Pair(), words([corner for face in faces for corner in face])
-        self.give('polyhedron', solid, rows(points), len(points), corners, words([len(face) for face in faces]), len(faces), made)
-        return made.first, made.second
 
     def load(self, model: Model) -> None:
         """Makes what a model has, which isn't empty, with its numbers."""
@@ -136,12 +113,12 @@ class FeatureCalls:
         # (0 where it is too great to be said: out of range in any case)
         return (factor.high << 64 | factor.low) or _TOO_MANY
 
-    def cut(self, solid: int, plane: Sequence[int], above: int) -> Tuple[Tuple[int, ...], Tuple[int, ...]]:
+    def cut(self, solid: int, plane: Sequence[int], above: int) -> Tuple[Numbers, Numbers]:
         """A cut in two: the caps of both parts."""
         self._cut('cut', solid, plane, [above], above)
         return self.made(LOWER_CAPS), self.made(UPPER_CAPS)
 
-    def trim(self, solid: int, plane: Sequence[int]) -> Tuple[int, ...]:
+    def trim(self, solid: int, plane: Sequence[int]) -> Numbers:
         """A cut whose upper part goes: the caps."""
         self._cut('trim', solid, plane, [], self._kernel.numbers.next('solid'))
         return self.made(LOWER_CAPS)
@@ -156,7 +133,7 @@ class FeatureCalls:
                 self._kernel.advise(error, line, Reply((f'refused {error.number} {error.value}',)))
             raise
 
-    def made(self, which: int) -> Tuple[int, ...]:
+    def made(self, which: int) -> Numbers:
         """A list of what the last feature made."""
         return tuple(filled(WORD, _ROOM, lambda found, room: int(self._library.made(self._handle, which, found, room))))
 
@@ -183,7 +160,7 @@ class FeatureCalls:
         """The error of a condition, as it is said of a feature. A number past the greatest was chosen, except for a profile: none is left."""
         if word in _CUTS:
             return refused(word, why.number, why.value)
-        if why.number == _NUMBER_RANGE and word != 'profile':
+        if why.number == NUMBER_RANGE and word != 'profile':
             return refused(word, NUMBERS_SPENT, 0, _TEXTS['NumbersSpent'])
         name, text = refusal(why.number, why.value).name, ''
         if name == 'NotFlat':

@@ -1,13 +1,16 @@
-"""The methods of a workbench that make features of outlines."""
+"""The methods of a workbench that make features of outlines, and shape solids up to the edges of their faces."""
 
-from typing import List, Optional, Sequence, Tuple
+from typing import Any, Optional, Sequence, Tuple
 
-from ..geometry.vectors import Vector
+from ..geometry.free_numbers import LARGEST
+from ..protocol.complaints import refused
 from . import arguments
 from .bench import Methods
-from .c_calls import Point
-from .feature_calls import words
-from .results import Hole, Pocket, Polyhedron, Profile, Ring
+from .c_calls import FLOOR, WALLS, WORD, Pair, Point
+from .feature_calls import NUMBER_RANGE, rows, words
+from .labelling import LabelledFaces
+from .reading import EdgePart
+from .results import Hole, Notch, Numbers, Pocket, Polyhedron, Profile, Ring
 from .sketches import Sketch, sketch_on
 
 
@@ -21,8 +24,7 @@ class FeatureMethods(Methods):
         OutlineCrossed: the outline crosses or touches itself; AlongPlane: the vector lies in the plane of the points."""
         outline, way = arguments.points('points', points), Point(*arguments.point('along', along))
         number = self._bench.new('solid', solid)
-        made = self._bench.features.outline('profile', number, outline, way)
-        return Profile(number, made.first, made.second, made.along)
+        return Profile(number, *self._bench.features.outline('profile', number, outline, way))
 
     def polyhedron(self, points: arguments.Points, faces: Sequence[Sequence[int]], *, solid: Optional[int] = None) -> Polyhedron:
         """A new solid of points, and of faces without rings, each by the places of its corners among the points from 0 on, counterclockwise as seen from
@@ -32,9 +34,12 @@ class FeatureMethods(Methods):
         runs the other way; PointRange. ValueError: a point is of no face, or of faces that meet in it alone."""
         corners = arguments.points('points', points)
         places = arguments.corners('faces', faces, len(corners))
-        number = self._bench.new('solid', solid)
-        vertex, first = self._bench.features.polyhedron(number, corners, places)
-        return Polyhedron(number, tuple(range(first, first + len(places))), tuple(range(vertex, vertex + len(corners))))
+        number, made = self._bench.new('solid', solid), Pair()
+        if not 1 <= number <= LARGEST:
+            raise refused('polyhedron', NUMBER_RANGE, number)    # (of which the call says nothing)
+        self._bench.features.give('polyhedron', number, rows(corners), len(corners), words([corner for face in places for corner in face]),
+                                  words([len(face) for face in places]), len(places), made)
+        return Polyhedron(number, tuple(range(made.second, made.second + len(places))), tuple(range(made.first, made.first + len(corners))))
 
     def sketch(self, face: arguments.Face, *, origin: Optional[arguments.Point] = None, right: Optional[arguments.Point] = None) -> Sketch:
         """Two coordinates in the plane of a flat face, as one looks at it from outside, in which outlines are drawn: from the origin on, in steps of
@@ -53,24 +58,25 @@ class FeatureMethods(Methods):
         Refused: NoFace; NotFlat: the face isn't flat; FewPoints, RepeatedPoint; NoArea: the outline has no area; NotInPlane: a point lies off
         the plane of the face; OutlineCrossed: the outline crosses or touches itself; OutlineOutside: it crosses or touches the boundary of the
         face, or doesn't lie inside; OutlineAroundRing: a ring of the face lies inside the outline."""
-        made = self._bench.features.outline('ring', *self._outline(face, points), of_vertices=True)
-        return Ring(*made)
+        number, outline = self._bench.number('face', face), arguments.points('points', points)
+        vertices = (WORD * len(outline))()
+        return Ring(*self._bench.features.outline('ring', number, outline, beside=[vertices]), tuple(vertices))
 
     def pocket(self, face: arguments.Face, points: arguments.Points, depth: int) -> Pocket:
         """A pocket so deep behind the outline in the face.
 
         Refused as ring is; OffLattice: no whole vector along the normal is so long; Meets: the pocket would come through, or meet
         or touch something of the solid."""
-        made = self._bench.features.outline('pocket', *self._outline(face, points), arguments.positive('depth', depth))
-        return Pocket(made.first, made.second, made.along)
+        number, outline = self._bench.number('face', face), arguments.points('points', points)
+        return Pocket(*self._bench.features.outline('pocket', number, outline, arguments.positive('depth', depth)))
 
     def boss(self, face: arguments.Face, points: arguments.Points, height: int) -> Pocket:
         """A boss so high on the outline in the face.
 
         Refused as ring is; OffLattice: no whole vector along the normal is so long; Meets: the boss would meet or touch something
         of the solid."""
-        made = self._bench.features.outline('boss', *self._outline(face, points), arguments.positive('height', height))
-        return Pocket(made.first, made.second, made.along)
+        number, outline = self._bench.number('face', face), arguments.points('points', points)
+        return Pocket(*self._bench.features.outline('boss', number, outline, arguments.positive('height', height)))
 
     def hole(self, face: arguments.Face, points: arguments.Points) -> Hole:
         """A hole from the outline in the face through to the opposite face.
@@ -80,13 +86,8 @@ class FeatureMethods(Methods):
         face or of the opposite one, or doesn't lie inside; OutlineAroundRing: a ring of either face lies inside the outline; NoOpposite: there
         is nothing behind the outline; NotParallel: the face behind it isn't parallel; OffLattice: its plane lies off the lattice behind the
         face; Meets: the hole would meet or touch something else of the solid."""
-        number, outline = self._outline(face, points)
-        made = self._bench.features.outline('hole', number, outline)
-        return Hole(made.first, made.second, made.along, tuple(outline))
-
-    def _outline(self, face: arguments.Face, points: arguments.Points) -> Tuple[int, List[Vector]]:
-        """The number of a face, and an outline."""
-        return self._bench.number('face', face), arguments.points('points', points)
+        number, outline = self._bench.number('face', face), arguments.points('points', points)
+        return Hole(*self._bench.features.outline('hole', number, outline), tuple(outline))
 
     def drill(self, face: arguments.Face, center: arguments.Point, radius: int, sides: int, *, depth: Optional[int] = None) -> Hole:
         """A hole with a polygon of so many sides around the center, its corners on the whole numbers nearest to a circle of the radius, of two as
@@ -100,8 +101,9 @@ class FeatureMethods(Methods):
         number, middle = self._bench.number('face', face), arguments.point('center', center)
         reach, count = arguments.positive('radius', radius), arguments.sides('sides', sides)
         deep = 0 if depth is None else arguments.positive('depth', depth)
-        made, outline = self._bench.features.drill(number, middle, reach, count, deep)
-        return Hole(made.first, made.second, made.along, outline)
+        made, along, corners = Pair(), (WORD * count)(), (Point * count)()
+        self._bench.features.give('drill', number, Point(*middle), reach, count, deep, made, along, corners)
+        return Hole(made.first, made.second, tuple(along), tuple((at.x, at.y, at.z) for at in corners))
 
     def glue_all(self, solids: Sequence[arguments.Solid]) -> int:
         """The solids become one along the faces that match: its number, the first one's.
@@ -111,3 +113,75 @@ class FeatureMethods(Methods):
         numbers = self._bench.different('solids', solids, 'solid')
         self._bench.features.give('glue_all', words(numbers), len(numbers), frees=True)
         return numbers[0]
+
+    def notch(self, face: arguments.Face, points: arguments.Points, depth: int) -> Notch:
+        """A pocket so deep behind the face whose outline may reach the edges of the face; there it is open, and where it is as deep as the
+        solid it goes through.
+
+        Refused: NoFace; NotFlat: the face isn't flat, or a face of the solid has no area; NotInPlane, FewPoints, RepeatedPoint, NoArea and
+        OutlineCrossed for the points; OutlineOutside: the outline reaches beyond the face; OffLattice: no whole vector along the normal is
+        so long, or edges would cross between whole coordinates; Meets: what is cut out reaches out of the solid elsewhere, or the solid
+        would touch itself."""
+        number, outline = self._bench.number('face', face), arguments.points('points', points)
+        deep = arguments.positive('depth', depth)
+        return self._shaped('notch', number, rows(outline), len(outline), deep)
+
+    def slot(self, face: arguments.Face, start: arguments.Point, end: arguments.Point, width: int, depth: int) -> Notch:
+        """A slot with a flat floor, so wide and deep, whose middle line runs in the face from one point to another. Refused as notch is;
+        OffLattice: half of the width isn't whole across the line."""
+        return self._strip('slot', face, start, end, width, depth)
+
+    def groove(self, face: arguments.Face, start: arguments.Point, end: arguments.Point, width: int, depth: int) -> Notch:
+        """A groove like a V, so wide at the face and so deep under its middle line, which runs from one point to another; it has no floor.
+        Refused as notch is; OffLattice: half of the width isn't whole across the line."""
+        return self._strip('groove', face, start, end, width, depth)
+
+    def shoulder(self, face: arguments.Face, edge: arguments.Edge, width: int, depth: int) -> Notch:
+        """A step along an edge of the face: so wide in the face, from the edge on, and so deep behind it. Refused as notch is; NoEdge,
+        NotOfFace: the edge isn't one of the face."""
+        number, along = self._bench.number('face', face), self._bench.number('edge', edge)
+        wide, deep = arguments.positive('width', width), arguments.positive('depth', depth)
+        return self._shaped('shoulder', number, along, wide, deep)
+
+    def chamfer(self, edge: arguments.Edge, width: int, other: Optional[int] = None) -> int:
+        """The edge becomes a sloping face, which begins so far from it in the face of its half-edge `+e`, and in the other one as far, or so
+        far as `other` says: the number of the face. At an edge that bends inwards the room is filled.
+
+        Refused: NoEdge; NotFlat: a face of the edge isn't flat, or the slope wouldn't be; FlatEdge: both lie in one plane; OffLattice: a
+        corner wouldn't be whole; OutlineOutside, Meets: there is no room for it."""
+        number, wide = self._bench.number('edge', edge), arguments.positive('width', width)
+        far = wide if other is None else arguments.positive('other', other)
+        return self._sloped('chamfer', [number], number, wide, far)[0]
+
+    def chamfer_edges(self, edges: Sequence[arguments.Edge], width: int) -> Tuple[int, ...]:
+        """Different edges become sloping faces at once, which begin so far from them in the faces on both sides: the face of each. Where two or three
+        of the edges that end at a vertex are among them, their slopes meet there.
+
+        Refused: as chamfer is; NoCorner: slopes of edges that end at a vertex don't meet in one point, or more than three edges end there; NotAlike: an
+        edge is of another solid than the first, or bends the other way."""
+        numbers, wide = self._bench.different('edges', edges, 'edge'), arguments.positive('width', width)
+        return self._sloped('chamfer_edges', numbers, words(numbers), len(numbers), wide)
+
+    def _strip(self, word: str, face: arguments.Face, start: arguments.Point, end: arguments.Point, width: int, depth: int) -> Notch:
+        """Gives a feature along a middle line, so wide and deep."""
+        number, ends = self._bench.number('face', face), (Point(*arguments.point('start', start)), Point(*arguments.point('end', end)))
+        return self._shaped(word, number, *ends, arguments.positive('width', width), arguments.positive('depth', depth))
+
+    def _shaped(self, word: str, face: int, *values: Any) -> Notch:
+        """Gives a feature in a face that leaves a floor and walls in its solid, whose labels the parts of its faces get. Refused: NoFace."""
+        solid = self._bench.solid_of(face)
+        labelled = LabelledFaces(self._bench.kernel, solid)
+        with self._bench.step():
+            self._bench.features.give(word, face, *values, frees=True)
+            made = Notch(self._bench.features.made(FLOOR), self._bench.features.made(WALLS))
+            labelled.label_parts([solid], (*made.floor, *made.walls))
+        return made
+
+    def _sloped(self, word: str, edges: Sequence[int], *values: Any) -> Numbers:
+        """Gives a feature that makes slopes of edges, which are returned; the parts of faces get the labels of these."""
+        solid, *_ = [EdgePart(self._bench.kernel, edge).solid.number for edge in edges]
+        labelled = LabelledFaces(self._bench.kernel, solid)
+        with self._bench.step():
+            made = self._bench.features.written(word, len(edges), *values, frees=True)
+            labelled.label_parts([self._bench.solid_of(made[0])], made)
+        return made

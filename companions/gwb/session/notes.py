@@ -159,14 +159,9 @@ class Notes:
 
     def step_back(self) -> int:
         """How many commands the last step has, of those that are held: 1 where there is none."""
-        first = self.at
-        while first > 1 and not self._notes[first].begins:
-            first -= 1
-        return max(self.at - first + 1, 1) if self.at else 1
+        return next((count for count in range(1, self.at) if self._notes[self.at + 1 - count].begins), max(self.at, 1))
 
     def step_ahead(self) -> int:
         """How many commands are left of the step that would be redone: 1 where there is none."""
-        last = self.at + 2
-        while last < len(self._notes) and not self._notes[last].begins:
-            last += 1
-        return last - self.at - 1
+        left = len(self.ahead())
+        return next((count for count in range(1, left) if self._notes[self.at + 1 + count].begins), max(left, 1))

@@ -1,4 +1,4 @@
-"""Solids as things: taken away, copied, moved, turned, mirrored and set in rows, each as one command to undo.
+"""The methods of a workbench that take solids as wholes: taken away, copied, moved, turned, mirrored and set in rows, each as one command to undo.
 
 The library does it where axes go to axes. In another plane a solid is mirrored here, and made anew of its listing.
 """
@@ -6,23 +6,24 @@ The library does it where axes go to axes. In another plane a solid is mirrored 
 import ctypes
 from dataclasses import dataclass, field
 from fractions import Fraction
-from functools import reduce
-from typing import Any, Dict, List, Mapping, Sequence, Tuple
+from typing import Any, Dict, List, Mapping, Optional, Sequence, Tuple
 
-from ..geometry.flat_face import ExactVector
-from ..geometry.free_numbers import renumbered
+from ..geometry.free_numbers import KINDS, LARGEST, renumbered
 from ..geometry.model import Model
-from ..geometry.moved import FARTHEST, Change, Displaced, changed
+from ..geometry.moved import FARTHEST, Change, Displaced, changed, mirroring, moving, turning
 from ..geometry.outlines import Impossible
 from ..geometry.vectors import ZERO
 from ..protocol.complaints import refused
 from . import arguments
-from .bench import Bench
+from .bench import Bench, Methods
 from .c_calls import EDGES, FACES, LOOPS, SOLIDS, VERTICES, Motion, Point
+from .kernel import NUMBERS_SPENT
 from .reading import Found, Part
 from .results import Renumbered
 
 _POINT_RANGE = 11
+_AXES = ('x', 'y', 'z')
+
 
 @dataclass(frozen=True)
 class Copy:
@@ -65,56 +66,119 @@ class Copy:
         """The copy of a thing of the original, as a thing of the same kind."""
         if not isinstance(part, Part):
             raise arguments.wrong('part', 'a thing of the model', part)
-        numbers: Dict[str, Mapping[int, int]] = {
-            'solid': {self.original: self.solid}, 'face': self.faces, 'loop': self.loops, 'edge': self.edges, 'vertex': self.vertices}
+        numbers = dict(zip(KINDS, ({self.original: self.solid}, self.faces, self.loops, self.edges, self.vertices)))
         return type(part)(part._kernel, numbers[part.kind][self._bench.number('part', part, part.kind)])
 
 
-def copied(bench: Bench, solid: int, way: Sequence[Change]) -> Copy:
-    """A copy of the solid after changes of place, by the library where these are of its kind. Refused: NoSolid, PointRange, OffLattice,
-    NumbersSpent."""
-    motion = _motion(way)
-    if motion is not None:
-        return in_a_row(bench, 'copy_solid', solid, 1, motion)[0]
-    model = bench.solid_model(solid)
-    new = bench.numbers.instead_of(model)
-    with bench.step():
-        bench.features.load(renumbered(reduce(lambda before, change: placed('copy_solid', before, change), way, model), new))
-        return _labelled(Copy(new['solid'][solid], new['face'], new['loop'], new['edge'], new['vertex'], solid, bench))
+class SolidMethods(Methods):
+    """Solids as things. Each method is one command; one that is refused leaves everything as it was."""
+
+    def delete(self, solid: arguments.Solid) -> None:
+        """The solid goes, with all that it has. Refused: NoSolid."""
+        self._bench.features.give('kill_solid', self._bench.number('solid', solid), frees=True)
+
+    def copy(self, solid: arguments.Solid, *, move: arguments.Point = ZERO, mirror: Optional[arguments.Point] = None) -> Copy:
+        """A copy of the solid, mirrored in a plane where one is given, and then moved by the vector: the numbers of its things by those of
+        the original.
+
+        Refused: NoSolid; PointRange: a point would leave the range; OffLattice: one would be mirrored between whole coordinates;
+        NumbersSpent: there are no free numbers."""
+        number, by = self._bench.number('solid', solid), arguments.point('move', move)
+        change = moving(by) if mirror is None else mirroring(arguments.plane_across('mirror', mirror), by)
+        motion = _motion(change)
+        if motion is not None:
+            return self._in_a_row('copy_solid', number, 1, motion)[0]
+        model = _changed('copy_solid', self._bench.solid_model(number), change)
+        new = self._bench.numbers.instead_of(model)
+        with self._bench.step():
+            self._bench.features.load(renumbered(model, new))
+            return self._labelled(Copy(new['solid'][number], new['face'], new['loop'], new['edge'], new['vertex'], number, self._bench))
+
+    def pattern(self, solid: arguments.Solid, count: int, step: arguments.Point) -> Tuple[Copy, ...]:
+        """Copies of the solid, each a step farther than the one before, so that there are `count` of it with itself. Refused as copy is. Raises
+        ValueError where the count is below 2 or the step is zero."""
+        number, many, way = self._bench.number('solid', solid), arguments.positive('count', count), arguments.vector('step', step)
+        if many < 2:
+            raise ValueError(f'count: {many} is below 2')
+        if many > LARGEST:
+            raise refused('pattern', NUMBERS_SPENT, 1, f'there are {LARGEST:,} numbers for solids, not {many:,}')
+        return self._in_a_row('pattern', number, many - 1, many, Point(*way))
+
+    def pattern_around(self, solid: arguments.Solid, count: int, axis: str, times: int = 1, *, about: arguments.Point = ZERO) -> Tuple[Copy, ...]:
+        """Copies of the solid around the axis 'x', 'y' or 'z' through a point, each so many quarter turns on from the one before it, counterclockwise as
+        seen from where the axis points, so that there are `count` of it with itself: at most 4, or 2 by half turns. Refused as copy is."""
+        number, round_axis, quarters = self._bench.number('solid', solid), arguments.word('axis', axis, _AXES), arguments.coordinate('times', times) % 4
+        middle, most = Point(*arguments.point('about', about)), (1, 4, 2, 4)[quarters]
+        if most == 1:
+            raise ValueError(f'times: {times} quarter turns lead back')
+        many = arguments.within('count', count, 2, most)
+        return self._in_a_row('pattern_around', number, many - 1, many, _AXES.index(round_axis), quarters, middle)
+
+    def move(self, solid: arguments.Solid, vector: arguments.Point) -> int:
+        """The solid moves by the vector: its number, which stays, as all of its numbers do. Refused: NoSolid; PointRange: a point would
+        leave the range."""
+        return self._placed(solid, moving(arguments.point('vector', vector)))
+
+    def turn(self, solid: arguments.Solid, axis: str, times: int = 1, *, about: arguments.Point = ZERO) -> int:
+        """The solid turns by quarters about the axis 'x', 'y' or 'z' through a point, counterclockwise as seen from where the axis points:
+        its number. Refused as move is."""
+        turn = turning(arguments.word('axis', axis, _AXES), arguments.coordinate('times', times), arguments.point('about', about))
+        return self._placed(solid, turn)
+
+    def mirror(self, solid: arguments.Solid, plane: arguments.Point) -> int:
+        """The solid becomes its image in the plane a x + b y + c z + d = 0: its number. Each loop runs the other way, by the mates of its
+        half-edges. Refused as move is; OffLattice: a point would come between whole coordinates, as none does in planes across an axis or a
+        diagonal of two axes that lie well."""
+        return self._placed(solid, mirroring(arguments.plane_across('plane', plane)))
+
+    def scale(self, factor: int) -> None:
+        """All coordinates of all solids are multiplied by a whole number from 1 on. Refused: PointRange."""
+        self._bench.features.give('scale', arguments.positive('factor', factor))
+
+    def renumber(self) -> Renumbered:
+        """All numbers become as low as they can be, from 1 on in the order that they have, and may be taken again when they are free: where none is left.
+        Labels go along. Refused: NumbersSpent: a spare number is wanted on the way, and none is free."""
+        with self._bench.step():
+            self._bench.features.give('renumber', frees=True)
+            made = Renumbered(*(dict(self._bench.features.pairs(which)) for which in (SOLIDS, FACES, LOOPS, EDGES, VERTICES)))
+            self._bench.kernel.notes.renumber({'solid': made.solids, 'face': made.faces})
+        self._bench.numbers.forget()
+        return made
+
+    def _in_a_row(self, word: str, solid: int, count: int, *way: Any) -> Tuple[Copy, ...]:
+        """So many copies of the solid, which a feature makes of where each lies."""
+        with self._bench.step():
+            made = self._bench.features.written(word, count, solid, *way)
+            shares = zip(made, *(_shares(self._bench.features.pairs(which), count) for which in (FACES, LOOPS, EDGES, VERTICES)))
+            return tuple(self._labelled(Copy(number, faces, loops, edges, vertices, solid, self._bench)) for number, faces, loops, edges, vertices in shares)
+
+    def _labelled(self, copy: Copy) -> Copy:
+        """A copy, with the labels that the solid and its faces have."""
+        self._bench.label_alike('solid', [(copy.original, copy.solid)])
+        self._bench.label_alike('face', copy.faces.items())
+        return copy
+
+    def _placed(self, solid: arguments.Solid, change: Change) -> int:
+        """A solid comes to another place, and all its numbers stay: its number. Refused: NoSolid, PointRange, OffLattice."""
+        number, motion = self._bench.number('solid', solid), _motion(change)
+        if motion is not None:
+            self._bench.features.give('move_solid', number, motion)
+            return number
+        after = _changed('move_solid', self._bench.solid_model(number), change)
+        with self._bench.step():
+            self._bench.features.give('kill_solid', number, frees=True)
+            self._bench.features.load(after)
+        return number
 
 
-def in_a_row(bench: Bench, word: str, solid: int, count: int, *way: Any) -> Tuple[Copy, ...]:
-    """So many copies of the solid, which a feature makes of where each lies."""
-    with bench.step():
-        made = bench.features.written(word, count, solid, *way)
-        shares = zip(made, *(_shares(bench.features.pairs(which), count) for which in (FACES, LOOPS, EDGES, VERTICES)))
-        return tuple(_labelled(Copy(number, faces, loops, edges, vertices, solid, bench)) for number, faces, loops, edges, vertices in shares)
-
-
-def _labelled(copy: Copy) -> Copy:
-    """A copy, with the labels that the solid and its faces have."""
-    copy._bench.label_alike('solid', [(copy.original, copy.solid)])
-    copy._bench.label_alike('face', copy.faces.items())
-    return copy
-
-
-def _motion(way: Sequence[Change]) -> Any:
-    """Changes of place as the library has them; None where they aren't of axes, or go far out of range."""
-    def place(point: ExactVector) -> ExactVector:
-        for change in way:
-            point = change.place(point)  # type: ignore[arg-type]
-        return point
-
-    start = place(ZERO)
-    axes = [0, 0, 0]
-    for number, unit in enumerate(((1, 0, 0), (0, 1, 0), (0, 0, 1)), 1):
-        image = [Fraction(one) - other for one, other in zip(place(unit), start)]
-        if sorted(part * part for part in image) != [0, 0, 1]:
-            return None
-        axis = next(axis for axis in range(3) if image[axis])
-        axes[axis] = int(image[axis]) * number
-    if any(part.denominator != 1 or part > 4 * FARTHEST or part < -4 * FARTHEST for part in start):
+def _motion(change: Change) -> Any:
+    """A change of place as the library has it; None where axes don't go to axes, or points go far out of range."""
+    start, *ends = map(change.place, (ZERO, (1, 0, 0), (0, 1, 0), (0, 0, 1)))
+    images = [[Fraction(part) - other for part, other in zip(end, start)] for end in ends]
+    is_near = all(part.denominator == 1 and -4 * FARTHEST <= part <= 4 * FARTHEST for part in start)
+    if not is_near or any(sorted(part * part for part in image) != [0, 0, 1] for image in images):
         return None
+    axes = [int(sum(number * image[axis] for number, image in enumerate(images, 1))) for axis in range(3)]
     return Motion((ctypes.c_int32 * 3)(*axes), Point(*map(int, start)))
 
 
@@ -124,19 +188,7 @@ def _shares(pairs: Sequence[Tuple[int, int]], count: int) -> List[Dict[int, int]
     return [dict(pairs[place * share:(place + 1) * share]) for place in range(count)]
 
 
-def place(bench: Bench, solid: int, change: Change) -> None:
-    """A solid comes to another place, and all its numbers stay. Refused: NoSolid, PointRange, OffLattice."""
-    motion = _motion([change])
-    if motion is not None:
-        bench.features.give('move_solid', solid, motion)
-        return
-    after = placed('move_solid', bench.solid_model(solid), change)
-    with bench.step():
-        bench.features.give('kill_solid', solid, frees=True)
-        bench.features.load(after)
-
-
-def placed(word: str, model: Model, change: Change) -> Model:
+def _changed(word: str, model: Model, change: Change) -> Model:
     """The model in another place, for the feature of this word. Refused: PointRange, OffLattice, with the vertex."""
     try:
         return changed(model, change)
@@ -144,14 +196,3 @@ def placed(word: str, model: Model, change: Change) -> Model:
         if error.name == 'PointRange':
             raise refused(word, _POINT_RANGE, error.vertex, str(error)) from None
         raise Impossible(error.name, error.vertex, str(error)) from None
-
-
-def renumber(bench: Bench) -> Renumbered:
-    """All numbers become as low as they can be, also those of what has labels."""
-    with bench.step():
-        bench.features.give('renumber', frees=True)
-        solids, faces, loops, edges, vertices = (dict(bench.features.pairs(which)) for which in (SOLIDS, FACES, LOOPS, EDGES, VERTICES))
-        made = Renumbered(solids, faces, loops, edges, vertices)
-        bench.kernel.notes.renumber({'solid': solids, 'face': faces})
-    bench.numbers.forget()
-    return made

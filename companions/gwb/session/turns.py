@@ -9,7 +9,7 @@ from contextvars import ContextVar
 from functools import wraps
 from inspect import CO_ASYNC_GENERATOR, CO_COROUTINE, CO_GENERATOR, isfunction
 from threading import Condition, current_thread
-from types import FrameType
+from traceback import walk_stack
 from typing import Any, Callable, Iterator, Optional, Tuple, Type, TypeVar, cast
 
 from ..errors import OutOfStep
@@ -28,7 +28,8 @@ class Holder:
     _held: 'ContextVar[Tuple[Holder, ...]]' = ContextVar('gwb drafts', default=())
 
     def __init__(self) -> None:
-        self._thread, self._frame = current_thread(), _caller()
+        self._thread = current_thread()
+        self._frame = next((frame for frame, _ in walk_stack(sys._getframe()) if not frame.f_globals.get('__name__', '').startswith(_PACKAGE)), None)
         self._held.set((*self._held.get(), self))
 
     def end(self) -> None:
@@ -48,7 +49,7 @@ class Holder:
     @property
     def is_here(self) -> bool:
         """Whether what runs now is part of what it holds."""
-        return self in self._held.get() or any(frame is self._frame for frame in _frames(sys._getframe()))
+        return self in self._held.get() or any(frame is self._frame for frame, _ in walk_stack(sys._getframe()))
 
     def require_end(self) -> None:
         """Raises OutOfStep where waiting for its end is in vain."""
@@ -56,17 +57,6 @@ class Holder:
             raise OutOfStep('another task of this thread has a draft or a group open')
         if not self._thread.is_alive():
             raise OutOfStep('a draft or a group is open, whose thread has ended')
-
-
-def _frames(frame: Optional[FrameType]) -> Iterator[FrameType]:
-    while frame is not None:
-        yield frame
-        frame = frame.f_back
-
-
-def _caller() -> Optional[FrameType]:
-    """The function that called the package."""
-    return next((frame for frame in _frames(sys._getframe()) if not frame.f_globals.get('__name__', '').startswith(_PACKAGE)), None)
 
 
 class Turns:
@@ -103,21 +93,17 @@ class Turns:
         self.lock.notify_all()
 
 
-def taking_turns(*as_it_is: str) -> Callable[[Type[Taker]], Type[Taker]]:
-    """Each public method of a class, those of its bases included, is a turn of its `_turns`; those of these names need nothing to be put right."""
-
-    def taking(cls: Type[Taker]) -> Type[Taker]:
-        for name in dir(cls):
-            method = getattr(cls, name)
-            if isfunction(method) and not name.startswith('_'):
-                setattr(cls, name, _taken(method, name in as_it_is))
-        return cls
-
-    return taking
+def taking_turns(cls: Type[Taker]) -> Type[Taker]:
+    """Each public method of a class, those of its bases included, is a turn of its `_turns`."""
+    for name in dir(cls):
+        method = getattr(cls, name)
+        if isfunction(method) and not name.startswith('_'):
+            setattr(cls, name, _taken(method))
+    return cls
 
 
-def _taken(method: Method, as_it_is: bool) -> Method:
-    """The method as a turn of its own where it isn't called in one, which begins with `begin_turn` unless all may stay as it is."""
+def _taken(method: Method) -> Method:
+    """The method as a turn of its own, which begins with `begin_turn`, where it isn't called in one."""
 
     @wraps(method)
     def taken(self: Any, *values: Any, **named: Any) -> Any:
@@ -127,8 +113,7 @@ def _taken(method: Method, as_it_is: bool) -> Method:
                 return method(self, *values, **named)
             turns.is_inside = True
             try:
-                if not as_it_is:
-                    turns.begin_turn()
+                turns.begin_turn()
                 return method(self, *values, **named)
             finally:
                 turns.is_inside = False

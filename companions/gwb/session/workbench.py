@@ -9,7 +9,7 @@
 
 Numbers of new things may be given, by name, as the script language does; where one isn't, the workbench takes a free one.
 Methods are in parts over one bench (bench.py): commands (commands.py), selection (selection.py), features (feature_methods.py), solids as
-things (solid_methods.py, cutting.py), measures (measuring.py), arrays (arrays.py), labels and files (exporting.py), and the session itself, scripts and
+things (solids.py, cutting.py), measures (measuring.py), arrays (arrays.py), labels and files (exporting.py), and the session itself, scripts and
 drawings here.
 """
 
@@ -40,7 +40,7 @@ from .measuring import Measuring
 from .results import Numbers
 from .saved_steps import mark_in, saved_lines
 from .selection import Selecting
-from .solid_methods import SolidMethods
+from .solids import SolidMethods
 from .steps import Block
 from .turns import Turns, taking_turns
 
@@ -49,7 +49,7 @@ _IMPORTED = ('.obj', '.off', '.stl', '.3mf', '.amf', '.ply', '.step', '.stp')
 _FIRST_WORDS = ('v', 'vn', 'vt', 'f', 'o', 'g', 'mtllib', 'OFF', 'ply', 'solid', 'ISO-10303-21;')
 
 
-@taking_turns('close', 'save', 'script')
+@taking_turns
 class Workbench(SolidMethods, Cutting, FeatureMethods, Commands, Selecting, Measuring, Arrays, Exporting):
     """A running gwb. Each command is a method; one that isn't accepted raises Refused, Faulted or MemoryRefused."""
 
