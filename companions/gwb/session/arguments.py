@@ -55,33 +55,22 @@ def thing(part: Part) -> str:
     return f'the {part.kind} {part.number}'
 
 
-def whole(name: str, value: object) -> int:
-    """A whole number, as an int or what counts as one. A bool, a float, a str and a thing of the model are none."""
-    if type(value) is int:
-        return value
-    if isinstance(value, bool) or not isinstance(value, Integral):
+def whole(name: str, value: object, least: int = _LEAST, greatest: int = _GREATEST) -> int:
+    """A whole number from one to another, by default of 64 bits with sign, as an int or what counts as one. A bool, a float, a str and a thing of the
+    model are none."""
+    if isinstance(value, bool) or not isinstance(value, (int, Integral)):
         error = wrong(name, 'a whole number', value)
         finer = f'; {FINER_UNIT} (`unit` says which)' if isinstance(value, (float, Rational)) and value % 1 > 0 else ''
         raise TypeError(f'{error}{finer}')
-    return int(value)
-
-
-def within(name: str, value: object, least: int, greatest: int) -> int:
-    """A whole number from one to another."""
-    found = whole(name, value)
+    found = int(value)
     if not least <= found <= greatest:
         raise ValueError(f'{name}: {found} is outside {least} to {greatest}')
     return found
 
 
-def coordinate(name: str, value: object) -> int:
-    """A whole number of 64 bits with sign."""
-    return within(name, value, _LEAST, _GREATEST)
-
-
 def positive(name: str, value: object) -> int:
-    """A coordinate above zero."""
-    found = coordinate(name, value)
+    """A whole number of 64 bits above zero."""
+    found = whole(name, value)
     if found < 1:
         raise ValueError(f'{name}: {found} is below 1')
     return found
@@ -89,21 +78,15 @@ def positive(name: str, value: object) -> int:
 
 def sides(name: str, value: object) -> int:
     """How many sides a polygon has."""
-    return within(name, positive(name, value), 3, _MOST_SIDES)
+    return whole(name, positive(name, value), 3, _MOST_SIDES)
 
 
 def coordinates(name: str, value: object, count: int) -> List[int]:
-    """So many coordinates."""
+    """So many whole numbers of 64 bits."""
     found = items(name, value)
     if len(found) != count:
         raise ValueError(f'{name}: {count} whole numbers are wanted, not {len(found)}')
-    return [coordinate(f'{name}[{place}]', item) for place, item in enumerate(found)]
-
-
-def spot(name: str, value: object) -> Tuple[int, int]:
-    """Two coordinates in a face."""
-    u, v = coordinates(name, value, 2)
-    return (u, v)
+    return [whole(f'{name}[{place}]', item) for place, item in enumerate(found)]
 
 
 def point(name: str, value: object) -> Vector:
@@ -154,7 +137,7 @@ def points(name: str, value: object, most: Optional[int] = None) -> List[Vector]
 
 def corners(name: str, value: object, count: int) -> List[List[int]]:
     """Faces, at least one, by the places of their corners among so many points, from 0 on."""
-    found = [[coordinate(f'{name}[{place}]', corner) for corner in items(f'{name}[{place}]', face)] for place, face in enumerate(items(name, value))]
+    found = [[whole(f'{name}[{place}]', corner) for corner in items(f'{name}[{place}]', face)] for place, face in enumerate(items(name, value))]
     if not found or not all(0 <= corner < count for face in found for corner in face):
         raise ValueError(f'{name}: faces of places from 0 to {count - 1} are wanted')
     return found

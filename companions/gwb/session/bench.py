@@ -2,10 +2,14 @@
 
 import sys
 import warnings
-from typing import Iterable, List, Optional, Tuple
+from traceback import walk_stack
+from typing import Dict, Iterable, List, Optional, Sequence, Tuple
 
+from ..geometry.flat_face import FlatFace
+from ..geometry.measures import why_unfit
 from ..geometry.model import Model
-from ..geometry.plane_figures import Exact
+from ..geometry.plane_figures import Exact, Place
+from ..geometry.vectors import same_direction
 from . import arguments
 from .feature_calls import FeatureCalls
 from .kernel import Kernel
@@ -36,7 +40,7 @@ class Bench:
         if isinstance(value, Part):
             return self._own(name, value, wanted)
         made = getattr(value, 'solid', None) if wanted == 'solid' else None
-        return arguments.within(name, value if made is None else made, 0, arguments.GREATEST_WORD)
+        return arguments.whole(name, value if made is None else made, 0, arguments.GREATEST_WORD)
 
     def _own(self, name: str, part: Part, kind: str) -> int:
         """The number of a thing, if it is of the kind and of this workbench."""
@@ -63,7 +67,7 @@ class Bench:
             return self._own(name, value, 'edge')
         if isinstance(value, Part):
             raise arguments.wrong(name, 'a half-edge', value)
-        return arguments.within(name, value, -arguments.GREATEST_WORD, arguments.GREATEST_WORD)
+        return arguments.whole(name, value, -arguments.GREATEST_WORD, arguments.GREATEST_WORD)
 
     def half(self, name: str, value: object) -> str:
         """The word for a half-edge."""
@@ -106,9 +110,36 @@ class Methods:
     _bench: Bench
 
 
+class LabelledFaces:
+    """The labelled faces of a solid, as they were before a command that cuts them into parts: each part has the label of the face that it was part of."""
+
+    def __init__(self, kernel: Kernel, solid: int) -> None:
+        self._kernel = kernel
+        self.held = set(kernel.lines.faces_of(solid)) if any(kind == 'face' for kind, _ in kernel.notes.labels) else set()
+        labelled = [face for face in self.held if ('face', face) in kernel.notes.labels]
+        model = kernel.lines.model(labelled)
+        self._faces: Dict[int, FlatFace] = {face: FlatFace(model, face) for face in labelled if why_unfit(model, face) is None}
+
+    def label_parts(self, solids: Iterable[int], but: Sequence[int]) -> None:
+        """New faces of these solids, except those in `but`, get the labels of the faces in which they lie."""
+        if not self._faces:
+            return
+        new = [face for solid in solids for face in self._kernel.lines.faces_of(solid) if face not in self.held and face not in but]
+        model = self._kernel.lines.model(new)
+        for face in new:
+            whole = next((whole for whole, shape in self._faces.items() if _lies_in(model, face, shape)), None)
+            if whole is not None:
+                self._kernel.notes.put(('face', face), self._kernel.notes.labels.get(('face', whole)))
+
+
+def _lies_in(model: Model, face: int, shape: FlatFace) -> bool:
+    """Whether all corners of a face lie in a flat one that looks the same way."""
+    if why_unfit(model, face) is not None or not same_direction(FlatFace(model, face).across, shape.across):
+        return False
+    return all(shape.height(point) == 0 and shape.locate(point) is not Place.OUTSIDE for point in model.face_points(face))
+
+
 def warn(text: str) -> None:
     """Warns of something, at the line of the caller's that called the package."""
-    level, frame = 1, sys._getframe()
-    while frame.f_back and frame.f_globals.get('__name__', '').split('.')[0] == _PACKAGE:
-        level, frame = level + 1, frame.f_back
-    warnings.warn(text, stacklevel=level)
+    names = (frame.f_globals.get('__name__', '') for frame, _ in walk_stack(sys._getframe()))
+    warnings.warn(text, stacklevel=next((level for level, name in enumerate(names, 1) if name.split('.')[0] != _PACKAGE), 1))

@@ -6,10 +6,9 @@ from ..errors import Refused
 from ..geometry.crossings import Plane, without_common_factor
 from ..geometry.vectors import dot, negative
 from . import arguments
-from .bench import Methods, warn
+from .bench import LabelledFaces, Methods, warn
 from .c_calls import INTO
 from .feature_calls import words
-from .labelling import LabelledFaces
 from .results import Split
 
 
@@ -22,8 +21,7 @@ class Cut(NamedTuple):
     upper_caps: Tuple[int, ...]
 
 
-Made = TypeVar('Made')
-Parted = TypeVar('Parted', bound=Union[Cut, Split])
+Parts = TypeVar('Parts', bound=Union[Cut, Split])
 
 
 class Cutting(Methods):
@@ -36,7 +34,7 @@ class Cutting(Methods):
         number that makes the points of the cut whole, and `unit` is divided by it, as one command with the cut. Refused besides: PointRange: a
         point would then lie past 1,000,000,000."""
         number, level = self._bench.number('solid', solid), arguments.plane('plane', plane)
-        return self._cut_by(number, level, scale, above, lambda plane, new: self._in_two(number, new, lambda new: self._split(number, plane, new)))
+        return self._cut_by(number, level, scale, above, lambda plane, new: self._split(number, plane, new))
 
     def cut(self, solid: arguments.Solid, plane: arguments.Point, *, keep: str = 'both', above: Optional[int] = None, scale: bool = False) -> Cut:
         """The solid is cut by the plane a x + b y + c z + d = 0. What lies below it stays the solid, and what lies above it becomes a new one,
@@ -49,14 +47,11 @@ class Cutting(Methods):
         number, level, wanted = self._bench.number('solid', solid), arguments.plane('plane', plane), arguments.word('keep', keep, ('both', 'below', 'above'))
         if above is not None and wanted != 'both':
             raise ValueError(f'above: the part above the plane gets no number of its own where {keep!r} alone is kept')
-        features = self._bench.features
 
-        def give(plane: Plane, new: Optional[int]) -> Cut:
-            if wanted == 'both':
-                return self._in_two(number, new, lambda new: Cut(number, new, *features.cut(number, plane, new)))
-            if wanted == 'below':
-                return Cut(number, None, self._trimmed(number, plane), ())
-            return Cut(None, number, (), self._trimmed(number, (*negative(plane[:3]), -plane[3])))
+        def give(plane: Plane, new: int) -> Cut:
+            if wanted == 'above':
+                return Cut(None, number, *reversed(self._bench.features.cut(number, (*negative(plane[:3]), -plane[3]), new, True)))
+            return Cut(number, new if wanted == 'both' else None, *self._bench.features.cut(number, plane, new, wanted == 'below'))
 
         return self._cut_by(number, level, scale, above, give)
 
@@ -90,14 +85,15 @@ class Cutting(Methods):
             together = (first, *(face for face in faces if face != first))
             warn('faces {} become one, which keeps the label of face {}'.format(' and '.join(map(str, together)), first))
 
-    def _cut_by(self, solid: int, plane: Plane, scale: object, above: object, give: Callable[[Plane, Optional[int]], Made]) -> Made:
+    def _cut_by(self, solid: int, plane: Plane, scale: object, above: object, give: Callable[[Plane, int], Parts]) -> Parts:
         """Cuts a solid by a plane, with the number for what is above it if one is given. Where points of the cut aren't whole, that is refused with the
         least factor by which they are, or it is done once the unit is the least finer one in which they are; both as one command.
 
         Refused: what the cut is refused for, with all as before; PointRange: in the finer unit a point would leave the range."""
-        may_scale, new = arguments.flag('scale', scale), None if above is None else self._bench.number('above', above, 'solid')
+        may_scale = arguments.flag('scale', scale)
+        new = self._bench.new('solid', None) if above is None else self._bench.number('above', above, 'solid')
         try:
-            return give(plane, new)
+            return self._parted(solid, new, lambda: give(plane, new))
         except Refused as refused:
             if refused.name != 'NotLattice':
                 raise
@@ -113,25 +109,17 @@ class Cutting(Methods):
                 raise
             self._bench.kernel.notes.now.unit /= factor
             # (its offset stays in range, since it meets edges whose ends do)
-            return give(without_common_factor((*plane[:3], plane[3] * factor)), new)
+            return self._parted(solid, new, lambda: give(without_common_factor((*plane[:3], plane[3] * factor)), new))
 
-    def _in_two(self, solid: int, above: Optional[int], give: Callable[[int], Parted]) -> Parted:
-        """Cuts a solid in two, as one command, by what is given the number of the part above."""
-        number = self._bench.new('solid', above)
+    def _parted(self, solid: int, above: int, give: Callable[[], Parts]) -> Parts:
+        """Cuts a solid as one command. The part above, if it is kept, and parts of faces have the labels of what they were part of."""
         labelled = LabelledFaces(self._bench.kernel, solid)
         with self._bench.step():
-            made = give(number)
-            self._bench.label_alike('solid', [(solid, number)])
-            labelled.label_parts((solid, number), (*made.lower_caps, *made.upper_caps))
+            made = give()
+            if self._bench.kernel.lines.in_use('solid', above):
+                self._bench.label_alike('solid', [(solid, above)])
+            labelled.label_parts((solid, above), (*made.lower_caps, *made.upper_caps))
         return made
-
-    def _trimmed(self, solid: int, plane: Plane) -> Tuple[int, ...]:
-        """What lies above the plane is cut off and thrown away, as one command: the caps of what is left, which keeps its number."""
-        labelled = LabelledFaces(self._bench.kernel, solid)
-        with self._bench.step():
-            caps = self._bench.features.trim(solid, plane)
-            labelled.label_parts([solid], caps)
-        return caps
 
     def _split(self, solid: int, plane: Plane, above: int) -> Split:
         """Gives the command: what it makes."""

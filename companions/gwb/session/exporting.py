@@ -4,7 +4,7 @@ import os
 from fractions import Fraction
 from pathlib import Path
 from types import MappingProxyType
-from typing import List, Optional, Tuple, Union
+from typing import List, Optional, Union
 
 from ..drawing.page import page_of
 from ..errors import Unfit
@@ -41,7 +41,9 @@ class Exporting(Methods):
         """Gives a solid, or what a command returned that made it, or a face a name, and a colour such as '#FF8000'; with neither what it had is
         taken away. Raises ValueError where the colour is none, the name is longer than 200 characters, or the thing is of another workbench.
         Refused: NoSolid, NoFace."""
-        look = Appearance(_name(name), _colour(arguments.text('colour', colour)))
+        look = Appearance(arguments.text('name', name, 'strict'), _colour(arguments.text('colour', colour)))
+        if len(look.name) > LONGEST_NAME:
+            raise ValueError(f'name: {len(look.name)} characters are more than {LONGEST_NAME}')
         if not isinstance(thing, (SolidPart, FacePart)):
             number = getattr(thing, 'solid', None)
             if type(number) is not int:
@@ -71,8 +73,10 @@ class Exporting(Methods):
         model = self._bench.kernel.listing()
         if not model.solids and file.suffix.lower() != '.html':
             raise Unfit(f'{file.name}: no solid is held, so there is nothing to write')
-        if file.suffix.lower() in ('.off', '.stl'):
-            _warn_of_touching(model, file.suffix)
+        touching = next(touching_solids(model), None) if file.suffix.lower() in ('.off', '.stl') else None
+        if touching:
+            warn('solids {} and {} touch or overlap, and {} does not keep solids apart: many programs will read one wrong body; .3mf and .step keep them '
+                 'apart'.format(*touching, file.suffix))
         file.write_bytes(_written(model, Said(self._bench.kernel.labels(), self.unit), file))
 
     def import_file(self, path: arguments.Path, *, form: str = '', scale: Exact = 1, rounded: bool = False, keep_triangles: bool = False,
@@ -109,14 +113,6 @@ class Exporting(Methods):
         return [new['solid'][solid] for solid in found.model.solids]
 
 
-def _name(value: object) -> str:
-    """A name that a file can have."""
-    found = arguments.text('name', value, 'strict')
-    if len(found) > LONGEST_NAME:
-        raise ValueError(f'name: {len(found)} characters are more than {LONGEST_NAME}')
-    return found
-
-
 def _colour(text: str) -> Optional[Colour]:
     """The colour of a text, none of an empty one."""
     try:
@@ -143,19 +139,8 @@ def _written(model: Model, said: Said, file: Path) -> bytes:
 def _coloured(mesh: Mesh, said: Said, file: Path) -> bytes:
     materials = file.with_suffix('.mtl')
     text = obj_text(mesh, said.looks, materials.name, unit=said.unit)
-    if materials.exists() and not _names(file, materials.name):
+    is_named = file.exists() and f'mtllib {materials.name}'.encode() in file.read_bytes().splitlines()
+    if materials.exists() and not is_named:
         raise FileExistsError(f'{materials} is there, and is of no {file.name} that is there: the colours would be written over it')
     materials.write_text(mtl_text(said.looks), encoding='utf-8')
     return text.encode()
-
-
-def _names(file: Path, materials: str) -> bool:
-    """Whether a file of the form .obj is there and names the materials."""
-    return file.exists() and f'mtllib {materials}'.encode() in file.read_bytes().splitlines()
-
-
-def _warn_of_touching(model: Model, ending: str) -> None:
-    pair: Optional[Tuple[int, int]] = next(touching_solids(model), None)
-    if pair is not None:
-        warn('solids {} and {} touch or overlap, and {} does not keep solids apart: many programs will read one wrong body; .3mf and .step keep them '
-             'apart'.format(*pair, ending))

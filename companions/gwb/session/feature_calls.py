@@ -113,25 +113,16 @@ class FeatureCalls:
         # (0 where it is too great to be said: out of range in any case)
         return (factor.high << 64 | factor.low) or _TOO_MANY
 
-    def cut(self, solid: int, plane: Sequence[int], above: int) -> Tuple[Numbers, Numbers]:
-        """A cut in two: the caps of both parts."""
-        self._cut('cut', solid, plane, [above], above)
-        return self.made(LOWER_CAPS), self.made(UPPER_CAPS)
-
-    def trim(self, solid: int, plane: Sequence[int]) -> Numbers:
-        """A cut whose upper part goes: the caps."""
-        self._cut('trim', solid, plane, [], self._kernel.numbers.next('solid'))
-        return self.made(LOWER_CAPS)
-
-    def _cut(self, word: str, solid: int, plane: Sequence[int], more: Sequence[int], above: int) -> None:
-        """Cuts a solid; what is refused has the advice that a split with this number above has."""
+    def cut(self, solid: int, plane: Sequence[int], above: int, is_trimmed: bool) -> Tuple[Numbers, Numbers]:
+        """A cut in two, or one whose upper part goes: the caps of both parts. What is refused has the advice that a split with this number above has."""
         try:
-            self.give(word, solid, CutPlane(*plane), *more, frees=True)
+            self.give('trim' if is_trimmed else 'cut', solid, CutPlane(*plane), *([] if is_trimmed else [above]), frees=True)
         except Refused as error:
             if error.number:
                 line = ' '.join(map(str, ('split', solid, *plane, above)))
                 self._kernel.advise(error, line, Reply((f'refused {error.number} {error.value}',)))
             raise
+        return self.made(LOWER_CAPS), self.made(UPPER_CAPS)
 
     def made(self, which: int) -> Numbers:
         """A list of what the last feature made."""

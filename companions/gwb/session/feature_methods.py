@@ -5,10 +5,9 @@ from typing import Any, Optional, Sequence, Tuple
 from ..geometry.free_numbers import LARGEST
 from ..protocol.complaints import refused
 from . import arguments
-from .bench import Methods
+from .bench import LabelledFaces, Methods
 from .c_calls import FLOOR, WALLS, WORD, Pair, Point
 from .feature_calls import NUMBER_RANGE, rows, words
-from .labelling import LabelledFaces
 from .reading import EdgePart
 from .results import Hole, Notch, Numbers, Pocket, Polyhedron, Profile, Ring
 from .sketches import Sketch, sketch_on

@@ -61,7 +61,11 @@ def load(path: str) -> ctypes.PyDLL:
         library = ctypes.PyDLL(path)
     except OSError as error:
         raise ProgramMissing(f'{error}; sessions in Python need libgwb.so') from None
-    _require_version(library, path)
+    if not hasattr(library, 'gwb_version'):
+        raise ProgramMissing(f'{path}: this is no library of gwb')
+    found = library.gwb_version()
+    if found // 10_000 != _MAJOR:
+        raise ProgramMissing(f'{path}: version {found // 10_000}.{found // 100 % 100}.{found % 100} of the library, where {_MAJOR} is needed')
     for name, exported, result, taken in prototypes():
         try:
             function = getattr(library, exported)
@@ -70,14 +74,6 @@ def load(path: str) -> ctypes.PyDLL:
         function.restype, function.argtypes = result, taken
         setattr(library, name, function)
     return library
-
-
-def _require_version(library: ctypes.PyDLL, path: str) -> None:
-    if not hasattr(library, 'gwb_version'):
-        raise ProgramMissing(f'{path}: this is no library of gwb')
-    found = library.gwb_version()
-    if found // 10_000 != _MAJOR:
-        raise ProgramMissing(f'{path}: version {found // 10_000}.{found // 100 % 100}.{found % 100} of the library, where {_MAJOR} is needed')
 
 
 class Library:
@@ -149,8 +145,7 @@ class Library:
 
     def mark(self) -> int:
         """How many steps the draft has, for `back`: 0 where no draft is open."""
-        place: int = self.library.mark(self.handle)
-        return place
+        return int(self.library.mark(self.handle))
 
     def back(self, place: int) -> None:
         """Takes the steps of the draft since a mark back. A closed session has no steps."""

@@ -1,5 +1,6 @@
-"""The measures of what a workbench holds (solid_measures.py), its sections (sections.py), and cuts off the lattice (lattice_cuts.py)."""
+"""The measures of what a workbench holds (solid_measures.py), its sections (sections.py), cuts off the lattice (lattice_cuts.py), and arrays of it."""
 
+import ctypes
 from fractions import Fraction
 from typing import Any, List, Optional, Tuple
 
@@ -8,12 +9,19 @@ from ..geometry.flat_face import ExactVector
 from ..geometry.model import Model
 from . import arguments
 from .bench import Methods
-from .reading import EdgePart, FacePart
+from .c_calls import LENGTH, WORD
+from .reading import EdgePart, FacePart, SolidPart
+
+# The letters that types of numbers have in buffers.
+_LETTERS = {WORD: 'I', LENGTH: 'q'}
 
 
 class Measuring(Methods):
     """Exact measures, each of the part that it names, in coordinates as they are: a length times `unit`, an area times its square and a volume times
-    its cube is in the unit that the session began with. Where a face isn't flat they raise Unfit."""
+    its cube is in the unit that the session began with. Where a face isn't flat they raise Unfit.
+
+    Arrays are rows of numbers, as a memoryview in two dimensions, which `tolist()` makes lists of. Of nothing there are no rows. It stays what it is when
+    the model changes."""
 
     def bounding_box(self, solid: arguments.Solid) -> solid_measures.BoundingBox:
         """The least box with sides along the axes around the solid. Refused: NoSolid."""
@@ -71,6 +79,21 @@ class Measuring(Methods):
         self._bench.features.whole_factor(number, coefficients)    # (refused where one is out of range)
         return lattice_cuts.off_lattice_cut(found, number, coefficients)
 
+    def vertices_array(self) -> memoryview:
+        """A row for each vertex, rising: its number, x, y and z, in 64 bits each."""
+        return self._rows('read_vertices', [], self._bench.kernel.lines.greatest('vertex'), 4, LENGTH)
+
+    def half_edges_array(self, solid: Optional[arguments.Solid] = None) -> memoryview:
+        """A row for each half-edge, of a solid or of all, in 32 bits each: it, the vertex at which it starts, the half-edge after it in its loop, its
+        loop and its face. A half-edge is here twice the number of its edge, and 1 more for `-`. Those of a loop come one after another, the outer loop of
+        a face before its rings."""
+        return self._rows('read_half_edges', [self._of(solid)], 2 * self._bench.kernel.lines.greatest('edge'), 5, WORD)
+
+    def triangles_array(self, solid: Optional[arguments.Solid] = None) -> memoryview:
+        """A row for each triangle of the faces of a solid, or of all, in 32 bits each: the face, and three vertices, counterclockwise as seen from outside.
+        A face that isn't flat, or whose loops cross, has none."""
+        return self._rows('read_triangles', [self._of(solid)], 6 * self._bench.kernel.lines.greatest('edge'), 4, WORD)
+
     def _solid(self, solid: arguments.Solid) -> Tuple[Model, int]:
         """The solid alone, and its number."""
         number = self._bench.number('solid', solid)
@@ -88,3 +111,21 @@ class Measuring(Methods):
         number = abs(self._bench.half_edge('edge', edge))
         ends = EdgePart(self._bench.kernel, number).vertices
         return Model((), {}, {}, {number: (ends[0].number, ends[1].number)}, {end.number: end.point for end in ends}), number
+
+    def _of(self, solid: Optional[arguments.Solid]) -> int:
+        """The number of a solid that is there, 0 for all. Refused: NoSolid."""
+        if solid is None:
+            return 0
+        number = self._bench.number('solid', solid)
+        SolidPart(self._bench.kernel, number).faces
+        return number
+
+    def _rows(self, name: str, solid: List[int], room: int, width: int, kind: Any) -> memoryview:
+        """What a call writes, which has room for so many rows, at least as many as there are. Raises MemoryError."""
+        lines = self._bench.kernel.lines
+        rows = (kind * (width * room or 1))()
+        count: int = getattr(lines.library, name)(lines.handle, *solid, rows, room)
+        if count > room:
+            raise MemoryError(f'{name}: memory was refused')
+        flat = memoryview(rows).cast('B')[:count * width * ctypes.sizeof(kind)]
+        return flat.cast(_LETTERS[kind], (count, width)) if count else flat.cast(_LETTERS[kind])

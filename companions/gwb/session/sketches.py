@@ -26,22 +26,22 @@ class Sketch(NamedTuple):
 
     def point(self, u: int, v: int) -> Vector:
         """The point at two coordinates."""
-        across, along = arguments.coordinate('u', u), arguments.coordinate('v', v)
+        across, along = arguments.whole('u', u), arguments.whole('v', v)
         x, y, z = (start + across * one + along * other for start, one, other in zip(self.origin, self.right, self.up))
         return (x, y, z)
 
     def points(self, spots: Iterable[Sequence[int]]) -> List[Vector]:
         """The points at these coordinates: an outline of straight sides."""
-        return [self.point(*arguments.spot(f'spots[{place}]', spot)) for place, spot in enumerate(arguments.items('spots', spots))]
+        return [self.point(*arguments.coordinates(f'spots[{place}]', spot, 2)) for place, spot in enumerate(arguments.items('spots', spots))]
 
     def rectangle(self, corner: Sequence[int], sizes: Sequence[int]) -> List[Vector]:
         """A rectangle from its lower left corner on, so wide and high."""
-        (u, v), (width, height) = arguments.spot('corner', corner), arguments.spot('sizes', sizes)
+        (u, v), (width, height) = arguments.coordinates('corner', corner, 2), arguments.coordinates('sizes', sizes, 2)
         return [self.point(*spot) for spot in ((u, v), (u + width, v), (u + width, v + height), (u, v + height))]
 
     def polygon(self, center: Sequence[int], radius: int, sides: int) -> List[Vector]:
         """A polygon around a center, its corners at the whole coordinates nearest to a circle, the first one to the right."""
-        (u, v), reach, count = arguments.spot('center', center), arguments.positive('radius', radius), arguments.sides('sides', sides)
+        (u, v), reach, count = arguments.coordinates('center', center, 2), arguments.positive('radius', radius), arguments.sides('sides', sides)
         turns = [2 * pi * k / count for k in range(count)]
         return [self.point(u + round(reach * cos(turn)), v + round(reach * sin(turn))) for turn in turns]
 

@@ -107,11 +107,11 @@ class SolidMethods(Methods):
     def pattern_around(self, solid: arguments.Solid, count: int, axis: str, times: int = 1, *, about: arguments.Point = ZERO) -> Tuple[Copy, ...]:
         """Copies of the solid around the axis 'x', 'y' or 'z' through a point, each so many quarter turns on from the one before it, counterclockwise as
         seen from where the axis points, so that there are `count` of it with itself: at most 4, or 2 by half turns. Refused as copy is."""
-        number, round_axis, quarters = self._bench.number('solid', solid), arguments.word('axis', axis, _AXES), arguments.coordinate('times', times) % 4
+        number, round_axis, quarters = self._bench.number('solid', solid), arguments.word('axis', axis, _AXES), arguments.whole('times', times) % 4
         middle, most = Point(*arguments.point('about', about)), (1, 4, 2, 4)[quarters]
         if most == 1:
             raise ValueError(f'times: {times} quarter turns lead back')
-        many = arguments.within('count', count, 2, most)
+        many = arguments.whole('count', count, 2, most)
         return self._in_a_row('pattern_around', number, many - 1, many, _AXES.index(round_axis), quarters, middle)
 
     def move(self, solid: arguments.Solid, vector: arguments.Point) -> int:
@@ -122,7 +122,7 @@ class SolidMethods(Methods):
     def turn(self, solid: arguments.Solid, axis: str, times: int = 1, *, about: arguments.Point = ZERO) -> int:
         """The solid turns by quarters about the axis 'x', 'y' or 'z' through a point, counterclockwise as seen from where the axis points:
         its number. Refused as move is."""
-        turn = turning(arguments.word('axis', axis, _AXES), arguments.coordinate('times', times), arguments.point('about', about))
+        turn = turning(arguments.word('axis', axis, _AXES), arguments.whole('times', times), arguments.point('about', about))
         return self._placed(solid, turn)
 
     def mirror(self, solid: arguments.Solid, plane: arguments.Point) -> int:

@@ -9,8 +9,7 @@
 
 Numbers of new things may be given, by name, as the script language does; where one isn't, the workbench takes a free one.
 Methods are in parts over one bench (bench.py): commands (commands.py), selection (selection.py), features (feature_methods.py), solids as
-things (solids.py, cutting.py), measures (measuring.py), arrays (arrays.py), labels and files (exporting.py), and the session itself, scripts and
-drawings here.
+things (solids.py, cutting.py), measures and arrays (measuring.py), labels and files (exporting.py), and the session itself, scripts and drawings here.
 """
 
 from html import escape
@@ -30,7 +29,6 @@ from ..protocol.replies import Reply, is_listed
 from ..scripts.inversion import script_of
 from ..scripts.unit_comments import unit_in
 from . import arguments
-from .arrays import Arrays
 from .bench import Bench
 from .commands import Commands
 from .cutting import Cutting
@@ -50,7 +48,7 @@ _FIRST_WORDS = ('v', 'vn', 'vt', 'f', 'o', 'g', 'mtllib', 'OFF', 'ply', 'solid',
 
 
 @taking_turns
-class Workbench(SolidMethods, Cutting, FeatureMethods, Commands, Selecting, Measuring, Arrays, Exporting):
+class Workbench(SolidMethods, Cutting, FeatureMethods, Commands, Selecting, Measuring, Exporting):
     """A running gwb. Each command is a method; one that isn't accepted raises Refused, Faulted or MemoryRefused."""
 
     def __init__(self, library: Optional[arguments.Path] = None, *, unit: Exact = 1) -> None:
