@@ -9,11 +9,10 @@ from .geometry.outlines import Impossible
 from .geometry.solid_measures import BoundingBox, Inertia, NotParallel, NoVolume
 from .protocol.listing import read_model
 from .session.arguments import Lone
-from .session.cutting import Cut
+from .session.feature_methods import Sketch
 from .session.reading import EdgePart, FacePart, LoopPart, Part, Selection, SolidPart, VertexPart
-from .session.results import (Block, Count, Hole, Lamina, NewEdge, NewFace, NewSolid, Notch, Plane, Pocket, Polyhedron, Profile, Renumbered,
+from .session.results import (Block, Count, Cut, Hole, Lamina, NewEdge, NewFace, NewSolid, Notch, Plane, Pocket, Polyhedron, Profile, Renumbered,
                               Ring, Split, Sweep)
-from .session.sketches import Sketch
 from .session.solids import Copy
 from .session.workbench import Workbench
 from .version import VERSION as __version__

@@ -20,7 +20,7 @@ FOLDER = str(Path(gwb.__file__).parent / 'session')
 # The modules in which an exception may come at each line.
 TRACED = {f'{FOLDER}/{name}.py' for name in (
     'workbench', 'bench', 'kernel', 'notes', 'library', 'steps', 'turns', 'commands', 'feature_methods', 'feature_calls',
-    'selection', 'cutting', 'solids')}
+    'selection', 'solids')}
 # Python looks for signals where a call begins or returns: not between a line and the `try:` after it, nor between a block and its `finally`.
 NOT_BEFORE = ('try:', '.is_inside =', 'group_from = outer')
 SQUARE = [(5, 5, 20), (15, 5, 20), (15, 15, 20), (5, 15, 20)]

@@ -4,7 +4,7 @@ import ctypes
 from typing import Any, Dict, Iterator, List, Tuple
 
 WORD, SIZE, LENGTH, ADDRESS = ctypes.c_uint32, ctypes.c_size_t, ctypes.c_int64, ctypes.c_void_p
-OK, REFUSED, MEMORY, NO_CALL, IMPOSSIBLE = 1, 2, 4, 10, 13
+OK, REFUSED, MEMORY, PLANE, NO_CALL, IMPOSSIBLE = 1, 2, 4, 5, 10, 13
 FOUND = 1
 # The lists of what a feature made, by their numbers.
 FLOOR, WALLS, FACES, LOOPS, EDGES, VERTICES, TURNED, LOWER_CAPS, UPPER_CAPS, INTO, SOLIDS = range(11)
@@ -20,8 +20,9 @@ Handle = _struct(is_open=ctypes.c_bool, held=ADDRESS, beside=ADDRESS)
 Refusal = _struct(number=WORD, value=WORD)
 # What there is of a face, of an edge, and of a vertex.
 FaceRow, EdgeRow, Point = _struct(solid=WORD, outer_loop=WORD), _struct(start=WORD, end=WORD), _struct(x=LENGTH, y=LENGTH, z=LENGTH)
-# A number of 128 bits.
+# A number of 128 bits, and the plane of a face by four.
 Wide = _struct(high=LENGTH, low=ctypes.c_uint64)
+PlaneRow = _struct(numbers=Wide * 4, flat=WORD)
 # The first and the last of the fresh numbers of a kind.
 Range = _struct(first=WORD, last=WORD)
 # Where points go: by the axes, signed and counted from 1, and then by a vector.
@@ -40,7 +41,7 @@ EdgeQuery = _struct(solid=WORD, between=WORD * 2, along=_POINT, length=_RATIO)
 
 # What each reader returns, and what it takes after the handle; they are exported as gwb_lent_*.
 _READERS: Dict[str, Tuple[Any, List[Any]]] = {
-    'reply': (SIZE, [_TEXT, SIZE]), 'half_edges': (SIZE, [WORD, _WORDS, SIZE]),
+    'reply': (SIZE, [_TEXT, SIZE]), 'half_edges': (SIZE, [WORD, _WORDS, SIZE]), 'plane': (WORD, [WORD, ctypes.POINTER(PlaneRow), ctypes.POINTER(Refusal)]),
     **dict.fromkeys(('depth', 'ahead', 'mark'), (SIZE, [])), **dict.fromkeys(('number_after', 'ring_after', 'face_after'), (WORD, [WORD, WORD, _WORDS])),
     **dict.fromkeys(('loop', 'lone_vertex', 'half_edge_loop'), (WORD, [WORD, _WORDS])), 'face': (WORD, [WORD, ctypes.POINTER(FaceRow)]),
     'edge': (WORD, [WORD, ctypes.POINTER(EdgeRow)]), 'vertex': (WORD, [WORD, _POINT]), 'fresh': (WORD, [WORD, ctypes.POINTER(Range)])}

@@ -1,16 +1,53 @@
 """The methods of a workbench that make features of outlines, and shape solids up to the edges of their faces."""
 
-from typing import Any, Optional, Sequence, Tuple
+from math import cos, isqrt, pi, sin
+from typing import Any, Iterable, List, NamedTuple, Optional, Sequence, Tuple
 
 from ..geometry.free_numbers import LARGEST
+from ..geometry.measures import why_unfit
+from ..geometry.outlines import Impossible
+from ..geometry.vectors import Vector, ZERO, cross, dot, reduced
 from ..protocol.complaints import refused
 from . import arguments
 from .bench import LabelledFaces, Methods
 from .c_calls import FLOOR, WALLS, WORD, Pair, Point
 from .feature_calls import NUMBER_RANGE, rows, words
-from .reading import EdgePart
+from .reading import EdgePart, FacePart
 from .results import Hole, Notch, Numbers, Pocket, Polyhedron, Profile, Ring
-from .sketches import Sketch, sketch_on
+
+_AXES: Sequence[Vector] = ((1, 0, 0), (0, 1, 0), (0, 0, 1))
+_NOT_FLAT = 32
+
+
+class Sketch(NamedTuple):
+    """Two coordinates in the plane of a face: (u, v) is the origin, u steps to the right and v steps up, as one looks at the face from outside.
+
+    What it gives are points in space. Coordinates are whole numbers."""
+
+    origin: Vector
+    right: Vector
+    up: Vector
+
+    def point(self, u: int, v: int) -> Vector:
+        """The point at two coordinates."""
+        across, along = arguments.whole('u', u), arguments.whole('v', v)
+        x, y, z = (start + across * one + along * other for start, one, other in zip(self.origin, self.right, self.up))
+        return (x, y, z)
+
+    def points(self, spots: Iterable[Sequence[int]]) -> List[Vector]:
+        """The points at these coordinates: an outline of straight sides."""
+        return [self.point(*arguments.coordinates(f'spots[{place}]', spot, 2)) for place, spot in enumerate(arguments.items('spots', spots))]
+
+    def rectangle(self, corner: Sequence[int], sizes: Sequence[int]) -> List[Vector]:
+        """A rectangle from its lower left corner on, so wide and high."""
+        (u, v), (width, height) = arguments.coordinates('corner', corner, 2), arguments.coordinates('sizes', sizes, 2)
+        return [self.point(*spot) for spot in ((u, v), (u + width, v), (u + width, v + height), (u, v + height))]
+
+    def polygon(self, center: Sequence[int], radius: int, sides: int) -> List[Vector]:
+        """A polygon around a center, its corners at the whole coordinates nearest to a circle, the first one to the right."""
+        (u, v), reach, count = arguments.coordinates('center', center, 2), arguments.positive('radius', radius), arguments.sides('sides', sides)
+        turns = [2 * pi * k / count for k in range(count)]
+        return [self.point(u + round(reach * cos(turn)), v + round(reach * sin(turn))) for turn in turns]
 
 
 class FeatureMethods(Methods):
@@ -47,9 +84,17 @@ class FeatureMethods(Methods):
 
         Refused: NoFace; NotFlat; NotInPlane: the origin or `right` lies off the plane, or no axis lies in it; OffLattice: no whole vector in the
         plane is as long as `right` and across it."""
-        number = self._bench.number('face', face)
-        start, way = (None if value is None else arguments.point(name, value) for name, value in (('origin', origin), ('right', right)))
-        return sketch_on(self._bench, number, start, way)
+        part = FacePart(self._bench.kernel, self._bench.number('face', face))
+        start, wanted = (None if value is None else arguments.point(name, value) for name, value in (('origin', origin), ('right', right)))
+        points, why = part.points, why_unfit(self._bench.kernel.lines.model([part.number]), part.number)
+        if why is not None:
+            raise refused('sketch', _NOT_FLAT, part.number, why)
+        across, start = reduced(part.normal), start or min(points)
+        if dot(across, start) != dot(across, points[0]):
+            raise Impossible('NotInPlane', part.number, f'the origin {start} lies off the plane of face {part.number}')
+        axis = next((axis for axis in _AXES if dot(across, axis) == 0), ZERO)
+        way, up = _directions(part.number, across, wanted or axis, 1 if wanted else isqrt(dot(across, across)))
+        return Sketch(start, way, up)
 
     def ring(self, face: arguments.Face, points: arguments.Points) -> Ring:
         """A face inside the face, with the outline through the points, and a ring around it.
@@ -80,11 +125,9 @@ class FeatureMethods(Methods):
     def hole(self, face: arguments.Face, points: arguments.Points) -> Hole:
         """A hole from the outline in the face through to the opposite face.
 
-        Refused: NoFace; NotFlat: the face isn't flat; FewPoints, RepeatedPoint; NoArea: the outline has no area; NotInPlane: a point lies off
-        the plane of the face; OutlineCrossed: the outline crosses or touches itself; OutlineOutside: it crosses or touches the boundary of the
-        face or of the opposite one, or doesn't lie inside; OutlineAroundRing: a ring of either face lies inside the outline; NoOpposite: there
-        is nothing behind the outline; NotParallel: the face behind it isn't parallel; OffLattice: its plane lies off the lattice behind the
-        face; Meets: the hole would meet or touch something else of the solid."""
+        Refused as ring is, also for the boundary and the rings of the opposite face; NoOpposite: there is nothing behind the outline; NotParallel: the
+        face behind it isn't parallel; OffLattice: its plane lies off the lattice behind the face; Meets: the hole would meet or touch something else of
+        the solid."""
         number, outline = self._bench.number('face', face), arguments.points('points', points)
         return Hole(*self._bench.features.outline('hole', number, outline), tuple(outline))
 
@@ -184,3 +227,18 @@ class FeatureMethods(Methods):
             made = self._bench.features.written(word, len(edges), *values, frees=True)
             labelled.label_parts([self._bench.solid_of(made[0])], made)
         return made
+
+
+def _directions(face: int, across: Vector, right: Vector, times: int) -> Tuple[Vector, Vector]:
+    """So many times a direction in the plane of a face, and the one that is as long and leads upwards. Refused: NotInPlane, OffLattice."""
+    if right == ZERO or dot(across, right) != 0:
+        raise Impossible('NotInPlane', face, f'a direction in the plane of face {face} is wanted, not {right}')
+    way, upward = _times(times, right), reduced(cross(across, right))
+    up = _times(isqrt(dot(way, way) // dot(upward, upward)), upward)
+    if dot(up, up) != dot(way, way):
+        raise Impossible('OffLattice', face, f'no whole vector in face {face} is as long as {way} and across it')
+    return way, up
+
+
+def _times(times: int, way: Vector) -> Vector:
+    return (times * way[0], times * way[1], times * way[2])

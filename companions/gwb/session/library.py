@@ -15,7 +15,7 @@ from ..protocol.complaints import complaint, memory_refused
 from ..protocol.language import command_bytes, first_word
 from ..protocol.replies import ACCEPTED, Reply, only_reply
 from ..version import VERSION
-from .c_calls import ADDRESS, FOUND, OK, SIZE, WORD, EdgeRow, FaceRow, Handle, Point, Range, prototypes
+from .c_calls import ADDRESS, FOUND, OK, PLANE, SIZE, WORD, EdgeRow, FaceRow, Handle, PlaneRow, Point, Range, Refusal, prototypes
 
 _NO_TEXT = SIZE(-1).value
 _ROOM = 4096
@@ -212,6 +212,15 @@ class Library:
         """The solid of a face; 0 where it is not there."""
         row = self._read('face', FaceRow(), face)
         return int(row.solid) if row else 0
+
+    def normal(self, face: int) -> Optional[Vector]:
+        """The normal of a face, as its plane has it; None where it is not there."""
+        row = PlaneRow()
+        self.require_open()
+        if self.library.plane(self.handle, face, row, Refusal()) != PLANE:
+            return None
+        a, b, c, _ = (number.high << 64 | number.low for number in row.numbers)
+        return (a, b, c)
 
     def loop(self, loop: int) -> Optional[Loop]:
         """A loop, its half-edges from the least on; None where it is not there."""

@@ -269,9 +269,7 @@ class FacePart(Part):
     @property
     def normal(self) -> Vector:
         """Its normal, twice its area long: the first three numbers of its plane."""
-        self._there(self._kernel.lines.solid_of(self.number))
-        a, b, c, _ = self._kernel.lines.asked(f'plane {self.number}').numbers
-        return (a, b, c)
+        return self._there(self._kernel.lines.normal(self.number))
 
     @property
     def area(self) -> Union[Fraction, float]:

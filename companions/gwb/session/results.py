@@ -1,6 +1,6 @@
 """The numbers that commands of a workbench return."""
 
-from typing import Dict, NamedTuple, Tuple
+from typing import Dict, NamedTuple, Optional, Tuple
 
 Numbers = Tuple[int, ...]
 
@@ -70,6 +70,15 @@ class Split(NamedTuple):
     faces: Numbers
     edges: Numbers
     vertices: Numbers
+
+
+class Cut(NamedTuple):
+    """What a cut leaves: the solids below and above the plane, None for one that was thrown away, and the faces that close them."""
+
+    below: Optional[int]
+    above: Optional[int]
+    lower_caps: Numbers
+    upper_caps: Numbers
 
 
 class Plane(NamedTuple):

@@ -9,7 +9,7 @@
 
 Numbers of new things may be given, by name, as the script language does; where one isn't, the workbench takes a free one.
 Methods are in parts over one bench (bench.py): commands (commands.py), selection (selection.py), features (feature_methods.py), solids as
-things (solids.py, cutting.py), measures and arrays (measuring.py), labels and files (exporting.py), and the session itself, scripts and drawings here.
+things (solids.py), measures and arrays (measuring.py), labels and files (exporting.py), and the session itself, scripts and drawings here.
 """
 
 from html import escape
@@ -31,7 +31,6 @@ from ..scripts.unit_comments import unit_in
 from . import arguments
 from .bench import Bench
 from .commands import Commands
-from .cutting import Cutting
 from .exporting import Exporting
 from .feature_methods import FeatureMethods
 from .measuring import Measuring
@@ -48,7 +47,7 @@ _FIRST_WORDS = ('v', 'vn', 'vt', 'f', 'o', 'g', 'mtllib', 'OFF', 'ply', 'solid',
 
 
 @taking_turns
-class Workbench(SolidMethods, Cutting, FeatureMethods, Commands, Selecting, Measuring, Exporting):
+class Workbench(SolidMethods, FeatureMethods, Commands, Selecting, Measuring, Exporting):
     """A running gwb. Each command is a method; one that isn't accepted raises Refused, Faulted or MemoryRefused."""
 
     def __init__(self, library: Optional[arguments.Path] = None, *, unit: Exact = 1) -> None:
