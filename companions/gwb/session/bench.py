@@ -14,7 +14,7 @@ from . import arguments
 from .feature_calls import FeatureCalls
 from .kernel import Kernel
 from .library import find_path
-from .reading import EdgePart, FacePart, Part, SolidPart
+from .reading import EdgePart, Part, SolidPart
 from .steps import Block
 
 _PACKAGE = __name__.split('.')[0]
@@ -24,8 +24,7 @@ class Bench:
     """A kernel with the features of its library, the numbers of new things, and labels."""
 
     def __init__(self, library: Optional[arguments.Path] = None, unit: Exact = 1) -> None:
-        """Opens a session of the library at the path, or the one that the environment variable GWB, the package or the system has. The unit is how
-        many millimetres a coordinate stands for."""
+        """Opens a session, as a workbench does."""
         size = arguments.factor('unit', unit)
         self.kernel = Kernel(find_path() if library is None else arguments.path('library', library), size)
         self.numbers = self.kernel.numbers
@@ -94,10 +93,6 @@ class Bench:
     def step(self) -> Block:
         """The commands given in it are one command, or in a draft part of it. Where one isn't accepted, all is as before."""
         return Block(self.kernel, False)
-
-    def solid_of(self, face: int) -> int:
-        """The solid of a face. Refused: NoFace."""
-        return FacePart(self.kernel, face).solid.number
 
     def solid_model(self, solid: int) -> Model:
         """The model of one solid. Refused: NoSolid."""

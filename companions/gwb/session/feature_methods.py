@@ -211,7 +211,7 @@ class FeatureMethods(Methods):
 
     def _shaped(self, word: str, face: int, *values: Any) -> Notch:
         """Gives a feature in a face that leaves a floor and walls in its solid, whose labels the parts of its faces get. Refused: NoFace."""
-        solid = self._bench.solid_of(face)
+        solid = FacePart(self._bench.kernel, face).solid.number
         labelled = LabelledFaces(self._bench.kernel, solid)
         with self._bench.step():
             self._bench.features.give(word, face, *values, frees=True)
@@ -225,7 +225,7 @@ class FeatureMethods(Methods):
         labelled = LabelledFaces(self._bench.kernel, solid)
         with self._bench.step():
             made = self._bench.features.written(word, len(edges), *values, frees=True)
-            labelled.label_parts([self._bench.solid_of(made[0])], made)
+            labelled.label_parts([solid], made)
         return made
 
 

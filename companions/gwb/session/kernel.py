@@ -178,11 +178,12 @@ class NewNumbers:
 
     def __init__(self, lines: Library) -> None:
         self._lines = lines
-        self.forget()
+        self._ever: Dict[str, int] = dict.fromkeys(KINDS, 0)
+        self._gaps: Dict[str, int] = dict.fromkeys(KINDS, 0)
 
     def note(self) -> None:
         """The numbers that are in use now may be free after what comes."""
-        self._ever = {kind: self._above(kind) - 1 for kind in KINDS}
+        self._ever = {kind: max(ever, self._lines.greatest(kind)) for kind, ever in self._ever.items()}
 
     def forget(self) -> None:
         """What was in use may be taken again."""

@@ -2,8 +2,8 @@
 
 from dataclasses import dataclass
 from fractions import Fraction
-from operator import index
-from typing import Callable, ClassVar, Generic, Iterable, Iterator, Optional, Sequence, Tuple, TypeVar, Union, overload
+from operator import and_, index, or_, sub
+from typing import Callable, ClassVar, FrozenSet, Iterable, Iterator, Optional, Sequence, Tuple, TypeVar, Union, overload
 
 from ..errors import NotOne, Refused
 from ..geometry.model import Loop
@@ -54,7 +54,7 @@ class NotThere(Refused, LookupError):
     """There is no such vertex: no command is refused for one, so the refusal has no number of its own."""
 
 
-class Selection(Sequence[Found], Generic[Found]):
+class Selection(Sequence[Found]):
     """Things that were found, rising by their numbers."""
 
     def __init__(self, kind: str, wanted: str, parts: Sequence[Found]) -> None:
@@ -82,7 +82,7 @@ class Selection(Sequence[Found], Generic[Found]):
         return iter(self._parts)
 
     def __repr__(self) -> str:
-        return f'<{_PLURALS.get(self._kind, self._kind + "s")} {", ".join(str(part.number) for part in self._parts) or "none"}>'
+        return f'<{_PLURALS.get(self._kind, self._kind + "s")} {", ".join(map(str, self.numbers)) or "none"}>'
 
     @property
     def numbers(self) -> Tuple[int, ...]:
@@ -91,38 +91,32 @@ class Selection(Sequence[Found], Generic[Found]):
 
     def __and__(self, other: 'Selection[Found]') -> 'Selection[Found]':
         """Those of this selection that are in the other one too."""
-        return self._with(other, 'and', lambda part: part in other)
+        return self._with(other, 'and', and_)
 
     def __sub__(self, other: 'Selection[Found]') -> 'Selection[Found]':
         """Those of this selection that aren't in the other one."""
-        return self._with(other, 'but not', lambda part: part not in other)
+        return self._with(other, 'but not', sub)
 
     def __or__(self, other: 'Selection[Found]') -> 'Selection[Found]':
-        """Those of either selection, rising by their numbers."""
-        parts = sorted({*self._parts, *self._alike(other)}, key=index)
-        return Selection(self._kind, f'{self._wanted} or{other._wanted}', parts)
+        """Those of either selection."""
+        return self._with(other, 'or', or_)
 
     def where(self, fits: Callable[[Found], object]) -> 'Selection[Found]':
         """Those for which the function says something true."""
         return Selection(self._kind, self._wanted, [part for part in self._parts if fits(part)])
 
-    def _with(self, other: 'Selection[Found]', word: str, fits: Callable[[Found], bool]) -> 'Selection[Found]':
-        self._alike(other)
-        return Selection(self._kind, f'{self._wanted} {word}{other._wanted}', [part for part in self._parts if fits(part)])
-
-    def _alike(self, other: 'Selection[Found]') -> Sequence[Found]:
-        """The things of the other selection, which are of the same kind."""
+    def _with(self, other: 'Selection[Found]', word: str, merged: Callable[[FrozenSet[Found], FrozenSet[Found]], FrozenSet[Found]]) -> 'Selection[Found]':
+        """What comes of both, which are of the same kind."""
         if not isinstance(other, Selection) or other._kind != self._kind:
             raise TypeError(f'a selection of the kind {self._kind} is wanted, not {other!r}')
-        return other._parts
+        return Selection(self._kind, f'{self._wanted} {word}{other._wanted}', sorted(merged(self._set, other._set), key=index))
 
     def one(self) -> Found:
         """The only one; NotOne says what was found where there isn't exactly one."""
         if len(self._parts) == 1:
             return self._parts[0]
-        found = ', '.join(f'{part.number}' for part in self._parts)
-        raise NotOne(f'one {self._kind}{self._wanted} was wanted; '
-                     + (f'{len(self._parts)} were found: {found}' if found else 'none was found'))
+        found = f'{len(self)} were found: {", ".join(map(str, self.numbers))}' if self else 'none was found'
+        raise NotOne(f'one {self._kind}{self._wanted} was wanted; {found}')
 
     def farthest(self, direction: Sequence[int]) -> 'Selection[Found]':
         """Those whose nearest point lies farthest along the direction; more than one where they are level."""

@@ -5,7 +5,6 @@ The library does it where axes go to axes. In another plane a solid is mirrored 
 
 import ctypes
 from dataclasses import dataclass, field
-from fractions import Fraction
 from typing import Any, Callable, Dict, List, Mapping, Optional, Sequence, Tuple, TypeVar, Union
 
 from ..errors import Refused
@@ -282,7 +281,7 @@ class SolidMethods(Methods):
 def _motion(change: Change) -> Any:
     """A change of place as the library has it; None where axes don't go to axes, or points go far out of range."""
     start, *ends = map(change.place, (ZERO, (1, 0, 0), (0, 1, 0), (0, 0, 1)))
-    images = [[Fraction(part) - other for part, other in zip(end, start)] for end in ends]
+    images = [[part - other for part, other in zip(end, start)] for end in ends]
     is_near = all(part.denominator == 1 and -4 * FARTHEST <= part <= 4 * FARTHEST for part in start)
     if not is_near or any(sorted(part * part for part in image) != [0, 0, 1] for image in images):
         return None
