@@ -21,13 +21,12 @@ _PACKAGE = __name__.split('.')[0]
 
 
 class Bench:
-    """A kernel with the features of its library, the numbers of new things, and labels."""
+    """A kernel with the features of its library, and what the arguments of methods stand for in it."""
 
     def __init__(self, library: Optional[arguments.Path] = None, unit: Exact = 1) -> None:
         """Opens a session, as a workbench does."""
         size = arguments.factor('unit', unit)
         self.kernel = Kernel(find_path() if library is None else arguments.path('library', library), size)
-        self.numbers = self.kernel.numbers
         self.features = FeatureCalls(self.kernel)
 
     def number(self, name: str, value: object, kind: str = '') -> int:
@@ -81,7 +80,7 @@ class Bench:
         if given is not None:
             return self.number(kind, given)
         self.kernel.lines.require_open()
-        return self.numbers.next(kind)
+        return self.kernel.numbers.next(kind)
 
     def label_alike(self, kind: str, others: Iterable[Tuple[int, int]]) -> None:
         """Of each pair of solids or faces the second one gets the label that the first one has, if it has one."""

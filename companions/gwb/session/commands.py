@@ -84,18 +84,18 @@ class Commands(Methods):
         places = arguments.points('points', points, arguments.MOST_LAMINA_POINTS)
         number = self._bench.new('solid', solid)
         self._bench.kernel.do('lamina', number, *(part for place in places for part in place))
-        fresh = self._bench.kernel.lines.fresh()
-        front, back = fresh['face']
-        return Lamina(number, front, back, tuple(fresh['edge']), tuple(fresh['vertex']))
+        fresh = self._bench.kernel.lines.fresh
+        front, back = fresh('face')
+        return Lamina(number, front, back, fresh('edge'), fresh('vertex'))
 
     def block(self, point: arguments.Point, sizes: arguments.Point, *, solid: Optional[int] = None) -> Block:
         """A new solid: the block from the point on with edges along the axes, so long as the sizes say."""
         place, lengths = arguments.point('point', point), arguments.point('sizes', sizes)
         number = self._bench.new('solid', solid)
         self._bench.kernel.do('block', number, *place, *lengths)
-        fresh = self._bench.kernel.lines.fresh()
-        top, bottom, *sides = fresh['face']
-        return Block(number, top, bottom, tuple(sides), tuple(fresh['edge']), tuple(fresh['vertex']))
+        fresh = self._bench.kernel.lines.fresh
+        top, bottom, *sides = fresh('face')
+        return Block(number, top, bottom, tuple(sides), fresh('edge'), fresh('vertex'))
 
     def sweep(self, face: arguments.Face, vector: arguments.Point) -> Sweep:
         """The face moves by the vector and leaves a side behind each of its half-edges.
@@ -103,15 +103,15 @@ class Commands(Methods):
         A lamina's front is swept along its normal, its back along the opposite one: the other way the solid is inside out."""
         number, way = self._bench.number('face', face), arguments.point('vector', vector)
         self._bench.kernel.do('sweep', number, *way)
-        fresh = self._bench.kernel.lines.fresh()
-        edges = iter(fresh['edge'])
+        fresh = self._bench.kernel.lines.fresh
+        edges = iter(fresh('edge'))
         rising: List[int] = []
         far: List[int] = []
         for loop in FacePart(self._bench.kernel, number).loops:
             round_loop = list(islice(edges, 2 * len(loop.half_edges)))
             rising += [round_loop[0], *round_loop[1:-1:2]]
             far += [*round_loop[2::2], round_loop[-1]]
-        return Sweep(number, tuple(fresh['face']), tuple(rising), tuple(far), tuple(fresh['vertex']))
+        return Sweep(number, fresh('face'), tuple(rising), tuple(far), fresh('vertex'))
 
     def glue(self, face: arguments.Face, other: arguments.Face) -> int:
         """The solids of the two faces become one along them: its number."""

@@ -24,7 +24,6 @@ from . import arguments
 from .bench import Methods, warn
 from .reading import FacePart, Selection, SolidPart
 
-
 _ENDINGS = ('.step', '.stp', '.3mf', '.glb', '.obj', '.off', '.stl', '.html')
 
 
@@ -104,7 +103,7 @@ class Exporting(Methods):
 
     def _take_in(self, found: Imported) -> List[int]:
         """Makes the solids of a file as one command, and labels what has a name or a colour: their numbers."""
-        new = self._bench.numbers.instead_of(found.model)
+        new = self._bench.kernel.numbers.instead_of(found.model)
         with self._bench.step():
             if found.model.solids:
                 self._bench.features.load(renumbered(found.model, new))

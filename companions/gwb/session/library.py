@@ -5,7 +5,7 @@ import os
 import re
 from ctypes.util import find_library
 from pathlib import Path
-from typing import Any, Callable, Dict, Iterable, Iterator, Optional, Tuple
+from typing import Any, Callable, Iterable, Iterator, Optional, Tuple
 
 from ..errors import CompanionError, Ended, ProgramMissing
 from ..geometry.free_numbers import KINDS, from_least
@@ -152,10 +152,10 @@ class Library:
         self._taken_back += self.mark() > place
         self.library.back(self.handle, place)
 
-    def fresh(self) -> Dict[str, range]:
-        """For each kind the fresh numbers of the last command that was accepted: none where it took none, as a split that cuts nothing."""
-        rows = [self._read('fresh', Range(), number) for number in range(1, len(KINDS))]
-        return {kind: range(row.first, row.last + 1) if row else range(0) for kind, row in zip(KINDS[1:], rows)}
+    def fresh(self, kind: str) -> Tuple[int, ...]:
+        """The fresh numbers of a kind of the last command that was accepted: none where it took none, as a split that cuts nothing."""
+        row = self._read('fresh', Range(), KINDS.index(kind))
+        return tuple(range(row.first, row.last + 1)) if row else ()
 
     # What is recorded
 

@@ -1,18 +1,32 @@
-"""Finding things of the model by where they lie, exactly."""
+"""What a workbench holds, read: things by where they lie, exactly, measures (solid_measures.py), sections (sections.py), cuts off the lattice
+(lattice_cuts.py), and arrays."""
 
-from ctypes import pointer
-from typing import List, Optional, Tuple
+from ctypes import pointer, sizeof
+from fractions import Fraction
+from typing import Any, List, Optional, Tuple
 
+from ..geometry import lattice_cuts, sections, solid_measures
+from ..geometry.flat_face import ExactVector
+from ..geometry.model import Model
 from ..geometry.plane_figures import Exact
 from . import arguments
 from .bench import Methods
-from .c_calls import WORD, CutPlane, EdgeQuery, FaceQuery, Point
+from .c_calls import LENGTH, WORD, CutPlane, EdgeQuery, FaceQuery, Point
 from .feature_calls import ratio
 from .reading import EdgePart, FacePart, LoopPart, Selection, SolidPart, VertexPart
 
+# The letters that types of numbers have in buffers.
+_LETTERS = {WORD: 'I', LENGTH: 'q'}
 
-class Selecting(Methods):
-    """Parts of the model by their numbers, and by where they lie."""
+
+class Reading(Methods):
+    """Parts of the model by their numbers, and by where they lie.
+
+    Exact measures, each of the part that it names, in coordinates as they are: a length times `unit`, an area times its square and a volume times
+    its cube is in the unit that the session began with. Where a face isn't flat they raise Unfit.
+
+    Arrays are rows of numbers, as a memoryview in two dimensions, which `tolist()` makes lists of. Of nothing there are no rows. It stays what it is when
+    the model changes."""
 
     def solid(self, solid: arguments.Solid) -> SolidPart:
         """The solid of this number. If there is none, what is asked of it raises Refused; the same holds for the four kinds below."""
@@ -63,6 +77,84 @@ class Selecting(Methods):
         wanted = _wanted(solid=solid, between=between, along=along, length=length)
         return Selection('edge', wanted, [EdgePart(self._bench.kernel, number) for number in self._bench.features.find('find_edges', query)])
 
+    def vertices(self, *, solid: Optional[arguments.Solid] = None, at: Optional[arguments.Point] = None) -> 'Selection[VertexPart]':
+        """The vertices of the solid, or all; `at` a point."""
+        place = None if at is None else arguments.point('at', at)
+        parts = ([VertexPart(self._bench.kernel, number) for number in self._bench.kernel.lines.numbers('vertex')] if solid is None
+                 else list(self.solid(solid).vertices))
+        return Selection('vertex', _wanted(solid=solid, at=at), [part for part in parts if place is None or part.point == place])
+
+    def bounding_box(self, solid: arguments.Solid) -> solid_measures.BoundingBox:
+        """The least box with sides along the axes around the solid. Refused: NoSolid."""
+        return solid_measures.bounding_box(*self._solid(solid))
+
+    def centroid(self, solid: arguments.Solid) -> solid_measures.ExactPoint:
+        """The centre of mass of the solid, of even density. Refused: NoSolid. Raises NoVolume where it encloses none."""
+        return solid_measures.centroid(*self._solid(solid))
+
+    def inertia(self, solid: arguments.Solid, about: Optional[ExactVector] = None) -> solid_measures.Inertia:
+        """The moments of inertia of the solid, of density one, about a point or else its centroid. Refused: NoSolid. Raises NoVolume where it
+        encloses none and no point is given."""
+        place = None if about is None else arguments.exact_point('about', about)
+        return solid_measures.inertia(*self._solid(solid), place)
+
+    def surface_area(self, solid: arguments.Solid) -> float:
+        """The area of all faces of the solid, rounded. Refused: NoSolid."""
+        return solid_measures.surface_area(*self._solid(solid))
+
+    def area(self, face: arguments.Face) -> float:
+        """The area of the face, rounded: the root of square_area. Refused: NoFace."""
+        return solid_measures.area(*self._faces(face=face))
+
+    def square_area(self, face: arguments.Face) -> Fraction:
+        """The square of the area of the face. Refused: NoFace."""
+        return solid_measures.square_area(*self._faces(face=face))
+
+    def length(self, edge: arguments.Edge) -> float:
+        """The length of the edge, rounded: the root of square_length. Refused: NoEdge."""
+        return solid_measures.length(*self._edge(edge))
+
+    def square_length(self, edge: arguments.Edge) -> int:
+        """The square of the length of the edge. Refused: NoEdge."""
+        return solid_measures.square_length(*self._edge(edge))
+
+    def distance(self, face: arguments.Face, other: arguments.Face) -> float:
+        """The distance of the planes of two parallel faces, rounded: the root of square_distance. Refused: NoFace. Raises NotParallel."""
+        return solid_measures.distance(*self._faces(face=face, other=other))
+
+    def square_distance(self, face: arguments.Face, other: arguments.Face) -> Fraction:
+        """The square of the distance of the planes of two parallel faces. Refused: NoFace. Raises NotParallel."""
+        return solid_measures.square_distance(*self._faces(face=face, other=other))
+
+    def section(self, solid: arguments.Solid, plane: arguments.Point) -> List[sections.Polygon]:
+        """The polygons in which the plane a x + b y + c z + d = 0 cuts the solid, seen from above the plane: outlines run counterclockwise,
+        holes clockwise; none where it misses the solid. Refused: NoSolid. Raises ValueError where a, b and c are zero."""
+        coefficients = arguments.plane('plane', plane)
+        return sections.section(*self._solid(solid), coefficients)
+
+    def off_lattice(self, solid: arguments.Solid, plane: arguments.Point) -> lattice_cuts.OffLatticeCut:
+        """Where the plane cuts the edges of the solid, by which factor all of these points would be whole, and planes nearby that `split`
+        takes. Refused: NoSolid; PlaneRange: a coefficient is out of range. Raises ValueError where a, b and c are zero."""
+        coefficients = arguments.plane('plane', plane)
+        found, number = self._solid(solid)
+        self._bench.features.whole_factor(number, coefficients)    # (refused where one is out of range)
+        return lattice_cuts.off_lattice_cut(found, number, coefficients)
+
+    def vertices_array(self) -> memoryview:
+        """A row for each vertex, rising: its number, x, y and z, in 64 bits each."""
+        return self._rows('read_vertices', [], self._bench.kernel.lines.greatest('vertex'), 4, LENGTH)
+
+    def half_edges_array(self, solid: Optional[arguments.Solid] = None) -> memoryview:
+        """A row for each half-edge, of a solid or of all, in 32 bits each: it, the vertex at which it starts, the half-edge after it in its loop, its
+        loop and its face. A half-edge is here twice the number of its edge, and 1 more for `-`. Those of a loop come one after another, the outer loop of
+        a face before its rings."""
+        return self._rows('read_half_edges', [self._of(solid)], 2 * self._bench.kernel.lines.greatest('edge'), 5, WORD)
+
+    def triangles_array(self, solid: Optional[arguments.Solid] = None) -> memoryview:
+        """A row for each triangle of the faces of a solid, or of all, in 32 bits each: the face, and three vertices, counterclockwise as seen from outside.
+        A face that isn't flat, or whose loops cross, has none."""
+        return self._rows('read_triangles', [self._of(solid)], 6 * self._bench.kernel.lines.greatest('edge'), 4, WORD)
+
     def _faces_sought(self, pair: Tuple[arguments.Face, arguments.Face]) -> List[int]:
         """The numbers of two faces for a query, in which 0 stands for any."""
         found = self._bench.several('between', pair, 'face')
@@ -74,12 +166,41 @@ class Selecting(Methods):
         """The number of a solid for a query, in which 0 stands for all."""
         return 0 if solid is None else arguments.positive('solid', self._bench.number('solid', solid))
 
-    def vertices(self, *, solid: Optional[arguments.Solid] = None, at: Optional[arguments.Point] = None) -> 'Selection[VertexPart]':
-        """The vertices of the solid, or all; `at` a point."""
-        place = None if at is None else arguments.point('at', at)
-        parts = ([VertexPart(self._bench.kernel, number) for number in self._bench.kernel.lines.numbers('vertex')] if solid is None
-                 else list(self.solid(solid).vertices))
-        return Selection('vertex', _wanted(solid=solid, at=at), [part for part in parts if place is None or part.point == place])
+    def _solid(self, solid: arguments.Solid) -> Tuple[Model, int]:
+        """The solid alone, and its number."""
+        number = self._bench.number('solid', solid)
+        return self._bench.solid_model(number), number
+
+    def _faces(self, **faces: arguments.Face) -> Tuple[Any, ...]:
+        """The faces alone, and their numbers. Refused: NoFace."""
+        numbers = [self._bench.number(name, face, 'face') for name, face in faces.items()]
+        for number in numbers:
+            FacePart(self._bench.kernel, number).loops
+        return (self._bench.kernel.lines.model(numbers), *numbers)
+
+    def _edge(self, edge: arguments.Edge) -> Tuple[Model, int]:
+        """The edge alone, and its number. Refused: NoEdge."""
+        number = abs(self._bench.half_edge('edge', edge))
+        ends = EdgePart(self._bench.kernel, number).vertices
+        return Model((), {}, {}, {number: (ends[0].number, ends[1].number)}, {end.number: end.point for end in ends}), number
+
+    def _of(self, solid: Optional[arguments.Solid]) -> int:
+        """The number of a solid that is there, 0 for all. Refused: NoSolid."""
+        if solid is None:
+            return 0
+        number = self._bench.number('solid', solid)
+        SolidPart(self._bench.kernel, number).faces
+        return number
+
+    def _rows(self, name: str, solid: List[int], room: int, width: int, kind: Any) -> memoryview:
+        """What a call writes, which has room for so many rows, at least as many as there are. Raises MemoryError."""
+        lines = self._bench.kernel.lines
+        rows = (kind * (width * room or 1))()
+        count: int = getattr(lines.library, name)(lines.handle, *solid, rows, room)
+        if count > room:
+            raise MemoryError(f'{name}: memory was refused')
+        flat = memoryview(rows).cast('B')[:count * width * sizeof(kind)]
+        return flat.cast(_LETTERS[kind], (count, width)) if count else flat.cast(_LETTERS[kind])
 
 
 def _wanted(**criteria: object) -> str:

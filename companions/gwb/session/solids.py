@@ -92,7 +92,7 @@ class SolidMethods(Methods):
         if motion is not None:
             return self._in_a_row('copy_solid', number, 1, motion)[0]
         model = _changed('copy_solid', self._bench.solid_model(number), change)
-        new = self._bench.numbers.instead_of(model)
+        new = self._bench.kernel.numbers.instead_of(model)
         with self._bench.step():
             self._bench.features.load(renumbered(model, new))
             return self._labelled(Copy(new['solid'][number], new['face'], new['loop'], new['edge'], new['vertex'], number, self._bench))
@@ -145,7 +145,7 @@ class SolidMethods(Methods):
             self._bench.features.give('renumber', frees=True)
             made = Renumbered(*(dict(self._bench.features.pairs(which)) for which in (SOLIDS, FACES, LOOPS, EDGES, VERTICES)))
             self._bench.kernel.notes.renumber({'solid': made.solids, 'face': made.faces})
-        self._bench.numbers.forget()
+        self._bench.kernel.numbers.forget()
         return made
 
     def split(self, solid: arguments.Solid, plane: arguments.Point, *, above: Optional[int] = None, scale: bool = False) -> Split:
@@ -271,7 +271,7 @@ class SolidMethods(Methods):
         """Gives the command: what it makes."""
         lines = self._bench.kernel.lines
         self._bench.kernel.do('split', solid, *plane, above)
-        faces, edges, vertices = (tuple(number for number in lines.fresh()[kind] if lines.in_use(kind, number)) for kind in ('face', 'edge', 'vertex'))
+        faces, edges, vertices = (tuple(number for number in lines.fresh(kind) if lines.in_use(kind, number)) for kind in ('face', 'edge', 'vertex'))
         model = lines.model(faces)
         caps = [face for face in faces if all(dot(plane[:3], point) + plane[3] == 0 for point in model.face_points(face))]
         lower, upper = (tuple(face for face in caps if model.faces[face].solid == side) for side in (solid, above))

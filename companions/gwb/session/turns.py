@@ -94,7 +94,7 @@ class Turns:
 
 
 def taking_turns(cls: Type[Taker]) -> Type[Taker]:
-    """Each public method of a class, those of its bases included, is a turn of its `_turns`."""
+    """Each public method of a class, those of its bases included, is a turn of the kernel of its bench."""
     for name in dir(cls):
         method = getattr(cls, name)
         if isfunction(method) and not name.startswith('_'):
@@ -107,7 +107,7 @@ def _taken(method: Method) -> Method:
 
     @wraps(method)
     def taken(self: Any, *values: Any, **named: Any) -> Any:
-        turns: Turns = self._turns
+        turns: Turns = self._bench.kernel
         with turns.taken():
             if turns.is_inside:
                 return method(self, *values, **named)

@@ -8,8 +8,8 @@
     Fraction(96, 1)
 
 Numbers of new things may be given, by name, as the script language does; where one isn't, the workbench takes a free one.
-Methods are in parts over one bench (bench.py): commands (commands.py), selection (selection.py), features (feature_methods.py), solids as
-things (solids.py), measures and arrays (measuring.py), labels and files (exporting.py), and the session itself, scripts and drawings here.
+Methods are in parts over one bench (bench.py): commands (commands.py), what is held (selection.py), features (feature_methods.py), solids as things
+(solids.py), labels and files (exporting.py), and the session itself, scripts and drawings here.
 """
 
 from html import escape
@@ -33,13 +33,12 @@ from .bench import Bench
 from .commands import Commands
 from .exporting import Exporting
 from .feature_methods import FeatureMethods
-from .measuring import Measuring
 from .results import Numbers
 from .saved_steps import mark_in, saved_lines
-from .selection import Selecting
+from .selection import Reading
 from .solids import SolidMethods
 from .steps import Block
-from .turns import Turns, taking_turns
+from .turns import taking_turns
 
 # The endings and the first words of files that gwb-import reads.
 _IMPORTED = ('.obj', '.off', '.stl', '.3mf', '.amf', '.ply', '.step', '.stp')
@@ -47,7 +46,7 @@ _FIRST_WORDS = ('v', 'vn', 'vt', 'f', 'o', 'g', 'mtllib', 'OFF', 'ply', 'solid',
 
 
 @taking_turns
-class Workbench(SolidMethods, FeatureMethods, Commands, Selecting, Measuring, Exporting):
+class Workbench(SolidMethods, FeatureMethods, Commands, Reading, Exporting):
     """A running gwb. Each command is a method; one that isn't accepted raises Refused, Faulted or MemoryRefused."""
 
     def __init__(self, library: Optional[arguments.Path] = None, *, unit: Exact = 1) -> None:
@@ -56,7 +55,6 @@ class Workbench(SolidMethods, FeatureMethods, Commands, Selecting, Measuring, Ex
         `unit` is how many millimetres a coordinate stands for, a whole number or a fraction, as `Fraction(1, 60)`.
         """
         self._bench = Bench(library, unit)
-        self._turns: Turns = self._bench.kernel
 
     def __reduce__(self) -> NoReturn:
         raise TypeError('a workbench holds a running session, so it is neither copied nor pickled: save() writes its script')
