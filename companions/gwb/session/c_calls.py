@@ -1,7 +1,7 @@
 """The calls of gwb.h and gwb_features.h as ctypes has them: kinds of answers, structs, and what each call returns and takes."""
 
 import ctypes
-from typing import Any, Dict, Iterator, List, Tuple
+from typing import Any, Dict, List, Tuple
 
 WORD, SIZE, LENGTH, ADDRESS = ctypes.c_uint32, ctypes.c_size_t, ctypes.c_int64, ctypes.c_void_p
 OK, REFUSED, MEMORY, PLANE, NO_CALL, IMPOSSIBLE = 1, 2, 4, 5, 10, 13
@@ -23,14 +23,12 @@ FaceRow, EdgeRow, Point = _struct(solid=WORD, outer_loop=WORD), _struct(start=WO
 # A number of 128 bits, and the plane of a face by four.
 Wide = _struct(high=LENGTH, low=ctypes.c_uint64)
 PlaneRow = _struct(numbers=Wide * 4, flat=WORD)
-# The first and the last of the fresh numbers of a kind.
-Range = _struct(first=WORD, last=WORD)
 # Where points go: by the axes, signed and counted from 1, and then by a vector.
 Motion = _struct(axes=ctypes.c_int32 * 3, by=Point)
 # The plane a x + b y + c z + d = 0.
 CutPlane = _struct(a=LENGTH, b=LENGTH, c=LENGTH, d=LENGTH)
 Ratio = _struct(numerator=ctypes.c_uint64, denominator=ctypes.c_uint64)
-# Two numbers of what is made: a face and a loop, or two faces.
+# Two numbers of what is made: a face and a loop, two faces, or the first and the last of a kind.
 Pair = _struct(first=WORD, second=WORD)
 
 _TEXT, _WORDS, _ROWS = ctypes.c_char_p, ctypes.POINTER(WORD), ctypes.POINTER(LENGTH)
@@ -44,7 +42,7 @@ _READERS: Dict[str, Tuple[Any, List[Any]]] = {
     'reply': (SIZE, [_TEXT, SIZE]), 'half_edges': (SIZE, [WORD, _WORDS, SIZE]), 'plane': (WORD, [WORD, ctypes.POINTER(PlaneRow), ctypes.POINTER(Refusal)]),
     **dict.fromkeys(('depth', 'ahead', 'mark'), (SIZE, [])), **dict.fromkeys(('number_after', 'ring_after', 'face_after'), (WORD, [WORD, WORD, _WORDS])),
     **dict.fromkeys(('loop', 'lone_vertex', 'half_edge_loop'), (WORD, [WORD, _WORDS])), 'face': (WORD, [WORD, ctypes.POINTER(FaceRow)]),
-    'edge': (WORD, [WORD, ctypes.POINTER(EdgeRow)]), 'vertex': (WORD, [WORD, _POINT]), 'fresh': (WORD, [WORD, ctypes.POINTER(Range)])}
+    'edge': (WORD, [WORD, ctypes.POINTER(EdgeRow)]), 'vertex': (WORD, [WORD, _POINT]), 'fresh': (WORD, [WORD, _PAIR])}
 # The same of the other calls.
 _CALLS: Dict[str, Tuple[Any, List[Any]]] = {
     'open': (ctypes.c_bool, []), 'close': (None, []), 'line': (WORD, [_TEXT, SIZE]),
@@ -64,16 +62,10 @@ _FEATURES: Dict[str, List[Any]] = {
     'cut': [WORD, _PLANE, WORD], 'trim': [WORD, _PLANE], 'off_lattice': [WORD, _PLANE, SIZE, ctypes.POINTER(ADDRESS)],
     'find_faces': [ctypes.POINTER(FaceQuery), _WORDS, SIZE, ctypes.POINTER(SIZE)],
     'find_edges': [ctypes.POINTER(EdgeQuery), _WORDS, SIZE, ctypes.POINTER(SIZE)]}
-
-
-def prototypes() -> Iterator[Tuple[str, str, Any, List[Any]]]:
-    """Of each call its name here, that by which it is exported, what it returns and what it takes."""
-    handle, refusal = ctypes.POINTER(Handle), ctypes.POINTER(Refusal)
-    for name, (result, taken) in _READERS.items():
-        yield name, f'gwb_lent_{name}', result, [handle, *taken]
-    for name, (result, taken) in {**_CALLS, **{name: (WORD, [*taken, refusal]) for name, taken in _FEATURES.items()}}.items():
-        yield name, f'gwb_{name}', result, [handle, *taken]
-    beside: List[Tuple[str, Any, List[Any]]] = [
-        ('advice_factor', Wide, [ADDRESS]), ('advice_free', None, [ADDRESS]), ('misfit_name', ctypes.c_char_p, [WORD])]
-    for name, result, taken in beside:
-        yield name, f'gwb_{name}', result, taken
+_HANDLE, _REFUSAL = ctypes.POINTER(Handle), ctypes.POINTER(Refusal)
+# Of each call by its export what it returns, and all that it takes.
+PROTOTYPES: Dict[str, Tuple[Any, List[Any]]] = {
+    **{f'gwb_lent_{name}': (result, [_HANDLE, *taken]) for name, (result, taken) in _READERS.items()},
+    **{f'gwb_{name}': (result, [_HANDLE, *taken]) for name, (result, taken) in _CALLS.items()},
+    **{f'gwb_{name}': (WORD, [_HANDLE, *taken, _REFUSAL]) for name, taken in _FEATURES.items()},
+    'gwb_advice_factor': (Wide, [ADDRESS]), 'gwb_advice_free': (None, [ADDRESS]), 'gwb_misfit_name': (ctypes.c_char_p, [WORD])}

@@ -15,7 +15,7 @@ from ..protocol.complaints import complaint, memory_refused
 from ..protocol.language import command_bytes, first_word
 from ..protocol.replies import ACCEPTED, Reply, only_reply
 from ..version import VERSION
-from .c_calls import ADDRESS, FOUND, OK, PLANE, SIZE, WORD, EdgeRow, FaceRow, Handle, PlaneRow, Point, Range, Refusal, prototypes
+from .c_calls import ADDRESS, FOUND, OK, PLANE, PROTOTYPES, SIZE, WORD, EdgeRow, FaceRow, Handle, Pair, PlaneRow, Point, Refusal
 
 _NO_TEXT = SIZE(-1).value
 _ROOM = 4096
@@ -66,13 +66,13 @@ def load(path: str) -> ctypes.PyDLL:
     found = library.gwb_version()
     if found // 10_000 != _MAJOR:
         raise ProgramMissing(f'{path}: version {found // 10_000}.{found // 100 % 100}.{found % 100} of the library, where {_MAJOR} is needed')
-    for name, exported, result, taken in prototypes():
+    for name, (result, taken) in PROTOTYPES.items():
         try:
-            function = getattr(library, exported)
+            function = getattr(library, name)
         except AttributeError:
-            raise ProgramMissing(f'{path}: this is no library of gwb, or an older one: it has no {exported}') from None
+            raise ProgramMissing(f'{path}: this is no library of gwb, or an older one: it has no {name}') from None
         function.restype, function.argtypes = result, taken
-        setattr(library, name, function)
+        setattr(library, name.replace('gwb_', '').replace('lent_', ''), function)
     return library
 
 
@@ -154,8 +154,8 @@ class Library:
 
     def fresh(self, kind: str) -> Tuple[int, ...]:
         """The fresh numbers of a kind of the last command that was accepted: none where it took none, as a split that cuts nothing."""
-        row = self._read('fresh', Range(), KINDS.index(kind))
-        return tuple(range(row.first, row.last + 1)) if row else ()
+        row = self._read('fresh', Pair(), KINDS.index(kind))
+        return tuple(range(row.first, row.second + 1)) if row else ()
 
     # What is recorded
 

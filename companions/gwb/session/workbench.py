@@ -12,11 +12,14 @@ Methods are in parts over one bench (bench.py): commands (commands.py), what is 
 (solids.py), labels and files (exporting.py), and the session itself, scripts and drawings here.
 """
 
+import re
+from fractions import Fraction
 from html import escape
+from itertools import chain
 from pathlib import Path
 from sys import maxsize
 from tempfile import NamedTemporaryFile
-from typing import ContextManager, Iterator, NoReturn, Optional, Tuple
+from typing import ContextManager, Iterator, List, NoReturn, Optional, Sequence, Tuple
 from webbrowser import open as open_in_browser
 
 from ..errors import CompanionError, Complaint, InDraft
@@ -27,14 +30,15 @@ from ..protocol.language import is_answered
 from ..protocol.listing import read_model
 from ..protocol.replies import Reply, is_listed
 from ..scripts.inversion import script_of
-from ..scripts.unit_comments import unit_in
+from ..scripts.unit_comments import unit_in, unit_line
 from . import arguments
 from .bench import Bench
 from .commands import Commands
 from .exporting import Exporting
 from .feature_methods import FeatureMethods
+from .kernel import Kernel
+from .notes import Note
 from .results import Numbers
-from .saved_steps import mark_in, saved_lines
 from .selection import Reading
 from .solids import SolidMethods
 from .steps import Block
@@ -43,6 +47,9 @@ from .turns import taking_turns
 # The endings and the first words of files that gwb-import reads.
 _IMPORTED = ('.obj', '.off', '.stl', '.3mf', '.amf', '.ply', '.step', '.stp')
 _FIRST_WORDS = ('v', 'vn', 'vt', 'f', 'o', 'g', 'mtllib', 'OFF', 'ply', 'solid', 'ISO-10303-21;')
+
+# In a saved script the mark before the commands that are one step to undo, or one draft; gwb reads over it.
+_MARK = re.compile(rb'# (step|draft) of ([1-9][0-9]{0,8}) commands')
 
 
 @taking_turns
@@ -111,7 +118,7 @@ class Workbench(SolidMethods, FeatureMethods, Commands, Reading, Exporting):
         """Writes the script to a file. Comments in it say which commands are one step, the unit, and the labels, so that `load` knows them
         again."""
         file = Path(arguments.path('path', path))
-        lines = [*saved_lines(self._bench.kernel), *comments(self._bench.kernel.labels())]
+        lines = [*_saved_lines(self._bench.kernel), *comments(self._bench.kernel.labels())]
         file.write_text(''.join(f'{line}\n' for line in lines), encoding='ascii')
 
     @classmethod
@@ -132,17 +139,17 @@ class Workbench(SolidMethods, FeatureMethods, Commands, Reading, Exporting):
             raise
         return bench
 
-    def _take(self, file: Path, lines: Iterator[Tuple[int, bytes]], within: str = '', most: int = maxsize) -> int:
+    def _take(self, file: Path, lines: Iterator[Tuple[int, bytes]], within: bytes = b'', most: int = maxsize) -> int:
         """Gives the lines of a script, up to so many commands, which are a step or a draft where `within` says so: how many were given. A complaint
         is raised."""
         given = 0
         for number, line in lines:
-            mark, unit = mark_in(line), unit_in(line)
+            mark, unit = _MARK.fullmatch(line.rstrip(b'\r')), unit_in(line)
             if unit is not None:
                 self._bench.kernel.notes.now.unit = unit
-            elif mark and within not in (mark[0], 'draft'):
-                with Block(self._bench.kernel, mark[0] == 'step'):
-                    given += self._take(file, lines, mark[0], min(mark[1], most - given))
+            elif mark and within not in (mark[1], b'draft'):
+                with Block(self._bench.kernel, mark[1] == b'step'):
+                    given += self._take(file, lines, mark[1], min(int(mark[2]), most - given))
             elif is_answered(line):
                 self._take_line(file, number, line.decode('utf-8', 'surrogateescape'))
                 given += 1
@@ -173,6 +180,31 @@ class Workbench(SolidMethods, FeatureMethods, Commands, Reading, Exporting):
     def _repr_svg_(self) -> Optional[str]:
         """A notebook draws the model."""
         return self.listing()._repr_svg_()
+
+
+def _saved_lines(kernel: Kernel) -> Iterator[str]:
+    """The lines of what is held, the steps of a draft too. Before those that are one step, or one draft, stands a mark, and the unit where it
+    changes."""
+    commands, notes = [text.splitlines() for text in kernel.commands()], kernel.notes.held()
+    yield from _unit_lines(Fraction(1), notes[0].unit)
+    starts = [place for place in range(len(notes) - 1) if place == 0 or notes[place + 1].begins]
+    for first, last in zip(starts, [*starts[1:], len(notes) - 1]):
+        yield from _step_lines(commands[first:last], notes[first:last + 1])
+    yield from chain(*commands[len(notes) - 1:], _unit_lines(notes[-1].unit, kernel.notes.now.unit))
+
+
+def _step_lines(commands: Sequence[List[str]], notes: Sequence[Note]) -> Iterator[str]:
+    """The lines of a step by its commands, with the note before it and that of each of them."""
+    if len(commands) > 1:
+        yield f'# step of {sum(map(len, commands))} commands'
+    for lines, before, after in zip(commands, notes, notes[1:]):
+        if len(lines) > 1:
+            yield f'# draft of {len(lines)} commands'
+        yield from chain(lines, _unit_lines(before.unit, after.unit))
+
+
+def _unit_lines(before: Fraction, after: Fraction) -> List[str]:
+    return [] if before == after else [unit_line(after)]
 
 
 def _script_in(file: Path, data: bytes) -> bytes:
